@@ -1,0 +1,14 @@
+use Rattle.std.specs.Prelude.{ℕ}
+use Rattle.flux_base.specs.declared.status.Status.{Status}
+use Rattle.flux_base.specs.declared.status.Status.TheVariants.{AllGood, NotAllGood, Refused, Usage, ReadFault, ImageFault, NotesFault, Memory}
+
+-- the program's exit code
+abbrev pub code_of : Status → ℕ
+code_of AllGood = 0
+code_of NotAllGood = 1
+code_of Refused = 2
+code_of Usage = 3
+code_of ReadFault = 4
+code_of ImageFault = 5
+code_of NotesFault = 6
+code_of Memory = 7

@@ -1,0 +1,15 @@
+//! What every crate of `flux` stands on: the traits of the outside, objects of the outside that live
+//! in memory, the ids of tracks, the program's words and its exit status.
+#![tactic(auto)]
+
+mod memory;
+mod outside;
+mod status;
+mod track;
+mod word;
+
+pub use memory::CountingSink;
+pub use outside::{Failed, Memory, Sink, Source, write_whole};
+pub use status::Status;
+pub use track::TrackId;
+pub use word::Word;

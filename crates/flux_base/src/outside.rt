@@ -1,0 +1,82 @@
+ghost use Rattle.std.specs.Prelude.{◌≡◌, ℕ, ◌<◌, ◌≤◌, List, None, length, IfOk, OnOk, OnErr, Option};
+ghost use Rattle.std.specs.Io.{ReadsAtMost, WritesAtMost};
+ghost use Rattle.std.specs.Io.KnownBytes.{Appends, ReadConsumes, WriteAppends};
+ghost use Rattle.flux_base.specs.Outside.{Rose, AppendsPart};
+
+use std::alloc::{AllocError, AllocFailed};
+
+/// The one answer of an outside object that failed.
+#[derive(Clone, Copy, Debug, PartialEq, Eq)]
+pub struct Failed;
+
+/// The one answer for want of memory.
+#[derive(Clone, Copy, Debug, PartialEq, Eq)]
+pub struct Memory;
+
+impl From<AllocError> for Memory {
+    fn from(_: AllocError) -> Self {
+        Memory
+    }
+}
+
+impl<T: Drop> From<AllocFailed<T>> for Memory {
+    fn from(_: AllocFailed<T>) -> Self {
+        Memory
+    }
+}
+
+/// Where bytes come from.
+pub trait Source {
+    /// The bytes still to come, where the object tells them.
+    ghost left: { Self → Option (List ℕ) } = { λ _. None };
+
+    /// How often the object has failed.
+    ghost faults: { Self → ℕ };
+
+    /// Puts the next bytes at the buffer's front and says how many. 0 for a buffer that is not empty
+    /// says that there are no more bytes.
+    fn read(&mut self, buffer: &mut [u8]) -> Result<usize, Failed>
+        ensures bound { ReadsAtMost result buffer.new }
+
+        // The bytes given are the first of those left. After `Failed` all are still left.
+        ensures bytes { ReadConsumes (left self.old) (left self.new) result buffer.new }
+        ensures later { faults self.old ≤ faults self.new }
+        ensures cause { OnErr result (Rose (faults self.old) (faults self.new)) };
+}
+
+/// Where bytes go.
+pub trait Sink {
+    /// The bytes taken so far, where the object tells them.
+    ghost written: { Self → Option (List ℕ) } = { λ _. None };
+
+    /// How often the object has failed.
+    ghost faults: { Self → ℕ };
+
+    /// Takes some bytes of the piece's front and says how many: at least one of a piece that is not empty.
+    fn write(&mut self, piece: &[u8]) -> Result<usize, Failed>
+        ensures bound { WritesAtMost result piece.now }
+        ensures progress { IfOk result (λ n. 0 < length piece.now → 0 < n) }
+
+        // The bytes taken stand behind those taken before. After `Failed` none was taken.
+        ensures bytes { WriteAppends (written self.old) (written self.new) result piece.now }
+        ensures later { faults self.old ≤ faults self.new }
+        ensures cause { OnErr result (Rose (faults self.old) (faults self.new)) };
+}
+
+/// Writes until the whole piece is taken. After `Failed` a prefix of the piece was taken that is shorter
+/// than the piece.
+pub fn write_whole<W: Sink>(sink: &mut W, piece: &[u8]) -> Result<(), Failed>
+    ensures ok { OnOk result (Appends (W.written sink.old) (W.written sink.new) piece.now) }
+    ensures err { OnErr result (AppendsPart (W.written sink.old) (W.written sink.new) piece.now) }
+    ensures later { W.faults sink.old ≤ W.faults sink.new }
+    ensures cause { OnErr result (Rose (W.faults sink.old) (W.faults sink.new)) }
+{
+    let mut rest = piece;
+    while !rest.is_empty() {
+        match sink.write(rest) {
+            Ok(taken) => rest = &rest[taken..],
+            Err(failed) => return Err(failed),
+        }
+    }
+    Ok(())
+}
