@@ -1,0 +1,175 @@
+ghost use Rattle.std.specs.Prelude.{◌≡◌, ℕ, ◌+◌, ◌*◌, ◌-◌, ◌^◌, ◌<◌, ◌≤◌, [], ◌∷◌, ◌++◌, length, All, OnOk, OnErr, IsOk};
+ghost use Rattle.std.specs.List.Sorted.{IsNonDecreasing, IsStrictlyIncreasing};
+ghost use Rattle.index_turns.specs.Track.{KeepsRoom, turn_at, turn_length};
+
+use flux_base::Memory;
+use std::alloc::Global;
+use std::marker::Model;
+
+/// What was captured of one track: the times of the transitions, which never fall from one to the next,
+/// and the index times, which rise strictly. All are in ticks.
+///
+/// Contracts see besides how many more of each fit without taking memory.
+#[derive(Drop)]
+pub struct TrackFlux {
+    times: Vec<u64>,
+    indexes: Vec<u64>,
+}
+
+impl Model for TrackFlux {
+    ghost use Rattle.std.specs.Prelude.{◌-◌, vec_len};
+    ghost use Rattle.std.specs.Vec.{vec_capacity};
+    ghost use Rattle.std.specs.List.Sorted.{IsNonDecreasing, IsStrictlyIncreasing};
+    ghost use Rattle.index_turns.specs.Track.{TrackState};
+
+    ghost Value = { TrackState };
+
+    ghost view = { λ t. record {
+      times = t.times.items;
+      indexes = t.indexes.items;
+      spare_times = vec_capacity t.times - vec_len t.times;
+      spare_indexes = vec_capacity t.indexes - vec_len t.indexes;
+    } };
+
+    ghost invariant = { λ t. IsNonDecreasing t.times.items × IsStrictlyIncreasing t.indexes.items };
+}
+
+impl TrackFlux {
+    /// A track without transitions and without turns. It takes no memory.
+    pub fn new(alloc: Global) -> TrackFlux
+        ensures times { result.times ≡ [] }
+        ensures indexes { result.indexes ≡ [] }
+    {
+        TrackFlux {
+            times: Vec::new(alloc),
+            indexes: Vec::new(alloc),
+        }
+    }
+
+    /// Makes room for so many more times and index times.
+    pub fn reserve(&mut self, times: usize, indexes: usize) -> Result<(), Memory>
+        ensures times { self.new.times ≡ self.old.times }
+        ensures indexes { self.new.indexes ≡ self.old.indexes }
+        ensures room { KeepsRoom self.old self.new }
+        ensures spare_times { OnOk result (times ≤ self.new.spare_times) }
+        ensures spare_indexes { OnOk result (indexes ≤ self.new.spare_indexes) }
+    {
+        self.times.try_reserve(times)?;
+        self.indexes.try_reserve(indexes)?;
+        Ok(())
+    }
+
+    /// Appends the time of a transition, in ticks.
+    pub fn push_time(&mut self, time: u64) -> Result<(), Memory>
+        requires { All (λ earlier. earlier ≤ time) self.old.times }
+        ensures times { OnOk result (self.new.times ≡ self.old.times ++ time ∷ []) }
+        ensures indexes { self.new.indexes ≡ self.old.indexes }
+        ensures room { KeepsRoom self.old self.new }
+        ensures spare { OnOk result (self.old.spare_times ≤ self.new.spare_times + 1) }
+        ensures spare_indexes { self.new.spare_indexes ≡ self.old.spare_indexes }
+        ensures succeeds { 0 < self.old.spare_times → IsOk result }
+        ensures err { OnErr result (self.new ≡ self.old) }
+    {
+        self.times.try_reserve(1)?;
+        self.times.push_reserved(time);
+        Ok(())
+    }
+
+    /// Appends an index time, in ticks.
+    pub fn push_index(&mut self, time: u64) -> Result<(), Memory>
+        requires { All (λ earlier. earlier < time) self.old.indexes }
+        ensures indexes { OnOk result (self.new.indexes ≡ self.old.indexes ++ time ∷ []) }
+        ensures times { self.new.times ≡ self.old.times }
+        ensures room { KeepsRoom self.old self.new }
+        ensures spare { OnOk result (self.old.spare_indexes ≤ self.new.spare_indexes + 1) }
+        ensures spare_times { self.new.spare_times ≡ self.old.spare_times }
+        ensures succeeds { 0 < self.old.spare_indexes → IsOk result }
+        ensures err { OnErr result (self.new ≡ self.old) }
+    {
+        self.indexes.try_reserve(1)?;
+        self.indexes.push_reserved(time);
+        Ok(())
+    }
+
+    /// Forgets all times and index times, and keeps their room.
+    pub fn clear(&mut self)
+        ensures times { self.new.times ≡ [] }
+        ensures indexes { self.new.indexes ≡ [] }
+        ensures spare_times { self.new.spare_times ≡ self.old.spare_times + length self.old.times }
+        ensures spare_indexes { self.new.spare_indexes ≡ self.old.spare_indexes + length self.old.indexes }
+    {
+        self.times.clear();
+        self.indexes.clear();
+    }
+
+    /// The times of the transitions, in ticks.
+    pub fn times(&self) -> &[u64]
+        ensures value { result.now ≡ self.now.times }
+        ensures order { IsNonDecreasing self.now.times }
+    {
+        self.times.as_slice()
+    }
+
+    /// The index times, in ticks.
+    pub fn indexes(&self) -> &[u64]
+        ensures value { result.now ≡ self.now.indexes }
+        ensures order { IsStrictlyIncreasing self.now.indexes }
+    {
+        self.indexes.as_slice()
+    }
+
+    /// The turn in which a time lies: the number of index times at or before it. Turn 0 is the part before
+    /// the first index.
+    pub fn turn_of(&self, time: u64) -> u32
+        requires { length self.now.indexes < 2 ^ 32 }
+        ensures { result ≡ turn_at self.now.indexes time }
+    {
+        self.indexes
+            .as_slice()
+            .partition_point(|index| *index <= time) as u32
+    }
+
+    /// The length of a turn in ticks. Turn 1 lies between the first two index times.
+    pub fn turn_ticks(&self, turn: u32) -> u64
+        requires first { 0 < turn }
+        requires last { turn < length self.now.indexes }
+        ensures { result ≡ turn_length self.now.indexes turn }
+    {
+        let turn = turn as usize;
+        self.indexes[turn] - self.indexes[turn - 1]
+    }
+
+    /// The length of the first turn in ticks.
+    pub fn first_turn_ticks(&self) -> u64
+        requires { 1 < length self.now.indexes }
+        ensures { result ≡ turn_length self.now.indexes 1 }
+    {
+        self.turn_ticks(1)
+    }
+}
+
+#[cfg(test)]
+mod tests {
+    use super::*;
+
+    // A time that is exactly an index time lies in the turn that begins there.
+    #[test]
+    fn divides_times_into_turns(rt: HostRuntime) -> Result<(), Memory> {
+        let mut flux = TrackFlux::new(rt.alloc());
+        flux.reserve(2, 3)?;
+        flux.push_time(96)?;
+        flux.push_time(192)?;
+        flux.push_index(0)?;
+        flux.push_index(197)?;
+        flux.push_index(500)?;
+        assert_eq!(rt; flux.times().len(), 2);
+        for (time, turn) in [(0, 1), (196, 1), (197, 2), (198, 2), (499, 2), (500, 3)] {
+            assert_eq!(rt; flux.turn_of(time), turn, "at {time}");
+        }
+        assert_eq!(rt; flux.first_turn_ticks(), 197);
+        assert_eq!(rt; flux.turn_ticks(2), 303);
+        flux.clear();
+        assert_eq!(rt; flux.indexes().len(), 0);
+        Ok(())
+    }
+}
