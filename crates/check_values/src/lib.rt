@@ -1,0 +1,15 @@
+//! The check values of recorded sectors: the cyclic redundancy check of the IBM formats, and the
+//! exclusive or of the Commodore, Apple and Amiga formats. No call takes memory.
+#![tactic(auto)]
+
+mod message;
+mod register;
+mod sums;
+mod table;
+
+pub use message::crc16;
+pub use register::Crc16;
+pub use sums::{amiga_xor, xor_bytes};
+
+#[cfg(test)]
+mod tests;
