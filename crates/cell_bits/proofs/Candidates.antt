@@ -1,0 +1,104 @@
+-- The places of a block where a word may begin, a digit each.
+use Rattle.std.proofs.Common.{◌≡◌, ℕ, suc, ◌+◌, ◌-◌, ◌*◌, ◌/◌, ◌%◌, ◌^◌, ◌<◌, ◌≤◌, min, Bool, true, false, ◌==◌, ◌⊎◌, inl, inr, ◌↔◌, sym, ap, ◌∙◌, subst, arith, bit_and, pow-suc}
+use Rattle.std.specs.Int.{bit_at, bit_not, w64}
+use Rattle.std.proofs.lemmas.Bool.{cases_lt}
+use Rattle.std.proofs.lemmas.Bool.Decides.{nat_tests}
+use Rattle.std.proofs.lemmas.Nat.Bits.{bit_at-lt, bit_at-zero, bit_at_and, bit_at_not, bit_at_ones, bit_at_above, shr_and_one}
+use Rattle.std.proofs.lemmas.Nat.{leading_top, shr_high}
+use Rattle.std.specs.Int.Count.{count_leading_zeros}
+use Rattle.cell_bits.specs.Word.{digit}
+use Rattle.cell_bits.specs.Window.{cell_of_two, IsJoined, MeetsAt, AreCandidates}
+
+-- a test of a digit
+from_digit : (value place : ℕ) → digit value place ≡ true → bit_at value place ≡ 1
+from_digit value place e = grind (arith, nat_tests)
+
+to_digit : (value place : ℕ) → bit_at value place ≡ 1 → digit value place ≡ true
+to_digit value place e = grind (arith, nat_tests)
+
+to_no_digit : (value place : ℕ) → bit_at value place ≡ 0 → digit value place ≡ false
+to_no_digit value place e = grind (arith, nat_tests)
+
+from_no_digit : (value place : ℕ) → digit value place ≡ false → bit_at value place ≡ 0
+from_no_digit value place e = let low : bit_at value place < 2 = bit_at-lt value place in grind (arith, nat_tests)
+
+pub digit-tested : (value place : ℕ) → (bit_and (value / 2 ^ place) 1 == 1) ≡ digit value place
+digit-tested value place = ap (λ bit. bit == 1) (shr_and_one value place)
+
+pub digit-not : (value place : ℕ) → value < 2 ^ 64 → place < 64 → (digit (bit_not w64 value) place ≡ true) ↔ (digit value place ≡ false)
+digit-not value place fits low =
+    let other : bit_at (bit_not w64 value) place ≡ 1 - bit_at value place = bit_at_not w64 value place fits low in
+    let bit : bit_at value place < 2 = bit_at-lt value place in (
+      λ e. to_no_digit value place (omega (arith, from_digit (bit_not w64 value) place e)),
+      λ e. to_digit (bit_not w64 value) place (omega (arith, from_no_digit value place e)),
+    )
+
+digit-and : (a b place : ℕ) → (digit (bit_and a b) place ≡ true) ↔ ((digit a place ≡ true) × (digit b place ≡ true))
+digit-and a b place =
+    let both : bit_at (bit_and a b) place ≡ min (bit_at a place) (bit_at b place) = bit_at_and a b place in
+    let first : bit_at a place < 2 = bit_at-lt a place in
+    let second : bit_at b place < 2 = bit_at-lt b place in (
+      λ e. let one : bit_at (bit_and a b) place ≡ 1 = from_digit (bit_and a b) place e in (to_digit a place (omega arith), to_digit b place (omega arith)),
+      λ e. to_digit (bit_and a b) place (omega (arith, from_digit a place e.0, from_digit b place e.1)),
+    )
+
+pub zero-digit : (place : ℕ) → digit 0 place ≡ false
+zero-digit place = ap (λ bit. bit == 1) (bit_at-zero place)
+
+module _ (high low value count : ℕ) where
+  -- before a cell is looked at, each place may do
+  pub candidates-all : AreCandidates high low value count 0 (2 ^ 64 - 1)
+  candidates-all k within =
+      let one : digit (2 ^ 64 - 1) (63 - k) ≡ true = to_digit (2 ^ 64 - 1) (63 - k) (bit_at_ones 64 (63 - k) (omega arith)) in
+      (λ _. λ i none. absurd (omega arith), λ _. one)
+
+  -- one more cell is looked at
+  pub candidates-more : (offset places cells equal : ℕ) (one : Bool) → offset < count → AreCandidates high low value count offset places → IsJoined high low offset cells
+      → one ≡ digit value (count - 1 - offset) → ((k : ℕ) → k < 64 → (digit equal (63 - k) ≡ true) ↔ (digit cells (63 - k) ≡ one))
+      → AreCandidates high low value count (offset + 1) (bit_and places equal)
+  candidates-more offset places cells equal one more so_far joint wanted told k within = (forth, back)
+    where
+      order : k + offset ≡ offset + k
+      order = omega arith
+
+      here : cell_of_two high low (k + offset) ≡ digit cells (63 - k)
+      here = ap (cell_of_two high low) order ∙ sym (joint k within)
+
+      forth : digit (bit_and places equal) (63 - k) ≡ true → MeetsAt high low value count (offset + 1) k
+      forth e i below = by_place (cases_lt i offset)
+        where
+          by_place : (i < offset) ⊎ (offset ≤ i) → cell_of_two high low (k + i) ≡ digit value (count - 1 - i)
+          by_place (inl before) = (so_far k within).0 ((digit-and places equal (63 - k)).0 e).0 i before
+          by_place (inr last) =
+              let same : offset ≡ i = omega arith in
+              subst (λ n. cell_of_two high low (k + n) ≡ digit value (count - 1 - n)) same
+              (here ∙ (told k within).0 ((digit-and places equal (63 - k)).0 e).1 ∙ wanted)
+
+      back : MeetsAt high low value count (offset + 1) k → digit (bit_and places equal) (63 - k) ≡ true
+      back met = (digit-and places equal (63 - k)).1
+          ((so_far k within).1 (λ i before. met i (omega arith)), (told k within).1 (sym here ∙ met offset (omega arith) ∙ sym wanted))
+
+  -- where no place is left, no further cell changes that
+  pub candidates-none : (met : ℕ) → met ≤ count → AreCandidates high low value count met 0 → AreCandidates high low value count count 0
+  candidates-none met some none k within =
+      (λ e. let no : false ≡ true = sym (zero-digit (63 - k)) ∙ e in cc, λ all. (none k within).1 (λ i before. all i (omega arith)))
+
+-- the first place of a block that is not empty
+pub first-digit : (places : ℕ) → 0 < places → places < 2 ^ 64
+    → (count_leading_zeros 64 places < 64) × (digit places (63 - count_leading_zeros 64 places) ≡ true) × ((k : ℕ) → k < count_leading_zeros 64 places → digit places (63 - k) ≡ false)
+first-digit places some fits =
+    let top = leading_top 64 places some fits in
+    let j : ℕ = top.0 in
+    let last : count_leading_zeros 64 places + suc top.0 ≡ 64 = top.1 in
+    let at : top.0 ≡ 63 - count_leading_zeros 64 places = omega arith in (
+      omega arith,
+      subst (λ n. digit places n ≡ true) at (to_digit places top.0 (set places top.0 top.2 top.3)),
+      λ k before. to_no_digit places (63 - k) (bit_at_above places (suc top.0) (63 - k) top.3 (omega arith)),
+    )
+  where
+    set : (n i : ℕ) → 2 ^ i ≤ n → n < 2 ^ suc i → bit_at n i ≡ 1
+    set n i least most =
+        let twice : 2 ^ suc i ≡ 2 ^ i * 2 = pow-suc 2 i in
+        let rest : n - 2 ^ i < 2 ^ i = omega arith in
+        let split : n ≡ 1 * 2 ^ i + (n - 2 ^ i) = omega arith in
+        ap (λ x. x % 2) (ap (λ x. x / 2 ^ i) split ∙ shr_high 1 i (n - 2 ^ i) rest)

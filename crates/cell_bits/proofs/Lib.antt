@@ -1,0 +1,7 @@
+pub mod Appending
+pub mod Candidates
+pub mod Joining
+pub mod Packing
+pub mod Searching
+pub mod Tables
+pub mod Windows

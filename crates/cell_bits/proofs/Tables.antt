@@ -1,0 +1,129 @@
+-- Rules for bytes that are shown by a look at each of the 256 bytes.
+use Rattle.std.proofs.Common.{◌≡◌, ℕ, zero, suc, ◌+◌, ◌-◌, ◌*◌, ◌/◌, ◌%◌, ◌<◌, ◌≤◌, Bool, true, false, ◌==◌, ◌&&◌, ◌⊎◌, inl, inr, length, refl, sym, ap, ◌∙◌, subst, arith, bit_and, bit_or, ◌^◌, ◌++◌, List, replicate}
+use mir.Val.{bool_byte}
+use Rattle.std.proofs.lemmas.Nat.{shr_split, or_shifted}
+use Rattle.std.proofs.lemmas.Bool.{cases_lt, eqb-true}
+use Rattle.cell_bits.specs.Word.{word_cells, number_of}
+use Rattle.cell_bits.specs.WordLaws.{word_cells-number_of, number_of-word_cells, number_of-lt, word_cells-append}
+use Rattle.cell_bits.specs.Bytes.{fm, mfm, fm_cells, mfm_cells, data_cells}
+use Rattle.cell_bits.specs.Marks.{woven}
+use Rattle.cell_bits.specs.Spread.{spread_of}
+
+-- the check holds of each number below n
+each_below : (ℕ → Bool) → ℕ → Bool
+each_below check zero = true
+each_below check (suc n) = check n && each_below check n
+
+first_holds : (a b : Bool) → (a && b) ≡ true → a ≡ true
+first_holds true b e = refl
+first_holds false b e = e
+
+second_holds : (a b : Bool) → (a && b) ≡ true → b ≡ true
+second_holds true b e = e
+second_holds false b e = cc
+
+from_each : (check : ℕ → Bool) (n : ℕ) → each_below check n ≡ true → (k : ℕ) → k < n → check k ≡ true
+unfolding each_below
+from_each check zero all k within = absurd (omega arith)
+from_each check (suc n) all k within = by_place (from_each check n (second_holds (check n) (each_below check n) all) k) (cases_lt k n)
+  where
+    by_place : (k < n → check k ≡ true) → (k < n) ⊎ (n ≤ k) → check k ≡ true
+    by_place rest (inl below) = rest below
+    by_place rest (inr last) = let e : n ≡ k = omega arith in subst (λ m. check m ≡ true) e (first_holds (check n) (each_below check n) all)
+
+-- the code's way to put a zero before each bit of a byte
+abbrev nibbles : ℕ → ℕ
+nibbles byte = bit_and (bit_or byte (byte * 16 % 4294967296)) 3855
+
+abbrev pairs : ℕ → ℕ
+pairs byte = bit_and (bit_or (nibbles byte) (nibbles byte * 4 % 4294967296)) 13107
+
+abbrev pub spread_bits : ℕ → ℕ
+spread_bits byte = bit_and (bit_or (pairs byte) (pairs byte * 2 % 4294967296)) 21845
+
+spread_table : each_below (λ byte. spread_bits byte == spread_of byte) 256 ≡ true
+unfolding each_below spread_of number_of woven word_cells
+spread_table = refl
+
+pub spread-is : (byte : ℕ) → byte < 256 → spread_bits byte ≡ spread_of byte
+spread-is byte within = eqb-true _ _ (from_each (λ b. spread_bits b == spread_of b) 256 spread_table byte within)
+
+fm_table : each_below (λ byte. bit_or (spread_of byte) 43690 == number_of (fm byte)) 256 ≡ true
+unfolding each_below spread_of number_of woven word_cells fm fm_cells
+fm_table = refl
+
+pub length-fm : (byte : ℕ) → length (fm byte) ≡ 16
+unfolding fm fm_cells word_cells
+length-fm byte = refl
+
+pub length-mfm : (before : Bool) (byte : ℕ) → length (mfm before byte) ≡ 16
+unfolding mfm mfm_cells word_cells
+length-mfm before byte = refl
+
+-- 16 cells with a given number
+from_number : (value : ℕ) (cells : List Bool) → length cells ≡ 16 → value ≡ number_of cells → word_cells 16 value ≡ cells
+from_number value cells e same =
+    ap (word_cells 16) same ∙ ap (λ n. word_cells n (number_of cells)) (sym e) ∙ word_cells-number_of cells
+
+pub fm-is : (byte : ℕ) → byte < 256 → word_cells 16 (bit_or (spread_of byte) 43690) ≡ fm byte
+fm-is byte within =
+    from_number _ (fm byte) (length-fm byte)
+    (eqb-true _ _ (from_each (λ b. bit_or (spread_of b) 43690 == number_of (fm b)) 256 fm_table byte within))
+
+abbrev pub mfm_bits : ℕ → ℕ → ℕ
+mfm_bits before bits = bit_or bits (bit_and (4294967295 - bit_or (bit_or (bits * 2 % 4294967296) (bits / 2)) (before * 32768 % 4294967296)) 43690)
+
+mfm_table : (before : Bool) → each_below (λ byte. mfm_bits (bool_byte before) (spread_of byte) == number_of (mfm before byte)) 256 ≡ true
+unfolding each_below spread_of number_of woven word_cells mfm mfm_cells
+mfm_table true = refl
+mfm_table false = refl
+
+pub mfm-is : (before : Bool) (byte : ℕ) → byte < 256 → word_cells 16 (mfm_bits (bool_byte before) (spread_of byte)) ≡ mfm before byte
+mfm-is before byte within =
+    from_number _ (mfm before byte) (length-mfm before byte)
+    (eqb-true _ _ (from_each (λ b. mfm_bits (bool_byte before) (spread_of b) == number_of (mfm before b)) 256 (mfm_table before) byte within))
+
+pub spread-lt : (byte : ℕ) → spread_of byte < 2 ^ 16
+unfolding spread_of woven word_cells
+spread-lt byte = number_of-lt (woven (replicate 8 false) (word_cells 8 byte))
+
+-- the code's way to take the second bit of each pair
+abbrev odd_bits : ℕ → ℕ
+odd_bits cells = bit_and (bit_or (bit_and cells 85) (bit_and cells 85 / 2)) 51
+
+abbrev pub gathered_bits : ℕ → ℕ
+gathered_bits cells = bit_and (bit_or (odd_bits cells) (odd_bits cells / 4)) 15
+
+gathered_table : each_below (λ cells. gathered_bits cells == number_of (data_cells (word_cells 8 cells))) 256 ≡ true
+unfolding each_below number_of word_cells data_cells
+gathered_table = refl
+
+length-gathered : (cells : ℕ) → length (data_cells (word_cells 8 cells)) ≡ 4
+unfolding data_cells word_cells
+length-gathered cells = refl
+
+pub gathered-is : (cells : ℕ) → cells < 256 → word_cells 4 (gathered_bits cells) ≡ data_cells (word_cells 8 cells)
+gathered-is cells within =
+    let same : gathered_bits cells ≡ number_of (data_cells (word_cells 8 cells)) =
+    eqb-true _ _ (from_each (λ c. gathered_bits c == number_of (data_cells (word_cells 8 c))) 256 gathered_table cells within) in
+    ap (word_cells 4) same ∙ ap (λ n. word_cells n (number_of (data_cells (word_cells 8 cells)))) (sym (length-gathered cells))
+    ∙ word_cells-number_of (data_cells (word_cells 8 cells))
+
+-- the bits of two bytes, one behind the other
+data_cells-append : (high low : ℕ) → data_cells (word_cells 8 high ++ word_cells 8 low) ≡ data_cells (word_cells 8 high) ++ data_cells (word_cells 8 low)
+unfolding data_cells word_cells
+data_cells-append high low = refl
+
+pub both-gathered : (cells high low : ℕ) → high < 16 → low < 16 → word_cells 4 high ≡ data_cells (word_cells 8 (cells / 256)) → word_cells 4 low ≡ data_cells (word_cells 8 (cells % 256))
+    → bit_or (high * 16 % 256) low ≡ number_of (data_cells (word_cells 16 cells))
+both-gathered cells high low high_fits low_fits above below =
+    let split : word_cells 16 cells ≡ word_cells 8 (cells / 256) ++ word_cells 8 (cells % 256) =
+    ap (word_cells 16) (sym (shr_split cells 8)) ∙ word_cells-append 8 8 (cells / 256) (cells % 256) (omega arith) in
+    let joined : bit_or (high * 16 % 256) low ≡ high * 2 ^ 4 + low = joint-is_8 in
+    let all : data_cells (word_cells 16 cells) ≡ word_cells 8 (high * 2 ^ 4 + low) =
+    ap data_cells split ∙ data_cells-append (cells / 256) (cells % 256) ∙ ap (λ x. x ++ data_cells (word_cells 8 (cells % 256))) (sym above)
+    ∙ ap (λ x. word_cells 4 high ++ x) (sym below) ∙ sym (word_cells-append 4 4 high low low_fits) in
+    joined ∙ sym (ap number_of all ∙ number_of-word_cells 8 (high * 2 ^ 4 + low) ∙ omega arith)
+  where
+    joint-is_8 : bit_or (high * 16 % 256) low ≡ high * 2 ^ 4 + low
+    joint-is_8 = let small : high * 16 % 256 ≡ high * 2 ^ 4 = omega arith in ap (λ x. bit_or x low) small ∙ or_shifted high 4 low low_fits

@@ -1,0 +1,13 @@
+-- The first place of a stretch where a word stands whole.
+use Rattle.std.specs.Prelude.{ℕ, ◌<◌, ◌≤◌, Bool, List, Option, Some, None}
+use Rattle.cell_bits.specs.Word.{Stands}
+
+-- the word stands whole at no place from `from` to below `to`
+abbrev pub StandsNowhere : List Bool → ℕ → ℕ → ℕ → ℕ → Type 0
+StandsNowhere cells value count from to = (place : ℕ) → from ≤ place → place < to → ¬ Stands cells value count place
+
+-- the least place from `from` to below `to` where the word stands whole, or none exactly where there is none
+abbrev pub IsFirstWord : List Bool → ℕ → ℕ → ℕ → ℕ → Option ℕ → Type 0
+IsFirstWord cells value count from to None = StandsNowhere cells value count from to
+IsFirstWord cells value count from to (Some place) =
+    (from ≤ place) × (place < to) × Stands cells value count place × StandsNowhere cells value count from place

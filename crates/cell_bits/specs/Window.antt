@@ -1,0 +1,23 @@
+-- 64 cells in one number, high bit first: what the calls that read look at.
+use Rattle.std.specs.Prelude.{◌≡◌, ℕ, ◌+◌, ◌-◌, ◌<◌, Bool, true, false, ◌↔◌, List, get_or, nat_lt, if◌then◌else◌}
+use Rattle.cell_bits.specs.Word.{digit}
+
+-- the 64 cells from a place on, with zeros behind the list's end
+abbrev pub IsWindow : List Bool → ℕ → ℕ → Type 0
+IsWindow cells place block = (k : ℕ) → k < 64 → digit block (63 - k) ≡ get_or cells (place + k) false
+
+-- the cell k of two blocks, one behind the other
+abbrev pub cell_of_two : ℕ → ℕ → ℕ → Bool
+cell_of_two high low k = if nat_lt k 64 then digit high (63 - k) else digit low (127 - k)
+
+-- the block is the 64 cells of two blocks from a place of the first on
+abbrev pub IsJoined : ℕ → ℕ → ℕ → ℕ → Type 0
+IsJoined high low shift block = (k : ℕ) → k < 64 → digit block (63 - k) ≡ cell_of_two high low (shift + k)
+
+-- from cell k of two blocks on, the first cells of the word stand, `met` of them
+abbrev pub MeetsAt : ℕ → ℕ → ℕ → ℕ → ℕ → ℕ → Type 0
+MeetsAt high low value count met k = (i : ℕ) → i < met → cell_of_two high low (k + i) ≡ digit value (count - 1 - i)
+
+-- the places of the first block from which the first cells of the word stand
+abbrev pub AreCandidates : ℕ → ℕ → ℕ → ℕ → ℕ → ℕ → Type 0
+AreCandidates high low value count met places = (k : ℕ) → k < 64 → (digit places (63 - k) ≡ true) ↔ MeetsAt high low value count met k

@@ -1,0 +1,131 @@
+ghost use Rattle.std.specs.Prelude.{◌≡◌, ◌^◌, ◌<◌, ◌≤◌, [], ◌∷◌, ◌++◌, OnOk, OnErr, IsOk};
+ghost use Rattle.cell_bits.specs.State.{room};
+ghost use Rattle.cell_bits.specs.Word.{word_cells};
+ghost use Rattle.cell_bits.specs.Spread.{spread_of};
+ghost use Rattle.cell_bits.specs.Run.{run_cells};
+ghost use Rattle.cell_bits.specs.Bytes.{fm, mfm, last_cell};
+
+use super::{Cells, MOST_WORDS};
+use flux_base::Memory;
+
+impl Cells {
+    /// Appends one cell. Memory leaves the list as it was.
+    pub fn push_cell(&mut self, cell: bool) -> Result<(), Memory>
+        ensures cells { OnOk result (self.new.cells ≡ self.old.cells ++ cell ∷ []) }
+        ensures unchanged { OnErr result (self.new.cells ≡ self.old.cells) }
+        ensures room { room self.old ≤ room self.new }
+        ensures succeeds { 1 ≤ self.old.spare → IsOk result }
+    {
+        self.append(cell as u64, 1)
+    }
+
+    /// Appends the cells from behind one flux transition to the next: `count` - 1 zeros and a one, for a count
+    /// of 1 to 32. Memory leaves the list as it was.
+    pub fn push_run(&mut self, count: u8) -> Result<(), Memory>
+        requires some { 1 ≤ count }
+        requires most { count ≤ 32 }
+        ensures cells { OnOk result (self.new.cells ≡ self.old.cells ++ run_cells count) }
+        ensures unchanged { OnErr result (self.new.cells ≡ self.old.cells) }
+        ensures room { room self.old ≤ room self.new }
+        ensures succeeds { count ≤ self.old.spare → IsOk result }
+    {
+        self.append(1, count as u32)
+    }
+
+    /// Appends the low `count` bits of the word, 1 to 32, high bit first. Memory leaves the list as it was.
+    pub fn push_word(&mut self, word: u32, count: u8) -> Result<(), Memory>
+        requires some { 1 ≤ count }
+        requires most { count ≤ 32 }
+        ensures cells { OnOk result (self.new.cells ≡ self.old.cells ++ word_cells count word) }
+        ensures unchanged { OnErr result (self.new.cells ≡ self.old.cells) }
+        ensures room { room self.old ≤ room self.new }
+        ensures succeeds { count ≤ self.old.spare → IsOk result }
+    {
+        let low = word as u64 % (1 << count as u32);
+        self.append(low, count as u32)
+    }
+
+    /// Appends the 16 cells of a byte in FM (IBM 3740). Memory leaves the list as it was.
+    pub fn push_fm(&mut self, byte: u8) -> Result<(), Memory>
+        ensures cells { OnOk result (self.new.cells ≡ self.old.cells ++ fm byte) }
+        ensures unchanged { OnErr result (self.new.cells ≡ self.old.cells) }
+        ensures room { room self.old ≤ room self.new }
+        ensures succeeds { 16 ≤ self.old.spare → IsOk result }
+    {
+        self.append(fm_word(byte) as u64, 16)
+    }
+
+    /// Appends the 16 cells of a byte in MFM (IBM System 34). The data bit before it is the list's last cell,
+    /// or 0 where the list is empty. Memory leaves the list as it was.
+    pub fn push_mfm(&mut self, byte: u8) -> Result<(), Memory>
+        ensures cells { OnOk result (self.new.cells ≡ self.old.cells ++ mfm (last_cell self.old.cells) byte) }
+        ensures unchanged { OnErr result (self.new.cells ≡ self.old.cells) }
+        ensures room { room self.old ≤ room self.new }
+        ensures succeeds { 16 ≤ self.old.spare → IsOk result }
+    {
+        self.append(mfm_word(self.last_cell(), byte) as u64, 16)
+    }
+
+    /// The list's last cell, or 0 where the list is empty.
+    fn last_cell(&self) -> bool
+        ensures { result ≡ last_cell self.now.cells }
+    {
+        match self.len().checked_sub(1) {
+            Some(place) => self.cell(place),
+            None => false,
+        }
+    }
+
+    /// Appends `count` cells, 1 to 32, the bits of a number below 2^`count`, high bit first.
+    fn append(&mut self, bits: u64, count: u32) -> Result<(), Memory>
+        requires some { 1 ≤ count }
+        requires most { count ≤ 32 }
+        requires fits { bits < 2 ^ count }
+        ensures cells { OnOk result (self.new.cells ≡ self.old.cells ++ word_cells count bits) }
+        ensures unchanged { OnErr result (self.new.cells ≡ self.old.cells) }
+        ensures room { room self.old ≤ room self.new }
+        ensures succeeds { count ≤ self.old.spare → IsOk result }
+    {
+        let free = 64 - self.filled;
+        if count < free {
+            self.last = (self.last << count) | bits;
+            self.filled += count;
+            return Ok(());
+        }
+        if self.words.len() >= MOST_WORDS {
+            return Err(Memory);
+        }
+        let over = count - free;
+        self.words.push((self.last << free) | (bits >> over))?;
+        self.last = bits % (1 << over);
+        self.filled = over;
+        Ok(())
+    }
+}
+
+/// The bits of a byte with a zero before each: a number of 16 bits.
+fn spread(byte: u8) -> u32
+    ensures { result ≡ spread_of byte }
+{
+    let nibbles = (byte as u32 | (byte as u32) << 4) & 0x0F0F;
+    let pairs = (nibbles | nibbles << 2) & 0x3333;
+    (pairs | pairs << 1) & 0x5555
+}
+
+/// The 16 cells of a byte in FM as a number, high bit first.
+fn fm_word(byte: u8) -> u32
+    ensures cells { word_cells 16 result ≡ fm byte }
+    ensures bound { result < 2 ^ 16 }
+{
+    spread(byte) | 0xAAAA
+}
+
+/// The 16 cells of a byte in MFM as a number, high bit first, behind the data bit `before`.
+fn mfm_word(before: bool, byte: u8) -> u32
+    ensures cells { word_cells 16 result ≡ mfm before byte }
+    ensures bound { result < 2 ^ 16 }
+{
+    let bits = spread(byte);
+    let neighbours = bits << 1 | bits >> 1 | (before as u32) << 15;
+    bits | (!neighbours & 0xAAAA)
+}

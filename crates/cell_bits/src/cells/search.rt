@@ -1,0 +1,75 @@
+ghost use Rattle.std.specs.Prelude.{◌≡◌, ℕ, ◌-◌, ◌<◌, ◌≤◌, length, ◌↔◌, true, IsTrue};
+ghost use Rattle.cell_bits.specs.Search.{IsFirstWord};
+ghost use Rattle.cell_bits.specs.Word.{digit};
+ghost use Rattle.cell_bits.specs.Window.{AreCandidates};
+ghost use Rattle.cell_bits.specs.Broken.{Unbroken};
+
+use super::{Cells, joined};
+
+impl Cells {
+    /// The least place, at least `from` and below `to`, where the low `count` bits of the word stand whole,
+    /// high bit first, for a count of 1 to 32. None where there is none. The bits above are not looked at, and
+    /// `from` and `to` may lie behind the list's end.
+    pub fn find_word(&self, from: usize, to: usize, word: u32, count: u8) -> Option<usize>
+        requires some { 1 ≤ count }
+        requires most { count ≤ 32 }
+        ensures { IsFirstWord self.now.cells word count from to result }
+    {
+        let length = self.len();
+        if length < count as usize {
+            return None;
+        }
+        let end = to.min(length - count as usize + 1);
+        let mut place = from;
+        let mut here = self.window(from);
+        while place < end {
+            let next = self.window(place + 64);
+            let places = candidates(here, next, word, count);
+            if places != 0 {
+                let first = place + places.leading_zeros() as usize;
+                return if first < end { Some(first) } else { None };
+            }
+            here = next;
+            place += 64;
+        }
+        None
+    }
+
+    /// Whether no eight zeros in a row lie at places from `from` to below `to`, for `from` <= `to` <= length.
+    pub fn unbroken(&self, from: usize, to: usize) -> bool
+        requires order { from ≤ to }
+        requires within { to ≤ length self.now.cells }
+        ensures { IsTrue result ↔ Unbroken self.now.cells from to }
+    {
+        if to - from < 8 {
+            return true;
+        }
+        self.find_word(from, to - 7, 0, 8).is_none()
+    }
+}
+
+/// The places of the first of two blocks from which the low `count` bits of the word stand, 1 to 32, high bit
+/// first: a bit each, high bit first. All 64 places are looked at at once, a cell of the word at a time.
+fn candidates(high: u64, low: u64, word: u32, count: u8) -> u64
+    requires some { 1 ≤ count }
+    requires most { count ≤ 32 }
+    ensures { AreCandidates high low word count count result }
+{
+    let mut places = u64::MAX;
+    for offset in 0..count as u32 {
+        let cells = joined(high, low, offset);
+        let one = (word >> (count as u32 - 1 - offset)) & 1 == 1;
+        places &= equal_cells(cells, one);
+        if places == 0 {
+            return 0;
+        }
+    }
+    places
+}
+
+/// The places at which a block's cells are ones, or those at which they are zeros.
+fn equal_cells(cells: u64, one: bool) -> u64
+    ensures { (k : ℕ) → k < 64 → (digit result (63 - k) ≡ true) ↔ (digit cells (63 - k) ≡ one) }
+{
+    if one { cells } else { !cells }
+}

@@ -1,0 +1,120 @@
+use super::*;
+use flux_base::Memory;
+use std::alloc::Global;
+use std::test::Fail;
+
+/// A list of zeros, at most 64.
+fn zeros(alloc: Global, count: u8) -> Result<Cells, Memory> {
+    let mut cells = Cells::new(alloc);
+    for _ in 0..count {
+        cells.push_cell(false)?;
+    }
+    Ok(cells)
+}
+
+/// The search of `find_word`, place by place and cell by cell.
+fn first_by_cells(cells: &Cells, from: usize, to: usize, word: u32, count: u8) -> Option<usize> {
+    for place in from..to {
+        let mut stands = true;
+        for offset in 0..count.min(32) {
+            let wanted = (word >> (count.min(32) - 1 - offset)) & 1 == 1;
+            let at = place.checked_add(offset as usize);
+            stands = stands && at.is_some_and(|at| at < cells.len() && cells.cell(at) == wanted);
+        }
+        if stands {
+            return Some(place);
+        }
+    }
+    None
+}
+
+#[test]
+fn reads_across_the_border_of_a_word(rt: HostRuntime) -> Result<(), Fail> {
+    let mut cells = Cells::new(rt.alloc());
+    cells.reserve(200)?;
+    for place in 0..200 {
+        cells.push_cell(matches!(place, 63 | 64 | 127 | 128))?;
+    }
+    assert_eq!(rt; cells.len(), 200);
+    assert_eq!(rt; cells.word_at(62, 4), 6);
+    assert_eq!(rt; cells.find_word(0, 200, 3, 2), Some(63));
+    assert_eq!(rt; cells.find_word(64, 200, 3, 2), Some(127));
+    assert_eq!(rt; cells.find_word(128, 200, 3, 2), None);
+    assert!(rt; cells.unbroken(65, 72));
+    assert!(rt; !cells.unbroken(65, 73));
+    assert_eq!(rt; cells.ones_to(127), 3);
+    assert_eq!(rt; cells.ones_between(64, 128), 2);
+    cells.clear();
+    assert_eq!(rt; cells.len(), 0);
+    Ok(())
+}
+
+#[test]
+fn pushes_across_the_border_of_a_word(rt: HostRuntime) -> Result<(), Fail> {
+    let mut cells = zeros(rt.alloc(), 60)?;
+    cells.push_word(0x1234_5678, 32)?;
+    cells.push_run(7)?;
+    cells.push_fm(0xFE)?;
+    cells.push_cell(true)?;
+    cells.push_mfm(0x4E)?;
+    cells.push_mfm(0xA1)?;
+    assert_eq!(rt; cells.len(), 148);
+    assert_eq!(rt; cells.word_at(60, 32), 0x1234_5678);
+    assert_eq!(rt; cells.word_at(92, 7), 1);
+    assert_eq!(rt; cells.word_at(99, 16), 0xFFFE);
+    assert_eq!(rt; cells.data_byte_at(99), 0xFE);
+    assert!(rt; cells.cell(115));
+    assert_eq!(rt; cells.word_at(116, 16), 0x1254);
+    assert_eq!(rt; cells.data_byte_at(116), 0x4E);
+    assert_eq!(rt; cells.word_at(132, 16), 0x44A9);
+    Ok(())
+}
+
+#[test]
+fn each_push_crosses_the_border(rt: HostRuntime) -> Result<(), Fail> {
+    let mut run = zeros(rt.alloc(), 60)?;
+    run.push_run(32)?;
+    assert_eq!(rt; run.len(), 92);
+    assert_eq!(rt; run.word_at(60, 32), 1);
+
+    let mut fm = zeros(rt.alloc(), 50)?;
+    fm.push_fm(0xA1)?;
+    assert_eq!(rt; fm.len(), 66);
+    assert_eq!(rt; fm.word_at(50, 16), 0xEEAB);
+
+    let mut mfm = zeros(rt.alloc(), 63)?;
+    mfm.push_mfm(0x4E)?;
+    assert_eq!(rt; mfm.len(), 79);
+    assert_eq!(rt; mfm.word_at(63, 16), 0x9254);
+
+    let mut first = Cells::new(rt.alloc());
+    first.push_mfm(0)?;
+    assert_eq!(rt; first.len(), 16);
+    assert_eq!(rt; first.word_at(0, 16), 0xAAAA);
+    Ok(())
+}
+
+#[test]
+fn finds_what_a_plain_search_finds(rt: HostRuntime) -> Result<(), Fail> {
+    let mut noise = 1u32;
+    for length in [0usize, 1, 15, 16, 63, 64, 65, 127, 130, 200] {
+        let mut cells = Cells::new(rt.alloc());
+        for _ in 0..length {
+            noise = noise.wrapping_mul(1_664_525).wrapping_add(1_013_904_223);
+            cells.push_cell(noise >= 1 << 31)?;
+        }
+        for count in [1u8, 2, 5, 8, 31, 32] {
+            for from in [0usize, 1, 63, 64, 100] {
+                for word in [0u32, 1, 2, 0x15, noise, u32::MAX] {
+                    let found = cells.find_word(from, 180, word, count);
+                    assert_eq!(rt;
+                        found,
+                        first_by_cells(&cells, from, 180, word, count),
+                        "{word:x} of {count} from {from} of {length}"
+                    );
+                }
+            }
+        }
+    }
+    Ok(())
+}
