@@ -1,0 +1,4 @@
+pub mod Folding
+pub mod Parts
+pub mod Knowing
+pub mod Noting

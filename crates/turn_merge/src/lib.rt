@@ -1,0 +1,13 @@
+//! What all readings of a sector, in all revolutions, say together. A book folds the readings of a
+//! track as they come, and keeps no list of them.
+#![tactic(auto)]
+
+mod book;
+mod fold;
+mod verdict;
+
+pub use book::Book;
+pub use verdict::{Place, Verdict};
+
+#[cfg(test)]
+mod tests;
