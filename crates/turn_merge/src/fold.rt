@@ -23,24 +23,11 @@ pub(crate) fn with_good(verdict: Verdict, held: &mut [u8], place: Place, bytes: 
         → IsOf result held.new (good ++ good_reading sector place bytes.now ∷ []) bad }
 {
     match verdict {
-        Verdict::Missing => {
-            held.copy_from_slice(bytes);
-            Verdict::Good {
-                good: 1,
-                bad: 0,
-                first: place,
-            }
-        }
-        Verdict::Bad { bad, .. } => {
-            held.copy_from_slice(bytes);
-            Verdict::Good {
-                good: 1,
-                bad,
-                first: place,
-            }
-        }
+        Verdict::Missing => first_good(0, held, place, bytes),
+        Verdict::Bad { bad, .. } => first_good(bad, held, place, bytes),
         Verdict::Good { good, bad, first } => {
             if *held == *bytes {
+                // The first place stays.
                 Verdict::Good {
                     good: good + 1,
                     bad,
@@ -60,16 +47,33 @@ pub(crate) fn with_good(verdict: Verdict, held: &mut [u8], place: Place, bytes: 
             bad,
             first,
             other,
-        } => Verdict::Contradictory {
-            good: good + 1,
-            bad,
-            first,
-            other,
-        },
+        } => {
+            // Two differ already: a later one is only counted.
+            Verdict::Contradictory {
+                good: good + 1,
+                bad,
+                first,
+                other,
+            }
+        }
     }
 }
 
-/// The same for sector number `index`, where `held` has the bytes of all sectors one after another.
+/// The verdict with the first good reading, whose bytes are kept, behind `bad` bad ones.
+fn first_good(bad: u32, held: &mut [u8], place: Place, bytes: &[u8]) -> Verdict
+    requires { length held.old ≡ length bytes.now }
+    ensures verdict { result ≡ Verdict.Good 1 bad place }
+    ensures held { held.new ≡ bytes.now }
+{
+    held.copy_from_slice(bytes);
+    Verdict::Good {
+        good: 1,
+        bad,
+        first: place,
+    }
+}
+
+/// `with_good` for sector number `index`, where `held` has the bytes of all sectors one after another.
 pub(crate) fn with_good_at(
     held: &mut [u8],
     index: usize,
