@@ -1,0 +1,37 @@
+-- Where tracks and sectors lie in an image.
+use Rattle.std.specs.Prelude.{ℕ, ◌+◌, ◌-◌, ◌*◌, ◌<◌, ◌≤◌, Bool, ◌||◌, ◌&&◌, nat_eq, nat_lt, List, filter, map, sum_by}
+use Rattle.std.specs.List.{flat_map, range_with_len}
+use Rattle.flux_base.specs.declared.track.TrackId.{TrackId}
+use Rattle.sector_images.specs.declared.format.Format.{Format}
+use Rattle.sector_images.specs.Formats.{row, zone}
+
+-- the track is one of the format's
+abbrev pub IsTrack : Format → TrackId → Type 0
+IsTrack format track = (track.cylinder < (row format).cylinders) × (track.head < (row format).heads)
+
+-- the sector is one of the track's
+abbrev pub IsSector : Format → TrackId → ℕ → Type 0
+IsSector format track sector =
+    ((row format).first_sector ≤ sector) × (sector < (row format).first_sector + (zone format track.cylinder).sectors)
+
+-- all tracks of the format, in the order cylinder, then head
+abbrev pub tracks : Format → List TrackId
+tracks format =
+    flat_map (λ cylinder. map (λ head. record { cylinder = cylinder; head = head }) (range_with_len 0 (row format).heads))
+    (range_with_len 0 (row format).cylinders)
+
+-- whether a track comes before another in this order
+abbrev pub comes_before : TrackId → TrackId → Bool
+comes_before a b = nat_lt a.cylinder b.cylinder || (nat_eq a.cylinder b.cylinder && nat_lt a.head b.head)
+
+-- the bytes of a track
+abbrev pub bytes_of : Format → TrackId → ℕ
+bytes_of format track = (zone format track.cylinder).sectors * (row format).sector_size
+
+-- a track's first byte in the image: the bytes of all tracks before it
+unfoldable pub place_of : Format → TrackId → ℕ
+place_of format track = sum_by (bytes_of format) (filter (λ t. comes_before t track) (tracks format))
+
+-- a sector's first byte in the image
+unfoldable pub sector_place : Format → TrackId → ℕ → ℕ
+sector_place format track sector = place_of format track + (row format).sector_size * (sector - (row format).first_sector)

@@ -1,0 +1,15 @@
+//! The formats of sector images: which there are, where a track and a sector lie in the image, and how
+//! tracks are recorded. No call takes memory.
+#![tactic(auto)]
+
+mod format;
+mod places;
+mod table;
+
+pub use format::Format;
+pub use places::{
+    image_place, image_size, nominal, ring_cells, track_bytes, track_count, track_id, track_place,
+};
+
+#[cfg(test)]
+mod tests;

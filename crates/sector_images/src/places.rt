@@ -1,0 +1,87 @@
+ghost use Rattle.std.specs.Prelude.{◌≡◌, ℕ, ◌+◌, ◌<◌, ◌≤◌, length, sum_by, take, slice_get, Some};
+ghost use Rattle.sector_images.specs.Formats.{row, zone};
+ghost use Rattle.sector_images.specs.Places.{IsTrack, IsSector, tracks, bytes_of, place_of, sector_place};
+
+use crate::format::Format;
+use flux_base::TrackId;
+
+/// The bytes of an image, which are those of all its tracks.
+pub fn image_size(format: Format) -> u32
+    ensures table { result ≡ (row format).image_size }
+    ensures sum { result ≡ sum_by (bytes_of format) (tracks format) }
+{
+    format.geometry().image_size
+}
+
+/// The number of tracks.
+pub fn track_count(format: Format) -> u32
+    ensures { result ≡ length (tracks format) }
+{
+    let geometry = format.geometry();
+    u32::from(geometry.cylinders) * u32::from(geometry.heads)
+}
+
+/// The track of this number from 0, in the order cylinder, then head.
+pub fn track_id(format: Format, number: u32) -> TrackId
+    requires { number < length (tracks format) }
+    ensures at { slice_get (tracks format) number ≡ Some result }
+    ensures track { IsTrack format result }
+{
+    let heads = u32::from(format.geometry().heads);
+    TrackId {
+        cylinder: (number / heads) as u8,
+        head: (number % heads) as u8,
+    }
+}
+
+/// The bytes of a track.
+pub fn track_bytes(format: Format, track: TrackId) -> u32
+    requires { IsTrack format track }
+    ensures { result ≡ bytes_of format track }
+{
+    u32::from(format.zone(track.cylinder).sectors) * u32::from(format.geometry().sector_size)
+}
+
+/// The place of a track's first byte in the image.
+pub fn track_place(format: Format, track: TrackId) -> u32
+    requires { IsTrack format track }
+    ensures place { result ≡ place_of format track }
+    ensures within { result + bytes_of format track ≤ (row format).image_size }
+
+    // Behind a number of whole tracks stands the track of that number.
+    ensures joined { (number : ℕ) → slice_get (tracks format) number ≡ Some track
+        → result ≡ sum_by (bytes_of format) (take number (tracks format)) }
+{
+    let zone = format.zone(track.cylinder);
+    let heads = u32::from(format.geometry().heads);
+    let before = u32::from(track.cylinder - zone.first_cylinder) * heads + u32::from(track.head);
+    zone.place + before * track_bytes(format, track)
+}
+
+/// The place of a sector's first byte in the image.
+pub fn image_place(format: Format, track: TrackId, sector: u8) -> u32
+    requires track { IsTrack format track }
+    requires sector { IsSector format track sector }
+    ensures place { result ≡ sector_place format track sector }
+    ensures within { result + (row format).sector_size ≤ (row format).image_size }
+{
+    let geometry = format.geometry();
+    track_place(format, track)
+        + u32::from(geometry.sector_size) * u32::from(sector - geometry.first_sector)
+}
+
+/// The nominal cell of a track in fine units.
+pub fn nominal(format: Format, track: TrackId) -> u32
+    requires { IsTrack format track }
+    ensures { result ≡ (zone format track.cylinder).nominal }
+{
+    format.zone(track.cylinder).nominal
+}
+
+/// The cells of a track's ring.
+pub fn ring_cells(format: Format, track: TrackId) -> u32
+    requires { IsTrack format track }
+    ensures { result ≡ (zone format track.cylinder).ring_cells }
+{
+    format.zone(track.cylinder).ring_cells
+}
