@@ -1,0 +1,7 @@
+mod Checks
+pub mod Intervals
+pub mod Steps
+pub mod Times
+pub mod Appending
+pub mod Quotients
+pub mod Windows

@@ -1,0 +1,15 @@
+//! Clock recovery: the times of a track's transitions become counts of bit cells.
+#![tactic(auto)]
+
+mod phase;
+mod reciprocals;
+mod recovery;
+mod start;
+mod window;
+
+pub use phase::Loop;
+pub use recovery::recover;
+pub use start::LoopStart;
+
+#[cfg(test)]
+mod tests;

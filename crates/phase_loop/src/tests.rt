@@ -1,0 +1,151 @@
+ghost use Rattle.std.specs.Prelude.{◌*◌, ◌^◌, ◌≤◌, All, IfOk};
+ghost use Rattle.phase_loop.specs.Start.{IsStart};
+
+use crate::{Loop, LoopStart, recover};
+use cell_bits::Cells;
+use flux_base::Memory;
+use index_turns::TrackFlux;
+use std::alloc::Global;
+
+/// The latest time that the loop takes.
+const LATEST: u64 = 1 << 39;
+
+/// A nominal cell of 48 ticks, which the first period is too.
+const EVEN: LoopStart = LoopStart {
+    nominal: 49152,
+    first: 49152,
+};
+
+/// A track with these times, as far as they do not fall and are not too late.
+fn track(alloc: Global, times: &[u64]) -> Result<TrackFlux, Memory>
+    ensures { IfOk result (λ flux. All (λ time. time ≤ 2 ^ 39) flux.times) }
+{
+    let mut flux = TrackFlux::new(alloc);
+    let mut last = 0;
+    for time in times {
+        let next = last.max(*time).min(LATEST);
+        flux.push_time(next)?;
+        last = next;
+    }
+    Ok(flux)
+}
+
+/// Whether the cells are a one and then the runs of these counts, and no more.
+fn are_runs(cells: &Cells, counts: &[u8]) -> bool {
+    let mut ones = 0u64;
+    for place in 0..cells.len() {
+        ones = ones.wrapping_add(cells.cell(place) as u64);
+    }
+    let mut place = 0usize;
+    for count in counts {
+        place = place.saturating_add(*count as usize);
+        if place >= cells.len() {
+            return false;
+        }
+        if !cells.cell(place) {
+            return false;
+        }
+    }
+    ones == (counts.len() as u64).wrapping_add(1) && cells.len() == place.saturating_add(1)
+}
+
+/// Whether the times give these counts.
+fn gives(alloc: Global, start: LoopStart, times: &[u64], counts: &[u8]) -> Result<bool, Memory>
+    requires { IsStart start }
+{
+    let flux = track(alloc, times)?;
+    let mut bench = Loop::new(alloc)?;
+    let mut cells = Cells::new(alloc);
+    recover(&flux, start, &mut bench, &mut cells)?;
+    Ok(are_runs(&cells, counts))
+}
+
+/// So many times, each as far behind the one before, the first of them 0.
+fn even_times(alloc: Global, count: u64, way: u64) -> Result<Vec<u64>, Memory>
+    requires { count * way ≤ 2 ^ 39 }
+{
+    let mut times = Vec::new(alloc);
+    for number in 0..count {
+        times.push(number * way)?;
+    }
+    Ok(times)
+}
+
+// 1546 ticks are 32.2 cells of 48. The place is then the mean of 32 cells and the time, so that the 68 ticks
+// behind it are 1.6 cells. 1594 ticks are 33.2 cells: there the loop starts anew, and 68 ticks are 1.4 cells.
+#[test]
+fn counts_steps(rt: HostRuntime) -> Result<(), Memory> {
+    let mut bench = Loop::new(rt.alloc())?;
+    bench.start(EVEN, 48);
+    assert_eq!(rt; bench.step(1594), 32);
+    assert_eq!(rt; bench.step(1662), 2);
+    bench.start(EVEN, 48);
+    assert_eq!(rt; bench.step(1642), 32);
+    assert_eq!(rt; bench.step(1710), 1);
+    Ok(())
+}
+
+#[test]
+fn recovers_few_cells(rt: HostRuntime) -> Result<(), Memory> {
+    assert!(rt; gives(rt.alloc(), EVEN, &[48, 1594, 1662], &[32, 2])?);
+    assert!(rt; gives(rt.alloc(), EVEN, &[48, 1642, 1710], &[32, 1])?);
+
+    // In fine units the places are 0, then 95346 / 2 = 47673, then 188075 / 2 = 94037 and a half, rounded
+    // down: the last time, 167936, lies 1.5 periods behind it to the unit, and would not if it were rounded up.
+    let start = LoopStart {
+        nominal: 49152,
+        first: 49266,
+    };
+    assert!(rt; gives(rt.alloc(), start, &[0, 45, 89, 164], &[1, 1, 2])?);
+    Ok(())
+}
+
+// The last of 200 transitions a cell apart, and then all from number 100 on 50 ticks later.
+#[test]
+fn recovers_a_jump(rt: HostRuntime) -> Result<(), Memory> {
+    let mut times = even_times(rt.alloc(), 200, 48)?;
+    let mut counts = [1u8; 199];
+    assert!(rt; gives(rt.alloc(), EVEN, times.as_slice(), &counts)?);
+    for time in times.iter_mut() {
+        if *time >= 4800 {
+            *time = time.saturating_add(50);
+        }
+    }
+    counts[99] = 2;
+    assert!(rt; gives(rt.alloc(), EVEN, times.as_slice(), &counts)?);
+    Ok(())
+}
+
+// Intervals of 35 ticks lie below the band's end of 36: the place settles one tick ahead of the time, and 54
+// ticks more are (2 * 53 + 36) / 72 = 1.97 periods. A period of 35 would make 143 / 70 = 2.04 of them.
+#[test]
+fn keeps_the_mean_in_the_band(rt: HostRuntime) -> Result<(), Memory> {
+    let mut times = even_times(rt.alloc(), 101, 35)?;
+    times.push(3554)?;
+    assert!(rt; gives(rt.alloc(), EVEN, times.as_slice(), &[1; 101])?);
+    Ok(())
+}
+
+// Intervals of 50 ticks make a period of 50. 3000 ticks are 60 of them: the loop starts anew. Then the period
+// is 48 again for 64 intervals: 48 ticks are one, and 73 ticks (146 + 48) / 96 = 2.02. With the old intervals
+// or the old period they would be (146 + 50) / 100 = 1.96.
+#[test]
+fn forgets_at_a_restart(rt: HostRuntime) -> Result<(), Memory> {
+    let mut times = even_times(rt.alloc(), 101, 50)?;
+    times.push(8000)?;
+    times.push(8048)?;
+    times.push(8121)?;
+    let mut counts = [1u8; 103];
+    counts[100] = 32;
+    counts[102] = 2;
+    assert!(rt; gives(rt.alloc(), EVEN, times.as_slice(), &counts)?);
+    Ok(())
+}
+
+// 1024 * 4805468 / 100000 = 49207.99; the band of 49208 goes from 36906 to 61510.
+#[test]
+fn starts_at_a_turns_mean(rt: HostRuntime) {
+    for (turn, first) in [(4805468, 49207), (3603000, 36906), (6008000, 61510)] {
+        assert_eq!(rt; LoopStart::for_turn(49208, turn, 100000).first, first);
+    }
+}
