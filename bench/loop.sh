@@ -1,0 +1,26 @@
+#!/bin/sh
+# Transitions a second through recover, on a usual track of five revolutions and on the longest track. Needs rt on
+# the path; the first run proves and builds the program.
+set -eu
+cd "$(dirname "$0")/../crates/loop_bench"
+rt run <stdin >/dev/null
+
+# The milliseconds of one run of the program: so many transitions, so many recoveries.
+milliseconds() {
+    begin=$(date +%s%N)
+    printf '%s\n%s\n' "$1" "$2" | ./out/loop_bench >/dev/null
+    end=$(date +%s%N)
+    echo $(((end - begin) / 1000000))
+}
+
+# A track's name, its transitions, and how often they are recovered.
+report() {
+    made=$(milliseconds "$2" 0)
+    both=$(milliseconds "$2" "$3")
+    spent=$((both - made))
+    total=$(($2 * $3))
+    echo "$1: $((total / (spent + 1) / 1000)) million transitions a second ($spent ms for $3 times $2 transitions)"
+}
+
+report "five revolutions" 250000 80
+report "longest track" 4194304 5
