@@ -1,0 +1,21 @@
+-- What is read in the cells from a place on, and in the whole list.
+use Rattle.std.proofs.Common.{◌≡◌, ℕ, ◌+◌, ◌-◌, Bool, List, take, drop, ap, sym, ◌∙◌, arith}
+use Rattle.std.proofs.lemmas.List.{drop-drop}
+use Rattle.cell_bits.specs.Broken.{Unbroken}
+use Rattle.cell_bits.specs.Bytes.{data_byte, data_cells}
+use Rattle.cell_bits.specs.Word.{number_of}
+
+pub data_byte-drop : (place : ℕ) (cells : List Bool) (offset : ℕ) → data_byte (drop place cells) offset ≡ data_byte cells (place + offset)
+unfolding data_byte
+data_byte-drop place cells offset =
+    ap (λ (rest : List Bool). number_of (data_cells (take 16 rest))) (drop-drop offset place cells)
+
+pub unbroken-drop : (place : ℕ) (cells : List Bool) (count : ℕ) → Unbroken cells place (place + count) → Unbroken (drop place cells) 0 count
+unbroken-drop place cells count whole k above below zeros =
+    whole (place + k) (omega arith) (omega arith) (ap (take 8) (sym (drop-drop k place cells)) ∙ zeros)
+
+pub drop-unbroken : (place : ℕ) (cells : List Bool) (count : ℕ) → Unbroken (drop place cells) 0 count → Unbroken cells place (place + count)
+drop-unbroken place cells count whole k above below zeros =
+    let e : place + (k - place) ≡ k = omega arith in
+    whole (k - place) (omega arith) (omega arith)
+    (ap (take 8) (drop-drop (k - place) place cells ∙ ap (λ n. drop n cells) e) ∙ zeros)

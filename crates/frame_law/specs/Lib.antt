@@ -1,0 +1,4 @@
+pub mod Readings
+pub mod Rings
+pub mod Stretches
+pub mod Writing

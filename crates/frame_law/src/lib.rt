@@ -1,0 +1,14 @@
+//! The interface behind which every recording stands: how a track's sectors are written as a ring of cells,
+//! and how one is read at a place of a list of cells. A recording is an impl of [`Recording`] and nothing
+//! else; whoever reads or writes tracks is generic over it.
+#![tactic(auto)]
+
+mod cells_from;
+mod reading;
+mod recording;
+mod search;
+
+pub use cells_from::CellsFrom;
+pub use reading::{Reading, SectorBuffer};
+pub use recording::Recording;
+pub use search::next_reading;

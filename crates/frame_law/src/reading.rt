@@ -1,0 +1,15 @@
+use arrayvec::ArrayVec;
+
+/// Room for the bytes of one sector of any recording.
+pub type SectorBuffer = ArrayVec<u8, 512>;
+
+/// What is read at one place of a list of cells.
+#[derive(Clone, Copy, Debug, PartialEq, Eq)]
+pub enum Reading {
+    /// No header of the track stands there.
+    Nothing,
+    /// A sector's header stands there whole, and the sector does not.
+    Bad { sector: u8 },
+    /// The whole sector stands there.
+    Good { sector: u8 },
+}

@@ -1,0 +1,162 @@
+ghost use Rattle.std.specs.Prelude.{◌≡◌, ℕ, ◌+◌, ◌*◌, ◌^◌, ◌<◌, ◌≤◌, List, [], Bool, length, drop, OnOk, OnErr, IsOk};
+ghost use Rattle.cell_bits.specs.Broken.{Unbroken};
+ghost use Rattle.cell_bits.specs.State.{room};
+ghost use Rattle.cell_bits.specs.Word.{Stands};
+ghost use Rattle.flux_base.specs.declared.track.TrackId.{TrackId};
+ghost use Rattle.frame_law.specs.Readings.{Reads};
+ghost use Rattle.frame_law.specs.Rings.{AreSectors, IsSectorNumber, IsSpaced, LiesAt, bytes_of, stretch};
+
+use crate::{Reading, SectorBuffer};
+use cell_bits::Cells;
+use flux_base::{Memory, TrackId};
+
+/// How the sectors of a disk's tracks are written as cells, and how they are read.
+///
+/// An impl says what its ghost members mean, in the terms of its standard: which tracks there are, when a
+/// header and when a sector stands at the front of a list of cells, and the ring of cells of a whole track.
+/// The calls equal these meanings, and the laws below the calls tie the ring to what stands.
+pub trait Recording {
+    /// The least distance of neighbouring ones of a ring, in cells.
+    const SHORTEST: u8;
+    /// The greatest distance of neighbouring ones of a ring, in cells, at most 4.
+    const LONGEST: u8;
+    /// The cells with which each header begins, as a number, high bit first: what a search looks for.
+    const SYNC: u32;
+    /// How many cells these are, 1 to 32.
+    const SYNC_CELLS: u8;
+
+    ghost SHORTEST: { ℕ };
+
+    ghost LONGEST: { ℕ };
+
+    ghost SYNC: { ℕ };
+
+    ghost SYNC_CELLS: { ℕ };
+
+    /// The track is one of the recording's.
+    ghost has_track: { Self → TrackId → Type 0 };
+
+    /// The header of this sector of the track stands at the front of the cells.
+    ghost header_at: { Self → TrackId → List Bool → ℕ → Type 0 };
+
+    /// This sector of the track stands at the front of the cells, with these bytes.
+    ghost sector_at: { Self → TrackId → List Bool → ℕ → List ℕ → Type 0 };
+
+    /// The ring of a track: its cells, from one index hole to the next, with these bytes of all its sectors.
+    ghost ring: { Self → TrackId → List ℕ → List Bool };
+
+    /// The place in the ring at which a sector's header begins.
+    ghost sector_place: { Self → TrackId → ℕ → ℕ };
+
+    /// How many cells of the ring a sector's frame has, from the begin of its header to its end.
+    ghost frame_cells: { Self → ℕ };
+
+    ghost first_sector: { Self → ℕ };
+
+    ghost sectors: { Self → TrackId → ℕ };
+
+    ghost sector_size: { Self → ℕ };
+
+    ghost ring_cells: { Self → TrackId → ℕ };
+
+    /// The number of a track's first sector.
+    fn first_sector(&self) -> u8
+        ensures { result ≡ first_sector self.now };
+
+    /// How many sectors the track has.
+    fn sectors(&self, track: TrackId) -> u8
+        requires { has_track self.now track }
+        ensures { result ≡ sectors self.now track };
+
+    /// How many bytes a sector has.
+    fn sector_size(&self) -> u16
+        ensures { result ≡ sector_size self.now };
+
+    /// How many cells the track's ring has.
+    fn ring_cells(&self, track: TrackId) -> u32
+        requires { has_track self.now track }
+        ensures { result ≡ ring_cells self.now track };
+
+    /// Makes `cells` the track's ring with the given bytes of its sectors, in order of the sector's number.
+    /// After `Memory` they are empty.
+    fn ring(&self, track: TrackId, bytes: &[u8], cells: &mut Cells) -> Result<(), Memory>
+        requires track { has_track self.now track }
+        requires bytes { length bytes.now ≡ sectors self.now track * sector_size self.now }
+        ensures ok { OnOk result (cells.new.cells ≡ ring self.now track bytes.now) }
+        ensures err { OnErr result (cells.new.cells ≡ []) }
+
+        // Memory cannot come where there was room for the ring.
+        ensures succeeds { ring_cells self.now track ≤ room cells.old → IsOk result }
+        ensures room { room cells.old ≤ room cells.new };
+
+    /// What is read at the place: a good sector where one stands whole, and a bad one where only its header
+    /// does. Then `buffer` has a good sector's bytes, and is else empty. It takes no memory.
+    fn read_at(
+        &self,
+        cells: &Cells,
+        place: usize,
+        track: TrackId,
+        buffer: &mut SectorBuffer,
+    ) -> Reading
+        requires { has_track self.now track }
+        ensures { let here = drop place cells.now.cells in
+            Reads (header_at self.now track here) (sector_at self.now track here) result buffer.new.items };
+
+    /// Each header begins with the sync cells.
+    ghost sync_size: { (1 ≤ SYNC_CELLS) × (SYNC_CELLS ≤ 32) };
+
+    ghost sync_leads: { (r : Self) (track : TrackId) (cells : List Bool) (s : ℕ) →
+        header_at r track cells s → Stands cells SYNC SYNC_CELLS 0 };
+
+    /// What stands is one thing: no two headers, and no two contents of sectors, stand in the same cells.
+    ghost one_header: { (r : Self) (track : TrackId) (cells : List Bool) (s t : ℕ) →
+        header_at r track cells s → header_at r track cells t → s ≡ t };
+
+    ghost one_content: { (r : Self) (track : TrackId) (cells : List Bool) (s t : ℕ) (xs ys : List ℕ) →
+        sector_at r track cells s xs → sector_at r track cells t ys → xs ≡ ys };
+
+    /// A sector has its header, and the number and the size of a sector of the track.
+    ghost header_of_sector: { (r : Self) (track : TrackId) (cells : List Bool) (s : ℕ) (xs : List ℕ) →
+        sector_at r track cells s xs → header_at r track cells s };
+
+    ghost header_number: { (r : Self) (track : TrackId) (cells : List Bool) (s : ℕ) →
+        has_track r track →
+        header_at r track cells s → IsSectorNumber (first_sector r) (sectors r track) s };
+
+    ghost content_size: { (r : Self) (track : TrackId) (cells : List Bool) (s : ℕ) (xs : List ℕ) →
+        sector_at r track cells s xs → length xs ≡ sector_size r };
+
+    /// A sector's number has 8 bits, its bytes fit the buffer, and a ring has at most 2^18 cells.
+    ghost sizes: { (r : Self) (track : TrackId) →
+        has_track r track →
+        (first_sector r + sectors r track ≤ 256) × (sector_size r ≤ 512) × (ring_cells r track ≤ 2 ^ 18) };
+
+    /// A ring has the length that `ring_cells` says.
+    ghost ring_length: { (r : Self) (track : TrackId) (bytes : List ℕ) →
+        has_track r track → AreSectors (sectors r track) (sector_size r) bytes →
+        length (ring r track bytes) ≡ ring_cells r track };
+
+    /// A ring has a one, and its neighbouring ones, read cyclically, are SHORTEST to LONGEST cells apart.
+    ghost distances: { (1 ≤ SHORTEST) × (SHORTEST ≤ LONGEST) × (LONGEST ≤ 4) };
+
+    ghost ring_spaced: { (r : Self) (track : TrackId) (bytes : List ℕ) →
+        has_track r track → AreSectors (sectors r track) (sector_size r) bytes →
+        IsSpaced SHORTEST LONGEST (ring r track bytes) };
+
+    /// In any stretch of the repeated ring, where a sector's frame lies whole, the sector stands with its
+    /// bytes.
+    ghost sector_stands: { (r : Self) (track : TrackId) (bytes : List ℕ) (s from count place : ℕ) →
+        has_track r track → AreSectors (sectors r track) (sector_size r) bytes →
+        IsSectorNumber (first_sector r) (sectors r track) s →
+        LiesAt (ring_cells r track) (sector_place r track s) (frame_cells r) from count place →
+        sector_at r track (drop place (stretch (ring r track bytes) from count)) s
+        (bytes_of (first_sector r) (sector_size r) bytes s) };
+
+    /// A sector's frame lies whole in the ring, and is unbroken there.
+    ghost frame_whole: { (r : Self) (track : TrackId) (bytes : List ℕ) (s : ℕ) →
+        has_track r track → AreSectors (sectors r track) (sector_size r) bytes →
+        IsSectorNumber (first_sector r) (sectors r track) s →
+        let begin = sector_place r track s in
+        let end = begin + frame_cells r in
+        (end ≤ ring_cells r track) × Unbroken (ring r track bytes) begin end };
+}
