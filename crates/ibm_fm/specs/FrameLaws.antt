@@ -1,0 +1,233 @@
+-- A sector's frame as the ring has it, whatever comes behind it: the sector stands there.
+use Rattle.std.specs.Prelude.{◌≡◌, ℕ, zero, suc, ◌+◌, ◌-◌, ◌*◌, ◌<◌, ◌≤◌, Bool, true, false, not, ◌&&◌, List, ◌∷◌, ◌++◌, length, take, drop, replicate, refl, nat_eq}
+use Rattle.std.proofs.Common.{ap, sym, subst, ◌∙◌, arith, append_assoc, inl, inr, length-append, length-drop, lit<, lit≤}
+use Rattle.std.proofs.Math.Nat.{mod-eq_of_lt}
+use Rattle.std.proofs.lemmas.List.{drop-append-le, take-append-le}
+use Rattle.std.specs.List.{list_all, range_with_len}
+use Rattle.flux_base.specs.declared.track.TrackId.{TrackId}
+use Rattle.cell_bits.specs.Bytes.{data_byte, data_cells, fm, fm_cells}
+use Rattle.cell_bits.specs.Word.{number_of, word_cells}
+use Rattle.cell_bits.specs.WordLaws.{length-word_cells, number_of-word_cells}
+use Rattle.ibm_fm.specs.Density.{IsDense, dense-append, dense-fm_bytes, unbroken-first, dense-id_mark, dense-data_mark}
+use Rattle.ibm_fm.specs.Layout.{field_cells, fm_bytes, high_first}
+use Rattle.ibm_fm.specs.Lengths.{length-fm_bytes}
+use Rattle.ibm_fm.specs.Offsets.{AreBytes, bytes_at-first, bytes_at-past, crc-lt, data_byte-past, drop-past, number_at-behind, number_at-past, take-first}
+use Rattle.ibm_fm.specs.Sectors.{HeaderStands, IsTrack, OpensData, SectorStands, address_of, bytes_at, check_of, number_at}
+
+-- the header's cells
+abbrev pub header_cells : TrackId → ℕ → List Bool
+header_cells track sector = word_cells 16 0xF57E ++ field_cells 0xFE (address_of track sector)
+
+-- the gap from there to the data, and the data mark
+unfoldable pub gap_and_mark : List Bool
+gap_and_mark = fm_bytes (replicate 11 0xFF) ++ (fm_bytes (replicate 6 0x00) ++ word_cells 16 0xF56F)
+
+-- the frame's cells
+abbrev pub frame_of : TrackId → ℕ → List ℕ → List Bool
+frame_of track sector bytes = header_cells track sector ++ (gap_and_mark ++ field_cells 0xFB bytes)
+
+length-field_cells : (mark : ℕ) (bytes : List ℕ) → length (field_cells mark bytes) ≡ 16 * (length bytes + 2)
+length-field_cells mark bytes =
+    let check = high_first (check_of mark bytes) in
+    length-fm_bytes (bytes ++ check) ∙ ap (λ (n : ℕ). 16 * n) (length-append bytes check)
+
+length-header_cells : (track : TrackId) (sector : ℕ) → length (header_cells track sector) ≡ 112
+length-header_cells track sector =
+    let whole = length-append (word_cells 16 0xF57E) (field_cells 0xFE (address_of track sector)) in
+    omega (arith, whole, length-word_cells 16 0xF57E, length-field_cells 0xFE (address_of track sector))
+
+length-gap_and_mark : length gap_and_mark ≡ 288
+unfolding gap_and_mark fm fm_cells word_cells
+length-gap_and_mark = refl
+
+pub length-frame_of : (track : TrackId) (sector : ℕ) (bytes : List ℕ) → length bytes ≡ 128 → length (frame_of track sector bytes) ≡ 2480
+length-frame_of track sector bytes size =
+    let whole = length-append (header_cells track sector) (gap_and_mark ++ field_cells 0xFB bytes) in
+    let rest = length-append gap_and_mark (field_cells 0xFB bytes) in
+    omega (arith, whole, rest, length-header_cells track sector, length-gap_and_mark, length-field_cells 0xFB bytes)
+
+dense-field : (mark : ℕ) (bytes : List ℕ) → IsDense false (field_cells mark bytes)
+dense-field mark bytes = dense-fm_bytes (bytes ++ high_first (check_of mark bytes))
+
+dense-header : (track : TrackId) (sector : ℕ) → IsDense false (header_cells track sector)
+dense-header track sector =
+    dense-append false (word_cells 16 0xF57E) (field_cells 0xFE (address_of track sector)) dense-id_mark
+    (dense-field 0xFE (address_of track sector))
+
+dense-gap_and_mark : IsDense false gap_and_mark
+unfolding gap_and_mark
+dense-gap_and_mark =
+    dense-append false (fm_bytes (replicate 11 0xFF)) (fm_bytes (replicate 6 0x00) ++ word_cells 16 0xF56F) (dense-fm_bytes (replicate 11 0xFF))
+    (dense-append false (fm_bytes (replicate 6 0x00)) (word_cells 16 0xF56F) (dense-fm_bytes (replicate 6 0x00)) dense-data_mark)
+
+dense-frame : (track : TrackId) (sector : ℕ) (bytes : List ℕ) → IsDense false (frame_of track sector bytes)
+dense-frame track sector bytes =
+    dense-append false (header_cells track sector) (gap_and_mark ++ field_cells 0xFB bytes) (dense-header track sector)
+    (dense-append false gap_and_mark (field_cells 0xFB bytes) dense-gap_and_mark (dense-field 0xFB bytes))
+
+-- the header stands at the front of its cells
+pub header_stands : (track : TrackId) (sector : ℕ) (rest : List Bool) → IsTrack track → 1 ≤ sector → sector ≤ 26
+    → HeaderStands track (header_cells track sector ++ rest) sector
+unfolding AreBytes
+header_stands track sector rest known least most =
+    let cells = header_cells track sector ++ rest in
+    let mark = word_cells 16 0xF57E in
+    let field = field_cells 0xFE (address_of track sector) in
+    let address = address_of track sector in
+    let check = high_first (check_of 0xFE address) in
+    let apart : cells ≡ mark ++ (field ++ rest) = append_assoc mark field rest in
+    let size : length mark ≡ 16 = length-word_cells 16 0xF57E in
+    let fit : AreBytes address = (omega (arith, known.cylinder), (omega (arith, known.head), (omega arith, (lit< tt, tt)))) in
+    record {
+      mark = ap (λ (some : List Bool). take 16 some) apart ∙ take-first mark (field ++ rest) 16 size;
+      whole = (let e = length-append (header_cells track sector) rest in omega (arith, e, length-header_cells track sector));
+      address = ap (λ (some : List Bool). bytes_at some 16 4) apart ∙ bytes_at-past mark (field ++ rest) 16 0 4 size
+          ∙ bytes_at-first address check rest fit;
+      known = (least, most);
+      check = ap (λ (some : List Bool). number_at some 80) apart ∙ number_at-past mark (field ++ rest) 16 64 size
+          ∙ number_at-behind address (check_of 0xFE address) rest (crc-lt 0xFFFF (0xFE ∷ address) (lit< tt));
+      unbroken = unbroken-first (header_cells track sector) rest 112 (dense-header track sector) (length-header_cells track sector);
+    }
+
+-- the number is that of no mark
+is_no_mark : ℕ → Bool
+is_no_mark number =
+    not (nat_eq number 0xF57E) && (not (nat_eq number 0xF56F) && (not (nat_eq number 0xF56A) && not (nat_eq number 0xF77A)))
+
+number_in_gap : ℕ → ℕ
+number_in_gap place = number_of (take 16 (drop place gap_and_mark))
+
+no_mark_in_gap : list_all (λ place. is_no_mark (number_in_gap place)) (range_with_len 0 272) ≡ true
+unfolding is_no_mark number_in_gap gap_and_mark fm fm_cells word_cells number_of
+no_mark_in_gap = refl
+
+both_true : (a b : Bool) → (a && b) ≡ true → (a ≡ true) × (b ≡ true)
+both_true true b holds = (refl, holds)
+both_true false b holds = absurd (cc)
+
+each_in_range : (p : ℕ → Bool) (first count k : ℕ) → list_all p (range_with_len first count) ≡ true → k < count → p (first + k) ≡ true
+each_in_range p first zero k all within = absurd (omega arith)
+each_in_range p first (suc count) zero all within =
+    let e : first + 0 ≡ first = omega arith in
+    ap p e ∙ (both_true (p first) (list_all p (range_with_len (first + 1) count)) all).0
+each_in_range p first (suc count) (suc k) all within =
+    let e : first + suc k ≡ first + 1 + k = omega arith in
+    ap p e ∙ each_in_range p (first + 1) count k (both_true (p first) (list_all p (range_with_len (first + 1) count)) all).1 (omega arith)
+
+-- in the gap, 16 cells do not depend on what comes behind the mark
+in_gap : (rest : List Bool) (place : ℕ) → place ≤ 272 → take 16 (drop place (gap_and_mark ++ rest)) ≡ take 16 (drop place gap_and_mark)
+in_gap rest place within =
+    let short : place ≤ length gap_and_mark = omega (arith, length-gap_and_mark) in
+    let fits : 16 ≤ length (drop place gap_and_mark) = omega (arith, length-drop place gap_and_mark, length-gap_and_mark) in
+    ap (take 16) (drop-append-le place gap_and_mark rest short) ∙ take-append-le 16 (drop place gap_and_mark) rest fits
+
+mark_number : (rest : List Bool) (place mark : ℕ) → place < 272 → mark < 65536
+    → take 16 (drop place (gap_and_mark ++ rest)) ≡ word_cells 16 mark → number_in_gap place ≡ mark
+unfolding number_in_gap
+mark_number rest place mark within fits stands =
+    let low : place ≤ 272 = omega arith in
+    ap number_of (sym (in_gap rest place low) ∙ stands) ∙ number_of-word_cells 16 mark ∙ mod-eq_of_lt fits
+
+no_mark : (rest : List Bool) (place mark : ℕ) → place < 272 → mark < 65536 → is_no_mark mark ≡ false
+    → ¬ (take 16 (drop place (gap_and_mark ++ rest)) ≡ word_cells 16 mark)
+no_mark rest place mark within fits is_mark stands =
+    let e : 0 + place ≡ place = omega arith in
+    let test : is_no_mark (number_in_gap place) ≡ true =
+    ap (λ (n : ℕ). is_no_mark (number_in_gap n)) (sym e)
+    ∙ each_in_range (λ n. is_no_mark (number_in_gap n)) 0 272 place no_mark_in_gap within in
+    let same : is_no_mark (number_in_gap place) ≡ is_no_mark mark = ap is_no_mark (mark_number rest place mark within fits stands) in
+    cc
+
+id_is_mark : is_no_mark 0xF57E ≡ false
+unfolding is_no_mark
+id_is_mark = refl
+
+data_is_mark : is_no_mark 0xF56F ≡ false
+unfolding is_no_mark
+data_is_mark = refl
+
+deleted_is_mark : is_no_mark 0xF56A ≡ false
+unfolding is_no_mark
+deleted_is_mark = refl
+
+index_is_mark : is_no_mark 0xF77A ≡ false
+unfolding is_no_mark
+index_is_mark = refl
+
+mark_behind_gap : take 16 (drop 272 gap_and_mark) ≡ word_cells 16 0xF56F
+unfolding gap_and_mark fm fm_cells word_cells
+mark_behind_gap = refl
+
+byte_of_mark : number_of (data_cells (take 16 (drop 272 gap_and_mark))) ≡ 0xFB
+unfolding gap_and_mark fm fm_cells word_cells number_of data_cells
+byte_of_mark = refl
+
+data_byte-of_mark : (rest : List Bool) → data_byte (gap_and_mark ++ rest) 272 ≡ 0xFB
+unfolding data_byte
+data_byte-of_mark rest = ap (λ (cells : List Bool). number_of (data_cells cells)) (in_gap rest 272 (lit≤ tt)) ∙ byte_of_mark
+
+-- the first mark behind the header is the data mark
+opens : (track : TrackId) (sector : ℕ) (rest : List Bool) → OpensData (header_cells track sector ++ (gap_and_mark ++ rest)) 384
+opens track sector rest =
+    let header = header_cells track sector in
+    let size = length-header_cells track sector in
+    let cells = header ++ (gap_and_mark ++ rest) in
+    let mark : take 16 (drop 384 cells) ≡ word_cells 16 0xF56F =
+    ap (take 16) (drop-past header (gap_and_mark ++ rest) 112 272 size) ∙ in_gap rest 272 (lit≤ tt) ∙ mark_behind_gap in
+    let none : (place mark : ℕ) → 112 ≤ place → place < 384 → mark < 65536 → is_no_mark mark ≡ false → ¬ (take 16 (drop place cells) ≡ word_cells 16 mark) =
+    λ place mark above below fits is_mark stands.
+    let e : 112 + (place - 112) ≡ place = omega arith in
+    no_mark rest (place - 112) mark (omega arith) fits is_mark
+    (ap (take 16) (sym (drop-past header (gap_and_mark ++ rest) 112 (place - 112) size) ∙ ap (λ (n : ℕ). drop n cells) e) ∙ stands) in
+    record {
+      behind = lit≤ tt;
+      near = lit< tt;
+      opens = inl mark;
+      first = λ place above below some. elim some [
+        | inl data_mark ↦ elim data_mark [
+          | inl stands ↦ none place 0xF56F above below (lit< tt) data_is_mark stands
+          | inr stands ↦ none place 0xF56A above below (lit< tt) deleted_is_mark stands
+        ]
+        | inr other ↦ elim other [
+          | inl stands ↦ none place 0xF57E above below (lit< tt) id_is_mark stands
+          | inr stands ↦ none place 0xF77A above below (lit< tt) index_is_mark stands
+        ]
+      ];
+    }
+
+-- the sector stands at the front of its frame
+pub frame_stands : (track : TrackId) (sector : ℕ) (bytes : List ℕ) (rest : List Bool) → IsTrack track → 1 ≤ sector → sector ≤ 26
+    → AreBytes bytes → length bytes ≡ 128 → SectorStands track (frame_of track sector bytes ++ rest) sector bytes
+frame_stands track sector bytes rest known least most fit size =
+    let header = header_cells track sector in
+    let field = field_cells 0xFB bytes in
+    let check = high_first (check_of 0xFB bytes) in
+    let behind = field ++ rest in
+    let cells = header ++ (gap_and_mark ++ behind) in
+    let whole = frame_of track sector bytes ++ rest in
+    let apart : whole ≡ cells =
+    append_assoc header (gap_and_mark ++ field) rest ∙ ap (λ (some : List Bool). header ++ some) (append_assoc gap_and_mark field rest) in
+    let header_size = length-header_cells track sector in
+    let byte : data_byte whole 384 ≡ 0xFB =
+    ap (λ (some : List Bool). data_byte some 384) apart ∙ data_byte-past header (gap_and_mark ++ behind) 112 272 header_size ∙ data_byte-of_mark behind in
+    record {
+      header = subst (λ (some : List Bool). HeaderStands track some sector) (sym apart)
+          (header_stands track sector (gap_and_mark ++ behind) known least most);
+      content = record {
+        sync = 384;
+        mark = subst (λ (some : List Bool). OpensData some 384) (sym apart) (opens track sector behind);
+        whole = (let e = length-append (frame_of track sector bytes) rest in omega (arith, e, length-frame_of track sector bytes size));
+        content = ap (λ (some : List Bool). bytes_at some 400 128) apart
+            ∙ bytes_at-past header (gap_and_mark ++ behind) 112 288 128 header_size
+            ∙ bytes_at-past gap_and_mark behind 288 0 128 length-gap_and_mark
+            ∙ ap (bytes_at behind 0) (sym size)
+            ∙ bytes_at-first bytes check rest fit;
+        check = ap (λ (some : List Bool). number_at some 2448) apart
+            ∙ number_at-past header (gap_and_mark ++ behind) 112 2336 header_size
+            ∙ number_at-past gap_and_mark behind 288 2048 length-gap_and_mark
+            ∙ ap (λ (n : ℕ). number_at behind (16 * n)) (sym size)
+            ∙ number_at-behind bytes (check_of 0xFB bytes) rest (crc-lt 0xFFFF (0xFB ∷ bytes) (lit< tt))
+            ∙ ap (λ (mark : ℕ). check_of mark bytes) (sym byte);
+        unbroken = unbroken-first (frame_of track sector bytes) rest 2480 (dense-frame track sector bytes) (length-frame_of track sector bytes size);
+      };
+    }

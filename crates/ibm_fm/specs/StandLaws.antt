@@ -1,0 +1,44 @@
+-- What stands is one thing: the cells determine the sector's number and its bytes.
+use Rattle.std.specs.Prelude.{◌≡◌, ℕ, zero, suc, ◌+◌, Bool, List, length, refl}
+use Rattle.std.proofs.Common.{ap, sym, ◌∙◌, inl, inr, arith}
+use Rattle.std.proofs.lemmas.Bool.{cases_lt}
+use Rattle.flux_base.specs.declared.track.TrackId.{TrackId}
+use Rattle.cell_bits.specs.Word.{Stands}
+use Rattle.frame_law.specs.Rings.{IsSectorNumber}
+use Rattle.ibm_fm.specs.Sectors.{HeaderStands, OpensData, SectorStands, address_of, bytes_at}
+
+pub sync_leads : (track : TrackId) (cells : List Bool) (s : ℕ) → HeaderStands track cells s → Stands cells 0xF57E 16 0
+sync_leads track cells s header = header.mark
+
+pub one_header : (track : TrackId) (cells : List Bool) (s t : ℕ) → HeaderStands track cells s → HeaderStands track cells t → s ≡ t
+one_header track cells s t first second =
+    let same : address_of track s ≡ address_of track t = sym first.address ∙ second.address in
+    cc
+
+one_sync : (cells : List Bool) (p q : ℕ) → OpensData cells p → OpensData cells q → p ≡ q
+one_sync cells p q first second =
+    elim (cases_lt p q) [
+      | inl before ↦ absurd (second.first p first.behind before (inl first.opens))
+      | inr above ↦ elim (cases_lt q p) [
+        | inl before ↦ absurd (first.first q second.behind before (inl second.opens))
+        | inr below ↦ omega arith
+      ]
+    ]
+
+pub one_content : (track : TrackId) (cells : List Bool) (s t : ℕ) (xs ys : List ℕ)
+    → SectorStands track cells s xs → SectorStands track cells t ys → xs ≡ ys
+one_content track cells s t xs ys first second =
+    let same = one_sync cells first.content.sync second.content.sync first.content.mark second.content.mark in
+    sym first.content.content ∙ ap (λ (sync : ℕ). bytes_at cells (sync + 16) 128) same ∙ second.content.content
+
+pub header_number : (track : TrackId) (cells : List Bool) (s : ℕ) → HeaderStands track cells s → IsSectorNumber 1 26 s
+header_number track cells s header = record { least = header.known.0; most = omega (arith, header.known.1) }
+
+pub length-bytes_at : (cells : List Bool) (place count : ℕ) → length (bytes_at cells place count) ≡ count
+unfolding bytes_at
+length-bytes_at cells place zero = refl
+length-bytes_at cells place (suc count) = let e = length-bytes_at cells (place + 16) count in omega (arith, e)
+
+pub content_size : (track : TrackId) (cells : List Bool) (s : ℕ) (xs : List ℕ) → SectorStands track cells s xs → length xs ≡ 128
+content_size track cells s xs sector =
+    sym (ap length sector.content.content) ∙ length-bytes_at cells (sector.content.sync + 16) 128

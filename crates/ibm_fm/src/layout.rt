@@ -1,0 +1,68 @@
+use cell_bits::{FM_DATA_MARK, FM_ID_MARK, FM_INDEX_MARK};
+
+/// A part of a track's ring.
+#[derive(Clone, Copy)]
+pub(crate) enum Piece {
+    /// So many times the same byte.
+    Run(u8, u8),
+    /// An address mark, by its cells.
+    Mark(u32),
+    /// A sector's address and its check value.
+    Address,
+    /// A sector's bytes and their check value.
+    Content,
+}
+
+/// Before the first sector: a gap with the index mark.
+pub(crate) const LEAD_IN: [Piece; 4] = [
+    Piece::Run(40, 0xFF),
+    Piece::Run(6, 0x00),
+    Piece::Mark(FM_INDEX_MARK),
+    Piece::Run(26, 0xFF),
+];
+
+/// A sector: header, gap, data, gap.
+pub(crate) const SECTOR: [Piece; 8] = [
+    Piece::Run(6, 0x00),
+    Piece::Mark(FM_ID_MARK),
+    Piece::Address,
+    Piece::Run(11, 0xFF),
+    Piece::Run(6, 0x00),
+    Piece::Mark(FM_DATA_MARK),
+    Piece::Content,
+    Piece::Run(27, 0xFF),
+];
+
+/// Behind the last sector: the gap that fills the track up to 5208 bytes.
+pub(crate) const LEAD_OUT: [Piece; 1] = [Piece::Run(247, 0xFF)];
+
+pub(crate) const FIRST_SECTOR: u8 = 1;
+
+/// The sectors of a track.
+pub(crate) const SECTORS: u8 = 26;
+
+/// The bytes of a sector.
+pub(crate) const SECTOR_SIZE: u16 = 128;
+
+/// The cells of a track: 5208 bytes of 16 cells.
+pub(crate) const RING_CELLS: u32 = 83328;
+
+/// A mark is a word of so many cells.
+pub(crate) const MARK_CELLS: u8 = 16;
+
+/// The ID mark, four bytes of address and the check value, 16 cells a byte.
+pub(crate) const HEADER_CELLS: usize = 112;
+
+/// The mark of the data begins less than this number of cells behind the header.
+pub(crate) const DATA_REACH: usize = 1024;
+
+/// The data mark, 128 bytes and their check value.
+pub(crate) const DATA_CELLS: usize = 2096;
+
+/// The register of a check value before its field (IBM 3740).
+pub(crate) const CHECK_START: u16 = 0xFFFF;
+
+/// The bytes of the ID mark and of the data mark, with which their fields' check values begin.
+pub(crate) const ID_BYTE: u8 = 0xFE;
+
+pub(crate) const DATA_BYTE: u8 = 0xFB;

@@ -1,0 +1,14 @@
+//! The recording of the IBM 3740 diskette (8 inch, single density): FM, 77 tracks of 26 sectors of 128 bytes.
+#![tactic(auto)]
+
+mod data_field;
+mod header;
+mod layout;
+mod pieces;
+mod recording;
+mod track;
+
+pub use recording::IbmFm;
+
+#[cfg(test)]
+mod tests;
