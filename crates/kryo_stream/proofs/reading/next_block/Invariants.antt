@@ -1,0 +1,13 @@
+use Rattle.std.proofs.Common.{◌≡◌, ◌≤◌, ◌-◌, length}
+use Rattle.kryo_stream.specs.Held.{Took}
+use Rattle.kryo_stream.proofs.reading.next_block.Given as goal
+
+abbrev pub invariant-loop-reading : goal.invariant-loop-reading
+invariant-loop-reading g l = record {
+  took : Took (g.S.Source.left l.initial.source) (g.S.Source.left l.source) l.initial.intake.held l.intake.held;
+  used : l.intake.used ≡ l.initial.intake.used;
+  later : g.S.Source.faults l.initial.source ≤ g.S.Source.faults l.source;
+}
+
+abbrev pub decreases-loop-reading : goal.decreases-loop-reading
+decreases-loop-reading g l = 16 - length l.intake.held

@@ -1,0 +1,25 @@
+use Rattle.std.proofs.Common.{◌≡◌, ◌-◌, take, arith, subst}
+use Rattle.std.proofs.lemmas.List.{take-replicate}
+use Rattle.std.proofs.Math.ListN.{replicate}
+use Rattle.std.specs.Io.KnownBytes.{Appends}
+use Rattle.flux_base.specs.Outside.{AppendsPart}
+use Rattle.kryo_stream.proofs.WritingLemmas.{Appends-more, AppendsPart-more}
+use Rattle.kryo_stream.proofs.writing.write_blanks.Goals as goal
+
+pub loop-rest-preserved : goal.loop-rest-preserved
+loop-rest-preserved g c =
+    let piece : take c.min-piece.result (replicate 256 32) ≡ replicate c.min-piece.result 32 =
+    take-replicate c.min-piece.result 256 32 (omega arith) in
+    record {
+      within = omega arith;
+      appended = Appends-more _ _ _ (c.args.count - c.loop-rest.rest) c.min-piece.result _ 32
+          c.loop-rest.invariant.appended (subst (Appends (g.W.Sink.written c.loop-rest.sink) (g.W.Sink.written c.write_whole.new.sink)) piece c.in-Ok.ensures.ok) (omega arith);
+      later = omega (arith, c.write_whole.ensures.later);
+    }
+
+pub returns-in-Err-clause-err : goal.returns-in-Err-clause-err
+returns-in-Err-clause-err g c =
+    let piece : take c.min-piece.result (replicate 256 32) ≡ replicate c.min-piece.result 32 =
+    take-replicate c.min-piece.result 256 32 (omega arith) in
+    AppendsPart-more _ _ _ (c.args.count - c.loop-rest.rest) c.min-piece.result _ 32 c.loop-rest.invariant.appended
+    (subst (AppendsPart (g.W.Sink.written c.loop-rest.sink) (g.W.Sink.written c.write_whole.new.sink)) piece c.in-Err.ensures.err) (omega arith)

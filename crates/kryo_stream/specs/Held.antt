@@ -1,0 +1,21 @@
+-- The bytes that were taken from a source and not used yet.
+use Rattle.std.specs.Prelude.{◌≡◌, ◌<◌, ◌++◌, ℕ, Bool, List, length, Option}
+use Rattle.std.specs.Io.KnownBytes.{Consumes, IsAtEnd}
+use Rattle.kryo_stream.specs.declared.intake.More.{More}
+use Rattle.kryo_stream.specs.declared.intake.More.TheVariants.{Taken, End}
+
+-- what contracts see of an intake: the bytes that it holds, and whether a stream was read through it
+pub record IntakeState : Type 0 where
+  pub held : List ℕ
+  pub used : Bool
+
+-- bytes that came from the source were put behind the held ones
+pub record Took (left left' : Option (List ℕ)) (held held' : List ℕ) : Type 0 where
+  pub taken : List ℕ
+  pub consumed : Consumes left left' taken
+  pub grown : held' ≡ held ++ taken
+
+-- there are more bytes now, or the source has ended
+abbrev pub IsMore : More → List ℕ → List ℕ → Option (List ℕ) → Type 0
+IsMore Taken held held' left' = length held < length held'
+IsMore End held held' left' = (held' ≡ held) × IsAtEnd left'

@@ -1,0 +1,11 @@
+pub mod Blocks
+pub mod Pieces
+pub mod Stream
+pub mod Held
+pub mod Tally
+pub mod Outcome
+pub mod Padding
+pub mod Spelling
+pub mod Bench
+pub mod Progress
+pub mod WellFormed

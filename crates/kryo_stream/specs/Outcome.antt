@@ -1,0 +1,83 @@
+-- What reading one track may answer, and what that says of the input.
+use Rattle.std.specs.Prelude.{◌≡◌, ◌≤◌, ◌<◌, ◌^◌, All, ◌+◌, ◌++◌, ℕ, Bool, if◌then◌else◌, List, [], length, drop, Option, Some, None, Result, Ok, Err}
+use Rattle.std.specs.Io.KnownBytes.{Consumes, IsAtEnd}
+use Rattle.flux_base.specs.Outside.{Rose}
+use Rattle.index_turns.specs.Track.{TrackState, room_of_times, room_of_indexes}
+use Rattle.kryo_stream.specs.declared.fault.StreamFault.TheVariants.{Truncated}
+use Rattle.kryo_stream.specs.declared.fault.TrackFault.{TrackFault}
+use Rattle.kryo_stream.specs.declared.fault.TrackFault.TheVariants.{ReadFault, Memory, Refused}
+use Rattle.kryo_stream.specs.Padding.{unpadded}
+use Rattle.kryo_stream.specs.Stream.{first_fault, times, indexes, stream_length}
+
+abbrev pub Answer : Type 0
+Answer = Result (Unit {0}) TrackFault
+
+-- x begins with a stream, and these are its times, its index times and what stands behind it
+pub record IsStream (x : List ℕ) (flux : TrackState) (stays : List ℕ) : Type 0 where
+  pub no_fault : first_fault x ≡ None
+  pub times : flux.times ≡ times x
+  pub indexes : flux.indexes ≡ indexes x
+  pub rest : stays ≡ drop (stream_length x) x
+
+-- what an answer says of the input, of which the last part stays
+abbrev pub Says : Answer → List ℕ → TrackState → List ℕ → Type 0
+Says (Ok _) x flux stays = IsStream x flux stays
+Says (Err (Refused block fault)) x flux stays = first_fault x ≡ Some (block, fault)
+Says (Err ReadFault) x flux stays = Unit {0}
+Says (Err Memory) x flux stays = Unit {0}
+
+-- the answer says that the input ends inside a block
+abbrev pub IsTruncated : Answer → Type 0
+IsTruncated (Err (Refused _ fault)) = fault ≡ Truncated
+IsTruncated _ = ⊥
+
+-- where the source failed, the bytes at hand were too few
+abbrev pub IsCut : Answer → List ℕ → Type 0
+IsCut (Err ReadFault) x = (block : ℕ) × (first_fault x ≡ Some (block, Truncated))
+IsCut _ x = Unit {0}
+
+-- the input without the padding, where a stream was read through the intake before
+abbrev pub input_of : Bool → List ℕ → List ℕ
+input_of used x = if used then unpadded x else x
+
+-- the most bytes of padding
+abbrev pub most_padding : Bool → ℕ
+most_padding used = if used then 16 else 0
+
+-- the call took these bytes, which with the held ones are no more than padding, a stream and an intake can be, and its
+-- answer is right whatever follows them; only where it says that the input ends inside a block, nothing follows
+pub record IsRead (left left' : Option (List ℕ)) (used : Bool) (held held' : List ℕ) (flux : TrackState) (answer : Answer) : Type 0 where
+  pub taken : List ℕ
+  pub consumed : Consumes left left' taken
+  pub few : length (held ++ taken) ≤ most_padding used + 4198400
+  pub says : (later : List ℕ) → (IsTruncated answer → later ≡ [])
+      → Says answer (input_of used ((held ++ taken) ++ later)) flux (held' ++ later)
+  pub ended : IsTruncated answer → IsAtEnd left'
+  pub cut : IsCut answer (input_of used (held ++ taken))
+
+-- the source tells what stays in it, and the answer is right for the whole input
+abbrev pub IsReadOfInput : List ℕ → Option (List ℕ) → List ℕ → TrackState → Answer → Type 0
+IsReadOfInput input left' held' flux answer =
+    (stays : List ℕ) × (left' ≡ Some stays) × Says answer input flux (held' ++ stays)
+
+-- when an answer may come
+abbrev pub TrackCause : ℕ → ℕ → Answer → Type 0
+TrackCause before now (Err ReadFault) = Rose before now
+TrackCause before now _ = Unit {0}
+
+-- what a stream's limit makes of its times: a block has at most 65536 ticks a byte, and a sample counter 32 bits
+pub record IsSmall (flux : TrackState) : Type 0 where
+  pub few_times : length flux.times ≤ 4194304
+  pub few_indexes : length flux.indexes ≤ 262144
+  pub times_within : All (λ time. time ≤ 2 ^ 38) flux.times
+  pub indexes_within : All (λ time. time < 2 ^ 39) flux.indexes
+
+-- room for the transitions and index times of any stream
+pub record HasFullRoom (flux : TrackState) : Type 0 where
+  pub times : 4194304 ≤ room_of_times flux
+  pub indexes : 262144 ≤ room_of_indexes flux
+
+-- an answer other than want of memory
+abbrev pub IsNotMemory : Answer → Type 0
+IsNotMemory (Err Memory) = ⊥
+IsNotMemory _ = Unit {0}

@@ -1,0 +1,75 @@
+-- How far the reading of a stream has come.
+use Rattle.std.specs.Prelude.{◌≡◌, ◌≤◌, ◌<◌, ◌+◌, ◌++◌, ℕ, Bool, List, [], length, drop, false, Option, Result, Ok, Err}
+use Rattle.std.specs.Io.KnownBytes.{Consumes, IsAtEnd}
+use Rattle.flux_base.specs.declared.outside.Failed.{Failed}
+use Rattle.kryo_stream.specs.declared.before.Before.{Before}
+use Rattle.kryo_stream.specs.declared.fault.StreamFault.TheVariants.{Truncated}
+use Rattle.kryo_stream.specs.declared.intake.More.{More}
+use Rattle.kryo_stream.specs.declared.intake.More.TheVariants.{Taken, End}
+use Rattle.kryo_stream.specs.Bench.{BenchState, IsNoted}
+use Rattle.kryo_stream.specs.Outcome.{input_of, most_padding}
+use Rattle.kryo_stream.specs.Pieces.{Reading, piece_at}
+use Rattle.kryo_stream.specs.Stream.{pieces, stops_at}
+use Rattle.kryo_stream.specs.Tally.{IsTally}
+
+-- n blocks of x were read and noted, none of them an End, and these bytes are left
+pub record IsReading (x : List ℕ) (n : ℕ) (rest : List ℕ) (b : Before) (times : List ℕ) (bench : BenchState) : Type 0 where
+  pub place : rest ≡ drop b.offset x
+  pub inside : b.offset ≤ length x
+  pub count : n ≤ b.offset
+  pub size : length (pieces x n) ≡ n
+  pub goes_on : (k : ℕ) → k < n → stops_at x k ≡ false
+  pub tally : IsTally (pieces x n) b times
+  pub noted : IsNoted (pieces x n) bench
+
+-- the same of the bytes that were held and taken
+pub record Progress (left left' : Option (List ℕ)) (held held' : List ℕ) (n : ℕ) (b : Before) (times : List ℕ) (bench : BenchState)
+    : Type 0 where
+  pub taken : List ℕ
+  pub consumed : Consumes left left' taken
+  pub reading : IsReading (held ++ taken) n held' b times bench
+
+-- what the reading of a block says of the bytes from the block on: a block is passed over
+abbrev pub BlockSays : Before → Result Reading Failed → List ℕ → List ℕ → Option (List ℕ) → Type 0
+BlockSays b (Ok (Ok p)) bytes held' left' = (piece_at b.offset b.counted b.ended bytes ≡ Ok p) × (held' ≡ drop p.bytes bytes)
+BlockSays b (Ok (Err fault)) bytes held' left' =
+    (piece_at b.offset b.counted b.ended bytes ≡ Err fault) × (fault ≡ Truncated → IsAtEnd left')
+BlockSays b (Err _) bytes held' left' = piece_at b.offset b.counted b.ended bytes ≡ Err Truncated
+
+-- the next block was read, with what had to be taken for it
+pub record TakesBlock (left left' : Option (List ℕ)) (held held' : List ℕ) (b : Before) (answer : Result Reading Failed) : Type 0 where
+  pub taken : List ℕ
+  pub consumed : Consumes left left' taken
+  pub few : b.offset + length (held ++ taken) ≤ 4198400
+  pub says : BlockSays b answer (held ++ taken) held' left'
+
+-- the first bytes were passed over, so many of them
+pub record IsPassing (left left' : Option (List ℕ)) (held held' : List ℕ) (gone : ℕ) : Type 0 where
+  pub taken : List ℕ
+  pub consumed : Consumes left left' taken
+  pub inside : gone ≤ length (held ++ taken)
+  pub place : held' ≡ drop gone (held ++ taken)
+
+-- what passing over so many bytes came to
+abbrev pub SkipSays : ℕ → Result More Failed → List ℕ → List ℕ → Option (List ℕ) → Type 0
+SkipSays count (Ok Taken) bytes held' left' = (count ≤ length bytes) × (held' ≡ drop count bytes)
+SkipSays count (Ok End) bytes held' left' = (length bytes < count) × IsAtEnd left'
+SkipSays count (Err _) bytes held' left' = length bytes < count
+
+pub record IsSkipped (left left' : Option (List ℕ)) (held held' : List ℕ) (count : ℕ) (answer : Result More Failed) : Type 0 where
+  pub taken : List ℕ
+  pub consumed : Consumes left left' taken
+  pub says : SkipSays count answer (held ++ taken) held' left'
+
+-- what passing over the padding came to: a stream may stand behind it, or the input is padding alone
+abbrev pub PaddingSays : Bool → Result More Failed → List ℕ → List ℕ → Option (List ℕ) → Type 0
+PaddingSays used (Ok Taken) bytes held' left' =
+    ((later : List ℕ) → input_of used (bytes ++ later) ≡ held' ++ later) × (length bytes ≤ most_padding used + length held')
+PaddingSays used (Ok End) bytes held' left' =
+    (input_of used bytes ≡ []) × (length bytes ≤ most_padding used) × IsAtEnd left'
+PaddingSays used (Err _) bytes held' left' = (input_of used bytes ≡ []) × (length bytes ≤ most_padding used)
+
+pub record IsUnpadded (left left' : Option (List ℕ)) (used : Bool) (held held' : List ℕ) (answer : Result More Failed) : Type 0 where
+  pub taken : List ℕ
+  pub consumed : Consumes left left' taken
+  pub says : PaddingSays used answer (held ++ taken) held' left'

@@ -1,0 +1,272 @@
+ghost use Rattle.std.specs.Prelude.{◌≡◌, ◌≤◌, ◌<◌, ◌+◌, ◌-◌, ◌^◌, ◌++◌, ℕ, List, [], ◌∷◌, length, All, OnOk, OnErr, IfErr, IsOk, count_by, get_or, nat_lt, nat_le, slice_index};
+ghost use Rattle.std.specs.List.Sorted.{IsNonDecreasing};
+ghost use Rattle.kryo_stream.specs.Pieces.{LIMIT};
+ghost use Rattle.kryo_stream.specs.Stream.{in_stream_bytes, total_bytes, turn_fault, indexes_of};
+ghost use Rattle.index_turns.specs.Track.{KeepsRoom};
+ghost use Rattle.kryo_stream.specs.Bench.{HasFullBench, KeepsBenchRoom, IsNoted, IsSized, IsComplete, IsSearchable, TurnCause, PlaceCause, base_time, mark_time};
+
+use crate::block::{Block, Mark, Piece};
+use crate::fault::{StreamFault, TrackFault};
+use flux_base::Memory;
+use index_turns::TrackFlux;
+use std::alloc::Global;
+use std::marker::Model;
+
+/// The most transitions of one stream, and the most in-stream blocks: each takes a byte at least.
+pub const MOST_TIMES: usize = 4_194_304;
+
+/// The most index times of one stream: an Index block takes 16 bytes.
+pub const MOST_INDEXES: usize = 262_144;
+
+/// How long an overflow is, in ticks.
+const OVERFLOW_TICKS: u64 = 65536;
+
+/// What is kept of the blocks of a stream until its end, where the positions of its Index blocks are
+/// looked up. An Index may name any place of the stream, before or behind its own.
+///
+/// It holds the stream positions of the transitions' ends and of the overflows, and no times: those of the
+/// transitions are in the track, and an overflow is 65536 ticks. With its full room that is 35 MiB.
+#[derive(Drop)]
+pub struct StreamBench {
+    ends: Vec<u32>,
+    overflows: Vec<u32>,
+    indexes: Vec<Mark>,
+}
+
+impl Model for StreamBench {
+    ghost use Rattle.std.specs.Prelude.{◌-◌, vec_len};
+    ghost use Rattle.std.specs.Vec.{vec_capacity};
+    ghost use Rattle.kryo_stream.specs.Bench.{BenchState};
+
+    ghost Value = { BenchState };
+
+    ghost view = { λ b. record {
+      ends = b.ends.items;
+      overflows = b.overflows.items;
+      indexes = b.indexes.items;
+      spare_ends = vec_capacity b.ends - vec_len b.ends;
+      spare_overflows = vec_capacity b.overflows - vec_len b.overflows;
+      spare_indexes = vec_capacity b.indexes - vec_len b.indexes;
+    } };
+}
+
+impl StreamBench {
+    /// A bench with no room yet. It takes no memory.
+    pub fn new(alloc: Global) -> StreamBench
+        ensures { IsNoted [] result }
+    {
+        StreamBench {
+            ends: Vec::new(alloc),
+            overflows: Vec::new(alloc),
+            indexes: Vec::new(alloc),
+        }
+    }
+
+    /// Makes room for the longest stream, so that no later call takes memory.
+    pub fn reserve(&mut self) -> Result<(), Memory>
+        ensures full { OnOk result (HasFullBench self.new) }
+        ensures room { KeepsBenchRoom self.old self.new }
+    {
+        self.clear();
+        self.ends.try_reserve(MOST_TIMES)?;
+        self.overflows.try_reserve(MOST_TIMES)?;
+        self.indexes.try_reserve(MOST_INDEXES)?;
+        Ok(())
+    }
+
+    /// Forgets all blocks, and keeps the room.
+    pub(crate) fn clear(&mut self)
+        ensures empty { IsNoted [] self.new }
+        ensures room { KeepsBenchRoom self.old self.new }
+    {
+        self.ends.clear();
+        self.overflows.clear();
+        self.indexes.clear();
+    }
+
+    /// Takes note of block `number` of the stream, which begins at the stream position `position`.
+    pub(crate) fn note(&mut self, number: u32, position: u32, piece: Piece) -> Result<(), Memory>
+        requires size { IsSized piece }
+        requires end { position + piece.bytes < 2 ^ 32 }
+        ensures noted { OnOk result ((ps : List Piece) → IsNoted ps self.old → length ps ≡ number
+            → in_stream_bytes ps ≡ position → IsNoted (ps ++ piece ∷ []) self.new) }
+        ensures room { KeepsBenchRoom self.old self.new }
+
+        // no memory is taken within the full room
+        ensures succeeds { HasFullBench self.old → (ps : List Piece) → IsNoted ps self.old
+            → total_bytes ps + piece.bytes ≤ LIMIT → IsOk result }
+    {
+        match piece.block {
+            Block::Flux { .. } => self.push_end(position + piece.bytes as u32),
+            Block::Overflow => self.push_overflow(position),
+            Block::Index {
+                position,
+                sample,
+                ..
+            } => self.push_index(Mark {
+                number,
+                position,
+                sample,
+            }),
+            _ => Ok(()),
+        }
+    }
+
+    /// Looks up the positions of the Index blocks, once all blocks of the stream are noted, and gives the
+    /// index times to `flux`, which holds the times of the transitions. `total` is the number of all
+    /// in-stream bytes, `end` the number of the End block.
+    ///
+    /// Each look-up is a binary search, so that positions that jump back and forth cost no more.
+    pub(crate) fn resolve(
+        &self,
+        total: u32,
+        end: u32,
+        flux: &mut TrackFlux,
+    ) -> Result<(), TrackFault>
+        requires complete { (ps : List Piece) × IsComplete ps self.now flux.old.times total end }
+        requires empty { flux.old.indexes ≡ [] }
+        ensures ok { OnOk result ((ps : List Piece) → IsComplete ps self.now flux.old.times total end
+            → turn_fault ps ≡ None) }
+        ensures indexes { OnOk result ((ps : List Piece) → IsComplete ps self.now flux.old.times total end
+            → flux.new.indexes ≡ indexes_of ps) }
+        ensures cause { IfErr result (λ fault. (ps : List Piece) → IsComplete ps self.now flux.old.times total end
+            → TurnCause ps flux.old.spare_indexes fault) }
+        ensures times { flux.new.times ≡ flux.old.times }
+        ensures room { KeepsRoom flux.old flux.new }
+    {
+        for mark in &self.indexes {
+            match self.place(*mark, total, flux) {
+                Ok(()) => {}
+                Err(fault) => return Err(fault),
+            }
+        }
+        if flux.indexes().len() < 2 {
+            return Err(TrackFault::Refused {
+                block: end,
+                fault: StreamFault::NoTurn,
+            });
+        }
+        Ok(())
+    }
+
+    /// Appends the index time of the next Index block.
+    fn place(&self, mark: Mark, total: u32, flux: &mut TrackFlux) -> Result<(), TrackFault>
+        requires searchable { IsSearchable self.now flux.old.times }
+        ensures indexes { OnOk result (flux.new.indexes ≡ flux.old.indexes ++ mark_time self.now flux.old.times mark ∷ []) }
+        ensures within { OnOk result (mark.position ≤ total) }
+        ensures rises { OnOk result (0 < length flux.old.indexes
+            → slice_index flux.old.indexes (length flux.old.indexes - 1) < mark_time self.now flux.old.times mark) }
+        ensures spare { OnOk result (flux.old.spare_indexes ≤ flux.new.spare_indexes + 1) }
+        ensures cause { IfErr result (PlaceCause self.now flux.old.times flux.old.indexes total mark flux.old.spare_indexes) }
+        ensures times { flux.new.times ≡ flux.old.times }
+        ensures room { KeepsRoom flux.old flux.new }
+    {
+        if mark.position > total {
+            return Err(TrackFault::Refused {
+                block: mark.number,
+                fault: StreamFault::IndexPosition,
+            });
+        }
+        let time = self.begin_time(flux.times(), mark.position) + mark.sample as u64;
+        if let Some(last) = flux.indexes().last() {
+            if time <= *last {
+                return Err(TrackFault::Refused {
+                    block: mark.number,
+                    fault: StreamFault::IndexOrder,
+                });
+            }
+        }
+        match flux.push_index(time) {
+            Ok(()) => Ok(()),
+            Err(_) => Err(TrackFault::Memory),
+        }
+    }
+
+    /// The time in ticks at which the block begins that holds the in-stream byte at `position`.
+    fn begin_time(&self, times: &[u64], position: u32) -> u64
+        requires searchable { IsSearchable self.now times.now }
+        ensures value { result ≡ base_time self.now.ends self.now.overflows times.now position }
+        ensures early { result < 2 ^ 49 }
+    {
+        let count = count_to(self.ends.as_slice(), position);
+        let end = end_before(self.ends.as_slice(), count);
+        let behind = count_below(self.overflows.as_slice(), position);
+        let before = count_below(self.overflows.as_slice(), end);
+        time_before(times, count) + OVERFLOW_TICKS * (behind - before) as u64
+    }
+
+    fn push_end(&mut self, end: u32) -> Result<(), Memory>
+        ensures ends { OnOk result (self.new.ends ≡ self.old.ends ++ end ∷ []) }
+        ensures overflows { self.new.overflows ≡ self.old.overflows }
+        ensures indexes { self.new.indexes ≡ self.old.indexes }
+        ensures room { KeepsBenchRoom self.old self.new }
+        ensures succeeds { 0 < self.old.spare_ends → IsOk result }
+    {
+        self.ends.try_reserve(1)?;
+        self.ends.push_reserved(end);
+        Ok(())
+    }
+
+    fn push_overflow(&mut self, begin: u32) -> Result<(), Memory>
+        ensures overflows { OnOk result (self.new.overflows ≡ self.old.overflows ++ begin ∷ []) }
+        ensures ends { self.new.ends ≡ self.old.ends }
+        ensures indexes { self.new.indexes ≡ self.old.indexes }
+        ensures room { KeepsBenchRoom self.old self.new }
+        ensures succeeds { 0 < self.old.spare_overflows → IsOk result }
+    {
+        self.overflows.try_reserve(1)?;
+        self.overflows.push_reserved(begin);
+        Ok(())
+    }
+
+    fn push_index(&mut self, mark: Mark) -> Result<(), Memory>
+        ensures indexes { OnOk result (self.new.indexes ≡ self.old.indexes ++ mark ∷ []) }
+        ensures ends { self.new.ends ≡ self.old.ends }
+        ensures overflows { self.new.overflows ≡ self.old.overflows }
+        ensures room { KeepsBenchRoom self.old self.new }
+        ensures succeeds { 0 < self.old.spare_indexes → IsOk result }
+    {
+        self.indexes.try_reserve(1)?;
+        self.indexes.push_reserved(mark);
+        Ok(())
+    }
+}
+
+/// How many numbers of a rising list are at most the limit.
+fn count_to(list: &[u32], limit: u32) -> usize
+    requires { IsNonDecreasing list.now }
+    ensures count { result ≡ count_by (λ x. nat_le x limit) list.now }
+    ensures last { get_or (0 ∷ list.now) result 0 ≤ limit }
+{
+    list.partition_point(|number| *number <= limit)
+}
+
+/// How many numbers of a rising list are below the limit.
+fn count_below(list: &[u32], limit: u32) -> usize
+    requires { IsNonDecreasing list.now }
+    ensures { result ≡ count_by (λ x. nat_lt x limit) list.now }
+{
+    list.partition_point(|number| *number < limit)
+}
+
+/// Where the last of the first `count` transitions ends, or 0.
+fn end_before(ends: &[u32], count: usize) -> u32
+    requires { count ≤ length ends.now }
+    ensures { result ≡ get_or (0 ∷ ends.now) count 0 }
+{
+    match count {
+        0 => 0,
+        _ => ends[count - 1],
+    }
+}
+
+/// The time of the last of the first `count` transitions, or 0.
+fn time_before(times: &[u64], count: usize) -> u64
+    requires { count ≤ length times.now }
+    ensures { result ≡ get_or (0 ∷ times.now) count 0 }
+{
+    match count {
+        0 => 0,
+        _ => times[count - 1],
+    }
+}

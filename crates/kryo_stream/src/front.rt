@@ -1,0 +1,205 @@
+ghost use Rattle.std.specs.Prelude.{◌≡◌, ◌≤◌, ℕ, length, drop, slice_index, IfOk, IfSome, IfNone};
+ghost use Rattle.byteorder.specs.Endian.{little_number};
+ghost use Rattle.kryo_stream.specs.Bench.{IsSized};
+ghost use Rattle.kryo_stream.specs.Pieces.{has, in_stream_piece, info_piece, stream_info_piece, index_piece, stream_end_piece, out_of_band_piece, piece_at, IsText};
+
+use crate::before::Before;
+use crate::block::{Block, Piece};
+use crate::fault::StreamFault;
+use byteorder::{ByteOrder, LittleEndian};
+
+/// The byte that begins each out-of-band block.
+const OUT_OF_BAND: u8 = 0x0D;
+
+/// The type of an Info block.
+const INFO: u8 = 0x04;
+
+/// How many bytes the header of an out-of-band block takes: 0D, the type, and the size.
+const HEADER: u32 = 4;
+
+/// The most bytes of one stream.
+pub const LIMIT: u32 = 4194304;
+
+/// The block at the front of the bytes, which are those of the input from the block on.
+pub fn front(before: &Before, bytes: &[u8]) -> Result<Piece, StreamFault>
+    requires offset { before.now.offset ≤ 4194304 }
+    ensures value { result ≡ piece_at before.now.offset before.now.counted before.now.ended bytes.now }
+    ensures sized { IfOk result IsSized }
+{
+    have(before.offset, 1, bytes)?;
+    if bytes[0] == OUT_OF_BAND {
+        have(before.offset, HEADER, bytes)?;
+        return out_of_band(before, bytes);
+    }
+    if before.ended {
+        return Err(StreamFault::DataAfterEnd);
+    }
+    in_stream(before.offset, bytes)
+}
+
+/// The size of the Info block at the front of the bytes, if its header is there and it ends within the
+/// limit.
+pub fn text_size(before: &Before, bytes: &[u8]) -> Option<u16>
+    requires offset { before.now.offset ≤ 4194304 }
+    ensures text { IfSome result (IsText before.now.offset bytes.now) }
+    ensures none { IfNone result ((size : ℕ) → IsText before.now.offset bytes.now size → ⊥) }
+{
+    match bytes {
+        [OUT_OF_BAND, INFO, size @ ..] if size.len() >= 2 => {
+            let size = LittleEndian::read_u16(size);
+            if before.offset + HEADER + u32::from(size) > LIMIT {
+                return None;
+            }
+            Some(size)
+        }
+        _ => None,
+    }
+}
+
+/// Whether the block at the offset has so many bytes.
+fn have(offset: u32, count: u32, bytes: &[u8]) -> Result<(), StreamFault>
+    requires offset { offset ≤ 4194304 }
+    requires count { count ≤ 65539 }
+    ensures { result ≡ has offset count bytes.now }
+{
+    if offset + count > LIMIT {
+        return Err(StreamFault::TooLong);
+    }
+    if bytes.len() < count as usize {
+        return Err(StreamFault::Truncated);
+    }
+    Ok(())
+}
+
+/// The in-stream block that begins with the bytes.
+fn in_stream(offset: u32, bytes: &[u8]) -> Result<Piece, StreamFault>
+    requires offset { offset ≤ 4194304 }
+    requires first { 1 ≤ length bytes.now }
+    ensures value { result ≡ in_stream_piece offset (slice_index bytes.now 0) bytes.now }
+    ensures sized { IfOk result IsSized }
+{
+    let (block, bytes) = match bytes[0] {
+        first @ 0x00..=0x07 => {
+            have(offset, 2, bytes)?;
+            let ticks = u16::from(first) * 256 + u16::from(bytes[1]);
+            (Block::Flux { ticks }, 2)
+        }
+        first @ 0x08..=0x0A => {
+            have(offset, u32::from(first - 7), bytes)?;
+            (Block::Nop { bytes: first - 7 }, usize::from(first - 7))
+        }
+        0x0B => (Block::Overflow, 1),
+        0x0C => {
+            have(offset, 3, bytes)?;
+            let ticks = u16::from(bytes[1]) * 256 + u16::from(bytes[2]);
+            (Block::Flux { ticks }, 3)
+        }
+        first => (
+            Block::Flux {
+                ticks: u16::from(first),
+            },
+            1,
+        ),
+    };
+    Ok(Piece { block, bytes })
+}
+
+/// The out-of-band block whose header the bytes begin with.
+fn out_of_band(before: &Before, bytes: &[u8]) -> Result<Piece, StreamFault>
+    requires offset { before.now.offset ≤ 4194304 }
+    requires header { 4 ≤ length bytes.now }
+    ensures value { result ≡ out_of_band_piece before.now.offset before.now.counted (slice_index bytes.now 1) (little_number 2 (drop 2 bytes.now)) bytes.now }
+    ensures sized { IfOk result IsSized }
+{
+    let size = LittleEndian::read_u16(&bytes[2..]);
+    match (bytes[1], size) {
+        (0x01, 8) => stream_info(before, bytes),
+        (0x02, 12) => index(before, bytes),
+        (0x03, 8) => stream_end(before, bytes),
+        (INFO, _) => info(before.offset, size, bytes),
+        (0x0D, 0x0D0D) => Ok(Piece {
+            block: Block::End,
+            bytes: 4,
+        }),
+        (0x01 | 0x02 | 0x03 | 0x0D, _) => Err(StreamFault::BadSize(size)),
+        (kind, _) => Err(StreamFault::UnknownType(kind)),
+    }
+}
+
+/// The StreamInfo block whose header the bytes begin with.
+fn stream_info(before: &Before, bytes: &[u8]) -> Result<Piece, StreamFault>
+    requires offset { before.now.offset ≤ 4194304 }
+    requires header { 4 ≤ length bytes.now }
+    ensures value { result ≡ stream_info_piece before.now.offset before.now.counted bytes.now }
+    ensures sized { IfOk result IsSized }
+{
+    have(before.offset, 12, bytes)?;
+    let position = LittleEndian::read_u32(&bytes[4..]);
+    let time = LittleEndian::read_u32(&bytes[8..]);
+    let counted = before.counted;
+    if position != counted {
+        return Err(StreamFault::WrongPosition {
+            said: position,
+            counted,
+        });
+    }
+    let block = Block::StreamInfo { position, time };
+    Ok(Piece { block, bytes: 12 })
+}
+
+/// The Index block whose header the bytes begin with.
+fn index(before: &Before, bytes: &[u8]) -> Result<Piece, StreamFault>
+    requires offset { before.now.offset ≤ 4194304 }
+    requires header { 4 ≤ length bytes.now }
+    ensures value { result ≡ index_piece before.now.offset bytes.now }
+    ensures sized { IfOk result IsSized }
+{
+    have(before.offset, 16, bytes)?;
+    let position = LittleEndian::read_u32(&bytes[4..]);
+    let sample = LittleEndian::read_u32(&bytes[8..]);
+    let counter = LittleEndian::read_u32(&bytes[12..]);
+    let block = Block::Index {
+        position,
+        sample,
+        counter,
+    };
+    Ok(Piece { block, bytes: 16 })
+}
+
+/// The StreamEnd block whose header the bytes begin with.
+fn stream_end(before: &Before, bytes: &[u8]) -> Result<Piece, StreamFault>
+    requires offset { before.now.offset ≤ 4194304 }
+    requires header { 4 ≤ length bytes.now }
+    ensures value { result ≡ stream_end_piece before.now.offset before.now.counted bytes.now }
+    ensures sized { IfOk result IsSized }
+{
+    have(before.offset, 12, bytes)?;
+    let position = LittleEndian::read_u32(&bytes[4..]);
+    let code = LittleEndian::read_u32(&bytes[8..]);
+    let counted = before.counted;
+    if position != counted {
+        return Err(StreamFault::WrongPosition {
+            said: position,
+            counted,
+        });
+    }
+    if code != 0 {
+        return Err(StreamFault::DeviceFault(code));
+    }
+    let block = Block::StreamEnd { position, code };
+    Ok(Piece { block, bytes: 12 })
+}
+
+/// The Info block of this size whose header the bytes begin with, where they hold it whole.
+fn info(offset: u32, size: u16, bytes: &[u8]) -> Result<Piece, StreamFault>
+    requires offset { offset ≤ 4194304 }
+    ensures value { result ≡ info_piece offset size bytes.now }
+    ensures sized { IfOk result IsSized }
+{
+    let count = HEADER + u32::from(size);
+    have(offset, count, bytes)?;
+    Ok(Piece {
+        block: Block::Info { length: size },
+        bytes: count as usize,
+    })
+}

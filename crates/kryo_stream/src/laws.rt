@@ -1,0 +1,31 @@
+ghost use Rattle.std.specs.Prelude.{◌≡◌, ◌<◌, ◌++◌, ℕ, List, All, None};
+ghost use Rattle.kryo_stream.specs.declared.block.Block.{Block};
+ghost use Rattle.kryo_stream.specs.declared.block.Piece.{Piece};
+ghost use Rattle.kryo_stream.specs.Blocks.{Spells};
+ghost use Rattle.kryo_stream.specs.Padding.{IsPadding, padding_of};
+ghost use Rattle.kryo_stream.specs.Spelling.{IsWritable, spelling};
+ghost use Rattle.kryo_stream.specs.Stream.{first_fault, stream};
+ghost use Rattle.kryo_stream.specs.WellFormed.{BeginsWith};
+
+/// A list of bytes has no first fault exactly where it begins with a well-formed stream: pieces that each
+/// spell a block, of which the last and no other is an End, within the limits and with turns. There is at
+/// most one such beginning, and it is the stream that is read.
+pub fn stream_law()
+    ensures sound { (x : List ℕ) → All (λ byte. byte < 256) x → first_fault x ≡ None → BeginsWith x (stream x) }
+    ensures complete { (x : List ℕ) (ps : List Piece) → All (λ byte. byte < 256) x → BeginsWith x ps
+        → first_fault x ≡ None }
+    ensures same { (x : List ℕ) (ps qs : List Piece) → All (λ byte. byte < 256) x → BeginsWith x ps
+        → BeginsWith x qs → ps ≡ qs }
+{}
+
+/// A written block is a spelling of the block, and no block's spelling begins another's.
+pub fn spelling_law()
+    ensures spells { (block : Block) → IsWritable block → Spells (spelling block) block }
+    ensures prefix { (a b : Block) (later : List ℕ) → IsWritable a → IsWritable b
+        → spelling a ++ later ≡ spelling b → spelling a ≡ spelling b }
+{}
+
+/// The padding before a stream is the greatest number of bytes, at most 16, of which each is padding.
+pub fn padding_law()
+    ensures { (x : List ℕ) → IsPadding x (padding_of x) }
+{}

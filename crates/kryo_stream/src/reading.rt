@@ -1,0 +1,321 @@
+ghost use Rattle.std.specs.Prelude.{◌≡◌, ℕ, List, ◌+◌, ◌^◌, ◌≤◌, ◌<◌, ◌++◌, [], ◌∷◌, length, Some, All, IfOk, OnOk, OnErr, IsOk, Err, true, false};
+ghost use Rattle.std.specs.Io.KnownBytes.{IsAtEnd};
+ghost use Rattle.flux_base.specs.Outside.{Rose};
+ghost use Rattle.index_turns.specs.Track.{KeepsRoom};
+ghost use Rattle.kryo_stream.specs.declared.fault.StreamFault.TheVariants.{Truncated};
+ghost use Rattle.kryo_stream.specs.Bench.{HasFullBench, KeepsBenchRoom, IsNoted, IsSized};
+ghost use Rattle.kryo_stream.specs.Held.{Took};
+ghost use Rattle.kryo_stream.specs.Outcome.{IsRead, IsReadOfInput, IsNotMemory, TrackCause, HasFullRoom, IsSmall, input_of};
+ghost use Rattle.kryo_stream.specs.Pieces.{piece_at, IsText};
+ghost use Rattle.kryo_stream.specs.Progress.{TakesBlock, IsSkipped, IsUnpadded};
+ghost use Rattle.kryo_stream.specs.Stream.{in_stream_bytes, total_bytes};
+ghost use Rattle.kryo_stream.specs.Tally.{IsWithin, MayFollow, new_times};
+
+use crate::before::Before;
+use crate::bench::StreamBench;
+use crate::block::{Block, Piece};
+use crate::fault::{StreamFault, TrackFault};
+use crate::front::{LIMIT, front, text_size};
+use crate::intake::{Intake, More};
+use crate::padding::padding_at_hand;
+use flux_base::{Failed, Memory, Source};
+use index_turns::TrackFlux;
+
+/// Reads one stream: the input is what the intake holds, followed by what the source gives, without the
+/// padding at its front where a stream was read through this intake before.
+///
+/// `Ok` means that the input begins with a stream. `flux` then holds the times of its transitions and its
+/// index times, in ticks, and what follows its End block stays. `Refused` names the first fault of the
+/// input and its block. The source is read only where the bytes at hand do not hold the rest of the stream.
+/// After each `Err` the intake may not be used again for reading.
+pub fn read_track<S: Source>(
+    source: &mut S,
+    intake: &mut Intake,
+    flux: &mut TrackFlux,
+    bench: &mut StreamBench,
+) -> Result<(), TrackFault>
+    // What the answer says, whether the source tells its bytes or not, and of the input where it does.
+    ensures read { IsRead (S.left source.old) (S.left source.new) intake.old.used intake.old.held intake.new.held flux.new result }
+    ensures told { (bytes : List ℕ) → S.left source.old ≡ Some bytes → IsReadOfInput (input_of intake.old.used (intake.old.held ++ bytes)) (S.left source.new) intake.new.held flux.new result }
+    ensures used { intake.new.used ≡ true }
+    ensures bound { length intake.new.held ≤ 4096 }
+
+    // The track is as small as the limit of a stream makes it.
+    ensures few_times { length flux.new.times ≤ 4194304 }
+    ensures few_indexes { length flux.new.indexes ≤ 262144 }
+    ensures times_within { All (λ time. time ≤ 2 ^ 38) flux.new.times }
+    ensures indexes_within { All (λ time. time < 2 ^ 39) flux.new.indexes }
+
+    // After a fault the track is empty. No room is lost, and the full room is enough.
+    ensures no_times { OnErr result (flux.new.times ≡ []) }
+    ensures no_indexes { OnErr result (flux.new.indexes ≡ []) }
+    ensures room { KeepsRoom flux.old flux.new }
+    ensures bench { KeepsBenchRoom bench.old bench.new }
+    ensures memory { HasFullRoom flux.old → HasFullBench bench.old → IsNotMemory result }
+
+    ensures later { S.faults source.old ≤ S.faults source.new }
+    ensures cause { TrackCause (S.faults source.old) (S.faults source.new) result }
+{
+    flux.clear();
+    match begin(source, intake) {
+        Ok(More::Taken) => {}
+        Ok(More::End) => {
+            return Err(TrackFault::Refused {
+                block: 0,
+                fault: StreamFault::Truncated,
+            });
+        }
+        Err(_) => return Err(TrackFault::ReadFault),
+    }
+    match read_stream(source, intake, flux, bench) {
+        Ok(()) => Ok(()),
+        Err(fault) => {
+            flux.clear();
+            Err(fault)
+        }
+    }
+}
+
+/// Notes that a stream is read through the intake, and passes over the padding in front of it. `End` says
+/// that the input is nothing but padding.
+fn begin<S: Source>(source: &mut S, intake: &mut Intake) -> Result<More, Failed>
+    ensures unpadded { IsUnpadded (S.left source.old) (S.left source.new) intake.old.used intake.old.held intake.new.held result }
+    ensures used { intake.new.used ≡ true }
+    ensures bound { length intake.new.held ≤ 4096 }
+    ensures later { S.faults source.old ≤ S.faults source.new }
+    ensures cause { OnErr result (Rose (S.faults source.old) (S.faults source.new)) }
+{
+    if !intake.is_used() {
+        intake.begin();
+        return Ok(More::Taken);
+    }
+    pass_padding(source, intake)
+}
+
+/// Passes over the padding at the front of the input.
+fn pass_padding<S: Source>(source: &mut S, intake: &mut Intake) -> Result<More, Failed>
+    ensures unpadded { IsUnpadded (S.left source.old) (S.left source.new) true intake.old.held intake.new.held result }
+    ensures used { intake.new.used ≡ intake.old.used }
+    ensures bound { length intake.new.held ≤ 4096 }
+    ensures later { S.faults source.old ≤ S.faults source.new }
+    ensures cause { OnErr result (Rose (S.faults source.old) (S.faults source.new)) }
+{
+    loop {
+        match padding_at_hand(intake.bytes()) {
+            Some(count) => {
+                intake.pass(count);
+                return Ok(More::Taken);
+            }
+            None => {}
+        }
+        match intake.more(source) {
+            Ok(More::Taken) => {}
+            Ok(More::End) => return Ok(More::End),
+            Err(failed) => return Err(failed),
+        }
+    }
+}
+
+/// Reads one stream into the empty `flux`.
+fn read_stream<S: Source>(
+    source: &mut S,
+    intake: &mut Intake,
+    flux: &mut TrackFlux,
+    bench: &mut StreamBench,
+) -> Result<(), TrackFault>
+    requires times { flux.old.times ≡ [] }
+    requires indexes { flux.old.indexes ≡ [] }
+    ensures small { OnOk result (IsSmall flux.new) }
+    ensures read { IsRead (S.left source.old) (S.left source.new) false intake.old.held intake.new.held flux.new result }
+    ensures bound { length intake.new.held ≤ 4096 }
+    ensures used { intake.new.used ≡ intake.old.used }
+    ensures room { KeepsRoom flux.old flux.new }
+    ensures bench { KeepsBenchRoom bench.old bench.new }
+    ensures memory { HasFullRoom flux.old → HasFullBench bench.old → IsNotMemory result }
+    ensures later { S.faults source.old ≤ S.faults source.new }
+    ensures cause { TrackCause (S.faults source.old) (S.faults source.new) result }
+{
+    bench.clear();
+    let mut before = Before::start();
+    for number in 0..LIMIT + 1 {
+        let piece = match take_block(source, intake, &before) {
+            Ok(Ok(piece)) => piece,
+            Ok(Err(fault)) => {
+                return Err(TrackFault::Refused {
+                    block: number,
+                    fault,
+                });
+            }
+            Err(_) => return Err(TrackFault::ReadFault),
+        };
+        match note(number, &piece, &before, flux, bench) {
+            Ok(()) => {}
+            Err(_) => return Err(TrackFault::Memory),
+        }
+        if let Block::End = piece.block {
+            return bench.resolve(before.counted, number, flux);
+        }
+        before = before.behind(&piece);
+    }
+    unreachable!()
+}
+
+/// Passes over the block that the input goes on with, or gives its fault.
+fn take_block<S: Source>(
+    source: &mut S,
+    intake: &mut Intake,
+    before: &Before,
+) -> Result<Result<Piece, StreamFault>, Failed>
+    requires within { IsWithin before.now }
+    ensures takes { TakesBlock (S.left source.old) (S.left source.new) intake.old.held intake.new.held before.now result }
+    ensures sized { IfOk result (λ reading. IfOk reading IsSized) }
+    ensures bound { length intake.new.held ≤ 4096 }
+    ensures used { intake.new.used ≡ intake.old.used }
+    ensures later { S.faults source.old ≤ S.faults source.new }
+    ensures cause { OnErr result (Rose (S.faults source.old) (S.faults source.new)) }
+{
+    let reading = match next_block(source, intake, before) {
+        Ok(reading) => reading,
+        Err(failed) => return Err(failed),
+    };
+    match reading {
+        Ok(piece) => {
+            intake.pass(piece.bytes);
+            Ok(Ok(piece))
+        }
+        Err(StreamFault::Truncated) => take_text(source, intake, before),
+        Err(fault) => Ok(Err(fault)),
+    }
+}
+
+/// Passes over the Info block that the input goes on with, of which some bytes are still to come. Where the
+/// input goes on with no Info block, it ends inside a block.
+fn take_text<S: Source>(
+    source: &mut S,
+    intake: &mut Intake,
+    before: &Before,
+) -> Result<Result<Piece, StreamFault>, Failed>
+    requires within { IsWithin before.now }
+    requires bound { length intake.old.held ≤ 4096 }
+    requires truncated { piece_at before.now.offset before.now.counted before.now.ended intake.old.held ≡ Err Truncated }
+    requires ended { ((size : ℕ) → IsText before.now.offset intake.old.held size → ⊥) → IsAtEnd (S.left source.old) }
+    ensures takes { TakesBlock (S.left source.old) (S.left source.new) intake.old.held intake.new.held before.now result }
+    ensures sized { IfOk result (λ reading. IfOk reading IsSized) }
+    ensures bound { length intake.new.held ≤ 4096 }
+    ensures used { intake.new.used ≡ intake.old.used }
+    ensures later { S.faults source.old ≤ S.faults source.new }
+    ensures cause { OnErr result (Rose (S.faults source.old) (S.faults source.new)) }
+{
+    let size = match text_size(before, intake.bytes()) {
+        Some(size) => size,
+        None => return Ok(Err(StreamFault::Truncated)),
+    };
+    let bytes = 4 + size as usize;
+    match skip(source, intake, bytes) {
+        Ok(More::Taken) => {
+            let block = Block::Info { length: size };
+            Ok(Ok(Piece { block, bytes }))
+        }
+        Ok(More::End) => Ok(Err(StreamFault::Truncated)),
+        Err(failed) => Err(failed),
+    }
+}
+
+/// Passes over so many bytes of the input, which may be more than an intake holds.
+fn skip<S: Source>(source: &mut S, intake: &mut Intake, count: usize) -> Result<More, Failed>
+    requires count { count < 2 ^ 32 }
+    ensures skipped { IsSkipped (S.left source.old) (S.left source.new) intake.old.held intake.new.held count result }
+    ensures bound { length intake.new.held ≤ 4096 }
+    ensures used { intake.new.used ≡ intake.old.used }
+    ensures later { S.faults source.old ≤ S.faults source.new }
+    ensures cause { OnErr result (Rose (S.faults source.old) (S.faults source.new)) }
+{
+    let mut rest = count;
+    loop {
+        let here = rest.min(intake.bytes().len());
+        intake.pass(here);
+        rest -= here;
+        if rest == 0 {
+            return Ok(More::Taken);
+        }
+        match intake.more(source) {
+            Ok(More::Taken) => {}
+            Ok(More::End) => return Ok(More::End),
+            Err(failed) => return Err(failed),
+        }
+    }
+}
+
+/// The block that the input goes on with, which is not passed over, or its fault. Takes bytes from the
+/// source only where those that are held do not tell, and stops at an Info block, which may be longer than
+/// what an intake holds.
+fn next_block<S: Source>(
+    source: &mut S,
+    intake: &mut Intake,
+    before: &Before,
+) -> Result<Result<Piece, StreamFault>, Failed>
+    requires within { IsWithin before.now }
+    ensures took { Took (S.left source.old) (S.left source.new) intake.old.held intake.new.held }
+    ensures bound { length intake.new.held ≤ 4096 }
+    ensures reading { IfOk result (λ reading. reading ≡ piece_at before.now.offset before.now.counted before.now.ended intake.new.held) }
+    ensures sized { IfOk result (λ reading. IfOk reading IsSized) }
+    ensures ended { IfOk result (λ reading. reading ≡ Err Truncated → ((size : ℕ) → IsText before.now.offset intake.new.held size → ⊥) → IsAtEnd (S.left source.new)) }
+    ensures failed { OnErr result (piece_at before.now.offset before.now.counted before.now.ended intake.new.held ≡ Err Truncated) }
+    ensures used { intake.new.used ≡ intake.old.used }
+    ensures later { S.faults source.old ≤ S.faults source.new }
+    ensures cause { OnErr result (Rose (S.faults source.old) (S.faults source.new)) }
+{
+    loop {
+        match front(before, intake.bytes()) {
+            Err(StreamFault::Truncated) => {}
+            reading => return Ok(reading),
+        }
+        match text_size(before, intake.bytes()) {
+            Some(_) => return Ok(Err(StreamFault::Truncated)),
+            None => {}
+        }
+        match intake.more(source) {
+            Ok(More::Taken) => {}
+            Ok(More::End) => return Ok(Err(StreamFault::Truncated)),
+            Err(failed) => return Err(failed),
+        }
+    }
+}
+
+/// Keeps what the turns of a stream and its transitions need of a block.
+fn note(
+    number: u32,
+    piece: &Piece,
+    before: &Before,
+    flux: &mut TrackFlux,
+    bench: &mut StreamBench,
+) -> Result<(), Memory>
+    requires within { IsWithin before.now }
+    requires follows { MayFollow before.now piece.now }
+    requires sized { IsSized piece.now }
+    requires times { All (λ time. time ≤ before.now.time) flux.old.times }
+    ensures times { OnOk result (flux.new.times ≡ flux.old.times ++ new_times before.now.time piece.now.block) }
+    ensures indexes { flux.new.indexes ≡ flux.old.indexes }
+    ensures room { KeepsRoom flux.old flux.new }
+    ensures noted { OnOk result ((ps : List Piece) → IsNoted ps bench.old → length ps ≡ number → in_stream_bytes ps ≡ before.now.counted → IsNoted (ps ++ piece.now ∷ []) bench.new) }
+    ensures bench { KeepsBenchRoom bench.old bench.new }
+    ensures succeeds { 0 < flux.old.spare_times → HasFullBench bench.old → (ps : List Piece) → IsNoted ps bench.old → total_bytes ps + piece.now.bytes ≤ LIMIT → IsOk result }
+{
+    note_time(piece, before, flux)?;
+    bench.note(number, before.counted, *piece)
+}
+
+/// Keeps the transition of a block.
+fn note_time(piece: &Piece, before: &Before, flux: &mut TrackFlux) -> Result<(), Memory>
+    requires within { IsWithin before.now }
+    requires times { All (λ time. time ≤ before.now.time) flux.old.times }
+    ensures times { OnOk result (flux.new.times ≡ flux.old.times ++ new_times before.now.time piece.now.block) }
+    ensures indexes { flux.new.indexes ≡ flux.old.indexes }
+    ensures room { KeepsRoom flux.old flux.new }
+    ensures succeeds { 0 < flux.old.spare_times → IsOk result }
+{
+    match piece.block {
+        Block::Flux { ticks } => flux.push_time(before.time + u64::from(ticks)),
+        _ => Ok(()),
+    }
+}

@@ -1,0 +1,170 @@
+ghost use Rattle.std.specs.Prelude.{◌≡◌, ◌≤◌, ◌<◌, ◌+◌, ◌-◌, ◌/◌, ◌%◌, ◌++◌, ℕ, List, [], ◌∷◌, OnOk, OnErr, Option};
+ghost use Rattle.std.specs.Io.KnownBytes.{Appends};
+ghost use Rattle.std.proofs.Math.ListN.{replicate};
+ghost use Rattle.byteorder.specs.Endian.{little_bytes};
+ghost use Rattle.flux_base.specs.Outside.{AppendsPart, Rose};
+ghost use Rattle.kryo_stream.specs.Blocks.{Spells, out_of_band};
+ghost use Rattle.kryo_stream.specs.Spelling.{spelling, flux_spelling, HasNopBytes};
+
+use crate::block::Block;
+use byteorder::{ByteOrder, LittleEndian};
+use flux_base::{Failed, Sink, write_whole};
+
+/// What an Info is filled with, as much of it as is written at once.
+const BLANKS: [u8; 256] = [0x20; 256];
+
+/// Writes a block, in the spelling that is ours where the protocol leaves a choice. After `Failed` a
+/// shorter prefix of it was written.
+pub fn write_block<W: Sink>(block: &Block, sink: &mut W) -> Result<(), Failed>
+    requires nop { HasNopBytes block.now }
+    ensures spelled { Spells (spelling block.now) block.now }
+    ensures ok { OnOk result (Appends (W.written sink.old) (W.written sink.new) (spelling block.now)) }
+    ensures err { OnErr result (AppendsPart (W.written sink.old) (W.written sink.new) (spelling block.now)) }
+    ensures later { W.faults sink.old ≤ W.faults sink.new }
+    ensures cause { OnErr result (Rose (W.faults sink.old) (W.faults sink.new)) }
+{
+    match *block {
+        Block::Flux { ticks } => write_flux(ticks, sink),
+        Block::Overflow => write_whole(sink, &[0x0B]),
+        Block::Nop { bytes } => write_whole(sink, &[7 + bytes, 0, 0][..bytes as usize]),
+        Block::StreamInfo { position, time } => write_whole(sink, &two_numbers(1, position, time)),
+        Block::Index {
+            position,
+            sample,
+            counter,
+        } => write_whole(sink, &index_bytes(position, sample, counter)),
+        Block::StreamEnd { position, code } => write_whole(sink, &two_numbers(3, position, code)),
+        Block::Info { length } => write_info(length, sink),
+        Block::End => write_whole(sink, &[0x0D, 0x0D, 0x0D, 0x0D]),
+    }
+}
+
+/// Writes a flux value, in as few bytes as it fits.
+fn write_flux<W: Sink>(ticks: u16, sink: &mut W) -> Result<(), Failed>
+    ensures ok { OnOk result (Appends (W.written sink.old) (W.written sink.new) (flux_spelling ticks)) }
+    ensures err { OnErr result (AppendsPart (W.written sink.old) (W.written sink.new) (flux_spelling ticks)) }
+    ensures later { W.faults sink.old ≤ W.faults sink.new }
+    ensures cause { OnErr result (Rose (W.faults sink.old) (W.faults sink.new)) }
+{
+    let high = (ticks / 256) as u8;
+    let low = (ticks % 256) as u8;
+    match ticks {
+        0x0E..=0xFF => write_whole(sink, &[low]),
+        0..=0x7FF => write_whole(sink, &[high, low]),
+        _ => write_whole(sink, &[0x0C, high, low]),
+    }
+}
+
+/// The bytes of an out-of-band block of type `kind` with two numbers.
+fn two_numbers(kind: u8, first: u32, second: u32) -> [u8; 12]
+    ensures { result ≡ out_of_band kind 8 ++ little_bytes 4 first ++ little_bytes 4 second }
+{
+    let mut bytes = [0x0D, kind, 8, 0, 0, 0, 0, 0, 0, 0, 0, 0];
+    LittleEndian::write_u32(&mut bytes[4..], first);
+    LittleEndian::write_u32(&mut bytes[8..], second);
+    bytes
+}
+
+/// The bytes of an Index block.
+fn index_bytes(position: u32, sample: u32, counter: u32) -> [u8; 16]
+    ensures { result ≡ out_of_band 2 12 ++ little_bytes 4 position ++ little_bytes 4 sample ++ little_bytes 4 counter }
+{
+    let mut bytes = [0x0D, 2, 12, 0, 0, 0, 0, 0, 0, 0, 0, 0, 0, 0, 0, 0];
+    LittleEndian::write_u32(&mut bytes[4..], position);
+    LittleEndian::write_u32(&mut bytes[8..], sample);
+    LittleEndian::write_u32(&mut bytes[12..], counter);
+    bytes
+}
+
+/// Writes an Info of `length` blanks.
+fn write_info<W: Sink>(length: u16, sink: &mut W) -> Result<(), Failed>
+    ensures ok { OnOk result (Appends (W.written sink.old) (W.written sink.new) (out_of_band 4 length ++ replicate length 32)) }
+    ensures err { OnErr result (AppendsPart (W.written sink.old) (W.written sink.new) (out_of_band 4 length ++ replicate length 32)) }
+    ensures later { W.faults sink.old ≤ W.faults sink.new }
+    ensures cause { OnErr result (Rose (W.faults sink.old) (W.faults sink.new)) }
+{
+    let mut header = [0x0D, 4, 0, 0];
+    LittleEndian::write_u16(&mut header[2..], length);
+    match write_whole(sink, &header) {
+        Ok(()) => write_blanks(length as usize, sink),
+        Err(failed) => Err(failed),
+    }
+}
+
+/// Writes so many blanks.
+fn write_blanks<W: Sink>(count: usize, sink: &mut W) -> Result<(), Failed>
+    ensures ok { OnOk result (Appends (W.written sink.old) (W.written sink.new) (replicate count 32)) }
+    ensures err { OnErr result (AppendsPart (W.written sink.old) (W.written sink.new) (replicate count 32)) }
+    ensures later { W.faults sink.old ≤ W.faults sink.new }
+    ensures cause { OnErr result (Rose (W.faults sink.old) (W.faults sink.new)) }
+{
+    let mut rest = count;
+    while rest > 0 {
+        let piece = rest.min(BLANKS.len());
+        match write_whole(sink, &BLANKS[..piece]) {
+            Ok(()) => rest -= piece,
+            Err(failed) => return Err(failed),
+        }
+    }
+    Ok(())
+}
+
+#[cfg(test)]
+mod tests {
+    use super::*;
+    use flux_base::MemorySink;
+    use std::test::Fail;
+
+    #[test]
+    fn spells_flux_values_in_as_few_bytes_as_fit(rt: HostRuntime) -> Result<(), Fail> {
+        let mut sink = MemorySink::new(rt.alloc(), 64, Vec::new(rt.alloc()))?;
+        for ticks in [0, 0x0D, 0x0E, 0xFF, 0x100, 0x7FF, 0x800, 0xFFFF] {
+            assert_eq!(rt; write_block(&Block::Flux { ticks }, &mut sink), Ok(()));
+        }
+        let spelled = b"\0\0\0\x0D\x0E\xFF\x01\0\x07\xFF\x0C\x08\0\x0C\xFF\xFF";
+        assert_eq!(rt; sink.bytes(), spelled.as_slice());
+        Ok(())
+    }
+
+    #[test]
+    fn spells_every_other_block(rt: HostRuntime) -> Result<(), Fail> {
+        let mut sink = MemorySink::new(rt.alloc(), 128, Vec::new(rt.alloc()))?;
+        let index = Block::Index {
+            position: 2,
+            sample: 100,
+            counter: 16396,
+        };
+        assert_eq!(rt; write_block(&index, &mut sink), Ok(()));
+        assert_eq!(rt; write_block(&Block::Overflow, &mut sink), Ok(()));
+        assert_eq!(rt; write_block(&Block::Nop { bytes: 1 }, &mut sink), Ok(()));
+        assert_eq!(rt; write_block(&Block::Nop { bytes: 3 }, &mut sink), Ok(()));
+        let info = Block::StreamInfo {
+            position: 0x01020304,
+            time: 5,
+        };
+        assert_eq!(rt; write_block(&info, &mut sink), Ok(()));
+        let end = Block::StreamEnd {
+            position: 4,
+            code: 0,
+        };
+        assert_eq!(rt; write_block(&end, &mut sink), Ok(()));
+        assert_eq!(rt; write_block(&Block::Info { length: 2 }, &mut sink), Ok(()));
+        assert_eq!(rt; write_block(&Block::End, &mut sink), Ok(()));
+        let spelled = b"\x0D\x02\x0C\0\x02\0\0\0\x64\0\0\0\x0C\x40\0\0\x0B\x08\x0A\0\0\
+        \x0D\x01\x08\0\x04\x03\x02\x01\x05\0\0\0\x0D\x03\x08\0\x04\0\0\0\0\0\0\0\x0D\x04\x02\0  \x0D\x0D\x0D\x0D";
+        assert_eq!(rt; sink.bytes(), spelled.as_slice());
+        Ok(())
+    }
+
+    // A long text goes out in pieces, of which the third fails.
+    #[test]
+    fn a_failed_write_leaves_a_prefix(rt: HostRuntime) -> Result<(), Fail> {
+        let mut sink = MemorySink::new(rt.alloc(), 1000, vec![in rt.alloc(); 2]?)?;
+        assert_eq!(rt;
+            write_block(&Block::Info { length: 700 }, &mut sink),
+            Err(Failed)
+        );
+        assert_eq!(rt; sink.bytes().len(), 260);
+        Ok(())
+    }
+}
