@@ -1,0 +1,64 @@
+-- The bytes of each line.
+use Rattle.std.specs.Prelude.{ℕ, List, ◌/◌, ◌%◌, ◌++◌, codes, decimal}
+use Rattle.flux_base.specs.declared.track.TrackId.{TrackId}
+use Rattle.kryo_stream.specs.declared.fault.StreamFault.{StreamFault}
+use Rattle.kryo_stream.specs.declared.fault.StreamFault.TheVariants.{Truncated, UnknownType, BadSize, WrongPosition, DeviceFault, DataAfterEnd, IndexPosition, IndexOrder, NoTurn, TooLong}
+use Rattle.turn_merge.specs.declared.verdict.Place.{Place}
+use Rattle.turn_merge.specs.declared.verdict.Verdict.{Verdict}
+use Rattle.turn_merge.specs.declared.verdict.Verdict.TheVariants.{Good, Contradictory, Bad, Missing}
+use Rattle.sector_report.specs.declared.totals.Totals.{Totals}
+
+unfoldable pub usage_text : List ℕ
+usage_text = codes "usage: flux turns | decode FORMAT | report FORMAT | write FORMAT | trial FORMAT SEED\n"
+
+unfoldable pub transitions_text : ℕ → List ℕ
+transitions_text count = codes "transitions " ++ decimal count ++ codes "\n"
+
+unfoldable pub turn_text : ℕ → ℕ → List ℕ
+turn_text turn ticks = codes "turn " ++ decimal turn ++ codes " " ++ decimal ticks ++ codes "\n"
+
+-- the name of a fault, and its numbers
+unfoldable pub fault_text : StreamFault → List ℕ
+fault_text Truncated = codes "Truncated"
+fault_text (UnknownType kind) = codes "UnknownType " ++ decimal kind
+fault_text (BadSize size) = codes "BadSize " ++ decimal size
+fault_text (WrongPosition said counted) = codes "WrongPosition " ++ decimal said ++ codes " " ++ decimal counted
+fault_text (DeviceFault code) = codes "DeviceFault " ++ decimal code
+fault_text DataAfterEnd = codes "DataAfterEnd"
+fault_text IndexPosition = codes "IndexPosition"
+fault_text IndexOrder = codes "IndexOrder"
+fault_text NoTurn = codes "NoTurn"
+fault_text TooLong = codes "TooLong"
+
+unfoldable pub refused_text : ℕ → ℕ → StreamFault → List ℕ
+refused_text track block fault =
+    codes "refused track " ++ decimal track ++ codes " block " ++ decimal block ++ codes " " ++ fault_text fault ++ codes "\n"
+
+-- two digits of a number below 100
+unfoldable pub two_digits : ℕ → List ℕ
+two_digits number = decimal (number / 10) ++ decimal (number % 10)
+
+-- a track and a sector on it
+unfoldable pub sector_name : TrackId → ℕ → List ℕ
+sector_name track sector =
+    two_digits track.cylinder ++ codes "." ++ decimal track.head ++ codes " " ++ two_digits sector ++ codes " "
+
+-- a turn and a cell
+unfoldable pub place_text : Place → List ℕ
+place_text place = codes " " ++ decimal place.turn ++ codes " " ++ decimal place.cell
+
+-- a verdict: its name, the numbers of good and of bad readings, and where they stand
+unfoldable pub verdict_text : Verdict → List ℕ
+verdict_text (Good good bad first) = codes "good " ++ decimal good ++ codes " " ++ decimal bad ++ place_text first
+verdict_text (Contradictory good bad first other) =
+    codes "contradictory " ++ decimal good ++ codes " " ++ decimal bad ++ place_text first ++ place_text other
+verdict_text (Bad bad first) = codes "bad 0 " ++ decimal bad ++ place_text first
+verdict_text Missing = codes "missing 0 0"
+
+unfoldable pub sector_text : TrackId → ℕ → Verdict → List ℕ
+sector_text track sector verdict = sector_name track sector ++ verdict_text verdict ++ codes "\n"
+
+unfoldable pub total_text : Totals → List ℕ
+total_text totals =
+    codes "total " ++ decimal totals.sectors ++ codes " good " ++ decimal totals.good ++ codes " bad " ++ decimal totals.bad
+    ++ codes " missing " ++ decimal totals.missing ++ codes " contradictory " ++ decimal totals.contradictory ++ codes "\n"

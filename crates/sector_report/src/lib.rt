@@ -1,0 +1,19 @@
+//! The lines that the program prints: each ends with one byte 0A, and its numbers are decimal.
+#![tactic(auto)]
+
+mod line;
+mod refused;
+mod sector_lines;
+mod stream_lines;
+mod totals;
+mod usage;
+
+pub use line::Line;
+pub use refused::refused_line;
+pub use sector_lines::{sector_line, total_line};
+pub use stream_lines::{transitions_line, turn_line};
+pub use totals::Totals;
+pub use usage::{USAGE, usage_line};
+
+#[cfg(test)]
+mod tests;
