@@ -1,0 +1,5 @@
+pub mod Commands
+pub mod Turns
+pub mod Outcome
+pub mod Runs
+pub mod Rooms

@@ -1,0 +1,43 @@
+ghost use Rattle.std.specs.Prelude.{◌≡◌, ℕ, ◌-◌, ◌<◌, ◌≤◌, ◌^◌, length, OnOk, OnErr};
+ghost use Rattle.std.specs.Io.KnownBytes.{Appends};
+ghost use Rattle.flux_base.specs.Outside.{Rose, AppendsPart};
+ghost use Rattle.flux_cli.specs.Turns.{turn_lines, turns_text};
+
+use crate::line::write_line;
+use flux_base::{Failed, Sink};
+use index_turns::TrackFlux;
+use sector_report::{transitions_line, turn_line};
+
+/// Writes how many transitions a stream has, and a line for each of its turns.
+pub fn write_turns<W: Sink>(flux: &TrackFlux, sink: &mut W) -> Result<(), Failed>
+    requires times { length flux.now.times < 2 ^ 32 }
+    requires indexes { length flux.now.indexes < 2 ^ 32 }
+    ensures ok { OnOk result (Appends (W.written sink.old) (W.written sink.new) (turns_text flux.now.times flux.now.indexes)) }
+    ensures err { OnErr result (AppendsPart (W.written sink.old) (W.written sink.new) (turns_text flux.now.times flux.now.indexes)) }
+    ensures later { W.faults sink.old ≤ W.faults sink.new }
+    ensures cause { OnErr result (Rose (W.faults sink.old) (W.faults sink.new)) }
+{
+    let line = transitions_line(flux.times().len() as u32);
+    match write_line(sink, &line) {
+        Ok(()) => write_turn_lines(flux, sink),
+        Err(failed) => Err(failed),
+    }
+}
+
+/// Writes a line for each turn.
+fn write_turn_lines<W: Sink>(flux: &TrackFlux, sink: &mut W) -> Result<(), Failed>
+    requires { length flux.now.indexes < 2 ^ 32 }
+    ensures ok { OnOk result (Appends (W.written sink.old) (W.written sink.new) (turn_lines flux.now.indexes (length flux.now.indexes - 1))) }
+    ensures err { OnErr result (AppendsPart (W.written sink.old) (W.written sink.new) (turn_lines flux.now.indexes (length flux.now.indexes - 1))) }
+    ensures later { W.faults sink.old ≤ W.faults sink.new }
+    ensures cause { OnErr result (Rose (W.faults sink.old) (W.faults sink.new)) }
+{
+    for turn in 1..flux.indexes().len() as u32 {
+        let line = turn_line(turn, flux.turn_ticks(turn));
+        match write_line(sink, &line) {
+            Ok(()) => {}
+            Err(failed) => return Err(failed),
+        }
+    }
+    Ok(())
+}
