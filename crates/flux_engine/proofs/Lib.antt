@@ -1,0 +1,15 @@
+pub mod Walks
+pub mod Zeros
+pub mod Pieces
+pub mod ByFormat
+pub mod RecoveredCells
+pub mod Streams
+pub mod Decoding
+pub mod Finding
+pub mod Counting
+pub mod Disks
+pub mod Each
+pub mod OneReading
+pub mod GoodSectors
+pub mod Outcomes
+pub mod Telling

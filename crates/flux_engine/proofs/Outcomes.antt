@@ -1,0 +1,129 @@
+-- The laws of the engine.
+use Rattle.std.specs.Prelude.{◌≡◌, ◌≤◌, ◌<◌, ℕ, ◌-◌, ◌*◌, Bool, List, [], ◌++◌, length, take, drop, find, Option, Some, None, option_and_then, option_map, refl}
+use Rattle.std.specs.List.{range_with_len}
+use Rattle.std.proofs.Common.{ap, sym, subst, ◌∙◌, arith, inl, inr, append_assoc, length-take-le}
+use Rattle.std.proofs.lemmas.List.{ext_get_or, get_or-take, take-append-drop}
+use Rattle.std.proofs.lemmas.Bool.{cases_lt}
+use Rattle.std.proofs.lemmas.List.Concat.{flat_map-append}
+use Rattle.flux_base.specs.declared.track.TrackId.{TrackId}
+use Rattle.ibm_fm.specs.Sectors.{HeaderStands, SectorStands}
+use Rattle.ibm_fm.specs.StandLaws.{one_header, one_content, content_size}
+use Rattle.kryo_stream.specs.Stream.{first_fault, times, indexes}
+use Rattle.kryo_stream.specs.declared.fault.StreamFault.{StreamFault}
+use Rattle.sector_images.specs.Places.{tracks}
+use Rattle.sector_images.specs.declared.format.Format.{Format}
+use Rattle.sector_images.specs.declared.format.Format.TheVariants.{Ibm3740}
+use Rattle.turn_merge.specs.Readings.{bytes_of}
+use Rattle.flux_engine.specs.Disks.{Stop, part_at, AreParts, images, lines, totals_over, stop_at, stop_of, decoded_count, Decoded, decoded_of, last_line, no_totals}
+use Rattle.flux_engine.specs.Laws.{OneOutcome, FirstTracksLead, GoodIsRight}
+use Rattle.flux_engine.specs.Recordings.{track_at, sectors_of, cells_of}
+use Rattle.flux_engine.specs.Streams.{stream_at, has_fault}
+use Rattle.flux_engine.specs.Tracks.{Found, Part, IsPart, part_of, readings_of}
+use Rattle.flux_engine.proofs.GoodSectors.{head_of, head_holds, all_agree, good_image}
+use Rattle.flux_engine.proofs.OneReading.{one_list}
+
+-- one list of readings, by format
+one_found : (format : Format) (track : TrackId) (times' indexes' : List ℕ) (a b : Part) (p : IsPart format track times' indexes' a) (q : IsPart format track times' indexes' b)
+    → p.found ≡ q.found
+one_found Ibm3740 track times' indexes' a b p q =
+    one_list (HeaderStands track) (SectorStands track) (one_header track) (one_content track) (λ cells s xs stands. stands.header)
+    (cells_of Ibm3740 track times' indexes') 0 p.found q.found p.all q.all
+
+pub one_part : (format : Format) (track : TrackId) (times' indexes' : List ℕ) (a b : Part) → IsPart format track times' indexes' a → IsPart format track times' indexes' b → a ≡ b
+one_part format track times' indexes' a b p q =
+    p.is ∙ ap (λ (found : List Found). part_of track (sectors_of format track) (readings_of times' indexes' (cells_of format track times' indexes') found))
+    (one_found format track times' indexes' a b p q) ∙ sym q.is
+
+abbrev stop_track : Option Stop → ℕ
+stop_track None = 0
+stop_track (Some s) = s.track
+
+no_part : Part
+no_part = record { image = []; lines = []; totals = no_totals }
+
+one_parts : (format : Format) (x : List ℕ) (ps qs : List Part) → AreParts format x ps → AreParts format x qs → length ps ≡ length qs → ps ≡ qs
+unfolding no_part
+one_parts format x ps qs are others same =
+    ext_get_or no_part ps qs same
+    (λ k low. one_part format (track_at format k) (times (stream_at x k)) (indexes (stream_at x k)) (part_at ps k) (part_at qs k)
+    (are k low).comes (others k (omega (arith, low, same))).comes)
+
+pub one_outcome : OneOutcome
+one_outcome format x a b p q =
+    p.is ∙ ap (λ (parts : List Part). decoded_of parts (stop_of format x)) (one_parts format x p.parts q.parts p.each q.each (p.many ∙ sym q.many)) ∙ sym q.is
+
+-- the first parts of an outcome
+first_parts : (format : Format) (x : List ℕ) (ps qs : List Part) → AreParts format x ps → AreParts format x qs → length ps ≤ length qs → take (length ps) qs ≡ ps
+unfolding no_part
+first_parts format x ps qs are others fewer =
+    let size : length (take (length ps) qs) ≡ length ps = length-take-le (length ps) qs fewer in
+    ext_get_or no_part (take (length ps) qs) ps size
+    (λ (k : ℕ) low.
+    let within : k < length ps = omega (arith, low, size) in
+    get_or-take (length ps) qs k no_part within
+    ∙ one_part format (track_at format k) (times (stream_at x k)) (indexes (stream_at x k)) (part_at qs k) (part_at ps k)
+    (others k (omega (arith, within, fewer))).comes (are k within).comes)
+
+by_fault : (x : List ℕ) (n : ℕ) (s : Stop) (fault : Option (ℕ × StreamFault)) → first_fault (stream_at x n) ≡ fault
+    → option_map (λ (f : ℕ × StreamFault). let stop : Stop = record { track = n; block = f.0; fault = f.1 } in stop) fault ≡ Some s
+    → (f : ℕ × StreamFault) × (first_fault (stream_at x s.track) ≡ Some f)
+by_fault x n s None is stop = absurd (cc)
+by_fault x n s (Some f) is stop =
+    let same : n ≡ s.track = ap (λ (o : Option Stop). stop_track o) stop in
+    (f, subst (λ (k : ℕ). first_fault (stream_at x k) ≡ Some f) same is)
+
+stop_faults : (x : List ℕ) (s : Stop) (found : Option ℕ) → option_and_then (stop_at x) found ≡ Some s
+    → (f : ℕ × StreamFault) × (first_fault (stream_at x s.track) ≡ Some f)
+stop_faults x s None stop = absurd (cc)
+stop_faults x s (Some n) stop = by_fault x n s (first_fault (stream_at x n)) refl stop
+
+not_none : (o : Option (ℕ × StreamFault)) (f : ℕ × StreamFault) → o ≡ Some f → o ≡ None → ⊥
+not_none o f some none = cc
+
+stop_late : (format : Format) (x : List ℕ) (parts : List Part) → AreParts format x parts → length parts ≤ length (tracks format)
+    → (stop : Option Stop) → stop_of format x ≡ stop → length parts ≤ decoded_count format stop
+unfolding stop_of
+stop_late format x parts are within None is = within
+stop_late format x parts are within (Some s) is =
+    elim (cases_lt s.track (length parts)) [
+      | inr late ↦ late
+      | inl early ↦
+          let fault = stop_faults x s (find (has_fault x) (range_with_len 0 (length (tracks format)))) is in
+          absurd (not_none (first_fault (stream_at x s.track)) fault.0 fault.1 (are s.track early).no_fault)
+    ]
+
+pub first_tracks_lead : FirstTracksLead
+first_tracks_lead format x parts o are within d =
+    let n : ℕ = length parts in
+    let late : n ≤ decoded_count format (stop_of format x) = stop_late format x parts are within (stop_of format x) refl in
+    let fewer : n ≤ length d.parts = omega (arith, late, d.many) in
+    let rest : List Part = drop n d.parts in
+    let split : d.parts ≡ parts ++ rest =
+    sym (take-append-drop n d.parts) ∙ ap (λ (ps : List Part). ps ++ rest) (first_parts format x parts d.parts are d.each fewer) in
+    let image : o.image ≡ images parts ++ images rest =
+    ap (λ (a : Decoded). a.image) d.is ∙ ap images split ∙ flat_map-append (λ (p : Part). p.image) parts rest in
+    let last : List ℕ = last_line (totals_over d.parts) (stop_of format x) in
+    let notes : o.notes ≡ lines parts ++ (lines rest ++ last) =
+    ap (λ (a : Decoded). a.notes) d.is
+    ∙ ap (λ (xs : List ℕ). xs ++ last) (ap lines split ∙ flat_map-append (λ (p : Part). p.lines) parts rest)
+    ∙ append_assoc (lines parts) (lines rest) last in
+    ((images rest, image), (lines rest ++ last, notes))
+
+pub good_is_right : GoodIsRight
+good_is_right Ibm3740 track times' indexes' part is sector good bad first known verdict_is =
+    let cells = cells_of Ibm3740 track times' indexes' in
+    let h = head_of (readings_of times' indexes' cells is.found) sector good bad first verdict_is in
+    let has_header = λ (cs : List Bool) (s : ℕ) (xs : List ℕ) (stands : SectorStands track cs s xs). stands.header in
+    let holds = head_holds (HeaderStands track) (SectorStands track) (one_header track) (one_content track) has_header 128 (content_size track)
+    times' indexes' cells is.found is.all sector first h in
+    record {
+      bytes = bytes_of h.head;
+      stands = holds.0;
+      turn = holds.1;
+      in_image =
+          ap (λ (p : Part). take {A = ℕ} 128 (drop (128 * (sector - 1)) p.image)) is.is
+          ∙ good_image (HeaderStands track) (SectorStands track) (one_header track) (one_content track) has_header 128 (content_size track)
+          times' indexes' cells is.found is.all (sectors_of Ibm3740 track) refl sector (sector - 1) first h (omega (arith, known.0)) (omega (arith, known.0, known.1));
+      agreed = all_agree (HeaderStands track) (SectorStands track) (one_header track) (one_content track) has_header 128 (content_size track)
+          times' indexes' cells is.found is.all sector first h;
+    }

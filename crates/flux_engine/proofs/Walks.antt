@@ -1,0 +1,89 @@
+-- The steps of the walk over a track's cells.
+use Rattle.std.specs.Prelude.{◌≡◌, ◌≤◌, ◌<◌, ℕ, ◌+◌, ◌-◌, Bool, List, [], ◌∷◌, ◌++◌, length, take, slice_index, flat_map, Some, None, refl}
+use Rattle.std.proofs.Common.{ap, sym, subst, ◌∙◌, arith, append_assoc, append-nil}
+use Rattle.std.proofs.lemmas.List.Concat.{flat_map-append}
+use Rattle.cell_bits.specs.Ones.{ones}
+use Rattle.frame_law.specs.declared.reading.Reading.{Reading as Frame}
+use Rattle.frame_law.specs.declared.reading.Reading.TheVariants.{Nothing, Bad, Good}
+use Rattle.frame_law.specs.Readings.{AreReadings, FirstReading, Reads}
+use Rattle.frame_law.specs.Rings.{IsSectorNumber}
+use Rattle.turn_merge.specs.Book.{Knowledge, StandsFor, SameShape}
+use Rattle.turn_merge.specs.Readings.{Reading}
+use Rattle.turn_merge.specs.declared.verdict.Place.{Place}
+use Rattle.index_turns.specs.Track.{turn_at}
+use Rattle.flux_engine.specs.Gathering.{CanBeNoted, Gathers, IsWalk}
+use Rattle.flux_engine.specs.Tracks.{Found, readings_at, place_at}
+
+-- a sector of the track is one that the book knows of
+pub can_note : (header : ℕ → Type 0) (sector : ℕ → List ℕ → Type 0) (first count size : ℕ) (old book : Knowledge) (frame : Frame) (bytes : List ℕ)
+    → old.first_sector ≡ first → length old.found ≡ count → old.size ≡ size → SameShape old book
+    → ((s : ℕ) → header s → IsSectorNumber first count s) → ((s : ℕ) (xs : List ℕ) → sector s xs → header s)
+    → ((s : ℕ) (xs : List ℕ) → sector s xs → length xs ≡ size)
+    → Reads header sector frame bytes → CanBeNoted book frame bytes
+can_note header sector first count size old book Nothing bytes f c z shape numbers headers sizes reads = tt
+can_note header sector first count size old book (Bad s) bytes f c z shape numbers headers sizes reads =
+    let number = numbers s reads.1 in
+    (omega (arith, f, shape.first_is, number.least), omega (arith, f, c, shape.first_is, shape.sectors_are, number.most))
+can_note header sector first count size old book (Good s) bytes f c z shape numbers headers sizes reads =
+    let number = numbers s (headers s bytes reads) in (
+      (omega (arith, f, shape.first_is, number.least), omega (arith, f, c, shape.first_is, shape.sectors_are, number.most)),
+      sizes s bytes reads ∙ sym (shape.size_is ∙ z),
+    )
+
+module _ (header : List Bool → ℕ → Type 0) (sector : List Bool → ℕ → List ℕ → Type 0) (times indexes : List ℕ) (cells : List Bool) where
+  pub walk_start : (book : Knowledge) → StandsFor book [] → IsWalk header sector times indexes cells 0 0 book book
+  walk_start book empty = record {
+    found = [];
+    before = λ rest all. all;
+    noted = empty;
+    shape = record { first_is = refl; most_is = refl; size_is = refl; sectors_are = refl };
+    few = omega (arith, empty.notes);
+    within = omega arith;
+    passed_are = refl;
+  }
+
+  pub walk_step : (from passed cell met : ℕ) (frame : Frame) (bytes piece : List ℕ) (place : Place) (old mid new : Knowledge)
+      → IsWalk header sector times indexes cells from passed old mid
+      → FirstReading header sector cells from (Some (cell, frame)) bytes → cell < length cells
+      → ones (take from cells) + met ≡ ones (take (cell + 1) cells)
+      → place ≡ record { turn = turn_at indexes (slice_index times (passed + met - 1)); cell = cell } → piece ≡ bytes
+      → ((readings : List Reading) → StandsFor mid readings → StandsFor new (readings ++ readings_at place frame piece))
+      → new.notes ≤ mid.notes + 1 → SameShape mid new
+      → IsWalk header sector times indexes cells (cell + 1) (passed + met) old new
+  walk_step from passed cell met frame bytes piece place old mid new w first within counted at same appends count shape =
+      let ones_are : passed + met ≡ ones (take (cell + 1) cells) = ap (λ (n : ℕ). n + met) w.passed_are ∙ counted in
+      let place_is : place ≡ place_at times indexes cells cell =
+      at ∙ ap (λ (n : ℕ). let p : Place = record { turn = turn_at indexes (slice_index times (n - 1)); cell = cell } in p) ones_are in
+      let Appended : Place → List ℕ → Type 0 = λ (p : Place) (xs : List ℕ).
+      (readings : List Reading) → StandsFor mid readings → StandsFor new (readings ++ readings_at p frame xs) in
+      let noted : Appended (place_at times indexes cells cell) bytes =
+      subst (λ (p : Place). Appended p bytes) place_is (subst (λ (xs : List ℕ). Appended place xs) same appends) in
+      let here : Found = (cell, frame, bytes) in
+      let of_found : Found → List Reading = λ (f : Found). readings_at (place_at times indexes cells f.0) f.1 f.2 in
+      let more = noted (flat_map of_found w.found) w.noted in
+      record {
+        found = w.found ++ here ∷ [];
+        before = λ (rest : List Found) (all : AreReadings header sector cells (cell + 1) rest).
+            subst (AreReadings header sector cells 0) (sym (append_assoc w.found (here ∷ []) rest)) (w.before (here ∷ rest) (first, all));
+        noted = subst (StandsFor new)
+            (sym (flat_map-append of_found w.found (here ∷ []) ∙ ap (λ (r : List Reading). flat_map of_found w.found ++ r) (append-nil (of_found here)))) more;
+        shape = record {
+          first_is = shape.first_is ∙ w.shape.first_is;
+          most_is = shape.most_is ∙ w.shape.most_is;
+          size_is = shape.size_is ∙ w.shape.size_is;
+          sectors_are = shape.sectors_are ∙ w.shape.sectors_are;
+        };
+        few = (let least : from ≤ cell = first.0 in omega (arith, count, w.few, least));
+        within = omega (arith, within);
+        passed_are = ones_are;
+      }
+
+  pub walk_end : (from passed : ℕ) (bytes : List ℕ) (old new : Knowledge)
+      → IsWalk header sector times indexes cells from passed old new → FirstReading header sector cells from None bytes
+      → Gathers header sector times indexes cells old new
+  walk_end from passed bytes old new w none = record {
+    found = w.found;
+    all = subst (AreReadings header sector cells 0) (append-nil w.found) (w.before [] (refl, none.1));
+    noted = w.noted;
+    shape = w.shape;
+  }

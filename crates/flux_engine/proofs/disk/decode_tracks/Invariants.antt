@@ -1,0 +1,16 @@
+use Rattle.std.proofs.Common.{◌≤◌, ◌*◌}
+use Rattle.flux_engine.specs.Reading.{HasDecoded}
+use Rattle.flux_engine.specs.Writing.{IsSum}
+use Rattle.flux_engine.proofs.disk.decode_tracks.Given as goal
+
+abbrev pub invariant-loop-number : goal.invariant-loop-number
+invariant-loop-number g l = record {
+  decoded : HasDecoded l.initial.room.format (g.S.Source.left l.initial.source) (g.S.Source.left l.source)
+      (g.W.Sink.written l.initial.image) (g.W.Sink.written l.image) (g.N.Sink.written l.initial.notes) (g.N.Sink.written l.notes)
+      l.room l.number l.totals;
+  sum : IsSum l.totals;
+  few : l.totals.sectors ≤ 100 * l.number;
+  source_later : g.S.Source.faults l.initial.source ≤ g.S.Source.faults l.source;
+  image_later : g.W.Sink.faults l.initial.image ≤ g.W.Sink.faults l.image;
+  notes_later : g.N.Sink.faults l.initial.notes ≤ g.N.Sink.faults l.notes;
+}

@@ -1,0 +1,8 @@
+use Rattle.flux_engine.proofs.Outcomes.{one_outcome, first_tracks_lead}
+use Rattle.flux_engine.proofs.laws.outcomes_are_one.Goals as goal
+
+pub returns-clause-one : goal.returns-clause-one
+returns-clause-one c = one_outcome
+
+pub returns-clause-first : goal.returns-clause-first
+returns-clause-first c = first_tracks_lead

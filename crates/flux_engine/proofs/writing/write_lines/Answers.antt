@@ -1,0 +1,45 @@
+use Rattle.std.proofs.Common.{◌≡◌, ◌+◌, ℕ, List, arith, subst, ap, sym, ◌∙◌, map, [], ◌∷◌, ◌++◌}
+use Rattle.std.proofs.lemmas.List.FromFn.{map-range_with_len_more}
+use Rattle.std.specs.List.{flat_map, range_with_len}
+use Rattle.std.specs.Io.KnownBytes.{Appends}
+use Rattle.sector_report.specs.Lines.{sector_text}
+use Rattle.turn_merge.specs.Readings.{verdict}
+use Rattle.turn_merge.specs.declared.verdict.Verdict.{Verdict}
+use Rattle.flux_engine.specs.Tracks.{line_of, lines_of, totals_of}
+use Rattle.flux_engine.proofs.Pieces.{pieces_next, pieces_stop}
+use Rattle.flux_engine.proofs.writing.write_lines.Goals as goal
+
+pub returns-in-Err-clause-err : goal.returns-in-Err-clause-err
+unfolding lines_of
+returns-in-Err-clause-err g c = λ readings stands.
+    let sector : ℕ = c.args.sectors.first + c.loop-index.index in
+    let is : c.sector_line-line.result.bytes ≡ line_of c.args.track readings sector =
+    c.sector_line-line.ensures ∙ ap (sector_text c.args.track sector) (c.verdict-verdict.ensures readings stands) in
+    pieces_stop (line_of c.args.track readings) _ _ _ c.args.sectors.first c.loop-index.index c.args.sectors.count c.sector_line-line.result.bytes
+    (omega arith) is (c.loop-index.invariant.grew readings stands) c.in-Err.ensures.err
+
+pub loop-index-preserved : goal.loop-index-preserved
+loop-index-preserved g c = record {
+  grew = λ readings stands.
+      let sector : ℕ = c.args.sectors.first + c.loop-index.index in
+      let is : c.sector_line-line.result.bytes ≡ line_of c.args.track readings sector =
+      c.sector_line-line.ensures ∙ ap (sector_text c.args.track sector) (c.verdict-verdict.ensures readings stands) in
+      pieces_next (line_of c.args.track readings) _ _ _ c.args.sectors.first c.loop-index.index c.sector_line-line.result.bytes
+      is (c.loop-index.invariant.grew readings stands) c.in-Ok.ensures.ok;
+  counted = λ readings stands.
+      let sector : ℕ = c.args.sectors.first + c.loop-index.index in
+      let before : List Verdict = map (verdict readings) (range_with_len c.args.sectors.first c.loop-index.index) in
+      c.count.ensures.counted before (c.loop-index.invariant.counted readings stands)
+      ∙ ap (λ (v : Verdict). totals_of (before ++ v ∷ [])) (c.verdict-verdict.ensures readings stands)
+      ∙ ap totals_of (sym (map-range_with_len_more (verdict readings) c.args.sectors.first c.loop-index.index sector (omega arith)));
+  sum = c.count.ensures.sum;
+  number = c.count.ensures.one ∙ ap (λ (n : ℕ). n + 1) c.loop-index.invariant.number;
+  later = omega (arith, c.loop-index.invariant.later, c.write_line.ensures.later);
+}
+
+pub returns-clause-ok : goal.returns-clause-ok
+unfolding lines_of
+returns-clause-ok g c = λ readings stands.
+    let all : c.loop-index.index ≡ c.args.sectors.count = omega arith in
+    subst (λ (n : ℕ). Appends (g.N.Sink.written c.args.notes.now) (g.N.Sink.written c.loop-index.notes)
+    (flat_map (line_of c.args.track readings) (range_with_len c.args.sectors.first n))) all (c.loop-index.invariant.grew readings stands)

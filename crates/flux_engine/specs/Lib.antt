@@ -1,0 +1,10 @@
+pub mod Streams
+pub mod Recordings
+pub mod Tracks
+pub mod Gathering
+pub mod Writing
+pub mod Disks
+pub mod Room
+pub mod Answers
+pub mod Reading
+pub mod Laws

@@ -1,0 +1,106 @@
+-- What one track comes to: its readings, and from them its part of the image, its lines and its totals.
+use Rattle.std.specs.Prelude.{◌≡◌, ℕ, ◌+◌, ◌-◌, Bool, true, false, List, [], ◌∷◌, length, take, map, flat_map, replicate, count_by, slice_index, unwrap_or}
+use Rattle.std.specs.List.{range_with_len}
+use Rattle.cell_bits.specs.Ones.{ones}
+use Rattle.flux_base.specs.declared.track.TrackId.{TrackId}
+use Rattle.frame_law.specs.declared.reading.Reading.TheVariants.{Nothing, Bad as BadFrame, Good as GoodFrame}
+use Rattle.frame_law.specs.declared.reading.Reading.{Reading as Frame}
+use Rattle.frame_law.specs.Readings.{AreReadings}
+use Rattle.index_turns.specs.Track.{turn_at}
+use Rattle.sector_images.specs.declared.format.Format.{Format}
+use Rattle.sector_report.specs.Lines.{sector_text}
+use Rattle.sector_report.specs.declared.totals.Totals.{Totals}
+use Rattle.turn_merge.specs.Readings.{Reading, good_reading, bad_reading, verdict, agreed}
+use Rattle.turn_merge.specs.declared.verdict.Place.{Place}
+use Rattle.turn_merge.specs.declared.verdict.Verdict.{Verdict}
+use Rattle.turn_merge.specs.declared.verdict.Verdict.TheVariants.{Good, Contradictory, Bad, Missing}
+use Rattle.flux_engine.specs.Recordings.{header_at, sector_at, sectors_of, cells_of}
+use Rattle.flux_engine.specs.declared.sectors.Sectors.{Sectors}
+
+-- what is read at a place of the cells, with the bytes of a good sector
+abbrev pub Found : Type 0
+Found = ℕ × Frame × List ℕ
+
+-- the time of the last transition at or before a place of the cells, in ticks
+abbrev pub time_of_place : List ℕ → List Bool → ℕ → ℕ
+time_of_place times cells place = slice_index times (ones (take (place + 1) cells) - 1)
+
+-- a place of the cells, and the turn in which that transition lies
+abbrev pub place_at : List ℕ → List ℕ → List Bool → ℕ → Place
+place_at times indexes cells place = record { turn = turn_at indexes (time_of_place times cells place); cell = place }
+
+-- the reading of a sector, where one is read
+abbrev pub readings_at : Place → Frame → List ℕ → List Reading
+readings_at place Nothing bytes = []
+readings_at place (BadFrame sector) bytes = bad_reading sector place ∷ []
+readings_at place (GoodFrame sector) bytes = good_reading sector place bytes ∷ []
+
+-- the readings of all that is found on a track
+abbrev pub readings_of : List ℕ → List ℕ → List Bool → List Found → List Reading
+readings_of times indexes cells found =
+    flat_map (λ f. readings_at (place_at times indexes cells f.0) f.1 f.2) found
+
+-- the numbers of a track's sectors
+abbrev pub numbers : Sectors → List ℕ
+numbers sectors = range_with_len sectors.first sectors.count
+
+-- a sector's bytes in the image: its data where its verdict is good, and else zeros
+abbrev pub image_bytes : Sectors → List Reading → ℕ → List ℕ
+image_bytes sectors readings sector = unwrap_or (agreed readings sector) (replicate sectors.size 0)
+
+-- the track's part of the image: its sectors in the order of their numbers
+unfoldable pub image_of : Sectors → List Reading → List ℕ
+image_of sectors readings = flat_map (image_bytes sectors readings) (numbers sectors)
+
+abbrev pub line_of : TrackId → List Reading → ℕ → List ℕ
+line_of track readings sector = sector_text track sector (verdict readings sector)
+
+-- the track's lines, one for each sector
+unfoldable pub lines_of : TrackId → Sectors → List Reading → List ℕ
+lines_of track sectors readings = flat_map (line_of track readings) (numbers sectors)
+
+abbrev pub is_good : Verdict → Bool
+is_good (Good _ _ _) = true
+is_good _ = false
+
+abbrev pub is_bad : Verdict → Bool
+is_bad (Bad _ _) = true
+is_bad _ = false
+
+abbrev pub is_missing : Verdict → Bool
+is_missing Missing = true
+is_missing _ = false
+
+abbrev pub is_contradictory : Verdict → Bool
+is_contradictory (Contradictory _ _ _ _) = true
+is_contradictory _ = false
+
+-- how many verdicts there are, and how many of each kind
+abbrev pub totals_of : List Verdict → Totals
+totals_of verdicts = record {
+  sectors = length verdicts;
+  good = count_by is_good verdicts;
+  bad = count_by is_bad verdicts;
+  missing = count_by is_missing verdicts;
+  contradictory = count_by is_contradictory verdicts;
+}
+
+-- what a track adds to the image and to the report, and its totals
+pub record Part : Type 0 where
+  pub image : List ℕ
+  pub lines : List ℕ
+  pub totals : Totals
+
+-- what a track comes to by these readings
+abbrev pub part_of : TrackId → Sectors → List Reading → Part
+part_of track sectors readings = record {
+  image = image_of sectors readings;
+  lines = lines_of track sectors readings;
+  totals = totals_of (map (verdict readings) (numbers sectors));
+}
+
+-- all that can be read on a track with these transitions and index times, and what it comes to
+pub record IsPart (format : Format) (track : TrackId) (times indexes : List ℕ) (part : Part) : Type 0 where
+  pub found : List Found
+  pub all : AreReadings (header_at format track) (sector_at format track) (cells_of format track times indexes) 0 found
+  pub is : part ≡ part_of track (sectors_of format track) (readings_of times indexes (cells_of format track times indexes) found)

@@ -1,0 +1,29 @@
+-- The conditions under which a track is written out.
+use Rattle.std.specs.Prelude.{◌≡◌, ◌≤◌, ◌+◌, length}
+use Rattle.sector_report.specs.declared.totals.Totals.{Totals}
+use Rattle.turn_merge.specs.Book.{Knowledge}
+use Rattle.flux_engine.specs.declared.sectors.Sectors.{Sectors}
+
+-- the numbers of the sectors have two digits, and a sector has at most 512 bytes
+pub record AreFew (sectors : Sectors) : Type 0 where
+  pub below : sectors.first + sectors.count ≤ 100
+  pub size : sectors.size ≤ 512
+
+-- the book knows of these sectors
+pub record Knows (sectors : Sectors) (book : Knowledge) : Type 0 where
+  pub first : book.first_sector ≡ sectors.first
+  pub count : length book.found ≡ sectors.count
+
+-- each sector is counted once more by its verdict
+abbrev pub IsSum : Totals → Type 0
+IsSum totals = totals.sectors ≡ totals.good + totals.bad + totals.missing + totals.contradictory
+
+-- the totals of two parts of a disk
+abbrev pub sum_of : Totals → Totals → Totals
+sum_of a b = record {
+  sectors = a.sectors + b.sectors;
+  good = a.good + b.good;
+  bad = a.bad + b.bad;
+  missing = a.missing + b.missing;
+  contradictory = a.contradictory + b.contradictory;
+}

@@ -1,0 +1,59 @@
+//! Which recording each format has.
+
+ghost use Rattle.std.specs.Prelude.{◌≡◌, ◌≤◌, length};
+ghost use Rattle.sector_images.specs.Places.{IsTrack};
+ghost use Rattle.flux_engine.specs.Gathering.{AreCellsOf, IsEmptyBook, Gathers};
+ghost use Rattle.flux_engine.specs.Recordings.{header_at, sector_at, sectors_of as sectors_in};
+
+use crate::gathering::gather;
+use crate::sectors::Sectors;
+use cell_bits::Cells;
+use flux_base::TrackId;
+use frame_law::Recording;
+use ibm_fm::IbmFm;
+use index_turns::TrackFlux;
+use sector_images::Format;
+use turn_merge::Book;
+
+/// The sectors of one of the format's tracks.
+pub(crate) fn sectors_of(format: Format, track: TrackId) -> Sectors
+    requires { IsTrack format track }
+    ensures { result ≡ sectors_in format track }
+{
+    match format {
+        Format::Ibm3740 => sectors(&IbmFm, track),
+    }
+}
+
+/// The sectors of one of the recording's tracks.
+fn sectors<R: Recording>(recording: &R, track: TrackId) -> Sectors
+    requires { R.has_track recording.now track }
+    ensures first { result.first ≡ R.first_sector recording.now }
+    ensures count { result.count ≡ R.sectors recording.now track }
+    ensures size { result.size ≡ R.sector_size recording.now }
+{
+    Sectors {
+        first: recording.first_sector(),
+        count: recording.sectors(track),
+        size: recording.sector_size(),
+    }
+}
+
+/// Notes all readings of a track of the format in a book that has none yet.
+pub(crate) fn gather_track(
+    format: Format,
+    track: TrackId,
+    flux: &TrackFlux,
+    cells: &Cells,
+    book: &mut Book,
+)
+    requires track { IsTrack format track }
+    requires cells { AreCellsOf flux.now.times cells.now.cells }
+    requires indexes { length flux.now.indexes ≤ 262144 }
+    requires book { IsEmptyBook (sectors_in format track) book.old }
+    ensures { Gathers (header_at format track) (sector_at format track) flux.now.times flux.now.indexes cells.now.cells book.old book.new }
+{
+    match format {
+        Format::Ibm3740 => gather(&IbmFm, track, flux, cells, book),
+    }
+}

@@ -1,0 +1,10 @@
+/// The sectors of a track.
+#[derive(Clone, Copy, Debug)]
+pub(crate) struct Sectors {
+    /// The number of the first.
+    pub first: u8,
+    /// How many there are.
+    pub count: u8,
+    /// The bytes of each, at most 512.
+    pub size: u16,
+}

@@ -1,0 +1,105 @@
+use crate::{DiskRoom, decode_disk, decode_track};
+use cell_bits::Cells;
+use flux_base::{Memory, MemorySink, MemorySource, TrackId};
+use frame_law::Recording;
+use ibm_fm::IbmFm;
+use sector_images::Format;
+use std::alloc::Global;
+use std::test::Fail;
+
+/// A stream of one turn with two transitions that make no sector.
+const ONE_TURN: &[u8] =
+    b"\x0D\x02\x0C\0\0\0\0\0\0\0\0\0\0\0\0\0\x60\x60\x0D\x02\x0C\0\x02\0\0\0\x05\0\0\0\x18\0\0\0\
+    \x0D\x03\x08\0\x02\0\0\0\0\0\0\0\x0D\x0D\x0D\x0D";
+
+/// Appends the bytes of an Index block with this stream position.
+fn push_index(bytes: &mut Vec<u8>, position: u32) -> Result<(), Memory> {
+    for byte in [0x0D, 0x02, 0x0C, 0x00] {
+        bytes.push(byte)?;
+    }
+    for byte in position.to_le_bytes() {
+        bytes.push(byte)?;
+    }
+    for _ in 0..8 {
+        bytes.push(0)?;
+    }
+    Ok(())
+}
+
+/// Appends the ring's ones as blocks of 48 ticks a cell, and gives their number.
+fn push_ring(bytes: &mut Vec<u8>, ring: &Cells) -> Result<u32, Memory> {
+    let mut count = 0u32;
+    let mut distance = 0u8;
+    for place in 0..ring.len() {
+        distance = distance.saturating_add(1);
+        if ring.cell(place) {
+            bytes.push(distance.saturating_mul(48))?;
+            count = count.saturating_add(1);
+            distance = 0;
+        }
+    }
+    Ok(count)
+}
+
+/// A stream that turns three times over the ring of cylinder 0, all of whose bytes are E5.
+fn three_turns(alloc: Global) -> Result<Vec<u8>, Memory> {
+    let track = TrackId {
+        cylinder: 0,
+        head: 0,
+    };
+    let content = [0xE5; 3328];
+    let mut ring = Cells::new(alloc);
+    IbmFm.ring(track, &content, &mut ring)?;
+    let mut bytes = Vec::new(alloc);
+    let mut position = 0u32;
+    for _ in 0..3 {
+        push_index(&mut bytes, position)?;
+        position = position.saturating_add(push_ring(&mut bytes, &ring)?);
+    }
+    for _ in 0..4 {
+        bytes.push(0x0D)?;
+    }
+    Ok(bytes)
+}
+
+#[test]
+fn a_track_comes_to_its_image_and_lines(rt: HostRuntime) -> Result<(), Fail> {
+    let alloc = rt.alloc();
+    let mut source = MemorySource::new(three_turns(alloc)?, 4096, Vec::new(alloc));
+    let mut image = MemorySink::new(alloc, 4096, Vec::new(alloc))?;
+    let mut notes = MemorySink::new(alloc, 4096, Vec::new(alloc))?;
+    let mut room = DiskRoom::reserve(alloc, Format::Ibm3740)?;
+    let totals = decode_track(&mut room, 0, &mut source, &mut image, &mut notes);
+    assert!(rt; matches!(totals, Ok(totals) if totals.good == 26 && totals.sectors == 26));
+    assert_eq!(rt; image.bytes().len(), 3328);
+    assert!(rt; image.bytes().iter().all(|byte| *byte == 0xE5));
+    assert!(rt; notes.bytes().starts_with(b"00.0 01 good 3 0 1 1264\n"));
+    assert!(rt; notes.bytes().ends_with(b"00.0 26 good 3 0 1 76464\n"));
+    Ok(())
+}
+
+#[test]
+fn a_disk_comes_to_all_its_tracks(rt: HostRuntime) -> Result<(), Fail> {
+    let alloc = rt.alloc();
+    let mut bytes = three_turns(alloc)?;
+    for _ in 1..77 {
+        bytes.push(0x0D)?;
+        for byte in ONE_TURN {
+            bytes.push(*byte)?;
+        }
+    }
+    let mut source = MemorySource::new(bytes, 4096, Vec::new(alloc));
+    let mut image = MemorySink::new(alloc, 300_000, Vec::new(alloc))?;
+    let mut notes = MemorySink::new(alloc, 100_000, Vec::new(alloc))?;
+    let mut room = DiskRoom::reserve(alloc, Format::Ibm3740)?;
+    let totals = decode_disk(&mut room, &mut source, &mut image, &mut notes);
+    assert!(rt; matches!(totals, Ok(totals) if totals.sectors == 2002 && totals.missing == 1976));
+    assert_eq!(rt; image.bytes().len(), 256_256);
+    assert!(rt; image.bytes()[3328..].iter().all(|byte| *byte == 0));
+    assert!(rt;
+        notes.bytes().ends_with(
+            b"76.0 26 missing 0 0\ntotal 2002 good 26 bad 0 missing 1976 contradictory 0\n"
+        )
+    );
+    Ok(())
+}

@@ -1,0 +1,123 @@
+//! What a track comes to, written out.
+
+ghost use Rattle.std.specs.Prelude.{◌≡◌, ℕ, ◌+◌, ◌≤◌, ◌<◌, ◌++◌, List, [], ◌∷◌, map, length, replicate, unwrap_or, IfOk, OnOk, OnErr};
+ghost use Rattle.std.specs.Io.KnownBytes.{Appends};
+ghost use Rattle.flux_base.specs.Outside.{Rose, AppendsPart};
+ghost use Rattle.turn_merge.specs.Book.{StandsFor, IsKnown};
+ghost use Rattle.turn_merge.specs.Readings.{Reading, agreed, verdict as verdict_over};
+ghost use Rattle.turn_merge.specs.declared.verdict.Verdict.{Verdict as SectorVerdict};
+ghost use Rattle.flux_engine.specs.Tracks.{image_of, lines_of, totals_of, numbers};
+ghost use Rattle.flux_engine.specs.Writing.{Knows, AreFew, IsSum};
+
+use crate::sectors::Sectors;
+use flux_base::{Failed, Sink, TrackId, write_whole};
+use sector_report::{Line, Totals, sector_line};
+use turn_merge::{Book, Verdict};
+
+/// The bytes of a sector that has no good verdict.
+const ZEROS: [u8; 512] = [0; 512];
+
+/// Writes the track's part of the image, a piece for each sector.
+pub(crate) fn write_image<W: Sink>(
+    sectors: Sectors,
+    book: &Book,
+    image: &mut W,
+) -> Result<(), Failed>
+    requires few { AreFew sectors }
+    requires known { Knows sectors book.now }
+    ensures ok { OnOk result ((readings : List Reading) → StandsFor book.now readings → Appends (W.written image.old) (W.written image.new) (image_of sectors readings)) }
+    ensures err { OnErr result ((readings : List Reading) → StandsFor book.now readings → AppendsPart (W.written image.old) (W.written image.new) (image_of sectors readings)) }
+    ensures later { W.faults image.old ≤ W.faults image.new }
+    ensures cause { OnErr result (Rose (W.faults image.old) (W.faults image.new)) }
+{
+    for index in 0..sectors.count {
+        let bytes = image_bytes(book, sectors.first + index, sectors.size);
+        match write_whole(image, bytes) {
+            Ok(()) => {}
+            Err(failed) => return Err(failed),
+        }
+    }
+    Ok(())
+}
+
+/// A sector's bytes in the image: its data where its verdict is good, and else zeros.
+fn image_bytes<'a>(book: &'a Book, sector: u8, size: u16) -> &'a [u8]
+    requires known { IsKnown book.now sector }
+    requires size { size ≤ 512 }
+    ensures { (readings : List Reading) → StandsFor book.now readings → result.now ≡ unwrap_or (agreed readings sector) (replicate size 0) }
+{
+    match book.bytes(sector) {
+        Some(bytes) => bytes,
+        None => &ZEROS[..usize::from(size)],
+    }
+}
+
+/// Writes the track's lines, each in one piece, and gives its totals.
+pub(crate) fn write_lines<N: Sink>(
+    track: TrackId,
+    sectors: Sectors,
+    book: &Book,
+    notes: &mut N,
+) -> Result<Totals, Failed>
+    requires cylinder { track.cylinder < 100 }
+    requires few { AreFew sectors }
+    requires known { Knows sectors book.now }
+    ensures ok { OnOk result ((readings : List Reading) → StandsFor book.now readings → Appends (N.written notes.old) (N.written notes.new) (lines_of track sectors readings)) }
+    ensures totals { IfOk result (λ totals. (readings : List Reading) → StandsFor book.now readings → totals ≡ totals_of (map (verdict_over readings) (numbers sectors))) }
+    ensures err { OnErr result ((readings : List Reading) → StandsFor book.now readings → AppendsPart (N.written notes.old) (N.written notes.new) (lines_of track sectors readings)) }
+    ensures later { N.faults notes.old ≤ N.faults notes.new }
+    ensures cause { OnErr result (Rose (N.faults notes.old) (N.faults notes.new)) }
+{
+    let mut totals = no_totals();
+    for index in 0..sectors.count {
+        let sector = sectors.first + index;
+        let verdict = book.verdict(sector);
+        let line = sector_line(track, sector, &verdict);
+        match write_line(notes, &line) {
+            Ok(()) => count(&mut totals, verdict),
+            Err(failed) => return Err(failed),
+        }
+    }
+    Ok(totals)
+}
+
+/// Hands a line to a sink, in one piece. After `Failed` a part of it was written.
+pub(crate) fn write_line<N: Sink>(notes: &mut N, line: &Line) -> Result<(), Failed>
+    ensures ok { OnOk result (Appends (N.written notes.old) (N.written notes.new) line.now.bytes) }
+    ensures err { OnErr result (AppendsPart (N.written notes.old) (N.written notes.new) line.now.bytes) }
+    ensures later { N.faults notes.old ≤ N.faults notes.new }
+    ensures cause { OnErr result (Rose (N.faults notes.old) (N.faults notes.new)) }
+{
+    write_whole(notes, line.as_str().as_bytes())
+}
+
+/// The totals of no sector.
+pub(crate) fn no_totals() -> Totals
+    ensures value { result ≡ totals_of [] }
+    ensures sum { IsSum result }
+{
+    Totals {
+        sectors: 0,
+        good: 0,
+        bad: 0,
+        missing: 0,
+        contradictory: 0,
+    }
+}
+
+/// Counts a sector of this verdict.
+fn count(totals: &mut Totals, verdict: Verdict)
+    requires sum { IsSum totals.old }
+    requires few { totals.old.sectors < 1000 }
+    ensures sum { IsSum totals.new }
+    ensures one { totals.new.sectors ≡ totals.old.sectors + 1 }
+    ensures counted { (verdicts : List SectorVerdict) → totals.old ≡ totals_of verdicts → totals.new ≡ totals_of (verdicts ++ verdict ∷ []) }
+{
+    totals.sectors += 1;
+    match verdict {
+        Verdict::Good { .. } => totals.good += 1,
+        Verdict::Contradictory { .. } => totals.contradictory += 1,
+        Verdict::Bad { .. } => totals.bad += 1,
+        Verdict::Missing => totals.missing += 1,
+    }
+}
