@@ -1,10 +1,16 @@
 -- The words of the command line, without the program's name.
-use Rattle.std.specs.Prelude.{ℕ, List, [], ◌∷◌, codes, bytes_eq, Option, Some, None, if◌then◌else◌}
+use Rattle.std.specs.Prelude.{◌≡◌, ℕ, List, [], ◌∷◌, codes, Option, Some, None}
+use Rattle.sector_images.specs.Formats.{row}
 use Rattle.flux_cli.specs.declared.command.Command.{Command}
-use Rattle.flux_cli.specs.declared.command.Command.TheVariants.{Turns}
+use Rattle.flux_cli.specs.declared.command.Command.TheVariants.{Turns, Decode, Report}
 
--- what these words ask for, if they are a command
-abbrev pub asked_for : List (List ℕ) → Option Command
-asked_for [] = None
-asked_for (verb ∷ []) = if bytes_eq verb (codes "turns") then Some Turns else None
-asked_for (verb ∷ word ∷ words) = None
+-- the words that ask for a command
+abbrev pub words_of : Command → List (List ℕ)
+words_of Turns = codes "turns" ∷ []
+words_of (Decode format) = codes "decode" ∷ (row format).word ∷ []
+words_of (Report format) = codes "report" ∷ (row format).word ∷ []
+
+-- what the words ask for; nothing where they are not those of a command
+abbrev pub AskFor : List (List ℕ) → Option Command → Type 0
+AskFor words (Some command) = words ≡ words_of command
+AskFor words None = (command : Command) → ¬ (words ≡ words_of command)

@@ -1,21 +1,61 @@
-ghost use Rattle.std.specs.Prelude.{◌≡◌};
-ghost use Rattle.flux_cli.specs.Commands.{asked_for};
+ghost use Rattle.std.specs.Prelude.{◌≡◌, [], ◌∷◌};
+ghost use Rattle.flux_cli.specs.Commands.{AskFor};
+ghost use Rattle.sector_images.specs.Formats.{row};
 
 use flux_base::Word;
+use sector_images::Format;
 
 /// What the words ask for.
 #[derive(Clone, Copy, Debug, PartialEq, Eq)]
 pub enum Command {
     /// The transitions and the turns of one stream.
     Turns,
+    /// An image from the streams of a disk, and a report in the notes.
+    Decode(Format),
+    /// The report alone, in place of the image.
+    Report(Format),
 }
 
 /// The command that the words are, if they are one.
 pub fn command_of(words: &[Word]) -> Option<Command>
-    ensures { result ≡ asked_for words.now }
+    ensures { AskFor words.now result }
 {
     match words {
-        [verb] if verb.bytes() == b"turns".as_slice() => Some(Command::Turns),
+        [verb] => plain_command(verb.bytes()),
+        [verb, word] => format_command(verb.bytes(), word.bytes()),
         _ => None,
+    }
+}
+
+/// The command of one word.
+fn plain_command(verb: &[u8]) -> Option<Command>
+    ensures { AskFor (verb.now ∷ []) result }
+{
+    match verb {
+        b"turns" => Some(Command::Turns),
+        _ => None,
+    }
+}
+
+/// The command of two words, of which the second is a format's.
+fn format_command(verb: &[u8], word: &[u8]) -> Option<Command>
+    ensures { AskFor (verb.now ∷ word.now ∷ []) result }
+{
+    match Format::of_word(word) {
+        Some(format) => command_over(verb, format),
+        None => None,
+    }
+}
+
+/// The command of a word and a format.
+fn command_over(verb: &[u8], format: Format) -> Option<Command>
+    ensures { AskFor (verb.now ∷ (row format).word ∷ []) result }
+{
+    if verb == b"decode".as_slice() {
+        Some(Command::Decode(format))
+    } else if verb == b"report".as_slice() {
+        Some(Command::Report(format))
+    } else {
+        None
     }
 }

@@ -2,11 +2,14 @@
 #![tactic(auto)]
 
 mod command;
+mod disks;
+mod laws;
 mod line;
 mod program;
 mod standard;
 mod turns;
 
+pub use laws::outcomes_are_one;
 pub use program::run;
 pub use standard::{StdSink, StdSource};
 

@@ -294,6 +294,7 @@ fn words_that_are_no_command(rt: HostRuntime) -> Result<(), Fail> {
     is_no_command(&rt, alloc, &["turns", "now"])?;
     is_no_command(&rt, alloc, &["decode"])?;
     is_no_command(&rt, alloc, &["decode", "amigo"])?;
+    is_no_command(&rt, alloc, &["report", "ibm-3740", "now"])?;
     let failing = Failing {
         notes: Some(0),
         ..NONE
@@ -354,5 +355,21 @@ fn objects_that_fail(rt: HostRuntime) -> Result<(), Fail> {
     let end = run_over(alloc, &["turns"], END.to_vec(alloc)?, 7, failing)?;
     assert_eq!(rt; end.status, Status::NotesFault);
     assert_eq!(rt; end.notes.bytes(), b"".as_slice());
+    Ok(())
+}
+
+// The first track of a disk has no stream.
+#[test]
+fn a_disk_without_streams(rt: HostRuntime) -> Result<(), Fail> {
+    let alloc = rt.alloc();
+    let line = b"refused track 0 block 0 Truncated\n";
+    let end = run_over(alloc, &["decode", "ibm-3740"], Vec::new(alloc), 7, NONE)?;
+    assert_eq!(rt; end.status, Status::Refused);
+    assert_eq!(rt; end.image.calls(), 0);
+    assert_eq!(rt; end.notes.bytes(), line.as_slice());
+    let end = run_over(alloc, &["report", "ibm-3740"], Vec::new(alloc), 7, NONE)?;
+    assert_eq!(rt; end.status, Status::Refused);
+    assert_eq!(rt; end.image.calls(), 0);
+    assert_eq!(rt; end.notes.bytes(), line.as_slice());
     Ok(())
 }

@@ -1,4 +1,4 @@
-use Rattle.std.proofs.Common.{ℕ, ◌-◌, ◌≤◌, max, length}
+use Rattle.std.proofs.Common.{◌-◌, ◌≤◌, max, length}
 use Rattle.std.specs.Io.KnownBytes.{Appends}
 use Rattle.flux_cli.specs.Turns.{turn_lines}
 use Rattle.flux_cli.proofs.turns.write_turn_lines.Given as goal

@@ -1,0 +1,53 @@
+-- The words and the input decide the outcome.
+use Rattle.std.proofs.Common.{◌≡◌, ℕ, List, [], ◌∷◌, arith, Option, Some, None, refl, sym, ap, ◌∙◌, subst}
+use Rattle.flux_engine.specs.Laws.{OneOutcome}
+use Rattle.sector_images.specs.declared.format.Format.{Format}
+use Rattle.sector_images.specs.declared.format.Format.TheVariants.{Ibm3740}
+use Rattle.flux_cli.specs.Commands.{AskFor, words_of}
+use Rattle.flux_cli.specs.Outcome.{Outcome, OutcomeOf, IsOutcome, decode_outcome, report_outcome}
+use Rattle.flux_cli.specs.declared.command.Command.{Command}
+use Rattle.flux_cli.specs.declared.command.Command.TheVariants.{Turns, Decode, Report}
+
+one_format : (f g : Format) → f ≡ g
+one_format Ibm3740 Ibm3740 = refl
+
+-- the first letter of the first word
+abbrev letter : List (List ℕ) → ℕ
+letter [] = 0
+letter ([] ∷ words) = 0
+letter ((byte ∷ bytes) ∷ words) = byte
+
+other_letter : ◌≡◌ {A = ℕ} 100 114 → ⊥
+other_letter same = omega (arith, same)
+
+one_command : (a b : Command) → words_of a ≡ words_of b → a ≡ b
+one_command Turns Turns same = refl
+one_command Turns (Decode g) same = absurd (cc)
+one_command Turns (Report g) same = absurd (cc)
+one_command (Decode f) Turns same = absurd (cc)
+one_command (Decode f) (Decode g) same = ap Decode (one_format f g)
+one_command (Decode f) (Report g) same = absurd (other_letter (ap letter same))
+one_command (Report f) Turns same = absurd (cc)
+one_command (Report f) (Decode g) same = absurd (other_letter (sym (ap letter same)))
+one_command (Report f) (Report g) same = ap Report (one_format f g)
+
+-- words ask for one thing at most
+one_asked : (words : List (List ℕ)) (a b : Option Command) → AskFor words a → AskFor words b → a ≡ b
+one_asked words None None first second = refl
+one_asked words None (Some b) first second = absurd (first b second)
+one_asked words (Some a) None first second = absurd (second a first)
+one_asked words (Some a) (Some b) first second = ap Some (one_command a b (sym first ∙ second))
+
+module _ (one : OneOutcome) where
+  one_of : (asked : Option Command) (x : List ℕ) (a b : Outcome) → OutcomeOf asked x a → OutcomeOf asked x b → a ≡ b
+  one_of None x a b first second = first ∙ sym second
+  one_of (Some Turns) x a b first second = first ∙ sym second
+  one_of (Some (Decode format)) x a b first second =
+      first.2 ∙ ap decode_outcome (one format x first.0 second.0 first.1 second.1) ∙ sym second.2
+  one_of (Some (Report format)) x a b first second =
+      first.2 ∙ ap report_outcome (one format x first.0 second.0 first.1 second.1) ∙ sym second.2
+
+  pub one_outcome : (words : List (List ℕ)) (x : List ℕ) (a b : Outcome) → IsOutcome words x a → IsOutcome words x b → a ≡ b
+  one_outcome words x a b first second =
+      let same = one_asked words first.0 second.0 first.1 second.1 in
+      one_of second.0 x a b (subst (λ asked. OutcomeOf asked x a) same first.2) second.2

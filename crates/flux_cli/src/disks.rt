@@ -1,0 +1,93 @@
+ghost use Rattle.std.specs.Prelude.{◌≡◌, ◌≢◌, ℕ, ◌≤◌, List, None, Some};
+ghost use Rattle.flux_base.specs.declared.status.Status.{Status};
+ghost use Rattle.flux_cli.specs.Outcome.{status_of};
+ghost use Rattle.flux_cli.specs.Runs.{GivesAs, HasCause, IsFinished, IsStopped};
+ghost use Rattle.flux_cli.specs.Stops.{StopsAs};
+ghost use Rattle.flux_cli.specs.Takes.{TakesAs};
+ghost use Rattle.flux_cli.specs.declared.command.Command.TheVariants.{Decode, Report};
+ghost use Rattle.flux_engine.specs.Room.{fresh};
+
+use crate::line::write_line;
+use flux_base::{CountingSink, Sink, Source, Status};
+use flux_engine::{DiskRoom, EngineFault, decode_disk};
+use sector_report::{Totals, refused_line};
+
+/// Decodes a disk: its image goes to `image`, and its report to `notes`.
+pub fn decode<S: Source, W: Sink, N: Sink>(
+    room: &mut DiskRoom,
+    source: &mut S,
+    image: &mut W,
+    notes: &mut N,
+) -> Status
+    requires { room.old ≡ fresh room.old.format }
+    ensures finished { (x : List ℕ) → S.left source.old ≡ Some x → IsFinished result
+        → GivesAs (Some (Decode room.old.format)) x result (W.written image.old) (W.written image.new) (N.written notes.old) (N.written notes.new) }
+    ensures stopped { (x : List ℕ) → S.left source.old ≡ Some x → IsStopped result
+        → StopsAs (Some (Decode room.old.format)) result x (S.left source.new) (W.written image.old) (W.written image.new) (N.written notes.old) (N.written notes.new) }
+    ensures memory { result ≢ Status.Memory }
+    ensures taken { (x : List ℕ) → S.left source.old ≡ Some x → TakesAs (Some (Decode room.old.format)) result x (S.left source.new) }
+    ensures cause { HasCause result (S.faults source.old) (S.faults source.new) (W.faults image.old) (W.faults image.new) (N.faults notes.old) (N.faults notes.new) }
+{
+    match decode_disk(room, source, image, notes) {
+        Ok(totals) => status_of(&totals),
+        Err(EngineFault::ReadFault) => Status::ReadFault,
+        Err(EngineFault::ImageFault) => Status::ImageFault,
+        Err(EngineFault::NotesFault) => Status::NotesFault,
+        Err(
+            EngineFault::Refused {
+                track,
+                block,
+                fault,
+            },
+        ) => match write_line(notes, &refused_line(track, block, &fault)) {
+            Ok(()) => Status::Refused,
+            Err(_) => Status::NotesFault,
+        },
+    }
+}
+
+/// Decodes a disk, and gives its report in place of its image.
+pub fn report<S: Source, W: Sink, N: Sink>(
+    room: &mut DiskRoom,
+    source: &mut S,
+    image: &mut W,
+    notes: &mut N,
+) -> Status
+    requires { room.old ≡ fresh room.old.format }
+    ensures finished { (x : List ℕ) → S.left source.old ≡ Some x → IsFinished result
+        → GivesAs (Some (Report room.old.format)) x result (W.written image.old) (W.written image.new) (N.written notes.old) (N.written notes.new) }
+    ensures stopped { (x : List ℕ) → S.left source.old ≡ Some x → IsStopped result
+        → StopsAs (Some (Report room.old.format)) result x (S.left source.new) (W.written image.old) (W.written image.new) (N.written notes.old) (N.written notes.new) }
+    ensures memory { result ≢ Status.Memory }
+    ensures taken { (x : List ℕ) → S.left source.old ≡ Some x → TakesAs (Some (Report room.old.format)) result x (S.left source.new) }
+    ensures cause { HasCause result (S.faults source.old) (S.faults source.new) (W.faults image.old) (W.faults image.new) (N.faults notes.old) (N.faults notes.new) }
+{
+    match decode_disk(room, source, &mut CountingSink::new(), image) {
+        Ok(totals) => status_of(&totals),
+        Err(EngineFault::ReadFault) => Status::ReadFault,
+        Err(EngineFault::NotesFault) => Status::ImageFault,
+        // The sink that counts never fails.
+        Err(EngineFault::ImageFault) => unreachable!(),
+        Err(
+            EngineFault::Refused {
+                track,
+                block,
+                fault,
+            },
+        ) => match write_line(notes, &refused_line(track, block, &fault)) {
+            Ok(()) => Status::Refused,
+            Err(_) => Status::NotesFault,
+        },
+    }
+}
+
+/// Whether every sector of a disk is good.
+fn status_of(totals: &Totals) -> Status
+    ensures { result ≡ status_of totals.now None }
+{
+    if totals.good == totals.sectors {
+        Status::AllGood
+    } else {
+        Status::NotAllGood
+    }
+}

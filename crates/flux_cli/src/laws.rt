@@ -1,0 +1,11 @@
+//! What the definition of an outcome comes to.
+
+ghost use Rattle.std.specs.Prelude.{◌≡◌, ℕ, List};
+ghost use Rattle.flux_cli.specs.Outcome.{Outcome, IsOutcome};
+
+/// The words and the input decide the outcome: there is one at most.
+pub fn outcomes_are_one()
+    ensures { (words : List (List ℕ)) (x : List ℕ) (a b : Outcome) → IsOutcome words x a → IsOutcome words x b → a ≡ b }
+{
+    flux_engine::outcomes_are_one()
+}
