@@ -1,0 +1,8 @@
+use Rattle.std.proofs.Common.{◌≡◌, length}
+use Rattle.ibm_fields.specs.Fields.{bytes_at}
+use Rattle.ibm_fields.proofs.fields.take_bytes.Given as goal
+
+abbrev pub invariant-loop-index : goal.invariant-loop-index
+invariant-loop-index l =
+    (l.buffer.items ≡ bytes_at l.frame l.offset l.index)
+    × (length l.buffer.items ≡ l.index)

@@ -1,0 +1,41 @@
+ghost use Rattle.std.specs.Prelude.{◌≡◌, ℕ, ◌+◌, ◌*◌, ◌^◌, ◌<◌, ◌≤◌, [], length};
+ghost use Rattle.ibm_fields.specs.Fields.{bytes_at, number_at as number_of_bytes};
+
+use frame_law::{CellsFrom, SectorBuffer};
+
+/// The four bytes at the offset: a sector's address, which is cylinder, head, sector and the code of its
+/// length.
+pub fn address_at(frame: &CellsFrom, offset: usize) -> [u8; 4]
+    requires near { offset < 2 ^ 32 }
+    requires whole { offset + 64 ≤ length frame.now }
+    ensures { result ≡ bytes_at frame.now offset 4 }
+{
+    [
+        frame.byte_at(offset),
+        frame.byte_at(offset + 16),
+        frame.byte_at(offset + 32),
+        frame.byte_at(offset + 48),
+    ]
+}
+
+/// The two bytes at the offset as a number, high byte first, as check values are written.
+pub fn number_at(frame: &CellsFrom, offset: usize) -> u16
+    requires near { offset < 2 ^ 32 }
+    requires whole { offset + 32 ≤ length frame.now }
+    ensures { result ≡ number_of_bytes frame.now offset }
+{
+    256 * u16::from(frame.byte_at(offset)) + u16::from(frame.byte_at(offset + 16))
+}
+
+/// Puts so many bytes from the offset on into the buffer.
+pub fn take_bytes(frame: &CellsFrom, offset: usize, count: u16, buffer: &mut SectorBuffer)
+    requires empty { buffer.old.items ≡ [] }
+    requires most { count ≤ 512 }
+    requires near { offset < 2 ^ 32 }
+    requires whole { offset + 16 * count ≤ length frame.now }
+    ensures { buffer.new.items ≡ bytes_at frame.now offset count }
+{
+    for index in 0..count as usize {
+        buffer.push(frame.byte_at(offset + 16 * index));
+    }
+}
