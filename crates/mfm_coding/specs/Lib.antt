@@ -1,0 +1,4 @@
+pub mod Coding
+pub mod CodingLaws
+pub mod Spacing
+pub mod Writes

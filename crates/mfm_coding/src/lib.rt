@@ -1,0 +1,12 @@
+//! MFM, the coding of double density disks (IBM System 34), also with the marks that break its rule for clock
+//! cells. All recordings that are made of bytes and such marks are written by it.
+#![tactic(auto)]
+
+mod pushes;
+mod symbol;
+
+pub use pushes::{push_bytes, push_run, push_symbol};
+pub use symbol::Symbol;
+
+#[cfg(test)]
+mod tests;
