@@ -1,0 +1,8 @@
+pub mod FrameLaws
+pub mod Layout
+pub mod Lengths
+pub mod ReadLaws
+pub mod RingLaws
+pub mod Sectors
+pub mod StandLaws
+pub mod Syncs

@@ -1,0 +1,39 @@
+ghost use Rattle.std.specs.Prelude.{◌≡◌, ℕ, IfNone, IfSome};
+ghost use Rattle.ibm_mfm.specs.Sectors.{HeaderStands};
+
+use crate::layout::{FIRST_SECTOR, HEADER_CELLS, ID_BYTE, SIZE_CODE};
+use crate::pieces::field_check;
+use crate::sync::sync_at;
+use flux_base::TrackId;
+use frame_law::CellsFrom;
+use ibm_fields::{address_at, number_at};
+
+/// The number of the sector whose header, of this track of so many sectors, stands at the front of the cells.
+pub(crate) fn header_sector(frame: &CellsFrom, sectors: u8, track: TrackId) -> Option<u8>
+    ensures stands { IfSome result (λ s. HeaderStands sectors track frame.now s) }
+    ensures none { IfNone result ((s : ℕ) → ¬ HeaderStands sectors track frame.now s) }
+{
+    if frame.len() < HEADER_CELLS {
+        return None;
+    }
+    if !sync_at(frame, 0) {
+        return None;
+    }
+    if frame.byte_at(48) != ID_BYTE {
+        return None;
+    }
+    let [cylinder, head, sector, size] = address_at(frame, 64);
+    if cylinder != track.cylinder || head != track.head || size != SIZE_CODE {
+        return None;
+    }
+    if sector < FIRST_SECTOR || sector > sectors {
+        return None;
+    }
+    if number_at(frame, 128) != field_check(ID_BYTE, &[cylinder, head, sector, size]) {
+        return None;
+    }
+    if !frame.unbroken_to(HEADER_CELLS) {
+        return None;
+    }
+    Some(sector)
+}

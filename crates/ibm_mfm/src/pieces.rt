@@ -1,0 +1,71 @@
+ghost use Rattle.std.specs.Prelude.{◌≡◌, ℕ};
+ghost use Rattle.ibm_fields.specs.Fields.{high_first};
+ghost use Rattle.mfm_coding.specs.Coding.{bytes_as_data};
+ghost use Rattle.ibm_mfm.specs.Layout.{field, piece_symbols, pieces_symbols};
+ghost use Rattle.ibm_mfm.specs.Sectors.{check_of};
+ghost use Rattle.mfm_coding.specs.Writes.{AppendsSymbols};
+
+use crate::layout::{CHECK_START, DATA_BYTE, ID_BYTE, Piece, SIZE_CODE};
+use cell_bits::Cells;
+use check_values::crc16;
+use flux_base::{Memory, TrackId};
+use mfm_coding::{Symbol, push_bytes, push_run, push_symbol};
+
+/// Appends a part of the ring, each piece for this sector with these bytes.
+pub(crate) fn push_pieces(
+    cells: &mut Cells,
+    pieces: &[Piece],
+    track: TrackId,
+    sector: u8,
+    bytes: &[u8],
+) -> Result<(), Memory>
+    ensures { AppendsSymbols cells.old cells.new (pieces_symbols track sector bytes.now pieces.now) result }
+{
+    for piece in pieces {
+        push_piece(cells, *piece, track, sector, bytes)?;
+    }
+    Ok(())
+}
+
+fn push_piece(
+    cells: &mut Cells,
+    piece: Piece,
+    track: TrackId,
+    sector: u8,
+    bytes: &[u8],
+) -> Result<(), Memory>
+    ensures { AppendsSymbols cells.old cells.new (piece_symbols track sector bytes.now piece) result }
+{
+    match piece {
+        Piece::Run(count, symbol) => push_run(cells, count, symbol),
+        Piece::Address => {
+            let address = [track.cylinder, track.head, sector, SIZE_CODE];
+            push_field(cells, ID_BYTE, &address)
+        }
+        Piece::Content => push_field(cells, DATA_BYTE, bytes),
+    }
+}
+
+/// Appends what stands behind three marks: a first byte, other bytes, and the check value.
+fn push_field(cells: &mut Cells, first: u8, bytes: &[u8]) -> Result<(), Memory>
+    ensures { AppendsSymbols cells.old cells.new (field first bytes.now) result }
+{
+    push_symbol(cells, Symbol::Data(first))?;
+    push_bytes(cells, bytes)?;
+    push_number(cells, field_check(first, bytes))
+}
+
+/// Appends two bytes, the high one first.
+fn push_number(cells: &mut Cells, number: u16) -> Result<(), Memory>
+    ensures { AppendsSymbols cells.old cells.new (bytes_as_data (high_first number)) result }
+{
+    push_bytes(cells, &[(number / 256) as u8, (number % 256) as u8])
+}
+
+/// The check value of a field behind three marks: of the marks' bytes, its first byte and its other bytes.
+pub(crate) fn field_check(first: u8, bytes: &[u8]) -> u16
+    ensures { result ≡ check_of first bytes.now }
+{
+    let register = crc16(CHECK_START, &[first]);
+    crc16(register, bytes)
+}
