@@ -3,12 +3,16 @@ use Rattle.std.proofs.Common.{◌≡◌, ℕ, ◌+◌, ◌-◌, Bool, List, take
 use Rattle.std.proofs.lemmas.List.{drop-drop}
 use Rattle.cell_bits.specs.Broken.{Unbroken}
 use Rattle.cell_bits.specs.Bytes.{data_byte, data_cells}
-use Rattle.cell_bits.specs.Word.{number_of}
+use Rattle.cell_bits.specs.Word.{number_of, word}
 
 pub data_byte-drop : (place : ℕ) (cells : List Bool) (offset : ℕ) → data_byte (drop place cells) offset ≡ data_byte cells (place + offset)
 unfolding data_byte
 data_byte-drop place cells offset =
     ap (λ (rest : List Bool). number_of (data_cells (take 16 rest))) (drop-drop offset place cells)
+
+pub word-drop : (place : ℕ) (cells : List Bool) (offset count : ℕ) → word (drop place cells) offset count ≡ word cells (place + offset) count
+unfolding word
+word-drop place cells offset count = ap (λ (rest : List Bool). number_of (take count rest)) (drop-drop offset place cells)
 
 pub unbroken-drop : (place : ℕ) (cells : List Bool) (count : ℕ) → Unbroken cells place (place + count) → Unbroken (drop place cells) 0 count
 unbroken-drop place cells count whole k above below zeros =

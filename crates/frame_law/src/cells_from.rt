@@ -2,7 +2,7 @@ ghost use Rattle.std.specs.Prelude.{◌≡◌, ℕ, ◌+◌, ◌*◌, ◌^◌, �
 ghost use Rattle.cell_bits.specs.Broken.{Unbroken};
 ghost use Rattle.cell_bits.specs.Bytes.{data_byte};
 ghost use Rattle.cell_bits.specs.Search.{IsFirstWord};
-ghost use Rattle.cell_bits.specs.Word.{Stands};
+ghost use Rattle.cell_bits.specs.Word.{Stands, word};
 
 use cell_bits::Cells;
 use std::marker::Model;
@@ -65,6 +65,16 @@ impl<'a> CellsFrom<'a> {
             .cells
             .find_word(self.place + from, self.place + to, word, count)?;
         Some(place - self.place)
+    }
+
+    /// The `count` cells at the offset, 1 to 32, which lie in the list, as a number, high bit first.
+    pub fn word_at(&self, offset: usize, count: u8) -> u32
+        requires some { 1 ≤ count }
+        requires most { count ≤ 32 }
+        requires within { offset + count ≤ length self.now }
+        ensures { result ≡ word self.now offset count }
+    {
+        self.cells.word_at(self.place + offset, count)
     }
 
     /// The byte in the data cells of the 16 cells at the offset, which lie in the list.
