@@ -10,9 +10,10 @@ use Rattle.flux_base.specs.declared.track.TrackId.{TrackId}
 use Rattle.cell_bits.specs.Broken.{Unbroken}
 use Rattle.cell_bits.specs.Bytes.{fm, fm_cells}
 use Rattle.cell_bits.specs.Word.{word_cells}
+use Rattle.ibm_fields.specs.Fields.{high_first}
 use Rattle.ibm_fm.specs.declared.layout.Piece.{Piece}
 use Rattle.ibm_fm.specs.Sectors.{address_of, check_of}
-use Rattle.ibm_fm.specs.Layout.{fm_bytes, high_first, lead_in, lead_out, piece_cells, pieces_cells, ring_of, sector_cells, sector_layout, sector_numbers, sectors_cells}
+use Rattle.ibm_fm.specs.Layout.{fm_bytes, lead_in, lead_out, piece_cells, pieces_cells, ring_of, sector_cells, sector_layout, sector_numbers, sectors_cells}
 
 -- behind the cell `before` no two zeros come in a row
 abbrev pub IsDense : Bool → List Bool → Type 0

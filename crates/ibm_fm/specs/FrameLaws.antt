@@ -8,11 +8,14 @@ use Rattle.flux_base.specs.declared.track.TrackId.{TrackId}
 use Rattle.cell_bits.specs.Bytes.{data_byte, data_cells, fm, fm_cells}
 use Rattle.cell_bits.specs.Word.{number_of, word_cells}
 use Rattle.cell_bits.specs.WordLaws.{length-word_cells, number_of-word_cells}
+use Rattle.ibm_fields.specs.Fields.{AreBytes, bytes_at, high_first, number_at}
+use Rattle.ibm_fields.specs.FieldLaws.{bytes_at-past, data_byte-past, drop-past, take-first}
+use Rattle.ibm_fields.specs.Numbers.{crc-lt}
 use Rattle.ibm_fm.specs.Density.{IsDense, dense-append, dense-fm_bytes, unbroken-first, dense-id_mark, dense-data_mark}
-use Rattle.ibm_fm.specs.Layout.{field_cells, fm_bytes, high_first}
+use Rattle.ibm_fm.specs.Layout.{field_cells, fm_bytes}
 use Rattle.ibm_fm.specs.Lengths.{length-fm_bytes}
-use Rattle.ibm_fm.specs.Offsets.{AreBytes, bytes_at-first, bytes_at-past, crc-lt, data_byte-past, drop-past, number_at-behind, number_at-past, take-first}
-use Rattle.ibm_fm.specs.Sectors.{HeaderStands, IsTrack, OpensData, SectorStands, address_of, bytes_at, check_of, number_at}
+use Rattle.ibm_fm.specs.ReadLaws.{number_at-behind, number_at-past, reads-first}
+use Rattle.ibm_fm.specs.Sectors.{HeaderStands, IsTrack, OpensData, SectorStands, address_of, check_of}
 
 -- the header's cells
 abbrev pub header_cells : TrackId → ℕ → List Bool
@@ -82,7 +85,7 @@ header_stands track sector rest known least most =
       mark = ap (λ (some : List Bool). take 16 some) apart ∙ take-first mark (field ++ rest) 16 size;
       whole = (let e = length-append (header_cells track sector) rest in omega (arith, e, length-header_cells track sector));
       address = ap (λ (some : List Bool). bytes_at some 16 4) apart ∙ bytes_at-past mark (field ++ rest) 16 0 4 size
-          ∙ bytes_at-first address check rest fit;
+          ∙ reads-first address check rest fit;
       known = (least, most);
       check = ap (λ (some : List Bool). number_at some 80) apart ∙ number_at-past mark (field ++ rest) 16 64 size
           ∙ number_at-behind address (check_of 0xFE address) rest (crc-lt 0xFFFF (0xFE ∷ address) (lit< tt));
@@ -221,7 +224,7 @@ frame_stands track sector bytes rest known least most fit size =
             ∙ bytes_at-past header (gap_and_mark ++ behind) 112 288 128 header_size
             ∙ bytes_at-past gap_and_mark behind 288 0 128 length-gap_and_mark
             ∙ ap (bytes_at behind 0) (sym size)
-            ∙ bytes_at-first bytes check rest fit;
+            ∙ reads-first bytes check rest fit;
         check = ap (λ (some : List Bool). number_at some 2448) apart
             ∙ number_at-past header (gap_and_mark ++ behind) 112 2336 header_size
             ∙ number_at-past gap_and_mark behind 288 2048 length-gap_and_mark

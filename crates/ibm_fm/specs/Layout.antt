@@ -1,10 +1,11 @@
 -- The ring of a track of the IBM 3740 diskette: 5208 bytes, from index to index.
-use Rattle.std.specs.Prelude.{ℕ, ◌+◌, ◌-◌, ◌*◌, ◌/◌, ◌%◌, Bool, List, [], ◌∷◌, ◌++◌, replicate, flat_map}
+use Rattle.std.specs.Prelude.{ℕ, ◌+◌, ◌-◌, ◌*◌, Bool, List, [], ◌∷◌, ◌++◌, replicate, flat_map}
 use Rattle.std.specs.List.{range_with_len}
 use Rattle.flux_base.specs.declared.track.TrackId.{TrackId}
 use Rattle.cell_bits.specs.Bytes.{fm}
 use Rattle.cell_bits.specs.Word.{word_cells}
 use Rattle.frame_law.specs.Rings.{bytes_of}
+use Rattle.ibm_fields.specs.Fields.{high_first}
 use Rattle.ibm_fm.specs.declared.layout.Piece.{Piece}
 use Rattle.ibm_fm.specs.declared.layout.Piece.TheVariants.{Run, Mark, Address, Content}
 use Rattle.ibm_fm.specs.Sectors.{SECTORS, SECTOR_SIZE, ID_MARK, DATA_MARK, INDEX_MARK, check_of, address_of}
@@ -26,10 +27,6 @@ lead_out = Run 247 0xFF ∷ []
 -- bytes in FM
 abbrev pub fm_bytes : List ℕ → List Bool
 fm_bytes bytes = flat_map fm bytes
-
--- a number of 16 bits, high byte first
-abbrev pub high_first : ℕ → List ℕ
-high_first number = number / 256 ∷ number % 256 ∷ []
 
 -- what stands behind a mark: bytes, and the check value of the mark's byte and of them
 abbrev pub field_cells : ℕ → List ℕ → List Bool

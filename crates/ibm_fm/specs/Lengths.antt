@@ -8,10 +8,11 @@ use Rattle.cell_bits.specs.Bytes.{fm, fm_cells}
 use Rattle.cell_bits.specs.Word.{word_cells}
 use Rattle.cell_bits.specs.WordLaws.{length-word_cells}
 use Rattle.frame_law.specs.Rings.{bytes_of}
+use Rattle.ibm_fields.specs.Fields.{high_first}
 use Rattle.ibm_fm.specs.declared.layout.Piece.{Piece}
 use Rattle.ibm_fm.specs.declared.layout.Piece.TheVariants.{Run, Mark, Address, Content}
 use Rattle.ibm_fm.specs.Sectors.{address_of, check_of}
-use Rattle.ibm_fm.specs.Layout.{fm_bytes, high_first, lead_in, lead_out, piece_cells, pieces_cells, ring_of, sector_cells, sector_layout, sector_numbers, sectors_cells}
+use Rattle.ibm_fm.specs.Layout.{fm_bytes, lead_in, lead_out, piece_cells, pieces_cells, ring_of, sector_cells, sector_layout, sector_numbers, sectors_cells}
 
 length-fm_cells : (bits : List Bool) → length (fm_cells bits) ≡ 2 * length bits
 unfolding fm_cells

@@ -2,7 +2,7 @@ pub mod Density
 pub mod FrameLaws
 pub mod Layout
 pub mod Lengths
-pub mod Offsets
+pub mod ReadLaws
 pub mod RingLaws
 pub mod Sectors
 pub mod StandLaws

@@ -1,5 +1,5 @@
 -- The laws of the ring: its length, its ones, and that its sectors stand in every stretch of its repetition.
-use Rattle.std.specs.Prelude.{◌≡◌, ℕ, zero, suc, ◌+◌, ◌-◌, ◌*◌, ◌%◌, ◌≤◌, Bool, false, List, [], ◌∷◌, ◌++◌, length, drop, replicate}
+use Rattle.std.specs.Prelude.{◌≡◌, ℕ, suc, ◌+◌, ◌-◌, ◌*◌, ◌%◌, ◌≤◌, Bool, false, List, [], ◌∷◌, ◌++◌, length, drop, replicate}
 use Rattle.std.proofs.Common.{ap, sym, subst, ◌∙◌, arith, append_assoc, length-append}
 use Rattle.std.proofs.lemmas.List.Concat.{flat_map-append}
 use Rattle.std.specs.List.{flat_map, range_with_len}
@@ -8,11 +8,13 @@ use Rattle.cell_bits.specs.Broken.{Unbroken}
 use Rattle.cell_bits.specs.Word.{word_cells}
 use Rattle.frame_law.specs.Rings.{AreSectors, IsSectorNumber, IsSpaced, LiesAt, bytes_of, stretch}
 use Rattle.frame_law.specs.Stretches.{drop-stretch, stretch-part}
+use Rattle.ibm_fields.specs.Fields.{AreBytes}
+use Rattle.ibm_fields.specs.FieldLaws.{AreBytes-drop, AreBytes-from, AreBytes-take}
+use Rattle.ibm_fields.specs.Numbers.{range-parts}
 use Rattle.ibm_fm.specs.Density.{dense-ring, dense-spaced, dense-unbroken}
 use Rattle.ibm_fm.specs.FrameLaws.{frame_of, frame_stands, gap_and_mark, length-frame_of}
 use Rattle.ibm_fm.specs.Layout.{FRAME_CELLS, field_cells, fm_bytes, lead_in, lead_out, pieces_cells, place_of, ring_of, sector_cells, sector_numbers, sectors_cells}
 use Rattle.ibm_fm.specs.Lengths.{length-bytes_of, length-fm_bytes, length-lead_in, length-ring_of, length-sectors}
-use Rattle.ibm_fm.specs.Offsets.{AreBytes, AreBytes-drop, AreBytes-from, AreBytes-take}
 use Rattle.ibm_fm.specs.Sectors.{IsTrack, SectorStands, address_of}
 
 pub ring_length : (track : TrackId) (bytes : List ℕ) → AreSectors 26 128 bytes → length (ring_of track bytes) ≡ 83328
@@ -47,21 +49,6 @@ sector_parts track bytes s =
     ap (λ (cells : List Bool). fm_bytes (replicate 6 0x00) ++ cells)
     (sym (frame_parts (word_cells 16 0xF57E) (field_cells 0xFE (address_of track s)) (fm_bytes (replicate 11 0xFF)) (fm_bytes (replicate 6 0x00))
     (word_cells 16 0xF56F) (field_cells 0xFB (bytes_of 1 128 bytes s)) (fm_bytes (replicate 27 0xFF) ++ [])))
-
--- numbers up to one of them, it, and those behind it
-range-parts : (first before behind : ℕ)
-    → range_with_len first (before + suc behind) ≡ range_with_len first before ++ (first + before) ∷ range_with_len (first + before + 1) behind
-range-parts first zero behind =
-    let e : 0 + suc behind ≡ suc behind = omega arith in
-    let n : first ≡ first + 0 = omega arith in
-    ap (range_with_len first) e ∙ ap (λ (number : ℕ). number ∷ range_with_len (number + 1) behind) n
-range-parts first (suc before) behind =
-    let e : suc before + suc behind ≡ suc (before + suc behind) = omega arith in
-    let n : first + 1 + before ≡ first + suc before = omega arith in
-    ap (range_with_len first) e
-    ∙ ap (λ (numbers : List ℕ). first ∷ numbers)
-    (range-parts (first + 1) before behind
-    ∙ ap (λ (number : ℕ). range_with_len (first + 1) before ++ number ∷ range_with_len (number + 1) behind) n)
 
 sectors_before : TrackId → List ℕ → ℕ → List Bool
 sectors_before track bytes s = flat_map (sector_cells track bytes) (range_with_len 1 (s - 1))

@@ -1,11 +1,12 @@
 -- The sectors of the IBM 3740 diskette, single density (FM): when a header and when a sector stands at the front of a
 -- list of cells. A byte takes 16 cells. Clock cells are looked at in marks alone.
-use Rattle.std.specs.Prelude.{◌≡◌, ℕ, zero, suc, ◌+◌, ◌*◌, ◌<◌, ◌≤◌, Bool, List, [], ◌∷◌, length, ◌⊎◌}
+use Rattle.std.specs.Prelude.{◌≡◌, ℕ, ◌+◌, ◌<◌, ◌≤◌, Bool, List, [], ◌∷◌, length, ◌⊎◌}
 use Rattle.flux_base.specs.declared.track.TrackId.{TrackId}
 use Rattle.cell_bits.specs.Broken.{Unbroken}
 use Rattle.cell_bits.specs.Bytes.{data_byte}
 use Rattle.cell_bits.specs.Word.{Stands}
 use Rattle.check_values.specs.Crc.{crc}
+use Rattle.ibm_fields.specs.Fields.{bytes_at, number_at}
 
 -- the tracks: 77 cylinders of one side
 pub record IsTrack (track : TrackId) : Type 0 where
@@ -36,15 +37,6 @@ INDEX_MARK = 0xF77A
 
 abbrev pub MarkAt : List Bool → ℕ → ℕ → Type 0
 MarkAt cells mark place = Stands cells mark 16 place
-
--- the data bytes of so many bytes in a row
-unfoldable pub bytes_at : List Bool → ℕ → ℕ → List ℕ
-bytes_at cells place zero = []
-bytes_at cells place (suc count) = data_byte cells place ∷ bytes_at cells (place + 16) count
-
--- two bytes as a number, high byte first
-abbrev pub number_at : List Bool → ℕ → ℕ
-number_at cells place = 256 * data_byte cells place + data_byte cells (place + 16)
 
 -- the check value of a field: that of its mark's byte and of its bytes
 abbrev pub check_of : ℕ → List ℕ → ℕ

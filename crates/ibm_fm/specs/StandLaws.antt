@@ -1,11 +1,13 @@
 -- What stands is one thing: the cells determine the sector's number and its bytes.
-use Rattle.std.specs.Prelude.{◌≡◌, ℕ, zero, suc, ◌+◌, Bool, List, length, refl}
+use Rattle.std.specs.Prelude.{◌≡◌, ℕ, ◌+◌, Bool, List, length}
 use Rattle.std.proofs.Common.{ap, sym, ◌∙◌, inl, inr, arith}
 use Rattle.std.proofs.lemmas.Bool.{cases_lt}
 use Rattle.flux_base.specs.declared.track.TrackId.{TrackId}
 use Rattle.cell_bits.specs.Word.{Stands}
 use Rattle.frame_law.specs.Rings.{IsSectorNumber}
-use Rattle.ibm_fm.specs.Sectors.{HeaderStands, OpensData, SectorStands, address_of, bytes_at}
+use Rattle.ibm_fields.specs.Fields.{bytes_at}
+use Rattle.ibm_fields.specs.FieldLaws.{length-bytes_at}
+use Rattle.ibm_fm.specs.Sectors.{HeaderStands, OpensData, SectorStands, address_of}
 
 pub sync_leads : (track : TrackId) (cells : List Bool) (s : ℕ) → HeaderStands track cells s → Stands cells 0xF57E 16 0
 sync_leads track cells s header = header.mark
@@ -33,11 +35,6 @@ one_content track cells s t xs ys first second =
 
 pub header_number : (track : TrackId) (cells : List Bool) (s : ℕ) → HeaderStands track cells s → IsSectorNumber 1 26 s
 header_number track cells s header = record { least = header.known.0; most = omega (arith, header.known.1) }
-
-pub length-bytes_at : (cells : List Bool) (place count : ℕ) → length (bytes_at cells place count) ≡ count
-unfolding bytes_at
-length-bytes_at cells place zero = refl
-length-bytes_at cells place (suc count) = let e = length-bytes_at cells (place + 16) count in omega (arith, e)
 
 pub content_size : (track : TrackId) (cells : List Bool) (s : ℕ) (xs : List ℕ) → SectorStands track cells s xs → length xs ≡ 128
 content_size track cells s xs sector =

@@ -1,13 +1,12 @@
-ghost use Rattle.std.specs.Prelude.{◌≡◌, ℕ, ◌+◌, ◌^◌, ◌<◌, ◌≤◌, [], List, false, length, IfNone, IfSome, IsTrue};
-ghost use Rattle.cell_bits.specs.Bytes.{data_byte};
+ghost use Rattle.std.specs.Prelude.{◌≡◌, ℕ, ◌^◌, ◌<◌, ◌≤◌, [], List, false, IfNone, IfSome, IsTrue};
 ghost use Rattle.cell_bits.specs.Search.{StandsNowhere};
-ghost use Rattle.ibm_fm.specs.Sectors.{DataStands, MarkAt, OpensData, bytes_at, check_of};
+ghost use Rattle.ibm_fm.specs.Sectors.{DataStands, MarkAt, OpensData};
 
-use crate::header::number;
-use crate::layout::{CHECK_START, DATA_CELLS, DATA_REACH, HEADER_CELLS, MARK_CELLS, SECTOR_SIZE};
+use crate::layout::{DATA_CELLS, DATA_REACH, HEADER_CELLS, MARK_CELLS, SECTOR_SIZE};
+use crate::pieces::field_check;
 use cell_bits::{FM_DATA_MARK, FM_DELETED_DATA_MARK, FM_ID_MARK, FM_INDEX_MARK};
-use check_values::Crc16;
 use frame_law::{CellsFrom, SectorBuffer};
+use ibm_fields::{number_at, take_bytes};
 
 /// Whether data stand behind the header at the front of the cells. Then the buffer, which was empty, has them.
 pub(crate) fn read_data(frame: &CellsFrom, buffer: &mut SectorBuffer) -> bool
@@ -24,8 +23,9 @@ pub(crate) fn read_data(frame: &CellsFrom, buffer: &mut SectorBuffer) -> bool
     if !frame.unbroken_to(sync + DATA_CELLS) {
         return false;
     }
-    let check = take_bytes(frame, sync, buffer);
-    check == number(frame, sync + 2064)
+    let mark = frame.byte_at(sync);
+    take_bytes(frame, sync + 16, SECTOR_SIZE, buffer);
+    field_check(mark, buffer.as_slice()) == number_at(frame, sync + 2064)
 }
 
 /// The first mark behind the header, where it opens data.
@@ -56,22 +56,4 @@ fn first_mark(frame: &CellsFrom, end: usize, mark: u32) -> usize
     frame
         .find_word(HEADER_CELLS, end, mark, MARK_CELLS)
         .unwrap_or(end)
-}
-
-/// Puts the bytes behind the mark into the buffer, and gives the check value of mark and bytes.
-fn take_bytes(frame: &CellsFrom, sync: usize, buffer: &mut SectorBuffer) -> u16
-    requires empty { buffer.old.items ≡ [] }
-    requires near { sync < 2 ^ 32 }
-    requires whole { sync + DATA_CELLS ≤ length frame.now }
-    ensures bytes { buffer.new.items ≡ bytes_at frame.now (sync + 16) 128 }
-    ensures check { result ≡ check_of (data_byte frame.now sync) buffer.new.items }
-{
-    let mut check = Crc16::new(CHECK_START);
-    check.add(frame.byte_at(sync));
-    for index in 0..SECTOR_SIZE as usize {
-        let byte = frame.byte_at(sync + 16 + 16 * index);
-        check.add(byte);
-        buffer.push(byte);
-    }
-    check.value()
 }

@@ -44,6 +44,9 @@ pub(crate) const SECTORS: u8 = 26;
 /// The bytes of a sector.
 pub(crate) const SECTOR_SIZE: u16 = 128;
 
+/// The code of that size in a header.
+pub(crate) const SIZE_CODE: u8 = 0;
+
 /// The cells of a track: 5208 bytes of 16 cells.
 pub(crate) const RING_CELLS: u32 = 83328;
 
