@@ -35,6 +35,13 @@ bytes_at-past xs ys size offset (suc count) is =
     ∙ ap (λ (rest : List ℕ). data_byte ys offset ∷ rest)
     (ap (λ (n : ℕ). bytes_at (xs ++ ys) n count) e ∙ bytes_at-past xs ys size (offset + 16) count is)
 
+pub number_at-past : (xs ys : List Bool) (size offset : ℕ) → length xs ≡ size → number_at (xs ++ ys) (size + offset) ≡ number_at ys offset
+number_at-past xs ys size offset is =
+    let e : size + offset + 16 ≡ size + (offset + 16) = omega arith in
+    ap (λ (byte : ℕ). 256 * byte + data_byte (xs ++ ys) (size + offset + 16)) (data_byte-past xs ys size offset is)
+    ∙ ap (λ (byte : ℕ). 256 * data_byte ys offset + byte)
+    (ap (data_byte (xs ++ ys)) e ∙ data_byte-past xs ys size (offset + 16) is)
+
 pub length-bytes_at : (cells : List Bool) (place count : ℕ) → length (bytes_at cells place count) ≡ count
 unfolding bytes_at
 length-bytes_at cells place zero = refl

@@ -1,7 +1,10 @@
 //! The fields of the IBM formats, single density (3740) and double density (System 34): bytes that stand
-//! behind a mark, read at an offset from a header's begin. No call takes memory.
+//! behind a mark, read at an offset from a header's begin, and the bytes with which fields begin. No call takes
+//! memory.
 #![tactic(auto)]
 
 mod fields;
+mod marks;
 
 pub use fields::{address_at, number_at, take_bytes};
+pub use marks::{CHECK_START, DATA_BYTE, DATA_REACH, DELETED_DATA_BYTE, ID_BYTE};

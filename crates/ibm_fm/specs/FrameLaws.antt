@@ -9,12 +9,12 @@ use Rattle.cell_bits.specs.Bytes.{data_byte, data_cells, fm, fm_cells}
 use Rattle.cell_bits.specs.Word.{number_of, word_cells}
 use Rattle.cell_bits.specs.WordLaws.{length-word_cells, number_of-word_cells}
 use Rattle.ibm_fields.specs.Fields.{AreBytes, bytes_at, high_first, number_at}
-use Rattle.ibm_fields.specs.FieldLaws.{bytes_at-past, data_byte-past, drop-past, take-first}
+use Rattle.ibm_fields.specs.FieldLaws.{bytes_at-past, data_byte-past, drop-past, number_at-past, take-first}
 use Rattle.ibm_fields.specs.Numbers.{crc-lt}
 use Rattle.ibm_fm.specs.Density.{IsDense, dense-append, dense-fm_bytes, unbroken-first, dense-id_mark, dense-data_mark}
 use Rattle.ibm_fm.specs.Layout.{field_cells, fm_bytes}
 use Rattle.ibm_fm.specs.Lengths.{length-fm_bytes}
-use Rattle.ibm_fm.specs.ReadLaws.{number_at-behind, number_at-past, reads-first}
+use Rattle.ibm_fm.specs.ReadLaws.{number_at-behind, reads-first}
 use Rattle.ibm_fm.specs.Sectors.{HeaderStands, IsTrack, OpensData, SectorStands, address_of, check_of}
 
 -- the header's cells

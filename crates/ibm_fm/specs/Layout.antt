@@ -5,7 +5,7 @@ use Rattle.flux_base.specs.declared.track.TrackId.{TrackId}
 use Rattle.cell_bits.specs.Bytes.{fm}
 use Rattle.cell_bits.specs.Word.{word_cells}
 use Rattle.frame_law.specs.Rings.{bytes_of}
-use Rattle.ibm_fields.specs.Fields.{high_first}
+use Rattle.ibm_fields.specs.Fields.{DATA_BYTE, ID_BYTE, high_first}
 use Rattle.ibm_fm.specs.declared.layout.Piece.{Piece}
 use Rattle.ibm_fm.specs.declared.layout.Piece.TheVariants.{Run, Mark, Address, Content}
 use Rattle.ibm_fm.specs.Sectors.{SECTORS, SECTOR_SIZE, ID_MARK, DATA_MARK, INDEX_MARK, check_of, address_of}
@@ -36,8 +36,8 @@ field_cells mark bytes = fm_bytes (bytes ++ high_first (check_of mark bytes))
 abbrev pub piece_cells : TrackId → ℕ → List ℕ → Piece → List Bool
 piece_cells track sector bytes (Run count byte) = fm_bytes (replicate count byte)
 piece_cells track sector bytes (Mark mark) = word_cells 16 mark
-piece_cells track sector bytes Address = field_cells 0xFE (address_of track sector)
-piece_cells track sector bytes Content = field_cells 0xFB bytes
+piece_cells track sector bytes Address = field_cells ID_BYTE (address_of track sector)
+piece_cells track sector bytes Content = field_cells DATA_BYTE bytes
 
 unfoldable pub pieces_cells : TrackId → ℕ → List ℕ → List Piece → List Bool
 pieces_cells track sector bytes pieces = flat_map (piece_cells track sector bytes) pieces

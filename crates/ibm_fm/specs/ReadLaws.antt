@@ -7,17 +7,10 @@ use Rattle.cell_bits.specs.Bytes.{data_byte, data_cells, fm, fm_cells}
 use Rattle.cell_bits.specs.Word.{number_of, word_cells}
 use Rattle.cell_bits.specs.WordLaws.{number_of-word_cells}
 use Rattle.ibm_fields.specs.Fields.{AreBytes, bytes_at, high_first, number_at}
-use Rattle.ibm_fields.specs.FieldLaws.{bytes_at-past, data_byte-past, number_at-high_first, take-first}
+use Rattle.ibm_fields.specs.FieldLaws.{bytes_at-past, number_at-high_first, take-first}
 use Rattle.ibm_fields.specs.Numbers.{AreBytes-high_first}
 use Rattle.ibm_fm.specs.Layout.{fm_bytes}
 use Rattle.ibm_fm.specs.Lengths.{length-fm, length-fm_bytes}
-
-pub number_at-past : (xs ys : List Bool) (size offset : ℕ) → length xs ≡ size → number_at (xs ++ ys) (size + offset) ≡ number_at ys offset
-number_at-past xs ys size offset is =
-    let e : size + offset + 16 ≡ size + (offset + 16) = omega arith in
-    ap (λ (byte : ℕ). 256 * byte + data_byte (xs ++ ys) (size + offset + 16)) (data_byte-past xs ys size offset is)
-    ∙ ap (λ (byte : ℕ). 256 * data_byte ys offset + byte)
-    (ap (data_byte (xs ++ ys)) e ∙ data_byte-past xs ys size (offset + 16) is)
 
 data_cells-fm_cells : (bits : List Bool) → data_cells (fm_cells bits) ≡ bits
 unfolding data_cells fm_cells

@@ -1,12 +1,12 @@
 -- The sectors of the IBM 3740 diskette, single density (FM): when a header and when a sector stands at the front of a
 -- list of cells. A byte takes 16 cells. Clock cells are looked at in marks alone.
-use Rattle.std.specs.Prelude.{◌≡◌, ℕ, ◌+◌, ◌<◌, ◌≤◌, Bool, List, [], ◌∷◌, length, ◌⊎◌}
+use Rattle.std.specs.Prelude.{◌≡◌, ℕ, ◌+◌, ◌<◌, ◌≤◌, Bool, List, ◌∷◌, length, ◌⊎◌}
 use Rattle.flux_base.specs.declared.track.TrackId.{TrackId}
 use Rattle.cell_bits.specs.Broken.{Unbroken}
 use Rattle.cell_bits.specs.Bytes.{data_byte}
 use Rattle.cell_bits.specs.Word.{Stands}
 use Rattle.check_values.specs.Crc.{crc}
-use Rattle.ibm_fields.specs.Fields.{bytes_at, number_at}
+use Rattle.ibm_fields.specs.Fields.{CHECK_START, DATA_REACH, ID_BYTE, address, bytes_at, number_at}
 
 -- the tracks: 77 cylinders of one side
 pub record IsTrack (track : TrackId) : Type 0 where
@@ -20,6 +20,10 @@ SECTORS = 26
 -- the bytes of a sector
 abbrev pub SECTOR_SIZE : ℕ
 SECTOR_SIZE = 128
+
+-- the code of that length in an address
+abbrev pub SIZE_CODE : ℕ
+SIZE_CODE = 0
 
 -- the address marks by their cells: the ID mark is the byte FE, the data mark FB and the deleted data mark F8, with clock
 -- C7, and the index mark FC with clock D7
@@ -40,11 +44,11 @@ MarkAt cells mark place = Stands cells mark 16 place
 
 -- the check value of a field: that of its mark's byte and of its bytes
 abbrev pub check_of : ℕ → List ℕ → ℕ
-check_of mark bytes = crc 0xFFFF (mark ∷ bytes)
+check_of mark bytes = crc CHECK_START (mark ∷ bytes)
 
--- the address of a sector: cylinder, head, sector, and 0 for its length of 128 bytes
+-- the address of a sector
 abbrev pub address_of : TrackId → ℕ → List ℕ
-address_of track sector = track.cylinder ∷ track.head ∷ sector ∷ 0 ∷ []
+address_of track sector = address track sector SIZE_CODE
 
 -- the cells of a header: mark, address, check value
 abbrev pub HEADER_CELLS : ℕ
@@ -56,7 +60,7 @@ pub record HeaderStands (track : TrackId) (cells : List Bool) (sector : ℕ) : T
   pub whole : HEADER_CELLS ≤ length cells
   pub address : bytes_at cells 16 4 ≡ address_of track sector
   pub known : (1 ≤ sector) × (sector ≤ SECTORS)
-  pub check : number_at cells 80 ≡ check_of 0xFE (address_of track sector)
+  pub check : number_at cells 80 ≡ check_of ID_BYTE (address_of track sector)
   pub unbroken : Unbroken cells 0 HEADER_CELLS
 
 -- the marks that open data: the data mark and the deleted data mark
@@ -70,7 +74,7 @@ OtherMarkAt cells place = MarkAt cells ID_MARK place ⊎ MarkAt cells INDEX_MARK
 -- the first mark behind the header begins less than 1024 cells behind it, and opens data
 pub record OpensData (cells : List Bool) (sync : ℕ) : Type 0 where
   pub behind : HEADER_CELLS ≤ sync
-  pub near : sync < HEADER_CELLS + 1024
+  pub near : sync < HEADER_CELLS + DATA_REACH
   pub opens : DataMarkAt cells sync
   pub first : (place : ℕ) → HEADER_CELLS ≤ place → place < sync → ¬ (DataMarkAt cells place ⊎ OtherMarkAt cells place)
 

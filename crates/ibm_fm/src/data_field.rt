@@ -2,11 +2,11 @@ ghost use Rattle.std.specs.Prelude.{◌≡◌, ℕ, ◌^◌, ◌<◌, ◌≤◌,
 ghost use Rattle.cell_bits.specs.Search.{StandsNowhere};
 ghost use Rattle.ibm_fm.specs.Sectors.{DataStands, MarkAt, OpensData};
 
-use crate::layout::{DATA_CELLS, DATA_REACH, HEADER_CELLS, MARK_CELLS, SECTOR_SIZE};
+use crate::layout::{DATA_CELLS, HEADER_CELLS, MARK_CELLS, SECTOR_SIZE};
 use crate::pieces::field_check;
 use cell_bits::{FM_DATA_MARK, FM_DELETED_DATA_MARK, FM_ID_MARK, FM_INDEX_MARK};
 use frame_law::{CellsFrom, SectorBuffer};
-use ibm_fields::{number_at, take_bytes};
+use ibm_fields::{DATA_REACH, number_at, take_bytes};
 
 /// Whether data stand behind the header at the front of the cells. Then the buffer, which was empty, has them.
 pub(crate) fn read_data(frame: &CellsFrom, buffer: &mut SectorBuffer) -> bool

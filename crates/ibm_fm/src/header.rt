@@ -1,12 +1,12 @@
 ghost use Rattle.std.specs.Prelude.{◌≡◌, ℕ, IfNone, IfSome};
 ghost use Rattle.ibm_fm.specs.Sectors.{HeaderStands};
 
-use crate::layout::{FIRST_SECTOR, HEADER_CELLS, ID_BYTE, MARK_CELLS, SECTORS, SIZE_CODE};
+use crate::layout::{FIRST_SECTOR, HEADER_CELLS, MARK_CELLS, SECTORS, SIZE_CODE};
 use crate::pieces::field_check;
 use cell_bits::FM_ID_MARK;
 use flux_base::TrackId;
 use frame_law::CellsFrom;
-use ibm_fields::{address_at, number_at};
+use ibm_fields::{ID_BYTE, address_at, number_at};
 
 /// The number of the sector whose header, of this track, stands at the front of the cells.
 pub(crate) fn header_sector(frame: &CellsFrom, track: TrackId) -> Option<u8>

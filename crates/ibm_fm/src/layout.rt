@@ -56,16 +56,5 @@ pub(crate) const MARK_CELLS: u8 = 16;
 /// The ID mark, four bytes of address and the check value, 16 cells a byte.
 pub(crate) const HEADER_CELLS: usize = 112;
 
-/// The mark of the data begins less than this number of cells behind the header.
-pub(crate) const DATA_REACH: usize = 1024;
-
 /// The data mark, 128 bytes and their check value.
 pub(crate) const DATA_CELLS: usize = 2096;
-
-/// The register of a check value before its field (IBM 3740).
-pub(crate) const CHECK_START: u16 = 0xFFFF;
-
-/// The bytes of the ID mark and of the data mark, with which their fields' check values begin.
-pub(crate) const ID_BYTE: u8 = 0xFE;
-
-pub(crate) const DATA_BYTE: u8 = 0xFB;

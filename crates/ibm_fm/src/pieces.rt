@@ -6,10 +6,11 @@ ghost use Rattle.ibm_fields.specs.Fields.{high_first};
 ghost use Rattle.ibm_fm.specs.Layout.{field_cells, fm_bytes, piece_cells, pieces_cells};
 ghost use Rattle.ibm_fm.specs.Sectors.{check_of};
 
-use crate::layout::{CHECK_START, DATA_BYTE, ID_BYTE, MARK_CELLS, Piece, SIZE_CODE};
+use crate::layout::{MARK_CELLS, Piece, SIZE_CODE};
 use cell_bits::Cells;
 use check_values::crc16;
 use flux_base::{Memory, TrackId};
+use ibm_fields::{CHECK_START, DATA_BYTE, ID_BYTE};
 
 /// Appends a part of the ring, each piece for this sector with these bytes.
 pub(crate) fn push_pieces(

@@ -3,13 +3,13 @@ use Rattle.std.specs.Prelude.{ℕ, ◌+◌, ◌-◌, ◌*◌, Bool, false, List,
 use Rattle.std.specs.List.{range_with_len}
 use Rattle.flux_base.specs.declared.track.TrackId.{TrackId}
 use Rattle.frame_law.specs.Rings.{bytes_of}
-use Rattle.ibm_fields.specs.Fields.{high_first}
+use Rattle.ibm_fields.specs.Fields.{DATA_BYTE, ID_BYTE, high_first}
 use Rattle.ibm_mfm.specs.declared.layout.Piece.{Piece}
 use Rattle.ibm_mfm.specs.declared.layout.Piece.TheVariants.{Run, Address, Content}
 use Rattle.mfm_coding.specs.declared.symbol.Symbol.{Symbol}
 use Rattle.mfm_coding.specs.declared.symbol.Symbol.TheVariants.{Data, SyncMark, IndexMark}
 use Rattle.mfm_coding.specs.Coding.{bytes_as_data, coded}
-use Rattle.ibm_mfm.specs.Sectors.{DATA_BYTE, ID_BYTE, SECTOR_SIZE, address_of, check_of}
+use Rattle.ibm_mfm.specs.Sectors.{SECTOR_SIZE, address_of, check_of}
 
 -- what differs between 9 sectors and 18: the bytes of the gap behind each sector, and behind the last one
 abbrev pub gap_of : ℕ → ℕ

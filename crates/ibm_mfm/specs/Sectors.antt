@@ -1,11 +1,11 @@
 -- The sectors of the PC's disks, double density (IBM System 34, MFM): when a header and when a sector stands at the front of a
 -- list of cells. A byte takes 16 cells. Clock cells are looked at in marks alone.
-use Rattle.std.specs.Prelude.{◌≡◌, ℕ, ◌+◌, ◌<◌, ◌≤◌, Bool, List, [], ◌∷◌, length, ◌⊎◌}
+use Rattle.std.specs.Prelude.{◌≡◌, ℕ, ◌+◌, ◌<◌, ◌≤◌, Bool, List, ◌∷◌, length, ◌⊎◌}
 use Rattle.flux_base.specs.declared.track.TrackId.{TrackId}
 use Rattle.cell_bits.specs.Broken.{Unbroken}
 use Rattle.cell_bits.specs.Bytes.{data_byte}
 use Rattle.check_values.specs.Crc.{crc}
-use Rattle.ibm_fields.specs.Fields.{bytes_at, number_at}
+use Rattle.ibm_fields.specs.Fields.{CHECK_START, DATA_BYTE, DATA_REACH, DELETED_DATA_BYTE, ID_BYTE, address, bytes_at, number_at}
 use Rattle.ibm_mfm.specs.Syncs.{SyncAt}
 
 -- a track has 9 sectors (360 and 720 KB) or 18 (1440 KB)
@@ -22,23 +22,17 @@ pub record IsTrack (sectors : ℕ) (track : TrackId) : Type 0 where
 abbrev pub SECTOR_SIZE : ℕ
 SECTOR_SIZE = 512
 
--- the first byte of a header, and those that open data: data and deleted data
-abbrev pub ID_BYTE : ℕ
-ID_BYTE = 0xFE
-
-abbrev pub DATA_BYTE : ℕ
-DATA_BYTE = 0xFB
-
-abbrev pub DELETED_DATA_BYTE : ℕ
-DELETED_DATA_BYTE = 0xF8
+-- the code of that length in an address
+abbrev pub SIZE_CODE : ℕ
+SIZE_CODE = 2
 
 -- the check value of a field: that of the three marks' bytes A1, of its first byte and of its other bytes
 abbrev pub check_of : ℕ → List ℕ → ℕ
-check_of first bytes = crc 0xFFFF (0xA1 ∷ 0xA1 ∷ 0xA1 ∷ first ∷ bytes)
+check_of first bytes = crc CHECK_START (0xA1 ∷ 0xA1 ∷ 0xA1 ∷ first ∷ bytes)
 
--- the address of a sector: cylinder, head, sector, and 2 for its length of 512 bytes
+-- the address of a sector
 abbrev pub address_of : TrackId → ℕ → List ℕ
-address_of track sector = track.cylinder ∷ track.head ∷ sector ∷ 2 ∷ []
+address_of track sector = address track sector SIZE_CODE
 
 -- the cells of a header: three marks, its first byte, address, check value
 abbrev pub HEADER_CELLS : ℕ
@@ -57,7 +51,7 @@ pub record HeaderStands (sectors : ℕ) (track : TrackId) (cells : List Bool) (s
 -- the first sync behind the header begins less than 1024 cells behind it
 pub record IsDataSync (cells : List Bool) (sync : ℕ) : Type 0 where
   pub behind : HEADER_CELLS ≤ sync
-  pub near : sync < HEADER_CELLS + 1024
+  pub near : sync < HEADER_CELLS + DATA_REACH
   pub stands : SyncAt cells sync
   pub none_before : (place : ℕ) → HEADER_CELLS ≤ place → place < sync → ¬ SyncAt cells place
 

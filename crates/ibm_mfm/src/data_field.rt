@@ -1,13 +1,11 @@
 ghost use Rattle.std.specs.Prelude.{◌≡◌, ℕ, [], List, false, IfNone, IfSome, IsTrue};
 ghost use Rattle.ibm_mfm.specs.Sectors.{DataStands, IsDataSync};
 
-use crate::layout::{
-    DATA_BYTE, DATA_CELLS, DATA_REACH, DELETED_DATA_BYTE, HEADER_CELLS, SECTOR_SIZE,
-};
+use crate::layout::{DATA_CELLS, HEADER_CELLS, SECTOR_SIZE};
 use crate::pieces::field_check;
 use crate::sync::first_sync;
 use frame_law::{CellsFrom, SectorBuffer};
-use ibm_fields::{number_at, take_bytes};
+use ibm_fields::{DATA_BYTE, DATA_REACH, DELETED_DATA_BYTE, number_at, take_bytes};
 
 /// Whether data stand behind the header at the front of the cells. Then the buffer, which was empty, has them.
 pub(crate) fn read_data(frame: &CellsFrom, buffer: &mut SectorBuffer) -> bool

@@ -1,12 +1,12 @@
 ghost use Rattle.std.specs.Prelude.{◌≡◌, ℕ, IfNone, IfSome};
 ghost use Rattle.ibm_mfm.specs.Sectors.{HeaderStands};
 
-use crate::layout::{FIRST_SECTOR, HEADER_CELLS, ID_BYTE, SIZE_CODE};
+use crate::layout::{FIRST_SECTOR, HEADER_CELLS, SIZE_CODE};
 use crate::pieces::field_check;
 use crate::sync::sync_at;
 use flux_base::TrackId;
 use frame_law::CellsFrom;
-use ibm_fields::{address_at, number_at};
+use ibm_fields::{ID_BYTE, address_at, number_at};
 
 /// The number of the sector whose header, of this track of so many sectors, stands at the front of the cells.
 pub(crate) fn header_sector(frame: &CellsFrom, sectors: u8, track: TrackId) -> Option<u8>

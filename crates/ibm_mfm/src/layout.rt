@@ -73,20 +73,8 @@ pub(crate) const TWO_MARKS_CELLS: u8 = 32;
 /// Three marks, a byte, four bytes of address and the check value, 16 cells each.
 pub(crate) const HEADER_CELLS: usize = 160;
 
-/// The sync of the data begins less than this number of cells behind the header.
-pub(crate) const DATA_REACH: usize = 1024;
-
 /// Three marks, a byte, 512 bytes and the check value.
 pub(crate) const DATA_CELLS: usize = 8288;
 
 /// The register of a check value behind three marks: that of the bytes A1 A1 A1, from FFFF.
 pub(crate) const CHECK_START: u16 = 0xCDB4;
-
-/// The first byte of a header.
-pub(crate) const ID_BYTE: u8 = 0xFE;
-
-/// The first byte of data.
-pub(crate) const DATA_BYTE: u8 = 0xFB;
-
-/// The first byte of deleted data, which are read like data.
-pub(crate) const DELETED_DATA_BYTE: u8 = 0xF8;

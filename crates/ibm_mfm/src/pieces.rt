@@ -5,10 +5,11 @@ ghost use Rattle.ibm_mfm.specs.Layout.{field, piece_symbols, pieces_symbols};
 ghost use Rattle.ibm_mfm.specs.Sectors.{check_of};
 ghost use Rattle.mfm_coding.specs.Writes.{AppendsSymbols};
 
-use crate::layout::{CHECK_START, DATA_BYTE, ID_BYTE, Piece, SIZE_CODE};
+use crate::layout::{CHECK_START, Piece, SIZE_CODE};
 use cell_bits::Cells;
 use check_values::crc16;
 use flux_base::{Memory, TrackId};
+use ibm_fields::{DATA_BYTE, ID_BYTE};
 use mfm_coding::{Symbol, push_bytes, push_run, push_symbol};
 
 /// Appends a part of the ring, each piece for this sector with these bytes.
