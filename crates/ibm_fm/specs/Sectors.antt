@@ -54,13 +54,20 @@ address_of track sector = address track sector SIZE_CODE
 abbrev pub HEADER_CELLS : ℕ
 HEADER_CELLS = 112
 
+-- where the address and its check value begin, in cells from the header's begin
+abbrev pub ADDRESS_PLACE : ℕ
+ADDRESS_PLACE = 16
+
+abbrev pub ADDRESS_CHECK_PLACE : ℕ
+ADDRESS_CHECK_PLACE = 80
+
 -- a header: the ID mark, the address of this sector of this track, and the address's check value
 pub record HeaderStands (track : TrackId) (cells : List Bool) (sector : ℕ) : Type 0 where
   pub mark : MarkAt cells ID_MARK 0
   pub whole : HEADER_CELLS ≤ length cells
-  pub address : bytes_at cells 16 4 ≡ address_of track sector
+  pub address : bytes_at cells ADDRESS_PLACE 4 ≡ address_of track sector
   pub known : (1 ≤ sector) × (sector ≤ SECTORS)
-  pub check : number_at cells 80 ≡ check_of ID_BYTE (address_of track sector)
+  pub check : number_at cells ADDRESS_CHECK_PLACE ≡ check_of ID_BYTE (address_of track sector)
   pub unbroken : Unbroken cells 0 HEADER_CELLS
 
 -- the marks that open data: the data mark and the deleted data mark
@@ -82,14 +89,21 @@ pub record OpensData (cells : List Bool) (sync : ℕ) : Type 0 where
 abbrev pub DATA_CELLS : ℕ
 DATA_CELLS = 2096
 
+-- where the bytes and their check value begin, in cells from the data's mark
+abbrev pub CONTENT_PLACE : ℕ
+CONTENT_PLACE = 16
+
+abbrev pub CONTENT_CHECK_PLACE : ℕ
+CONTENT_CHECK_PLACE = 2064
+
 -- the data: their mark, which is the first mark behind the header, the bytes and their check value, with all cells from the
 -- header's begin on unbroken
 pub record DataStands (cells : List Bool) (bytes : List ℕ) : Type 0 where
   pub sync : ℕ
   pub mark : OpensData cells sync
   pub whole : sync + DATA_CELLS ≤ length cells
-  pub content : bytes_at cells (sync + 16) SECTOR_SIZE ≡ bytes
-  pub check : number_at cells (sync + 2064) ≡ check_of (data_byte cells sync) bytes
+  pub content : bytes_at cells (sync + CONTENT_PLACE) SECTOR_SIZE ≡ bytes
+  pub check : number_at cells (sync + CONTENT_CHECK_PLACE) ≡ check_of (data_byte cells sync) bytes
   pub unbroken : Unbroken cells 0 (sync + DATA_CELLS)
 
 -- a sector: its header and its data

@@ -2,7 +2,9 @@ ghost use Rattle.std.specs.Prelude.{◌≡◌, ℕ, ◌^◌, ◌<◌, ◌≤◌,
 ghost use Rattle.cell_bits.specs.Search.{StandsNowhere};
 ghost use Rattle.ibm_fm.specs.Sectors.{DataStands, MarkAt, OpensData};
 
-use crate::layout::{DATA_CELLS, HEADER_CELLS, MARK_CELLS, SECTOR_SIZE};
+use crate::layout::{
+    CONTENT_CHECK_PLACE, CONTENT_PLACE, DATA_CELLS, HEADER_CELLS, MARK_CELLS, SECTOR_SIZE,
+};
 use crate::pieces::field_check;
 use cell_bits::{FM_DATA_MARK, FM_DELETED_DATA_MARK, FM_ID_MARK, FM_INDEX_MARK};
 use frame_law::{CellsFrom, SectorBuffer};
@@ -24,8 +26,8 @@ pub(crate) fn read_data(frame: &CellsFrom, buffer: &mut SectorBuffer) -> bool
         return false;
     }
     let mark = frame.byte_at(sync);
-    take_bytes(frame, sync + 16, SECTOR_SIZE, buffer);
-    field_check(mark, buffer.as_slice()) == number_at(frame, sync + 2064)
+    take_bytes(frame, sync + CONTENT_PLACE, SECTOR_SIZE, buffer);
+    field_check(mark, buffer.as_slice()) == number_at(frame, sync + CONTENT_CHECK_PLACE)
 }
 
 /// The first mark behind the header, where it opens data.

@@ -1,7 +1,9 @@
 ghost use Rattle.std.specs.Prelude.{◌≡◌, ℕ, IfNone, IfSome};
 ghost use Rattle.ibm_fm.specs.Sectors.{HeaderStands};
 
-use crate::layout::{FIRST_SECTOR, HEADER_CELLS, MARK_CELLS, SECTORS, SIZE_CODE};
+use crate::layout::{
+    ADDRESS_CHECK_PLACE, ADDRESS_PLACE, FIRST_SECTOR, HEADER_CELLS, MARK_CELLS, SECTORS, SIZE_CODE,
+};
 use crate::pieces::field_check;
 use cell_bits::FM_ID_MARK;
 use flux_base::TrackId;
@@ -19,14 +21,16 @@ pub(crate) fn header_sector(frame: &CellsFrom, track: TrackId) -> Option<u8>
     if !frame.stands_at(0, FM_ID_MARK, MARK_CELLS) {
         return None;
     }
-    let [cylinder, head, sector, size] = address_at(frame, 16);
+    let [cylinder, head, sector, size] = address_at(frame, ADDRESS_PLACE);
     if cylinder != track.cylinder || head != track.head || size != SIZE_CODE {
         return None;
     }
     if sector < FIRST_SECTOR || sector > SECTORS {
         return None;
     }
-    if number_at(frame, 80) != field_check(ID_BYTE, &[cylinder, head, sector, size]) {
+    if number_at(frame, ADDRESS_CHECK_PLACE)
+        != field_check(ID_BYTE, &[cylinder, head, sector, size])
+    {
         return None;
     }
     if !frame.unbroken_to(HEADER_CELLS) {

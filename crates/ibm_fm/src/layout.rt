@@ -56,5 +56,15 @@ pub(crate) const MARK_CELLS: u8 = 16;
 /// The ID mark, four bytes of address and the check value, 16 cells a byte.
 pub(crate) const HEADER_CELLS: usize = 112;
 
+/// Where the address and its check value begin, in cells from the header's begin.
+pub(crate) const ADDRESS_PLACE: usize = 16;
+
+pub(crate) const ADDRESS_CHECK_PLACE: usize = 80;
+
 /// The data mark, 128 bytes and their check value.
 pub(crate) const DATA_CELLS: usize = 2096;
+
+/// Where the bytes and their check value begin, in cells from the data's mark.
+pub(crate) const CONTENT_PLACE: usize = 16;
+
+pub(crate) const CONTENT_CHECK_PLACE: usize = 2064;

@@ -38,14 +38,25 @@ address_of track sector = address track sector SIZE_CODE
 abbrev pub HEADER_CELLS : ℕ
 HEADER_CELLS = 160
 
+-- where the first byte stands behind the marks, in cells from their begin
+abbrev pub FIRST_BYTE_PLACE : ℕ
+FIRST_BYTE_PLACE = 48
+
+-- where the address and its check value begin, in cells from the header's begin
+abbrev pub ADDRESS_PLACE : ℕ
+ADDRESS_PLACE = 64
+
+abbrev pub ADDRESS_CHECK_PLACE : ℕ
+ADDRESS_CHECK_PLACE = 128
+
 -- a header: the sync, the byte FE, the address of this sector of this track, and the check value
 pub record HeaderStands (sectors : ℕ) (track : TrackId) (cells : List Bool) (sector : ℕ) : Type 0 where
   pub sync : SyncAt cells 0
   pub whole : HEADER_CELLS ≤ length cells
-  pub first : data_byte cells 48 ≡ ID_BYTE
-  pub address : bytes_at cells 64 4 ≡ address_of track sector
+  pub first : data_byte cells FIRST_BYTE_PLACE ≡ ID_BYTE
+  pub address : bytes_at cells ADDRESS_PLACE 4 ≡ address_of track sector
   pub known : (1 ≤ sector) × (sector ≤ sectors)
-  pub check : number_at cells 128 ≡ check_of ID_BYTE (address_of track sector)
+  pub check : number_at cells ADDRESS_CHECK_PLACE ≡ check_of ID_BYTE (address_of track sector)
   pub unbroken : Unbroken cells 0 HEADER_CELLS
 
 -- the first sync behind the header begins less than 1024 cells behind it
@@ -63,15 +74,22 @@ OpensData byte = (byte ≡ DATA_BYTE) ⊎ (byte ≡ DELETED_DATA_BYTE)
 abbrev pub DATA_CELLS : ℕ
 DATA_CELLS = 8288
 
+-- where the bytes and their check value begin, in cells from the data's sync
+abbrev pub CONTENT_PLACE : ℕ
+CONTENT_PLACE = 64
+
+abbrev pub CONTENT_CHECK_PLACE : ℕ
+CONTENT_CHECK_PLACE = 8256
+
 -- the data: their sync, which is the first one behind the header, a byte that opens data, the bytes and the check value, with all
 -- cells from the header's begin on unbroken
 pub record DataStands (cells : List Bool) (bytes : List ℕ) : Type 0 where
   pub sync : ℕ
   pub first_sync : IsDataSync cells sync
   pub whole : sync + DATA_CELLS ≤ length cells
-  pub opens : OpensData (data_byte cells (sync + 48))
-  pub content : bytes_at cells (sync + 64) SECTOR_SIZE ≡ bytes
-  pub check : number_at cells (sync + 8256) ≡ check_of (data_byte cells (sync + 48)) bytes
+  pub opens : OpensData (data_byte cells (sync + FIRST_BYTE_PLACE))
+  pub content : bytes_at cells (sync + CONTENT_PLACE) SECTOR_SIZE ≡ bytes
+  pub check : number_at cells (sync + CONTENT_CHECK_PLACE) ≡ check_of (data_byte cells (sync + FIRST_BYTE_PLACE)) bytes
   pub unbroken : Unbroken cells 0 (sync + DATA_CELLS)
 
 -- a sector: its header and its data

@@ -1,7 +1,9 @@
 ghost use Rattle.std.specs.Prelude.{◌≡◌, ℕ, [], List, false, IfNone, IfSome, IsTrue};
 ghost use Rattle.ibm_mfm.specs.Sectors.{DataStands, IsDataSync};
 
-use crate::layout::{DATA_CELLS, HEADER_CELLS, SECTOR_SIZE};
+use crate::layout::{
+    CONTENT_CHECK_PLACE, CONTENT_PLACE, DATA_CELLS, FIRST_BYTE_PLACE, HEADER_CELLS, SECTOR_SIZE,
+};
 use crate::pieces::field_check;
 use crate::sync::first_sync;
 use frame_law::{CellsFrom, SectorBuffer};
@@ -19,15 +21,15 @@ pub(crate) fn read_data(frame: &CellsFrom, buffer: &mut SectorBuffer) -> bool
     if frame.len() < sync + DATA_CELLS {
         return false;
     }
-    let first = frame.byte_at(sync + 48);
+    let first = frame.byte_at(sync + FIRST_BYTE_PLACE);
     if first != DATA_BYTE && first != DELETED_DATA_BYTE {
         return false;
     }
     if !frame.unbroken_to(sync + DATA_CELLS) {
         return false;
     }
-    take_bytes(frame, sync + 64, SECTOR_SIZE, buffer);
-    field_check(first, buffer.as_slice()) == number_at(frame, sync + 8256)
+    take_bytes(frame, sync + CONTENT_PLACE, SECTOR_SIZE, buffer);
+    field_check(first, buffer.as_slice()) == number_at(frame, sync + CONTENT_CHECK_PLACE)
 }
 
 /// The first sync behind the header.

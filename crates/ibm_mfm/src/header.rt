@@ -1,7 +1,9 @@
 ghost use Rattle.std.specs.Prelude.{◌≡◌, ℕ, IfNone, IfSome};
 ghost use Rattle.ibm_mfm.specs.Sectors.{HeaderStands};
 
-use crate::layout::{FIRST_SECTOR, HEADER_CELLS, SIZE_CODE};
+use crate::layout::{
+    ADDRESS_CHECK_PLACE, ADDRESS_PLACE, FIRST_BYTE_PLACE, FIRST_SECTOR, HEADER_CELLS, SIZE_CODE,
+};
 use crate::pieces::field_check;
 use crate::sync::sync_at;
 use flux_base::TrackId;
@@ -19,17 +21,19 @@ pub(crate) fn header_sector(frame: &CellsFrom, sectors: u8, track: TrackId) -> O
     if !sync_at(frame, 0) {
         return None;
     }
-    if frame.byte_at(48) != ID_BYTE {
+    if frame.byte_at(FIRST_BYTE_PLACE) != ID_BYTE {
         return None;
     }
-    let [cylinder, head, sector, size] = address_at(frame, 64);
+    let [cylinder, head, sector, size] = address_at(frame, ADDRESS_PLACE);
     if cylinder != track.cylinder || head != track.head || size != SIZE_CODE {
         return None;
     }
     if sector < FIRST_SECTOR || sector > sectors {
         return None;
     }
-    if number_at(frame, 128) != field_check(ID_BYTE, &[cylinder, head, sector, size]) {
+    if number_at(frame, ADDRESS_CHECK_PLACE)
+        != field_check(ID_BYTE, &[cylinder, head, sector, size])
+    {
         return None;
     }
     if !frame.unbroken_to(HEADER_CELLS) {

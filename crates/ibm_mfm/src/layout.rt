@@ -73,8 +73,21 @@ pub(crate) const TWO_MARKS_CELLS: u8 = 32;
 /// Three marks, a byte, four bytes of address and the check value, 16 cells each.
 pub(crate) const HEADER_CELLS: usize = 160;
 
+/// Where the first byte stands behind three marks, in cells from their begin.
+pub(crate) const FIRST_BYTE_PLACE: usize = 48;
+
+/// Where the address and its check value begin, in cells from the header's begin.
+pub(crate) const ADDRESS_PLACE: usize = 64;
+
+pub(crate) const ADDRESS_CHECK_PLACE: usize = 128;
+
 /// Three marks, a byte, 512 bytes and the check value.
 pub(crate) const DATA_CELLS: usize = 8288;
+
+/// Where the bytes and their check value begin, in cells from the data's sync.
+pub(crate) const CONTENT_PLACE: usize = 64;
+
+pub(crate) const CONTENT_CHECK_PLACE: usize = 8256;
 
 /// The register of a check value behind three marks: that of the bytes A1 A1 A1, from FFFF.
 pub(crate) const CHECK_START: u16 = 0xCDB4;
