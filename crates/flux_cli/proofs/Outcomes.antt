@@ -1,21 +1,42 @@
 -- The words and the input decide the outcome.
 use Rattle.std.proofs.Common.{◌≡◌, ℕ, List, [], ◌∷◌, arith, Option, Some, None, refl, sym, ap, ◌∙◌, subst}
+use Rattle.std.specs.Prelude.{find}
+use Rattle.std.specs.Str.{bytes_eq}
 use Rattle.flux_engine.specs.Laws.{OneOutcome}
 use Rattle.sector_images.specs.declared.format.Format.{Format}
-use Rattle.sector_images.specs.declared.format.Format.TheVariants.{Ibm3740}
+use Rattle.sector_images.specs.declared.format.Format.TheVariants.{Ibm3740, Ibm360, Ibm720, Ibm1440}
+use Rattle.sector_images.specs.Formats.{row}
 use Rattle.flux_cli.specs.Commands.{AskFor, words_of}
 use Rattle.flux_cli.specs.Outcome.{Outcome, OutcomeOf, IsOutcome, decode_outcome, report_outcome}
 use Rattle.flux_cli.specs.declared.command.Command.{Command}
 use Rattle.flux_cli.specs.declared.command.Command.TheVariants.{Turns, Decode, Report}
 
-one_format : (f g : Format) → f ≡ g
-one_format Ibm3740 Ibm3740 = refl
+-- the format of a word
+abbrev format_of : List ℕ → Option Format
+format_of word = find (λ format. bytes_eq (row format).word word) (Ibm3740 ∷ Ibm360 ∷ Ibm720 ∷ Ibm1440 ∷ [])
+
+format_of_word : (format : Format) → format_of (row format).word ≡ Some format
+format_of_word Ibm3740 = refl
+format_of_word Ibm360 = refl
+format_of_word Ibm720 = refl
+format_of_word Ibm1440 = refl
+
+some_same : (f g : Format) → Some f ≡ Some g → f ≡ g
+some_same f g same = cc
+
+-- formats with the same word are one
+one_format : (f g : Format) → (row f).word ≡ (row g).word → f ≡ g
+one_format f g same = some_same f g (sym (format_of_word f) ∙ ap format_of same ∙ format_of_word g)
 
 -- the first letter of the first word
 abbrev letter : List (List ℕ) → ℕ
 letter [] = 0
 letter ([] ∷ words) = 0
 letter ((byte ∷ bytes) ∷ words) = byte
+
+abbrev second : List (List ℕ) → List ℕ
+second (word ∷ other ∷ words) = other
+second words = []
 
 other_letter : ◌≡◌ {A = ℕ} 100 114 → ⊥
 other_letter same = omega (arith, same)
@@ -25,11 +46,11 @@ one_command Turns Turns same = refl
 one_command Turns (Decode g) same = absurd (cc)
 one_command Turns (Report g) same = absurd (cc)
 one_command (Decode f) Turns same = absurd (cc)
-one_command (Decode f) (Decode g) same = ap Decode (one_format f g)
+one_command (Decode f) (Decode g) same = ap Decode (one_format f g (ap second same))
 one_command (Decode f) (Report g) same = absurd (other_letter (ap letter same))
 one_command (Report f) Turns same = absurd (cc)
 one_command (Report f) (Decode g) same = absurd (other_letter (sym (ap letter same)))
-one_command (Report f) (Report g) same = ap Report (one_format f g)
+one_command (Report f) (Report g) same = ap Report (one_format f g (ap second same))
 
 -- words ask for one thing at most
 one_asked : (words : List (List ℕ)) (a b : Option Command) → AskFor words a → AskFor words b → a ≡ b

@@ -367,7 +367,7 @@ fn a_disk_without_streams(rt: HostRuntime) -> Result<(), Fail> {
     assert_eq!(rt; end.status, Status::Refused);
     assert_eq!(rt; end.image.calls(), 0);
     assert_eq!(rt; end.notes.bytes(), line.as_slice());
-    let end = run_over(alloc, &["report", "ibm-3740"], Vec::new(alloc), 7, NONE)?;
+    let end = run_over(alloc, &["report", "ibm-1440"], Vec::new(alloc), 7, NONE)?;
     assert_eq!(rt; end.status, Status::Refused);
     assert_eq!(rt; end.image.calls(), 0);
     assert_eq!(rt; end.notes.bytes(), line.as_slice());

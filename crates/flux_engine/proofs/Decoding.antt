@@ -22,11 +22,11 @@ module _ (format : Format) (track : TrackId) (number : ℕ) (left left' : Option
   abbrev Reads : Result (Unit {0}) EngineFault → Type 0
   Reads answer = ReadsTrack number left left' used held held' flux answer
 
-  pub decodes_image_fault : (u : Unit {0}) (book : Knowledge) (sectors : Sectors) → sectors ≡ sectors_of format track
+  pub decodes_image_fault : (u : Unit {0}) (book : Knowledge)
       → Reads (Ok u) → HasGathered format track flux.times flux.indexes book
-      → ((readings : List Reading) → StandsFor book readings → AppendsPart image image' (image_of sectors readings))
+      → ((readings : List Reading) → StandsFor book readings → AppendsPart image image' (image_of format track readings))
       → DecodesTrack format track number left left' used held held' image image' notes notes (Err ImageFault)
-  decodes_image_fault u book sectors same r h part = record {
+  decodes_image_fault u book r h part = record {
     taken = r.taken;
     consumed = r.consumed;
     few = r.few;
@@ -35,16 +35,16 @@ module _ (format : Format) (track : TrackId) (number : ℕ) (left left' : Option
     stream = λ later only. r.stream later (λ cannot. absurd cannot);
     ended = λ cannot. absurd cannot;
     wrote = (
-      part_of track (sectors_of format track) h.readings,
+      part_of format track h.readings,
       h.is,
-      subst (λ (s : Sectors). AppendsPart image image' (image_of s h.readings)) same (part h.readings h.stands),
+      part h.readings h.stands,
       refl,
     );
   }
 
   pub decodes_notes_fault : (u : Unit {0}) (book : Knowledge) (sectors : Sectors) → sectors ≡ sectors_of format track
       → Reads (Ok u) → HasGathered format track flux.times flux.indexes book
-      → ((readings : List Reading) → StandsFor book readings → Appends image image' (image_of sectors readings))
+      → ((readings : List Reading) → StandsFor book readings → Appends image image' (image_of format track readings))
       → ((readings : List Reading) → StandsFor book readings → AppendsPart notes notes' (lines_of track sectors readings))
       → DecodesTrack format track number left left' used held held' image image' notes notes' (Err NotesFault)
   decodes_notes_fault u book sectors same r h whole part = record {
@@ -56,16 +56,16 @@ module _ (format : Format) (track : TrackId) (number : ℕ) (left left' : Option
     stream = λ later only. r.stream later (λ cannot. absurd cannot);
     ended = λ cannot. absurd cannot;
     wrote = (
-      part_of track (sectors_of format track) h.readings,
+      part_of format track h.readings,
       h.is,
-      subst (λ (s : Sectors). Appends image image' (image_of s h.readings)) same (whole h.readings h.stands),
+      whole h.readings h.stands,
       subst (λ (s : Sectors). AppendsPart notes notes' (lines_of track s h.readings)) same (part h.readings h.stands),
     );
   }
 
   pub decodes_whole : (u : Unit {0}) (book : Knowledge) (sectors : Sectors) (totals : Totals) → sectors ≡ sectors_of format track
       → Reads (Ok u) → HasGathered format track flux.times flux.indexes book
-      → ((readings : List Reading) → StandsFor book readings → Appends image image' (image_of sectors readings))
+      → ((readings : List Reading) → StandsFor book readings → Appends image image' (image_of format track readings))
       → ((readings : List Reading) → StandsFor book readings → Appends notes notes' (lines_of track sectors readings))
       → ((readings : List Reading) → StandsFor book readings → totals ≡ totals_of (map (verdict readings) (numbers sectors)))
       → DecodesTrack format track number left left' used held held' image image' notes notes' (Ok totals)
@@ -78,9 +78,9 @@ module _ (format : Format) (track : TrackId) (number : ℕ) (left left' : Option
     stream = λ later only. r.stream later (λ cannot. absurd cannot);
     ended = λ cannot. absurd cannot;
     wrote = (
-      part_of track (sectors_of format track) h.readings,
+      part_of format track h.readings,
       h.is,
-      subst (λ (s : Sectors). Appends image image' (image_of s h.readings)) same (whole h.readings h.stands),
+      whole h.readings h.stands,
       subst (λ (s : Sectors). Appends notes notes' (lines_of track s h.readings)) same (lines h.readings h.stands),
       subst (λ (s : Sectors). totals ≡ totals_of (map (verdict h.readings) (numbers s))) same (counted h.readings h.stands),
     );

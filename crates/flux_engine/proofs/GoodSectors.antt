@@ -13,7 +13,7 @@ use Rattle.frame_law.specs.Readings.{AreReadings}
 use Rattle.turn_merge.specs.Readings.{Reading, good_ones, bad_ones, bytes_of, first_other, verdict_with, verdict_of, agreed_of, verdict, agreed}
 use Rattle.turn_merge.specs.declared.verdict.Place.{Place}
 use Rattle.turn_merge.specs.declared.verdict.Verdict.TheVariants.{Good}
-use Rattle.flux_engine.specs.Tracks.{Found, place_at, readings_at, readings_of, image_bytes, image_of}
+use Rattle.flux_engine.specs.Tracks.{Found, place_at, readings_at, readings_of, image_bytes}
 use Rattle.flux_engine.specs.declared.sectors.Sectors.{Sectors}
 use Rattle.flux_engine.proofs.Each.{Each, each-map, each-flat, each-unflat, each-filter, each-unfilter, each-missed}
 use Rattle.flux_engine.proofs.OneReading.{StandsAs, holds_here, good_stands}
@@ -137,36 +137,39 @@ module _ (header : List Bool → ℕ → Type 0) (sector_stands : List Bool → 
         (each-map (λ (r : Reading). Named r × (is_good_of n r ≡ true)) (λ (r : Reading). length (bytes_of r) ≡ size)
         (λ r says. content_size (drop r.place.cell cells) n (bytes_of r) (good_holds n r says.0 says.1).0) (good_ones (readings_of times indexes cells found) n) (goods_named n))
 
-    lengths : (first i : ℕ) → length (flat_map (image_bytes sectors (readings_of times indexes cells found)) (range_with_len first i)) ≡ size * i
-    lengths first zero = omega arith
-    lengths first (suc i) =
-        let f = image_bytes sectors (readings_of times indexes cells found) in
-        let more = length-append (f first) (flat_map f (range_with_len (first + 1) i)) in
-        omega (arith, more, bytes_size first, lengths (first + 1) i)
+    -- a sector stands at each number from 0 on
+    module _ (sector_in : ℕ → ℕ) where
+      abbrev piece : ℕ → List ℕ
+      piece number = image_bytes sectors (readings_of times indexes cells found) (sector_in number)
 
-    -- the bytes of a sector stand at its place in the track's part of the image
-    pub in_image : (sector i : ℕ) → sector ≡ sectors.first + i → i < sectors.count
-        → take size (drop (size * i) (image_of sectors (readings_of times indexes cells found))) ≡ image_bytes sectors (readings_of times indexes cells found) sector
-    unfolding image_of
-    in_image sector i at within =
-        let f = image_bytes sectors (readings_of times indexes cells found) in
-        let before : List ℕ = flat_map f (range_with_len sectors.first i) in
-        let rest : List ℕ = flat_map f (range_with_len (sectors.first + i + 1) (sectors.count - i - 1)) in
-        let here : List ℕ = f (sectors.first + i) in
-        let split : flat_map f (range_with_len sectors.first sectors.count) ≡ before ++ (here ++ rest) = pieces-at f sectors.first i sectors.count within in
-        let gone : drop (size * i) (before ++ (here ++ rest)) ≡ here ++ rest =
-        ap (λ (n : ℕ). drop n (before ++ (here ++ rest))) (sym (lengths sectors.first i)) ∙ drop-append_seam before (here ++ rest) in
-        let kept : take size (here ++ rest) ≡ here =
-        ap (λ (n : ℕ). take n (here ++ rest)) (sym (bytes_size (sectors.first + i))) ∙ take-append_seam here rest in
-        ap (λ (xs : List ℕ). take size (drop (size * i) xs)) split ∙ ap (take size) gone ∙ kept ∙ ap f (sym at)
+      lengths : (first i : ℕ) → length (flat_map piece (range_with_len first i)) ≡ size * i
+      lengths first zero = omega arith
+      lengths first (suc i) =
+          let more = length-append (piece first) (flat_map piece (range_with_len (first + 1) i)) in
+          omega (arith, more, bytes_size (sector_in first), lengths (first + 1) i)
 
-    pub good_image : (sector i : ℕ) (first : Place) (h : Head (good_ones (readings_of times indexes cells found) sector) first)
-        → sector ≡ sectors.first + i → i < sectors.count
-        → take size (drop (size * i) (image_of sectors (readings_of times indexes cells found))) ≡ bytes_of h.head
-    unfolding agreed
-    good_image sector i first h at within =
-        in_image sector i at within
-        ∙ ap (λ (o : Option (List ℕ)). unwrap_or o (replicate sectors.size 0)) (agreed_head (good_ones (readings_of times indexes cells found) sector) first h)
+      -- the bytes of a sector stand at its place in the track's part of the image
+      in_image : (i : ℕ) → i < sectors.count → take size (drop (size * i) (flat_map piece (range_with_len 0 sectors.count))) ≡ piece i
+      in_image i within =
+          let before : List ℕ = flat_map piece (range_with_len 0 i) in
+          let rest : List ℕ = flat_map piece (range_with_len (0 + i + 1) (sectors.count - i - 1)) in
+          let here : List ℕ = piece (0 + i) in
+          let split : flat_map piece (range_with_len 0 sectors.count) ≡ before ++ (here ++ rest) = pieces-at piece 0 i sectors.count within in
+          let gone : drop (size * i) (before ++ (here ++ rest)) ≡ here ++ rest =
+          ap (λ (n : ℕ). drop n (before ++ (here ++ rest))) (sym (lengths 0 i)) ∙ drop-append_seam before (here ++ rest) in
+          let kept : take size (here ++ rest) ≡ here =
+          ap (λ (n : ℕ). take n (here ++ rest)) (sym (bytes_size (sector_in (0 + i)))) ∙ take-append_seam here rest in
+          let at : 0 + i ≡ i = omega arith in
+          ap (λ (xs : List ℕ). take size (drop (size * i) xs)) split ∙ ap (take size) gone ∙ kept ∙ ap piece at
+
+      pub good_image : (sector i : ℕ) (first : Place) (h : Head (good_ones (readings_of times indexes cells found) sector) first)
+          → sector_in i ≡ sector → i < sectors.count
+          → take size (drop (size * i) (flat_map piece (range_with_len 0 sectors.count))) ≡ bytes_of h.head
+      unfolding agreed
+      good_image sector i first h at within =
+          in_image i within
+          ∙ ap (image_bytes sectors (readings_of times indexes cells found)) at
+          ∙ ap (λ (o : Option (List ℕ)). unwrap_or o (replicate sectors.size 0)) (agreed_head (good_ones (readings_of times indexes cells found) sector) first h)
 
 pub head_of : (readings : List Reading) (sector good bad : ℕ) (first : Place) → verdict readings sector ≡ Good good bad first → Head (good_ones readings sector) first
 unfolding verdict

@@ -1,6 +1,7 @@
 pub mod Walks
 pub mod Zeros
 pub mod Pieces
+pub mod ImagePieces
 pub mod ByFormat
 pub mod RecoveredCells
 pub mod Streams

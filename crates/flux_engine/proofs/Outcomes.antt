@@ -6,32 +6,32 @@ use Rattle.std.proofs.lemmas.List.{ext_get_or, get_or-take, take-append-drop}
 use Rattle.std.proofs.lemmas.Bool.{cases_lt}
 use Rattle.std.proofs.lemmas.List.Concat.{flat_map-append}
 use Rattle.flux_base.specs.declared.track.TrackId.{TrackId}
-use Rattle.ibm_fm.specs.Sectors.{HeaderStands, SectorStands}
-use Rattle.ibm_fm.specs.StandLaws.{one_header, one_content, content_size}
 use Rattle.kryo_stream.specs.Stream.{first_fault, times, indexes}
 use Rattle.kryo_stream.specs.declared.fault.StreamFault.{StreamFault}
-use Rattle.sector_images.specs.Places.{tracks}
+use Rattle.sector_images.specs.Formats.{row, slot}
+use Rattle.sector_images.specs.Places.{SectorsFillTracks, place_of, sector_in, sector_place, tracks}
 use Rattle.sector_images.specs.declared.format.Format.{Format}
-use Rattle.sector_images.specs.declared.format.Format.TheVariants.{Ibm3740}
 use Rattle.turn_merge.specs.Readings.{bytes_of}
 use Rattle.flux_engine.specs.Disks.{Stop, part_at, AreParts, images, lines, totals_over, stop_at, stop_of, decoded_count, Decoded, decoded_of, last_line, no_totals}
 use Rattle.flux_engine.specs.Laws.{OneOutcome, FirstTracksLead, GoodIsRight}
-use Rattle.flux_engine.specs.Recordings.{track_at, sectors_of, cells_of}
+use Rattle.flux_engine.specs.Recordings.{header_at, sector_at, track_at, sectors_of, cells_of}
 use Rattle.flux_engine.specs.Streams.{stream_at, has_fault}
-use Rattle.flux_engine.specs.Tracks.{Found, Part, IsPart, part_of, readings_of}
+use Rattle.flux_engine.specs.Tracks.{Found, Part, IsPart, image_of, part_of, readings_of}
+use Rattle.flux_engine.proofs.ByFormat.{laws_of}
 use Rattle.flux_engine.proofs.GoodSectors.{head_of, head_holds, all_agree, good_image}
 use Rattle.flux_engine.proofs.OneReading.{one_list}
 
--- one list of readings, by format
+-- one list of readings
 one_found : (format : Format) (track : TrackId) (times' indexes' : List ℕ) (a b : Part) (p : IsPart format track times' indexes' a) (q : IsPart format track times' indexes' b)
     → p.found ≡ q.found
-one_found Ibm3740 track times' indexes' a b p q =
-    one_list (HeaderStands track) (SectorStands track) (one_header track) (one_content track) (λ cells s xs stands. stands.header)
-    (cells_of Ibm3740 track times' indexes') 0 p.found q.found p.all q.all
+one_found format track times' indexes' a b p q =
+    let laws = laws_of format track in
+    one_list (header_at format track) (sector_at format track) laws.one_header laws.one_content laws.has_header
+    (cells_of format track times' indexes') 0 p.found q.found p.all q.all
 
 pub one_part : (format : Format) (track : TrackId) (times' indexes' : List ℕ) (a b : Part) → IsPart format track times' indexes' a → IsPart format track times' indexes' b → a ≡ b
 one_part format track times' indexes' a b p q =
-    p.is ∙ ap (λ (found : List Found). part_of track (sectors_of format track) (readings_of times' indexes' (cells_of format track times' indexes') found))
+    p.is ∙ ap (λ (found : List Found). part_of format track (readings_of times' indexes' (cells_of format track times' indexes') found))
     (one_found format track times' indexes' a b p q) ∙ sym q.is
 
 abbrev stop_track : Option Stop → ℕ
@@ -109,21 +109,26 @@ first_tracks_lead format x parts o are within d =
     ∙ append_assoc (lines parts) (lines rest) last in
     ((images rest, image), (lines rest ++ last, notes))
 
-pub good_is_right : GoodIsRight
-good_is_right Ibm3740 track times' indexes' part is sector good bad first known verdict_is =
-    let cells = cells_of Ibm3740 track times' indexes' in
+pub good_is_right : SectorsFillTracks → GoodIsRight
+unfolding image_of sector_place
+good_is_right fills format track times' indexes' part is sector good bad first known verdict_is =
+    let cells = cells_of format track times' indexes' in
     let h = head_of (readings_of times' indexes' cells is.found) sector good bad first verdict_is in
-    let has_header = λ (cs : List Bool) (s : ℕ) (xs : List ℕ) (stands : SectorStands track cs s xs). stands.header in
-    let holds = head_holds (HeaderStands track) (SectorStands track) (one_header track) (one_content track) has_header 128 (content_size track)
+    let laws = laws_of format track in
+    let size : ℕ = (row format).sector_size in
+    let fill = fills format track sector known in
+    let place : sector_place format track sector - place_of format track ≡ size * slot format sector = omega arith in
+    let holds = head_holds (header_at format track) (sector_at format track) laws.one_header laws.one_content laws.has_header size laws.content_size
     times' indexes' cells is.found is.all sector first h in
     record {
       bytes = bytes_of h.head;
       stands = holds.0;
       turn = holds.1;
       in_image =
-          ap (λ (p : Part). take {A = ℕ} 128 (drop (128 * (sector - 1)) p.image)) is.is
-          ∙ good_image (HeaderStands track) (SectorStands track) (one_header track) (one_content track) has_header 128 (content_size track)
-          times' indexes' cells is.found is.all (sectors_of Ibm3740 track) refl sector (sector - 1) first h (omega (arith, known.0)) (omega (arith, known.0, known.1));
-      agreed = all_agree (HeaderStands track) (SectorStands track) (one_header track) (one_content track) has_header 128 (content_size track)
+          ap (λ (n : ℕ). take {A = ℕ} size (drop n part.image)) place
+          ∙ ap (λ (p : Part). take {A = ℕ} size (drop (size * slot format sector) p.image)) is.is
+          ∙ good_image (header_at format track) (sector_at format track) laws.one_header laws.one_content laws.has_header size laws.content_size
+          times' indexes' cells is.found is.all (sectors_of format track) refl (sector_in format track) sector (slot format sector) first h fill.1 fill.0;
+      agreed = all_agree (header_at format track) (sector_at format track) laws.one_header laws.one_content laws.has_header size laws.content_size
           times' indexes' cells is.found is.all sector first h;
     }

@@ -1,8 +1,8 @@
 -- What the definitions of a decoded track and disk come to, in plain words.
-use Rattle.std.specs.Prelude.{◌≡◌, ◌≤◌, ℕ, ◌-◌, ◌*◌, ◌++◌, List, length, take, drop}
+use Rattle.std.specs.Prelude.{◌≡◌, ◌≤◌, ℕ, ◌-◌, ◌++◌, List, length, take, drop}
 use Rattle.flux_base.specs.declared.track.TrackId.{TrackId}
 use Rattle.sector_images.specs.Formats.{row}
-use Rattle.sector_images.specs.Places.{IsSector, tracks}
+use Rattle.sector_images.specs.Places.{IsSector, place_of, sector_place, tracks}
 use Rattle.sector_images.specs.declared.format.Format.{Format}
 use Rattle.turn_merge.specs.Readings.{verdict}
 use Rattle.turn_merge.specs.declared.verdict.Place.{Place}
@@ -25,13 +25,13 @@ FirstTracksLead = (format : Format) (x : List ℕ) (parts : List Part) (o : Deco
     → IsDecoded format x o → BeginsWith o.image (images parts) × BeginsWith o.notes (lines parts)
 
 -- A sector of a track is good with its first good reading at this place: there the recovered cells of the track hold the
--- sector, with its header, data and check values, in the turn that the place names; its bytes are those in the track's part of
--- the image; and each place whose cells hold this sector holds the same bytes.
+-- sector, with its header, data and check values, in the turn that the place names; its bytes are those at its place in the
+-- track's part of the image; and each place whose cells hold this sector holds the same bytes.
 pub record IsRightlyGood (format : Format) (track : TrackId) (times indexes : List ℕ) (part : Part) (sector : ℕ) (first : Place) : Type 0 where
   pub bytes : List ℕ
   pub stands : sector_at format track (drop first.cell (cells_of format track times indexes)) sector bytes
   pub turn : first ≡ place_at times indexes (cells_of format track times indexes) first.cell
-  pub in_image : take (row format).sector_size (drop ((row format).sector_size * (sector - (row format).first_sector)) part.image) ≡ bytes
+  pub in_image : take (row format).sector_size (drop (sector_place format track sector - place_of format track) part.image) ≡ bytes
   pub agreed : (place : ℕ) (others : List ℕ) → sector_at format track (drop place (cells_of format track times indexes)) sector others → others ≡ bytes
 
 -- wherever the verdict on a sector is good

@@ -40,7 +40,7 @@ pub record HasGathered (format : Format) (track : TrackId) (times indexes : List
   pub knows : Knows (sectors_of format track) book
   pub readings : List Reading
   pub stands : StandsFor book readings
-  pub is : IsPart format track times indexes (part_of track (sectors_of format track) readings)
+  pub is : IsPart format track times indexes (part_of format track readings)
 
 -- The first n tracks of a disk are decoded and written whole, and these bytes are held.
 pub record HasDecoded (format : Format) (left left' image image' notes notes' : Option (List ℕ)) (room : RoomState) (n : ℕ) (totals : Totals) : Type 0 where

@@ -1,7 +1,8 @@
 -- How the tracks of each format are recorded: a row for each format.
 use Rattle.std.specs.Prelude.{ℕ, Bool, List, slice_get, unwrap_or}
 use Rattle.flux_base.specs.declared.track.TrackId.{TrackId}
-use Rattle.ibm_fm.specs.Sectors.{HeaderStands, SectorStands}
+use Rattle.ibm_fm.specs.Sectors.{HeaderStands as HeaderStands-fm, SectorStands as SectorStands-fm}
+use Rattle.ibm_mfm.specs.Sectors.{HeaderStands as HeaderStands-mfm, SectorStands as SectorStands-mfm}
 use Rattle.index_turns.specs.Track.{turn_length}
 use Rattle.phase_loop.specs.Rows.{recovered}
 use Rattle.phase_loop.specs.Start.{start_for}
@@ -9,16 +10,22 @@ use Rattle.phase_loop.specs.declared.start.LoopStart.{LoopStart}
 use Rattle.sector_images.specs.Formats.{row, zone}
 use Rattle.sector_images.specs.Places.{tracks}
 use Rattle.sector_images.specs.declared.format.Format.{Format}
-use Rattle.sector_images.specs.declared.format.Format.TheVariants.{Ibm3740}
+use Rattle.sector_images.specs.declared.format.Format.TheVariants.{Ibm3740, Ibm360, Ibm720, Ibm1440}
 use Rattle.flux_engine.specs.declared.sectors.Sectors.{Sectors}
 
 -- the header of this sector of the track stands at the front of the cells
 abbrev pub header_at : Format → TrackId → List Bool → ℕ → Type 0
-header_at Ibm3740 track cells sector = HeaderStands track cells sector
+header_at Ibm3740 track cells sector = HeaderStands-fm track cells sector
+header_at Ibm360 track cells sector = HeaderStands-mfm 9 track cells sector
+header_at Ibm720 track cells sector = HeaderStands-mfm 9 track cells sector
+header_at Ibm1440 track cells sector = HeaderStands-mfm 18 track cells sector
 
 -- this sector of the track stands at the front of the cells, with these bytes
 abbrev pub sector_at : Format → TrackId → List Bool → ℕ → List ℕ → Type 0
-sector_at Ibm3740 track cells sector bytes = SectorStands track cells sector bytes
+sector_at Ibm3740 track cells sector bytes = SectorStands-fm track cells sector bytes
+sector_at Ibm360 track cells sector bytes = SectorStands-mfm 9 track cells sector bytes
+sector_at Ibm720 track cells sector bytes = SectorStands-mfm 9 track cells sector bytes
+sector_at Ibm1440 track cells sector bytes = SectorStands-mfm 18 track cells sector bytes
 
 -- track number n of the format, from 0
 abbrev pub track_at : Format → ℕ → TrackId

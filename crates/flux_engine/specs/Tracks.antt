@@ -7,6 +7,7 @@ use Rattle.frame_law.specs.declared.reading.Reading.TheVariants.{Nothing, Bad as
 use Rattle.frame_law.specs.declared.reading.Reading.{Reading as Frame}
 use Rattle.frame_law.specs.Readings.{AreReadings}
 use Rattle.index_turns.specs.Track.{turn_at}
+use Rattle.sector_images.specs.Places.{sector_in}
 use Rattle.sector_images.specs.declared.format.Format.{Format}
 use Rattle.sector_report.specs.Lines.{sector_text}
 use Rattle.sector_report.specs.declared.totals.Totals.{Totals}
@@ -48,14 +49,18 @@ numbers sectors = range_with_len sectors.first sectors.count
 abbrev pub image_bytes : Sectors → List Reading → ℕ → List ℕ
 image_bytes sectors readings sector = unwrap_or (agreed readings sector) (replicate sectors.size 0)
 
--- the track's part of the image: its sectors in the order of their numbers
-unfoldable pub image_of : Sectors → List Reading → List ℕ
-image_of sectors readings = flat_map (image_bytes sectors readings) (numbers sectors)
+-- the bytes of the sector that stands at this number, from 0, among those of the track in the image
+abbrev pub image_piece : Format → TrackId → List Reading → ℕ → List ℕ
+image_piece format track readings number = image_bytes (sectors_of format track) readings (sector_in format track number)
+
+-- the track's part of the image: the bytes of each sector at the sector's place
+unfoldable pub image_of : Format → TrackId → List Reading → List ℕ
+image_of format track readings = flat_map (image_piece format track readings) (range_with_len 0 (sectors_of format track).count)
 
 abbrev pub line_of : TrackId → List Reading → ℕ → List ℕ
 line_of track readings sector = sector_text track sector (verdict readings sector)
 
--- the track's lines, one for each sector
+-- the track's lines, one for each sector, in the order of their numbers
 unfoldable pub lines_of : TrackId → Sectors → List Reading → List ℕ
 lines_of track sectors readings = flat_map (line_of track readings) (numbers sectors)
 
@@ -92,15 +97,15 @@ pub record Part : Type 0 where
   pub totals : Totals
 
 -- what a track comes to by these readings
-abbrev pub part_of : TrackId → Sectors → List Reading → Part
-part_of track sectors readings = record {
-  image = image_of sectors readings;
-  lines = lines_of track sectors readings;
-  totals = totals_of (map (verdict readings) (numbers sectors));
+abbrev pub part_of : Format → TrackId → List Reading → Part
+part_of format track readings = record {
+  image = image_of format track readings;
+  lines = lines_of track (sectors_of format track) readings;
+  totals = totals_of (map (verdict readings) (numbers (sectors_of format track)));
 }
 
 -- all that can be read on a track with these transitions and index times, and what it comes to
 pub record IsPart (format : Format) (track : TrackId) (times indexes : List ℕ) (part : Part) : Type 0 where
   pub found : List Found
   pub all : AreReadings (header_at format track) (sector_at format track) (cells_of format track times indexes) 0 found
-  pub is : part ≡ part_of track (sectors_of format track) (readings_of times indexes (cells_of format track times indexes) found)
+  pub is : part ≡ part_of format track (readings_of times indexes (cells_of format track times indexes) found)

@@ -11,9 +11,16 @@ use cell_bits::Cells;
 use flux_base::TrackId;
 use frame_law::Recording;
 use ibm_fm::IbmFm;
+use ibm_mfm::IbmMfm;
 use index_turns::TrackFlux;
 use sector_images::Format;
 use turn_merge::Book;
+
+/// The PC's disks of double density.
+const NINE_SECTORS: IbmMfm = IbmMfm { sectors: 9 };
+
+/// The PC's disks of high density.
+const EIGHTEEN_SECTORS: IbmMfm = IbmMfm { sectors: 18 };
 
 /// The sectors of one of the format's tracks.
 pub(crate) fn sectors_of(format: Format, track: TrackId) -> Sectors
@@ -22,6 +29,8 @@ pub(crate) fn sectors_of(format: Format, track: TrackId) -> Sectors
 {
     match format {
         Format::Ibm3740 => sectors(&IbmFm, track),
+        Format::Ibm360 | Format::Ibm720 => sectors(&NINE_SECTORS, track),
+        Format::Ibm1440 => sectors(&EIGHTEEN_SECTORS, track),
     }
 }
 
@@ -55,5 +64,7 @@ pub(crate) fn gather_track(
 {
     match format {
         Format::Ibm3740 => gather(&IbmFm, track, flux, cells, book),
+        Format::Ibm360 | Format::Ibm720 => gather(&NINE_SECTORS, track, flux, cells, book),
+        Format::Ibm1440 => gather(&EIGHTEEN_SECTORS, track, flux, cells, book),
     }
 }

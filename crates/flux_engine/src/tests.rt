@@ -1,11 +1,18 @@
-use crate::{DiskRoom, decode_disk, decode_track};
+use crate::{DiskRoom, EngineFault, decode_disk, decode_track};
 use cell_bits::Cells;
 use flux_base::{Memory, MemorySink, MemorySource, TrackId};
 use frame_law::Recording;
 use ibm_fm::IbmFm;
+use ibm_mfm::IbmMfm;
 use sector_images::Format;
+use sector_report::Totals;
 use std::alloc::Global;
 use std::test::Fail;
+
+const TRACK: TrackId = TrackId {
+    cylinder: 0,
+    head: 0,
+};
 
 /// A stream of one turn with two transitions that make no sector.
 const ONE_TURN: &[u8] =
@@ -26,14 +33,14 @@ fn push_index(bytes: &mut Vec<u8>, position: u32) -> Result<(), Memory> {
     Ok(())
 }
 
-/// Appends the ring's ones as blocks of 48 ticks a cell, and gives their number.
-fn push_ring(bytes: &mut Vec<u8>, ring: &Cells) -> Result<u32, Memory> {
+/// Appends the ring's ones as blocks of so many ticks a cell, and gives their number.
+fn push_ring(bytes: &mut Vec<u8>, ring: &Cells, ticks: u8) -> Result<u32, Memory> {
     let mut count = 0u32;
     let mut distance = 0u8;
     for place in 0..ring.len() {
         distance = distance.saturating_add(1);
         if ring.cell(place) {
-            bytes.push(distance.saturating_mul(48))?;
+            bytes.push(distance.saturating_mul(ticks))?;
             count = count.saturating_add(1);
             distance = 0;
         }
@@ -41,20 +48,13 @@ fn push_ring(bytes: &mut Vec<u8>, ring: &Cells) -> Result<u32, Memory> {
     Ok(count)
 }
 
-/// A stream that turns three times over the ring of cylinder 0, all of whose bytes are E5.
-fn three_turns(alloc: Global) -> Result<Vec<u8>, Memory> {
-    let track = TrackId {
-        cylinder: 0,
-        head: 0,
-    };
-    let content = [0xE5; 3328];
-    let mut ring = Cells::new(alloc);
-    IbmFm.ring(track, &content, &mut ring)?;
+/// A stream that turns three times over a ring with cells of so many ticks.
+fn three_turns(alloc: Global, ring: &Cells, ticks: u8) -> Result<Vec<u8>, Memory> {
     let mut bytes = Vec::new(alloc);
     let mut position = 0u32;
     for _ in 0..3 {
         push_index(&mut bytes, position)?;
-        position = position.saturating_add(push_ring(&mut bytes, &ring)?);
+        position = position.saturating_add(push_ring(&mut bytes, ring, ticks)?);
     }
     for _ in 0..4 {
         bytes.push(0x0D)?;
@@ -62,26 +62,76 @@ fn three_turns(alloc: Global) -> Result<Vec<u8>, Memory> {
     Ok(bytes)
 }
 
+/// What decoding the first track of a disk came to.
+#[derive(Drop)]
+struct Decoded {
+    totals: Result<Totals, EngineFault>,
+    image: MemorySink,
+    notes: MemorySink,
+}
+
+fn decode_first(alloc: Global, format: Format, bytes: Vec<u8>) -> Result<Decoded, Fail> {
+    let mut source = MemorySource::new(bytes, 4096, Vec::new(alloc));
+    let mut image = MemorySink::new(alloc, 10_000, Vec::new(alloc))?;
+    let mut notes = MemorySink::new(alloc, 4096, Vec::new(alloc))?;
+    let mut room = DiskRoom::reserve(alloc, format)?;
+    let totals = decode_track(&mut room, 0, &mut source, &mut image, &mut notes);
+    Ok(Decoded {
+        totals,
+        image,
+        notes,
+    })
+}
+
 #[test]
 fn a_track_comes_to_its_image_and_lines(rt: HostRuntime) -> Result<(), Fail> {
     let alloc = rt.alloc();
-    let mut source = MemorySource::new(three_turns(alloc)?, 4096, Vec::new(alloc));
-    let mut image = MemorySink::new(alloc, 4096, Vec::new(alloc))?;
-    let mut notes = MemorySink::new(alloc, 4096, Vec::new(alloc))?;
-    let mut room = DiskRoom::reserve(alloc, Format::Ibm3740)?;
-    let totals = decode_track(&mut room, 0, &mut source, &mut image, &mut notes);
-    assert!(rt; matches!(totals, Ok(totals) if totals.good == 26 && totals.sectors == 26));
-    assert_eq!(rt; image.bytes().len(), 3328);
-    assert!(rt; image.bytes().iter().all(|byte| *byte == 0xE5));
-    assert!(rt; notes.bytes().starts_with(b"00.0 01 good 3 0 1 1264\n"));
-    assert!(rt; notes.bytes().ends_with(b"00.0 26 good 3 0 1 76464\n"));
+    let mut ring = Cells::new(alloc);
+    IbmFm.ring(TRACK, &[0xE5; 3328], &mut ring)?;
+    let track = decode_first(alloc, Format::Ibm3740, three_turns(alloc, &ring, 48)?)?;
+    assert!(rt; matches!(track.totals, Ok(totals) if totals.good == 26 && totals.sectors == 26));
+    assert_eq!(rt; track.image.bytes().len(), 3328);
+    assert!(rt; track.image.bytes().iter().all(|byte| *byte == 0xE5));
+    assert!(rt;
+        track
+            .notes
+            .bytes()
+            .starts_with(b"00.0 01 good 3 0 1 1264\n")
+    );
+    assert!(rt; track.notes.bytes().ends_with(b"00.0 26 good 3 0 1 76464\n"));
+    Ok(())
+}
+
+#[test]
+fn a_track_of_a_pc_disk(rt: HostRuntime) -> Result<(), Fail> {
+    let alloc = rt.alloc();
+    let mut ring = Cells::new(alloc);
+    IbmMfm { sectors: 18 }.ring(TRACK, &[0xF6; 9216], &mut ring)?;
+    let track = decode_first(alloc, Format::Ibm1440, three_turns(alloc, &ring, 24)?)?;
+    assert!(rt; matches!(track.totals, Ok(totals) if totals.good == 18 && totals.sectors == 18));
+    assert_eq!(rt; track.image.bytes().len(), 9216);
+    assert!(rt; track.image.bytes().iter().all(|byte| *byte == 0xF6));
+    assert!(rt;
+        track
+            .notes
+            .bytes()
+            .starts_with(b"00.0 01 good 3 0 1 2528\n")
+    );
+    assert!(rt;
+        track
+            .notes
+            .bytes()
+            .ends_with(b"00.0 18 good 3 0 1 188032\n")
+    );
     Ok(())
 }
 
 #[test]
 fn a_disk_comes_to_all_its_tracks(rt: HostRuntime) -> Result<(), Fail> {
     let alloc = rt.alloc();
-    let mut bytes = three_turns(alloc)?;
+    let mut ring = Cells::new(alloc);
+    IbmFm.ring(TRACK, &[0xE5; 3328], &mut ring)?;
+    let mut bytes = three_turns(alloc, &ring, 48)?;
     for _ in 1..77 {
         bytes.push(0x0D)?;
         for byte in ONE_TURN {

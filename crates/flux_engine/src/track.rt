@@ -21,7 +21,8 @@ use sector_images::{Format, nominal, ring_cells, track_id};
 use sector_report::Totals;
 
 /// Decodes the next track of a disk: reads its stream, writes its part of the image, a piece for each
-/// sector, and then its lines, each in one piece, and gives its totals. It takes no memory.
+/// sector, in the order of their places there, and then its lines by the sectors' numbers, each in one
+/// piece, and gives its totals. It takes no memory.
 ///
 /// The tracks come in order from number 0, and a room is not used again after a fault. `Refused` names the
 /// first fault of the stream; then, and after `ReadFault`, nothing was written. After `ImageFault` the notes
@@ -65,7 +66,7 @@ pub fn decode_track<S: Source, W: Sink, N: Sink>(
         Err(fault) => return Err(fault),
     }
     let sectors = read_sectors(room.format, track, &mut room.tools);
-    match write_image(sectors, &room.tools.book, image) {
+    match write_image(room.format, track, &room.tools.book, image) {
         Ok(()) => {}
         Err(_) => return Err(EngineFault::ImageFault),
     }

@@ -3,35 +3,42 @@
 ghost use Rattle.std.specs.Prelude.{◌≡◌, ℕ, ◌+◌, ◌≤◌, ◌<◌, ◌++◌, List, [], ◌∷◌, map, length, replicate, unwrap_or, IfOk, OnOk, OnErr};
 ghost use Rattle.std.specs.Io.KnownBytes.{Appends};
 ghost use Rattle.flux_base.specs.Outside.{Rose, AppendsPart};
+ghost use Rattle.sector_images.specs.Places.{IsTrack};
 ghost use Rattle.turn_merge.specs.Book.{StandsFor, IsKnown};
 ghost use Rattle.turn_merge.specs.Readings.{Reading, agreed, verdict as verdict_over};
 ghost use Rattle.turn_merge.specs.declared.verdict.Verdict.{Verdict as SectorVerdict};
+ghost use Rattle.flux_engine.specs.Recordings.{sectors_of as sectors_in};
 ghost use Rattle.flux_engine.specs.Tracks.{image_of, lines_of, totals_of, numbers};
 ghost use Rattle.flux_engine.specs.Writing.{Knows, AreFew, IsSum};
 
+use crate::recordings::sectors_of;
 use crate::sectors::Sectors;
 use flux_base::{Failed, Sink, TrackId, write_whole};
+use sector_images::{Format, image_sector};
 use sector_report::{Line, Totals, sector_line};
 use turn_merge::{Book, Verdict};
 
 /// The bytes of a sector that has no good verdict.
 const ZEROS: [u8; 512] = [0; 512];
 
-/// Writes the track's part of the image, a piece for each sector.
+/// Writes the track's part of the image, a piece for each sector, in the order of their places.
 pub(crate) fn write_image<W: Sink>(
-    sectors: Sectors,
+    format: Format,
+    track: TrackId,
     book: &Book,
     image: &mut W,
 ) -> Result<(), Failed>
-    requires few { AreFew sectors }
-    requires known { Knows sectors book.now }
-    ensures ok { OnOk result ((readings : List Reading) → StandsFor book.now readings → Appends (W.written image.old) (W.written image.new) (image_of sectors readings)) }
-    ensures err { OnErr result ((readings : List Reading) → StandsFor book.now readings → AppendsPart (W.written image.old) (W.written image.new) (image_of sectors readings)) }
+    requires track { IsTrack format track }
+    requires known { Knows (sectors_in format track) book.now }
+    ensures ok { OnOk result ((readings : List Reading) → StandsFor book.now readings → Appends (W.written image.old) (W.written image.new) (image_of format track readings)) }
+    ensures err { OnErr result ((readings : List Reading) → StandsFor book.now readings → AppendsPart (W.written image.old) (W.written image.new) (image_of format track readings)) }
     ensures later { W.faults image.old ≤ W.faults image.new }
     ensures cause { OnErr result (Rose (W.faults image.old) (W.faults image.new)) }
 {
-    for index in 0..sectors.count {
-        let bytes = image_bytes(book, sectors.first + index, sectors.size);
+    let sectors = sectors_of(format, track);
+    for number in 0..sectors.count {
+        let sector = image_sector(format, track, number);
+        let bytes = image_bytes(book, sector, sectors.size);
         match write_whole(image, bytes) {
             Ok(()) => {}
             Err(failed) => return Err(failed),

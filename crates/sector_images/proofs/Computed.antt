@@ -5,8 +5,8 @@ use Rattle.std.proofs.lemmas.List.FromFn.{get_or-map-range_with_len}
 use Rattle.std.proofs.lemmas.Option.{slice_get_within}
 use Rattle.flux_base.specs.declared.track.TrackId.{TrackId}
 use Rattle.sector_images.specs.declared.format.Format.{Format}
-use Rattle.sector_images.specs.declared.format.Format.TheVariants.{Ibm3740}
-use Rattle.sector_images.specs.Formats.{row}
+use Rattle.sector_images.specs.declared.format.Format.TheVariants.{Ibm3740, Ibm360, Ibm720, Ibm1440}
+use Rattle.sector_images.specs.Formats.{begin_of, row}
 use Rattle.sector_images.specs.Places.{IsTrack, tracks, bytes_of, place_of}
 
 -- the track of a number, where each cylinder has so many heads
@@ -30,9 +30,42 @@ places-ibm_3740 = refl
 sums-ibm_3740 : map (λ n. sum_by (bytes_of Ibm3740) (take n (tracks Ibm3740))) (range_with_len 0 77) ≡ map (λ n. n * 3328) (range_with_len 0 77)
 sums-ibm_3740 = refl
 
+ids-ibm_360 : map (slice_get (tracks Ibm360)) (range_with_len 0 80) ≡ map (λ n. Some (numbered 2 n)) (range_with_len 0 80)
+ids-ibm_360 = refl
+
+places-ibm_360 : map (λ n. place_of Ibm360 (numbered 2 n)) (range_with_len 0 80) ≡ map (λ n. n * 4608) (range_with_len 0 80)
+unfolding place_of
+places-ibm_360 = refl
+
+sums-ibm_360 : map (λ n. sum_by (bytes_of Ibm360) (take n (tracks Ibm360))) (range_with_len 0 80) ≡ map (λ n. n * 4608) (range_with_len 0 80)
+sums-ibm_360 = refl
+
+ids-ibm_720 : map (slice_get (tracks Ibm720)) (range_with_len 0 160) ≡ map (λ n. Some (numbered 2 n)) (range_with_len 0 160)
+ids-ibm_720 = refl
+
+places-ibm_720 : map (λ n. place_of Ibm720 (numbered 2 n)) (range_with_len 0 160) ≡ map (λ n. n * 4608) (range_with_len 0 160)
+unfolding place_of
+places-ibm_720 = refl
+
+sums-ibm_720 : map (λ n. sum_by (bytes_of Ibm720) (take n (tracks Ibm720))) (range_with_len 0 160) ≡ map (λ n. n * 4608) (range_with_len 0 160)
+sums-ibm_720 = refl
+
+ids-ibm_1440 : map (slice_get (tracks Ibm1440)) (range_with_len 0 160) ≡ map (λ n. Some (numbered 2 n)) (range_with_len 0 160)
+ids-ibm_1440 = refl
+
+places-ibm_1440 : map (λ n. place_of Ibm1440 (numbered 2 n)) (range_with_len 0 160) ≡ map (λ n. n * 9216) (range_with_len 0 160)
+unfolding place_of
+places-ibm_1440 = refl
+
+sums-ibm_1440 : map (λ n. sum_by (bytes_of Ibm1440) (take n (tracks Ibm1440))) (range_with_len 0 160) ≡ map (λ n. n * 9216) (range_with_len 0 160)
+sums-ibm_1440 = refl
+
 -- the track of a number
 pub id_at : (f : Format) (n : ℕ) → n < length (tracks f) → slice_get (tracks f) n ≡ Some (numbered (row f).heads n)
 id_at Ibm3740 n below = same_at (slice_get (tracks Ibm3740)) (λ n. Some (numbered 1 n)) 77 n below ids-ibm_3740
+id_at Ibm360 n below = same_at (slice_get (tracks Ibm360)) (λ n. Some (numbered 2 n)) 80 n below ids-ibm_360
+id_at Ibm720 n below = same_at (slice_get (tracks Ibm720)) (λ n. Some (numbered 2 n)) 160 n below ids-ibm_720
+id_at Ibm1440 n below = same_at (slice_get (tracks Ibm1440)) (λ n. Some (numbered 2 n)) 160 n below ids-ibm_1440
 
 -- where all tracks have as many bytes
 pub uniform : (f : Format) (count bytes number : ℕ) (heads : ℕ) (t : TrackId) → numbered heads number ≡ t → number < count
@@ -49,23 +82,70 @@ track_made t c h e f =
 one_head : (t : TrackId) → t.head < 1 → numbered 1 t.cylinder ≡ t
 one_head t h = track_made t (t.cylinder / 1) (t.cylinder % 1) (omega arith) (omega arith)
 
+two_heads : (t : TrackId) → t.head < 2 → numbered 2 (t.cylinder * 2 + t.head) ≡ t
+two_heads t h =
+    track_made t ((t.cylinder * 2 + t.head) / 2) ((t.cylinder * 2 + t.head) % 2) (omega (arith, h)) (omega (arith, h))
+
 pub place-ibm_3740 : (t : TrackId) → IsTrack Ibm3740 t → place_of Ibm3740 t ≡ t.cylinder * 3328
 place-ibm_3740 t track = uniform Ibm3740 77 3328 t.cylinder 1 t (one_head t (track.1)) (track.0) places-ibm_3740
+
+pub place-ibm_360 : (t : TrackId) → IsTrack Ibm360 t → place_of Ibm360 t ≡ (t.cylinder * 2 + t.head) * 4608
+place-ibm_360 t track =
+    uniform Ibm360 80 4608 (t.cylinder * 2 + t.head) 2 t (two_heads t (track.1)) (omega (arith, track.0, track.1)) places-ibm_360
+
+pub place-ibm_720 : (t : TrackId) → IsTrack Ibm720 t → place_of Ibm720 t ≡ (t.cylinder * 2 + t.head) * 4608
+place-ibm_720 t track =
+    uniform Ibm720 160 4608 (t.cylinder * 2 + t.head) 2 t (two_heads t (track.1)) (omega (arith, track.0, track.1)) places-ibm_720
+
+pub place-ibm_1440 : (t : TrackId) → IsTrack Ibm1440 t → place_of Ibm1440 t ≡ (t.cylinder * 2 + t.head) * 9216
+place-ibm_1440 t track =
+    uniform Ibm1440 160 9216 (t.cylinder * 2 + t.head) 2 t (two_heads t (track.1)) (omega (arith, track.0, track.1)) places-ibm_1440
 
 -- a track lies in the image
 pub track_within : (f : Format) (t : TrackId) → IsTrack f t → place_of f t + bytes_of f t ≤ (row f).image_size
 track_within Ibm3740 t track = omega (arith, place-ibm_3740 t track)
+track_within Ibm360 t track = omega (arith, place-ibm_360 t track, track.0, track.1)
+track_within Ibm720 t track = omega (arith, place-ibm_720 t track, track.0, track.1)
+track_within Ibm1440 t track = omega (arith, place-ibm_1440 t track, track.0, track.1)
 
 pub image_small : (f : Format) → (row f).image_size < 2 ^ 32
 image_small Ibm3740 = omega arith
+image_small Ibm360 = omega arith
+image_small Ibm720 = omega arith
+image_small Ibm1440 = omega arith
 
--- the place that the table's numbers give, in IBM 3740's one zone
-pub zone_place : (f : Format) (cylinder : ℕ) → cylinder < (row f).cylinders → (head : ℕ) → head < (row f).heads
-    → place_of f (record { cylinder = cylinder; head = head })
-    ≡ 0 + ((cylinder - 0) * (row f).heads + head) * (26 * (row f).sector_size)
-zone_place Ibm3740 cylinder below head one =
-    let t : TrackId = record { cylinder = cylinder; head = head } in
-    place-ibm_3740 t (below, one) ∙ omega arith
+-- the place that the table's numbers give
+pub place_by_table : (f : Format) (t : TrackId) → IsTrack f t
+    → place_of f t ≡ (begin_of f t.cylinder).place + ((t.cylinder - (begin_of f t.cylinder).first_cylinder) * (row f).heads + t.head) * bytes_of f t
+place_by_table Ibm3740 t track = place-ibm_3740 t track ∙ omega (arith, track.1)
+place_by_table Ibm360 t track = place-ibm_360 t track ∙ omega arith
+place_by_table Ibm720 t track = place-ibm_720 t track ∙ omega arith
+place_by_table Ibm1440 t track = place-ibm_1440 t track ∙ omega arith
+
+pub size_is_sum : (f : Format) → (row f).image_size ≡ sum_by (bytes_of f) (tracks f)
+size_is_sum Ibm3740 = refl
+size_is_sum Ibm360 = refl
+size_is_sum Ibm720 = refl
+size_is_sum Ibm1440 = refl
+
+pub track_number : (f : Format) → (row f).cylinders * (row f).heads ≡ length (tracks f)
+track_number Ibm3740 = refl
+track_number Ibm360 = refl
+track_number Ibm720 = refl
+track_number Ibm1440 = refl
+
+-- each cylinder has a head at least, and at most two
+pub some_heads : (f : Format) → (1 ≤ (row f).heads) × ((row f).heads ≤ 2)
+some_heads Ibm3740 = (omega arith, omega arith)
+some_heads Ibm360 = (omega arith, omega arith)
+some_heads Ibm720 = (omega arith, omega arith)
+some_heads Ibm1440 = (omega arith, omega arith)
+
+pub numbered_track : (f : Format) (n : ℕ) → n < length (tracks f) → IsTrack f (numbered (row f).heads n)
+numbered_track Ibm3740 n below = (omega (arith, below), omega (arith, below))
+numbered_track Ibm360 n below = (omega (arith, below), omega (arith, below))
+numbered_track Ibm720 n below = (omega (arith, below), omega (arith, below))
+numbered_track Ibm1440 n below = (omega (arith, below), omega (arith, below))
 
 -- the tracks before the one of a number
 pub sum_before : (f : Format) (t : TrackId) (n : ℕ) → slice_get (tracks f) n ≡ Some t
@@ -76,3 +156,21 @@ sum_before Ibm3740 t n found =
     let is : numbered 1 n ≡ t = cc in
     uniform Ibm3740 77 3328 n 1 t is below places-ibm_3740
     ∙ sym (same_at (λ n. sum_by (bytes_of Ibm3740) (take n (tracks Ibm3740))) (λ n. n * 3328) 77 n below sums-ibm_3740)
+sum_before Ibm360 t n found =
+    let below : n < 80 = slice_get_within (tracks Ibm360) n t found in
+    let some : Some (numbered 2 n) ≡ Some t = sym (id_at Ibm360 n below) ∙ found in
+    let is : numbered 2 n ≡ t = cc in
+    uniform Ibm360 80 4608 n 2 t is below places-ibm_360
+    ∙ sym (same_at (λ n. sum_by (bytes_of Ibm360) (take n (tracks Ibm360))) (λ n. n * 4608) 80 n below sums-ibm_360)
+sum_before Ibm720 t n found =
+    let below : n < 160 = slice_get_within (tracks Ibm720) n t found in
+    let some : Some (numbered 2 n) ≡ Some t = sym (id_at Ibm720 n below) ∙ found in
+    let is : numbered 2 n ≡ t = cc in
+    uniform Ibm720 160 4608 n 2 t is below places-ibm_720
+    ∙ sym (same_at (λ n. sum_by (bytes_of Ibm720) (take n (tracks Ibm720))) (λ n. n * 4608) 160 n below sums-ibm_720)
+sum_before Ibm1440 t n found =
+    let below : n < 160 = slice_get_within (tracks Ibm1440) n t found in
+    let some : Some (numbered 2 n) ≡ Some t = sym (id_at Ibm1440 n below) ∙ found in
+    let is : numbered 2 n ≡ t = cc in
+    uniform Ibm1440 160 9216 n 2 t is below places-ibm_1440
+    ∙ sym (same_at (λ n. sum_by (bytes_of Ibm1440) (take n (tracks Ibm1440))) (λ n. n * 9216) 160 n below sums-ibm_1440)

@@ -1,7 +1,7 @@
 -- The formats of sector images, a row for each.
-use Rattle.std.specs.Prelude.{ℕ, ◌*◌, ◌/◌, List, codes}
+use Rattle.std.specs.Prelude.{ℕ, ◌-◌, ◌*◌, ◌/◌, List, codes}
 use Rattle.sector_images.specs.declared.format.Format.{Format}
-use Rattle.sector_images.specs.declared.format.Format.TheVariants.{Ibm3740}
+use Rattle.sector_images.specs.declared.format.Format.TheVariants.{Ibm3740, Ibm360, Ibm720, Ibm1440}
 
 -- a cell of so many quarters of a microsecond, in fine units, which are 1/1024 of a period of the capture's clock of
 -- 168192000/7 Hz
@@ -27,6 +27,30 @@ row Ibm3740 = record {
   sector_size = 128;
   image_size = 256256;
 }
+row Ibm360 = record {
+  word = codes "ibm-360";
+  cylinders = 40;
+  heads = 2;
+  first_sector = 1;
+  sector_size = 512;
+  image_size = 368640;
+}
+row Ibm720 = record {
+  word = codes "ibm-720";
+  cylinders = 80;
+  heads = 2;
+  first_sector = 1;
+  sector_size = 512;
+  image_size = 737280;
+}
+row Ibm1440 = record {
+  word = codes "ibm-1440";
+  cylinders = 80;
+  heads = 2;
+  first_sector = 1;
+  sector_size = 512;
+  image_size = 1474560;
+}
 
 -- the sectors of a track, its nominal cell in fine units and the cells of its ring
 pub record Zone : Type 0 where
@@ -37,3 +61,18 @@ pub record Zone : Type 0 where
 -- the zone of a cylinder
 abbrev pub zone : Format → ℕ → Zone
 zone Ibm3740 cylinder = record { sectors = 26; nominal = fine_units 8; ring_cells = 83328 }
+zone Ibm360 cylinder = record { sectors = 9; nominal = fine_units 8; ring_cells = 100000 }
+zone Ibm720 cylinder = record { sectors = 9; nominal = fine_units 8; ring_cells = 100000 }
+zone Ibm1440 cylinder = record { sectors = 18; nominal = fine_units 4; ring_cells = 200000 }
+
+-- the first of the neighbouring cylinders whose tracks have as many bytes, and where it begins in the image
+pub record Begin : Type 0 where
+  pub first_cylinder : ℕ
+  pub place : ℕ
+
+abbrev pub begin_of : Format → ℕ → Begin
+begin_of format cylinder = record { first_cylinder = 0; place = 0 }
+
+-- where a sector stands among those of its track in the image, counted from 0
+abbrev pub slot : Format → ℕ → ℕ
+slot format sector = sector - (row format).first_sector

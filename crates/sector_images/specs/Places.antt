@@ -1,9 +1,9 @@
 -- Where tracks and sectors lie in an image.
-use Rattle.std.specs.Prelude.{ℕ, ◌+◌, ◌-◌, ◌*◌, ◌<◌, ◌≤◌, Bool, ◌||◌, ◌&&◌, nat_eq, nat_lt, List, filter, map, sum_by}
+use Rattle.std.specs.Prelude.{◌≡◌, ℕ, ◌+◌, ◌-◌, ◌*◌, ◌<◌, ◌≤◌, Bool, ◌||◌, ◌&&◌, nat_eq, nat_lt, List, filter, find, map, sum_by, unwrap_or}
 use Rattle.std.specs.List.{flat_map, range_with_len}
 use Rattle.flux_base.specs.declared.track.TrackId.{TrackId}
 use Rattle.sector_images.specs.declared.format.Format.{Format}
-use Rattle.sector_images.specs.Formats.{row, zone}
+use Rattle.sector_images.specs.Formats.{row, slot, zone}
 
 -- the track is one of the format's
 abbrev pub IsTrack : Format → TrackId → Type 0
@@ -32,6 +32,16 @@ bytes_of format track = (zone format track.cylinder).sectors * (row format).sect
 unfoldable pub place_of : Format → TrackId → ℕ
 place_of format track = sum_by (bytes_of format) (filter (λ t. comes_before t track) (tracks format))
 
--- a sector's first byte in the image
+-- a sector's first byte in the image: the track's first, and behind it the sectors that stand before this one
 unfoldable pub sector_place : Format → TrackId → ℕ → ℕ
-sector_place format track sector = place_of format track + (row format).sector_size * (sector - (row format).first_sector)
+sector_place format track sector = place_of format track + (row format).sector_size * slot format sector
+
+-- the sector that stands at this number, from 0, among those of the track in the image
+unfoldable pub sector_in : Format → TrackId → ℕ → ℕ
+sector_in format track number =
+    unwrap_or (find (λ sector. nat_eq (slot format sector) number) (range_with_len (row format).first_sector (zone format track.cylinder).sectors)) 0
+
+-- the sectors of a track fill its part of the image: each stands at one number there
+abbrev pub SectorsFillTracks : Type 0
+SectorsFillTracks = (format : Format) (track : TrackId) (sector : ℕ) → IsSector format track sector
+    → (slot format sector < (zone format track.cylinder).sectors) × (sector_in format track (slot format sector) ≡ sector)

@@ -3,12 +3,15 @@
 #![tactic(auto)]
 
 mod format;
+mod laws;
 mod places;
 mod table;
 
 pub use format::Format;
+pub use laws::sectors_fill_tracks;
 pub use places::{
-    image_place, image_size, nominal, ring_cells, track_bytes, track_count, track_id, track_place,
+    image_place, image_sector, image_size, nominal, ring_cells, track_bytes, track_count, track_id,
+    track_place,
 };
 
 #[cfg(test)]

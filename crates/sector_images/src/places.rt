@@ -1,6 +1,6 @@
 ghost use Rattle.std.specs.Prelude.{◌≡◌, ℕ, ◌+◌, ◌<◌, ◌≤◌, length, sum_by, take, slice_get, Some};
-ghost use Rattle.sector_images.specs.Formats.{row, zone};
-ghost use Rattle.sector_images.specs.Places.{IsTrack, IsSector, tracks, bytes_of, place_of, sector_place};
+ghost use Rattle.sector_images.specs.Formats.{row, slot, zone};
+ghost use Rattle.sector_images.specs.Places.{IsTrack, IsSector, tracks, bytes_of, place_of, sector_in, sector_place};
 
 use crate::format::Format;
 use flux_base::TrackId;
@@ -68,6 +68,17 @@ pub fn image_place(format: Format, track: TrackId, sector: u8) -> u32
     let geometry = format.geometry();
     track_place(format, track)
         + u32::from(geometry.sector_size) * u32::from(sector - geometry.first_sector)
+}
+
+/// The sector that stands at this number, from 0, among those of the track in the image.
+pub fn image_sector(format: Format, track: TrackId, number: u8) -> u8
+    requires track { IsTrack format track }
+    requires number { number < (zone format track.cylinder).sectors }
+    ensures first { result ≡ sector_in format track number }
+    ensures sector { IsSector format track result }
+    ensures slot { slot format result ≡ number }
+{
+    format.geometry().first_sector + number
 }
 
 /// The nominal cell of a track in fine units.

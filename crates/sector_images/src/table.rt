@@ -1,6 +1,5 @@
-ghost use Rattle.std.specs.Prelude.{◌≡◌, ℕ, ◌+◌, ◌-◌, ◌*◌, ◌<◌, ◌≤◌};
-ghost use Rattle.sector_images.specs.Formats.{row, zone};
-ghost use Rattle.sector_images.specs.Places.{place_of};
+ghost use Rattle.std.specs.Prelude.{◌≡◌, ◌<◌};
+ghost use Rattle.sector_images.specs.Formats.{begin_of, row, zone};
 
 use crate::format::Format;
 
@@ -47,16 +46,35 @@ impl Format {
                 sector_size: 128,
                 image_size: 256256,
             },
+            Format::Ibm360 => Geometry {
+                cylinders: 40,
+                heads: 2,
+                first_sector: 1,
+                sector_size: 512,
+                image_size: 368640,
+            },
+            Format::Ibm720 => Geometry {
+                cylinders: 80,
+                heads: 2,
+                first_sector: 1,
+                sector_size: 512,
+                image_size: 737280,
+            },
+            Format::Ibm1440 => Geometry {
+                cylinders: 80,
+                heads: 2,
+                first_sector: 1,
+                sector_size: 512,
+                image_size: 1474560,
+            },
         }
     }
 
     /// The zone of one of the format's cylinders.
     pub(crate) fn zone(self, cylinder: u8) -> Zone
         requires { cylinder < (row self).cylinders }
-        ensures first_cylinder { result.first_cylinder ≤ cylinder }
-        ensures place { (head : ℕ) → head < (row self).heads
-            → place_of self (record { cylinder = cylinder; head = head })
-            ≡ result.place + ((cylinder - result.first_cylinder) * (row self).heads + head) * (result.sectors * (row self).sector_size) }
+        ensures first_cylinder { result.first_cylinder ≡ (begin_of self cylinder).first_cylinder }
+        ensures place { result.place ≡ (begin_of self cylinder).place }
         ensures sectors { result.sectors ≡ (zone self cylinder).sectors }
         ensures nominal { result.nominal ≡ (zone self cylinder).nominal }
         ensures ring_cells { result.ring_cells ≡ (zone self cylinder).ring_cells }
@@ -68,6 +86,20 @@ impl Format {
                 sectors: 26,
                 nominal: 49208,
                 ring_cells: 83328,
+            },
+            Format::Ibm360 | Format::Ibm720 => Zone {
+                first_cylinder: 0,
+                place: 0,
+                sectors: 9,
+                nominal: 49208,
+                ring_cells: 100000,
+            },
+            Format::Ibm1440 => Zone {
+                first_cylinder: 0,
+                place: 0,
+                sectors: 18,
+                nominal: 24604,
+                ring_cells: 200000,
             },
         }
     }

@@ -19,8 +19,8 @@ returns-in-Err-write_image-clause-decoded g c =
     let is : c.track_id-track.result ≡ track_at inside.format c.args.number =
     sym (ap (λ (o : Option TrackId). unwrap_or o (record { cylinder = 0; head = 0 })) c.track_id-track.ensures.at) in
     let whole = decodes_image_fault inside.format c.track_id-track.result c.args.number left left' inside.intake.used inside.intake.held held'
-    c.read_stream.new.flux image image' notes notes c.in-Ok.field-0 c.read_sectors-sectors.new.tools.book c.read_sectors-sectors.result
-    c.read_sectors-sectors.ensures.sectors c.in-Ok.ensures.read c.read_sectors-sectors.ensures.gathered c.in-Err-write_image.ensures.err in
+    c.read_stream.new.flux image image' notes notes c.in-Ok.field-0 c.read_sectors-sectors.new.tools.book
+    c.in-Ok.ensures.read c.read_sectors-sectors.ensures.gathered c.in-Err-write_image.ensures.err in
     let track = subst (λ (t : TrackId). DecodesTrack inside.format t c.args.number left left' inside.intake.used inside.intake.held held' image image' notes notes (Err ImageFault)) is whole in
     subst (λ (r : RoomState). DecodesTrack r.format (track_at r.format c.args.number) c.args.number left left' r.used r.held held' image image' notes notes (Err ImageFault))
     c.room.view_is track

@@ -1,5 +1,13 @@
-use Rattle.sector_images.proofs.Computed.{id_at}
+use Rattle.std.proofs.Common.{arith}
+use Rattle.sector_images.proofs.Computed.{id_at, numbered_track, some_heads}
 use Rattle.sector_images.proofs.places.track_id.Goals as goal
+
+pub overflow_cast-result-2 : goal.overflow_cast-result-2
+overflow_cast-result-2 c = rw (c.from-heads.ensures, c.geometry.ensures.heads)
+    (omega (arith, (numbered_track c.args.format c.args.number c.requires).1, (some_heads c.args.format).1))
 
 pub returns-clause-at : goal.returns-clause-at
 returns-clause-at c = rw (c.from-heads.ensures, c.geometry.ensures.heads) (id_at c.args.format c.args.number c.requires)
+
+pub returns-clause-track : goal.returns-clause-track
+returns-clause-track c = rw (c.from-heads.ensures, c.geometry.ensures.heads) (numbered_track c.args.format c.args.number c.requires)
