@@ -1,0 +1,4 @@
+pub mod Nibbles
+pub mod Pushes
+pub mod Rows
+pub mod Sectors

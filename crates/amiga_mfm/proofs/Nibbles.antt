@@ -1,0 +1,99 @@
+-- The bits in the data cells of eight cells, shown by a look at each of the 256 bytes, and the bytes of a half of a long.
+use Rattle.std.proofs.Common.{◌≡◌, ℕ, zero, suc, ◌+◌, ◌*◌, ◌/◌, ◌^◌, ◌<◌, Bool, true, false, ◌==◌, ◌&&◌, inl, inr, List, ◌++◌, length, refl, sym, ap, ◌∙◌, subst, arith, bit_and, bit_or, mod-eq_of_lt}
+use Rattle.std.proofs.lemmas.Bool.{cases_lt, eqb-true}
+use Rattle.cell_bits.specs.Bytes.{data_byte, data_cells}
+use Rattle.cell_bits.specs.Word.{number_of, word_cells}
+use Rattle.cell_bits.specs.WordLaws.{number_of-word_cells, word_cells-append, word_cells-number_of}
+
+-- the check holds of each number below n
+each_below : (ℕ → Bool) → ℕ → Bool
+each_below check zero = true
+each_below check (suc n) = check n && each_below check n
+
+first_holds : (a b : Bool) → (a && b) ≡ true → a ≡ true
+first_holds true b e = refl
+first_holds false b e = e
+
+second_holds : (a b : Bool) → (a && b) ≡ true → b ≡ true
+second_holds true b e = e
+second_holds false b e = cc
+
+from_each : (check : ℕ → Bool) (n : ℕ) → each_below check n ≡ true → (k : ℕ) → k < n → check k ≡ true
+unfolding each_below
+from_each check zero all k within = absurd (omega arith)
+from_each check (suc n) all k within =
+    elim (cases_lt k n) [
+      | inl below ↦ from_each check n (second_holds (check n) (each_below check n) all) k below
+      | inr last ↦ let e : n ≡ k = omega arith in subst (λ (m : ℕ). check m ≡ true) e (first_holds (check n) (each_below check n) all)
+    ]
+
+-- the code's way to take the second bit of each pair
+abbrev pairs : ℕ → ℕ
+pairs cells = bit_and (bit_or (bit_and cells 85) (bit_and cells 85 / 2)) 51
+
+abbrev pub nibble : ℕ → ℕ
+nibble cells = bit_and (bit_or (pairs cells) (pairs cells / 4)) 15
+
+nibble_table : each_below (λ cells. nibble cells == number_of (data_cells (word_cells 8 cells))) 256 ≡ true
+unfolding each_below number_of word_cells data_cells
+nibble_table = refl
+
+length-nibble : (cells : ℕ) → length (data_cells (word_cells 8 cells)) ≡ 4
+unfolding data_cells word_cells
+length-nibble cells = refl
+
+pub nibble-is : (cells : ℕ) → cells < 256 → word_cells 4 (nibble cells) ≡ data_cells (word_cells 8 cells)
+nibble-is cells within =
+    let same : nibble cells ≡ number_of (data_cells (word_cells 8 cells)) =
+    eqb-true _ _ (from_each (λ c. nibble c == number_of (data_cells (word_cells 8 c))) 256 nibble_table cells within) in
+    ap (word_cells 4) same ∙ ap (λ (n : ℕ). word_cells n (number_of (data_cells (word_cells 8 cells)))) (sym (length-nibble cells))
+    ∙ word_cells-number_of (data_cells (word_cells 8 cells))
+
+-- two nibbles are the byte in the data cells of two bytes
+data_cells-both : (a b : ℕ) → data_cells (word_cells 8 a ++ word_cells 8 b) ≡ data_cells (word_cells 8 a) ++ data_cells (word_cells 8 b)
+unfolding data_cells word_cells
+data_cells-both a b = refl
+
+two_nibbles : (a b high low : ℕ) → high < 16 → low < 16 → word_cells 4 high ≡ data_cells (word_cells 8 a) → word_cells 4 low ≡ data_cells (word_cells 8 b)
+    → 16 * high + low ≡ number_of (data_cells (word_cells 8 a ++ word_cells 8 b))
+two_nibbles a b high low high_fits low_fits first second =
+    let order : 16 * high + low ≡ high * 2 ^ 4 + low = omega arith in
+    let small : high * 2 ^ 4 + low < 256 = omega arith in
+    let cells : word_cells 8 (high * 2 ^ 4 + low) ≡ data_cells (word_cells 8 a ++ word_cells 8 b) =
+    word_cells-append 4 4 high low low_fits
+    ∙ ap (λ (cells : List Bool). cells ++ word_cells 4 low) first
+    ∙ ap (λ (cells : List Bool). data_cells (word_cells 8 a) ++ cells) second
+    ∙ sym (data_cells-both a b) in
+    order ∙ sym (mod-eq_of_lt small) ∙ sym (number_of-word_cells 8 (high * 2 ^ 4 + low)) ∙ ap number_of cells
+
+-- a number of four bytes as cells
+four_bytes : (a b c d : ℕ) → b < 256 → c < 256 → d < 256
+    → word_cells 32 ((a * 2 ^ 8 + b) * 2 ^ 16 + (c * 2 ^ 8 + d)) ≡ (word_cells 8 a ++ word_cells 8 b) ++ (word_cells 8 c ++ word_cells 8 d)
+four_bytes a b c d second third fourth =
+    let low : c * 2 ^ 8 + d < 2 ^ 16 = omega arith in
+    word_cells-append 16 16 (a * 2 ^ 8 + b) (c * 2 ^ 8 + d) low
+    ∙ ap (λ (cells : List Bool). cells ++ word_cells 16 (c * 2 ^ 8 + d)) (word_cells-append 8 8 a b second)
+    ∙ ap (λ (cells : List Bool). (word_cells 8 a ++ word_cells 8 b) ++ cells) (word_cells-append 8 8 c d fourth)
+
+take_first : (a b c d : ℕ) → data_byte ((word_cells 8 a ++ word_cells 8 b) ++ (word_cells 8 c ++ word_cells 8 d)) 0 ≡ number_of (data_cells (word_cells 8 a ++ word_cells 8 b))
+unfolding data_byte data_cells word_cells
+take_first a b c d = refl
+
+take_second : (a b c d : ℕ) → data_byte ((word_cells 8 a ++ word_cells 8 b) ++ (word_cells 8 c ++ word_cells 8 d)) 16 ≡ number_of (data_cells (word_cells 8 c ++ word_cells 8 d))
+unfolding data_byte data_cells word_cells
+take_second a b c d = refl
+
+module _ (half a b c d : ℕ) (second : b < 256) (third : c < 256) (fourth : d < 256) (is : half ≡ (a * 2 ^ 8 + b) * 2 ^ 16 + (c * 2 ^ 8 + d)) where
+  pub first-byte : (high low : ℕ) → high < 16 → low < 16 → word_cells 4 high ≡ data_cells (word_cells 8 a) → word_cells 4 low ≡ data_cells (word_cells 8 b)
+      → 16 * high + low ≡ data_byte (word_cells 32 half) 0
+  first-byte high low high_fits low_fits first then =
+      two_nibbles a b high low high_fits low_fits first then
+      ∙ sym (ap (λ (n : ℕ). data_byte (word_cells 32 n) 0) is ∙ ap (λ (cells : List Bool). data_byte cells 0) (four_bytes a b c d second third fourth)
+      ∙ take_first a b c d)
+
+  pub second-byte : (high low : ℕ) → high < 16 → low < 16 → word_cells 4 high ≡ data_cells (word_cells 8 c) → word_cells 4 low ≡ data_cells (word_cells 8 d)
+      → 16 * high + low ≡ data_byte (word_cells 32 half) 16
+  second-byte high low high_fits low_fits first then =
+      two_nibbles c d high low high_fits low_fits first then
+      ∙ sym (ap (λ (n : ℕ). data_byte (word_cells 32 n) 16) is ∙ ap (λ (cells : List Bool). data_byte cells 16) (four_bytes a b c d second third fourth)
+      ∙ take_second a b c d)

@@ -1,0 +1,17 @@
+//! The recording of Amiga disks (Amiga trackdisk): MFM, 80 cylinders of two heads, 11 sectors of 512 bytes on
+//! each track.
+#![tactic(auto)]
+
+mod data_field;
+mod half;
+mod header;
+mod layout;
+mod longs;
+mod pieces;
+mod recording;
+mod track;
+
+pub use recording::AmigaMfm;
+
+#[cfg(test)]
+mod tests;

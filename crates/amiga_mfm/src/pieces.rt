@@ -1,0 +1,105 @@
+ghost use Rattle.std.specs.Prelude.{◌≡◌, ℕ, ◌<◌, length, map};
+ghost use Rattle.check_values.specs.Sums.{xor};
+ghost use Rattle.mfm_coding.specs.Writes.{AppendsSymbols};
+ghost use Rattle.amiga_mfm.specs.Longs.{half_of};
+ghost use Rattle.amiga_mfm.specs.Layout.{check_of_data, check_of_header, halves_symbols, info_of, longs_symbols, piece_symbols, pieces_symbols};
+ghost use Rattle.amiga_mfm.specs.Sectors.{IsTrack};
+
+use crate::half::{Half, half_bytes};
+use crate::header::track_number;
+use crate::layout::{FORMAT_BYTE, Piece, SECTORS};
+use cell_bits::Cells;
+use check_values::amiga_xor;
+use flux_base::{Memory, TrackId};
+use mfm_coding::{push_bytes, push_run};
+
+/// Appends a part of the ring, each piece for this sector with these longs.
+pub(crate) fn push_pieces(
+    cells: &mut Cells,
+    pieces: &[Piece],
+    track: TrackId,
+    sector: u8,
+    longs: &[u32],
+) -> Result<(), Memory>
+    requires track { IsTrack track }
+    requires sector { sector < 11 }
+    ensures { AppendsSymbols cells.old cells.new (pieces_symbols track sector longs.now pieces.now) result }
+{
+    for piece in pieces {
+        push_piece(cells, *piece, track, sector, longs)?;
+    }
+    Ok(())
+}
+
+fn push_piece(
+    cells: &mut Cells,
+    piece: Piece,
+    track: TrackId,
+    sector: u8,
+    longs: &[u32],
+) -> Result<(), Memory>
+    requires track { IsTrack track }
+    requires sector { sector < 11 }
+    ensures { AppendsSymbols cells.old cells.new (piece_symbols track sector longs.now piece) result }
+{
+    match piece {
+        Piece::Run(count, symbol) => push_run(cells, count, symbol),
+        Piece::Info => push_longs(cells, &[info(track, sector)]),
+        Piece::HeaderCheck => push_longs(cells, &[header_check(info(track, sector))]),
+        Piece::DataCheck => push_longs(cells, &[data_check(longs)]),
+        Piece::Content => push_longs(cells, longs),
+    }
+}
+
+/// Appends longs: their odd halves, and then their even ones.
+fn push_longs(cells: &mut Cells, longs: &[u32]) -> Result<(), Memory>
+    ensures { AppendsSymbols cells.old cells.new (longs_symbols longs.now) result }
+{
+    push_halves(cells, longs, Half::Odd)?;
+    push_halves(cells, longs, Half::Even)
+}
+
+/// Appends this half of each long.
+fn push_halves(cells: &mut Cells, longs: &[u32], half: Half) -> Result<(), Memory>
+    ensures { AppendsSymbols cells.old cells.new (halves_symbols (map (half_of half) longs.now)) result }
+{
+    for long in longs {
+        push_bytes(cells, &half_bytes(half.of(*long)))?;
+    }
+    Ok(())
+}
+
+/// The long that names the sector: FF, track, sector, and how many sectors there are from it to the gap.
+fn info(track: TrackId, sector: u8) -> u32
+    requires track { IsTrack track }
+    requires sector { sector < 11 }
+    ensures { result ≡ info_of track sector }
+{
+    u32::from_be_bytes([FORMAT_BYTE, track_number(track), sector, SECTORS - sector])
+}
+
+/// The check value of a header with this info and a label of zeros.
+fn header_check(info: u32) -> u32
+    ensures { result ≡ check_of_header info }
+{
+    let (odd, even) = (Half::Odd.of(info), Half::Even.of(info));
+    amiga_xor(&[odd, even, 0, 0, 0, 0, 0, 0, 0, 0])
+}
+
+/// The check value of a sector's longs.
+fn data_check(longs: &[u32]) -> u32
+    ensures { result ≡ check_of_data longs.now }
+{
+    halves_xor(longs, Half::Odd) ^ halves_xor(longs, Half::Even)
+}
+
+/// The exclusive or of this half of each long.
+fn halves_xor(longs: &[u32], half: Half) -> u32
+    ensures { result ≡ xor (map (half_of half) longs.now) }
+{
+    let mut sum = 0;
+    for long in longs {
+        sum ^= half.of(*long);
+    }
+    sum
+}
