@@ -1,0 +1,18 @@
+//! The recording of the Commodore 1541's disks: group code (GCR), which writes a nibble as five cells, on 40
+//! tracks of 17 to 21 sectors of 256 bytes.
+#![tactic(auto)]
+
+mod coding;
+mod data_block;
+mod fields;
+mod header_block;
+mod layout;
+mod pieces;
+mod recording;
+mod track;
+mod zones;
+
+pub use recording::CommodoreGcr;
+
+#[cfg(test)]
+mod tests;
