@@ -1,0 +1,4 @@
+pub mod Bytes
+pub mod Content
+pub mod Values
+pub mod Writes

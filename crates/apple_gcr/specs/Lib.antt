@@ -1,0 +1,14 @@
+pub mod FourAndFour
+pub mod FrameLaws
+pub mod Layout
+pub mod Lengths
+pub mod NibbleLaws
+pub mod Nibbles
+pub mod ReadLaws
+pub mod RingLaws
+pub mod Sectors
+pub mod SixAndTwo
+pub mod Spacing
+pub mod StandLaws
+pub mod Tables
+pub mod ValueLaws

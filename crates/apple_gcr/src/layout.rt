@@ -1,0 +1,92 @@
+/// A part of a track's ring.
+#[derive(Clone, Copy)]
+pub(crate) enum Piece {
+    /// So many self-syncs.
+    SelfSyncs(u8),
+    /// Three bytes that stand before a field or behind it, by their cells.
+    Mark(u32),
+    /// Volume, track, sector and their check value.
+    Address,
+    /// A sector's bytes and their check value.
+    Content,
+}
+
+/// D5 AA 96, which opens an address field.
+pub(crate) const ADDRESS_MARK: u32 = 0xD5_AA96;
+
+/// D5 AA AD, which opens a data field.
+const DATA_MARK: u32 = 0xD5_AAAD;
+
+/// DE AA EB, which closes both.
+const EPILOGUE: u32 = 0xDE_AAEB;
+
+/// Before the first sector.
+pub(crate) const LEAD_IN: [Piece; 1] = [Piece::SelfSyncs(33)];
+
+/// A sector: address field, gap, data field, gap.
+pub(crate) const SECTOR: [Piece; 8] = [
+    Piece::Mark(ADDRESS_MARK),
+    Piece::Address,
+    Piece::Mark(EPILOGUE),
+    Piece::SelfSyncs(6),
+    Piece::Mark(DATA_MARK),
+    Piece::Content,
+    Piece::Mark(EPILOGUE),
+    Piece::SelfSyncs(14),
+];
+
+/// The sectors of a track, numbered from 0 in the order in which they pass.
+pub(crate) const SECTORS: u8 = 16;
+
+/// The bytes of a sector.
+pub(crate) const SECTOR_SIZE: u16 = 256;
+
+/// The volume that is written. Any is read.
+pub(crate) const VOLUME: u8 = 254;
+
+/// The cells of a track.
+pub(crate) const RING_CELLS: u32 = 49994;
+
+/// A byte FF and two zeros, by their cells: whatever the cell at which a reader begins, after some of them it
+/// reads bytes where they begin.
+pub(crate) const SELF_SYNC: u32 = 0x3FC;
+
+pub(crate) const SELF_SYNC_CELLS: u8 = 10;
+
+/// The cells of a byte.
+pub(crate) const BYTE_CELLS: usize = 8;
+
+/// A mark is a word of so many cells.
+pub(crate) const MARK_CELLS: u8 = 24;
+
+/// The mark and eight bytes.
+pub(crate) const HEADER_CELLS: usize = 88;
+
+/// Where the fields of a header begin, in cells from its begin.
+pub(crate) const VOLUME_PLACE: usize = 24;
+
+pub(crate) const TRACK_PLACE: usize = 40;
+
+pub(crate) const SECTOR_PLACE: usize = 56;
+
+pub(crate) const CHECK_PLACE: usize = 72;
+
+/// D5 AA, with which the mark of a data field begins.
+pub(crate) const DATA_SYNC: u32 = 0xD5AA;
+
+pub(crate) const DATA_SYNC_CELLS: u8 = 16;
+
+/// The third byte of that mark.
+pub(crate) const DATA_BYTE: u8 = 0xAD;
+
+/// Where it begins, in cells from the data sync.
+pub(crate) const DATA_BYTE_PLACE: usize = 16;
+
+/// Where the nibbles begin, in cells from the data sync.
+pub(crate) const NIBBLES_PLACE: usize = 24;
+
+/// The data sync begins less than this number of cells behind the header.
+pub(crate) const DATA_REACH: usize = 1024;
+
+/// The mark and 343 nibbles.
+pub(crate) const DATA_CELLS: usize = 2768;
