@@ -4,7 +4,7 @@ use Rattle.std.specs.Prelude.{find}
 use Rattle.std.specs.Str.{bytes_eq}
 use Rattle.flux_engine.specs.Laws.{OneOutcome}
 use Rattle.sector_images.specs.declared.format.Format.{Format}
-use Rattle.sector_images.specs.declared.format.Format.TheVariants.{Ibm3740, Ibm360, Ibm720, Ibm1440}
+use Rattle.sector_images.specs.declared.format.Format.TheVariants.{Ibm3740, Ibm360, Ibm720, Ibm1440, Amiga, C1541, C1541Forty, AppleDo, ApplePo}
 use Rattle.sector_images.specs.Formats.{row}
 use Rattle.flux_cli.specs.Commands.{AskFor, words_of}
 use Rattle.flux_cli.specs.Outcome.{Outcome, OutcomeOf, IsOutcome, decode_outcome, report_outcome}
@@ -13,13 +13,18 @@ use Rattle.flux_cli.specs.declared.command.Command.TheVariants.{Turns, Decode, R
 
 -- the format of a word
 abbrev format_of : List ℕ → Option Format
-format_of word = find (λ format. bytes_eq (row format).word word) (Ibm3740 ∷ Ibm360 ∷ Ibm720 ∷ Ibm1440 ∷ [])
+format_of word = find (λ format. bytes_eq (row format).word word) (Ibm3740 ∷ Ibm360 ∷ Ibm720 ∷ Ibm1440 ∷ Amiga ∷ C1541 ∷ C1541Forty ∷ AppleDo ∷ ApplePo ∷ [])
 
 format_of_word : (format : Format) → format_of (row format).word ≡ Some format
 format_of_word Ibm3740 = refl
 format_of_word Ibm360 = refl
 format_of_word Ibm720 = refl
 format_of_word Ibm1440 = refl
+format_of_word Amiga = refl
+format_of_word C1541 = refl
+format_of_word C1541Forty = refl
+format_of_word AppleDo = refl
+format_of_word ApplePo = refl
 
 some_same : (f g : Format) → Some f ≡ Some g → f ≡ g
 some_same f g same = cc

@@ -7,7 +7,10 @@ ghost use Rattle.flux_engine.specs.Recordings.{header_at, sector_at, sectors_of 
 
 use crate::gathering::gather;
 use crate::sectors::Sectors;
+use amiga_mfm::AmigaMfm;
+use apple_gcr::AppleGcr;
 use cell_bits::Cells;
+use commodore_gcr::CommodoreGcr;
 use flux_base::TrackId;
 use frame_law::Recording;
 use ibm_fm::IbmFm;
@@ -22,6 +25,9 @@ const NINE_SECTORS: IbmMfm = IbmMfm { sectors: 9 };
 /// The PC's disks of high density.
 const EIGHTEEN_SECTORS: IbmMfm = IbmMfm { sectors: 18 };
 
+/// The Commodore 1541's disks, read whatever their ids are.
+const ANY_IDS: CommodoreGcr = CommodoreGcr { id1: 0, id2: 0 };
+
 /// The sectors of one of the format's tracks.
 pub(crate) fn sectors_of(format: Format, track: TrackId) -> Sectors
     requires { IsTrack format track }
@@ -31,6 +37,9 @@ pub(crate) fn sectors_of(format: Format, track: TrackId) -> Sectors
         Format::Ibm3740 => sectors(&IbmFm, track),
         Format::Ibm360 | Format::Ibm720 => sectors(&NINE_SECTORS, track),
         Format::Ibm1440 => sectors(&EIGHTEEN_SECTORS, track),
+        Format::Amiga => sectors(&AmigaMfm, track),
+        Format::C1541 | Format::C1541Forty => sectors(&ANY_IDS, track),
+        Format::AppleDo | Format::ApplePo => sectors(&AppleGcr, track),
     }
 }
 
@@ -66,5 +75,8 @@ pub(crate) fn gather_track(
         Format::Ibm3740 => gather(&IbmFm, track, flux, cells, book),
         Format::Ibm360 | Format::Ibm720 => gather(&NINE_SECTORS, track, flux, cells, book),
         Format::Ibm1440 => gather(&EIGHTEEN_SECTORS, track, flux, cells, book),
+        Format::Amiga => gather(&AmigaMfm, track, flux, cells, book),
+        Format::C1541 | Format::C1541Forty => gather(&ANY_IDS, track, flux, cells, book),
+        Format::AppleDo | Format::ApplePo => gather(&AppleGcr, track, flux, cells, book),
     }
 }

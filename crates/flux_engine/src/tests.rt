@@ -1,4 +1,5 @@
 use crate::{DiskRoom, EngineFault, decode_disk, decode_track};
+use apple_gcr::AppleGcr;
 use cell_bits::Cells;
 use flux_base::{Memory, MemorySink, MemorySource, TrackId};
 use frame_law::Recording;
@@ -33,23 +34,25 @@ fn push_index(bytes: &mut Vec<u8>, position: u32) -> Result<(), Memory> {
     Ok(())
 }
 
-/// Appends the ring's ones as blocks of so many ticks a cell, and gives their number.
-fn push_ring(bytes: &mut Vec<u8>, ring: &Cells, ticks: u8) -> Result<u32, Memory> {
+/// Appends the ring's ones as blocks of two bytes, with so many ticks a cell, and gives the number of bytes.
+fn push_ring(bytes: &mut Vec<u8>, ring: &Cells, ticks: u16) -> Result<u32, Memory> {
     let mut count = 0u32;
-    let mut distance = 0u8;
+    let mut interval = 0u16;
     for place in 0..ring.len() {
-        distance = distance.saturating_add(1);
+        interval = interval.saturating_add(ticks);
         if ring.cell(place) {
-            bytes.push(distance.saturating_mul(ticks))?;
-            count = count.saturating_add(1);
-            distance = 0;
+            for byte in interval.to_be_bytes() {
+                bytes.push(byte)?;
+            }
+            count = count.saturating_add(2);
+            interval = 0;
         }
     }
     Ok(count)
 }
 
 /// A stream that turns three times over a ring with cells of so many ticks.
-fn three_turns(alloc: Global, ring: &Cells, ticks: u8) -> Result<Vec<u8>, Memory> {
+fn three_turns(alloc: Global, ring: &Cells, ticks: u16) -> Result<Vec<u8>, Memory> {
     let mut bytes = Vec::new(alloc);
     let mut position = 0u32;
     for _ in 0..3 {
@@ -123,6 +126,33 @@ fn a_track_of_a_pc_disk(rt: HostRuntime) -> Result<(), Fail> {
             .bytes()
             .ends_with(b"00.0 18 good 3 0 1 188032\n")
     );
+    Ok(())
+}
+
+// Each sector is filled with its number.
+#[test]
+fn an_apple_track_comes_to_the_order_of_its_image(rt: HostRuntime) -> Result<(), Fail> {
+    let alloc = rt.alloc();
+    let mut content = [0u8; 4096];
+    for place in 0..4096usize {
+        content[place] = (place / 256) as u8;
+    }
+    let mut ring = Cells::new(alloc);
+    AppleGcr.ring(TRACK, &content, &mut ring)?;
+    for (format, second, last) in [(Format::AppleDo, 13, 2), (Format::ApplePo, 2, 13)] {
+        let track = decode_first(alloc, format, three_turns(alloc, &ring, 96)?)?;
+        assert!(rt; matches!(track.totals, Ok(totals) if totals.good == 16));
+        assert!(rt;
+            track
+                .notes
+                .bytes()
+                .starts_with(b"00.0 00 good 3 0 1 330\n00.0 01 good 3 0 1 3434\n")
+        );
+        assert_eq!(rt; track.image.bytes().len(), 4096);
+        assert_eq!(rt; track.image.bytes()[256], second);
+        assert_eq!(rt; track.image.bytes()[511], second);
+        assert_eq!(rt; track.image.bytes()[3584], last);
+    }
     Ok(())
 }
 

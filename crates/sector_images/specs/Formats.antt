@@ -1,15 +1,25 @@
 -- The formats of sector images, a row for each.
-use Rattle.std.specs.Prelude.{ℕ, ◌-◌, ◌*◌, ◌/◌, List, codes}
+use Rattle.std.specs.Prelude.{ℕ, ◌+◌, ◌-◌, ◌*◌, ◌/◌, List, [], ◌∷◌, codes, get_or, nat_lt, if◌then◌else◌, Option, Some, None}
 use Rattle.sector_images.specs.declared.format.Format.{Format}
-use Rattle.sector_images.specs.declared.format.Format.TheVariants.{Ibm3740, Ibm360, Ibm720, Ibm1440}
+use Rattle.sector_images.specs.declared.format.Format.TheVariants.{Ibm3740, Ibm360, Ibm720, Ibm1440, Amiga, C1541, C1541Forty, AppleDo, ApplePo}
 
 -- a cell of so many quarters of a microsecond, in fine units, which are 1/1024 of a period of the capture's clock of
 -- 168192000/7 Hz
 abbrev pub fine_units : ℕ → ℕ
 fine_units quarters = quarters * 168192000 * 1024 / (7 * 4000000)
 
+-- what each physical sector of an Apple track holds, from sector 0 on: in DOS 3.3 a logical sector, in ProDOS a half block
+abbrev pub dos_order : List ℕ
+dos_order =
+    0x0 ∷ 0x7 ∷ 0xE ∷ 0x6 ∷ 0xD ∷ 0x5 ∷ 0xC ∷ 0x4 ∷ 0xB ∷ 0x3 ∷ 0xA ∷ 0x2 ∷ 0x9 ∷ 0x1 ∷ 0x8 ∷ 0xF ∷ []
+
+abbrev pub prodos_order : List ℕ
+prodos_order =
+    0x0 ∷ 0x8 ∷ 0x1 ∷ 0x9 ∷ 0x2 ∷ 0xA ∷ 0x3 ∷ 0xB ∷ 0x4 ∷ 0xC ∷ 0x5 ∷ 0xD ∷ 0x6 ∷ 0xE ∷ 0x7 ∷ 0xF ∷ []
+
 -- the word of the command line, the numbers of cylinders and heads, the number of a track's first sector, the bytes
--- of a sector and those of the image
+-- of a sector and those of the image, and where each sector from 0 on stands among those of its track in the image, where
+-- that is not the order of their numbers
 pub record Row : Type 0 where
   pub word : List ℕ
   pub cylinders : ℕ
@@ -17,6 +27,7 @@ pub record Row : Type 0 where
   pub first_sector : ℕ
   pub sector_size : ℕ
   pub image_size : ℕ
+  pub order : Option (List ℕ)
 
 abbrev pub row : Format → Row
 row Ibm3740 = record {
@@ -26,6 +37,7 @@ row Ibm3740 = record {
   first_sector = 1;
   sector_size = 128;
   image_size = 256256;
+  order = None;
 }
 row Ibm360 = record {
   word = codes "ibm-360";
@@ -34,6 +46,7 @@ row Ibm360 = record {
   first_sector = 1;
   sector_size = 512;
   image_size = 368640;
+  order = None;
 }
 row Ibm720 = record {
   word = codes "ibm-720";
@@ -42,6 +55,7 @@ row Ibm720 = record {
   first_sector = 1;
   sector_size = 512;
   image_size = 737280;
+  order = None;
 }
 row Ibm1440 = record {
   word = codes "ibm-1440";
@@ -50,6 +64,52 @@ row Ibm1440 = record {
   first_sector = 1;
   sector_size = 512;
   image_size = 1474560;
+  order = None;
+}
+row Amiga = record {
+  word = codes "amiga";
+  cylinders = 80;
+  heads = 2;
+  first_sector = 0;
+  sector_size = 512;
+  image_size = 901120;
+  order = None;
+}
+row C1541 = record {
+  word = codes "c1541";
+  cylinders = 35;
+  heads = 1;
+  first_sector = 0;
+  sector_size = 256;
+  image_size = 174848;
+  order = None;
+}
+row C1541Forty = record {
+  word = codes "c1541-40";
+  cylinders = 40;
+  heads = 1;
+  first_sector = 0;
+  sector_size = 256;
+  image_size = 196608;
+  order = None;
+}
+row AppleDo = record {
+  word = codes "apple-do";
+  cylinders = 35;
+  heads = 1;
+  first_sector = 0;
+  sector_size = 256;
+  image_size = 143360;
+  order = Some dos_order;
+}
+row ApplePo = record {
+  word = codes "apple-po";
+  cylinders = 35;
+  heads = 1;
+  first_sector = 0;
+  sector_size = 256;
+  image_size = 143360;
+  order = Some prodos_order;
 }
 
 -- the sectors of a track, its nominal cell in fine units and the cells of its ring
@@ -58,21 +118,48 @@ pub record Zone : Type 0 where
   pub nominal : ℕ
   pub ring_cells : ℕ
 
+-- the zones of a Commodore 1541 disk, whose tracks are numbered from 1: 1 to 17, 18 to 24, 25 to 30, and from 31 on
+abbrev pub commodore_zone : ℕ → Zone
+commodore_zone cylinder =
+    if nat_lt (cylinder + 1) 18 then record { sectors = 21; nominal = fine_units 13; ring_cells = 61488 }
+    else if nat_lt (cylinder + 1) 25 then record { sectors = 19; nominal = fine_units 14; ring_cells = 57000 }
+    else if nat_lt (cylinder + 1) 31 then record { sectors = 18; nominal = fine_units 15; ring_cells = 53280 }
+    else record { sectors = 17; nominal = fine_units 16; ring_cells = 49912 }
+
 -- the zone of a cylinder
 abbrev pub zone : Format → ℕ → Zone
 zone Ibm3740 cylinder = record { sectors = 26; nominal = fine_units 8; ring_cells = 83328 }
 zone Ibm360 cylinder = record { sectors = 9; nominal = fine_units 8; ring_cells = 100000 }
 zone Ibm720 cylinder = record { sectors = 9; nominal = fine_units 8; ring_cells = 100000 }
 zone Ibm1440 cylinder = record { sectors = 18; nominal = fine_units 4; ring_cells = 200000 }
+zone Amiga cylinder = record { sectors = 11; nominal = fine_units 8; ring_cells = 100000 }
+zone C1541 cylinder = commodore_zone cylinder
+zone C1541Forty cylinder = commodore_zone cylinder
+zone AppleDo cylinder = record { sectors = 16; nominal = fine_units 16; ring_cells = 49994 }
+zone ApplePo cylinder = record { sectors = 16; nominal = fine_units 16; ring_cells = 49994 }
 
 -- the first of the neighbouring cylinders whose tracks have as many bytes, and where it begins in the image
 pub record Begin : Type 0 where
   pub first_cylinder : ℕ
   pub place : ℕ
 
+abbrev pub commodore_begin : ℕ → Begin
+commodore_begin cylinder =
+    if nat_lt (cylinder + 1) 18 then record { first_cylinder = 0; place = 0 }
+    else if nat_lt (cylinder + 1) 25 then record { first_cylinder = 17; place = 91392 }
+    else if nat_lt (cylinder + 1) 31 then record { first_cylinder = 24; place = 125440 }
+    else record { first_cylinder = 30; place = 153088 }
+
 abbrev pub begin_of : Format → ℕ → Begin
+begin_of C1541 cylinder = commodore_begin cylinder
+begin_of C1541Forty cylinder = commodore_begin cylinder
 begin_of format cylinder = record { first_cylinder = 0; place = 0 }
+
+-- where a sector stands in an order, or else by its number
+abbrev pub slot_by : Option (List ℕ) → (first sector : ℕ) → ℕ
+slot_by None first sector = sector - first
+slot_by (Some order) first sector = get_or order sector 0
 
 -- where a sector stands among those of its track in the image, counted from 0
 abbrev pub slot : Format → ℕ → ℕ
-slot format sector = sector - (row format).first_sector
+slot format sector = slot_by (row format).order (row format).first_sector sector

@@ -11,6 +11,16 @@ pub enum Format {
     Ibm720,
     /// The PC's 1440 KB disk: 80 cylinders of two heads, 18 sectors of 512 bytes, high density (MFM).
     Ibm1440,
+    /// The Amiga's disk: 80 cylinders of two heads, 11 sectors of 512 bytes (MFM).
+    Amiga,
+    /// The Commodore 1541's disk: 35 cylinders of one head, 21 to 17 sectors of 256 bytes by zone (GCR).
+    C1541,
+    /// The same with 40 cylinders.
+    C1541Forty,
+    /// Apple's 5.25-inch disk, 35 cylinders of one head, 16 sectors of 256 bytes (6-and-2), in the order of DOS 3.3.
+    AppleDo,
+    /// The same disk in the order of ProDOS.
+    ApplePo,
 }
 
 impl Format {
@@ -25,6 +35,11 @@ impl Format {
             b"ibm-360" => Some(Format::Ibm360),
             b"ibm-720" => Some(Format::Ibm720),
             b"ibm-1440" => Some(Format::Ibm1440),
+            b"amiga" => Some(Format::Amiga),
+            b"c1541" => Some(Format::C1541),
+            b"c1541-40" => Some(Format::C1541Forty),
+            b"apple-do" => Some(Format::AppleDo),
+            b"apple-po" => Some(Format::ApplePo),
             _ => None,
         }
     }
@@ -38,6 +53,11 @@ impl Format {
             Format::Ibm360 => "ibm-360",
             Format::Ibm720 => "ibm-720",
             Format::Ibm1440 => "ibm-1440",
+            Format::Amiga => "amiga",
+            Format::C1541 => "c1541",
+            Format::C1541Forty => "c1541-40",
+            Format::AppleDo => "apple-do",
+            Format::ApplePo => "apple-po",
         }
     }
 }

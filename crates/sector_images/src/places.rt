@@ -1,4 +1,4 @@
-ghost use Rattle.std.specs.Prelude.{◌≡◌, ℕ, ◌+◌, ◌<◌, ◌≤◌, length, sum_by, take, slice_get, Some};
+ghost use Rattle.std.specs.Prelude.{◌≡◌, ℕ, ◌+◌, ◌<◌, ◌≤◌, get_or, length, sum_by, take, slice_get, Some};
 ghost use Rattle.sector_images.specs.Formats.{row, slot, zone};
 ghost use Rattle.sector_images.specs.Places.{IsTrack, IsSector, tracks, bytes_of, place_of, sector_in, sector_place};
 
@@ -65,9 +65,20 @@ pub fn image_place(format: Format, track: TrackId, sector: u8) -> u32
     ensures place { result ≡ sector_place format track sector }
     ensures within { result + (row format).sector_size ≤ (row format).image_size }
 {
+    let size = u32::from(format.geometry().sector_size);
+    track_place(format, track) + size * u32::from(slot(format, track, sector))
+}
+
+/// Where a sector stands among those of its track in the image, from 0.
+fn slot(format: Format, track: TrackId, sector: u8) -> u8
+    requires { IsSector format track sector }
+    ensures { result ≡ slot format sector }
+{
     let geometry = format.geometry();
-    track_place(format, track)
-        + u32::from(geometry.sector_size) * u32::from(sector - geometry.first_sector)
+    match geometry.order {
+        Some(order) => order[usize::from(sector)],
+        None => sector - geometry.first_sector,
+    }
 }
 
 /// The sector that stands at this number, from 0, among those of the track in the image.
@@ -78,7 +89,24 @@ pub fn image_sector(format: Format, track: TrackId, number: u8) -> u8
     ensures sector { IsSector format track result }
     ensures slot { slot format result ≡ number }
 {
-    format.geometry().first_sector + number
+    let geometry = format.geometry();
+    match geometry.order {
+        Some(order) => holder(order, number),
+        None => geometry.first_sector + number,
+    }
+}
+
+/// The sector at which a number stands in an order.
+fn holder(order: &[u8; 16], number: u8) -> u8
+    requires { (sector : ℕ) × (sector < 16) × (get_or order.now sector 0 ≡ number) }
+    ensures within { result < 16 }
+    ensures holds { get_or order.now result 0 ≡ number }
+{
+    let mut sector = 0;
+    while order[usize::from(sector)] != number {
+        sector += 1;
+    }
+    sector
 }
 
 /// The nominal cell of a track in fine units.

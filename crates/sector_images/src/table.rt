@@ -1,5 +1,5 @@
-ghost use Rattle.std.specs.Prelude.{◌≡◌, ◌<◌};
-ghost use Rattle.sector_images.specs.Formats.{begin_of, row, zone};
+ghost use Rattle.std.specs.Prelude.{◌≡◌, ◌<◌, ◌≤◌, option_map};
+ghost use Rattle.sector_images.specs.Formats.{begin_of, commodore_begin, commodore_zone, row, zone};
 
 use crate::format::Format;
 
@@ -13,7 +13,20 @@ pub(crate) struct Geometry {
     pub sector_size: u16,
     /// In bytes.
     pub image_size: u32,
+    /// Where each sector, from 0 on, stands among those of its track in the image, where that is not the order
+    /// of their numbers.
+    pub order: Option<&'static [u8; 16]>,
 }
+
+/// The order of DOS 3.3: the logical sector that each physical one holds.
+const DOS_ORDER: [u8; 16] = [
+    0x0, 0x7, 0xE, 0x6, 0xD, 0x5, 0xC, 0x4, 0xB, 0x3, 0xA, 0x2, 0x9, 0x1, 0x8, 0xF,
+];
+
+/// The order of ProDOS: the half block that each physical sector holds.
+const PRODOS_ORDER: [u8; 16] = [
+    0x0, 0x8, 0x1, 0x9, 0x2, 0xA, 0x3, 0xB, 0x4, 0xC, 0x5, 0xD, 0x6, 0xE, 0x7, 0xF,
+];
 
 /// What holds of the tracks of neighbouring cylinders.
 #[derive(Clone, Copy, Debug)]
@@ -37,6 +50,7 @@ impl Format {
         ensures first_sector { result.first_sector ≡ (row self).first_sector }
         ensures sector_size { result.sector_size ≡ (row self).sector_size }
         ensures image_size { result.image_size ≡ (row self).image_size }
+        ensures order { option_map (λ order. order.now) result.order ≡ (row self).order }
     {
         match self {
             Format::Ibm3740 => Geometry {
@@ -45,6 +59,7 @@ impl Format {
                 first_sector: 1,
                 sector_size: 128,
                 image_size: 256256,
+                order: None,
             },
             Format::Ibm360 => Geometry {
                 cylinders: 40,
@@ -52,6 +67,7 @@ impl Format {
                 first_sector: 1,
                 sector_size: 512,
                 image_size: 368640,
+                order: None,
             },
             Format::Ibm720 => Geometry {
                 cylinders: 80,
@@ -59,6 +75,7 @@ impl Format {
                 first_sector: 1,
                 sector_size: 512,
                 image_size: 737280,
+                order: None,
             },
             Format::Ibm1440 => Geometry {
                 cylinders: 80,
@@ -66,6 +83,47 @@ impl Format {
                 first_sector: 1,
                 sector_size: 512,
                 image_size: 1474560,
+                order: None,
+            },
+            Format::Amiga => Geometry {
+                cylinders: 80,
+                heads: 2,
+                first_sector: 0,
+                sector_size: 512,
+                image_size: 901120,
+                order: None,
+            },
+            Format::C1541 => Geometry {
+                cylinders: 35,
+                heads: 1,
+                first_sector: 0,
+                sector_size: 256,
+                image_size: 174848,
+                order: None,
+            },
+            Format::C1541Forty => Geometry {
+                cylinders: 40,
+                heads: 1,
+                first_sector: 0,
+                sector_size: 256,
+                image_size: 196608,
+                order: None,
+            },
+            Format::AppleDo => Geometry {
+                cylinders: 35,
+                heads: 1,
+                first_sector: 0,
+                sector_size: 256,
+                image_size: 143360,
+                order: Some(&DOS_ORDER),
+            },
+            Format::ApplePo => Geometry {
+                cylinders: 35,
+                heads: 1,
+                first_sector: 0,
+                sector_size: 256,
+                image_size: 143360,
+                order: Some(&PRODOS_ORDER),
             },
         }
     }
@@ -73,6 +131,7 @@ impl Format {
     /// The zone of one of the format's cylinders.
     pub(crate) fn zone(self, cylinder: u8) -> Zone
         requires { cylinder < (row self).cylinders }
+        ensures before { result.first_cylinder ≤ cylinder }
         ensures first_cylinder { result.first_cylinder ≡ (begin_of self cylinder).first_cylinder }
         ensures place { result.place ≡ (begin_of self cylinder).place }
         ensures sectors { result.sectors ≡ (zone self cylinder).sectors }
@@ -101,6 +160,62 @@ impl Format {
                 nominal: 24604,
                 ring_cells: 200000,
             },
+            Format::Amiga => Zone {
+                first_cylinder: 0,
+                place: 0,
+                sectors: 11,
+                nominal: 49208,
+                ring_cells: 100000,
+            },
+            Format::C1541 | Format::C1541Forty => commodore_zone(cylinder),
+            Format::AppleDo | Format::ApplePo => Zone {
+                first_cylinder: 0,
+                place: 0,
+                sectors: 16,
+                nominal: 98416,
+                ring_cells: 49994,
+            },
         }
+    }
+}
+
+/// The zones of a Commodore 1541 disk. Cylinder 0 is track 1.
+fn commodore_zone(cylinder: u8) -> Zone
+    ensures before { result.first_cylinder ≤ cylinder }
+    ensures first_cylinder { result.first_cylinder ≡ (commodore_begin cylinder).first_cylinder }
+    ensures place { result.place ≡ (commodore_begin cylinder).place }
+    ensures sectors { result.sectors ≡ (commodore_zone cylinder).sectors }
+    ensures nominal { result.nominal ≡ (commodore_zone cylinder).nominal }
+    ensures ring_cells { result.ring_cells ≡ (commodore_zone cylinder).ring_cells }
+{
+    match cylinder {
+        0..=16 => Zone {
+            first_cylinder: 0,
+            place: 0,
+            sectors: 21,
+            nominal: 79963,
+            ring_cells: 61488,
+        },
+        17..=23 => Zone {
+            first_cylinder: 17,
+            place: 91392,
+            sectors: 19,
+            nominal: 86114,
+            ring_cells: 57000,
+        },
+        24..=29 => Zone {
+            first_cylinder: 24,
+            place: 125440,
+            sectors: 18,
+            nominal: 92265,
+            ring_cells: 53280,
+        },
+        _ => Zone {
+            first_cylinder: 30,
+            place: 153088,
+            sectors: 17,
+            nominal: 98416,
+            ring_cells: 49912,
+        },
     }
 }

@@ -1,7 +1,8 @@
-ghost use Rattle.std.specs.Prelude.{◌≡◌};
+ghost use Rattle.std.specs.Prelude.{◌≡◌, ◌<◌};
 
 use super::*;
 use flux_base::TrackId;
+use std::process::Abort;
 
 fn track(cylinder: u8, head: u8) -> TrackId
     ensures { result ≡ record { cylinder = cylinder; head = head } }
@@ -15,9 +16,20 @@ fn words(rt: HostRuntime) {
     assert_eq!(rt; Format::of_word(b"ibm-360"), Some(Format::Ibm360));
     assert_eq!(rt; Format::of_word(b"ibm-720"), Some(Format::Ibm720));
     assert_eq!(rt; Format::of_word(b"ibm-1440"), Some(Format::Ibm1440));
+    assert_eq!(rt; Format::of_word(b"amiga"), Some(Format::Amiga));
+    assert_eq!(rt; Format::of_word(b"c1541"), Some(Format::C1541));
+    assert_eq!(rt; Format::of_word(b"c1541-40"), Some(Format::C1541Forty));
+    assert_eq!(rt; Format::of_word(b"apple-do"), Some(Format::AppleDo));
+    assert_eq!(rt; Format::of_word(b"apple-po"), Some(Format::ApplePo));
     assert_eq!(rt; Format::Ibm3740.word(), "ibm-3740");
     assert_eq!(rt; Format::Ibm1440.word(), "ibm-1440");
-    for word in [b"".as_slice(), b"ibm-374", b"ibm-37400", b"IBM-3740"] {
+    for word in [
+        b"".as_slice(),
+        b"ibm-374",
+        b"ibm-37400",
+        b"IBM-3740",
+        b"c1541-4",
+    ] {
         assert_eq!(rt; Format::of_word(word), None);
     }
 }
@@ -53,4 +65,61 @@ fn ibm_disks_of_the_pc(rt: HostRuntime) {
     assert_eq!(rt; nominal(Format::Ibm1440, track(0, 1)), 24604);
     assert_eq!(rt; ring_cells(Format::Ibm720, track(0, 1)), 100000);
     assert_eq!(rt; ring_cells(Format::Ibm1440, track(0, 1)), 200000);
+}
+
+#[test]
+fn amiga(rt: HostRuntime) {
+    let format = Format::Amiga;
+    assert_eq!(rt; image_size(format), 80 * 2 * 11 * 512);
+    assert_eq!(rt; track_id(format, 159), track(79, 1));
+    assert_eq!(rt; image_place(format, track(1, 0), 0), 11264);
+    assert_eq!(rt; image_place(format, track(79, 1), 10), 900608);
+    assert_eq!(rt; nominal(format, track(0, 0)), 49208);
+    assert_eq!(rt; ring_cells(format, track(0, 0)), 100000);
+}
+
+/// The place and the bytes of a track, its nominal cell and its ring.
+fn is_track(rt: &impl Abort, cylinder: u8, place: u32, bytes: u32, cell: u32, ring: u32)
+    requires { cylinder < 40 }
+{
+    let format = Format::C1541Forty;
+    let at = track(cylinder, 0);
+    assert_eq!(rt; track_place(format, at), place);
+    assert_eq!(rt; track_bytes(format, at), bytes);
+    assert_eq!(rt; nominal(format, at), cell);
+    assert_eq!(rt; ring_cells(format, at), ring);
+}
+
+#[test]
+fn zones_of_the_commodore_1541(rt: HostRuntime) {
+    is_track(&rt, 0, 0, 5376, 79963, 61488);
+    is_track(&rt, 16, 86016, 5376, 79963, 61488);
+    is_track(&rt, 17, 91392, 4864, 86114, 57000);
+    is_track(&rt, 23, 120576, 4864, 86114, 57000);
+    is_track(&rt, 24, 125440, 4608, 92265, 53280);
+    is_track(&rt, 29, 148480, 4608, 92265, 53280);
+    is_track(&rt, 30, 153088, 4352, 98416, 49912);
+    is_track(&rt, 39, 192256, 4352, 98416, 49912);
+    assert_eq!(rt; image_size(Format::C1541), 174848);
+    assert_eq!(rt; track_count(Format::C1541), 35);
+    assert_eq!(rt; image_place(Format::C1541, track(17, 0), 0), 91392);
+    assert_eq!(rt; image_place(Format::C1541, track(34, 0), 16), 174592);
+    assert_eq!(rt; image_place(Format::C1541Forty, track(39, 0), 16), 196352);
+    assert_eq!(rt; image_sector(Format::C1541, track(17, 0), 18), 18);
+}
+
+#[test]
+fn apple_orders(rt: HostRuntime) {
+    let first = track(0, 0);
+    assert_eq!(rt; image_size(Format::AppleDo), 35 * 16 * 256);
+    assert_eq!(rt; image_place(Format::AppleDo, first, 0), 0);
+    assert_eq!(rt; image_place(Format::AppleDo, first, 1), 1792);
+    assert_eq!(rt; image_place(Format::AppleDo, track(34, 0), 15), 143104);
+    assert_eq!(rt; image_sector(Format::AppleDo, first, 1), 13);
+    assert_eq!(rt; image_place(Format::ApplePo, first, 1), 2048);
+    assert_eq!(rt; image_place(Format::ApplePo, first, 2), 256);
+    assert_eq!(rt; image_sector(Format::ApplePo, first, 1), 2);
+    assert_eq!(rt; track_count(Format::ApplePo), 35);
+    assert_eq!(rt; nominal(Format::AppleDo, first), 98416);
+    assert_eq!(rt; ring_cells(Format::ApplePo, first), 49994);
 }

@@ -1,13 +1,25 @@
-use Rattle.std.proofs.Common.{◌≡◌, ℕ, ◌+◌, ◌-◌, ◌∙◌, ap, sym, arith}
+use Rattle.std.proofs.Common.{◌≡◌, ℕ, ◌+◌, ◌∙◌, arith, sym, Some, None}
 use Rattle.sector_images.specs.Formats.{row}
-use Rattle.sector_images.specs.Places.{sector_in}
-use Rattle.sector_images.proofs.Slots.{sectors_fill_tracks}
+use Rattle.sector_images.proofs.Slots.{found_there, is_order, slot_by_number, slot_in_order}
 use Rattle.sector_images.proofs.places.image_sector.Goals as goal
 
-pub returns-clause-first : goal.returns-clause-first
-returns-clause-first c =
-    let first = (row c.args.format).first_sector in
-    let sector : ℕ = first + c.args.number in
-    let slot_is : sector - first ≡ c.args.number = omega arith in
-    let found = (sectors_fill_tracks c.args.format c.args.track sector (omega arith, omega (arith, c.requires.number))).1 in
-    rw c.geometry.ensures.first_sector (sym found ∙ ap (sector_in c.args.format c.args.track) slot_is)
+pub holder-requires : goal.holder-requires
+holder-requires c =
+    let order : (row c.args.format).order ≡ Some c.in-Some.order.now = sym (rw c.in-Some.is at c.geometry-geometry.ensures.order) in
+    let is = is_order c.args.format c.in-Some.order.now c.args.track order in
+    is.holder c.args.number (omega (arith, is.count, c.requires.number))
+
+pub returns-in-Some-clause-first : goal.returns-in-Some-clause-first
+returns-in-Some-clause-first c =
+    let order : (row c.args.format).order ≡ Some c.in-Some.order.now = sym (rw c.in-Some.is at c.geometry-geometry.ensures.order) in
+    let is = is_order c.args.format c.in-Some.order.now c.args.track order in
+    found_there c.args.format c.args.track c.holder.result c.args.number
+    (omega (arith, is.first), omega (arith, is.first, is.count, c.holder.ensures.within))
+    (slot_in_order c.args.format c.in-Some.order.now c.holder.result order ∙ c.holder.ensures.holds)
+
+pub returns-in-None-clause-first : goal.returns-in-None-clause-first
+returns-in-None-clause-first c =
+    let none : (row c.args.format).order ≡ None = sym (rw c.in-None.is at c.geometry-geometry.ensures.order) in
+    rw c.geometry-geometry.ensures.first_sector
+    (found_there c.args.format c.args.track ((row c.args.format).first_sector + c.args.number) c.args.number
+    (omega arith, omega (arith, c.requires.number)) (slot_by_number c.args.format c.args.number none))

@@ -2,6 +2,12 @@ use Rattle.std.proofs.Common.{arith}
 use Rattle.sector_images.proofs.Computed.{id_at, numbered_track, some_heads}
 use Rattle.sector_images.proofs.places.track_id.Goals as goal
 
+pub nonzero_div-result : goal.nonzero_div-result
+nonzero_div-result c = rw (c.from-heads.ensures, c.geometry.ensures.heads) (omega (arith, (some_heads c.args.format).0))
+
+pub nonzero_rem-result : goal.nonzero_rem-result
+nonzero_rem-result c = rw (c.from-heads.ensures, c.geometry.ensures.heads) (omega (arith, (some_heads c.args.format).0))
+
 pub overflow_cast-result-2 : goal.overflow_cast-result-2
 overflow_cast-result-2 c = rw (c.from-heads.ensures, c.geometry.ensures.heads)
     (omega (arith, (numbered_track c.args.format c.args.number c.requires).1, (some_heads c.args.format).1))
