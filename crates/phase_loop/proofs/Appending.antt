@@ -8,30 +8,30 @@ use Rattle.cell_bits.specs.State.{CellsState, room}
 use Rattle.cell_bits.specs.Run.{run_cells}
 use Rattle.phase_loop.specs.Rows.{recovered, counts, rows_to}
 use Rattle.phase_loop.specs.State.{LoopState, Holds}
+use Rattle.phase_loop.specs.Appended.{IsAppended}
 use Rattle.phase_loop.specs.declared.start.LoopStart.{LoopStart}
 use Rattle.phase_loop.proofs.Times.{holds_fine}
 
--- behind transition number n
-pub record IsAppended (start : LoopStart) (times : List ℕ) (n : ℕ) (bench : LoopState) (before cells : CellsState) : Type 0 where
-  pub holds : Holds bench start (take (n + 1) times)
-  pub cells_are : cells.cells ≡ recovered start (take (n + 1) times)
-  pub keeps : room before ≤ room cells
-  pub short : length cells.cells ≤ 32 * n + 1
-
--- the next time is not below the one that the loop stands at
-pub next_later : (start : LoopStart) (times : List ℕ) (n : ℕ) (bench : LoopState)
-    → Holds bench start (take (n + 1) times) → IsNonDecreasing times → n + 1 < length times
-    → bench.fine ≤ 1024 * slice_index times (n + 1)
-next_later start times n bench holds rising within =
+-- the loop stands at the last of the transitions so far
+pub appended_fine : (start : LoopStart) (times : List ℕ) (n : ℕ) (bench : LoopState) (before cells : CellsState)
+    → IsAppended start times n bench before cells → n < length times → bench.fine ≡ 1024 * slice_index times n
+appended_fine start times n bench before cells appended within =
     let so_far : List ℕ = take (n + 1) times in
-    let fine = holds_fine bench start so_far holds in
-    let up : slice_index times n ≤ slice_index times (n + 1) = rising n (n + 1) 0 (omega arith) within in
     let last : length so_far - 1 ≡ n = omega (arith, length-take-le (n + 1) times (omega arith)) in
     let same : slice_index so_far n ≡ slice_index times n = get_or-take (n + 1) times n 0 (omega arith) in
-    let here : bench.fine ≡ 1024 * slice_index so_far n = fine ∙ ap (λ (k : ℕ). 1024 * slice_index so_far k) last in
-    omega (arith, here, same, up)
+    holds_fine bench start so_far appended.holds
+    ∙ ap (λ (k : ℕ). 1024 * slice_index so_far k) last
+    ∙ ap (λ (t : ℕ). 1024 * t) same
 
-length-run_cells : (count : ℕ) → 1 ≤ count → length (run_cells count) ≡ count
+-- the next time is not below the one that the loop stands at
+pub next_later : (start : LoopStart) (times : List ℕ) (n : ℕ) (bench : LoopState) (before cells : CellsState)
+    → IsAppended start times n bench before cells → IsNonDecreasing times → n + 1 < length times
+    → bench.fine ≤ 1024 * slice_index times (n + 1)
+next_later start times n bench before cells appended rising within =
+    let up : slice_index times n ≤ slice_index times (n + 1) = rising n (n + 1) 0 (omega arith) within in
+    omega (arith, appended_fine start times n bench before cells appended (omega arith), up)
+
+pub length-run_cells : (count : ℕ) → 1 ≤ count → length (run_cells count) ≡ count
 length-run_cells count some =
     omega (arith, length_push (replicate (count - 1) false) true, length-replicate (count - 1) false)
 

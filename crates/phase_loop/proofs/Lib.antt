@@ -5,3 +5,4 @@ pub mod Times
 pub mod Appending
 pub mod Quotients
 pub mod Windows
+pub mod Stretches

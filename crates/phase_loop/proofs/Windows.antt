@@ -34,12 +34,12 @@ bounded ring fine count window =
     }
 
 -- a full window gives up its first interval
-record Full (xs : List Interval) (x y : Interval) : Type 0 where
+pub record Full (xs : List Interval) (x y : Interval) : Type 0 where
   pub rest : List Interval
   pub was : xs ≡ y ∷ rest
   pub now : keep_last 64 (xs ++ x ∷ []) ≡ rest ++ x ∷ []
 
-full : (xs : List Interval) (x y : Interval) → length xs ≤ 64
+pub full : (xs : List Interval) (x y : Interval) → length xs ≤ 64
     → (if nat_lt (length xs) 64 then None else slice_get (xs ++ x ∷ []) 0) ≡ Some y → Full xs x y
 full [] x y within is = absurd (cc)
 full (z ∷ zs) x y within is =

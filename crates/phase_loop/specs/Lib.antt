@@ -5,3 +5,5 @@ pub mod State
 pub mod Step
 pub mod Loop
 pub mod Reciprocals
+pub mod Appended
+pub mod Stretch

@@ -1,5 +1,7 @@
 //! The loop that follows a track's clock.
-ghost use Rattle.std.specs.Prelude.{◌≡◌, ℕ, ◌+◌, ◌*◌, ◌/◌, ◌^◌, ◌≤◌, max, [], ◌∷◌, ◌++◌, List, IfOk};
+ghost use Rattle.std.specs.Prelude.{◌≡◌, ℕ, ◌+◌, ◌*◌, ◌/◌, ◌^◌, ◌≤◌, ◌<◌, max, [], ◌∷◌, ◌++◌, List, IfOk, ◌↔◌, IsTrue};
+
+mod stretch;
 
 use crate::start::{FINE_PER_TICK, LoopStart, in_band_of};
 use crate::window::{Interval, Window};
@@ -116,8 +118,8 @@ impl Loop {
             return 32;
         }
         self.window.note(Interval {
-            fine: fine - self.fine,
-            count,
+            fine: (fine - self.fine) as u32,
+            count: count as u32,
         });
         self.period = match self.window.mean() {
             Some(mean) => in_band_of(self.start.nominal, mean),
@@ -136,12 +138,30 @@ fn periods_in(way: u64, period: u64) -> u64
     requires most { period ≤ 163840 }
     ensures { result ≡ max 1 ((2 * way + period) / (2 * period)) }
 {
-    let twice = 2 * way;
-    if twice >= 9 * period {
-        return (twice + period) / (2 * period);
+    if are_few(way, period) {
+        return few_periods_in(way, period);
     }
-    // No recording has more than four cells from one transition to the next: for these a sum of comparisons
-    // is faster than a division.
+    (2 * way + period) / (2 * period)
+}
+
+/// Whether fewer than four and a half periods lie in a way. No recording has more than four cells from one
+/// transition to the next.
+fn are_few(way: u64, period: u64) -> bool
+    requires way { way ≤ 2 ^ 50 }
+    requires most { period ≤ 163840 }
+    ensures { IsTrue result ↔ 2 * way < 9 * period }
+{
+    2 * way < 9 * period
+}
+
+/// How many periods lie in a way with few: a sum of comparisons, which is faster than a division.
+fn few_periods_in(way: u64, period: u64) -> u64
+    requires few { 2 * way < 9 * period }
+    requires most { period ≤ 163840 }
+    ensures nearest { result ≡ max 1 ((2 * way + period) / (2 * period)) }
+    ensures few { result ≤ 4 }
+{
+    let twice = 2 * way;
     1 + u64::from(twice >= 3 * period)
         + u64::from(twice >= 5 * period)
         + u64::from(twice >= 7 * period)

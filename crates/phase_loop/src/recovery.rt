@@ -50,13 +50,18 @@ fn append_cells(
     ensures room { room cells.old ≤ room cells.new }
     ensures succeeds { 32 * length times.now ≤ room cells.old → IsOk result }
 {
-    let Some((first, later)) = times.split_first() else {
+    let Some((first, _)) = times.split_first() else {
         return Ok(());
     };
     cells.push_cell(true)?;
     bench.start(start, *first);
-    for time in later {
-        cells.push_run(bench.step(*time))?;
+    let mut last = 0;
+    while last + 1 < times.len() {
+        last = bench.follow(times, last, cells)?;
+        if last + 1 < times.len() {
+            last += 1;
+            cells.push_run(bench.step(times[last]))?;
+        }
     }
     Ok(())
 }

@@ -1,7 +1,7 @@
 //! The last intervals since the loop started, with their totals.
-ghost use Rattle.std.specs.Prelude.{◌≡◌, ◌/◌, ◌<◌, ◌≤◌, [], ◌∷◌, ◌++◌, length, IfOk, MatchOption};
+ghost use Rattle.std.specs.Prelude.{◌≡◌, ◌/◌, ◌<◌, ◌≤◌, [], ◌∷◌, ◌++◌, length, take, IfOk, MatchOption};
 ghost use Rattle.std.specs.List.{sum_by};
-ghost use Rattle.circular_buffer.specs.Buffer.{keep_last};
+ghost use Rattle.circular_buffer.specs.Buffer.{buffer, keep_last};
 
 use crate::reciprocals::Reciprocals;
 use circular_buffer::HeapCircularBuffer;
@@ -9,14 +9,23 @@ use std::alloc::{AllocError, Global};
 use std::marker::Model;
 
 /// How many intervals make a mean.
-const INTERVALS: usize = 64;
+pub(crate) const INTERVALS: usize = 64;
 
 /// From one transition to the next.
 #[derive(Clone, Copy, Debug, PartialEq, Eq)]
 pub struct Interval {
     /// Its length in fine units.
-    pub fine: u64,
+    pub fine: u32,
     /// Its length in cells.
+    pub count: u32,
+}
+
+/// The lengths of all intervals of a window, added up.
+#[derive(Clone, Copy, Debug, PartialEq, Eq)]
+pub struct Totals {
+    /// In fine units.
+    pub fine: u64,
+    /// In cells.
     pub count: u64,
 }
 
@@ -42,7 +51,7 @@ impl Model for Window {
 }
 
 impl Window {
-    ghost use Rattle.phase_loop.specs.Window.{IsShort, fine_total, count_total};
+    ghost use Rattle.phase_loop.specs.Window.{IsShort, IsWindow, fine_total, count_total};
 
     pub(crate) fn new(alloc: Global) -> Result<Window, AllocError>
         ensures { IfOk result (λ window. window ≡ []) }
@@ -71,11 +80,53 @@ impl Window {
         ensures { self.new ≡ keep_last 64 (self.old ++ interval ∷ []) }
     {
         if let Some(gone) = self.ring.push_back(interval) {
-            self.fine -= gone.fine;
-            self.count -= gone.count;
+            self.fine -= u64::from(gone.fine);
+            self.count -= u64::from(gone.count);
         }
-        self.fine += interval.fine;
-        self.count += interval.count;
+        self.fine += u64::from(interval.fine);
+        self.count += u64::from(interval.count);
+    }
+
+    /// The totals of the intervals' lengths.
+    pub(crate) fn totals(&self) -> Totals
+        ensures { IsWindow (buffer self.now 64) result.fine result.count }
+    {
+        Totals {
+            fine: self.fine,
+            count: self.count,
+        }
+    }
+
+    /// The first intervals of a full window, one at least, in their order, or none of a window that is not full.
+    pub(crate) fn oldest(&self) -> &[Interval]
+        ensures first { result.now ≡ take (length result.now) self.now }
+        ensures full { 0 < length result.now → length self.now ≡ 64 }
+        ensures most { length result.now ≤ 64 }
+    {
+        if self.ring.len() < INTERVALS {
+            return &[];
+        }
+        self.ring.as_slices().0
+    }
+
+    /// Appends intervals, behind which the window has these totals.
+    pub(crate) fn note_all(&mut self, intervals: &[Interval], totals: Totals)
+        requires { IsWindow (buffer (keep_last 64 (self.old ++ intervals.now)) 64) totals.fine totals.count }
+        ensures { self.new ≡ keep_last 64 (self.old ++ intervals.now) }
+    {
+        self.ring.extend_from_slice(intervals);
+        self.fine = totals.fine;
+        self.count = totals.count;
+    }
+
+    /// The mean length of a cell in a full window with these totals.
+    pub(crate) fn mean_of(&self, totals: Totals) -> u64
+        requires fine { totals.fine ≤ 384000000 }
+        requires least { 64 ≤ totals.count }
+        requires largest { totals.count ≤ 2048 }
+        ensures { result ≡ totals.fine / totals.count }
+    {
+        self.reciprocals.quotient(totals.fine, totals.count)
     }
 
     /// The mean length of a cell in a full window.

@@ -34,8 +34,8 @@ invariant_of-self c =
     elim c.match-push_back.branch [
       | in-Some w ↦
           let is = sym c.push_back.ensures.value ∙ w.in-Some.is in
-          rw (w.self-inside-is, c.push_back.ensures.items) (window_after_full _ _ _ _ _ c.self.invariant c.requires is)
+          rw (w.self-inside-is, c.push_back.ensures.items, w.from.ensures, w.from-in-Some.ensures, c.from-2.ensures, c.from-3.ensures) (window_after_full _ _ _ _ _ c.self.invariant c.requires is)
       | in_default w ↦
           let is = sym c.push_back.ensures.value ∙ w.in_default.is in
-          rw (w.self-inside-is, c.push_back.ensures.items) (window_after_more _ _ _ _ c.self.invariant c.requires is)
+          rw (w.self-inside-is, c.push_back.ensures.items, c.from-2.ensures, c.from-3.ensures) (window_after_more _ _ _ _ c.self.invariant c.requires is)
     ]
