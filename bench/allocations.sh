@@ -1,0 +1,49 @@
+#!/bin/sh
+# Refuses each allocation of a run in turn: the run has to end with code 7, or with 9 where the system's call for the words
+# has no memory, and to have called neither read nor write. A run of which none is refused has to take no memory after its
+# first read. Needs a C compiler.
+#
+# usage: bench/allocations.sh [PROGRAM]     (PROGRAM: crates/flux/out/flux)
+top=$(cd "$(dirname "$0")/.." && pwd)
+program=$(realpath "${1:-$top/crates/flux/out/flux}")
+work=$(mktemp -d)
+trap 'rm -rf "$work"' EXIT
+cd "$work" || exit 1
+cc -O1 -shared -fPIC -o counts.so "$top/bench/allocations.c" -ldl || exit 1
+
+# The shortest good stream, and a disk of it.
+cp "$top/crates/flux/stdin" stream
+for _ in $(seq 77); do cat stream; done > disk
+
+wrong=0
+complain() {
+    echo "$1"
+    wrong=1
+}
+
+# sweep INPUT STATUS WORD..: the run ends with STATUS where nothing is refused.
+sweep() {
+    input=$1 wanted=$2
+    shift 2
+    number=0
+    while :; do
+        number=$((number + 1))
+        REFUSE=$number LD_PRELOAD=$work/counts.so "$program" "$@" < "$input" 3> counts > image 2> notes
+        status=$?
+        read -r _ allocations _ late _ reads _ writes < counts
+        test "$allocations" -lt "$number" && break
+        case $status in
+            7 | 9) ;;
+            *) complain "$*: allocation $number is refused, and the code is $status" ;;
+        esac
+        test "$reads $writes" = "0 0" || complain "$*: allocation $number is refused after a read or a write"
+    done
+    test "$status" = "$wanted" || complain "$*: the code is $status"
+    test "$late" = 0 || complain "$*: $late allocations behind the first read"
+    echo "$*: each of $allocations allocations refused; none behind the first read"
+}
+
+sweep stream 0 turns
+sweep disk 1 decode ibm-3740
+sweep disk 1 report ibm-3740
+exit $wrong
