@@ -1,3 +1,6 @@
+ghost use Rattle.std.specs.Prelude.{◌<◌, length};
+ghost use Rattle.sector_images.specs.Places.{tracks};
+
 use crate::{DiskRoom, EngineFault, decode_disk, decode_track};
 use apple_gcr::AppleGcr;
 use cell_bits::Cells;
@@ -8,6 +11,7 @@ use ibm_mfm::IbmMfm;
 use sector_images::Format;
 use sector_report::Totals;
 use std::alloc::Global;
+use std::process::Abort;
 use std::test::Fail;
 
 const TRACK: TrackId = TrackId {
@@ -73,7 +77,9 @@ struct Decoded {
     notes: MemorySink,
 }
 
-fn decode_first(alloc: Global, format: Format, bytes: Vec<u8>) -> Result<Decoded, Fail> {
+fn decode_first(alloc: Global, format: Format, bytes: Vec<u8>) -> Result<Decoded, Fail>
+    requires { 0 < length (tracks format) }
+{
     let mut source = MemorySource::new(bytes, 4096, Vec::new(alloc));
     let mut image = MemorySink::new(alloc, 10_000, Vec::new(alloc))?;
     let mut notes = MemorySink::new(alloc, 4096, Vec::new(alloc))?;
@@ -129,9 +135,31 @@ fn a_track_of_a_pc_disk(rt: HostRuntime) -> Result<(), Fail> {
     Ok(())
 }
 
-// Each sector is filled with its number.
+/// Decodes an Apple track whose sectors are filled with their numbers: what the second and the last but one
+/// 256 bytes of its image hold.
+fn is_in_order(
+    rt: &impl Abort,
+    alloc: Global,
+    format: Format,
+    ring: &Cells,
+    second: u8,
+    last_but_one: u8,
+) -> Result<(), Fail>
+    requires { 0 < length (tracks format) }
+{
+    let track = decode_first(alloc, format, three_turns(alloc, ring, 96)?)?;
+    assert!(rt; matches!(track.totals, Ok(totals) if totals.good == 16));
+    let lines = track.notes.bytes();
+    assert!(rt; lines.starts_with(b"00.0 00 good 3 0 1 330\n00.0 01 good 3 0 1 3434\n"));
+    let image = track.image.bytes();
+    assert_eq!(rt; image.len(), 4096);
+    assert!(rt; image[256..512].iter().all(|byte| *byte == second));
+    assert!(rt; image[3584..3840].iter().all(|byte| *byte == last_but_one));
+    Ok(())
+}
+
 #[test]
-fn an_apple_track_comes_to_the_order_of_its_image(rt: HostRuntime) -> Result<(), Fail> {
+fn apple_tracks_come_to_the_order_of_their_image(rt: HostRuntime) -> Result<(), Fail> {
     let alloc = rt.alloc();
     let mut content = [0u8; 4096];
     for place in 0..4096usize {
@@ -139,21 +167,8 @@ fn an_apple_track_comes_to_the_order_of_its_image(rt: HostRuntime) -> Result<(),
     }
     let mut ring = Cells::new(alloc);
     AppleGcr.ring(TRACK, &content, &mut ring)?;
-    for (format, second, last) in [(Format::AppleDo, 13, 2), (Format::ApplePo, 2, 13)] {
-        let track = decode_first(alloc, format, three_turns(alloc, &ring, 96)?)?;
-        assert!(rt; matches!(track.totals, Ok(totals) if totals.good == 16));
-        assert!(rt;
-            track
-                .notes
-                .bytes()
-                .starts_with(b"00.0 00 good 3 0 1 330\n00.0 01 good 3 0 1 3434\n")
-        );
-        assert_eq!(rt; track.image.bytes().len(), 4096);
-        assert_eq!(rt; track.image.bytes()[256], second);
-        assert_eq!(rt; track.image.bytes()[511], second);
-        assert_eq!(rt; track.image.bytes()[3584], last);
-    }
-    Ok(())
+    is_in_order(&rt, alloc, Format::AppleDo, &ring, 13, 2)?;
+    is_in_order(&rt, alloc, Format::ApplePo, &ring, 2, 13)
 }
 
 #[test]
