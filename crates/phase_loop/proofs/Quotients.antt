@@ -1,10 +1,11 @@
 -- Quotients by reciprocals and by comparisons.
 use Rattle.std.proofs.Common.{◌≡◌, ℕ, ◌+◌, ◌*◌, ◌/◌, ◌^◌, ◌<◌, ◌≤◌, max, arith, refl, inl, inr, Bool, true, false, nat_le}
 use Rattle.std.proofs.lemmas.Bool.{cases_lt, lt-leb, le-leb}
+use Rattle.phase_loop.specs.Window.{WIDEST}
 use Rattle.std.proofs.Math.Nat.{div-eq_of_lt-le, lt-div-mul-add, div-mul-le_self, mul-le-mul_left, div-le_of_le-mul, div-lt_iff_lt-mul}
 
 -- a total times the reciprocal of a count, over 2^40, is the quotient
-pub quotient_by_reciprocal : (total count : ℕ) → total ≤ 384000000 → 64 ≤ count → count ≤ 2048
+pub quotient_by_reciprocal : (total count : ℕ) → total ≤ 64 * WIDEST → 64 ≤ count → count ≤ 2048
     → total * (2 ^ 40 / count + 1) / 2 ^ 40 ≡ total / count
 quotient_by_reciprocal total count small least largest =
     let a : ℕ = 1099511627776 / count in

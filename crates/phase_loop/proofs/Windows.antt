@@ -1,5 +1,5 @@
 -- What an interval does to a window and its totals.
-use Rattle.std.proofs.Common.{◌≡◌, ℕ, suc, ◌+◌, ◌-◌, ◌<◌, ◌≤◌, List, [], ◌∷◌, ◌++◌, length, drop, arith, refl, sym, ◌∙◌, ap, subst, Option, Some, None, slice_get, if◌then◌else◌, nat_lt, true, false, inl, inr}
+use Rattle.std.proofs.Common.{◌≡◌, ℕ, suc, ◌+◌, ◌-◌, ◌*◌, ◌<◌, ◌≤◌, List, [], ◌∷◌, ◌++◌, length, drop, arith, refl, sym, ◌∙◌, ap, subst, Option, Some, None, slice_get, if◌then◌else◌, nat_lt, true, false, inl, inr}
 use Rattle.std.specs.List.{All}
 use Rattle.std.proofs.lemmas.Bool.{lt-ltb, le-ltb, cases_lt, cond-true, cond-false}
 use Rattle.std.proofs.lemmas.List.{length_push}
@@ -7,7 +7,8 @@ use Rattle.std.proofs.lemmas.List.Elements.{All-push}
 use Rattle.std.proofs.lemmas.List.Sums.{sum_by-cons, sum_by_push, sum_by-le}
 use Rattle.circular_buffer.specs.Buffer.{Buffer, buffer, keep_last}
 use Rattle.phase_loop.specs.declared.window.Interval.{Interval}
-use Rattle.phase_loop.specs.Window.{IsShort, IsWindow, fine_total, count_total}
+use Rattle.phase_loop.specs.Start.{INTERVALS}
+use Rattle.phase_loop.specs.Window.{WIDEST, IsShort, IsWindow, fine_total, count_total}
 
 pub length-le-count_total : (xs : List Interval) → All IsShort xs → length xs ≤ count_total xs
 length-le-count_total [] short = omega arith
@@ -18,13 +19,13 @@ length-le-count_total (x ∷ xs) short =
 
 -- the bounds of a window's totals
 pub record Bounded (total number many : ℕ) : Type 0 where
-  pub fine : total ≤ 384000000
+  pub fine : total ≤ INTERVALS * WIDEST
   pub count : number ≤ 2048
   pub some : many ≤ number
 
 pub bounded : (ring : Buffer Interval) (fine count : ℕ) → IsWindow ring fine count → Bounded fine count (length ring.items)
 bounded ring fine count window =
-    let f = sum_by-le (λ (i : Interval). i.fine) 6000000 ring.items (λ k d within. (window.short k d within).fine) in
+    let f = sum_by-le (λ (i : Interval). i.fine) WIDEST ring.items (λ k d within. (window.short k d within).fine) in
     let n = sum_by-le (λ (i : Interval). i.count) 32 ring.items (λ k d within. (window.short k d within).most) in
     let l = length-le-count_total ring.items window.short in
     record {

@@ -1,6 +1,6 @@
 -- What a loop's fields stand for, and what holds of them.
 use Rattle.std.specs.Prelude.{◌+◌, ◌^◌, ◌≤◌}
-use Rattle.phase_loop.specs.Start.{IsStart}
+use Rattle.phase_loop.specs.Start.{SHORTEST_PERIOD, LONGEST_PERIOD, IsStart}
 use Rattle.phase_loop.specs.State.{LoopState}
 use Rattle.phase_loop.specs.declared.phase.Loop.TheInside.{Inside}
 
@@ -18,6 +18,6 @@ view_of inside = record {
 pub record IsLoop (inside : Inside) : Type 0 where
   pub start : IsStart inside.start
   pub fine : inside.fine ≤ 2 ^ 49
-  pub place : inside.place ≤ inside.fine + 163840
-  pub shortest : 12288 ≤ inside.period
-  pub longest : inside.period ≤ 163840
+  pub place : inside.place ≤ inside.fine + LONGEST_PERIOD
+  pub shortest : SHORTEST_PERIOD ≤ inside.period
+  pub longest : inside.period ≤ LONGEST_PERIOD

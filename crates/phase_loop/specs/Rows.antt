@@ -4,7 +4,7 @@
 use Rattle.std.specs.Prelude.{ℕ, zero, suc, ◌+◌, ◌-◌, ◌*◌, ◌/◌, max, List, [], ◌∷◌, ◌++◌, map, length, drop, slice_index, slice_index_or, if◌then◌else◌, nat_lt, Bool, true}
 use Rattle.std.specs.List.{sum_by, flat_map}
 use Rattle.cell_bits.specs.Run.{run_cells}
-use Rattle.phase_loop.specs.Start.{in_band}
+use Rattle.phase_loop.specs.Start.{FINE_PER_TICK, INTERVALS, LONGEST, in_band}
 use Rattle.phase_loop.specs.declared.start.LoopStart.{LoopStart}
 
 -- what the rule gives for one transition
@@ -53,15 +53,15 @@ periods_since before fine = max 1 ((2 * (fine - before.place) + before.period) /
 abbrev pub period_behind : LoopStart → List Row → (restart fine count : ℕ) → ℕ
 period_behind start rows restart fine count =
     let number = length rows in
-    if nat_lt (number - restart) 64 then start.first
+    if nat_lt (number - restart) INTERVALS then start.first
     else in_band start.nominal
-    ((fine - (row_at rows (number - 64)).fine) / (sum_by (λ row. row.count) (drop (number - 63) rows) + count))
+    ((fine - (row_at rows (number - INTERVALS)).fine) / (sum_by (λ row. row.count) (drop (number - (INTERVALS - 1)) rows) + count))
 
 -- The row of the transition that follows these rows, where it lies this many periods behind the place. Past 32
 -- the loop starts anew.
 abbrev pub row_at_distance : LoopStart → List Row → Row → (fine periods : ℕ) → Row
 row_at_distance start rows before fine periods =
-    if nat_lt 32 periods then row_of_start start (length rows) fine 32
+    if nat_lt LONGEST periods then row_of_start start (length rows) fine LONGEST
     else record {
       fine = fine;
       place = (before.place + periods * before.period + fine) / 2;
@@ -80,9 +80,9 @@ with_next_row start rows fine = rows ++ next_row start rows fine ∷ []
 
 -- the rows of the transitions from number 0 to this one
 unfoldable pub rows_to : LoopStart → List ℕ → ℕ → List Row
-rows_to start times zero = row_of_start start 0 (1024 * slice_index times 0) 0 ∷ []
+rows_to start times zero = row_of_start start 0 (FINE_PER_TICK * slice_index times 0) 0 ∷ []
 rows_to start times (suc number) =
-    with_next_row start (rows_to start times number) (1024 * slice_index times (suc number))
+    with_next_row start (rows_to start times number) (FINE_PER_TICK * slice_index times (suc number))
 
 -- the rows of all transitions, of which there is at least one
 abbrev pub rows_of : LoopStart → List ℕ → List Row

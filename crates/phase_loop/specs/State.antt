@@ -2,6 +2,7 @@
 use Rattle.std.specs.Prelude.{◌≡◌, ◌<◌, ℕ, ◌-◌, List, [], ◌∷◌, length, drop}
 use Rattle.std.specs.List.Sorted.{IsNonDecreasing}
 use Rattle.circular_buffer.specs.Buffer.{keep_last}
+use Rattle.phase_loop.specs.Start.{INTERVALS}
 use Rattle.phase_loop.specs.Rows.{Row, last_row, rows_of}
 use Rattle.phase_loop.specs.declared.start.LoopStart.{LoopStart}
 use Rattle.phase_loop.specs.declared.window.Interval.{Interval}
@@ -37,7 +38,7 @@ state_behind start rows = let last = last_row rows in record {
   fine = last.fine;
   place = last.place;
   period = last.period;
-  recent = keep_last 64 (drop last.restart (intervals rows));
+  recent = keep_last INTERVALS (drop last.restart (intervals rows));
 }
 
 -- the state is what the rule gives at the last of these times, of which there is one at least, and which never

@@ -1,7 +1,7 @@
 -- One step of a loop, from what it holds.
 use Rattle.std.specs.Prelude.{ℕ, ◌+◌, ◌-◌, ◌*◌, ◌/◌, min, max, List, [], ◌∷◌, ◌++◌, length, if◌then◌else◌, nat_lt}
 use Rattle.circular_buffer.specs.Buffer.{keep_last}
-use Rattle.phase_loop.specs.Start.{in_band}
+use Rattle.phase_loop.specs.Start.{INTERVALS, LONGEST, in_band}
 use Rattle.phase_loop.specs.Window.{fine_total, count_total}
 use Rattle.phase_loop.specs.State.{LoopState}
 use Rattle.phase_loop.specs.declared.window.Interval.{Interval}
@@ -23,12 +23,12 @@ restarted state fine = record {
 
 -- the last intervals, and the one that ends at the time
 abbrev pub recent_after : LoopState → (fine periods : ℕ) → List Interval
-recent_after state fine periods = keep_last 64 (state.recent ++ record { fine = fine - state.fine; count = periods } ∷ [])
+recent_after state fine periods = keep_last INTERVALS (state.recent ++ record { fine = fine - state.fine; count = periods } ∷ [])
 
 -- the period that these intervals give
 abbrev pub period_from : LoopState → List Interval → ℕ
 period_from state recent =
-    if nat_lt (length recent) 64 then state.first
+    if nat_lt (length recent) INTERVALS then state.first
     else in_band state.nominal (fine_total recent / count_total recent)
 
 -- the state where the interval joins the others
@@ -45,7 +45,7 @@ joined state fine periods = record {
 -- the state behind a transition at the time, and its count
 abbrev pub state_after : LoopState → ℕ → LoopState
 state_after state fine =
-    if nat_lt 32 (periods_to state fine) then restarted state fine else joined state fine (periods_to state fine)
+    if nat_lt LONGEST (periods_to state fine) then restarted state fine else joined state fine (periods_to state fine)
 
 abbrev pub count_after : LoopState → ℕ → ℕ
-count_after state fine = min 32 (periods_to state fine)
+count_after state fine = min LONGEST (periods_to state fine)

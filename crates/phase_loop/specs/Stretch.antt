@@ -2,8 +2,8 @@
 use Rattle.std.specs.Prelude.{◌≡◌, ℕ, ◌+◌, ◌-◌, ◌*◌, ◌/◌, ◌<◌, ◌≤◌, List, ◌++◌, length, slice_index}
 use Rattle.circular_buffer.specs.Buffer.{buffer, keep_last}
 use Rattle.cell_bits.specs.State.{CellsState, room}
-use Rattle.phase_loop.specs.Start.{in_band}
-use Rattle.phase_loop.specs.Window.{IsWindow}
+use Rattle.phase_loop.specs.Start.{FINE_PER_TICK, INTERVALS, LONGEST, SHORTEST_PERIOD, LONGEST_PERIOD, in_band}
+use Rattle.phase_loop.specs.Window.{WIDEST, IsWindow}
 use Rattle.phase_loop.specs.State.{LoopState}
 use Rattle.phase_loop.specs.Appended.{IsAppended}
 use Rattle.phase_loop.specs.declared.start.LoopStart.{LoopStart}
@@ -29,9 +29,9 @@ stand_next nominal stand oldest interval =
 pub record IsExchange (totals : Totals) (oldest interval : Interval) : Type 0 where
   pub fine_out : oldest.fine ≤ totals.fine
   pub count_out : oldest.count ≤ totals.count
-  pub fine_most : totals.fine - oldest.fine + interval.fine ≤ 384000000
-  pub count_least : 64 ≤ totals.count - oldest.count + interval.count
-  pub count_most : totals.count - oldest.count + interval.count ≤ 2048
+  pub fine_most : totals.fine - oldest.fine + interval.fine ≤ INTERVALS * WIDEST
+  pub count_least : INTERVALS ≤ totals.count - oldest.count + interval.count
+  pub count_most : totals.count - oldest.count + interval.count ≤ INTERVALS * LONGEST
 
 -- what a loop would hold that took these fresh intervals and came to this stand
 abbrev pub standing : LoopState → Stand → List Interval → LoopState
@@ -41,7 +41,7 @@ standing state stand fresh = record {
   fine = stand.fine;
   place = stand.place;
   period = stand.period;
-  recent = keep_last 64 (state.recent ++ fresh);
+  recent = keep_last INTERVALS (state.recent ++ fresh);
 }
 
 -- from one transition to a later one, what the loop and the cells stand for is carried on
@@ -54,10 +54,10 @@ pub record IsStretch (times : List ℕ) (last next : ℕ) (state : LoopState) (s
   pub from : last ≤ next
   pub inside : next < length times
   pub carries : Carries times last next state (standing state stand fresh) cells longer
-  pub window : IsWindow (buffer (keep_last 64 (state.recent ++ fresh)) 64) stand.totals.fine stand.totals.count
-  pub fine : stand.fine ≡ 1024 * slice_index times next
-  pub place : stand.place ≤ stand.fine + 163840
-  pub shortest : 12288 ≤ stand.period
-  pub longest : stand.period ≤ 163840
-  pub short : length longer.cells ≤ 32 * next + 1
+  pub window : IsWindow (buffer (keep_last INTERVALS (state.recent ++ fresh)) INTERVALS) stand.totals.fine stand.totals.count
+  pub fine : stand.fine ≡ FINE_PER_TICK * slice_index times next
+  pub place : stand.place ≤ stand.fine + LONGEST_PERIOD
+  pub shortest : SHORTEST_PERIOD ≤ stand.period
+  pub longest : stand.period ≤ LONGEST_PERIOD
+  pub short : length longer.cells ≤ LONGEST * next + 1
   pub keeps : room cells ≤ room longer

@@ -1,6 +1,7 @@
 //! Division of a window's totals by a table of reciprocals, several times as fast as a division.
-ghost use Rattle.std.specs.Prelude.{◌≡◌, ◌/◌, ◌≤◌};
+ghost use Rattle.std.specs.Prelude.{◌≡◌, ◌*◌, ◌/◌, ◌≤◌};
 ghost use Rattle.phase_loop.specs.Reciprocals.{AreReciprocals};
+ghost use Rattle.phase_loop.specs.Window.{WIDEST};
 
 use std::alloc::{AllocError, Global};
 
@@ -25,7 +26,7 @@ impl Reciprocals {
 
     /// The quotient, rounded down. The bounds are such that the rounding of the reciprocal does not show.
     pub(crate) fn quotient(&self, total: u64, count: u64) -> u64
-        requires total { total ≤ 384000000 }
+        requires total { total ≤ 64 * WIDEST }
         requires least { 64 ≤ count }
         requires largest { count ≤ 2048 }
         ensures { result ≡ total / count }

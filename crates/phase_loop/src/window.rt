@@ -1,5 +1,5 @@
 //! The last intervals since the loop started, with their totals.
-ghost use Rattle.std.specs.Prelude.{◌≡◌, ◌/◌, ◌<◌, ◌≤◌, [], ◌∷◌, ◌++◌, length, take, IfOk, MatchOption};
+ghost use Rattle.std.specs.Prelude.{◌≡◌, ◌*◌, ◌/◌, ◌<◌, ◌≤◌, [], ◌∷◌, ◌++◌, length, take, IfOk, MatchOption};
 ghost use Rattle.std.specs.List.{sum_by};
 ghost use Rattle.circular_buffer.specs.Buffer.{buffer, keep_last};
 
@@ -51,7 +51,7 @@ impl Model for Window {
 }
 
 impl Window {
-    ghost use Rattle.phase_loop.specs.Window.{IsShort, IsWindow, fine_total, count_total};
+    ghost use Rattle.phase_loop.specs.Window.{WIDEST, IsShort, IsWindow, fine_total, count_total};
 
     pub(crate) fn new(alloc: Global) -> Result<Window, AllocError>
         ensures { IfOk result (λ window. window ≡ []) }
@@ -121,7 +121,7 @@ impl Window {
 
     /// The mean length of a cell in a full window with these totals.
     pub(crate) fn mean_of(&self, totals: Totals) -> u64
-        requires fine { totals.fine ≤ 384000000 }
+        requires fine { totals.fine ≤ 64 * WIDEST }
         requires least { 64 ≤ totals.count }
         requires largest { totals.count ≤ 2048 }
         ensures { result ≡ totals.fine / totals.count }
