@@ -8,7 +8,7 @@ use Rattle.kryo_stream.specs.declared.block.Block.{Block}
 use Rattle.kryo_stream.specs.declared.block.Block.TheVariants.{Flux, Overflow, Nop, StreamInfo, Index, StreamEnd, Info, End}
 use Rattle.kryo_stream.specs.declared.block.Piece.{Piece}
 use Rattle.kryo_stream.specs.declared.block.Mark.{Mark}
-use Rattle.kryo_stream.specs.Pieces.{LIMIT}
+use Rattle.kryo_stream.specs.Protocol.{LIMIT}
 use Rattle.kryo_stream.specs.Stream.{is_in_stream, in_stream_bytes, total_bytes, marks, mark_at, mark_of}
 use Rattle.kryo_stream.specs.Bench.{BenchState, IsNoted, HasFullBench, IsSized, IsSizedBlock, stream_step, flux_ends, end_of, overflow_begins, overflow_of}
 

@@ -9,7 +9,8 @@ use Rattle.kryo_stream.specs.declared.block.Block.TheVariants.{Flux, Overflow, N
 use Rattle.kryo_stream.specs.declared.block.Piece.{Piece}
 use Rattle.kryo_stream.specs.declared.fault.StreamFault.TheVariants.{DataAfterEnd}
 use Rattle.kryo_stream.specs.Blocks.{out_of_band}
-use Rattle.kryo_stream.specs.Pieces.{LIMIT, Reading, needs, number_at, ticks_at, in_stream_piece, out_of_band_piece, piece_at}
+use Rattle.kryo_stream.specs.Protocol.{LIMIT}
+use Rattle.kryo_stream.specs.Pieces.{Reading, needs, number_at, ticks_at, in_stream_piece, out_of_band_piece, piece_at}
 use Rattle.kryo_stream.specs.WellFormed.{IsBlockOf}
 
 -- the block that is read may stand there, and lies within the limit

@@ -6,10 +6,11 @@ use Rattle.std.specs.Io.KnownBytes.{IsAtEnd}
 use Rattle.flux_base.specs.declared.outside.Failed.{Failed}
 use Rattle.kryo_stream.specs.declared.before.Before.{Before}
 use Rattle.kryo_stream.specs.declared.block.Block.TheVariants.{Info}
+use Rattle.kryo_stream.specs.declared.block.Piece.{Piece}
 use Rattle.kryo_stream.specs.declared.fault.StreamFault.TheVariants.{Truncated}
 use Rattle.kryo_stream.specs.declared.intake.More.TheVariants.{Taken, End}
 use Rattle.kryo_stream.specs.Held.{Took}
-use Rattle.kryo_stream.specs.Pieces.{Reading, piece, IsText}
+use Rattle.kryo_stream.specs.Pieces.{Reading, piece, piece_at, IsText}
 use Rattle.kryo_stream.specs.Progress.{BlockSays, TakesBlock, IsPassing, IsSkipped}
 use Rattle.kryo_stream.specs.Tally.{IsWithin}
 use Rattle.kryo_stream.proofs.Pieces.{piece_at-text_whole, piece_at-text_cut}
@@ -121,3 +122,13 @@ took_before {left} {mid} {new} {held} {now} {next} b answer t k =
       few = omega (arith, k.few, ap length joined);
       says = subst (λ xs. BlockSays b answer xs next new) joined k.says;
     }
+
+-- a block that is held whole needs no byte more
+pub takes_held : (left : Option (List ℕ)) (held held' : List ℕ) (b : Before) (p : Piece) → b.offset ≤ 4194304 → length held ≤ 4096
+    → piece_at b.offset b.counted b.ended held ≡ Ok p → held' ≡ drop p.bytes held → TakesBlock left left held held' b (Ok (Ok p))
+takes_held left held held' b p within bound reads place = record {
+  taken = [];
+  consumed = Consumes-nil left;
+  few = omega (arith, within, bound, length-append held []);
+  says = subst (λ xs. BlockSays b (Ok (Ok p)) xs held' left) (sym (append-nil held)) (reads, place);
+}

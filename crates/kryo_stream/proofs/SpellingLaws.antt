@@ -10,7 +10,8 @@ use Rattle.kryo_stream.specs.declared.block.Block.{Block}
 use Rattle.kryo_stream.specs.declared.block.Block.TheVariants.{Flux, Overflow, Nop, StreamInfo, Index, StreamEnd, Info, End}
 use Rattle.kryo_stream.specs.declared.block.Piece.{Piece}
 use Rattle.kryo_stream.specs.Blocks.{Spells, out_of_band}
-use Rattle.kryo_stream.specs.Pieces.{LIMIT, Reading, needs, piece, at_position, number_at, out_of_band_piece, piece_from, piece_at}
+use Rattle.kryo_stream.specs.Protocol.{LIMIT}
+use Rattle.kryo_stream.specs.Pieces.{Reading, needs, piece, at_position, number_at, out_of_band_piece, piece_from, piece_at}
 use Rattle.kryo_stream.specs.Spelling.{spelling, IsWritable}
 use Rattle.kryo_stream.specs.WellFormed.{MayStand, IsBlockOf}
 

@@ -14,7 +14,8 @@ use Rattle.kryo_stream.specs.declared.block.Mark.{Mark}
 use Rattle.kryo_stream.specs.declared.block.Piece.{Piece}
 use Rattle.kryo_stream.specs.declared.fault.StreamFault.{StreamFault}
 use Rattle.kryo_stream.specs.declared.fault.StreamFault.TheVariants.{NoTurn}
-use Rattle.kryo_stream.specs.Pieces.{LIMIT, Reading}
+use Rattle.kryo_stream.specs.Protocol.{LIMIT}
+use Rattle.kryo_stream.specs.Pieces.{Reading}
 use Rattle.kryo_stream.specs.Stream.{total_bytes, in_stream_bytes, has_ended, is_end, is_last, marks, index_time, indexes_of, mark_fault, mark_fault_at, mark_faults, turn_fault, piece_behind, with_piece, more_pieces, pieces, stops_at, last_block, fault_at, first_fault, stream}
 use Rattle.kryo_stream.specs.WellFormed.{IsBlockBehind, BeginsWith}
 use Rattle.kryo_stream.proofs.BenchLemmas.{slice_get-seam}

@@ -8,7 +8,7 @@ use Rattle.kryo_stream.specs.declared.block.Mark.{Mark}
 use Rattle.kryo_stream.specs.declared.fault.StreamFault.TheVariants.{IndexPosition, IndexOrder}
 use Rattle.kryo_stream.specs.declared.fault.TrackFault.{TrackFault}
 use Rattle.kryo_stream.specs.declared.fault.TrackFault.TheVariants.{ReadFault, Memory, Refused}
-use Rattle.kryo_stream.specs.Pieces.{LIMIT}
+use Rattle.kryo_stream.specs.Protocol.{OVERFLOW_TICKS, LIMIT}
 use Rattle.kryo_stream.specs.Stream.{is_in_stream, in_stream_bytes, total_bytes, times_of, marks, turn_fault}
 
 -- the most Index blocks of one stream: each takes 16 bytes
@@ -86,7 +86,7 @@ abbrev pub base_time : List ℕ → List ℕ → List ℕ → ℕ → ℕ
 base_time ends overflows times position =
     let count = count_by (λ end. nat_le end position) ends in
     get_or (0 ∷ times) count 0
-    + 65536 * count_by (λ begin. nat_le (get_or (0 ∷ ends) count 0) begin && nat_lt begin position) overflows
+    + OVERFLOW_TICKS * count_by (λ begin. nat_le (get_or (0 ∷ ends) count 0) begin && nat_lt begin position) overflows
 
 -- a bench that holds all blocks of a stream, with the times of their transitions and the number of all in-stream bytes
 pub record IsComplete (ps : List Piece) (b : BenchState) (transitions : List ℕ) (total end : ℕ) : Type 0 where

@@ -1,3 +1,4 @@
+pub mod Protocol
 pub mod Blocks
 pub mod Pieces
 pub mod Stream

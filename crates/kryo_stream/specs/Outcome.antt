@@ -6,6 +6,7 @@ use Rattle.index_turns.specs.Track.{TrackState, room_of_times, room_of_indexes}
 use Rattle.kryo_stream.specs.declared.fault.StreamFault.TheVariants.{Truncated}
 use Rattle.kryo_stream.specs.declared.fault.TrackFault.{TrackFault}
 use Rattle.kryo_stream.specs.declared.fault.TrackFault.TheVariants.{ReadFault, Memory, Refused}
+use Rattle.kryo_stream.specs.Protocol.{LIMIT, MOST_HELD, MOST_PADDING}
 use Rattle.kryo_stream.specs.Padding.{unpadded}
 use Rattle.kryo_stream.specs.Stream.{first_fault, times, indexes, stream_length}
 
@@ -42,14 +43,14 @@ input_of used x = if used then unpadded x else x
 
 -- the most bytes of padding
 abbrev pub most_padding : Bool → ℕ
-most_padding used = if used then 16 else 0
+most_padding used = if used then MOST_PADDING else 0
 
 -- the call took these bytes, which with the held ones are no more than padding, a stream and an intake can be, and its
 -- answer is right whatever follows them; only where it says that the input ends inside a block, nothing follows
 pub record IsRead (left left' : Option (List ℕ)) (used : Bool) (held held' : List ℕ) (flux : TrackState) (answer : Answer) : Type 0 where
   pub taken : List ℕ
   pub consumed : Consumes left left' taken
-  pub few : length (held ++ taken) ≤ most_padding used + 4198400
+  pub few : length (held ++ taken) ≤ most_padding used + (LIMIT + MOST_HELD)
   pub says : (later : List ℕ) → (IsTruncated answer → later ≡ [])
       → Says answer (input_of used ((held ++ taken) ++ later)) flux (held' ++ later)
   pub ended : IsTruncated answer → IsAtEnd left'
@@ -67,14 +68,14 @@ TrackCause before now _ = Unit {0}
 
 -- what a stream's limit makes of its times: a block has at most 65536 ticks a byte, and a sample counter 32 bits
 pub record IsSmall (flux : TrackState) : Type 0 where
-  pub few_times : length flux.times ≤ 4194304
+  pub few_times : length flux.times ≤ LIMIT
   pub few_indexes : length flux.indexes ≤ 262144
   pub times_within : All (λ time. time ≤ 2 ^ 38) flux.times
   pub indexes_within : All (λ time. time < 2 ^ 39) flux.indexes
 
 -- room for the transitions and index times of any stream
 pub record HasFullRoom (flux : TrackState) : Type 0 where
-  pub times : 4194304 ≤ room_of_times flux
+  pub times : LIMIT ≤ room_of_times flux
   pub indexes : 262144 ≤ room_of_indexes flux
 
 -- an answer other than want of memory

@@ -2,15 +2,12 @@
 -- that a stream ends at 4194304 bytes, are our own choice).
 use Rattle.std.specs.Prelude.{◌≡◌, ◌≤◌, ℕ, ◌+◌, ◌-◌, ◌*◌, ◌==◌, Bool, List, length, drop, slice_index, nat_lt, nat_le, if◌then◌else◌, Result, Ok, Err}
 use Rattle.byteorder.specs.Endian.{little_number}
+use Rattle.kryo_stream.specs.Protocol.{OUT_OF_BAND, STREAM_INFO_TYPE, INDEX_TYPE, STREAM_END_TYPE, INFO_TYPE, END_TYPE, STREAM_INFO_SIZE, INDEX_SIZE, STREAM_END_SIZE, END_SIZE, LIMIT}
 use Rattle.kryo_stream.specs.declared.block.Block.{Block}
 use Rattle.kryo_stream.specs.declared.block.Block.TheVariants.{Flux, Overflow, Nop, StreamInfo, Index, StreamEnd, Info, End}
 use Rattle.kryo_stream.specs.declared.block.Piece.{Piece}
 use Rattle.kryo_stream.specs.declared.fault.StreamFault.{StreamFault}
 use Rattle.kryo_stream.specs.declared.fault.StreamFault.TheVariants.{Truncated, UnknownType, BadSize, WrongPosition, DeviceFault, DataAfterEnd, TooLong}
-
--- the most bytes of one stream
-abbrev pub LIMIT : ℕ
-LIMIT = 4194304
 
 -- a block or its fault
 abbrev pub Reading : Type 0
@@ -84,17 +81,17 @@ info_piece offset size bytes = needs offset (4 + size) bytes (piece (Info size) 
 -- the out-of-band block whose type and size are there
 abbrev pub out_of_band_piece : ℕ → ℕ → ℕ → ℕ → List ℕ → Reading
 out_of_band_piece offset counted kind size bytes =
-    if kind == 1 then of_size 8 size (stream_info_piece offset counted bytes)
-    else (if kind == 2 then of_size 12 size (index_piece offset bytes)
-    else (if kind == 3 then of_size 8 size (stream_end_piece offset counted bytes)
-    else (if kind == 4 then info_piece offset size bytes
-    else (if kind == 13 then of_size 3341 size (piece End 4)
+    if kind == STREAM_INFO_TYPE then of_size STREAM_INFO_SIZE size (stream_info_piece offset counted bytes)
+    else (if kind == INDEX_TYPE then of_size INDEX_SIZE size (index_piece offset bytes)
+    else (if kind == STREAM_END_TYPE then of_size STREAM_END_SIZE size (stream_end_piece offset counted bytes)
+    else (if kind == INFO_TYPE then info_piece offset size bytes
+    else (if kind == END_TYPE then of_size END_SIZE size (piece End 4)
     else Err (UnknownType kind)))))
 
 -- the block whose first byte is there
 abbrev pub piece_from : ℕ → ℕ → Bool → ℕ → List ℕ → Reading
 piece_from offset counted ended first bytes =
-    if first == 13
+    if first == OUT_OF_BAND
     then needs offset 4 bytes (out_of_band_piece offset counted (slice_index bytes 1) (little_number 2 (drop 2 bytes)) bytes)
     else (if ended then Err DataAfterEnd else in_stream_piece offset first bytes)
 
@@ -106,7 +103,7 @@ piece_at offset counted ended bytes = needs offset 1 bytes (piece_from offset co
 -- the header of an Info block of this size is at the front, and its end is within the limit
 pub record IsText (offset : ℕ) (bytes : List ℕ) (size : ℕ) : Type 0 where
   pub header : 4 ≤ length bytes
-  pub first : slice_index bytes 0 ≡ 13
-  pub kind : slice_index bytes 1 ≡ 4
+  pub first : slice_index bytes 0 ≡ OUT_OF_BAND
+  pub kind : slice_index bytes 1 ≡ INFO_TYPE
   pub size_is : little_number 2 (drop 2 bytes) ≡ size
   pub room : offset + (4 + size) ≤ LIMIT

@@ -8,6 +8,7 @@ use Rattle.kryo_stream.specs.declared.intake.More.{More}
 use Rattle.kryo_stream.specs.declared.intake.More.TheVariants.{Taken, End}
 use Rattle.kryo_stream.specs.Bench.{BenchState, IsNoted}
 use Rattle.kryo_stream.specs.Outcome.{input_of, most_padding}
+use Rattle.kryo_stream.specs.Protocol.{LIMIT, MOST_HELD}
 use Rattle.kryo_stream.specs.Pieces.{Reading, piece_at}
 use Rattle.kryo_stream.specs.Stream.{pieces, stops_at}
 use Rattle.kryo_stream.specs.Tally.{IsTally}
@@ -40,7 +41,7 @@ BlockSays b (Err _) bytes held' left' = piece_at b.offset b.counted b.ended byte
 pub record TakesBlock (left left' : Option (List ℕ)) (held held' : List ℕ) (b : Before) (answer : Result Reading Failed) : Type 0 where
   pub taken : List ℕ
   pub consumed : Consumes left left' taken
-  pub few : b.offset + length (held ++ taken) ≤ 4198400
+  pub few : b.offset + length (held ++ taken) ≤ LIMIT + MOST_HELD
   pub says : BlockSays b answer (held ++ taken) held' left'
 
 -- the first bytes were passed over, so many of them

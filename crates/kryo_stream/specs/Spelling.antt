@@ -3,6 +3,7 @@
 use Rattle.std.specs.Prelude.{◌≤◌, ◌<◌, ◌+◌, ◌-◌, ◌/◌, ◌%◌, ◌^◌, ◌++◌, ◌&&◌, ℕ, List, [], ◌∷◌, if◌then◌else◌, nat_lt, nat_le}
 use Rattle.std.proofs.Math.ListN.{replicate}
 use Rattle.byteorder.specs.Endian.{little_bytes}
+use Rattle.kryo_stream.specs.Protocol.{STREAM_INFO_TYPE, INDEX_TYPE, STREAM_END_TYPE, INFO_TYPE, STREAM_INFO_SIZE, INDEX_SIZE, STREAM_END_SIZE}
 use Rattle.kryo_stream.specs.declared.block.Block.{Block}
 use Rattle.kryo_stream.specs.declared.block.Block.TheVariants.{Flux, Overflow, Nop, StreamInfo, Index, StreamEnd, Info, End}
 use Rattle.kryo_stream.specs.Blocks.{out_of_band}
@@ -19,11 +20,11 @@ abbrev pub spelling : Block → List ℕ
 spelling (Flux ticks) = flux_spelling ticks
 spelling Overflow = 11 ∷ []
 spelling (Nop bytes) = (7 + bytes) ∷ replicate (bytes - 1) 0
-spelling (StreamInfo position time) = out_of_band 1 8 ++ little_bytes 4 position ++ little_bytes 4 time
+spelling (StreamInfo position time) = out_of_band STREAM_INFO_TYPE STREAM_INFO_SIZE ++ little_bytes 4 position ++ little_bytes 4 time
 spelling (Index position sample counter) =
-    out_of_band 2 12 ++ little_bytes 4 position ++ little_bytes 4 sample ++ little_bytes 4 counter
-spelling (StreamEnd position code) = out_of_band 3 8 ++ little_bytes 4 position ++ little_bytes 4 code
-spelling (Info length) = out_of_band 4 length ++ replicate length 32
+    out_of_band INDEX_TYPE INDEX_SIZE ++ little_bytes 4 position ++ little_bytes 4 sample ++ little_bytes 4 counter
+spelling (StreamEnd position code) = out_of_band STREAM_END_TYPE STREAM_END_SIZE ++ little_bytes 4 position ++ little_bytes 4 code
+spelling (Info length) = out_of_band INFO_TYPE length ++ replicate length 32
 spelling End = 13 ∷ 13 ∷ 13 ∷ 13 ∷ []
 
 -- a Nop has 1 to 3 bytes

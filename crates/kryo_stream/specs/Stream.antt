@@ -8,6 +8,7 @@ use Rattle.kryo_stream.specs.declared.block.Mark.{Mark}
 use Rattle.kryo_stream.specs.declared.block.Piece.{Piece}
 use Rattle.kryo_stream.specs.declared.fault.StreamFault.{StreamFault}
 use Rattle.kryo_stream.specs.declared.fault.StreamFault.TheVariants.{IndexPosition, IndexOrder, NoTurn}
+use Rattle.kryo_stream.specs.Protocol.{OVERFLOW_TICKS}
 use Rattle.kryo_stream.specs.Pieces.{Reading, piece_at}
 
 -- the bytes of so many blocks
@@ -39,7 +40,7 @@ has_ended ps = list_any (λ p. is_stream_end p.block) ps
 
 abbrev pub block_ticks : Block → ℕ
 block_ticks (Flux ticks) = ticks
-block_ticks Overflow = 65536
+block_ticks Overflow = OVERFLOW_TICKS
 block_ticks _ = 0
 
 -- the time that so many blocks take, in ticks

@@ -4,6 +4,7 @@ use Rattle.kryo_stream.specs.declared.block.Block.{Block}
 use Rattle.kryo_stream.specs.declared.block.Block.TheVariants.{Flux}
 use Rattle.kryo_stream.specs.declared.block.Piece.{Piece}
 use Rattle.kryo_stream.specs.declared.before.Before.{Before}
+use Rattle.kryo_stream.specs.Protocol.{OVERFLOW_TICKS, LIMIT}
 use Rattle.kryo_stream.specs.Stream.{total_bytes, is_in_stream, in_stream_bytes, is_stream_end, has_ended, block_ticks, ticks, times_of}
 
 -- what stands before the first block
@@ -21,14 +22,14 @@ behind b p = record {
 
 -- the numbers are as small as the limit of a stream makes them
 pub record IsWithin (b : Before) : Type 0 where
-  pub offset : b.offset ≤ 4194304
+  pub offset : b.offset ≤ LIMIT
   pub counted : b.counted ≤ b.offset
-  pub time : b.time ≤ 65536 * b.offset
+  pub time : b.time ≤ OVERFLOW_TICKS * b.offset
 
 -- the block takes bytes, and no more than the limit leaves
 pub record MayFollow (b : Before) (p : Piece) : Type 0 where
   pub some : 1 ≤ p.bytes
-  pub room : b.offset + p.bytes ≤ 4194304
+  pub room : b.offset + p.bytes ≤ LIMIT
 
 -- the transition that a block adds
 abbrev pub new_times : ℕ → Block → List ℕ

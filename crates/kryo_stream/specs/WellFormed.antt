@@ -5,7 +5,7 @@ use Rattle.kryo_stream.specs.declared.block.Block.{Block}
 use Rattle.kryo_stream.specs.declared.block.Block.TheVariants.{Flux, Overflow, Nop, StreamInfo, Index, StreamEnd, Info, End}
 use Rattle.kryo_stream.specs.declared.block.Piece.{Piece}
 use Rattle.kryo_stream.specs.Blocks.{Spells}
-use Rattle.kryo_stream.specs.Pieces.{LIMIT}
+use Rattle.kryo_stream.specs.Protocol.{LIMIT}
 use Rattle.kryo_stream.specs.Spelling.{IsWritable}
 use Rattle.kryo_stream.specs.Stream.{total_bytes, in_stream_bytes, has_ended, is_end, marks, indexes_of}
 

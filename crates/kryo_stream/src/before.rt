@@ -31,6 +31,7 @@ impl Before {
     }
 
     /// What stands before the next block.
+    #[inline(always)]
     pub fn behind(&self, piece: &Piece) -> Before
         requires within { IsWithin self.now }
         requires follows { MayFollow self.now piece.now }

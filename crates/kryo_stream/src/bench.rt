@@ -1,6 +1,6 @@
 ghost use Rattle.std.specs.Prelude.{◌≡◌, ◌≤◌, ◌<◌, ◌+◌, ◌-◌, ◌^◌, ◌++◌, ℕ, List, [], ◌∷◌, length, All, OnOk, OnErr, IfErr, IsOk, count_by, get_or, nat_lt, nat_le, slice_index};
 ghost use Rattle.std.specs.List.Sorted.{IsNonDecreasing};
-ghost use Rattle.kryo_stream.specs.Pieces.{LIMIT};
+ghost use Rattle.kryo_stream.specs.Protocol.{LIMIT};
 ghost use Rattle.kryo_stream.specs.Stream.{in_stream_bytes, total_bytes, turn_fault, indexes_of};
 ghost use Rattle.index_turns.specs.Track.{KeepsRoom};
 ghost use Rattle.kryo_stream.specs.Bench.{HasFullBench, KeepsBenchRoom, IsNoted, IsSized, IsComplete, IsSearchable, TurnCause, PlaceCause, base_time, mark_time};
@@ -85,6 +85,7 @@ impl StreamBench {
     }
 
     /// Takes note of block `number` of the stream, which begins at the stream position `position`.
+    #[inline(always)]
     pub(crate) fn note(&mut self, number: u32, position: u32, piece: Piece) -> Result<(), Memory>
         requires size { IsSized piece }
         requires end { position + piece.bytes < 2 ^ 32 }

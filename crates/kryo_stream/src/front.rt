@@ -1,7 +1,8 @@
 ghost use Rattle.std.specs.Prelude.{◌≡◌, ◌≤◌, ℕ, length, drop, slice_index, IfOk, IfSome, IfNone};
 ghost use Rattle.byteorder.specs.Endian.{little_number};
 ghost use Rattle.kryo_stream.specs.Bench.{IsSized};
-ghost use Rattle.kryo_stream.specs.Pieces.{has, in_stream_piece, info_piece, stream_info_piece, index_piece, stream_end_piece, out_of_band_piece, piece_at, IsText};
+ghost use Rattle.kryo_stream.specs.declared.block.Block.TheVariants.{Flux};
+ghost use Rattle.kryo_stream.specs.Pieces.{piece, has, in_stream_piece, info_piece, stream_info_piece, index_piece, stream_end_piece, out_of_band_piece, piece_at, IsText};
 
 use crate::before::Before;
 use crate::block::{Block, Piece};
@@ -35,6 +36,25 @@ pub fn front(before: &Before, bytes: &[u8]) -> Result<Piece, StreamFault>
         return Err(StreamFault::DataAfterEnd);
     }
     in_stream(before.offset, bytes)
+}
+
+/// The ticks of the block at the front of the bytes, if it is a transition of one byte, within the limit and
+/// before the end of the stream.
+pub fn short_flux(before: &Before, bytes: &[u8]) -> Option<u16>
+    ensures reading { IfSome result (λ ticks. piece_at before.now.offset before.now.counted before.now.ended bytes.now ≡ piece (Flux ticks) 1) }
+    ensures inside { IfSome result (λ _. 1 ≤ length bytes.now) }
+{
+    let Some(first) = bytes.first() else {
+        return None;
+    };
+    let first = *first;
+    if first <= OUT_OF_BAND {
+        return None;
+    }
+    if before.offset >= LIMIT || before.ended {
+        return None;
+    }
+    Some(u16::from(first))
 }
 
 /// The size of the Info block at the front of the bytes, if its header is there and it ends within the

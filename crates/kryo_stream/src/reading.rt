@@ -15,7 +15,7 @@ use crate::before::Before;
 use crate::bench::StreamBench;
 use crate::block::{Block, Piece};
 use crate::fault::{StreamFault, TrackFault};
-use crate::front::{LIMIT, front, text_size};
+use crate::front::{LIMIT, front, short_flux, text_size};
 use crate::intake::{Intake, More};
 use crate::padding::padding_at_hand;
 use flux_base::{Failed, Memory, Source};
@@ -138,7 +138,21 @@ fn read_stream<S: Source>(
     bench.clear();
     let mut before = Before::start();
     for number in 0..LIMIT + 1 {
-        let piece = match take_block(source, intake, &before) {
+        // Nearly all blocks of a track are transitions of one byte.
+        if let Some(ticks) = short_flux(&before, intake.bytes()) {
+            let block = Block::Flux { ticks };
+            let piece = Piece { block, bytes: 1 };
+            intake.pass(1);
+            match note(number, &piece, &before, flux, bench) {
+                Ok(()) => {}
+                Err(Memory) => return Err(TrackFault::Memory),
+            }
+            before = before.behind(&piece);
+            continue;
+        }
+        // A copy, so that the other numbers can stay in registers.
+        let stands = before;
+        let piece = match take_block(source, intake, &stands) {
             Ok(Ok(piece)) => piece,
             Ok(Err(fault)) => {
                 return Err(TrackFault::Refused {
@@ -160,7 +174,9 @@ fn read_stream<S: Source>(
     unreachable!()
 }
 
-/// Passes over the block that the input goes on with, or gives its fault.
+/// Passes over the block that the input goes on with, or gives its fault. A call, so that the way of the usual
+/// block is short.
+#[inline(never)]
 fn take_block<S: Source>(
     source: &mut S,
     intake: &mut Intake,
@@ -283,6 +299,7 @@ fn next_block<S: Source>(
 }
 
 /// Keeps what the turns of a stream and its transitions need of a block.
+#[inline(always)]
 fn note(
     number: u32,
     piece: &Piece,
