@@ -1,0 +1,17 @@
+pub mod Rows
+pub mod Gathered
+pub mod Steps
+pub mod Rising
+pub mod Equal
+pub mod Progress
+pub mod CellTimes
+pub mod Parts
+pub mod Rings
+pub mod Begins
+pub mod Timings
+pub mod Stands
+pub mod ReadTimes
+pub mod ReadIndexes
+pub mod ReadsBack
+pub mod Sizes
+pub mod CellsRead

@@ -1,0 +1,74 @@
+-- A part of a list of cells, as it is written.
+use Rattle.std.proofs.Common.{◌≡◌, ◌≤◌, ◌<◌, ◌+◌, ◌-◌, ◌/◌, ◌++◌, ℕ, Bool, List, [], ◌∷◌, length, map, take, drop, Option, sym, subst, arith}
+use Rattle.cell_bits.specs.Word.{Stands}
+use Rattle.cell_bits.specs.Search.{StandsNowhere}
+use Rattle.flux_base.specs.Outside.{AppendsPart}
+use Rattle.flux_writer.specs.Gathering.{Gathers}
+use Rattle.flux_writer.specs.Written.{cell_time, spellings}
+use Rattle.flux_writer.specs.Writing.{indexes_behind, next_blocks, many_blocks, position_behind, times_between, ones_from, IsReadyAt, IsWritten}
+use Rattle.flux_writer.proofs.CellTimes.{cell_time-le, product-small, times_between-split, times_between-one}
+use Rattle.flux_writer.proofs.Progress.{IsReady-next, IsReady-fits, IsWritten-more, IsWritten-one, IsWritten-part, part_of_one, part_of_more}
+
+-- the next cell that is a one
+pub IsReadyAt-next : (nominal position time number K : ℕ) (indexes : List ℕ) → IsReadyAt nominal position time number indexes → number ≤ K
+    → IsReadyAt nominal (position_behind position time (cell_time nominal K)) (cell_time nominal K) (K + 1)
+    (indexes_behind (cell_time nominal K) indexes)
+IsReadyAt-next nominal position time number K indexes r order =
+    let early : time ≤ cell_time nominal K = omega (arith, r.reached, cell_time-le nominal number K order) in
+    let next = IsReady-next position time number (cell_time nominal K) indexes r.ready early in
+    record {
+      ready = record { room = omega (arith, next.room, order); begun = next.begun; rising = next.rising };
+      reached = cell_time-le nominal K (K + 1) (omega arith);
+    }
+
+-- cells that are no ones
+pub IsReadyAt-later : (nominal position time number K : ℕ) (indexes : List ℕ) → IsReadyAt nominal position time number indexes → number ≤ K
+    → IsReadyAt nominal position time K indexes
+IsReadyAt-later nominal position time number K indexes r order = record {
+  ready = record { room = omega (arith, r.ready.room, order); begun = r.ready.begun; rising = r.ready.rising };
+  reached = omega (arith, r.reached, cell_time-le nominal number K order);
+}
+
+-- what the next transition requires
+pub in_time : (nominal position time number K : ℕ) (indexes : List ℕ) → IsReadyAt nominal position time number indexes → number ≤ K
+    → time ≤ cell_time nominal K
+in_time nominal position time number K indexes r order = omega (arith, r.reached, cell_time-le nominal number K order)
+
+pub fits : (nominal position time number K : ℕ) (indexes : List ℕ) → IsReadyAt nominal position time number indexes → number ≤ K
+    → nominal ≤ 131072 → K < 2097152 → position + (cell_time nominal K - time) / 65536 + 3 < 4294967296
+fits nominal position time number K indexes r order short few =
+    let product = product-small nominal K short few in
+    IsReady-fits position time number (cell_time nominal K) indexes r.ready (in_time nominal position time number K indexes r order)
+    (omega (arith, product)) (omega (arith, order, few))
+
+-- one more one of the part
+module _ (cells : List Bool) (from number nominal place one to : ℕ) (start : from ≤ place) (order : place ≤ one)
+    (stands : Stands cells 1 1 one) (nowhere : StandsNowhere cells 1 1 place one)
+    (old mid new : Option (List ℕ)) (held : List ℕ) (position time : ℕ) (indexes held' : List ℕ) (position' time' : ℕ) (indexes' : List ℕ)
+    (w : IsWritten old mid held position time indexes held' position' time' indexes' (times_between cells from place number nominal)) where
+  pub next_one : (held'' : List ℕ) (position'' time'' : ℕ) (indexes'' : List ℕ)
+      → Gathers mid new held' held'' (spellings (next_blocks position' time' (cell_time nominal (number + (one - from))) indexes'))
+      → position'' ≡ position_behind position' time' (cell_time nominal (number + (one - from)))
+      → time'' ≡ cell_time nominal (number + (one - from))
+      → indexes'' ≡ indexes_behind (cell_time nominal (number + (one - from))) indexes'
+      → IsWritten old new held position time indexes held'' position'' time'' indexes'' (times_between cells from (one + 1) number nominal)
+  next_one held'' position'' time'' indexes'' g position_is time_is indexes_are =
+      subst (IsWritten old new held position time indexes held'' position'' time'' indexes'')
+      (sym (times_between-one cells from number nominal place one to start order stands nowhere))
+      (IsWritten-more old mid new held position time indexes held' position' time' indexes' (times_between cells from place number nominal) w
+      (cell_time nominal (number + (one - from)) ∷ []) held'' position'' time'' indexes''
+      (IsWritten-one mid new held' position' time' (cell_time nominal (number + (one - from))) indexes' held'' position'' time'' indexes'' g
+      position_is time_is indexes_are))
+
+  pub next_one_fails : one < to → to ≤ length cells
+      → AppendsPart mid new (held' ++ spellings (next_blocks position' time' (cell_time nominal (number + (one - from))) indexes'))
+      → AppendsPart old new (held ++ spellings (many_blocks position time (times_between cells from to number nominal) indexes))
+  next_one_fails before within part =
+      part_of_more old new held position time (times_between cells from to number nominal) (times_between cells from (one + 1) number nominal)
+      (map (cell_time nominal) (ones_from (number + ((one + 1) - from)) (take (to - (one + 1)) (drop (one + 1) cells)))) indexes
+      (sym (times_between-split cells from (one + 1) to number nominal (omega arith) (omega arith) within))
+      (subst (λ times. AppendsPart old new (held ++ spellings (many_blocks position time times indexes)))
+      (sym (times_between-one cells from number nominal place one to start order stands nowhere))
+      (IsWritten-part old mid new held position time indexes held' position' time' indexes' (times_between cells from place number nominal) w
+      (cell_time nominal (number + (one - from)) ∷ [])
+      (part_of_one mid new held' position' time' (cell_time nominal (number + (one - from))) indexes' part)))

@@ -1,0 +1,60 @@
+-- How many bytes a written stream has.
+use Rattle.std.proofs.Common.{◌≡◌, ◌≤◌, ◌+◌, ◌-◌, ◌*◌, ◌/◌, ◌++◌, ℕ, List, [], ◌∷◌, length, map, ap, sym, refl, arith, length-append}
+use Rattle.std.specs.List.Sorted.{IsNonDecreasing, IsStrictlyIncreasing}
+use Rattle.kryo_stream.specs.Spelling.{spelling}
+use Rattle.flux_writer.specs.Written.{spellings, index_block, interval_blocks, stream_of_times}
+use Rattle.flux_writer.specs.Writing.{indexes_before, indexes_behind, last_blocks, many_blocks, position_behind, position_after, time_after}
+use Rattle.flux_writer.specs.Reading.{last_of}
+use Rattle.flux_writer.proofs.Steps.{spellings-append, length-interval}
+use Rattle.flux_writer.proofs.Rising.{before-behind}
+use Rattle.flux_writer.proofs.Equal.{stream_blocks-is}
+use Rattle.flux_writer.proofs.Stands.{InOrder, InOrder-from_sorted}
+use Rattle.flux_writer.proofs.ReadsBack.{last-is, from_zero}
+
+indexes_take : (position begin : ℕ) (xs : List ℕ) → length (spellings (map (index_block position begin) xs)) ≡ 16 * length xs
+indexes_take position begin [] = refl
+indexes_take position begin (x ∷ xs) =
+    omega (
+      arith,
+      length-append (spelling (index_block position begin x)) (spellings (map (index_block position begin) xs)),
+      indexes_take position begin xs,
+    )
+
+many_take : (position begin : ℕ) (ts xs : List ℕ) → InOrder begin ts
+    → length (spellings (many_blocks position begin ts xs)) + begin / 65536 ≤ 3 * length ts + time_after begin ts / 65536 + 16 * length xs
+many_take position begin [] xs order = omega arith
+many_take position begin (t ∷ ts) xs order =
+    let front = map (index_block position begin) (indexes_before t xs) in
+    let interval = interval_blocks (t - begin) in
+    let rest = many_blocks (position_behind position begin t) t ts (indexes_behind t xs) in
+    omega (
+      arith,
+      order.0,
+      many_take (position_behind position begin t) t ts (indexes_behind t xs) order.1,
+      ap length (spellings-append (front ++ interval) rest),
+      length-append (spellings (front ++ interval)) (spellings rest),
+      ap length (spellings-append front interval),
+      length-append (spellings front) (spellings interval),
+      indexes_take position begin (indexes_before t xs),
+      length-interval (t - begin),
+      ap length (before-behind t xs),
+      length-append (indexes_before t xs) (indexes_behind t xs),
+    )
+
+last_time : (ts : List ℕ) → time_after 0 ts ≡ last_of ts
+last_time [] = refl
+last_time (t ∷ ts) = sym (last-is t ts)
+
+pub stream_takes : (ts xs : List ℕ) → IsNonDecreasing ts → IsStrictlyIncreasing xs
+    → length (stream_of_times ts xs) ≤ 3 * length ts + last_of ts / 65536 + 16 * length xs + 16
+stream_takes ts xs order rising =
+    let all = many_blocks 0 0 ts xs in
+    let last = last_blocks (position_after 0 0 ts) in
+    omega (
+      arith,
+      ap (λ bs. length (spellings bs)) (stream_blocks-is ts xs rising),
+      ap length (spellings-append all last),
+      length-append (spellings all) (spellings last),
+      many_take 0 0 ts xs (InOrder-from_sorted 0 ts (from_zero ts order)),
+      last_time ts,
+    )

@@ -1,0 +1,181 @@
+-- The blocks of one transition and of several.
+use Rattle.std.proofs.Common.{◌≡◌, ◌≤◌, ◌<◌, ◌+◌, ◌/◌, ◌%◌, ◌++◌, ◌&&◌, ℕ, zero, suc, Bool, true, false, cond, List, [], ◌∷◌, length, map, take, drop, replicate, nat_lt, nat_le, refl, ap, sym, ◌∙◌, subst, arith, append_assoc, append-nil, length-append, slice_get, Option, Some, if◌then◌else◌}
+use Rattle.std.proofs.lemmas.Bool.Decides.{nat_tests}
+use Rattle.std.proofs.lemmas.List.{length-replicate, map-append}
+use Rattle.std.proofs.lemmas.List.Concat.{flat_map-append}
+use Rattle.kryo_stream.specs.declared.block.Block.{Block}
+use Rattle.kryo_stream.specs.declared.block.Block.TheVariants.{Flux, Overflow}
+use Rattle.kryo_stream.specs.Spelling.{spelling, flux_spelling}
+use Rattle.flux_writer.specs.Gathering.{Gathers}
+use Rattle.flux_writer.specs.Written.{spellings, interval_blocks, index_block}
+use Rattle.flux_writer.specs.Writing.{position_behind, count_before, indexes_before, indexes_behind, next_blocks, many_blocks, position_after, time_after, indexes_after}
+use Rattle.flux_base.specs.Outside.{AppendsPart}
+use Rattle.flux_writer.proofs.Gathered.{Gathers-nothing, Gathers-more, Gathers-part, AppendsPart-longer}
+
+pub spellings-append : (bs cs : List Block) → spellings (bs ++ cs) ≡ spellings bs ++ spellings cs
+spellings-append bs cs = flat_map-append spelling bs cs
+
+-- an overflow is one byte 0B
+pub spellings-overflows : (n : ℕ) → spellings (replicate n Overflow) ≡ replicate n 11
+spellings-overflows zero = refl
+spellings-overflows (suc n) = ap (λ bytes. 11 ∷ bytes) (spellings-overflows n)
+
+-- the bytes of an interval
+pub spellings-interval : (ticks : ℕ) → spellings (interval_blocks ticks) ≡ replicate (ticks / 65536) 11 ++ flux_spelling (ticks % 65536)
+spellings-interval ticks =
+    spellings-append (replicate (ticks / 65536) Overflow) (Flux (ticks % 65536) ∷ [])
+    ∙ ap (λ bytes. bytes ++ spellings (Flux (ticks % 65536) ∷ [])) (spellings-overflows (ticks / 65536))
+    ∙ ap (λ bytes. replicate (ticks / 65536) 11 ++ bytes) (append-nil (flux_spelling (ticks % 65536)))
+
+-- a flux value takes three bytes at most, and one at least
+length-flux : (ticks : ℕ) (one two : Bool) →
+    length {A = ℕ} (if one then ticks ∷ [] else (if two then (ticks / 256) ∷ (ticks % 256) ∷ []
+    else 12 ∷ (ticks / 256) ∷ (ticks % 256) ∷ [])) ≤ 3
+length-flux ticks true two = omega arith
+length-flux ticks false true = omega arith
+length-flux ticks false false = omega arith
+
+pub length-flux_spelling : (ticks : ℕ) → length (flux_spelling ticks) ≤ 3
+length-flux_spelling ticks = length-flux ticks (nat_le 14 ticks && nat_lt ticks 256) (nat_lt ticks 2048)
+
+pub length-interval : (ticks : ℕ) → length (spellings (interval_blocks ticks)) ≤ ticks / 65536 + 3
+length-interval ticks =
+    omega (
+      arith,
+      ap length (spellings-interval ticks),
+      length-append (replicate (ticks / 65536) 11) (flux_spelling (ticks % 65536)),
+      length-replicate {A = ℕ} (ticks / 65536) 11,
+      length-flux_spelling (ticks % 65536),
+    )
+
+-- several transitions, and then more
+pub many_blocks-append : (position begin : ℕ) (xs ys indexes : List ℕ)
+    → many_blocks position begin (xs ++ ys) indexes ≡ many_blocks position begin xs indexes
+    ++ many_blocks (position_after position begin xs) (time_after begin xs) ys (indexes_after xs indexes)
+many_blocks-append position begin [] ys indexes = refl
+many_blocks-append position begin (x ∷ xs) ys indexes =
+    ap (λ bs. next_blocks position begin x indexes ++ bs)
+    (many_blocks-append (position_behind position begin x) x xs ys (indexes_behind x indexes))
+    ∙ sym (append_assoc (next_blocks position begin x indexes)
+    (many_blocks (position_behind position begin x) x xs (indexes_behind x indexes))
+    (many_blocks (position_after (position_behind position begin x) x xs) (time_after x xs) ys
+    (indexes_after xs (indexes_behind x indexes))))
+
+pub position_after-append : (position begin : ℕ) (xs ys : List ℕ)
+    → position_after position begin (xs ++ ys) ≡ position_after (position_after position begin xs) (time_after begin xs) ys
+position_after-append position begin [] ys = refl
+position_after-append position begin (x ∷ xs) ys = position_after-append (position_behind position begin x) x xs ys
+
+pub time_after-append : (begin : ℕ) (xs ys : List ℕ) → time_after begin (xs ++ ys) ≡ time_after (time_after begin xs) ys
+time_after-append begin [] ys = refl
+time_after-append begin (x ∷ xs) ys = time_after-append x xs ys
+
+pub indexes_after-append : (xs ys indexes : List ℕ) → indexes_after (xs ++ ys) indexes ≡ indexes_after ys (indexes_after xs indexes)
+indexes_after-append [] ys indexes = refl
+indexes_after-append (x ∷ xs) ys indexes = indexes_after-append xs ys (indexes_behind x indexes)
+
+-- an index time that comes first and lies before the time, or does not
+module _ (time index : ℕ) (indexes : List ℕ) where
+  count_before-test : (b : Bool) → nat_lt index time ≡ b → count_before time (index ∷ indexes) ≡ cond b (1 + count_before time indexes) 0
+  count_before-test b is = ap (λ c. cond c (1 + count_before time indexes) 0) is
+
+  count_before-yes : index < time → count_before time (index ∷ indexes) ≡ suc (count_before time indexes)
+  count_before-yes before =
+      let test : nat_lt index time ≡ true = grind (arith, nat_tests, before) in
+      count_before-test true test ∙ omega arith
+
+  pub count_before-no : time ≤ index → count_before time (index ∷ indexes) ≡ 0
+  count_before-no behind =
+      let test : nat_lt index time ≡ false = grind (arith, nat_tests, behind) in
+      count_before-test false test
+
+  pub indexes_before-yes : index < time → indexes_before time (index ∷ indexes) ≡ index ∷ indexes_before time indexes
+  indexes_before-yes before = ap (λ n. take n (index ∷ indexes)) (count_before-yes before)
+
+  pub indexes_behind-yes : index < time → indexes_behind time (index ∷ indexes) ≡ indexes_behind time indexes
+  indexes_behind-yes before = ap (λ n. drop n (index ∷ indexes)) (count_before-yes before)
+
+  pub indexes_before-no : time ≤ index → indexes_before time (index ∷ indexes) ≡ []
+  indexes_before-no behind = ap (λ n. take n (index ∷ indexes)) (count_before-no behind)
+
+  pub indexes_behind-no : time ≤ index → indexes_behind time (index ∷ indexes) ≡ index ∷ indexes
+  indexes_behind-no behind = ap (λ n. drop n (index ∷ indexes)) (count_before-no behind)
+
+-- the Index blocks of an interval are written one by one: those so far, and those that are left before its end
+pub record IndexesWritten (old new : Option (List ℕ)) (held held' : List ℕ) (position begin end : ℕ) (indexes left : List ℕ) : Type 0 where
+  pub done : List ℕ
+  pub bytes : Gathers old new held held' (spellings (map (index_block position begin) done))
+  pub before : done ++ indexes_before end left ≡ indexes_before end indexes
+  pub behind : indexes_behind end left ≡ indexes_behind end indexes
+
+pub IndexesWritten-none : (old : Option (List ℕ)) (held : List ℕ) (position begin end : ℕ) (indexes : List ℕ)
+    → IndexesWritten old old held held position begin end indexes indexes
+IndexesWritten-none old held position begin end indexes = record {
+  done = [];
+  bytes = Gathers-nothing old held;
+  before = refl;
+  behind = refl;
+}
+
+spellings-snoc : (position begin : ℕ) (done : List ℕ) (index : ℕ)
+    → spellings (map (index_block position begin) done) ++ spelling (index_block position begin index)
+    ≡ spellings (map (index_block position begin) (done ++ index ∷ []))
+spellings-snoc position begin done index = sym
+    (ap spellings (map-append (index_block position begin) done (index ∷ []))
+    ∙ spellings-append (map (index_block position begin) done) (index_block position begin index ∷ [])
+    ∙ ap (λ bytes. spellings (map (index_block position begin) done) ++ bytes) (append-nil (spelling (index_block position begin index))))
+
+module _ (old mid new : Option (List ℕ)) (held held' : List ℕ) (position begin end : ℕ) (indexes lefts : List ℕ) (index : ℕ) (left bytes : List ℕ)
+    (w : IndexesWritten old mid held held' position begin end indexes lefts) (is : lefts ≡ index ∷ left) (before : index < end)
+    (spelled : bytes ≡ spelling (index_block position begin index)) where
+  -- the index times before the end are those done, this one, and those left
+  all_before : (w.done ++ index ∷ []) ++ indexes_before end left ≡ indexes_before end indexes
+  all_before = append_assoc w.done (index ∷ []) (indexes_before end left)
+      ∙ ap (λ xs. w.done ++ xs) (sym (indexes_before-yes end index left before) ∙ ap (indexes_before end) (sym is)) ∙ w.before
+
+  pub IndexesWritten-more : (held'' : List ℕ) → Gathers mid new held' held'' bytes
+      → IndexesWritten old new held held'' position begin end indexes left
+  IndexesWritten-more held'' g = record {
+    done = w.done ++ index ∷ [];
+    bytes = subst (Gathers old new held held'') (spellings-snoc position begin w.done index)
+        (Gathers-more old mid new held held' (spellings (map (index_block position begin) w.done))
+        (spelling (index_block position begin index)) w.bytes held'' (subst (Gathers mid new held' held'') spelled g));
+    before = all_before;
+    behind = sym (indexes_behind-yes end index left before) ∙ ap (indexes_behind end) (sym is) ∙ w.behind;
+  }
+
+  pub IndexesWritten-part : AppendsPart mid new (held' ++ bytes)
+      → AppendsPart old new (held ++ spellings (map (index_block position begin) (indexes_before end indexes)))
+  IndexesWritten-part part =
+      let whole : spellings (map (index_block position begin) w.done) ++ (spelling (index_block position begin index)
+      ++ spellings (map (index_block position begin) (indexes_before end left)))
+      ≡ spellings (map (index_block position begin) (indexes_before end indexes)) =
+      sym (append_assoc (spellings (map (index_block position begin) w.done)) (spelling (index_block position begin index))
+      (spellings (map (index_block position begin) (indexes_before end left))))
+      ∙ ap (λ front. front ++ spellings (map (index_block position begin) (indexes_before end left))) (spellings-snoc position begin w.done index)
+      ∙ sym (spellings-append (map (index_block position begin) (w.done ++ index ∷ [])) (map (index_block position begin) (indexes_before end left)))
+      ∙ ap spellings (sym (map-append (index_block position begin) (w.done ++ index ∷ []) (indexes_before end left)))
+      ∙ ap (λ xs. spellings (map (index_block position begin) xs)) all_before in
+      subst (λ bs. AppendsPart old new (held ++ bs)) whole
+      (Gathers-part old mid new held held' (spellings (map (index_block position begin) w.done)) _ w.bytes
+      (AppendsPart-longer mid new held' (spelling (index_block position begin index)) (spellings (map (index_block position begin) (indexes_before end left)))
+      (subst (λ bs. AppendsPart mid new (held' ++ bs)) spelled part)))
+
+-- all of them are written
+pub IndexesWritten-all : (old new : Option (List ℕ)) (held held' : List ℕ) (position begin end : ℕ) (indexes left : List ℕ)
+    → IndexesWritten old new held held' position begin end indexes left → count_before end left ≡ 0
+    → Gathers old new held held' (spellings (map (index_block position begin) (indexes_before end indexes)))
+    × (left ≡ indexes_behind end indexes)
+IndexesWritten-all old new held held' position begin end indexes left w none = (
+  subst (λ xs. Gathers old new held held' (spellings (map (index_block position begin) xs)))
+      (sym (append-nil w.done) ∙ ap (λ n. w.done ++ take n left) (sym none) ∙ w.before) w.bytes,
+  ap (λ n. drop n left) (sym none) ∙ w.behind,
+)
+
+-- a list with a first element
+pub first_of : (xs : List ℕ) (x : ℕ) → slice_get xs 0 ≡ Some x → xs ≡ x ∷ drop 1 xs
+first_of [] x is = cc
+first_of (y ∷ xs) x is = ap (λ z. z ∷ xs) (some_same is)
+  where
+    some_same : {a b : ℕ} → Some a ≡ Some b → a ≡ b
+    some_same e = cc

@@ -1,0 +1,16 @@
+use Rattle.std.proofs.Common.{◌≡◌, ◌≤◌, All, length}
+use Rattle.flux_writer.proofs.Steps.{IndexesWritten}
+use Rattle.flux_writer.proofs.stream.StreamWriter.write_indexes.Given as goal
+
+abbrev pub invariant-loop-index : goal.invariant-loop-index
+invariant-loop-index g l = record {
+  written : IndexesWritten (g.W.Sink.written l.initial.sink) (g.W.Sink.written l.sink) l.initial.self.piece l.self.piece
+      l.initial.self.position l.initial.self.time l.end l.initial.self.indexes l.self.indexes;
+  position : l.self.position ≡ l.initial.self.position;
+  time : l.self.time ≡ l.initial.self.time;
+  begun : All (λ index. l.initial.self.time ≤ index) l.self.indexes;
+  later : g.W.Sink.faults l.initial.sink ≤ g.W.Sink.faults l.sink;
+}
+
+abbrev pub decreases-loop-index : goal.decreases-loop-index
+decreases-loop-index g l = length l.self.indexes

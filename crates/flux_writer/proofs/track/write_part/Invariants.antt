@@ -1,0 +1,18 @@
+use Rattle.std.proofs.Common.{◌≤◌, ◌+◌, ◌-◌}
+use Rattle.flux_writer.specs.Writing.{IsReadyAt, IsWritten, times_between}
+use Rattle.flux_writer.proofs.track.write_part.Given as goal
+
+abbrev pub invariant-loop-one : goal.invariant-loop-one
+invariant-loop-one g l = record {
+  from : l.part.from ≤ l.place;
+  to : l.place ≤ l.part.to;
+  written : IsWritten (g.W.Sink.written l.initial.sink) (g.W.Sink.written l.sink)
+      l.initial.stream.piece l.initial.stream.position l.initial.stream.time l.initial.stream.indexes
+      l.stream.piece l.stream.position l.stream.time l.stream.indexes
+      (times_between l.cells.cells l.part.from l.place l.part.number l.nominal);
+  ready : IsReadyAt l.nominal l.stream.position l.stream.time (l.part.number + (l.place - l.part.from)) l.stream.indexes;
+  later : g.W.Sink.faults l.initial.sink ≤ g.W.Sink.faults l.sink;
+}
+
+abbrev pub decreases-loop-one : goal.decreases-loop-one
+decreases-loop-one g l = l.part.to - l.place

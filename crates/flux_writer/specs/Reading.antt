@@ -1,0 +1,28 @@
+-- What a caller of the writer gives, and what a written stream is to its reader.
+use Rattle.std.specs.Prelude.{◌≡◌, ◌<◌, ◌-◌, ℕ, List, Bool, true, false, length, slice_index, get_or, None}
+use Rattle.kryo_stream.specs.Stream.{first_fault, times, indexes, stream_length}
+use Rattle.flux_writer.specs.Written.{quarter}
+
+-- the last number of a list, and 0 where there is none
+abbrev pub last_of : List ℕ → ℕ
+last_of xs = slice_index xs (length xs - 1)
+
+-- the last index time lies before the last transition, so that there is one where there are index times
+abbrev pub EndsWithTransition : List ℕ → List ℕ → Type 0
+EndsWithTransition transitions turns = 0 < length turns → last_of turns < last_of transitions
+
+-- a cell that is a one stands behind the place
+abbrev pub HasOneBehind : List Bool → ℕ → Type 0
+HasOneBehind cells place = (one : ℕ) × (place < one) × (get_or cells one false ≡ true)
+
+-- a cell that is a one stands in the ring's first quarter, behind its first cell, and so behind the last index cell of what
+-- is written of the ring
+abbrev pub HasEarlyOne : List Bool → Type 0
+HasEarlyOne ring = (one : ℕ) × (0 < one) × (one < quarter ring) × (get_or ring one false ≡ true)
+
+-- the bytes are one stream without a fault, with these transitions and index times, and nothing stands behind it
+pub record IsStreamOf (bytes transitions turns : List ℕ) : Type 0 where
+  pub no_fault : first_fault bytes ≡ None
+  pub transitions_are : times bytes ≡ transitions
+  pub turns_are : indexes bytes ≡ turns
+  pub whole : stream_length bytes ≡ length bytes

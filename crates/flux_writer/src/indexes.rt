@@ -1,0 +1,68 @@
+ghost use Rattle.std.specs.Prelude.{◌≡◌, ◌<◌, [], ◌∷◌, Some, IfSome, IfNone, map, drop, length, slice_get};
+ghost use Rattle.flux_writer.specs.Writing.{ticks_of, AreCounted, count_before};
+
+use std::marker::Model;
+
+/// What index times are given in.
+#[derive(Clone, Copy, Drop)]
+pub(crate) enum IndexUnit {
+    Ticks,
+    /// Cells, of which each takes `nominal` fine units of 1/1024 tick: the time is that of the cell's end.
+    Cells { nominal: u32 },
+}
+
+/// The index times that are not written yet, in ticks.
+#[derive(Drop)]
+pub(crate) struct IndexTimes<'a> {
+    places: &'a [u64],
+    unit: IndexUnit,
+}
+
+impl<'a> Model for IndexTimes<'a> {
+    ghost use Rattle.std.specs.Prelude.{ℕ, List, map};
+    ghost use Rattle.flux_writer.specs.Writing.{ticks_of, AreCounted};
+
+    ghost Value = { List ℕ };
+
+    ghost view = { λ t. map (ticks_of t.unit) t.places.now };
+
+    ghost invariant = { λ t. AreCounted t.unit t.places.now };
+}
+
+impl<'a> IndexTimes<'a> {
+    /// All of these.
+    pub(crate) fn new(places: &'a [u64], unit: IndexUnit) -> Self
+        requires { AreCounted unit places.now }
+        ensures { result ≡ map (ticks_of unit) places.now }
+    {
+        IndexTimes { places, unit }
+    }
+
+    /// The next index time, if it lies before `end`.
+    pub(crate) fn next_before(&self, end: u64) -> Option<u64>
+        ensures some { IfSome result (λ time. (slice_get self.now 0 ≡ Some time) × (time < end)) }
+        ensures none { IfNone result (count_before end self.now ≡ 0) }
+    {
+        let time = ticks(self.unit, *self.places.first()?);
+        if time < end { Some(time) } else { None }
+    }
+
+    /// Passes over the next index time.
+    pub(crate) fn pass(&mut self)
+        requires { 0 < length self.old }
+        ensures { self.new ≡ drop 1 self.old }
+    {
+        self.places = &self.places[1..];
+    }
+}
+
+/// The time of an index, in ticks.
+fn ticks(unit: IndexUnit, place: u64) -> u64
+    requires { AreCounted unit (place ∷ []) }
+    ensures { result ≡ ticks_of unit place }
+{
+    match unit {
+        IndexUnit::Ticks => place,
+        IndexUnit::Cells { nominal } => (place + 1) * nominal as u64 / 1024,
+    }
+}

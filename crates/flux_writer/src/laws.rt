@@ -1,0 +1,44 @@
+ghost use Rattle.std.specs.Prelude.{◌≤◌, ◌+◌, ◌*◌, ◌/◌, ℕ, List, Bool, All, length, map};
+ghost use Rattle.std.specs.List.Sorted.{IsNonDecreasing, IsStrictlyIncreasing};
+ghost use Rattle.flux_writer.specs.Reading.{last_of, EndsWithTransition, HasOneBehind, HasEarlyOne, IsStreamOf};
+ghost use Rattle.kryo_stream.specs.Protocol.{OVERFLOW_TICKS};
+ghost use Rattle.flux_writer.specs.Written.{stream_of_times, stream_of_turns, stream_of, cell_time, ones_of, track_cells, track_turns};
+
+use kryo_stream::{spelling_law, stream_law};
+
+/// A written stream with at least two index times and no more bytes than a stream may have is read as the
+/// transitions and index times that were given. A transition takes three bytes at most and one for each
+/// overflow before it, an index time 16, and the end of the stream 16.
+pub fn written_law()
+    ensures reads { (transitions turns : List ℕ) → IsNonDecreasing transitions → IsStrictlyIncreasing turns
+        → EndsWithTransition transitions turns → 2 ≤ length turns → length (stream_of_times transitions turns) ≤ 4194304
+        → IsStreamOf (stream_of_times transitions turns) transitions turns }
+    ensures size { (transitions turns : List ℕ) → IsNonDecreasing transitions → IsStrictlyIncreasing turns
+        → length (stream_of_times transitions turns)
+        ≤ 3 * length transitions + last_of transitions / OVERFLOW_TICKS + 16 * length turns + 16 }
+{
+    stream_law();
+    spelling_law();
+}
+
+/// A written stream of cells with at least two index cells and no more bytes than a stream may have is read as
+/// the times of the cells that are ones and of the index cells.
+pub fn turns_law()
+    ensures { (cells : List Bool) (turns : List ℕ) (nominal : ℕ) → 1024 ≤ nominal → IsStrictlyIncreasing turns
+        → All (HasOneBehind cells) turns → 2 ≤ length turns → length (stream_of_turns cells turns nominal) ≤ 4194304
+        → IsStreamOf (stream_of_turns cells turns nominal) (map (cell_time nominal) (ones_of cells))
+        (map (cell_time nominal) turns) }
+{
+    written_law();
+}
+
+/// The written stream of a ring of at most 262144 cells is read as the times of the ones and of the index cells of
+/// what is written of the ring: its last quarter, three turns and its first quarter.
+pub fn track_law()
+    ensures { (ring : List Bool) (nominal : ℕ) → 1024 ≤ nominal → nominal ≤ 131072 → length ring ≤ 262144
+        → HasEarlyOne ring → IsStreamOf (stream_of ring nominal) (map (cell_time nominal) (ones_of (track_cells ring)))
+        (map (cell_time nominal) (track_turns ring)) }
+{
+    written_law();
+    turns_law();
+}

@@ -1,0 +1,108 @@
+ghost use Rattle.std.specs.Prelude.{◌≡◌, ◌<◌, ◌≤◌, ◌+◌, ◌++◌, [], ◌∷◌, length, take, OnOk, OnErr};
+ghost use Rattle.std.specs.Io.KnownBytes.{Appends};
+ghost use Rattle.flux_base.specs.Outside.{AppendsPart, Rose};
+ghost use Rattle.flux_writer.specs.Gathering.{Gathers};
+
+use flux_base::{Failed, Sink, write_whole};
+use std::marker::Model;
+
+/// How many bytes go to the sink together.
+const ROOM: usize = 4096;
+
+/// The bytes that are held back until a piece is full, seen by contracts as their list.
+#[derive(Drop)]
+pub(crate) struct Piece {
+    bytes: [u8; ROOM],
+    filled: usize,
+}
+
+impl Model for Piece {
+    ghost use Rattle.std.specs.Prelude.{ℕ, ◌≤◌, List, take};
+
+    ghost Value = { List ℕ };
+
+    ghost view = { λ p. take p.filled p.bytes };
+
+    ghost invariant = { λ p. p.filled ≤ 4096 };
+}
+
+impl Piece {
+    /// A piece without bytes.
+    pub(crate) fn new() -> Piece
+        ensures { result ≡ [] }
+    {
+        Piece {
+            bytes: [0; ROOM],
+            filled: 0,
+        }
+    }
+
+    /// Puts bytes behind those that are held, of which the sink is given all first where there is no room.
+    pub(crate) fn put<W: Sink>(&mut self, bytes: &[u8], sink: &mut W) -> Result<(), Failed>
+        requires { length bytes.now ≤ 4096 }
+        ensures ok { OnOk result (Gathers (W.written sink.old) (W.written sink.new) self.old self.new bytes.now) }
+        ensures err { OnErr result (AppendsPart (W.written sink.old) (W.written sink.new) (self.old ++ bytes.now)) }
+        ensures later { W.faults sink.old ≤ W.faults sink.new }
+        ensures cause { OnErr result (Rose (W.faults sink.old) (W.faults sink.new)) }
+    {
+        if ROOM - self.filled < bytes.len() {
+            match self.give(sink) {
+                Ok(()) => {}
+                Err(failed) => return Err(failed),
+            }
+        }
+        self.append(bytes);
+        Ok(())
+    }
+
+    /// Puts one byte behind those that are held, as `put` does.
+    #[inline]
+    pub(crate) fn put_byte<W: Sink>(&mut self, byte: u8, sink: &mut W) -> Result<(), Failed>
+        ensures ok { OnOk result (Gathers (W.written sink.old) (W.written sink.new) self.old self.new (byte ∷ [])) }
+        ensures err { OnErr result (AppendsPart (W.written sink.old) (W.written sink.new) (self.old ++ byte ∷ [])) }
+        ensures later { W.faults sink.old ≤ W.faults sink.new }
+        ensures cause { OnErr result (Rose (W.faults sink.old) (W.faults sink.new)) }
+    {
+        if self.filled == ROOM {
+            match self.give(sink) {
+                Ok(()) => {}
+                Err(failed) => return Err(failed),
+            }
+        }
+        self.append_byte(byte);
+        Ok(())
+    }
+
+    /// Puts one byte behind those that are held, where there is room for it.
+    #[inline]
+    fn append_byte(&mut self, byte: u8)
+        requires { length self.old < 4096 }
+        ensures { self.new ≡ self.old ++ byte ∷ [] }
+    {
+        self.bytes[self.filled] = byte;
+        self.filled += 1;
+    }
+
+    /// Puts bytes behind those that are held, where there is room for them.
+    fn append(&mut self, bytes: &[u8])
+        requires { length self.old + length bytes.now ≤ 4096 }
+        ensures { self.new ≡ self.old ++ bytes.now }
+    {
+        let end = self.filled + bytes.len();
+        self.bytes[self.filled..end].copy_from_slice(bytes);
+        self.filled = end;
+    }
+
+    /// Gives the sink all bytes that are held.
+    pub(crate) fn give<W: Sink>(&mut self, sink: &mut W) -> Result<(), Failed>
+        ensures ok { OnOk result (Appends (W.written sink.old) (W.written sink.new) self.old) }
+        ensures empty { OnOk result (self.new ≡ []) }
+        ensures err { OnErr result (AppendsPart (W.written sink.old) (W.written sink.new) self.old) }
+        ensures later { W.faults sink.old ≤ W.faults sink.new }
+        ensures cause { OnErr result (Rose (W.faults sink.old) (W.faults sink.new)) }
+    {
+        let answer = write_whole(sink, &self.bytes[..self.filled]);
+        self.filled = 0;
+        answer
+    }
+}

@@ -1,0 +1,209 @@
+ghost use Rattle.std.specs.Prelude.{◌≡◌, ◌<◌, ◌≤◌, ◌+◌, ◌-◌, ◌/◌, ◌^◌, ◌++◌, [], ◌∷◌, All, length, map, replicate, OnOk, OnErr};
+ghost use Rattle.std.specs.Io.KnownBytes.{Appends};
+ghost use Rattle.flux_base.specs.Outside.{AppendsPart, Rose};
+ghost use Rattle.kryo_stream.specs.Spelling.{spelling, flux_spelling};
+ghost use Rattle.flux_writer.specs.Gathering.{Gathers};
+ghost use Rattle.flux_writer.specs.Written.{spellings, index_block, interval_blocks};
+ghost use Rattle.flux_writer.specs.Writing.{ticks_of, AreCounted, indexes_before, indexes_behind, next_blocks, last_blocks};
+
+use crate::indexes::{IndexTimes, IndexUnit};
+use crate::piece::Piece;
+use byteorder::{ByteOrder, LittleEndian};
+use flux_base::{Failed, Sink};
+
+/// How many ticks an Overflow block stands for.
+const OVERFLOW_TICKS: u64 = 65536;
+
+/// How many ticks the clock of the index counter takes, and how many values the counter has.
+const INDEX_CLOCK: u64 = 8;
+
+const COUNTER_RANGE: u64 = 1 << 32;
+
+/// Writes the blocks of one stream, a transition at a time.
+#[derive(Drop)]
+pub(crate) struct StreamWriter<'a> {
+    piece: Piece,
+    /// The number of in-stream bytes so far.
+    position: u32,
+    /// The time of the transition before, or 0, in ticks.
+    time: u64,
+    indexes: IndexTimes<'a>,
+}
+
+impl<'a> StreamWriter<'a> {
+    /// A stream without blocks, in which these index times will stand.
+    pub(crate) fn new(indexes: &'a [u64], unit: IndexUnit) -> Self
+        requires { AreCounted unit indexes.now }
+        ensures piece { result.piece ≡ [] }
+        ensures position { result.position ≡ 0 }
+        ensures time { result.time ≡ 0 }
+        ensures indexes { result.indexes ≡ map (ticks_of unit) indexes.now }
+    {
+        StreamWriter {
+            piece: Piece::new(),
+            position: 0,
+            time: 0,
+            indexes: IndexTimes::new(indexes, unit),
+        }
+    }
+
+    /// Writes the transition at `time`, with the index times that lie before it.
+    pub(crate) fn transition<W: Sink>(&mut self, time: u64, sink: &mut W) -> Result<(), Failed>
+        requires order { self.old.time ≤ time }
+        requires begun { All (λ index. self.old.time ≤ index) self.old.indexes }
+        requires few { self.old.position + (time - self.old.time) / 65536 + 3 < 2 ^ 32 }
+        ensures ok { OnOk result (Gathers (W.written sink.old) (W.written sink.new) self.old.piece self.new.piece
+            (spellings (next_blocks self.old.position self.old.time time self.old.indexes))) }
+        ensures position { OnOk result (self.new.position ≡ self.old.position
+            + length (spellings (interval_blocks (time - self.old.time)))) }
+        ensures time { OnOk result (self.new.time ≡ time) }
+        ensures indexes { OnOk result (self.new.indexes ≡ indexes_behind time self.old.indexes) }
+        ensures err { OnErr result (AppendsPart (W.written sink.old) (W.written sink.new)
+            (self.old.piece ++ spellings (next_blocks self.old.position self.old.time time self.old.indexes))) }
+        ensures later { W.faults sink.old ≤ W.faults sink.new }
+        ensures cause { OnErr result (Rose (W.faults sink.old) (W.faults sink.new)) }
+    {
+        match self.write_indexes(time, sink) {
+            Ok(()) => self.write_interval(time, sink),
+            Err(failed) => Err(failed),
+        }
+    }
+
+    /// Writes what stands behind the last interval.
+    pub(crate) fn finish<W: Sink>(&mut self, sink: &mut W) -> Result<(), Failed>
+        ensures ok { OnOk result (Appends (W.written sink.old) (W.written sink.new)
+            (self.old.piece ++ spellings (last_blocks self.old.position))) }
+        ensures err { OnErr result (AppendsPart (W.written sink.old) (W.written sink.new)
+            (self.old.piece ++ spellings (last_blocks self.old.position))) }
+        ensures later { W.faults sink.old ≤ W.faults sink.new }
+        ensures cause { OnErr result (Rose (W.faults sink.old) (W.faults sink.new)) }
+    {
+        match self.piece.put(&end_bytes(self.position), sink) {
+            Ok(()) => self.piece.give(sink),
+            Err(failed) => Err(failed),
+        }
+    }
+
+    /// Writes the index times that lie before `end`, the end of the interval.
+    fn write_indexes<W: Sink>(&mut self, end: u64, sink: &mut W) -> Result<(), Failed>
+        requires begun { All (λ index. self.old.time ≤ index) self.old.indexes }
+        requires few { self.old.position + (end - self.old.time) / 65536 < 2 ^ 32 }
+        ensures ok { OnOk result (Gathers (W.written sink.old) (W.written sink.new) self.old.piece self.new.piece
+            (spellings (map (index_block self.old.position self.old.time) (indexes_before end self.old.indexes)))) }
+        ensures position { self.new.position ≡ self.old.position }
+        ensures time { self.new.time ≡ self.old.time }
+        ensures indexes { OnOk result (self.new.indexes ≡ indexes_behind end self.old.indexes) }
+        ensures err { OnErr result (AppendsPart (W.written sink.old) (W.written sink.new) (self.old.piece
+            ++ spellings (map (index_block self.old.position self.old.time) (indexes_before end self.old.indexes)))) }
+        ensures later { W.faults sink.old ≤ W.faults sink.new }
+        ensures cause { OnErr result (Rose (W.faults sink.old) (W.faults sink.new)) }
+    {
+        while let Some(index) = self.indexes.next_before(end) {
+            let bytes = index_bytes(self.position, self.time, index);
+            match self.piece.put(&bytes, sink) {
+                Ok(()) => self.indexes.pass(),
+                Err(failed) => return Err(failed),
+            }
+        }
+        Ok(())
+    }
+
+    /// Writes the interval that ends at `time`.
+    fn write_interval<W: Sink>(&mut self, time: u64, sink: &mut W) -> Result<(), Failed>
+        requires order { self.old.time ≤ time }
+        requires few { self.old.position + (time - self.old.time) / 65536 + 3 < 2 ^ 32 }
+        ensures ok { OnOk result (Gathers (W.written sink.old) (W.written sink.new) self.old.piece self.new.piece
+            (spellings (interval_blocks (time - self.old.time)))) }
+        ensures position { OnOk result (self.new.position ≡ self.old.position
+            + length (spellings (interval_blocks (time - self.old.time)))) }
+        ensures time { OnOk result (self.new.time ≡ time) }
+        ensures indexes { self.new.indexes ≡ self.old.indexes }
+        ensures err { OnErr result (AppendsPart (W.written sink.old) (W.written sink.new)
+            (self.old.piece ++ spellings (interval_blocks (time - self.old.time)))) }
+        ensures later { W.faults sink.old ≤ W.faults sink.new }
+        ensures cause { OnErr result (Rose (W.faults sink.old) (W.faults sink.new)) }
+    {
+        let ticks = time - self.time;
+        let overflows = (ticks / OVERFLOW_TICKS) as u32;
+        let rest = (ticks % OVERFLOW_TICKS) as u16;
+        match write_overflows(&mut self.piece, overflows, sink) {
+            Ok(()) => {}
+            Err(failed) => return Err(failed),
+        }
+        self.position += overflows + flux_length(rest);
+        self.time = time;
+        write_flux(&mut self.piece, rest, sink)
+    }
+}
+
+/// Writes so many Overflow blocks.
+fn write_overflows<W: Sink>(piece: &mut Piece, count: u32, sink: &mut W) -> Result<(), Failed>
+    ensures ok { OnOk result (Gathers (W.written sink.old) (W.written sink.new) piece.old piece.new (replicate count 11)) }
+    ensures err { OnErr result (AppendsPart (W.written sink.old) (W.written sink.new) (piece.old ++ replicate count 11)) }
+    ensures later { W.faults sink.old ≤ W.faults sink.new }
+    ensures cause { OnErr result (Rose (W.faults sink.old) (W.faults sink.new)) }
+{
+    for _ in 0..count {
+        match piece.put_byte(0x0B, sink) {
+            Ok(()) => {}
+            Err(failed) => return Err(failed),
+        }
+    }
+    Ok(())
+}
+
+/// Writes a flux value, in as few bytes as it fits.
+fn write_flux<W: Sink>(piece: &mut Piece, ticks: u16, sink: &mut W) -> Result<(), Failed>
+    ensures ok { OnOk result (Gathers (W.written sink.old) (W.written sink.new) piece.old piece.new (flux_spelling ticks)) }
+    ensures err { OnErr result (AppendsPart (W.written sink.old) (W.written sink.new) (piece.old ++ flux_spelling ticks)) }
+    ensures later { W.faults sink.old ≤ W.faults sink.new }
+    ensures cause { OnErr result (Rose (W.faults sink.old) (W.faults sink.new)) }
+{
+    let high = (ticks / 256) as u8;
+    let low = (ticks % 256) as u8;
+    match ticks {
+        0x0E..=0xFF => piece.put_byte(low, sink),
+        0..=0x7FF => piece.put(&[high, low], sink),
+        _ => piece.put(&[0x0C, high, low], sink),
+    }
+}
+
+/// How many bytes a flux value takes.
+fn flux_length(ticks: u16) -> u32
+    ensures value { result ≡ length (flux_spelling ticks) }
+    ensures most { result ≤ 3 }
+{
+    match ticks {
+        0x0E..=0xFF => 1,
+        0..=0x7FF => 2,
+        _ => 3,
+    }
+}
+
+/// The bytes of the Index block of an index time, in an interval that begins at this stream position and time.
+fn index_bytes(position: u32, begin: u64, index: u64) -> [u8; 16]
+    requires order { begin ≤ index }
+    requires few { position + (index - begin) / 65536 < 2 ^ 32 }
+    ensures { result ≡ spelling (index_block position begin index) }
+{
+    let since = index - begin;
+    let mut bytes = [0x0D, 2, 12, 0, 0, 0, 0, 0, 0, 0, 0, 0, 0, 0, 0, 0];
+    LittleEndian::write_u32(&mut bytes[4..], position + (since / OVERFLOW_TICKS) as u32);
+    LittleEndian::write_u32(&mut bytes[8..], (since % OVERFLOW_TICKS) as u32);
+    LittleEndian::write_u32(
+        &mut bytes[12..],
+        (index / INDEX_CLOCK % COUNTER_RANGE) as u32,
+    );
+    bytes
+}
+
+/// The bytes of the StreamEnd and End blocks behind so many in-stream bytes.
+fn end_bytes(position: u32) -> [u8; 16]
+    ensures { result ≡ spellings (last_blocks position) }
+{
+    let mut bytes = [
+        0x0D, 3, 8, 0, 0, 0, 0, 0, 0, 0, 0, 0, 0x0D, 0x0D, 0x0D, 0x0D,
+    ];
+    LittleEndian::write_u32(&mut bytes[4..], position);
+    bytes
+}

@@ -1,0 +1,35 @@
+ghost use Rattle.std.specs.Prelude.{◌≤◌, ◌+◌, ◌^◌, All, length, OnOk, OnErr};
+ghost use Rattle.std.specs.Io.KnownBytes.{Appends};
+ghost use Rattle.flux_base.specs.Outside.{AppendsPart, Rose};
+ghost use Rattle.flux_writer.specs.Reading.{EndsWithTransition};
+ghost use Rattle.flux_writer.specs.Written.{stream_of_times};
+
+use crate::indexes::IndexUnit;
+use crate::stream::StreamWriter;
+use flux_base::{Failed, Sink};
+use index_turns::TrackFlux;
+
+/// Writes the stream of the track's transitions and index times. The last index time lies before the last
+/// transition, times and index times number at most 1048576 together, and no time is above 2^39 ticks.
+///
+/// `Failed` comes only where the sink's count of faults rose. Then a shorter prefix of the stream was written.
+pub fn write_times<W: Sink>(flux: &TrackFlux, sink: &mut W) -> Result<(), Failed>
+    requires last { EndsWithTransition flux.now.times flux.now.indexes }
+    requires few { length flux.now.times + length flux.now.indexes ≤ 1048576 }
+    requires early { All (λ time. time ≤ 2 ^ 39) flux.now.times }
+    ensures ok { OnOk result (Appends (W.written sink.old) (W.written sink.new)
+        (stream_of_times flux.now.times flux.now.indexes)) }
+    ensures err { OnErr result (AppendsPart (W.written sink.old) (W.written sink.new)
+        (stream_of_times flux.now.times flux.now.indexes)) }
+    ensures later { W.faults sink.old ≤ W.faults sink.new }
+    ensures cause { OnErr result (Rose (W.faults sink.old) (W.faults sink.new)) }
+{
+    let mut stream = StreamWriter::new(flux.indexes(), IndexUnit::Ticks);
+    for time in flux.times() {
+        match stream.transition(*time, sink) {
+            Ok(()) => {}
+            Err(failed) => return Err(failed),
+        }
+    }
+    stream.finish(sink)
+}

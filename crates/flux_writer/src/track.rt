@@ -1,0 +1,175 @@
+ghost use Rattle.std.specs.Prelude.{◌≡◌, ◌<◌, ◌≤◌, ◌+◌, ◌-◌, ◌++◌, [], All, length, OnOk, OnErr};
+ghost use Rattle.std.specs.List.Sorted.{IsStrictlyIncreasing};
+ghost use Rattle.std.specs.Io.KnownBytes.{Appends};
+ghost use Rattle.flux_base.specs.Outside.{AppendsPart, Rose};
+ghost use Rattle.flux_writer.specs.Reading.{HasOneBehind, HasEarlyOne};
+ghost use Rattle.flux_writer.specs.Writing.{IsReadyAt, IsWritten, many_blocks, times_between, track_times};
+ghost use Rattle.flux_writer.specs.Written.{spellings, stream_of, stream_of_turns};
+
+use crate::indexes::IndexUnit;
+use crate::stream::StreamWriter;
+use cell_bits::Cells;
+use flux_base::{Failed, Sink};
+
+/// Writes the stream of a list of cells, of which each takes `nominal` fine units of 1/1024 tick: a transition
+/// for each one, and an index at the time of each of the index cells `turns`. The nominal cell is 16384 to
+/// 131072, there are at most 2097152 cells, and the index cells rise strictly, each with a one behind it.
+///
+/// `Failed` comes only where the sink's count of faults rose. Then a shorter prefix of the stream was written.
+pub fn write_turns<W: Sink>(
+    cells: &Cells,
+    turns: &[u64],
+    nominal: u32,
+    sink: &mut W,
+) -> Result<(), Failed>
+    requires least { 16384 ≤ nominal }
+    requires most { nominal ≤ 131072 }
+    requires few { length cells.now.cells ≤ 2097152 }
+    requires order { IsStrictlyIncreasing turns.now }
+    requires behind { All (HasOneBehind cells.now.cells) turns.now }
+    ensures ok { OnOk result (Appends (W.written sink.old) (W.written sink.new)
+        (stream_of_turns cells.now.cells turns.now nominal)) }
+    ensures err { OnErr result (AppendsPart (W.written sink.old) (W.written sink.new)
+        (stream_of_turns cells.now.cells turns.now nominal)) }
+    ensures later { W.faults sink.old ≤ W.faults sink.new }
+    ensures cause { OnErr result (Rose (W.faults sink.old) (W.faults sink.new)) }
+{
+    let mut stream = StreamWriter::new(turns, IndexUnit::Cells { nominal });
+    let whole = Part {
+        from: 0,
+        to: cells.len(),
+        number: 0,
+    };
+    match write_part(&mut stream, cells, whole, nominal, sink) {
+        Ok(()) => stream.finish(sink),
+        Err(failed) => Err(failed),
+    }
+}
+
+/// Writes the stream of a ring of cells: its last quarter, three turns and its first quarter, with an index
+/// where each turn begins and where the last one ends. The nominal cell is 16384 to 131072 fine units, the
+/// ring has at most 524288 cells, and a one stands in its first quarter, behind its first cell.
+///
+/// `Failed` comes only where the sink's count of faults rose. Then a shorter prefix of the stream was written.
+pub fn write_track<W: Sink>(ring: &Cells, nominal: u32, sink: &mut W) -> Result<(), Failed>
+    requires least { 16384 ≤ nominal }
+    requires most { nominal ≤ 131072 }
+    requires few { length ring.now.cells ≤ 524288 }
+    requires one { HasEarlyOne ring.now.cells }
+    ensures ok { OnOk result (Appends (W.written sink.old) (W.written sink.new)
+        (stream_of ring.now.cells nominal)) }
+    ensures err { OnErr result (AppendsPart (W.written sink.old) (W.written sink.new)
+        (stream_of ring.now.cells nominal)) }
+    ensures later { W.faults sink.old ≤ W.faults sink.new }
+    ensures cause { OnErr result (Rose (W.faults sink.old) (W.faults sink.new)) }
+{
+    let length = ring.len();
+    let quarter = length / 4;
+    let turns = [
+        quarter as u64,
+        (quarter + length) as u64,
+        (quarter + 2 * length) as u64,
+        (quarter + 3 * length) as u64,
+    ];
+    let mut stream = StreamWriter::new(&turns, IndexUnit::Cells { nominal });
+    match write_ring(&mut stream, ring, nominal, sink) {
+        Ok(()) => stream.finish(sink),
+        Err(failed) => Err(failed),
+    }
+}
+
+/// Cells of a list, from one place to below another, of which the first is cell `number` of the written track.
+#[derive(Clone, Copy, Drop)]
+struct Part {
+    from: usize,
+    to: usize,
+    number: u64,
+}
+
+/// Writes the transitions of a ring's last quarter, three turns and first quarter.
+fn write_ring<W: Sink>(
+    stream: &mut StreamWriter<'_>,
+    ring: &Cells,
+    nominal: u32,
+    sink: &mut W,
+) -> Result<(), Failed>
+    requires few { length ring.now.cells ≤ 524288 }
+    requires nominal { nominal ≤ 131072 }
+    requires piece { stream.old.piece ≡ [] }
+    requires position { stream.old.position ≡ 0 }
+    requires time { stream.old.time ≡ 0 }
+    requires order { IsStrictlyIncreasing stream.old.indexes }
+    ensures ok { OnOk result (IsWritten (W.written sink.old) (W.written sink.new) [] 0 0 stream.old.indexes
+        stream.new.piece stream.new.position stream.new.time stream.new.indexes (track_times ring.now.cells nominal)) }
+    ensures err { OnErr result (AppendsPart (W.written sink.old) (W.written sink.new)
+        (spellings (many_blocks 0 0 (track_times ring.now.cells nominal) stream.old.indexes))) }
+    ensures later { W.faults sink.old ≤ W.faults sink.new }
+    ensures cause { OnErr result (Rose (W.faults sink.old) (W.faults sink.new)) }
+{
+    let length = ring.len();
+    let quarter = length / 4;
+    let last_quarter = Part {
+        from: length - quarter,
+        to: length,
+        number: 0,
+    };
+    match write_part(stream, ring, last_quarter, nominal, sink) {
+        Ok(()) => {}
+        Err(failed) => return Err(failed),
+    }
+    let mut number = quarter as u64;
+    for _ in 0..3u8 {
+        let turn = Part {
+            from: 0,
+            to: length,
+            number,
+        };
+        match write_part(stream, ring, turn, nominal, sink) {
+            Ok(()) => number += length as u64,
+            Err(failed) => return Err(failed),
+        }
+    }
+    let first_quarter = Part {
+        from: 0,
+        to: quarter,
+        number,
+    };
+    write_part(stream, ring, first_quarter, nominal, sink)
+}
+
+/// Writes the transitions of some cells.
+fn write_part<W: Sink>(
+    stream: &mut StreamWriter<'_>,
+    cells: &Cells,
+    part: Part,
+    nominal: u32,
+    sink: &mut W,
+) -> Result<(), Failed>
+    requires order { part.from ≤ part.to }
+    requires within { part.to ≤ length cells.now.cells }
+    requires few { part.number + (part.to - part.from) ≤ 2097152 }
+    requires nominal { nominal ≤ 131072 }
+    requires ready { IsReadyAt nominal stream.old.position stream.old.time part.number stream.old.indexes }
+    ensures ok { OnOk result (IsWritten (W.written sink.old) (W.written sink.new)
+        stream.old.piece stream.old.position stream.old.time stream.old.indexes
+        stream.new.piece stream.new.position stream.new.time stream.new.indexes
+        (times_between cells.now.cells part.from part.to part.number nominal)) }
+    ensures ready { OnOk result (IsReadyAt nominal stream.new.position stream.new.time
+        (part.number + (part.to - part.from)) stream.new.indexes) }
+    ensures err { OnErr result (AppendsPart (W.written sink.old) (W.written sink.new) (stream.old.piece
+        ++ spellings (many_blocks stream.old.position stream.old.time
+        (times_between cells.now.cells part.from part.to part.number nominal) stream.old.indexes))) }
+    ensures later { W.faults sink.old ≤ W.faults sink.new }
+    ensures cause { OnErr result (Rose (W.faults sink.old) (W.faults sink.new)) }
+{
+    let mut place = part.from;
+    while let Some(one) = cells.find_word(place, part.to, 1, 1) {
+        let number = part.number + (one - part.from) as u64;
+        let time = (number + 1) * nominal as u64 / 1024;
+        match stream.transition(time, sink) {
+            Ok(()) => place = one + 1,
+            Err(failed) => return Err(failed),
+        }
+    }
+    Ok(())
+}
