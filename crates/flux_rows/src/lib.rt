@@ -1,6 +1,23 @@
-//! Runs of the whole program over whole disks: tests alone, of `flux_cli::run` over objects in memory, whose
-//! answers are compared with values worked out by hand.
+//! What tests of whole runs are made of: the streams of disks, what they come to, put together line by line from the
+//! formats' numbers, and runs of the program over objects in memory, whose answers are compared with it.
+//!
+//! Tests alone call it, here and in the crates above, and its calls promise nothing but to be safe.
 #![tactic(auto)]
+
+mod disk;
+mod dump;
+mod runs;
+mod streams;
+mod text;
+
+pub use disk::{
+    AMIGA, APPLE_DO, APPLE_PO, C1541, C1541_40, Disk, IBM_360, IBM_720, IBM_1440, IBM_3740, Zone,
+    Zones,
+};
+pub use dump::{Dump, short_dump};
+pub use runs::{Mismatch, Part, Run, Want, comes_to, decode, gives, report, turns};
+pub use streams::{SHORT, content_of, ring_of, short_streams, three_rings, with_word};
+pub use text::{first_bytes, first_lines, first_lines_and, with_line};
 
 #[cfg(test)]
 mod tests;

@@ -1,12 +1,11 @@
 //! Runs of the program over objects in memory.
-use super::answers::{Answer, Disk};
-use flux_base::{MemorySink, MemorySource, Word};
+use crate::disk::Disk;
+use crate::dump::Dump;
+use flux_base::{Memory, MemorySink, MemorySource, Word};
 use flux_cli::run;
 use std::alloc::{AllocError, Global};
-use std::process::Abort;
-use std::test::Fail;
 
-/// More bytes than any image or report of these tests has.
+/// More bytes than any image or report of the formats has.
 const ROOM: usize = 2_000_000;
 
 /// A run: its words, what it reads, and the numbers, from 0, of the calls that fail.
@@ -28,6 +27,24 @@ pub struct Want<'a> {
     pub code: u8,
     pub image: &'a [u8],
     pub notes: &'a [u8],
+}
+
+/// In what a run gave something else, and which run it was: by its input's length and its failing call.
+#[derive(Debug, Drop)]
+pub struct Mismatch {
+    pub part: Part,
+    pub input: usize,
+    pub failing: Option<usize>,
+}
+
+/// What differs.
+#[derive(Clone, Copy, Debug)]
+pub enum Part {
+    /// There was no memory for the objects.
+    Memory,
+    Code(u8),
+    Image,
+    Notes,
 }
 
 /// `turns` over a stream.
@@ -61,23 +78,61 @@ pub fn report(disk: Disk, input: &[u8]) -> Run<'_> {
 }
 
 /// The run gives what it is to give. The answer is the number of bytes that it left.
-pub fn gives(rt: &impl Abort, alloc: Global, row: Run, want: Want) -> Result<usize, Fail> {
+pub fn gives(alloc: Global, row: Run, want: Want) -> Result<usize, Mismatch> {
+    match run_row(alloc, row) {
+        Ok(end) => match difference(&end, want) {
+            None => Ok(end.source.rest().len()),
+            Some(part) => Err(mismatch_of(part, row)),
+        },
+        Err(Memory) => Err(mismatch_of(Part::Memory, row)),
+    }
+}
+
+fn mismatch_of(part: Part, row: Run) -> Mismatch {
+    let Run { input, .. } = row;
+    let failing = row.failing_read.or(row.failing_image).or(row.failing_notes);
+    Mismatch {
+        part,
+        input: input.len(),
+        failing,
+    }
+}
+
+/// What a run answered, and its objects after it.
+#[derive(Drop)]
+struct Ended {
+    code: u8,
+    source: MemorySource,
+    image: MemorySink,
+    notes: MemorySink,
+}
+
+fn difference(end: &Ended, want: Want) -> Option<Part> {
+    if end.code != want.code {
+        return Some(Part::Code(end.code));
+    }
+    if end.image.bytes() != want.image {
+        return Some(Part::Image);
+    }
+    if end.notes.bytes() != want.notes {
+        return Some(Part::Notes);
+    }
+    None
+}
+
+fn run_row(alloc: Global, row: Run) -> Result<Ended, Memory> {
     let reads = listed(alloc, row.failing_read)?;
     let mut source = MemorySource::new(row.input.to_vec(alloc)?, row.chunk.max(1), reads);
     let mut image = MemorySink::new(alloc, ROOM, listed(alloc, row.failing_image)?)?;
     let mut notes = MemorySink::new(alloc, ROOM, listed(alloc, row.failing_notes)?)?;
     let words = words_of(alloc, row)?;
     let status = run(alloc, &words, &mut source, &mut image, &mut notes);
-    assert_eq!(rt;
-        status.code(),
-        want.code,
-        "status of {} over {} bytes",
-        row.command,
-        row.input.len()
-    );
-    holds(rt, image.bytes(), want.image, row);
-    holds(rt, notes.bytes(), want.notes, row);
-    Ok(source.rest().len())
+    Ok(Ended {
+        code: status.code(),
+        source,
+        image,
+        notes,
+    })
 }
 
 fn listed(alloc: Global, call: Option<usize>) -> Result<Vec<u64>, AllocError> {
@@ -97,40 +152,19 @@ fn words_of(alloc: Global, row: Run) -> Result<Vec<Word>, AllocError> {
     Ok(words)
 }
 
-/// A sink of this run holds what it is to hold.
-fn holds(rt: &impl Abort, bytes: &[u8], want: &[u8], row: Run) {
-    let Run { command, input, .. } = row;
-    let over = input.len();
-    assert_eq!(rt;
-        bytes.len(),
-        want.len(),
-        "a length of {command} over {over} bytes"
-    );
-    assert!(rt; bytes == want, "bytes of {command} over {over} bytes");
-}
-
-/// `decode` gives the image and the lines with this exit code, and `report` the lines alone.
-pub fn comes_to(
-    rt: &impl Abort,
-    alloc: Global,
-    disk: Disk,
-    input: &[u8],
-    code: u8,
-    answer: &Answer,
-) -> Result<(), Fail> {
-    let image = &answer.image;
-    let notes = &answer.lines;
-    gives(rt, alloc, decode(disk, input), Want { code, image, notes })?;
-    let image = &answer.lines;
-    gives(
-        rt,
-        alloc,
-        report(disk, input),
-        Want {
-            code,
-            image,
-            notes: &[],
-        },
-    )?;
+/// `decode` gives the dump's image and lines with this exit code, and `report` the lines alone.
+pub fn comes_to(alloc: Global, dump: &Dump, code: u8) -> Result<(), Mismatch> {
+    let decoded = Want {
+        code,
+        image: &dump.image,
+        notes: &dump.lines,
+    };
+    gives(alloc, decode(dump.disk, &dump.input), decoded)?;
+    let reported = Want {
+        code,
+        image: &dump.lines,
+        notes: &[],
+    };
+    gives(alloc, report(dump.disk, &dump.input), reported)?;
     Ok(())
 }

@@ -1,20 +1,17 @@
 //! The streams of tracks.
+ghost use Rattle.std.specs.Prelude.{◌≡◌, ◌*◌, length};
+ghost use Rattle.flux_base.specs.declared.track.TrackId.{TrackId};
+
 use cell_bits::Cells;
 use flux_base::{Memory, TrackId};
 use frame_law::Recording;
-use ibm_fm::IbmFm;
 use std::alloc::{AllocError, Global};
-use std::process::Abort;
-use std::test::Fail;
 
 /// The shortest good stream: two transitions, with an Index block before and behind them. No sector is in it.
 pub const SHORT: [u8; 50] = [
     0x0D, 2, 12, 0, 0, 0, 0, 0, 0, 0, 0, 0, 0, 0, 0, 0, 0x60, 0x60, 0x0D, 2, 12, 0, 2, 0, 0, 0, 5,
     0, 0, 0, 24, 0, 0, 0, 0x0D, 3, 8, 0, 2, 0, 0, 0, 0, 0, 0, 0, 0x0D, 0x0D, 0x0D, 0x0D,
 ];
-
-/// The ticks of a cell.
-const CELL: u8 = 48;
 
 /// So many shortest streams, with so many bytes of padding between two of them.
 pub fn short_streams(alloc: Global, count: usize, padding: usize) -> Result<Vec<u8>, AllocError> {
@@ -29,24 +26,51 @@ pub fn short_streams(alloc: Global, count: usize, padding: usize) -> Result<Vec<
     Ok(bytes)
 }
 
-/// The ring of a cylinder of the 3740 diskette.
-pub fn ring_3740(
-    rt: &impl Abort,
+/// Bytes of tracks in which each sector differs from the next one and from the same one of the next track.
+pub fn content_of(alloc: Global, count: usize) -> Result<Vec<u8>, AllocError> {
+    let mut bytes = Vec::new(alloc);
+    for number in 0..count {
+        bytes.push((number % 251) as u8)?;
+    }
+    Ok(bytes)
+}
+
+/// The ring of a track with these bytes of its sectors.
+pub fn ring_of<R: Recording>(
     alloc: Global,
-    cylinder: u8,
+    recording: &R,
+    track: TrackId,
     content: &[u8],
-) -> Result<Cells, Fail> {
-    assert!(rt; cylinder < 77);
-    assert_eq!(rt; content.len(), 3328);
+) -> Result<Cells, Memory>
+    requires track { R.has_track recording.now track }
+    requires content { length content.now ≡ R.sectors recording.now track * R.sector_size recording.now }
+{
     let mut ring = Cells::new(alloc);
-    IbmFm.ring(TrackId { cylinder, head: 0 }, content, &mut ring)?;
-    Ok(ring)
+    match recording.ring(track, content, &mut ring) {
+        Ok(()) => Ok(ring),
+        Err(Memory) => Err(Memory),
+    }
+}
+
+/// The ring with 16 other cells from this place on.
+pub fn with_word(alloc: Global, ring: &Cells, place: usize, word: u16) -> Result<Cells, Memory> {
+    let mut changed = Cells::new(alloc);
+    for at in 0..ring.len() {
+        if at == place {
+            changed.push_word(u32::from(word), 16)?;
+        } else if at < place || at - place >= 16 {
+            changed.push_cell(ring.cell(at))?;
+        }
+    }
+    Ok(changed)
 }
 
 /// A stream that is being made.
 #[derive(Drop)]
 struct Capture {
     bytes: Vec<u8>,
+    /// The ticks of a cell.
+    ticks: u8,
     /// The bytes of blocks that are in the stream.
     position: u32,
     /// The cells behind the last transition.
@@ -54,22 +78,13 @@ struct Capture {
 }
 
 impl Capture {
-    fn new(alloc: Global) -> Capture {
-        Capture {
-            bytes: Vec::new(alloc),
-            position: 0,
-            distance: 0,
-        }
-    }
-
     /// Appends an Index block, and then the ring's ones as flux blocks.
     fn turn(&mut self, ring: &Cells) -> Result<(), Memory> {
         self.index()?;
         for place in 0..ring.len() {
             self.distance = self.distance.saturating_add(1);
             if ring.cell(place) {
-                self.bytes.push(self.distance.saturating_mul(CELL))?;
-                self.position = self.position.saturating_add(1);
+                self.flux()?;
                 self.distance = 0;
             }
         }
@@ -83,6 +98,19 @@ impl Capture {
         Ok(())
     }
 
+    /// A flux block of one byte, or of two from 256 ticks on.
+    fn flux(&mut self) -> Result<(), Memory> {
+        let ticks = u16::from(self.distance).saturating_mul(u16::from(self.ticks));
+        let [high, low] = ticks.to_be_bytes();
+        if high > 0 {
+            self.bytes.push(high)?;
+            self.position = self.position.saturating_add(1);
+        }
+        self.bytes.push(low)?;
+        self.position = self.position.saturating_add(1);
+        Ok(())
+    }
+
     /// The whole stream.
     fn end(mut self) -> Result<Vec<u8>, Memory> {
         self.bytes.extend_from_slice(&[0x0D; 4])?;
@@ -90,19 +118,20 @@ impl Capture {
     }
 }
 
-/// A stream of three turns over one ring.
-pub fn three_turns(alloc: Global, ring: &Cells) -> Result<Vec<u8>, Memory> {
-    three_rings(alloc, ring, ring, ring)
-}
-
-/// A stream of three turns, each over a ring of its own.
+/// A stream of three turns, each over a ring of its own, whose cells have so many ticks.
 pub fn three_rings(
     alloc: Global,
+    ticks: u8,
     first: &Cells,
     second: &Cells,
     third: &Cells,
 ) -> Result<Vec<u8>, Memory> {
-    let mut capture = Capture::new(alloc);
+    let mut capture = Capture {
+        bytes: Vec::new(alloc),
+        ticks,
+        position: 0,
+        distance: 0,
+    };
     capture.turn(first)?;
     capture.turn(second)?;
     capture.turn(third)?;

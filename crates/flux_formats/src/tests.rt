@@ -1,0 +1,4 @@
+mod amiga;
+mod apple;
+mod commodore;
+mod pc;

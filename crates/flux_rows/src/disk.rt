@@ -1,0 +1,148 @@
+//! The formats' numbers.
+
+/// The tracks and sectors of a format.
+#[derive(Clone, Copy)]
+pub struct Disk {
+    /// Its word of the command line.
+    pub word: &'static str,
+    pub cylinders: u8,
+    pub heads: u8,
+    pub first_sector: u8,
+    /// The bytes of a sector.
+    pub size: u16,
+    pub zones: Zones,
+}
+
+/// How the cylinders are alike.
+#[derive(Clone, Copy)]
+pub enum Zones {
+    One(Zone),
+    /// The four zones of the Commodore 1541.
+    Commodore,
+}
+
+/// What the tracks of neighbouring cylinders have alike.
+#[derive(Clone, Copy)]
+pub struct Zone {
+    pub sectors: u8,
+    /// The place of the first sector in a ring, and how far the next one is behind it, in cells.
+    pub place: u32,
+    pub step: u32,
+    /// How many ticks a cell has in the streams that are made.
+    pub ticks: u8,
+}
+
+impl Disk {
+    pub fn tracks(self) -> usize {
+        usize::from(self.cylinders).saturating_mul(usize::from(self.heads))
+    }
+
+    pub fn zone(self, cylinder: u8) -> Zone {
+        match self.zones {
+            Zones::One(zone) => zone,
+            Zones::Commodore => match cylinder {
+                0..=16 => commodore_zone(21, 2928, 78),
+                17..=23 => commodore_zone(19, 3000, 84),
+                24..=29 => commodore_zone(18, 2960, 90),
+                _ => commodore_zone(17, 2936, 96),
+            },
+        }
+    }
+}
+
+fn commodore_zone(sectors: u8, step: u32, ticks: u8) -> Zone {
+    Zone {
+        sectors,
+        place: 30,
+        step,
+        ticks,
+    }
+}
+
+pub const IBM_3740: Disk = Disk {
+    word: "ibm-3740",
+    cylinders: 77,
+    heads: 1,
+    first_sector: 1,
+    size: 128,
+    zones: Zones::One(Zone {
+        sectors: 26,
+        place: 1264,
+        step: 3008,
+        ticks: 48,
+    }),
+};
+
+pub const IBM_360: Disk = Disk {
+    word: "ibm-360",
+    cylinders: 40,
+    ..IBM_720
+};
+
+pub const IBM_720: Disk = Disk {
+    word: "ibm-720",
+    cylinders: 80,
+    heads: 2,
+    first_sector: 1,
+    size: 512,
+    zones: Zones::One(Zone {
+        sectors: 9,
+        place: 2528,
+        step: 10464,
+        ticks: 48,
+    }),
+};
+
+pub const IBM_1440: Disk = Disk {
+    word: "ibm-1440",
+    zones: Zones::One(Zone {
+        sectors: 18,
+        place: 2528,
+        step: 10912,
+        ticks: 24,
+    }),
+    ..IBM_720
+};
+
+pub const AMIGA: Disk = Disk {
+    word: "amiga",
+    first_sector: 0,
+    zones: Zones::One(Zone {
+        sectors: 11,
+        place: 32,
+        step: 8704,
+        ticks: 48,
+    }),
+    ..IBM_720
+};
+
+pub const C1541: Disk = Disk {
+    word: "c1541",
+    cylinders: 35,
+    heads: 1,
+    first_sector: 0,
+    size: 256,
+    zones: Zones::Commodore,
+};
+
+pub const C1541_40: Disk = Disk {
+    word: "c1541-40",
+    cylinders: 40,
+    ..C1541
+};
+
+pub const APPLE_DO: Disk = Disk {
+    word: "apple-do",
+    zones: Zones::One(Zone {
+        sectors: 16,
+        place: 330,
+        step: 3104,
+        ticks: 96,
+    }),
+    ..C1541
+};
+
+pub const APPLE_PO: Disk = Disk {
+    word: "apple-po",
+    ..APPLE_DO
+};
