@@ -34,6 +34,10 @@ unfoldable pub refused_text : ℕ → ℕ → StreamFault → List ℕ
 refused_text track block fault =
     codes "refused track " ++ decimal track ++ codes " block " ++ decimal block ++ codes " " ++ fault_text fault ++ codes "\n"
 
+-- how many bytes of an image were read, and how many were wanted
+unfoldable pub image_text : ℕ → ℕ → List ℕ
+image_text read wanted = codes "refused image " ++ decimal read ++ codes " wanted " ++ decimal wanted ++ codes "\n"
+
 -- two digits of a number below 100
 unfoldable pub two_digits : ℕ → List ℕ
 two_digits number = decimal (number / 10) ++ decimal (number % 10)

@@ -9,7 +9,7 @@ mod totals;
 mod usage;
 
 pub use line::Line;
-pub use refused::refused_line;
+pub use refused::{image_line, refused_line};
 pub use sector_lines::{sector_line, total_line};
 pub use stream_lines::{transitions_line, turn_line};
 pub use totals::Totals;

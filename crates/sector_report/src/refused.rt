@@ -1,6 +1,6 @@
 ghost use Rattle.std.specs.Prelude.{◌≡◌, ◌+◌, ◌≤◌, ◌++◌};
 ghost use Rattle.arrayvec.specs.ArrayString.{array_string_len};
-ghost use Rattle.sector_report.specs.Lines.{fault_text, refused_text};
+ghost use Rattle.sector_report.specs.Lines.{fault_text, image_text, refused_text};
 
 use crate::line::{Line, put, put_named, put_u32};
 use kryo_stream::StreamFault;
@@ -18,6 +18,18 @@ pub fn refused_line(track: u32, block: u32, fault: &StreamFault) -> Line
     put_u32(&mut line, block);
     put(&mut line, " ");
     put_fault(&mut line, fault);
+    put(&mut line, "\n");
+    line
+}
+
+#[tactic(auto, unfolding(crate::specs::Lines::image_text))]
+/// Why an image was refused: how many bytes of it were read, and how many it has to have.
+pub fn image_line(read: u32, wanted: u32) -> Line
+    ensures { result.bytes ≡ image_text read wanted }
+{
+    let mut line = Line::new();
+    put_named(&mut line, "refused image ", read);
+    put_named(&mut line, " wanted ", wanted);
     put(&mut line, "\n");
     line
 }

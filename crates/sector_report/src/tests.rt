@@ -47,6 +47,18 @@ fn lines_of_refused_streams(rt: HostRuntime) -> Result<(), Fail> {
 }
 
 #[test]
+fn lines_of_refused_images(rt: HostRuntime) {
+    assert_eq!(rt;
+        image_line(0, 901120).as_str(),
+        "refused image 0 wanted 901120\n"
+    );
+    assert_eq!(rt;
+        image_line(901121, 901120).as_str(),
+        "refused image 901121 wanted 901120\n"
+    );
+}
+
+#[test]
 fn lines_of_sectors(rt: HostRuntime) {
     let track = TrackId {
         cylinder: 0,
