@@ -1,5 +1,5 @@
 -- Where tracks and sectors lie in an image.
-use Rattle.std.specs.Prelude.{◌≡◌, ℕ, ◌+◌, ◌-◌, ◌*◌, ◌<◌, ◌≤◌, Bool, ◌||◌, ◌&&◌, nat_eq, nat_lt, List, filter, find, map, sum_by, unwrap_or}
+use Rattle.std.specs.Prelude.{◌≡◌, ℕ, ◌+◌, ◌-◌, ◌*◌, ◌<◌, ◌≤◌, Bool, ◌||◌, ◌&&◌, nat_eq, nat_lt, List, length, filter, find, map, sum_by, slice_get, unwrap_or, Some}
 use Rattle.std.specs.List.{flat_map, range_with_len}
 use Rattle.flux_base.specs.declared.track.TrackId.{TrackId}
 use Rattle.sector_images.specs.declared.format.Format.{Format}
@@ -45,3 +45,13 @@ sector_in format track number =
 abbrev pub SectorsFillTracks : Type 0
 SectorsFillTracks = (format : Format) (track : TrackId) (sector : ℕ) → IsSector format track sector
     → (slot format sector < (zone format track.cylinder).sectors) × (sector_in format track (slot format sector) ≡ sector)
+
+-- each number of a track is that of one of the format's tracks
+abbrev pub NumbersNameTracks : Type 0
+NumbersNameTracks = (format : Format) (number : ℕ) → number < length (tracks format)
+    → (track : TrackId) × (slice_get (tracks format) number ≡ Some track) × IsTrack format track
+
+-- each sector lies whole in the image
+abbrev pub SectorsLieInImages : Type 0
+SectorsLieInImages = (format : Format) (track : TrackId) (sector : ℕ) → IsTrack format track → IsSector format track sector
+    → sector_place format track sector + (row format).sector_size ≤ (row format).image_size

@@ -1,9 +1,16 @@
 //! What the places of sectors come to.
 
-ghost use Rattle.sector_images.specs.Places.{SectorsFillTracks};
+ghost use Rattle.sector_images.specs.Places.{NumbersNameTracks, SectorsFillTracks, SectorsLieInImages};
 
 /// Each sector of a track stands at one number among those of its track in the image, and is the one that
 /// stands there.
 pub fn sectors_fill_tracks()
     ensures { SectorsFillTracks }
+{}
+
+/// The numbers below the number of tracks are those of tracks, and each sector of a track lies whole in the
+/// image.
+pub fn sectors_lie_in_images()
+    ensures numbers { NumbersNameTracks }
+    ensures sectors { SectorsLieInImages }
 {}

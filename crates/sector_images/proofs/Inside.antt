@@ -1,0 +1,29 @@
+-- Tracks by their numbers, and sectors inside the image.
+use Rattle.std.specs.Prelude.{◌≡◌, ◌<◌, ◌≤◌, ℕ, ◌+◌, ◌*◌}
+use Rattle.std.proofs.Common.{arith, ap, sym, subst, ◌∙◌}
+use Rattle.std.proofs.Math.Nat.{mul-le-mul_left}
+use Rattle.flux_base.specs.declared.track.TrackId.{TrackId}
+use Rattle.sector_images.specs.declared.format.Format.{Format}
+use Rattle.sector_images.specs.Formats.{row, slot, zone}
+use Rattle.sector_images.specs.Places.{IsTrack, NumbersNameTracks, SectorsLieInImages, bytes_of, place_of, sector_place}
+use Rattle.sector_images.proofs.Computed.{id_at, numbered, numbered_track, track_within}
+use Rattle.sector_images.proofs.Slots.{sectors_fill_tracks}
+
+pub numbers_name_tracks : NumbersNameTracks
+numbers_name_tracks format number below = (numbered (row format).heads number, id_at format number below, numbered_track format number below)
+
+-- so many sectors, and one more, are no more than all
+one_more : (size slots sectors : ℕ) → slots < sectors → size * slots + size ≤ sectors * size
+one_more size slots sectors below =
+    let all : size * (slots + 1) ≤ size * sectors = mul-le-mul_left size (omega (arith, below)) in
+    let last : size * (slots + 1) ≡ size * slots + size = omega arith in
+    let turned : size * sectors ≡ sectors * size = omega arith in
+    omega (arith, all, last, turned)
+
+pub sectors_lie_in_images : SectorsLieInImages
+unfolding sector_place
+sectors_lie_in_images format track sector known number =
+    let whole : place_of format track + bytes_of format track ≤ (row format).image_size = track_within format track known in
+    let inside = one_more (row format).sector_size (slot format sector) (zone format track.cylinder).sectors
+    (sectors_fill_tracks format track sector number).0 in
+    omega (arith, whole, inside)
