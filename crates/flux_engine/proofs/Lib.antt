@@ -14,3 +14,8 @@ pub mod OneReading
 pub mod GoodSectors
 pub mod Outcomes
 pub mod Telling
+pub mod Chosen
+pub mod Repeated
+pub mod Captured
+pub mod RingLaws
+pub mod Filling

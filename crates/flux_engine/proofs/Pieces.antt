@@ -30,7 +30,7 @@ range-at a i n within =
     ap (range_with_len a) all ∙ range-append a i (suc (n - i - 1))
 
 module _ (f : ℕ → List ℕ) where
-  pieces-more : (a i : ℕ) → flat_map f (range_with_len a (i + 1)) ≡ flat_map f (range_with_len a i) ++ f (a + i)
+  pub pieces-more : (a i : ℕ) → flat_map f (range_with_len a (i + 1)) ≡ flat_map f (range_with_len a i) ++ f (a + i)
   pieces-more a i =
       ap (flat_map f) (range-more a i) ∙ flat_map-append f (range_with_len a i) ((a + i) ∷ [])
       ∙ ap (λ (r : List ℕ). flat_map f (range_with_len a i) ++ r) (append-nil (f (a + i)))

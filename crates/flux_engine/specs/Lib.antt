@@ -8,3 +8,7 @@ pub mod Room
 pub mod Answers
 pub mod Reading
 pub mod Laws
+pub mod Rings
+pub mod Carried
+pub mod Captures
+pub mod Writes

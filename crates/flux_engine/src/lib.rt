@@ -1,12 +1,17 @@
-//! The engine: the captured streams of a disk's tracks become a sector image and a report.
+//! The engine: the captured streams of a disk's tracks become a sector image and a report, and an image becomes
+//! streams.
 //!
 //! For each track: the stream's transitions (`kryo_stream`), their cells (`phase_loop`), the readings of
 //! sectors in these cells (`frame_law` and the recordings), one verdict for each sector over the readings of
 //! all revolutions (`turn_merge`), and from the verdicts the track's part of the image and its lines
 //! (`sector_report`).
+//!
+//! And back: for each track the image's bytes of its sectors (`sector_images`), the ring that has them (the
+//! recordings), and the ring's stream (`flux_writer`).
 #![tactic(auto)]
 
 mod disk;
+mod disk_streams;
 mod fault;
 mod gathering;
 mod laws;
@@ -14,13 +19,24 @@ mod recordings;
 mod room;
 mod sectors;
 mod track;
+mod track_rings;
+mod write_fault;
+mod write_laws;
+mod write_room;
 mod writing;
 
 pub use disk::decode_disk;
+pub use disk_streams::write_disk;
 pub use fault::EngineFault;
 pub use laws::{good_is_right, outcomes_are_one};
 pub use room::DiskRoom;
 pub use track::decode_track;
+pub use track_rings::track_ring;
+pub use write_fault::WriteFault;
+pub use write_laws::streams_are_captures;
+pub use write_room::WriteRoom;
 
 #[cfg(test)]
 mod tests;
+#[cfg(test)]
+mod write_tests;

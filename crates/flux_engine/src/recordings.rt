@@ -20,10 +20,10 @@ use sector_images::Format;
 use turn_merge::Book;
 
 /// The PC's disks of double density.
-const NINE_SECTORS: IbmMfm = IbmMfm { sectors: 9 };
+pub(crate) const NINE_SECTORS: IbmMfm = IbmMfm { sectors: 9 };
 
 /// The PC's disks of high density.
-const EIGHTEEN_SECTORS: IbmMfm = IbmMfm { sectors: 18 };
+pub(crate) const EIGHTEEN_SECTORS: IbmMfm = IbmMfm { sectors: 18 };
 
 /// The Commodore 1541's disks, read whatever their ids are.
 const ANY_IDS: CommodoreGcr = CommodoreGcr { id1: 0, id2: 0 };

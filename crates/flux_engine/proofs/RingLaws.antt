@@ -1,0 +1,304 @@
+-- The ring of each format's tracks, and the bytes in its sectors.
+use Rattle.std.specs.Prelude.{◌≡◌, ◌<◌, ◌≤◌, ℕ, zero, suc, ◌+◌, ◌-◌, ◌*◌, ◌⊎◌, All, Bool, List, [], ◌++◌, length, take, drop, flat_map, get_or, map, slice_get, nat_lt, if◌then◌else◌, true, false, ◌∷◌, unwrap_or, Option, Some, Result, Ok, Err, OnOk, refl}
+use Rattle.std.specs.List.{range_with_len}
+use Rattle.std.proofs.Common.{arith, lit≤, ap, sym, subst, ◌∙◌, inl, inr, length-append, length-drop}
+use Rattle.std.proofs.lemmas.Bool.{cases_lt}
+use Rattle.std.proofs.lemmas.List.{length-take-le}
+use Rattle.std.proofs.lemmas.List.Elements.{All-append, All-drop, All-get_or, All-take}
+use Rattle.std.proofs.lemmas.List.FromFn.{get_or-map-range_with_len}
+use Rattle.amiga_mfm.specs.RingLaws.{ring_length as ring_length-amiga, ring_spaced as ring_spaced-amiga}
+use Rattle.apple_gcr.specs.RingLaws.{ring_length as ring_length-apple, ring_spaced as ring_spaced-apple}
+use Rattle.cell_bits.specs.State.{CellsState, room}
+use Rattle.commodore_gcr.specs.Layout.{ring_cells_of as ring_cells_of-commodore, ring_of as ring_of-commodore}
+use Rattle.commodore_gcr.specs.RingLaws.{ring_length as ring_length-commodore, ring_spaced as ring_spaced-commodore}
+use Rattle.commodore_gcr.specs.Zones.{sectors_of as sectors_of-commodore, zone_of}
+use Rattle.flux_base.specs.declared.outside.Memory.{Memory}
+use Rattle.flux_base.specs.declared.track.TrackId.{TrackId}
+use Rattle.flux_writer.specs.Reading.{HasEarlyOne, IsStreamOf}
+use Rattle.flux_writer.specs.Written.{cell_time, ones_of, stream_of, track_cells, track_turns}
+use Rattle.frame_law.specs.Rings.{AreSectors, IsSpaced}
+use Rattle.ibm_fm.specs.RingLaws.{ring_length as ring_length-fm, ring_spaced as ring_spaced-fm}
+use Rattle.ibm_mfm.specs.RingLaws.{ring_length as ring_length-mfm, ring_spaced as ring_spaced-mfm}
+use Rattle.sector_images.specs.Formats.{Zone, commodore_zone, row, zone}
+use Rattle.sector_images.specs.Places.{IsTrack, NumbersNameTracks, SectorsLieInImages, sector_place, tracks}
+use Rattle.sector_images.specs.declared.format.Format.{Format}
+use Rattle.sector_images.specs.declared.format.Format.TheVariants.{Ibm3740, Ibm360, Ibm720, Ibm1440, Amiga, C1541, C1541Forty, AppleDo, ApplePo}
+use Rattle.flux_engine.specs.Captures.{WritesCaptures}
+use Rattle.flux_engine.specs.Recordings.{sectors_of, track_at}
+use Rattle.flux_engine.specs.Rings.{FIRST_ID, SECOND_ID, IsImage, IsRing, disk_id, nominal_of, ring_cells_of, ring_of, ring_with, HasRoomForRings, track_stream, sector_bytes, track_bytes}
+use Rattle.flux_engine.specs.declared.sectors.Sectors.{Sectors}
+use Rattle.flux_engine.proofs.Captured.{captures}
+use Rattle.flux_engine.proofs.Pieces.{pieces-more}
+use Rattle.flux_engine.proofs.Repeated.{early_one}
+
+-- what is closer is within wider bounds
+spaced_wider : (least most : ℕ) (ring : List Bool) → IsSpaced least most ring → 1 ≤ least → most ≤ 4 → IsSpaced 1 4 ring
+spaced_wider least most ring spaced low high = record {
+  has_one = spaced.has_one;
+  apart = λ place distance near.
+      let both = spaced.apart place distance near in
+      (omega (arith, low, both.0), omega (arith, high, both.1));
+}
+
+-- the zones of a Commodore 1541's disk are the same in the recording and in the format
+same_sectors : (head : ℕ) → map (λ n. sectors_of-commodore (record { cylinder = n; head = head })) (range_with_len 0 40)
+    ≡ map (λ n. (commodore_zone n).sectors) (range_with_len 0 40)
+unfolding zone_of
+same_sectors head = refl
+
+same_ring_cells : (head : ℕ) → map (λ n. ring_cells_of-commodore (record { cylinder = n; head = head })) (range_with_len 0 40)
+    ≡ map (λ n. (commodore_zone n).ring_cells) (range_with_len 0 40)
+unfolding zone_of
+same_ring_cells head = refl
+
+same_by_table : (f g : ℕ → ℕ) (n : ℕ) → n < 40 → map f (range_with_len 0 40) ≡ map g (range_with_len 0 40) → f n ≡ g n
+same_by_table f g n below same =
+    sym (get_or-map-range_with_len f 0 40 n n 0 below (omega arith)) ∙ ap (λ (xs : List ℕ). get_or xs n 0) same
+    ∙ get_or-map-range_with_len g 0 40 n n 0 below (omega arith)
+
+count_same : (track : TrackId) → track.cylinder < 40 → sectors_of-commodore track ≡ (commodore_zone track.cylinder).sectors
+count_same track below =
+    same_by_table (λ n. sectors_of-commodore (record { cylinder = n; head = track.head })) (λ n. (commodore_zone n).sectors) track.cylinder below
+    (same_sectors track.head)
+
+cells_same : (track : TrackId) → track.cylinder < 40 → ring_cells_of-commodore track ≡ (commodore_zone track.cylinder).ring_cells
+cells_same track below =
+    same_by_table (λ n. ring_cells_of-commodore (record { cylinder = n; head = track.head })) (λ n. (commodore_zone n).ring_cells) track.cylinder below
+    (same_ring_cells track.head)
+
+commodore_ring : (id1 id2 : ℕ) (track : TrackId) (bytes : List ℕ) → track.cylinder < 40
+    → AreSectors (commodore_zone track.cylinder).sectors 256 bytes
+    → IsRing (commodore_zone track.cylinder).ring_cells (ring_of-commodore id1 id2 track bytes)
+commodore_ring id1 id2 track bytes below sectors = record {
+  cells_are = ring_length-commodore id1 id2 track bytes (subst (λ (n : ℕ). AreSectors n 256 bytes) (sym (count_same track below)) sectors) ∙ cells_same track below;
+  spaced = spaced_wider 1 3 _ (ring_spaced-commodore id1 id2 track bytes) (omega arith) (omega arith);
+}
+
+-- a track of a Commodore 1541's disk, as it is one of the recording's
+abbrev pub IsCommodore : Format → Type 0
+IsCommodore format = (format ≡ C1541) ⊎ (format ≡ C1541Forty)
+
+few_cylinders : (format : Format) (track : TrackId) → IsTrack format track → IsCommodore format → track.cylinder < 40
+few_cylinders format track known (inl is) = (let here : IsTrack C1541 track = subst (λ (f : Format). IsTrack f track) is known in omega (arith, here.0))
+few_cylinders format track known (inr is) = (let here : IsTrack C1541Forty track = subst (λ (f : Format). IsTrack f track) is known in here.0)
+
+sectors_are : (format : Format) (track : TrackId) → IsCommodore format → (sectors_of format track).count * (sectors_of format track).size ≡ (commodore_zone track.cylinder).sectors * 256
+sectors_are format track (inl is) = ap (λ (f : Format). (sectors_of f track).count * (sectors_of f track).size) is
+sectors_are format track (inr is) = ap (λ (f : Format). (sectors_of f track).count * (sectors_of f track).size) is
+
+cells_are : (format : Format) (track : TrackId) → IsCommodore format → (zone format track.cylinder).ring_cells ≡ (commodore_zone track.cylinder).ring_cells
+cells_are format track (inl is) = ap (λ (f : Format). (zone f track.cylinder).ring_cells) is
+cells_are format track (inr is) = ap (λ (f : Format). (zone f track.cylinder).ring_cells) is
+
+pub commodore_bytes : (format : Format) (track : TrackId) (size : ℕ) → IsTrack format track → IsCommodore format
+    → size ≡ (sectors_of format track).count * (sectors_of format track).size → size ≡ sectors_of-commodore track * 256
+commodore_bytes format track size known is size_is =
+    size_is ∙ sectors_are format track is ∙ ap (λ (n : ℕ). n * 256) (sym (count_same track (few_cylinders format track known is)))
+
+pub commodore_cells : (format : Format) (track : TrackId) → IsTrack format track → IsCommodore format
+    → ring_cells_of-commodore track ≡ (zone format track.cylinder).ring_cells
+commodore_cells format track known is = cells_same track (few_cylinders format track known is) ∙ sym (cells_are format track is)
+
+-- the ring of each format's track
+pub is_ring : (format : Format) (track : TrackId) (image : List ℕ) → IsTrack format track
+    → AreSectors (sectors_of format track).count (sectors_of format track).size (track_bytes format track image)
+    → IsRing (zone format track.cylinder).ring_cells (ring_with format track image)
+is_ring Ibm3740 track image known sectors = record {
+  cells_are = ring_length-fm track (track_bytes Ibm3740 track image) sectors;
+  spaced = spaced_wider 1 2 _ (ring_spaced-fm track (track_bytes Ibm3740 track image) sectors) (omega arith) (omega arith);
+}
+is_ring Ibm360 track image known sectors = record {
+  cells_are = ring_length-mfm 9 track (track_bytes Ibm360 track image) (record { count = inl refl; cylinder = omega (arith, known.0); head = known.1 }) sectors;
+  spaced = spaced_wider 2 4 _ (ring_spaced-mfm 9 track (track_bytes Ibm360 track image)) (omega arith) (omega arith);
+}
+is_ring Ibm720 track image known sectors = record {
+  cells_are = ring_length-mfm 9 track (track_bytes Ibm720 track image) (record { count = inl refl; cylinder = known.0; head = known.1 }) sectors;
+  spaced = spaced_wider 2 4 _ (ring_spaced-mfm 9 track (track_bytes Ibm720 track image)) (omega arith) (omega arith);
+}
+is_ring Ibm1440 track image known sectors = record {
+  cells_are = ring_length-mfm 18 track (track_bytes Ibm1440 track image) (record { count = inr refl; cylinder = known.0; head = known.1 }) sectors;
+  spaced = spaced_wider 2 4 _ (ring_spaced-mfm 18 track (track_bytes Ibm1440 track image)) (omega arith) (omega arith);
+}
+is_ring Amiga track image known sectors = record {
+  cells_are = ring_length-amiga track (track_bytes Amiga track image) sectors;
+  spaced = spaced_wider 2 4 _ (ring_spaced-amiga track (track_bytes Amiga track image)) (omega arith) (omega arith);
+}
+is_ring C1541 track image known sectors =
+    commodore_ring (disk_id C1541 image FIRST_ID) (disk_id C1541 image SECOND_ID) track (track_bytes C1541 track image) (omega (arith, known.0)) sectors
+is_ring C1541Forty track image known sectors =
+    commodore_ring (disk_id C1541Forty image FIRST_ID) (disk_id C1541Forty image SECOND_ID) track (track_bytes C1541Forty track image) known.0 sectors
+is_ring AppleDo track image known sectors = record {
+  cells_are = ring_length-apple track (track_bytes AppleDo track image) sectors;
+  spaced = spaced_wider 1 3 _ (ring_spaced-apple track (track_bytes AppleDo track image) (record { cylinder = known.0; head = omega (arith, known.1) }) sectors) (omega arith) (omega arith);
+}
+is_ring ApplePo track image known sectors = record {
+  cells_are = ring_length-apple track (track_bytes ApplePo track image) sectors;
+  spaced = spaced_wider 1 3 _ (ring_spaced-apple track (track_bytes ApplePo track image) (record { cylinder = known.0; head = omega (arith, known.1) }) sectors) (omega arith) (omega arith);
+}
+
+-- bytes of so many pieces of the same size
+module _ (piece : ℕ → List ℕ) (size : ℕ) where
+  pieces_size : (first count : ℕ) → ((k : ℕ) → first ≤ k → k < first + count → length (piece k) ≡ size)
+      → length (flat_map piece (range_with_len first count)) ≡ count * size
+  pieces_size first zero each = omega arith
+  pieces_size first (suc count) each =
+      let here = each first (omega arith) (omega arith) in
+      let rest = pieces_size (first + 1) count (λ k above below. each k (omega (arith, above)) (omega (arith, below))) in
+      let both = length-append (piece first) (flat_map piece (range_with_len (first + 1) count)) in
+      omega (arith, here, rest, both)
+
+  pieces_fit : (first count : ℕ) → ((k : ℕ) → All (λ byte. byte < 256) (piece k)) → All (λ byte. byte < 256) (flat_map piece (range_with_len first count))
+  pieces_fit first zero each = λ k d within. absurd (omega (arith, within))
+  pieces_fit first (suc count) each =
+      All-append (λ byte. byte < 256) (piece first) (flat_map piece (range_with_len (first + 1) count)) (each first) (pieces_fit (first + 1) count each)
+
+-- each of a list of bytes is one, and so is what stands behind them
+pub bytes_fit : (bytes : List ℕ) → All (λ byte. byte < 256) bytes → (k : ℕ) → get_or bytes k 0 < 256
+bytes_fit bytes all k =
+    elim (cases_lt k (length bytes)) [
+      | inl within ↦ All-get_or (λ byte. byte < 256) bytes k 0 within all
+      | inr past ↦ subst (λ (byte : ℕ). byte < 256) (sym (get_or-past bytes k past)) (omega arith)
+    ]
+  where
+    get_or-past : (xs : List ℕ) (k : ℕ) → length xs ≤ k → get_or xs k 0 ≡ 0
+    get_or-past [] k past = refl
+    get_or-past (x ∷ xs) zero past = absurd (omega (arith, past))
+    get_or-past (x ∷ xs) (suc k) past = get_or-past xs k (omega (arith, past))
+
+-- the bytes of an image's sectors are bytes
+pub sectors_fit : (format : Format) (track : TrackId) (image : List ℕ) → All (λ byte. byte < 256) image → (k : ℕ) → get_or (track_bytes format track image) k 0 < 256
+unfolding track_bytes
+sectors_fit format track image fit =
+    bytes_fit (track_bytes format track image)
+    (pieces_fit (sector_bytes format track image) (row format).sector_size (row format).first_sector (zone format track.cylinder).sectors
+    (λ sector. All-take (λ byte. byte < 256) (row format).sector_size (drop (sector_place format track sector) image)
+    (All-drop (λ byte. byte < 256) (sector_place format track sector) image fit)))
+
+-- the bytes of one sector more
+pub sectors_more : (format : Format) (track : TrackId) (image : List ℕ) (sectors : Sectors) (index place size : ℕ) → sectors ≡ sectors_of format track
+    → place ≡ sector_place format track (sectors.first + index) → size ≡ sectors.size
+    → flat_map (sector_bytes format track image) (range_with_len sectors.first index) ++ take (place + size - place) (drop place image)
+    ≡ flat_map (sector_bytes format track image) (range_with_len sectors.first (index + 1))
+sectors_more format track image sectors index place size is at size_is =
+    let before : List ℕ = flat_map (sector_bytes format track image) (range_with_len sectors.first index) in
+    let count : place + size - place ≡ (row format).sector_size = (let e : place + size - place ≡ size = omega arith in e) ∙ size_is ∙ ap (λ (s : Sectors). s.size) is in
+    ap (λ (n : ℕ). before ++ take n (drop place image)) count
+    ∙ ap (λ (n : ℕ). before ++ take (row format).sector_size (drop n image)) at
+    ∙ sym (pieces-more (sector_bytes format track image) sectors.first index)
+
+-- so many bytes from a place on
+pub slice_size : (image : List ℕ) (place size : ℕ) → place + size ≤ length image → length (take (place + size - place) (drop place image)) ≡ size
+slice_size image place size inside =
+    let count : place + size - place ≡ size = omega arith in
+    length-take-le (place + size - place) (drop place image) (omega (arith, length-drop place image, inside)) ∙ count
+
+-- the bytes that an image has at a sector's place are a sector's
+pub sector_size : (format : Format) (track : TrackId) (image : List ℕ) (sector : ℕ) → length image ≡ (row format).image_size
+    → sector_place format track sector + (row format).sector_size ≤ (row format).image_size
+    → length (sector_bytes format track image sector) ≡ (row format).sector_size
+sector_size format track image sector size inside =
+    length-take-le (row format).sector_size (drop (sector_place format track sector) image)
+    (omega (arith, length-drop (sector_place format track sector) image, size, inside))
+
+pub are_sectors : SectorsLieInImages → (format : Format) (track : TrackId) (image : List ℕ) → IsImage format image → IsTrack format track
+    → AreSectors (sectors_of format track).count (sectors_of format track).size (track_bytes format track image)
+unfolding track_bytes
+are_sectors lie format track image is known = record {
+  whole = pieces_size (sector_bytes format track image) (row format).sector_size (row format).first_sector (zone format track.cylinder).sectors
+      (λ sector above below. sector_size format track image sector is.size (lie format track sector known (above, below)));
+  fit = sectors_fit format track image is.fit;
+}
+
+-- cells and rings are such that they can be written, and that times in ticks are near enough
+pub record IsWritable (zone : Zone) : Type 0 where
+  pub least : 16384 ≤ zone.nominal
+  pub most : zone.nominal ≤ 131072
+  pub many : 1024 ≤ zone.ring_cells
+  pub few : zone.ring_cells ≤ 262144
+
+module _ (P : Zone → Type 0) where
+  zone_by : (a b c : Bool) (w x y z : Zone) → P w → P x → P y → P z → P (if a then w else if b then x else if c then y else z)
+  zone_by true b c w x y z first second third fourth = first
+  zone_by false true c w x y z first second third fourth = second
+  zone_by false false true w x y z first second third fourth = third
+  zone_by false false false w x y z first second third fourth = fourth
+
+commodore_writable : (cylinder : ℕ) → IsWritable (commodore_zone cylinder)
+commodore_writable cylinder =
+    zone_by IsWritable (nat_lt (cylinder + 1) 18) (nat_lt (cylinder + 1) 25) (nat_lt (cylinder + 1) 31) _ _ _ _
+    (record { least = lit≤ tt; most = lit≤ tt; many = lit≤ tt; few = lit≤ tt })
+    (record { least = lit≤ tt; most = lit≤ tt; many = lit≤ tt; few = lit≤ tt })
+    (record { least = lit≤ tt; most = lit≤ tt; many = lit≤ tt; few = lit≤ tt })
+    (record { least = lit≤ tt; most = lit≤ tt; many = lit≤ tt; few = lit≤ tt })
+
+pub is_writable : (format : Format) (track : TrackId) → IsWritable (zone format track.cylinder)
+is_writable Ibm3740 track = record { least = lit≤ tt; most = lit≤ tt; many = lit≤ tt; few = lit≤ tt }
+is_writable Ibm360 track = record { least = lit≤ tt; most = lit≤ tt; many = lit≤ tt; few = lit≤ tt }
+is_writable Ibm720 track = record { least = lit≤ tt; most = lit≤ tt; many = lit≤ tt; few = lit≤ tt }
+is_writable Ibm1440 track = record { least = lit≤ tt; most = lit≤ tt; many = lit≤ tt; few = lit≤ tt }
+is_writable Amiga track = record { least = lit≤ tt; most = lit≤ tt; many = lit≤ tt; few = lit≤ tt }
+is_writable C1541 track = commodore_writable track.cylinder
+is_writable C1541Forty track = commodore_writable track.cylinder
+is_writable AppleDo track = record { least = lit≤ tt; most = lit≤ tt; many = lit≤ tt; few = lit≤ tt }
+is_writable ApplePo track = record { least = lit≤ tt; most = lit≤ tt; many = lit≤ tt; few = lit≤ tt }
+
+-- a ring of a track has a one in its first quarter
+pub is_early : (format : Format) (track : TrackId) (ring : List Bool) → IsRing (zone format track.cylinder).ring_cells ring → HasEarlyOne ring
+is_early format track ring is =
+    let bounds = is_writable format track in
+    early_one ring is.spaced (omega (arith, is.cells_are, bounds.many))
+
+-- the track of a number
+pub is_track_at : (format : Format) (number : ℕ) (track : TrackId) → slice_get (tracks format) number ≡ Some track → track_at format number ≡ track
+is_track_at format number track at = ap (λ (o : Option TrackId). unwrap_or o (record { cylinder = 0; head = 0 })) at
+
+-- room for each ring is room for that of a number
+pub room_for : (format : Format) (number : ℕ) (track : TrackId) (old now : CellsState) → slice_get (tracks format) number ≡ Some track → IsTrack format track
+    → HasRoomForRings format old → room old ≤ room now → ring_cells_of format number ≤ room now
+room_for format number track old now at known roomy grown =
+    let here : (zone format track.cylinder).ring_cells ≤ room now = omega (arith, roomy track known, grown) in
+    subst (λ (t : TrackId). (zone format t.cylinder).ring_cells ≤ room now) (sym (is_track_at format number track at)) here
+
+-- the stream of a ring that was made for the track of a number
+pub is_stream : (format : Format) (image : List ℕ) (number : ℕ) (track : TrackId) (ring : List Bool) (nominal : ℕ) → slice_get (tracks format) number ≡ Some track
+    → ring ≡ ring_of format image number → nominal ≡ (zone format track.cylinder).nominal → stream_of ring nominal ≡ track_stream format image (0 + number)
+is_stream format image number track ring nominal at made cell =
+    let here : number ≡ 0 + number = omega arith in
+    ap (λ (r : List Bool). stream_of r nominal) made ∙ ap (stream_of (ring_of format image number)) cell
+    ∙ ap (λ (t : TrackId). stream_of (ring_of format image number) (zone format t.cylinder).nominal) (sym (is_track_at format number track at))
+    ∙ ap (track_stream format image) here
+
+-- the cells that were made are a ring
+pub made_ring : (format : Format) (number : ℕ) (track : TrackId) (image bytes : List ℕ) (result : Result (Unit {0}) Memory) (cells : List Bool)
+    → slice_get (tracks format) number ≡ Some track → IsTrack format track → bytes ≡ track_bytes format track image
+    → AreSectors (sectors_of format track).count (sectors_of format track).size bytes
+    → OnOk result (cells ≡ ring_with format track image) → OnOk result (IsRing (ring_cells_of format number) cells)
+made_ring format number track image bytes (Err why) cells at known is sectors made = tt
+made_ring format number track image bytes (Ok u) cells at known is sectors made =
+    let whole : AreSectors (sectors_of format track).count (sectors_of format track).size (track_bytes format track image) =
+    subst (AreSectors (sectors_of format track).count (sectors_of format track).size) is sectors in
+    let ring : IsRing (zone format track.cylinder).ring_cells cells =
+    subst (IsRing (zone format track.cylinder).ring_cells) (sym made) (is_ring format track image known whole) in
+    subst (λ (t : TrackId). IsRing (zone format t.cylinder).ring_cells cells) (sym (is_track_at format number track at)) ring
+
+-- what the writer promises of a ring's stream
+abbrev pub RingsAreRead : Type 0
+RingsAreRead = (ring : List Bool) (nominal : ℕ) → 1024 ≤ nominal → nominal ≤ 131072 → length ring ≤ 262144 → HasEarlyOne ring
+    → IsStreamOf (stream_of ring nominal) (map (cell_time nominal) (ones_of (track_cells ring))) (map (cell_time nominal) (track_turns ring))
+
+pub track_known : NumbersNameTracks → (format : Format) (k : ℕ) → k < length (tracks format) → IsTrack format (track_at format k)
+track_known names format k below =
+    let named = names format k below in
+    subst (IsTrack format) (sym (is_track_at format k named.0 named.1)) named.2
+
+pub writes_captures : NumbersNameTracks → SectorsLieInImages → RingsAreRead → WritesCaptures
+writes_captures names lie reads format image k is below =
+    let track : TrackId = track_at format k in
+    let known : IsTrack format track = track_known names format k below in
+    let ring : IsRing (zone format track.cylinder).ring_cells (ring_with format track image) =
+    is_ring format track image known (are_sectors lie format track image is known) in
+    let bounds : IsWritable (zone format track.cylinder) = is_writable format track in
+    let early : HasEarlyOne (ring_with format track image) = is_early format track (ring_with format track image) ring in
+    captures (ring_with format track image) (nominal_of format k) early (omega (arith, ring.cells_are, bounds.many)) bounds.least
+    (reads (ring_with format track image) (nominal_of format k) (omega (arith, bounds.least)) bounds.most
+    (omega (arith, ring.cells_are, bounds.few)) early)

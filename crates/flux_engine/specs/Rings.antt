@@ -1,0 +1,91 @@
+-- What is written of an image: for each track its ring, with the image's bytes in its sectors, and the stream of the ring.
+use Rattle.std.specs.Prelude.{◌≡◌, ◌≤◌, ◌<◌, ℕ, ◌+◌, All, Bool, List, length, take, drop, flat_map, get_or}
+use Rattle.std.specs.List.{range_with_len}
+use Rattle.amiga_mfm.specs.Layout.{ring_of as ring_of-amiga}
+use Rattle.apple_gcr.specs.Layout.{ring_of as ring_of-apple}
+use Rattle.cell_bits.specs.State.{CellsState, room}
+use Rattle.commodore_gcr.specs.Layout.{ring_of as ring_of-commodore}
+use Rattle.flux_base.specs.declared.track.TrackId.{TrackId}
+use Rattle.flux_writer.specs.Written.{stream_of}
+use Rattle.frame_law.specs.Rings.{IsSpaced}
+use Rattle.ibm_fm.specs.Layout.{ring_of as ring_of-fm}
+use Rattle.ibm_mfm.specs.Layout.{ring_of as ring_of-mfm}
+use Rattle.sector_images.specs.Formats.{row, zone}
+use Rattle.sector_images.specs.Places.{IsTrack, sector_place, tracks}
+use Rattle.sector_images.specs.declared.format.Format.{Format}
+use Rattle.sector_images.specs.declared.format.Format.TheVariants.{Ibm3740, Ibm360, Ibm720, Ibm1440, Amiga, C1541, C1541Forty, AppleDo, ApplePo}
+use Rattle.flux_engine.specs.Recordings.{sectors_of, track_at}
+use Rattle.flux_engine.specs.Tracks.{numbers}
+
+-- bytes, as many as an image of the format has
+pub record IsImage (format : Format) (image : List ℕ) : Type 0 where
+  pub size : length image ≡ (row format).image_size
+  pub fit : All (λ byte. byte < 256) image
+
+-- the bytes that an image has at a sector's place
+abbrev pub sector_bytes : Format → TrackId → List ℕ → ℕ → List ℕ
+sector_bytes format track image sector = take (row format).sector_size (drop (sector_place format track sector) image)
+
+-- the bytes of all sectors of a track, in the order of the sectors' numbers
+unfoldable pub track_bytes : Format → TrackId → List ℕ → List ℕ
+track_bytes format track image = flat_map (sector_bytes format track image) (numbers (sectors_of format track))
+
+-- where an image of a Commodore 1541's disk has the disk's two ids: in sector 0 of track 18, counted from 1, at the bytes A2
+-- and A3
+abbrev pub directory_track : TrackId
+directory_track = record { cylinder = 17; head = 0 }
+
+abbrev pub FIRST_ID : ℕ
+FIRST_ID = 0xA2
+
+abbrev pub SECOND_ID : ℕ
+SECOND_ID = 0xA3
+
+abbrev pub disk_id : Format → List ℕ → ℕ → ℕ
+disk_id format image offset = get_or image (sector_place format directory_track 0 + offset) 0
+
+-- the ring of a Commodore 1541's track
+abbrev pub commodore_ring : Format → TrackId → List ℕ → List Bool
+commodore_ring format track image =
+    ring_of-commodore (disk_id format image FIRST_ID) (disk_id format image SECOND_ID) track (track_bytes format track image)
+
+-- the ring of a track with an image's bytes in its sectors
+abbrev pub ring_with : Format → TrackId → List ℕ → List Bool
+ring_with Ibm3740 track image = ring_of-fm track (track_bytes Ibm3740 track image)
+ring_with Ibm360 track image = ring_of-mfm 9 track (track_bytes Ibm360 track image)
+ring_with Ibm720 track image = ring_of-mfm 9 track (track_bytes Ibm720 track image)
+ring_with Ibm1440 track image = ring_of-mfm 18 track (track_bytes Ibm1440 track image)
+ring_with Amiga track image = ring_of-amiga track (track_bytes Amiga track image)
+ring_with C1541 track image = commodore_ring C1541 track image
+ring_with C1541Forty track image = commodore_ring C1541Forty track image
+ring_with AppleDo track image = ring_of-apple track (track_bytes AppleDo track image)
+ring_with ApplePo track image = ring_of-apple track (track_bytes ApplePo track image)
+
+-- the ring of track number k, from 0
+abbrev pub ring_of : Format → List ℕ → ℕ → List Bool
+ring_of format image k = ring_with format (track_at format k) image
+
+-- the nominal cell of track number k, in fine units
+abbrev pub nominal_of : Format → ℕ → ℕ
+nominal_of format k = (zone format (track_at format k).cylinder).nominal
+
+-- the cells of the ring of track number k
+abbrev pub ring_cells_of : Format → ℕ → ℕ
+ring_cells_of format k = (zone format (track_at format k).cylinder).ring_cells
+
+-- the stream of track number k
+abbrev pub track_stream : Format → List ℕ → ℕ → List ℕ
+track_stream format image k = stream_of (ring_of format image k) (nominal_of format k)
+
+-- the streams of all tracks in order, one behind another
+unfoldable pub streams_of : Format → List ℕ → List ℕ
+streams_of format image = flat_map (track_stream format image) (range_with_len 0 (length (tracks format)))
+
+-- A ring has so many cells, and its neighbouring ones, read cyclically, are one to four cells apart.
+pub record IsRing (cells : ℕ) (ring : List Bool) : Type 0 where
+  pub cells_are : length ring ≡ cells
+  pub spaced : IsSpaced 1 4 ring
+
+-- there is room for the ring of each track
+abbrev pub HasRoomForRings : Format → CellsState → Type 0
+HasRoomForRings format cells = (track : TrackId) → IsTrack format track → (zone format track.cylinder).ring_cells ≤ room cells

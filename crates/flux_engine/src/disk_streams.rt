@@ -1,0 +1,108 @@
+//! The streams of a disk's tracks, written from an image.
+
+ghost use Rattle.std.specs.Prelude.{◌≡◌, ℕ, ◌≤◌, ◌<◌, List, Some, length, take, IfOk, OnOk, OnErr};
+ghost use Rattle.std.specs.Io.KnownBytes.{Appends, Consumes, IsAtEnd};
+ghost use Rattle.flux_base.specs.Outside.{Rose, AppendsPart};
+ghost use Rattle.cell_bits.specs.State.{room};
+ghost use Rattle.sector_images.specs.Formats.{row};
+ghost use Rattle.flux_engine.specs.Answers.{Stayed};
+ghost use Rattle.flux_engine.specs.Rings.{HasRoomForRings, streams_of};
+ghost use Rattle.flux_engine.specs.Writes.{IsWrittenOrWrongSize, SaysOfBytes, WriteCause, WritesDisk, TakesFewer};
+
+use crate::track_rings::track_ring;
+use crate::write_fault::WriteFault;
+use crate::write_room::WriteRoom;
+use cell_bits::Cells;
+use flux_base::{Failed, Sink, Source};
+use flux_writer::write_track;
+use sector_images::{Format, image_size, nominal, track_count, track_id};
+
+/// Reads an image to its end, or to one byte more than an image of the format has, and writes the streams of
+/// its tracks in order, one behind another. It takes no memory.
+///
+/// `WrongSize` comes exactly where the bytes that were read are not an image's in number. Then, and after
+/// `ReadFault`, nothing was written. After `ImageFault` a part of the streams was written.
+pub fn write_disk<S: Source, W: Sink>(
+    room: &mut WriteRoom,
+    source: &mut S,
+    sink: &mut W,
+) -> Result<(), WriteFault>
+    ensures wrote { WritesDisk room.old (S.left source.old) (S.left source.new) (W.written sink.old) (W.written sink.new) result }
+    ensures told { (bytes : List ℕ) → S.left source.old ≡ Some bytes → SaysOfBytes room.old bytes (S.left source.new) (W.written sink.old) (W.written sink.new) result }
+    ensures format { room.new ≡ room.old }
+    ensures cause { WriteCause (S.faults source.old) (S.faults source.new) (W.faults sink.old) (W.faults sink.new) result }
+
+    // Over a source and a sink that do not fail there is no other answer.
+    ensures complete { Stayed (S.faults source.old) (S.faults source.new) → Stayed (W.faults sink.old) (W.faults sink.new) → IsWrittenOrWrongSize result }
+    ensures source_later { S.faults source.old ≤ S.faults source.new }
+    ensures sink_later { W.faults sink.old ≤ W.faults sink.new }
+{
+    let wanted = image_size(room.format);
+    let read = match fill(&mut room.image, source) {
+        Ok(read) => read as u32,
+        Err(_) => return Err(WriteFault::ReadFault),
+    };
+    if read != wanted {
+        return Err(WriteFault::WrongSize { read, wanted });
+    }
+    match write_tracks(
+        room.format,
+        &room.image[..read as usize],
+        &mut room.ring,
+        sink,
+    ) {
+        Ok(()) => Ok(()),
+        Err(_) => Err(WriteFault::ImageFault),
+    }
+}
+
+/// Reads until the buffer is full or the source has ended, and gives the number of bytes.
+fn fill<S: Source>(buffer: &mut [u8], source: &mut S) -> Result<usize, Failed>
+    ensures bound { IfOk result (λ count. count ≤ length buffer.new) }
+    ensures len { length buffer.new ≡ length buffer.old }
+    ensures ok { IfOk result (λ count. Consumes (S.left source.old) (S.left source.new) (take count buffer.new)) }
+    ensures ended { IfOk result (λ count. count < length buffer.new → IsAtEnd (S.left source.new)) }
+    ensures err { OnErr result (TakesFewer (S.left source.old) (S.left source.new) (length buffer.old)) }
+    ensures later { S.faults source.old ≤ S.faults source.new }
+    ensures cause { OnErr result (Rose (S.faults source.old) (S.faults source.new)) }
+{
+    let mut filled = 0;
+    while filled < buffer.len() {
+        match source.read(&mut buffer[filled..]) {
+            Ok(0) => return Ok(filled),
+            Ok(count) => filled += count,
+            Err(failed) => return Err(failed),
+        }
+    }
+    Ok(filled)
+}
+
+/// Writes the streams of all tracks of an image.
+fn write_tracks<W: Sink>(
+    format: Format,
+    image: &[u8],
+    ring: &mut Cells,
+    sink: &mut W,
+) -> Result<(), Failed>
+    requires image { length image.now ≡ (row format).image_size }
+    requires room { HasRoomForRings format ring.old }
+    ensures ok { OnOk result (Appends (W.written sink.old) (W.written sink.new) (streams_of format image.now)) }
+    ensures err { OnErr result (AppendsPart (W.written sink.old) (W.written sink.new) (streams_of format image.now)) }
+    ensures room { room ring.old ≤ room ring.new }
+    ensures later { W.faults sink.old ≤ W.faults sink.new }
+    ensures cause { OnErr result (Rose (W.faults sink.old) (W.faults sink.new)) }
+{
+    for number in 0..track_count(format) {
+        let cell = nominal(format, track_id(format, number));
+        match track_ring(format, number, image, ring) {
+            Ok(()) => {}
+            // There is room for the longest ring.
+            Err(_) => unreachable!(),
+        }
+        match write_track(ring, cell, sink) {
+            Ok(()) => {}
+            Err(failed) => return Err(failed),
+        }
+    }
+    Ok(())
+}

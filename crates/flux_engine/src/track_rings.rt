@@ -1,0 +1,126 @@
+//! The ring of a track, with the bytes of an image in its sectors.
+
+ghost use Rattle.std.specs.Prelude.{◌≡◌, ◌*◌, ◌≤◌, ◌<◌, [], length, OnOk, OnErr, IsOk};
+ghost use Rattle.cell_bits.specs.State.{room};
+ghost use Rattle.frame_law.specs.Rings.{AreSectors};
+ghost use Rattle.sector_images.specs.Formats.{row, zone};
+ghost use Rattle.sector_images.specs.Places.{IsTrack, tracks};
+ghost use Rattle.flux_engine.specs.Recordings.{sectors_of as sectors_in};
+ghost use Rattle.flux_engine.specs.Rings.{FIRST_ID, SECOND_ID, IsRing, directory_track, disk_id, ring_cells_of, ring_of, ring_with, track_bytes};
+
+use crate::recordings::{EIGHTEEN_SECTORS, NINE_SECTORS, sectors_of};
+use amiga_mfm::AmigaMfm;
+use apple_gcr::AppleGcr;
+use arrayvec::ArrayVec;
+use cell_bits::Cells;
+use commodore_gcr::CommodoreGcr;
+use flux_base::{Memory, TrackId};
+use frame_law::Recording;
+use ibm_fm::IbmFm;
+use sector_images::{Format, image_place, track_id};
+
+/// The most bytes of a track: 18 sectors of 512 bytes.
+const MOST_BYTES: usize = 9216;
+
+/// The bytes of a track's sectors, in the order of the sectors' numbers.
+type TrackBytes = ArrayVec<u8, MOST_BYTES>;
+
+/// The track of a Commodore 1541's disk whose sector 0 has the disk's two ids: track 18, counted from 1.
+const DIRECTORY_TRACK: TrackId = TrackId {
+    cylinder: 17,
+    head: 0,
+};
+
+/// The byte of that sector with the first id.
+const FIRST_ID: u32 = 0xA2;
+
+/// The byte of that sector with the second id.
+const SECOND_ID: u32 = 0xA3;
+
+/// Makes `cells` the ring of a track of the format, with the bytes of an image in its sectors. The track has
+/// a number from 0 in the order cylinder, then head. A Commodore 1541's disk gets the two ids that its image
+/// has in sector 0 of track 18 at the bytes A2 and A3. After `Memory` the cells are empty.
+pub fn track_ring(
+    format: Format,
+    number: u32,
+    image: &[u8],
+    cells: &mut Cells,
+) -> Result<(), Memory>
+    requires track { number < length (tracks format) }
+    requires image { length image.now ≡ (row format).image_size }
+    ensures ok { OnOk result (cells.new.cells ≡ ring_of format image.now number) }
+
+    // The ring has the format's cells, and its ones are one to four cells apart.
+    ensures ring { OnOk result (IsRing (ring_cells_of format number) cells.new.cells) }
+    ensures err { OnErr result (cells.new.cells ≡ []) }
+
+    // Memory cannot come where there was room for the ring.
+    ensures succeeds { ring_cells_of format number ≤ room cells.old → IsOk result }
+    ensures room { room cells.old ≤ room cells.new }
+{
+    let track = track_id(format, number);
+    let bytes = sector_bytes(format, track, image);
+    recorded(format, track, image, &bytes, cells)
+}
+
+/// Makes `cells` the ring of a track, whose bytes in the image are given in the order of the sectors' numbers.
+fn recorded(
+    format: Format,
+    track: TrackId,
+    image: &[u8],
+    bytes: &[u8],
+    cells: &mut Cells,
+) -> Result<(), Memory>
+    requires track { IsTrack format track }
+    requires image { length image.now ≡ (row format).image_size }
+    requires bytes { bytes.now ≡ track_bytes format track image.now }
+    requires size { length bytes.now ≡ (sectors_in format track).count * (sectors_in format track).size }
+    ensures ok { OnOk result (cells.new.cells ≡ ring_with format track image.now) }
+    ensures err { OnErr result (cells.new.cells ≡ []) }
+    ensures succeeds { (zone format track.cylinder).ring_cells ≤ room cells.old → IsOk result }
+    ensures room { room cells.old ≤ room cells.new }
+{
+    match format {
+        Format::Ibm3740 => IbmFm.ring(track, bytes, cells),
+        Format::Ibm360 | Format::Ibm720 => NINE_SECTORS.ring(track, bytes, cells),
+        Format::Ibm1440 => EIGHTEEN_SECTORS.ring(track, bytes, cells),
+        Format::Amiga => AmigaMfm.ring(track, bytes, cells),
+        Format::C1541 | Format::C1541Forty => disk_of(format, image).ring(track, bytes, cells),
+        Format::AppleDo | Format::ApplePo => AppleGcr.ring(track, bytes, cells),
+    }
+}
+
+/// The bytes of all sectors of a track.
+fn sector_bytes(format: Format, track: TrackId, image: &[u8]) -> TrackBytes
+    requires track { IsTrack format track }
+    requires image { length image.now ≡ (row format).image_size }
+    ensures bytes { result.items ≡ track_bytes format track image.now }
+    ensures sectors { AreSectors (sectors_in format track).count (sectors_in format track).size result.items }
+{
+    let sectors = sectors_of(format, track);
+    let mut bytes = TrackBytes::new();
+    for index in 0..sectors.count {
+        let place = image_place(format, track, sectors.first + index) as usize;
+        match bytes.try_extend_from_slice(&image[place..place + usize::from(sectors.size)]) {
+            Ok(()) => {}
+            // No track has more bytes.
+            Err(_) => unreachable!(),
+        }
+    }
+    bytes
+}
+
+/// The recording of a Commodore 1541's disk, with the ids that its image has.
+fn disk_of(format: Format, image: &[u8]) -> CommodoreGcr
+    requires track { IsTrack format directory_track }
+    requires size { (row format).sector_size ≡ 256 }
+    requires image { length image.now ≡ (row format).image_size }
+    ensures first { result.id1 ≡ disk_id format image.now FIRST_ID }
+    ensures second { result.id2 ≡ disk_id format image.now SECOND_ID }
+{
+    let directory = image_place(format, DIRECTORY_TRACK, 0);
+    CommodoreGcr {
+        id1: image[(directory + FIRST_ID) as usize],
+        id2: image[(directory + SECOND_ID) as usize],
+    }
+}

@@ -1,0 +1,15 @@
+//! What the written streams come to.
+
+ghost use Rattle.flux_engine.specs.Captures.{WritesCaptures};
+
+use flux_writer::track_law;
+use sector_images::sectors_lie_in_images;
+
+/// The stream of each track of an image is one stream without a fault that captures the track's ring: its
+/// transitions are the ring's ones, within the bounds of disturbance, over more than two turns.
+pub fn streams_are_captures()
+    ensures { WritesCaptures }
+{
+    track_law();
+    sectors_lie_in_images()
+}

@@ -1,0 +1,48 @@
+ghost use Rattle.std.specs.Prelude.{◌≡◌, IfOk};
+
+use cell_bits::Cells;
+use flux_base::Memory;
+use sector_images::{Format, image_size, ring_cells, track_id};
+use std::alloc::Global;
+use std::marker::Model;
+
+/// All that writing the streams of an image of one format needs: no call on it takes memory.
+///
+/// Contracts see the format.
+#[derive(Drop)]
+pub struct WriteRoom {
+    pub(crate) format: Format,
+    /// Room for the image and one byte more.
+    pub(crate) image: Vec<u8>,
+    pub(crate) ring: Cells,
+}
+
+impl Model for WriteRoom {
+    ghost use Rattle.std.specs.Prelude.{◌≡◌, length};
+    ghost use Rattle.sector_images.specs.declared.format.Format.{Format};
+    ghost use Rattle.flux_engine.specs.Rings.{HasRoomForRings};
+    ghost use Rattle.flux_engine.specs.Writes.{most_read};
+
+    ghost Value = { Format };
+
+    ghost view = { λ a. a.format };
+
+    ghost invariant = { λ a. (length a.image.items ≡ most_read a.format) × HasRoomForRings a.format a.ring };
+}
+
+impl WriteRoom {
+    /// Takes all memory that writing the streams of an image of the format needs.
+    pub fn reserve(alloc: Global, format: Format) -> Result<WriteRoom, Memory>
+        ensures { IfOk result (λ room. room ≡ format) }
+    {
+        let image = vec![in alloc; 0u8; image_size(format) as usize + 1]?;
+        let mut ring = Cells::new(alloc);
+        // No track has a longer ring than the first.
+        ring.reserve(ring_cells(format, track_id(format, 0)) as usize)?;
+        Ok(WriteRoom {
+            format,
+            image,
+            ring,
+        })
+    }
+}
