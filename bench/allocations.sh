@@ -11,9 +11,12 @@ trap 'rm -rf "$work"' EXIT
 cd "$work" || exit 1
 cc -O1 -shared -fPIC -o counts.so "$top/bench/allocations.c" -ldl || exit 1
 
-# The shortest good stream, and a disk of it.
+# The shortest good stream, disks of it, and an image.
 cp "$top/crates/flux/stdin" stream
 for _ in $(seq 77); do cat stream; done > disk
+for _ in $(seq 80); do cat stream; done > pc_disk
+head -c 143360 /dev/zero > image
+: > empty
 
 wrong=0
 complain() {
@@ -28,7 +31,7 @@ sweep() {
     number=0
     while :; do
         number=$((number + 1))
-        REFUSE=$number LD_PRELOAD=$work/counts.so "$program" "$@" < "$input" 3> counts > image 2> notes
+        REFUSE=$number LD_PRELOAD=$work/counts.so "$program" "$@" < "$input" 3> counts > out 2> notes
         status=$?
         read -r _ allocations _ late _ reads _ writes < counts
         test "$allocations" -lt "$number" && break
@@ -46,4 +49,7 @@ sweep() {
 sweep stream 0 turns
 sweep disk 1 decode ibm-3740
 sweep disk 1 report ibm-3740
+sweep pc_disk 1 decode ibm-360
+sweep empty 2 write amiga
+sweep image 0 write apple-do
 exit $wrong

@@ -9,7 +9,7 @@ use Rattle.sector_images.specs.Formats.{row}
 use Rattle.flux_cli.specs.Commands.{AskFor, words_of}
 use Rattle.flux_cli.specs.Outcome.{Outcome, OutcomeOf, IsOutcome, decode_outcome, report_outcome}
 use Rattle.flux_cli.specs.declared.command.Command.{Command}
-use Rattle.flux_cli.specs.declared.command.Command.TheVariants.{Turns, Decode, Report}
+use Rattle.flux_cli.specs.declared.command.Command.TheVariants.{Turns, Decode, Report, Write}
 
 -- the format of a word
 abbrev format_of : List ℕ → Option Format
@@ -43,19 +43,33 @@ abbrev second : List (List ℕ) → List ℕ
 second (word ∷ other ∷ words) = other
 second words = []
 
-other_letter : ◌≡◌ {A = ℕ} 100 114 → ⊥
-other_letter same = omega (arith, same)
+-- the letters of `decode`, `report` and `write`
+d_is_r : ◌≡◌ {A = ℕ} 100 114 → ⊥
+d_is_r same = omega (arith, same)
+
+d_is_w : ◌≡◌ {A = ℕ} 100 119 → ⊥
+d_is_w same = omega (arith, same)
+
+r_is_w : ◌≡◌ {A = ℕ} 114 119 → ⊥
+r_is_w same = omega (arith, same)
 
 one_command : (a b : Command) → words_of a ≡ words_of b → a ≡ b
 one_command Turns Turns same = refl
 one_command Turns (Decode g) same = absurd (cc)
 one_command Turns (Report g) same = absurd (cc)
+one_command Turns (Write g) same = absurd (cc)
 one_command (Decode f) Turns same = absurd (cc)
 one_command (Decode f) (Decode g) same = ap Decode (one_format f g (ap second same))
-one_command (Decode f) (Report g) same = absurd (other_letter (ap letter same))
+one_command (Decode f) (Report g) same = absurd (d_is_r (ap letter same))
+one_command (Decode f) (Write g) same = absurd (d_is_w (ap letter same))
 one_command (Report f) Turns same = absurd (cc)
-one_command (Report f) (Decode g) same = absurd (other_letter (sym (ap letter same)))
+one_command (Report f) (Decode g) same = absurd (d_is_r (sym (ap letter same)))
 one_command (Report f) (Report g) same = ap Report (one_format f g (ap second same))
+one_command (Report f) (Write g) same = absurd (r_is_w (ap letter same))
+one_command (Write f) Turns same = absurd (cc)
+one_command (Write f) (Decode g) same = absurd (d_is_w (sym (ap letter same)))
+one_command (Write f) (Report g) same = absurd (r_is_w (sym (ap letter same)))
+one_command (Write f) (Write g) same = ap Write (one_format f g (ap second same))
 
 -- words ask for one thing at most
 one_asked : (words : List (List ℕ)) (a b : Option Command) → AskFor words a → AskFor words b → a ≡ b
@@ -72,6 +86,7 @@ module _ (one : OneOutcome) where
       first.2 ∙ ap decode_outcome (one format x first.0 second.0 first.1 second.1) ∙ sym second.2
   one_of (Some (Report format)) x a b first second =
       first.2 ∙ ap report_outcome (one format x first.0 second.0 first.1 second.1) ∙ sym second.2
+  one_of (Some (Write format)) x a b first second = first ∙ sym second
 
   pub one_outcome : (words : List (List ℕ)) (x : List ℕ) (a b : Outcome) → IsOutcome words x a → IsOutcome words x b → a ≡ b
   one_outcome words x a b first second =

@@ -2,13 +2,14 @@
 use Rattle.std.specs.Prelude.{◌≡◌, ℕ, List, [], ◌∷◌, codes, Option, Some, None}
 use Rattle.sector_images.specs.Formats.{row}
 use Rattle.flux_cli.specs.declared.command.Command.{Command}
-use Rattle.flux_cli.specs.declared.command.Command.TheVariants.{Turns, Decode, Report}
+use Rattle.flux_cli.specs.declared.command.Command.TheVariants.{Turns, Decode, Report, Write}
 
 -- the words that ask for a command
 abbrev pub words_of : Command → List (List ℕ)
 words_of Turns = codes "turns" ∷ []
 words_of (Decode format) = codes "decode" ∷ (row format).word ∷ []
 words_of (Report format) = codes "report" ∷ (row format).word ∷ []
+words_of (Write format) = codes "write" ∷ (row format).word ∷ []
 
 -- what the words ask for; nothing where they are not those of a command
 abbrev pub AskFor : List (List ℕ) → Option Command → Type 0

@@ -1,5 +1,5 @@
 -- How a fault stopped a command over the input x: what both sinks hold then, and what is left of the input.
-use Rattle.std.specs.Prelude.{◌≡◌, ℕ, ◌⊎◌, List, take, Option, Some, None}
+use Rattle.std.specs.Prelude.{◌≡◌, ◌≤◌, ℕ, ◌⊎◌, List, length, take, Option, Some, None}
 use Rattle.std.specs.Io.KnownBytes.{Appends, Consumes, Keeps}
 use Rattle.flux_base.specs.Outside.{AppendsPart}
 use Rattle.flux_base.specs.declared.status.Status.{Status}
@@ -8,13 +8,14 @@ use Rattle.flux_engine.specs.Answers.{IsTakenBehind, AppendsAndPart, WroteAll, S
 use Rattle.flux_engine.specs.Disks.{Decoded, Stop, IsDecoded}
 use Rattle.kryo_stream.specs.Stream.{first_fault}
 use Rattle.kryo_stream.specs.declared.fault.StreamFault.TheVariants.{Truncated}
+use Rattle.sector_images.specs.Formats.{row}
 use Rattle.sector_images.specs.declared.format.Format.{Format}
 use Rattle.sector_report.specs.Lines.{usage_text, refused_text}
 use Rattle.flux_cli.specs.Commands.{AskFor}
-use Rattle.flux_cli.specs.Outcome.{Outcome, turns_outcome}
+use Rattle.flux_cli.specs.Outcome.{Outcome, turns_outcome, write_outcome}
 use Rattle.flux_cli.specs.Takes.{MOST_AT_ONCE}
 use Rattle.flux_cli.specs.declared.command.Command.{Command}
-use Rattle.flux_cli.specs.declared.command.Command.TheVariants.{Turns, Decode, Report}
+use Rattle.flux_cli.specs.declared.command.Command.TheVariants.{Turns, Decode, Report, Write}
 
 -- a sink's bytes grew by a prefix of these
 abbrev pub AppendsPrefix : Option (List ℕ) → Option (List ℕ) → List ℕ → Type 0
@@ -64,6 +65,14 @@ pub record StoppedBehindReport (format : Format) (x later : List ℕ) (report re
   pub notes_grew : AppendsPart notes notes' (refused_text stop.track stop.block stop.fault)
   pub taken : IsTakenBehind x later stop.track MOST_AT_ONCE
 
+-- the source failed inside an image, of which no more was taken than it has, and nothing was written
+pub record StoppedInImageBytes (format : Format) (x : List ℕ) (left' image image' notes notes' : Option (List ℕ)) : Type 0 where
+  pub taken : List ℕ
+  pub consumed : Consumes (Some x) left' taken
+  pub few : length taken ≤ (row format).image_size
+  pub image_kept : Keeps image image'
+  pub notes_kept : Keeps notes notes'
+
 -- what a source has left that tells it
 abbrev pub LeavesSome : Option (List ℕ) → (List ℕ → Type 0) → Type 0
 LeavesSome left' P = (later : List ℕ) × (left' ≡ Some later) × P later
@@ -94,6 +103,13 @@ StopsReport format NotesFault x left' image image' notes notes' =
     LeavesSome left' (λ later. StoppedBehindReport format x later image image' notes notes')
 StopsReport format _ x left' image image' notes notes' = Unit {0}
 
+-- a part of the streams, or of the line that refuses other bytes than an image's
+abbrev pub StopsWrite : Format → Status → List ℕ → (left' image image' notes notes' : Option (List ℕ)) → Type 0
+StopsWrite format ReadFault x left' image image' notes notes' = StoppedInImageBytes format x left' image image' notes notes'
+StopsWrite format ImageFault x left' image image' notes notes' = GivesPart (write_outcome format x) image image' notes notes'
+StopsWrite format NotesFault x left' image image' notes notes' = GivesPart (write_outcome format x) image image' notes notes'
+StopsWrite format _ x left' image image' notes notes' = Unit {0}
+
 -- for words that are no command: a part of the usage
 abbrev pub StopsUsage : Status → (image image' notes notes' : Option (List ℕ)) → Type 0
 StopsUsage NotesFault image image' notes notes' = Keeps image image' × AppendsPart notes notes' usage_text
@@ -105,6 +121,7 @@ StopsAs None status x left' image image' notes notes' = StopsUsage status image 
 StopsAs (Some Turns) status x left' image image' notes notes' = StopsTurns status x left' image image' notes notes'
 StopsAs (Some (Decode format)) status x left' image image' notes notes' = StopsDecode format status x left' image image' notes notes'
 StopsAs (Some (Report format)) status x left' image image' notes notes' = StopsReport format status x left' image image' notes notes'
+StopsAs (Some (Write format)) status x left' image image' notes notes' = StopsWrite format status x left' image image' notes notes'
 
 -- how what the words ask for was stopped with this status
 abbrev pub Stops : List (List ℕ) → Status → List ℕ → (left' image image' notes notes' : Option (List ℕ)) → Type 0

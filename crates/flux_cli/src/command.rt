@@ -14,6 +14,8 @@ pub enum Command {
     Decode(Format),
     /// The report alone, in place of the image.
     Report(Format),
+    /// The streams of a disk's tracks, from its image.
+    Write(Format),
 }
 
 /// The command that the words are, if they are one.
@@ -55,6 +57,8 @@ fn command_over(verb: &[u8], format: Format) -> Option<Command>
         Some(Command::Decode(format))
     } else if verb == b"report".as_slice() {
         Some(Command::Report(format))
+    } else if verb == b"write".as_slice() {
+        Some(Command::Write(format))
     } else {
         None
     }

@@ -3,6 +3,7 @@
 
 mod command;
 mod disks;
+mod images;
 mod laws;
 mod line;
 mod program;

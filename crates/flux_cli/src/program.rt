@@ -11,10 +11,11 @@ ghost use Rattle.flux_cli.specs.declared.command.Command.TheVariants.{Turns};
 
 use crate::command::{Command, command_of};
 use crate::disks::{decode, report};
+use crate::images::write;
 use crate::line::write_line;
 use crate::turns::write_turns;
 use flux_base::{Memory, Sink, Source, Status, Word, write_whole};
-use flux_engine::DiskRoom;
+use flux_engine::{DiskRoom, WriteRoom};
 use index_turns::TrackFlux;
 use kryo_stream::{Intake, MOST_INDEXES, MOST_TIMES, StreamBench, TrackFault, read_track};
 use sector_report::{refused_line, usage_line};
@@ -60,6 +61,10 @@ pub fn run<S: Source, W: Sink, N: Sink>(
         },
         Some(Command::Report(format)) => match DiskRoom::reserve(alloc, format) {
             Ok(mut room) => report(&mut room, source, image, notes),
+            Err(Memory) => Status::Memory,
+        },
+        Some(Command::Write(format)) => match WriteRoom::reserve(alloc, format) {
+            Ok(mut room) => write(&mut room, source, image, notes),
             Err(Memory) => Status::Memory,
         },
     }

@@ -103,11 +103,13 @@ fn turns(alloc: Global, input: Vec<u8>, chunk: u32) -> Result<Ended, Fail> {
     run_over(alloc, &["turns"], input, chunk, NONE)
 }
 
+// The stream's 50 bytes are read once each: behind its End the source is not asked again.
 #[test]
 fn turns_of_a_stream(rt: HostRuntime) -> Result<(), Fail> {
-    for chunk in [1, 2, 3, 7, 4096] {
+    for (chunk, reads) in [(1, 50), (2, 25), (3, 17), (7, 8), (4096, 1)] {
         let end = turns(rt.alloc(), TWO_TRANSITIONS.to_vec(rt.alloc())?, chunk)?;
         assert_eq!(rt; end.status, Status::AllGood, "in chunks of {chunk}");
+        assert_eq!(rt; end.source.calls(), reads, "in chunks of {chunk}");
         assert_eq!(rt;
             end.image.bytes(),
             b"transitions 2\nturn 1 197\n".as_slice()
@@ -295,6 +297,7 @@ fn words_that_are_no_command(rt: HostRuntime) -> Result<(), Fail> {
     is_no_command(&rt, alloc, &["decode"])?;
     is_no_command(&rt, alloc, &["decode", "amigo"])?;
     is_no_command(&rt, alloc, &["report", "ibm-3740", "now"])?;
+    is_no_command(&rt, alloc, &["write"])?;
     let failing = Failing {
         notes: Some(0),
         ..NONE
@@ -371,5 +374,35 @@ fn a_disk_without_streams(rt: HostRuntime) -> Result<(), Fail> {
     assert_eq!(rt; end.status, Status::Refused);
     assert_eq!(rt; end.image.calls(), 0);
     assert_eq!(rt; end.notes.bytes(), line.as_slice());
+    Ok(())
+}
+
+// The line names the bytes that were read. A read and the write of the line that fail leave nothing.
+#[test]
+fn images_of_another_size(rt: HostRuntime) -> Result<(), Fail> {
+    let alloc = rt.alloc();
+    let words = ["write", "amiga"];
+    let end = run_over(alloc, &words, Vec::new(alloc), 4096, NONE)?;
+    assert_eq!(rt; end.status, Status::Refused);
+    assert_eq!(rt; end.image.calls(), 0);
+    assert_eq!(rt;
+        end.notes.bytes(),
+        b"refused image 0 wanted 901120\n".as_slice()
+    );
+    let failing = Failing {
+        source: Some(1),
+        ..NONE
+    };
+    let end = run_over(alloc, &words, END.to_vec(alloc)?, 2, failing)?;
+    assert_eq!(rt; end.status, Status::ReadFault);
+    assert_eq!(rt; end.image.calls(), 0);
+    assert_eq!(rt; end.notes.calls(), 0);
+    let failing = Failing {
+        notes: Some(0),
+        ..NONE
+    };
+    let end = run_over(alloc, &words, END.to_vec(alloc)?, 2, failing)?;
+    assert_eq!(rt; end.status, Status::NotesFault);
+    assert_eq!(rt; end.notes.bytes(), b"".as_slice());
     Ok(())
 }

@@ -1,6 +1,6 @@
 use Rattle.std.proofs.Common.{◌≡◌, Some, refl, ap, subst, sym}
 use Rattle.flux_cli.specs.Commands.{AskFor}
-use Rattle.flux_cli.specs.declared.command.Command.TheVariants.{Turns, Decode, Report}
+use Rattle.flux_cli.specs.declared.command.Command.TheVariants.{Turns, Decode, Report, Write}
 use Rattle.flux_cli.proofs.Runs.{takes-nothing, usage-gives}
 use Rattle.flux_cli.proofs.program.run.Goals as goal
 
@@ -48,3 +48,7 @@ returns-in-Ok-reserve-3-clause-taken g c = λ x told.
     let asks : AskFor c.args.words.now (Some (Report c.in-Some-Report.format)) = rw c.in-Some-Report.field-0-is at c.in-Some-Report.ensures in
     let same : c.in-Ok-reserve-3.room.format ≡ c.in-Some-Report.format = ap (λ r. r.format) c.in-Ok-reserve-3.ensures in
     (Some (Report c.in-Ok-reserve-3.room.format), subst (λ f. AskFor c.args.words.now (Some (Report f))) (sym same) asks, c.report.ensures.taken x told)
+
+pub returns-in-Err-reserve-4-clause-taken : goal.returns-in-Err-reserve-4-clause-taken
+returns-in-Err-reserve-4-clause-taken g c = λ x told.
+    (Some (Write c.in-Some-Write.format), (rw c.in-Some-Write.field-0-is at c.in-Some-Write.ensures), rw told (takes-nothing x (Some (Write c.in-Some-Write.format)) refl))
