@@ -1,0 +1,4 @@
+mod images;
+mod pc_disk;
+mod runs;
+mod tracks;

@@ -1,0 +1,171 @@
+//! Single tracks, written by the libraries' own calls and decoded.
+use apple_gcr::AppleGcr;
+use cell_bits::Cells;
+use flux_base::{Memory, MemorySink, MemorySource, TrackId};
+use flux_engine::{DiskRoom, decode_track};
+use flux_rows::{first_lines, ring_of, with_word};
+use flux_writer::{write_track, write_turns};
+use ibm_fm::IbmFm;
+use ibm_mfm::IbmMfm;
+use sector_images::{Format, track_count};
+use std::alloc::Global;
+use std::process::Abort;
+use std::test::Fail;
+
+const TRACK: TrackId = TrackId {
+    cylinder: 0,
+    head: 0,
+};
+
+const PC: IbmMfm = IbmMfm { sectors: 9 };
+
+/// More bytes than a track's stream, its part of the image or its lines have.
+const ROOM: usize = 1_000_000;
+
+/// What the first track of a disk came to.
+#[derive(Drop)]
+struct Decoded {
+    image: MemorySink,
+    notes: MemorySink,
+}
+
+fn decode_first(
+    rt: &impl Abort,
+    alloc: Global,
+    format: Format,
+    stream: &MemorySink,
+) -> Result<Decoded, Fail> {
+    assert!(rt; track_count(format) > 0);
+    let mut source = MemorySource::new(stream.bytes().to_vec(alloc)?, 4096, Vec::new(alloc));
+    let mut image = MemorySink::new(alloc, ROOM, Vec::new(alloc))?;
+    let mut notes = MemorySink::new(alloc, ROOM, Vec::new(alloc))?;
+    let mut room = DiskRoom::reserve(alloc, format)?;
+    assert!(rt; decode_track(&mut room, 0, &mut source, &mut image, &mut notes).is_ok());
+    Ok(Decoded { image, notes })
+}
+
+/// Appends a part of a ring.
+fn push_part(cells: &mut Cells, ring: &Cells, from: usize, to: usize) -> Result<(), Memory> {
+    for place in from..to.min(ring.len()) {
+        cells.push_cell(ring.cell(place))?;
+    }
+    Ok(())
+}
+
+/// The last quarter of a ring, three whole rings, and its first quarter.
+fn quarters_and(
+    alloc: Global,
+    ring: &Cells,
+    turns: (&Cells, &Cells, &Cells),
+) -> Result<Cells, Memory> {
+    let size = ring.len();
+    let (first, second, third) = turns;
+    let mut cells = Cells::new(alloc);
+    push_part(&mut cells, ring, size - size / 4, size)?;
+    push_part(&mut cells, first, 0, size)?;
+    push_part(&mut cells, second, 0, size)?;
+    push_part(&mut cells, third, 0, size)?;
+    push_part(&mut cells, ring, 0, size / 4)?;
+    Ok(cells)
+}
+
+// In the second turn sector 1 has other bytes.
+#[test]
+fn a_track_that_contradicts_itself(rt: HostRuntime) -> Result<(), Fail> {
+    let alloc = rt.alloc();
+    let mut content = [0xF6; 4608];
+    let ring = ring_of(alloc, &PC, TRACK, &content)?;
+    content[..512].fill(0xE5);
+    let other = ring_of(alloc, &PC, TRACK, &content)?;
+    let cells = quarters_and(alloc, &ring, (&ring, &other, &ring))?;
+    assert_eq!(rt; cells.len(), 350_000);
+    assert!(rt; cells.cell(349_989));
+    let mut stream = MemorySink::new(alloc, ROOM, Vec::new(alloc))?;
+    let turns = [25_000, 125_000, 225_000, 325_000];
+    assert!(rt; write_turns(&cells, &turns, 49208, &mut stream).is_ok());
+
+    let track = decode_first(&rt, alloc, Format::Ibm720, &stream)?;
+    let line = b"00.0 01 contradictory 4 0 1 27527 2 127527\n";
+    assert!(rt; track.notes.bytes().starts_with(line));
+    content[..512].fill(0);
+    content[512..].fill(0xF6);
+    assert!(rt; track.image.bytes() == content.as_slice());
+    Ok(())
+}
+
+// The data mark of sector 1 is FE in place of FB: its header is not paired with sector 2's data.
+#[test]
+fn a_track_with_a_wrong_mark(rt: HostRuntime) -> Result<(), Fail> {
+    let alloc = rt.alloc();
+    let mut content = [0xF6; 4608];
+    let ring = with_word(alloc, &ring_of(alloc, &PC, TRACK, &content)?, 3280, 0x5554)?;
+    assert_eq!(rt; ring.len(), 100_000);
+    assert!(rt; ring.cell(3));
+    let mut stream = MemorySink::new(alloc, ROOM, Vec::new(alloc))?;
+    assert!(rt; write_track(&ring, 49208, &mut stream).is_ok());
+
+    let track = decode_first(&rt, alloc, Format::Ibm720, &stream)?;
+    assert!(rt;
+        track
+            .notes
+            .bytes()
+            .starts_with(b"00.0 01 bad 0 4 1 27527\n")
+    );
+    content[..512].fill(0);
+    assert!(rt; track.image.bytes() == content.as_slice());
+    Ok(())
+}
+
+// In the first turn a data cell of sector 1's first byte E5 is inverted: its cells FEBB are BEBB.
+#[test]
+fn a_track_with_one_wrong_cell(rt: HostRuntime) -> Result<(), Fail> {
+    let alloc = rt.alloc();
+    let content = [0xE5; 3328];
+    let ring = ring_of(alloc, &IbmFm, TRACK, &content)?;
+    assert!(rt; ring.len() == 83_328);
+    assert_eq!(rt; ring.word_at(1664, 16), 0xFEBB);
+    let other = with_word(alloc, &ring, 1664, 0xBEBB)?;
+    let cells = quarters_and(alloc, &ring, (&other, &ring, &ring))?;
+    assert_eq!(rt; cells.len(), 291_648);
+    assert!(rt; cells.cell(291_646));
+    let mut stream = MemorySink::new(alloc, ROOM, Vec::new(alloc))?;
+    let turns = [20_832, 104_160, 187_488, 270_816];
+    assert!(rt; write_turns(&cells, &turns, 49208, &mut stream).is_ok());
+
+    let track = decode_first(&rt, alloc, Format::Ibm3740, &stream)?;
+    let line = b"00.0 01 good 3 1 2 105424\n";
+    assert!(rt; track.notes.bytes().starts_with(line));
+    assert!(rt; track.image.bytes() == content.as_slice());
+    Ok(())
+}
+
+// The two pairs of bits that stand for no byte are set in the values 84 and 85 of sector 0: then the nibbles 84 and 86 are
+// those of 30, which is ED, in place of 96. The first nibble stands at cell 330 + 112 + 60 + 24 = 526.
+#[test]
+fn a_track_with_unused_bits_set(rt: HostRuntime) -> Result<(), Fail> {
+    let alloc = rt.alloc();
+    let content = [0; 4096];
+    let ring = ring_of(alloc, &AppleGcr, TRACK, &content)?;
+    assert!(rt; ring.len() == 49_994);
+    assert_eq!(rt; ring.word_at(1198, 32), 0x9696_9696);
+    let ring = with_word(alloc, &ring, 1198, 0xED96)?;
+    let ring = with_word(alloc, &ring, 1214, 0xED96)?;
+    assert_eq!(rt; ring.len(), 49_994);
+    assert!(rt; ring.cell(1));
+    let mut stream = MemorySink::new(alloc, ROOM, Vec::new(alloc))?;
+    assert!(rt; write_track(&ring, 98416, &mut stream).is_ok());
+
+    let track = decode_first(&rt, alloc, Format::AppleDo, &stream)?;
+    assert!(rt;
+        track
+            .notes
+            .bytes()
+            .starts_with(b"00.0 00 good 4 0 1 12826\n")
+    );
+    assert_eq!(rt;
+        first_lines(track.notes.bytes(), 16).len(),
+        track.notes.bytes().len()
+    );
+    assert!(rt; track.image.bytes() == content.as_slice());
+    Ok(())
+}
