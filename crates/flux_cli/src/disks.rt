@@ -7,10 +7,9 @@ ghost use Rattle.flux_cli.specs.Takes.{TakesAs};
 ghost use Rattle.flux_cli.specs.declared.command.Command.TheVariants.{Decode, Report};
 ghost use Rattle.flux_engine.specs.Room.{fresh};
 
-use crate::line::write_line;
 use flux_base::{CountingSink, Sink, Source, Status};
 use flux_engine::{DiskRoom, EngineFault, decode_disk};
-use sector_report::{Totals, refused_line};
+use sector_report::{Totals, refused_line, write_line};
 
 /// Decodes a disk: its image goes to `image`, and its report to `notes`.
 pub fn decode<S: Source, W: Sink, N: Sink>(

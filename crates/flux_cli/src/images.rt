@@ -5,10 +5,9 @@ ghost use Rattle.flux_cli.specs.Stops.{StopsAs};
 ghost use Rattle.flux_cli.specs.Takes.{TakesAs};
 ghost use Rattle.flux_cli.specs.declared.command.Command.TheVariants.{Write};
 
-use crate::line::write_line;
 use flux_base::{Sink, Source, Status};
 use flux_engine::{WriteFault, WriteRoom, write_disk};
-use sector_report::image_line;
+use sector_report::{image_line, write_line};
 
 /// Reads an image, and writes the streams of its tracks to `image`.
 pub fn write<S: Source, W: Sink, N: Sink>(

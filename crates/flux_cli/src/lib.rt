@@ -5,7 +5,6 @@ mod command;
 mod disks;
 mod images;
 mod laws;
-mod line;
 mod program;
 mod standard;
 mod turns;

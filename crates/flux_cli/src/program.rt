@@ -12,13 +12,12 @@ ghost use Rattle.flux_cli.specs.declared.command.Command.TheVariants.{Turns};
 use crate::command::{Command, command_of};
 use crate::disks::{decode, report};
 use crate::images::write;
-use crate::line::write_line;
 use crate::turns::write_turns;
 use flux_base::{Memory, Sink, Source, Status, Word, write_whole};
 use flux_engine::{DiskRoom, WriteRoom};
 use index_turns::TrackFlux;
 use kryo_stream::{Intake, MOST_INDEXES, MOST_TIMES, StreamBench, TrackFault, read_track};
-use sector_report::{refused_line, usage_line};
+use sector_report::{refused_line, usage_line, write_line};
 use std::alloc::Global;
 
 /// Runs the program over its words, without the program's name. Bytes of images go to `image`, and lines

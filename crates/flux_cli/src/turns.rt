@@ -3,10 +3,9 @@ ghost use Rattle.std.specs.Io.KnownBytes.{Appends};
 ghost use Rattle.flux_base.specs.Outside.{Rose, AppendsPart};
 ghost use Rattle.flux_cli.specs.Turns.{turn_lines, turns_text};
 
-use crate::line::write_line;
 use flux_base::{Failed, Sink};
 use index_turns::TrackFlux;
-use sector_report::{transitions_line, turn_line};
+use sector_report::{transitions_line, turn_line, write_line};
 
 /// Writes how many transitions a stream has, and a line for each of its turns.
 pub fn write_turns<W: Sink>(flux: &TrackFlux, sink: &mut W) -> Result<(), Failed>

@@ -8,10 +8,10 @@ ghost use Rattle.sector_images.specs.Places.{tracks};
 use crate::fault::EngineFault;
 use crate::room::DiskRoom;
 use crate::track::decode_track;
-use crate::writing::{no_totals, write_line};
+use crate::writing::no_totals;
 use flux_base::{Sink, Source};
 use sector_images::track_count;
-use sector_report::{Totals, total_line};
+use sector_report::{Totals, total_line, write_line};
 
 /// Decodes all tracks of a disk in order, as `decode_track` does each, and then writes the total line to
 /// `notes`. It takes no memory.

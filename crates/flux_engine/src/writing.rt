@@ -15,7 +15,7 @@ use crate::recordings::sectors_of;
 use crate::sectors::Sectors;
 use flux_base::{Failed, Sink, TrackId, write_whole};
 use sector_images::{Format, image_sector};
-use sector_report::{Line, Totals, sector_line};
+use sector_report::{Totals, sector_line, write_line};
 use turn_merge::{Book, Verdict};
 
 /// The bytes of a sector that has no good verdict.
@@ -86,16 +86,6 @@ pub(crate) fn write_lines<N: Sink>(
         }
     }
     Ok(totals)
-}
-
-/// Hands a line to a sink, in one piece. After `Failed` a part of it was written.
-pub(crate) fn write_line<N: Sink>(notes: &mut N, line: &Line) -> Result<(), Failed>
-    ensures ok { OnOk result (Appends (N.written notes.old) (N.written notes.new) line.now.bytes) }
-    ensures err { OnErr result (AppendsPart (N.written notes.old) (N.written notes.new) line.now.bytes) }
-    ensures later { N.faults notes.old ≤ N.faults notes.new }
-    ensures cause { OnErr result (Rose (N.faults notes.old) (N.faults notes.new)) }
-{
-    write_whole(notes, line.as_str().as_bytes())
 }
 
 /// The totals of no sector.

@@ -8,7 +8,7 @@ mod stream_lines;
 mod totals;
 mod usage;
 
-pub use line::Line;
+pub use line::{Line, write_line};
 pub use refused::{image_line, refused_line};
 pub use sector_lines::{sector_line, total_line};
 pub use stream_lines::{transitions_line, turn_line};
