@@ -1,2 +1,3 @@
+pub mod AllReadings
 pub mod Shifts
 pub mod Skips

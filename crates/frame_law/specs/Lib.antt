@@ -1,3 +1,4 @@
+pub mod Laws
 pub mod Readings
 pub mod Rings
 pub mod Stretches

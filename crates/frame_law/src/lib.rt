@@ -4,11 +4,13 @@
 #![tactic(auto)]
 
 mod cells_from;
+mod laws;
 mod reading;
 mod recording;
 mod search;
 
 pub use cells_from::CellsFrom;
+pub use laws::readings_are_all;
 pub use reading::{Reading, SectorBuffer};
 pub use recording::Recording;
 pub use search::next_reading;

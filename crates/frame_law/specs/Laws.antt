@@ -1,0 +1,43 @@
+-- What the readings of a list of cells are: all that stands there from a place on, and nothing else.
+use Rattle.std.specs.Prelude.{◌≡◌, ℕ, ◌<◌, ◌≤◌, ◌↔◌, Bool, List, [], length, drop, map, All, Contains}
+use Rattle.std.specs.List.Sorted.{IsStrictlyIncreasing}
+use Rattle.frame_law.specs.declared.reading.Reading.{Reading}
+use Rattle.frame_law.specs.declared.reading.Reading.TheVariants.{Nothing, Bad, Good}
+use Rattle.frame_law.specs.Readings.{AreReadings}
+
+-- a place, what is read there, and the bytes that go with it
+abbrev pub Found : Type 0
+Found = ℕ × Reading × List ℕ
+
+-- the places of all that is found, in its order
+abbrev pub places : List Found → List ℕ
+places found = map (λ f. f.0) found
+
+module _ (header : List Bool → ℕ → Type 0) (sector : List Bool → ℕ → List ℕ → Type 0) (cells : List Bool) where
+  -- the header of some sector stands at the place
+  abbrev pub HasHeader : ℕ → Type 0
+  HasHeader place = (s : ℕ) × header (drop place cells) s
+
+  -- this sector stands whole at the place, with these bytes
+  abbrev pub HasSector : ℕ → ℕ → List ℕ → Type 0
+  HasSector place s bytes = sector (drop place cells) s bytes
+
+  -- this sector's header stands at the place, and no whole sector does
+  abbrev pub HasHeaderOnly : ℕ → ℕ → Type 0
+  HasHeaderOnly place s = header (drop place cells) s × ((t : ℕ) (bytes : List ℕ) → ¬ HasSector place t bytes)
+
+  -- Their places rise strictly, are at least `from`, and lie in the cells. From there on a place is among them exactly where
+  -- a header stands; there a good sector is found with its bytes exactly where the sector stands whole with these bytes, and
+  -- a bad one, with no bytes, exactly where its header alone stands. Nothing is never among them.
+  pub record AreAllFrom (from : ℕ) (found : List Found) : Type 0 where
+    pub rise : IsStrictlyIncreasing (places found)
+    pub inside : All (λ place. (from ≤ place) × (place < length cells)) (places found)
+    pub headers : (place : ℕ) → from ≤ place → Contains (places found) place ↔ HasHeader place
+    pub good : (place s : ℕ) (bytes : List ℕ) → from ≤ place → Contains found (place, Good s, bytes) ↔ HasSector place s bytes
+    pub bad : (place s : ℕ) (bytes : List ℕ) → from ≤ place → Contains found (place, Bad s, bytes) ↔ ((bytes ≡ []) × HasHeaderOnly place s)
+    pub no_other : (place : ℕ) (bytes : List ℕ) → ¬ Contains found (place, Nothing, bytes)
+
+-- what repeated searches find, in any cells and from any place on, is all that stands there
+abbrev pub ReadingsAreAll : (List Bool → ℕ → Type 0) → (List Bool → ℕ → List ℕ → Type 0) → Type 0
+ReadingsAreAll header sector = (cells : List Bool) (from : ℕ) (found : List Found) → AreReadings header sector cells from found
+    → AreAllFrom header sector cells from found
