@@ -1,13 +1,13 @@
--- A list of readings is all that stands in the cells.
-use Rattle.std.specs.Prelude.{◌≡◌, ◌≢◌, ℕ, zero, suc, ◌+◌, ◌<◌, ◌≤◌, Bool, List, [], ◌∷◌, length, drop, Contains, refl}
+-- A list is that of the readings exactly where it is all that stands in the cells.
+use Rattle.std.specs.Prelude.{◌≡◌, ◌≢◌, ℕ, zero, suc, ◌+◌, ◌<◌, ◌≤◌, Bool, List, [], ◌∷◌, length, drop, Contains, refl, slice_index, Some}
 use Rattle.std.specs.List.Sorted.{IsStrictlyIncreasing}
 use Rattle.std.proofs.Common.{ap, sym, subst, ◌∙◌, arith, length-drop, inl, inr, ◌⊎◌}
 use Rattle.std.proofs.lemmas.Bool.{cases_lt}
-use Rattle.std.proofs.lemmas.List.Elements.{All-weaker, All-contains_itself}
+use Rattle.std.proofs.lemmas.List.Elements.{All-contains, All-weaker, All-contains_itself}
 use Rattle.frame_law.specs.declared.reading.Reading.{Reading}
 use Rattle.frame_law.specs.declared.reading.Reading.TheVariants.{Nothing, Bad, Good}
 use Rattle.frame_law.specs.Laws.{Found, places, HasHeader, AreAllFrom}
-use Rattle.frame_law.specs.Readings.{Reads, AreReadings}
+use Rattle.frame_law.specs.Readings.{Reads, AreReadings, FirstReading}
 
 contains_first : {X : Type 0} (x : X) (xs : List X) → Contains (x ∷ xs) x
 contains_first x xs = (0, omega arith, refl)
@@ -43,6 +43,28 @@ good_some {s} same = cc
 
 bad_some : {s : ℕ} → Bad s ≢ Nothing
 bad_some {s} same = cc
+
+behind_first : (f g : Found) (rest : List Found) → f.0 < g.0 → Contains (f ∷ rest) g → Contains rest g
+behind_first f g rest above has =
+    elim (contains_cases f g rest has) [
+      | inl same ↦ absurd (let e = ap (λ (h : Found). h.0) same in omega (arith, above, e))
+      | inr later ↦ later
+    ]
+
+rise_behind : (x : ℕ) (xs : List ℕ) → IsStrictlyIncreasing (x ∷ xs) → IsStrictlyIncreasing xs
+rise_behind x xs rise k within =
+    let e : suc k + 1 ≡ suc (k + 1) = omega arith in
+    let step : slice_index xs k < slice_index (x ∷ xs) (suc k + 1) = rise (suc k) (omega (arith, within)) in
+    subst (λ (n : ℕ). slice_index xs k < slice_index (x ∷ xs) n) e step
+
+rise_above : (x : ℕ) (xs : List ℕ) → IsStrictlyIncreasing (x ∷ xs) → (y : ℕ) → Contains xs y → x < y
+rise_above x [] rise y has = absurd (omega (arith, has.1))
+rise_above x (z ∷ zs) rise y has =
+    let next : x < z = rise 0 (omega arith) in
+    elim (contains_cases z y zs has) [
+      | inl same ↦ subst (λ (n : ℕ). x < n) same next
+      | inr later ↦ (let more = rise_above z zs (rise_behind x (z ∷ zs) rise) y later in omega (arith, next, more))
+    ]
 
 module _ (header : List Bool → ℕ → Type 0) (sector : List Bool → ℕ → List ℕ → Type 0)
     (has_cells : (cells : List Bool) (s : ℕ) → header cells s → 0 < length cells)
@@ -151,3 +173,70 @@ module _ (header : List Bool → ℕ → Type 0) (sector : List Bool → ℕ →
       );
       no_other = λ place bytes has. (there from found all (let f : Found = (place, Nothing, bytes) in f) has).some refl;
     }
+
+module _ (header : List Bool → ℕ → Type 0) (sector : List Bool → ℕ → List ℕ → Type 0) (cells : List Bool) where
+  is_read : (from : ℕ) (found : List Found) → AreAllFrom header sector cells from found → (place : ℕ) (reading : Reading) (bytes : List ℕ)
+      → from ≤ place → Contains found (place, reading, bytes)
+      → (reading ≢ Nothing) × Reads (header (drop place cells)) (sector (drop place cells)) reading bytes
+  is_read from found all place Nothing bytes least has = absurd (all.no_other place bytes has)
+  is_read from found all place (Bad s) bytes least has =
+      let here = (all.bad place s bytes least).0 has in
+      (bad_some, (here.0, here.1.0, here.1.1))
+  is_read from found all place (Good s) bytes least has = (good_some, (all.good place s bytes least).0 has)
+
+  least_of : (from : ℕ) (f : Found) (rest : List Found) → AreAllFrom header sector cells from (f ∷ rest) → from ≤ f.0
+  least_of from f rest all = (all.inside 0 0 (omega arith)).0
+
+  -- the first of all that stands is the first reading
+  is_first : (from : ℕ) (f : Found) (rest : List Found) → AreAllFrom header sector cells from (f ∷ rest)
+      → FirstReading header sector cells from (Some (f.0, f.1)) f.2
+  is_first from f rest all =
+      let least = least_of from f rest all in
+      let read = is_read from (f ∷ rest) all f.0 f.1 f.2 least (contains_first f rest) in (
+        least,
+        λ place s low before here.
+            elim (contains_cases f.0 place (places rest) ((all.headers place low).1 (s, here))) [
+              | inl same ↦ omega (arith, same, before)
+              | inr later ↦ (let above = rise_above f.0 (places rest) all.rise place later in omega (arith, above, before))
+            ],
+        read.0,
+        read.1,
+      )
+
+  -- and the others are all that stands behind it
+  are_behind : (from : ℕ) (f : Found) (rest : List Found) → AreAllFrom header sector cells from (f ∷ rest)
+      → AreAllFrom header sector cells (f.0 + 1) rest
+  are_behind from f rest all =
+      let first = least_of from f rest all in
+      let low : (place : ℕ) → f.0 + 1 ≤ place → from ≤ place = λ place above. omega (arith, first, above) in
+      record {
+        rise = rise_behind f.0 (places rest) all.rise;
+        inside = All-weaker (Contains (places rest)) (λ (place : ℕ). (f.0 + 1 ≤ place) × (place < length cells))
+            (λ place has. (
+              (let above = rise_above f.0 (places rest) all.rise place has in omega (arith, above)),
+              (All-contains (λ (n : ℕ). (from ≤ n) × (n < length cells)) (f.0 ∷ places rest) place all.inside
+                  (contains_later f.0 place (places rest) has)).1,
+            ))
+            (places rest) (All-contains_itself (places rest));
+        headers = λ place above. (
+          λ has. (all.headers place (low place above)).0 (contains_later f.0 place (places rest) has),
+          λ here. elim (contains_cases f.0 place (places rest) ((all.headers place (low place above)).1 here)) [
+            | inl same ↦ absurd (omega (arith, same, above))
+            | inr later ↦ later
+          ],
+        );
+        good = λ place s bytes above. (
+            let g : Found = (place, Good s, bytes) in
+            let good = all.good place s bytes (low place above) in
+            (λ has. good.0 (contains_later f g rest has), λ here. behind_first f g rest (omega (arith, above)) (good.1 here)));
+        bad = λ place s bytes above. (
+            let g : Found = (place, Bad s, bytes) in
+            let bad = all.bad place s bytes (low place above) in
+            (λ has. bad.0 (contains_later f g rest has), λ here. behind_first f g rest (omega (arith, above)) (bad.1 here)));
+        no_other = λ place bytes has. all.no_other place bytes (contains_later f (let g : Found = (place, Nothing, bytes) in g) rest has);
+      }
+
+  pub readings_from : (from : ℕ) (found : List Found) → AreAllFrom header sector cells from found → AreReadings header sector cells from found
+  readings_from from [] all = (refl, λ to place s least below here. (let has = (all.headers place least).1 (s, here) in omega (arith, has.1)))
+  readings_from from (f ∷ rest) all =
+      (is_first from f rest all, readings_from (f.0 + 1) rest (are_behind from f rest all))

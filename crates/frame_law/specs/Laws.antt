@@ -37,7 +37,7 @@ module _ (header : List Bool → ℕ → Type 0) (sector : List Bool → ℕ →
     pub bad : (place s : ℕ) (bytes : List ℕ) → from ≤ place → Contains found (place, Bad s, bytes) ↔ ((bytes ≡ []) × HasHeaderOnly place s)
     pub no_other : (place : ℕ) (bytes : List ℕ) → ¬ Contains found (place, Nothing, bytes)
 
--- what repeated searches find, in any cells and from any place on, is all that stands there
+-- in any cells and from any place on, a list is what repeated searches find exactly where it is all that stands there
 abbrev pub ReadingsAreAll : (List Bool → ℕ → Type 0) → (List Bool → ℕ → List ℕ → Type 0) → Type 0
-ReadingsAreAll header sector = (cells : List Bool) (from : ℕ) (found : List Found) → AreReadings header sector cells from found
-    → AreAllFrom header sector cells from found
+ReadingsAreAll header sector = (cells : List Bool) (from : ℕ) (found : List Found)
+    → AreReadings header sector cells from found ↔ AreAllFrom header sector cells from found

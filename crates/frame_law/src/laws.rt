@@ -5,7 +5,8 @@ ghost use Rattle.frame_law.specs.Laws.{ReadingsAreAll};
 use crate::Recording;
 use flux_base::TrackId;
 
-/// The readings that repeated searches find in a list of cells, by rising place, are all that stands there.
+/// A list is that of the readings that repeated searches find in a list of cells exactly where it is all that
+/// stands there.
 pub fn readings_are_all<R: Recording>(recording: &R, track: TrackId)
     ensures { ReadingsAreAll (R.header_at recording.now track) (R.sector_at recording.now track) }
 {}
