@@ -5,6 +5,7 @@ use Rattle.std.proofs.lemmas.List.{length-map, length-take}
 use Rattle.std.specs.List.{range_with_len}
 use Rattle.flux_base.specs.declared.track.TrackId.{TrackId}
 use Rattle.frame_law.specs.Rings.{bytes_of}
+use Rattle.frame_law.specs.SectorParts.{sectors-length}
 use Rattle.mfm_coding.specs.declared.symbol.Symbol.TheVariants.{Data}
 use Rattle.mfm_coding.specs.CodingLaws.{length-coded}
 use Rattle.amiga_mfm.specs.declared.half.Half.TheVariants.{Odd, Even}
@@ -83,12 +84,8 @@ length-sector_symbols track bytes sector whole within =
 -- so many sectors in a row
 pub length-sectors : (track : TrackId) (bytes : List ℕ) (first count : ℕ) → length bytes ≡ 11 * 512 → first + count ≤ 11
     → length (flat_map (sector_symbols track bytes) (range_with_len first count)) ≡ count * 544
-length-sectors track bytes first zero whole within = refl
-length-sectors track bytes first (suc count) whole within =
-    let e = length-append (sector_symbols track bytes first) (flat_map (sector_symbols track bytes) (range_with_len (first + 1) count)) in
-    let one = length-sector_symbols track bytes first whole (omega arith) in
-    let more = length-sectors track bytes (first + 1) count whole (omega arith) in
-    omega (arith, e, one, more)
+length-sectors track bytes first count whole within =
+    sectors-length (sector_symbols track bytes) 544 first count (λ s least most. length-sector_symbols track bytes s whole (omega arith))
 
 length-ring_symbols : (track : TrackId) (bytes : List ℕ) → length bytes ≡ 11 * 512 → length (ring_symbols track bytes) ≡ 6250
 unfolding ring_symbols sectors_symbols sector_numbers

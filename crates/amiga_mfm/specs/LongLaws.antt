@@ -1,11 +1,10 @@
 -- Longs read back where their halves are written.
 use Rattle.std.specs.Prelude.{◌≡◌, ℕ, zero, suc, ◌+◌, ◌-◌, ◌*◌, ◌/◌, ◌^◌, ◌<◌, ◌≤◌, Bool, List, [], ◌∷◌, ◌++◌, length, take, drop, map, refl}
 use Rattle.std.proofs.Common.{ap, sym, ◌∙◌, arith, append_assoc, length-append, mod-eq_of_lt}
-use Rattle.std.proofs.lemmas.List.{take-append-le}
-use Rattle.std.proofs.Math.Seq.{drop-append-add}
 use Rattle.cell_bits.specs.Bytes.{data_byte, data_cells, mfm, mfm_cells}
 use Rattle.cell_bits.specs.Word.{number_of, word, word_cells}
 use Rattle.cell_bits.specs.WordLaws.{length-word_cells, number_of-word_cells, word_cells-number_of}
+use Rattle.frame_law.specs.Parts.{take-first, word-past}
 use Rattle.mfm_coding.specs.declared.symbol.Symbol.{Symbol}
 use Rattle.mfm_coding.specs.declared.symbol.Symbol.TheVariants.{Data}
 use Rattle.mfm_coding.specs.Coding.{coded, low_bit, symbol_cells}
@@ -15,30 +14,13 @@ use Rattle.amiga_mfm.specs.Layout.{halves_symbols}
 use Rattle.amiga_mfm.specs.Longs.{half_bytes, half_of, halves, long_at, longs_at, raw_longs, without_clocks}
 use Rattle.amiga_mfm.specs.Masks.{halves-joined, same-data, without_clocks-twice}
 
-drop-past : (xs ys : List Bool) (size offset : ℕ) → length xs ≡ size → drop (size + offset) (xs ++ ys) ≡ drop offset ys
-drop-past xs ys size offset is =
-    ap (λ (n : ℕ). drop (n + offset) (xs ++ ys)) (sym is) ∙ drop-append-add xs ys offset
-
-take-whole : (xs : List Bool) → take (length xs) xs ≡ xs
-take-whole [] = refl
-take-whole (x ∷ xs) = ap (λ (rest : List Bool). x ∷ rest) (take-whole xs)
-
-take-first : (xs ys : List Bool) (size : ℕ) → length xs ≡ size → take size (xs ++ ys) ≡ xs
-take-first xs ys size is =
-    let within : size ≤ length xs = omega arith in
-    take-append-le size xs ys within ∙ ap (λ (n : ℕ). take n xs) (sym is) ∙ take-whole xs
-
 -- numbers of 32 cells behind a part of known length
-word-past : (xs ys : List Bool) (size offset : ℕ) → length xs ≡ size → word (xs ++ ys) (size + offset) 32 ≡ word ys offset 32
-unfolding word
-word-past xs ys size offset is = ap (λ (cells : List Bool). number_of (take 32 cells)) (drop-past xs ys size offset is)
-
 raw-past : (xs ys : List Bool) (size offset count : ℕ) → length xs ≡ size → raw_longs (xs ++ ys) (size + offset) count ≡ raw_longs ys offset count
 unfolding raw_longs
 raw-past xs ys size offset zero is = refl
 raw-past xs ys size offset (suc count) is =
     let e : size + offset + 32 ≡ size + (offset + 32) = omega arith in
-    ap (λ (raw : ℕ). raw ∷ raw_longs (xs ++ ys) (size + offset + 32) count) (word-past xs ys size offset is)
+    ap (λ (raw : ℕ). raw ∷ raw_longs (xs ++ ys) (size + offset + 32) count) (word-past xs ys size offset 32 is)
     ∙ ap (λ (rest : List ℕ). word ys offset 32 ∷ rest)
     (ap (λ (n : ℕ). raw_longs (xs ++ ys) n count) e ∙ raw-past xs ys size (offset + 32) count is)
 

@@ -1,6 +1,6 @@
 -- The laws of the ring: its length, its ones, and that its sectors stand in every stretch of its repetition.
-use Rattle.std.specs.Prelude.{◌≡◌, ℕ, zero, suc, ◌+◌, ◌-◌, ◌*◌, ◌%◌, ◌<◌, ◌≤◌, Bool, true, false, List, [], ◌∷◌, ◌++◌, length, take, drop, flat_map, map, replicate, get_or, refl}
-use Rattle.std.proofs.Common.{ap, sym, subst, ◌∙◌, arith, append-nil, append_assoc, length-append, get_or-drop, lit<}
+use Rattle.std.specs.Prelude.{◌≡◌, ℕ, ◌+◌, ◌-◌, ◌*◌, ◌<◌, ◌≤◌, Bool, true, false, List, [], ◌∷◌, ◌++◌, length, drop, flat_map, map, replicate, get_or, refl}
+use Rattle.std.proofs.Common.{ap, sym, subst, ◌∙◌, arith, append-nil, append_assoc, length-append}
 use Rattle.std.proofs.lemmas.List.{map-append}
 use Rattle.std.proofs.lemmas.List.Concat.{flat_map-append}
 use Rattle.std.specs.List.{range_with_len}
@@ -9,12 +9,13 @@ use Rattle.cell_bits.specs.Broken.{Unbroken}
 use Rattle.cell_bits.specs.Bytes.{data_byte, data_cells, mfm, mfm_cells}
 use Rattle.cell_bits.specs.Word.{number_of, word_cells}
 use Rattle.frame_law.specs.Rings.{AreSectors, IsSectorNumber, IsSpaced, LiesAt, bytes_of, stretch}
-use Rattle.frame_law.specs.Stretches.{drop-stretch, stretch-part}
+use Rattle.frame_law.specs.SectorParts.{bytes_of-fit, sectors-parts}
+use Rattle.frame_law.specs.Stretches.{frame-stands}
 use Rattle.mfm_coding.specs.declared.symbol.Symbol.{Symbol}
 use Rattle.mfm_coding.specs.declared.symbol.Symbol.TheVariants.{Data}
 use Rattle.mfm_coding.specs.Coding.{coded, symbol_cells}
-use Rattle.mfm_coding.specs.CodingLaws.{coded-append, last_bit, last_bit-append, length-coded}
-use Rattle.mfm_coding.specs.Spacing.{AreApart, apart-coded, apart-spaced, apart-unbroken}
+use Rattle.mfm_coding.specs.CodingLaws.{coded-parts, last_bit, last_bit-append, length-coded}
+use Rattle.mfm_coding.specs.Spacing.{apart-coded, apart-unbroken, coded-spaced}
 use Rattle.amiga_mfm.specs.FrameLaws.{frame_of, frame_stands, frame_symbols, header_halves, length-frame_of, marks}
 use Rattle.amiga_mfm.specs.Layout.{RING_CELLS, check_of_data, check_of_header, halves_symbols, info_of, label, lead_out, longs_symbols, pieces_symbols, place_of, ring_of, ring_symbols, sector_numbers, sector_symbols, sectors_symbols}
 use Rattle.amiga_mfm.specs.Lengths.{length-bytes_of, length-lead_out, length-longs, length-ring_of, length-sectors}
@@ -35,14 +36,6 @@ ring_bit track bytes =
     last_bit-append false (sectors_symbols track bytes) (pieces_symbols track 0 [] lead_out)
     ∙ lead_out-bit (last_bit false (sectors_symbols track bytes)) track
 
--- two rings, one behind the other, are coded like one
-twice : (track : TrackId) (bytes : List ℕ) → coded false (ring_symbols track bytes ++ ring_symbols track bytes) ≡ ring_of track bytes ++ ring_of track bytes
-unfolding ring_of
-twice track bytes =
-    let symbols = ring_symbols track bytes in
-    coded-append false symbols symbols
-    ∙ ap (λ (bit : Bool). coded false symbols ++ coded bit symbols) (ring_bit track bytes)
-
 first_one : (track : TrackId) (bytes : List ℕ) → get_or (ring_of track bytes) 0 false ≡ true
 unfolding ring_of ring_symbols sectors_symbols sector_numbers sector_symbols pieces_symbols coded symbol_cells mfm mfm_cells word_cells
 first_one track bytes = refl
@@ -55,10 +48,8 @@ least_length track bytes =
     omega (arith, length-coded false (first ++ last), length-append first last, length-lead_out track)
 
 pub ring_spaced : (track : TrackId) (bytes : List ℕ) → IsSpaced 2 4 (ring_of track bytes)
-ring_spaced track bytes =
-    apart-spaced (ring_of track bytes)
-    (subst (AreApart 1) (twice track bytes) (apart-coded (ring_symbols track bytes ++ ring_symbols track bytes)))
-    (least_length track bytes) (first_one track bytes)
+unfolding ring_of
+ring_spaced track bytes = coded-spaced (ring_symbols track bytes) (ring_bit track bytes) (least_length track bytes) (first_one track bytes)
 
 pub frame_whole : (track : TrackId) (bytes : List ℕ) (s : ℕ) → IsSectorNumber 0 11 s
     → (place_of s + FRAME_CELLS ≤ RING_CELLS) × Unbroken (ring_of track bytes) (place_of s) (place_of s + FRAME_CELLS)
@@ -109,21 +100,6 @@ sector_parts track bytes s =
     ap (λ (symbols : List Symbol). replicate 2 (Data 0x00) ++ symbols)
     (sym (symbols_of_frame (info_of track s) (longs_of (bytes_of 0 512 bytes s))))
 
--- numbers up to one of them, it, and those behind it
-range-parts : (first before behind : ℕ)
-    → range_with_len first (before + suc behind) ≡ range_with_len first before ++ (first + before) ∷ range_with_len (first + before + 1) behind
-range-parts first zero behind =
-    let e : 0 + suc behind ≡ suc behind = omega arith in
-    let n : first ≡ first + 0 = omega arith in
-    ap (range_with_len first) e ∙ ap (λ (number : ℕ). number ∷ range_with_len (number + 1) behind) n
-range-parts first (suc before) behind =
-    let e : suc before + suc behind ≡ suc (before + suc behind) = omega arith in
-    let n : first + 1 + before ≡ first + suc before = omega arith in
-    ap (range_with_len first) e
-    ∙ ap (λ (numbers : List ℕ). first ∷ numbers)
-    (range-parts (first + 1) before behind
-    ∙ ap (λ (number : ℕ). range_with_len (first + 1) before ++ number ∷ range_with_len (number + 1) behind) n)
-
 sectors_before : TrackId → List ℕ → ℕ → List Symbol
 sectors_before track bytes s = flat_map (sector_symbols track bytes) (range_with_len 0 s)
 
@@ -133,14 +109,7 @@ sectors_behind track bytes s = flat_map (sector_symbols track bytes) (range_with
 sectors_parts : (track : TrackId) (bytes : List ℕ) (s : ℕ) → s < 11
     → sectors_symbols track bytes ≡ sectors_before track bytes s ++ (sector_symbols track bytes s ++ sectors_behind track bytes s)
 unfolding sectors_symbols sector_numbers sectors_before sectors_behind
-sectors_parts track bytes s within =
-    let f = sector_symbols track bytes in
-    let count : 11 ≡ s + suc (10 - s) = omega arith in
-    let number : 0 + s ≡ s = omega arith in
-    ap (λ (n : ℕ). flat_map f (range_with_len 0 n)) count
-    ∙ ap (flat_map f)
-    (range-parts 0 s (10 - s) ∙ ap (λ (n : ℕ). range_with_len 0 s ++ n ∷ range_with_len (n + 1) (10 - s)) number)
-    ∙ flat_map-append f (range_with_len 0 s) (s ∷ range_with_len (s + 1) (10 - s))
+sectors_parts track bytes s within = sectors-parts (sector_symbols track bytes) 0 11 s s (10 - s) (omega arith) (omega arith)
 
 before_in_ring : TrackId → List ℕ → ℕ → List Symbol
 before_in_ring track bytes s = sectors_before track bytes s ++ before_frame
@@ -184,8 +153,7 @@ ring_parts track bytes s within =
     let bit = last_bit false before in
     let rest = coded (last_bit bit frame) behind in
     ap (coded false) (symbols_parts track bytes s within)
-    ∙ coded-append false before (frame ++ behind)
-    ∙ ap (λ (cells : List Bool). coded false before ++ cells) (coded-append bit frame behind)
+    ∙ coded-parts before frame behind
     ∙ ap (λ (cells : List Bool). coded false before ++ (cells ++ rest)) (frame_cells bit (info_of track s) (longs_of (bytes_of 0 512 bytes s)))
 
 length-cells_before : (track : TrackId) (bytes : List ℕ) (s : ℕ) → length bytes ≡ 11 * 512 → s < 11 → length (cells_before track bytes s) ≡ place_of s
@@ -200,16 +168,6 @@ length-cells_before track bytes s whole within =
       length-sectors track bytes 0 s whole (omega arith),
     )
 
--- the bytes of a sector are bytes
-take-fits : (count : ℕ) (bytes : List ℕ) → ((k : ℕ) → get_or bytes k 0 < 256) → (k : ℕ) → get_or (take count bytes) k 0 < 256
-take-fits zero bytes fit k = lit< tt
-take-fits (suc count) [] fit k = lit< tt
-take-fits (suc count) (byte ∷ bytes) fit zero = fit 0
-take-fits (suc count) (byte ∷ bytes) fit (suc k) = take-fits count bytes (λ i. fit (suc i)) k
-
-drop-fits : (count : ℕ) (bytes : List ℕ) → ((k : ℕ) → get_or bytes k 0 < 256) → (k : ℕ) → get_or (drop count bytes) k 0 < 256
-drop-fits count bytes fit k = subst (λ (byte : ℕ). byte < 256) (sym (get_or-drop count bytes k 0)) (fit (count + k))
-
 -- in every stretch of the repeated ring, each sector whose frame lies in it stands
 pub sector_stands : (track : TrackId) (bytes : List ℕ) (s from count place : ℕ) → IsTrack track → AreSectors 11 512 bytes → IsSectorNumber 0 11 s
     → LiesAt RING_CELLS (place_of s) FRAME_CELLS from count place
@@ -220,16 +178,9 @@ sector_stands track bytes s from count place known all number lies =
     let frame = frame_of (info_of track s) (longs_of content) in
     let size : length content ≡ 512 = length-bytes_of bytes s all.whole number.most in
     let frame_size : length frame ≡ 8672 = length-frame_of (info_of track s) (longs_of content) (length-longs bytes s all.whole number.most) in
-    let here : (from + place) % length ring ≡ length (cells_before track bytes s) =
-    ap (λ (n : ℕ). (from + place) % n) (length-ring_of track bytes all.whole)
-    ∙ lies.same ∙ sym (length-cells_before track bytes s all.whole number.most) in
-    let within : place ≤ count = omega (arith, lies.whole) in
-    let room : length frame ≤ count - place = omega (arith, lies.whole, frame_size) in
-    let rest = stretch ring (from + place + length frame) (count - place - length frame) in
-    let apart : drop place (stretch ring from count) ≡ frame ++ rest =
-    drop-stretch place ring from count within
-    ∙ stretch-part frame ring (cells_before track bytes s) (cells_behind track bytes s) (from + place) (count - place)
-    (ring_parts track bytes s number.most) (λ some. here) room in
-    let fit = take-fits 512 (drop ((s - 0) * 512) bytes) (drop-fits ((s - 0) * 512) bytes all.fit) in
-    subst (λ (cells : List Bool). SectorStands track cells s content) (sym apart)
-    (frame_stands track s content rest known number.most fit size)
+    let apart =
+    frame-stands (cells_before track bytes s) frame (cells_behind track bytes s) ring RING_CELLS (place_of s) FRAME_CELLS from count place
+    (ring_parts track bytes s number.most) (length-ring_of track bytes all.whole)
+    (length-cells_before track bytes s all.whole number.most) frame_size lies in
+    subst (λ (cells : List Bool). SectorStands track cells s content) (sym apart.1)
+    (frame_stands track s content apart.0 known number.most (bytes_of-fit 0 512 bytes s all.fit) size)

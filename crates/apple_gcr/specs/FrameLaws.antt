@@ -1,5 +1,5 @@
 -- A sector's frame as the ring has it, whatever comes behind it: the sector stands there.
-use Rattle.std.specs.Prelude.{◌≡◌, ℕ, zero, suc, ◌+◌, ◌-◌, ◌*◌, ◌<◌, Bool, true, false, not, ◌&&◌, List, [], ◌∷◌, ◌++◌, length, take, drop, get_or, refl}
+use Rattle.std.specs.Prelude.{◌≡◌, ℕ, ◌+◌, ◌*◌, ◌<◌, Bool, true, List, [], ◌∷◌, ◌++◌, length, take, drop, get_or, refl}
 use Rattle.std.proofs.Common.{ap, sym, subst, ◌∙◌, arith, append_assoc, length-append, lit<, lit≤}
 use Rattle.std.proofs.lemmas.Nat.{xor_of_8}
 use Rattle.std.specs.Int.Bits.{bit_xor}
@@ -7,15 +7,16 @@ use Rattle.std.specs.List.{flat_map}
 use Rattle.flux_base.specs.declared.track.TrackId.{TrackId}
 use Rattle.cell_bits.specs.Word.{number_of, word, word_cells}
 use Rattle.cell_bits.specs.WordLaws.{length-word_cells}
+use Rattle.frame_law.specs.Gaps.{begins, free_of, gap-free}
+use Rattle.frame_law.specs.Parts.{drop-past}
 use Rattle.apple_gcr.specs.FourAndFour.{first_half, four_and_four, second_half}
 use Rattle.apple_gcr.specs.Layout.{EPILOGUE, VOLUME, address_of, self_syncs}
 use Rattle.apple_gcr.specs.NibbleLaws.{IsDiskByte-first_half, IsDiskByte-second_half}
 use Rattle.apple_gcr.specs.Nibbles.{bytes_cells, disk_byte}
-use Rattle.apple_gcr.specs.ReadLaws.{AreDiskBytes, close-bytes, disk_byte-at, disk_byte-past, drop-past, length-bytes_cells}
+use Rattle.apple_gcr.specs.ReadLaws.{AreDiskBytes, close-bytes, disk_byte-at, disk_byte-past, length-bytes_cells}
 use Rattle.apple_gcr.specs.Sectors.{ADDRESS_MARK, DATA_MARK, DATA_SYNC, HeaderStands, IsDataSync, IsTrack, SectorStands, check_of}
 use Rattle.apple_gcr.specs.SixAndTwo.{AreCoded, data_nibbles, values_of}
 use Rattle.apple_gcr.specs.Spacing.{IsClose, IsClose-append, is_close, unbroken-first}
-use Rattle.apple_gcr.specs.Tables.{first_holds, second_holds}
 use Rattle.apple_gcr.specs.ValueLaws.{AreBytes, data_nibbles-are, get_or-data_nibbles, length-data_nibbles, length-values_of, values_of-carry, values_of-fit}
 
 -- an address in 4-and-4
@@ -157,50 +158,9 @@ header_stands track sector rest known few =
       unbroken = unbroken-first (header_cells track sector) rest 88 (close-header track sector known few) (length-header_cells track sector);
     }
 
--- the cells of a word stand at the front
-begins : List Bool → List Bool → Bool
-begins [] cells = true
-begins (cell ∷ word) [] = false
-begins (true ∷ word) (true ∷ cells) = begins word cells
-begins (true ∷ word) (false ∷ cells) = false
-begins (false ∷ word) (true ∷ cells) = false
-begins (false ∷ word) (false ∷ cells) = begins word cells
-
--- the sync stands at none of the first places
-free_of_sync : ℕ → List Bool → Bool
-free_of_sync zero cells = true
-free_of_sync (suc count) [] = true
-free_of_sync (suc count) (cell ∷ cells) = not (begins (word_cells 16 DATA_SYNC) (cell ∷ cells)) && free_of_sync count cells
-
-begins-same : (word cells : List Bool) → take (length word) cells ≡ word → begins word cells ≡ true
-unfolding begins
-begins-same [] cells same = refl
-begins-same (cell ∷ word) [] same = absurd (cc)
-begins-same (true ∷ word) (true ∷ cells) same = begins-same word cells (cc)
-begins-same (true ∷ word) (false ∷ cells) same = absurd (cc)
-begins-same (false ∷ word) (true ∷ cells) same = absurd (cc)
-begins-same (false ∷ word) (false ∷ cells) same = begins-same word cells (cc)
-
-not_true : (b : Bool) → not b ≡ true → ¬ (b ≡ true)
-not_true true holds is = cc
-not_true false holds is = cc
-
-no_sync : (count : ℕ) (cells : List Bool) (place : ℕ) → free_of_sync count cells ≡ true → place < count
-    → ¬ (take 16 (drop place cells) ≡ word_cells 16 DATA_SYNC)
-unfolding free_of_sync word_cells
-no_sync zero cells place free within stands = absurd (omega arith)
-no_sync (suc count) [] zero free within stands = cc
-no_sync (suc count) [] (suc place) free within stands = cc
-no_sync (suc count) (cell ∷ cells) zero free within stands =
-    let here = begins (word_cells 16 DATA_SYNC) (cell ∷ cells) in
-    not_true here (first_holds (not here) (free_of_sync count cells) free) (begins-same (word_cells 16 DATA_SYNC) (cell ∷ cells) stands)
-no_sync (suc count) (cell ∷ cells) (suc place) free within stands =
-    let here = begins (word_cells 16 DATA_SYNC) (cell ∷ cells) in
-    no_sync count cells place (second_holds (not here) (free_of_sync count cells) free) (omega arith) stands
-
 -- in the gap no sync stands, and behind it the data's does, with AD behind it
-gap_free : (rest : List Bool) → free_of_sync 84 (gap_and_mark ++ rest) ≡ true
-unfolding free_of_sync begins gap_and_mark self_syncs word_cells
+gap_free : (rest : List Bool) → free_of (word_cells 16 DATA_SYNC) 84 (gap_and_mark ++ rest) ≡ true
+unfolding free_of begins gap_and_mark self_syncs word_cells
 gap_free rest = refl
 
 gap_sync : (rest : List Bool) → take 16 (drop 84 (gap_and_mark ++ rest)) ≡ word_cells 16 DATA_SYNC
@@ -221,10 +181,7 @@ data_sync track sector rest =
       behind = lit≤ tt;
       near = lit< tt;
       stands = ap (take 16) (drop-past header behind 88 84 size) ∙ gap_sync rest;
-      none_before = λ place above below stands.
-          let e : 88 + (place - 88) ≡ place = omega arith in
-          no_sync 84 behind (place - 88) (gap_free rest) (omega arith)
-          (ap (take 16) (sym (drop-past header behind 88 (place - 88) size) ∙ ap (λ (n : ℕ). drop n (header ++ behind)) e) ∙ stands);
+      none_before = λ place above below. gap-free DATA_SYNC 16 84 header behind 88 place (lit≤ tt) (gap_free rest) size above below;
     }
 
 -- the nibbles stand behind the mark

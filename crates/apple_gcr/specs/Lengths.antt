@@ -8,6 +8,7 @@ use Rattle.flux_base.specs.declared.track.TrackId.{TrackId}
 use Rattle.cell_bits.specs.Word.{word_cells}
 use Rattle.cell_bits.specs.WordLaws.{length-word_cells}
 use Rattle.frame_law.specs.Rings.{bytes_of}
+use Rattle.frame_law.specs.SectorParts.{sectors-length}
 use Rattle.apple_gcr.specs.declared.layout.Piece.{Piece}
 use Rattle.apple_gcr.specs.declared.layout.Piece.TheVariants.{SelfSyncs, Mark, Address, Content}
 use Rattle.apple_gcr.specs.FourAndFour.{first_half, four_and_four, second_half}
@@ -84,10 +85,9 @@ length-sector_cells track bytes sector = length-pieces_cells track sector (bytes
 -- so many sectors in a row
 pub length-sectors : (track : TrackId) (bytes : List ℕ) (first count : ℕ)
     → length (flat_map (sector_cells track bytes) (range_with_len first count)) ≡ 3104 * count
-length-sectors track bytes first zero = refl
-length-sectors track bytes first (suc count) =
-    let e = length-append (sector_cells track bytes first) (flat_map (sector_cells track bytes) (range_with_len (first + 1) count)) in
-    omega (arith, e, length-sector_cells track bytes first, length-sectors track bytes (first + 1) count)
+length-sectors track bytes first count =
+    let e = sectors-length (sector_cells track bytes) 3104 first count (λ s least most. length-sector_cells track bytes s) in
+    omega (arith, e)
 
 pub length-ring_of : (track : TrackId) (bytes : List ℕ) → length (ring_of track bytes) ≡ 49994
 unfolding ring_of sectors_cells sector_numbers

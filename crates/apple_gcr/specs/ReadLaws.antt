@@ -1,11 +1,11 @@
 -- Bytes in a row read back.
 use Rattle.std.specs.Prelude.{◌≡◌, ℕ, zero, suc, ◌+◌, ◌*◌, ◌^◌, ◌<◌, ◌≤◌, Bool, List, [], ◌∷◌, ◌++◌, length, take, drop, map, get_or, refl}
-use Rattle.std.proofs.Common.{ap, sym, ◌∙◌, arith, append_assoc, length-append, lit<}
-use Rattle.std.proofs.lemmas.List.{length-take, take-append-le}
+use Rattle.std.proofs.Common.{ap, ◌∙◌, arith, append_assoc, length-append, lit<}
+use Rattle.std.proofs.lemmas.List.{length-take}
 use Rattle.std.proofs.Math.Nat.{mod-eq_of_lt, pow-le-pow_right}
-use Rattle.std.proofs.Math.Seq.{drop-append-add}
 use Rattle.cell_bits.specs.Word.{number_of, word, word_cells}
 use Rattle.cell_bits.specs.WordLaws.{length-word_cells, number_of-lt, number_of-word_cells}
+use Rattle.frame_law.specs.Parts.{take-first, word-past}
 use Rattle.apple_gcr.specs.NibbleLaws.{IsDiskByte, disk_byte-close, disk_byte-fits}
 use Rattle.apple_gcr.specs.Nibbles.{bytes_cells, disk_byte}
 use Rattle.apple_gcr.specs.Spacing.{IsClose, IsClose-append, is_close}
@@ -31,23 +31,10 @@ length-bytes_cells (byte ∷ bytes) =
     let e = length-append (word_cells 8 byte) (bytes_cells bytes) in
     omega (arith, e, length-word_cells 8 byte, length-bytes_cells bytes)
 
-pub drop-past : (xs ys : List Bool) (size offset : ℕ) → length xs ≡ size → drop (size + offset) (xs ++ ys) ≡ drop offset ys
-drop-past xs ys size offset is =
-    ap (λ (n : ℕ). drop (n + offset) (xs ++ ys)) (sym is) ∙ drop-append-add xs ys offset
-
-take-whole : (xs : List Bool) → take (length xs) xs ≡ xs
-take-whole [] = refl
-take-whole (x ∷ xs) = ap (λ (rest : List Bool). x ∷ rest) (take-whole xs)
-
-take-first : (xs ys : List Bool) (size : ℕ) → length xs ≡ size → take size (xs ++ ys) ≡ xs
-take-first xs ys size is =
-    let within : size ≤ length xs = omega arith in
-    take-append-le size xs ys within ∙ ap (λ (n : ℕ). take n xs) (sym is) ∙ take-whole xs
-
 -- a byte behind a part of known length
 pub disk_byte-past : (xs ys : List Bool) (size offset : ℕ) → length xs ≡ size → disk_byte (xs ++ ys) (size + offset) ≡ disk_byte ys offset
-unfolding disk_byte word
-disk_byte-past xs ys size offset is = ap (λ (cells : List Bool). number_of (take 8 cells)) (drop-past xs ys size offset is)
+unfolding disk_byte
+disk_byte-past xs ys size offset is = word-past xs ys size offset 8 is
 
 -- eight cells are a byte
 pub word-fits : (cells : List Bool) (place : ℕ) → word cells place 8 < 256

@@ -1,15 +1,13 @@
 -- The laws of the ring: its length, its ones, and that its sectors stand in every stretch of its repetition.
-use Rattle.std.specs.Prelude.{◌≡◌, ℕ, zero, suc, ◌+◌, ◌-◌, ◌*◌, ◌%◌, ◌<◌, ◌≤◌, Bool, List, [], ◌∷◌, ◌++◌, length, take, drop, get_or, refl}
-use Rattle.std.proofs.Common.{ap, sym, subst, ◌∙◌, arith, append_assoc, inl, inr, length-append, lit<, lit≤}
-use Rattle.std.proofs.lemmas.Bool.{cases_lt}
-use Rattle.std.proofs.lemmas.List.{get_or-drop, get_or-take, get_or_past, length-take}
-use Rattle.std.proofs.lemmas.List.Concat.{flat_map-append}
+use Rattle.std.specs.Prelude.{◌≡◌, ℕ, zero, suc, ◌+◌, ◌-◌, ◌<◌, ◌≤◌, Bool, List, [], ◌++◌, length, drop, refl}
+use Rattle.std.proofs.Common.{ap, sym, subst, ◌∙◌, arith, append_assoc, length-append, lit≤}
 use Rattle.std.specs.List.{flat_map, range_with_len}
 use Rattle.flux_base.specs.declared.track.TrackId.{TrackId}
 use Rattle.cell_bits.specs.Broken.{Unbroken}
 use Rattle.cell_bits.specs.Word.{word_cells}
 use Rattle.frame_law.specs.Rings.{AreSectors, IsSectorNumber, IsSpaced, LiesAt, bytes_of, stretch}
-use Rattle.frame_law.specs.Stretches.{drop-stretch, stretch-part}
+use Rattle.frame_law.specs.SectorParts.{bytes_of-fit, sectors-parts}
+use Rattle.frame_law.specs.Stretches.{frame-stands}
 use Rattle.apple_gcr.specs.FourAndFour.{four_and_four}
 use Rattle.apple_gcr.specs.FrameLaws.{close-frame, frame_of, frame_stands, gap_and_mark, header_cells, length-frame_of}
 use Rattle.apple_gcr.specs.Layout.{EPILOGUE, FRAME_CELLS, address_of, lead_in, pieces_cells, place_of, ring_of, sector_cells, sector_numbers, sectors_cells, self_syncs}
@@ -22,19 +20,6 @@ use Rattle.apple_gcr.specs.ValueLaws.{AreBytes}
 
 pub ring_length : (track : TrackId) (bytes : List ℕ) → AreSectors 16 256 bytes → length (ring_of track bytes) ≡ 49994
 ring_length track bytes sectors = length-ring_of track bytes
-
--- bytes of a part
-bytes_of-fit : (bytes : List ℕ) (s : ℕ) → AreBytes bytes → AreBytes (bytes_of 0 256 bytes s)
-bytes_of-fit bytes s fit k =
-    let rest = drop ((s - 0) * 256) bytes in
-    elim (cases_lt k 256) [
-      | inl within ↦ subst (λ (n : ℕ). n < 256) (sym (get_or-take 256 rest k 0 within ∙ get_or-drop ((s - 0) * 256) bytes k 0))
-          (fit ((s - 0) * 256 + k))
-      | inr past ↦ subst (λ (n : ℕ). n < 256) (sym (past_end rest k past)) (lit< tt)
-    ]
-  where
-    past_end : (rest : List ℕ) (k : ℕ) → 256 ≤ k → get_or (take 256 rest) k 0 ≡ 0
-    past_end rest k past = get_or_past (take 256 rest) k 0 (let t = length-take 256 rest in omega (arith, t))
 
 -- what comes behind a sector's frame
 unfoldable behind_frame : List Bool
@@ -63,7 +48,7 @@ close-sector : (track : TrackId) (bytes : List ℕ) (s : ℕ) → IsTrack track 
 close-sector track bytes s known fit few =
     let content = bytes_of 0 256 bytes s in
     subst IsClose (sym (sector_parts track bytes s))
-    (IsClose-append (frame_of track s content) behind_frame (close-frame track s content known few (bytes_of-fit bytes s fit)) close-behind_frame)
+    (IsClose-append (frame_of track s content) behind_frame (close-frame track s content known few (bytes_of-fit 0 256 bytes s fit)) close-behind_frame)
 
 close-sectors : (track : TrackId) (bytes : List ℕ) (first count : ℕ) → IsTrack track → AreBytes bytes → first + count ≤ 16
     → IsClose (flat_map (sector_cells track bytes) (range_with_len first count))
@@ -91,21 +76,6 @@ frame_whole track bytes s known sectors number = (
   close-unbroken (ring_of track bytes) (place_of s) (place_of s + FRAME_CELLS) (close-ring track bytes known sectors.fit),
 )
 
--- numbers up to one of them, it, and those behind it
-range-parts : (first before behind : ℕ)
-    → range_with_len first (before + suc behind) ≡ range_with_len first before ++ (first + before) ∷ range_with_len (first + before + 1) behind
-range-parts first zero behind =
-    let e : 0 + suc behind ≡ suc behind = omega arith in
-    let n : first ≡ first + 0 = omega arith in
-    ap (range_with_len first) e ∙ ap (λ (number : ℕ). number ∷ range_with_len (number + 1) behind) n
-range-parts first (suc before) behind =
-    let e : suc before + suc behind ≡ suc (before + suc behind) = omega arith in
-    let n : first + 1 + before ≡ first + suc before = omega arith in
-    ap (range_with_len first) e
-    ∙ ap (λ (numbers : List ℕ). first ∷ numbers)
-    (range-parts (first + 1) before behind
-    ∙ ap (λ (number : ℕ). range_with_len (first + 1) before ++ number ∷ range_with_len (number + 1) behind) n)
-
 sectors_before : TrackId → List ℕ → ℕ → List Bool
 sectors_before track bytes s = flat_map (sector_cells track bytes) (range_with_len 0 s)
 
@@ -115,13 +85,7 @@ sectors_behind track bytes s = flat_map (sector_cells track bytes) (range_with_l
 sectors_parts : (track : TrackId) (bytes : List ℕ) (s : ℕ) → s < 16
     → sectors_cells track bytes ≡ sectors_before track bytes s ++ (sector_cells track bytes s ++ sectors_behind track bytes s)
 unfolding sectors_cells sector_numbers sectors_before sectors_behind
-sectors_parts track bytes s few =
-    let count : 16 ≡ s + suc (15 - s) = omega arith in
-    let number : 0 + s ≡ s = omega arith in
-    ap (λ (n : ℕ). flat_map (sector_cells track bytes) (range_with_len 0 n)) count
-    ∙ ap (flat_map (sector_cells track bytes))
-    (range-parts 0 s (15 - s) ∙ ap (λ (n : ℕ). range_with_len 0 s ++ n ∷ range_with_len (n + 1) (15 - s)) number)
-    ∙ flat_map-append (sector_cells track bytes) (range_with_len 0 s) (s ∷ range_with_len (s + 1) (15 - s))
+sectors_parts track bytes s few = sectors-parts (sector_cells track bytes) 0 16 s s (15 - s) (omega arith) (omega arith)
 
 before_in_ring : TrackId → List ℕ → ℕ → List Bool
 before_in_ring track bytes s = pieces_cells track 0 [] lead_in ++ sectors_before track bytes s
@@ -161,15 +125,9 @@ sector_stands track bytes s from count place known sectors number lies =
     let content = bytes_of 0 256 bytes s in
     let frame = frame_of track s content in
     let frame_size : length frame ≡ 2940 = length-frame_of track s content in
-    let here : (from + place) % length ring ≡ length (before_in_ring track bytes s) =
-    ap (λ (n : ℕ). (from + place) % n) (length-ring_of track bytes) ∙ lies.same ∙ sym (length-before_in_ring track bytes s) in
-    let within : place ≤ count = omega (arith, lies.whole) in
-    let room : length frame ≤ count - place = omega (arith, lies.whole, frame_size) in
-    let rest = stretch ring (from + place + length frame) (count - place - length frame) in
-    let apart : drop place (stretch ring from count) ≡ frame ++ rest =
-    drop-stretch place ring from count within
-    ∙ stretch-part frame ring (before_in_ring track bytes s) (behind_in_ring track bytes s) (from + place) (count - place)
-    (ring_parts track bytes s few) (λ some. here) room in
-    subst (λ (cells : List Bool). SectorStands track cells s content) (sym apart)
-    (frame_stands track s content rest known few (bytes_of-fit bytes s sectors.fit)
+    let apart =
+    frame-stands (before_in_ring track bytes s) frame (behind_in_ring track bytes s) ring 49994 (place_of s) FRAME_CELLS from count place
+    (ring_parts track bytes s few) (length-ring_of track bytes) (length-before_in_ring track bytes s) frame_size lies in
+    subst (λ (cells : List Bool). SectorStands track cells s content) (sym apart.1)
+    (frame_stands track s content apart.0 known few (bytes_of-fit 0 256 bytes s sectors.fit)
     (length-bytes_of bytes s sectors.whole (omega arith)))

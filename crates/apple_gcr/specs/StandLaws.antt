@@ -1,13 +1,14 @@
 -- What stands is one thing: the cells determine the sector's number and its bytes.
 use Rattle.std.specs.Prelude.{◌≡◌, ℕ, ◌+◌, ◌*◌, ◌%◌, Bool, List, bit_and, bit_or}
-use Rattle.std.proofs.Common.{ap, sym, subst, ◌∙◌, inl, inr, arith}
-use Rattle.std.proofs.lemmas.Bool.{cases_lt}
+use Rattle.std.proofs.Common.{ap, sym, subst, ◌∙◌, arith}
 use Rattle.flux_base.specs.declared.track.TrackId.{TrackId}
+use Rattle.frame_law.specs.Gaps.{one-first}
 use Rattle.frame_law.specs.Rings.{IsSectorNumber}
+use Rattle.cell_bits.specs.Word.{Stands}
 use Rattle.apple_gcr.specs.FourAndFour.{FourAndFourAt}
 use Rattle.apple_gcr.specs.NibbleLaws.{halves-read}
 use Rattle.apple_gcr.specs.Nibbles.{disk_byte}
-use Rattle.apple_gcr.specs.Sectors.{HeaderStands, IsDataSync, SectorStands}
+use Rattle.apple_gcr.specs.Sectors.{DATA_SYNC, HeaderStands, IsDataSync, SectorStands}
 use Rattle.apple_gcr.specs.SixAndTwo.{AreCoded, Carries}
 use Rattle.apple_gcr.specs.ValueLaws.{one_carried, one_list}
 
@@ -30,13 +31,7 @@ header_number track cells s header = record { least = omega arith; most = header
 -- the sync of the data is one place
 pub one_sync : (cells : List Bool) (p q : ℕ) → IsDataSync cells p → IsDataSync cells q → p ≡ q
 one_sync cells p q first second =
-    elim (cases_lt p q) [
-      | inl before ↦ absurd (second.none_before p first.behind before first.stands)
-      | inr above ↦ elim (cases_lt q p) [
-        | inl before ↦ absurd (first.none_before q second.behind before second.stands)
-        | inr below ↦ omega arith
-      ]
-    ]
+    one-first (λ (place : ℕ). Stands cells DATA_SYNC 16 place) 88 p q first.behind first.stands first.none_before second.behind second.stands second.none_before
 
 pub one_content : (track : TrackId) (cells : List Bool) (s t : ℕ) (xs ys : List ℕ)
     → SectorStands track cells s xs → SectorStands track cells t ys → xs ≡ ys

@@ -1,14 +1,14 @@
 -- Group code reads back: a byte's ten cells are a number that no other byte has.
-use Rattle.std.specs.Prelude.{◌≡◌, ℕ, zero, suc, ◌+◌, ◌*◌, ◌/◌, ◌%◌, ◌<◌, ◌≤◌, Bool, List, [], ◌∷◌, ◌++◌, length, take, drop, get_or, map, refl}
+use Rattle.std.specs.Prelude.{◌≡◌, ℕ, ◌+◌, ◌*◌, ◌/◌, ◌%◌, ◌<◌, Bool, List, [], ◌∷◌, ◌++◌, length, take, get_or, map, refl}
 use Rattle.std.specs.List.{range_with_len}
 use Rattle.std.proofs.Common.{ap, sym, subst, ◌∙◌, arith, append_assoc, length-append, lit<}
-use Rattle.std.proofs.lemmas.List.{take-append-le}
 use Rattle.std.proofs.lemmas.List.Concat.{flat_map-append}
 use Rattle.std.proofs.lemmas.List.FromFn.{get_or-map-range_with_len}
 use Rattle.std.proofs.Math.Nat.{mod-eq_of_lt, mod-lt}
-use Rattle.std.proofs.Math.Seq.{drop-append-add}
 use Rattle.cell_bits.specs.Word.{number_of, word_cells}
 use Rattle.cell_bits.specs.WordLaws.{length-word_cells, number_of-word_cells, word_cells-append}
+use Rattle.frame_law.specs.Parts.{drop-past, take-first}
+use Rattle.frame_law.specs.SectorParts.{AreBytes}
 use Rattle.commodore_gcr.specs.Coding.{ByteAt, BytesAt, code_of, gcr, gcr_bytes}
 use Rattle.commodore_gcr.specs.declared.coding.TheConstants.{NIBBLES}
 
@@ -101,38 +101,12 @@ one_list_at cells place (x ∷ xs) (y ∷ ys) first second same =
     let tail = one_list_at cells (place + 10) xs ys first.1 second.1 (omega arith) in
     cc
 
--- each is a byte
-unfoldable pub AreBytes : List ℕ → Type 0
-AreBytes [] = Unit {0}
-AreBytes (byte ∷ bytes) = (byte < 256) × AreBytes bytes
-
-pub AreBytes-from : (bytes : List ℕ) → ((k : ℕ) → get_or bytes k 0 < 256) → AreBytes bytes
-unfolding AreBytes
-AreBytes-from [] fit = tt
-AreBytes-from (byte ∷ bytes) fit = (fit 0, AreBytes-from bytes (λ k. fit (suc k)))
-
-pub AreBytes-take : (count : ℕ) (bytes : List ℕ) → AreBytes bytes → AreBytes (take count bytes)
-unfolding AreBytes
-AreBytes-take zero bytes fit = tt
-AreBytes-take (suc count) [] fit = tt
-AreBytes-take (suc count) (byte ∷ bytes) fit = (fit.0, AreBytes-take count bytes fit.1)
-
-pub AreBytes-drop : (count : ℕ) (bytes : List ℕ) → AreBytes bytes → AreBytes (drop count bytes)
-unfolding AreBytes
-AreBytes-drop zero bytes fit = fit
-AreBytes-drop (suc count) [] fit = tt
-AreBytes-drop (suc count) (byte ∷ bytes) fit = AreBytes-drop count bytes fit.1
-
 pub length-gcr_bytes : (bytes : List ℕ) → length (gcr_bytes bytes) ≡ 10 * length bytes
 length-gcr_bytes [] = refl
 length-gcr_bytes (byte ∷ bytes) =
     omega (arith, length-append (gcr byte) (gcr_bytes bytes), length-gcr byte, length-gcr_bytes bytes)
 
 -- behind a part of known length
-pub drop-past : (xs ys : List Bool) (size offset : ℕ) → length xs ≡ size → drop (size + offset) (xs ++ ys) ≡ drop offset ys
-drop-past xs ys size offset is =
-    ap (λ (n : ℕ). drop (n + offset) (xs ++ ys)) (sym is) ∙ drop-append-add xs ys offset
-
 pub BytesAt-past : (xs ys : List Bool) (size offset : ℕ) (bytes : List ℕ) → length xs ≡ size → BytesAt ys offset bytes
     → BytesAt (xs ++ ys) (size + offset) bytes
 unfolding BytesAt
@@ -142,15 +116,6 @@ BytesAt-past xs ys size offset (byte ∷ bytes) is stand =
       (stand.0.0, ap (take 10) (drop-past xs ys size offset is) ∙ stand.0.1),
       rw e (BytesAt-past xs ys size (offset + 10) bytes is stand.1),
     )
-
-take-whole : (xs : List Bool) → take (length xs) xs ≡ xs
-take-whole [] = refl
-take-whole (x ∷ xs) = ap (λ (rest : List Bool). x ∷ rest) (take-whole xs)
-
-pub take-first : (xs ys : List Bool) (size : ℕ) → length xs ≡ size → take size (xs ++ ys) ≡ xs
-take-first xs ys size is =
-    let within : size ≤ length xs = omega arith in
-    take-append-le size xs ys within ∙ ap (λ (n : ℕ). take n xs) (sym is) ∙ take-whole xs
 
 -- bytes in group code stand where they are written
 pub BytesAt-front : (bytes : List ℕ) (rest : List Bool) → AreBytes bytes → BytesAt (gcr_bytes bytes ++ rest) 0 bytes

@@ -1,5 +1,5 @@
 -- A sector's frame as the ring has it, whatever comes behind it: the sector stands there.
-use Rattle.std.specs.Prelude.{◌≡◌, ℕ, zero, suc, ◌+◌, ◌-◌, ◌%◌, ◌<◌, Bool, true, false, not, ◌&&◌, List, [], ◌∷◌, ◌++◌, length, take, drop, replicate, refl, bit_xor}
+use Rattle.std.specs.Prelude.{◌≡◌, ℕ, ◌+◌, ◌%◌, ◌<◌, Bool, true, List, [], ◌∷◌, ◌++◌, length, take, drop, replicate, refl, bit_xor}
 use Rattle.std.proofs.Common.{ap, sym, subst, ◌∙◌, arith, append_assoc, length-append, lit<, lit≤}
 use Rattle.std.proofs.lemmas.Nat.{xor_mod, xor_of_8}
 use Rattle.std.proofs.Math.Nat.{mod-eq_of_lt, mod-lt}
@@ -7,9 +7,12 @@ use Rattle.std.specs.List.{fold}
 use Rattle.flux_base.specs.declared.track.TrackId.{TrackId}
 use Rattle.check_values.specs.Sums.{xor}
 use Rattle.cell_bits.specs.Word.{word_cells}
+use Rattle.frame_law.specs.Gaps.{begins, free_of, gap-free}
+use Rattle.frame_law.specs.Parts.{drop-past}
+use Rattle.frame_law.specs.SectorParts.{AreBytes}
 use Rattle.commodore_gcr.specs.Blocks.{address_of, data_bytes, header_bytes}
 use Rattle.commodore_gcr.specs.Coding.{BytesAt, code_of, gcr, gcr_bytes, raw_bytes}
-use Rattle.commodore_gcr.specs.CodingLaws.{AreBytes, BytesAt-front, BytesAt-past, drop-past, gcr-mod, length-gcr_bytes}
+use Rattle.commodore_gcr.specs.CodingLaws.{BytesAt-front, BytesAt-past, gcr-mod, length-gcr_bytes}
 use Rattle.commodore_gcr.specs.Sectors.{HeaderStands, IsDataSync, SectorStands}
 use Rattle.commodore_gcr.specs.Spacing.{AreClose, close-append, close-gap_byte, close-gcr_bytes, close-raw, close-sync_byte, is_close, unbroken-first}
 use Rattle.commodore_gcr.specs.ZoneLaws.{sizes}
@@ -124,53 +127,9 @@ header_stands id1 id2 track sector rest known within first second =
       unbroken = unbroken-first 1 header rest 70 (close-header id1 id2 track sector) (omega (arith, size));
     }
 
--- the cells of a word stand at the front
-begins : List Bool → List Bool → Bool
-begins [] cells = true
-begins (cell ∷ word) [] = false
-begins (true ∷ word) (true ∷ cells) = begins word cells
-begins (true ∷ word) (false ∷ cells) = false
-begins (false ∷ word) (true ∷ cells) = false
-begins (false ∷ word) (false ∷ cells) = begins word cells
-
--- a sync stands at none of the first places
-free_of_sync : ℕ → List Bool → Bool
-free_of_sync zero cells = true
-free_of_sync (suc count) [] = true
-free_of_sync (suc count) (cell ∷ cells) = not (begins (word_cells 11 0x7FE) (cell ∷ cells)) && free_of_sync count cells
-
-begins-same : (word cells : List Bool) → take (length word) cells ≡ word → begins word cells ≡ true
-unfolding begins
-begins-same [] cells same = refl
-begins-same (cell ∷ word) [] same = absurd (cc)
-begins-same (true ∷ word) (true ∷ cells) same = begins-same word cells (cc)
-begins-same (true ∷ word) (false ∷ cells) same = absurd (cc)
-begins-same (false ∷ word) (true ∷ cells) same = absurd (cc)
-begins-same (false ∷ word) (false ∷ cells) same = begins-same word cells (cc)
-
-not_true : (a b : Bool) → (not a && b) ≡ true → ¬ (a ≡ true)
-not_true true b holds is = cc
-not_true false b holds is = cc
-
-second_true : (a b : Bool) → (a && b) ≡ true → b ≡ true
-second_true true b holds = holds
-second_true false b holds = absurd (cc)
-
-no_sync : (count : ℕ) (cells : List Bool) (place : ℕ) → free_of_sync count cells ≡ true → place < count
-    → ¬ (take 11 (drop place cells) ≡ word_cells 11 0x7FE)
-unfolding free_of_sync word_cells
-no_sync zero cells place free within stands = absurd (omega arith)
-no_sync (suc count) [] zero free within stands = cc
-no_sync (suc count) [] (suc place) free within stands = cc
-no_sync (suc count) (cell ∷ cells) zero free within stands =
-    not_true (begins (word_cells 11 0x7FE) (cell ∷ cells)) (free_of_sync count cells) free
-    (begins-same (word_cells 11 0x7FE) (cell ∷ cells) stands)
-no_sync (suc count) (cell ∷ cells) (suc place) free within stands =
-    no_sync count cells place (second_true (not (begins (word_cells 11 0x7FE) (cell ∷ cells))) (free_of_sync count cells) free) (omega arith) stands
-
 -- in the gap no sync stands, and with the data block's first cell its end is one
-gap_free : (rest : List Bool) → free_of_sync 122 (gap_cells ++ (gcr 0x07 ++ rest)) ≡ true
-unfolding free_of_sync begins gap_cells gcr code_of word_cells
+gap_free : (rest : List Bool) → free_of (word_cells 11 0x7FE) 122 (gap_cells ++ (gcr 0x07 ++ rest)) ≡ true
+unfolding free_of begins gap_cells gcr code_of word_cells
 gap_free rest = refl
 
 gap_sync : (rest : List Bool) → take 11 (drop 122 (gap_cells ++ (gcr 0x07 ++ rest))) ≡ word_cells 11 0x7FE
@@ -187,10 +146,7 @@ data_sync id1 id2 track sector rest =
       lit≤ tt,
       lit< tt,
       ap (take 11) (drop-past header behind 70 122 size) ∙ gap_sync rest,
-      λ place above below stands.
-          let e : 70 + (place - 70) ≡ place = omega arith in
-          no_sync 122 behind (place - 70) (gap_free rest) (omega arith)
-          (ap (take 11) (sym (drop-past header behind 70 (place - 70) size) ∙ ap (λ (n : ℕ). drop n (header ++ behind)) e) ∙ stands),
+      λ place above below. gap-free 0x7FE 11 122 header behind 70 place (lit≤ tt) (gap_free rest) size above below,
     )
 
 -- the sector stands at the front of its frame

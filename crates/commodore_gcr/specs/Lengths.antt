@@ -1,5 +1,5 @@
 -- How many cells the parts of a ring have.
-use Rattle.std.specs.Prelude.{◌≡◌, ℕ, zero, suc, ◌+◌, ◌-◌, ◌*◌, ◌≤◌, List, [], ◌∷◌, ◌++◌, length, drop, replicate, refl}
+use Rattle.std.specs.Prelude.{◌≡◌, ℕ, ◌+◌, ◌-◌, ◌*◌, ◌≤◌, List, [], ◌∷◌, ◌++◌, length, drop, replicate, refl}
 use Rattle.std.proofs.Common.{ap, ◌∙◌, arith, length-append, length-drop}
 use Rattle.std.proofs.lemmas.List.{length-take, length-replicate}
 use Rattle.std.specs.List.{flat_map, range_with_len}
@@ -7,6 +7,7 @@ use Rattle.flux_base.specs.declared.track.TrackId.{TrackId}
 use Rattle.cell_bits.specs.Word.{word_cells}
 use Rattle.cell_bits.specs.WordLaws.{length-word_cells}
 use Rattle.frame_law.specs.Rings.{bytes_of}
+use Rattle.frame_law.specs.SectorParts.{sectors-length}
 use Rattle.commodore_gcr.specs.declared.layout.Piece.{Piece}
 use Rattle.commodore_gcr.specs.declared.layout.Piece.TheVariants.{Raw, HeaderBlock, DataBlock}
 use Rattle.check_values.specs.Sums.{xor}
@@ -67,12 +68,9 @@ length-sector_cells id1 id2 track bytes sector whole within =
 pub length-sectors : (id1 id2 : ℕ) (track : TrackId) (bytes : List ℕ) (first count : ℕ) → length bytes ≡ sectors_of track * 256
     → first + count ≤ sectors_of track
     → length (flat_map (sector_cells id1 id2 track bytes) (range_with_len first count)) ≡ count * pitch_of track
-length-sectors id1 id2 track bytes first zero whole within = omega arith
-length-sectors id1 id2 track bytes first (suc count) whole within =
-    let e = length-append (sector_cells id1 id2 track bytes first) (flat_map (sector_cells id1 id2 track bytes) (range_with_len (first + 1) count)) in
-    let one = length-sector_cells id1 id2 track bytes first whole (omega arith) in
-    let more = length-sectors id1 id2 track bytes (first + 1) count whole (omega arith) in
-    omega (arith, e, one, more)
+length-sectors id1 id2 track bytes first count whole within =
+    sectors-length (sector_cells id1 id2 track bytes) (pitch_of track) first count
+    (λ s least most. length-sector_cells id1 id2 track bytes s whole (omega (arith, within, most)))
 
 pub length-ring_of : (id1 id2 : ℕ) (track : TrackId) (bytes : List ℕ) → length bytes ≡ sectors_of track * 256
     → length (ring_of id1 id2 track bytes) ≡ ring_cells_of track

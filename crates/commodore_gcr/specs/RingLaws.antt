@@ -1,5 +1,5 @@
 -- The laws of the ring: its length, its ones, and that its sectors stand in every stretch of its repetition.
-use Rattle.std.specs.Prelude.{◌≡◌, ℕ, zero, suc, ◌+◌, ◌-◌, ◌*◌, ◌%◌, ◌<◌, ◌≤◌, Bool, true, false, List, [], ◌∷◌, ◌++◌, length, drop, get_or, replicate, refl}
+use Rattle.std.specs.Prelude.{◌≡◌, ℕ, ◌+◌, ◌-◌, ◌*◌, ◌<◌, ◌≤◌, Bool, true, false, List, [], ◌∷◌, ◌++◌, length, drop, get_or, replicate, refl}
 use Rattle.std.proofs.Common.{ap, sym, subst, ◌∙◌, arith, append_assoc, length-append}
 use Rattle.std.proofs.lemmas.List.Concat.{flat_map-append}
 use Rattle.std.specs.List.{flat_map, range_with_len}
@@ -7,11 +7,11 @@ use Rattle.flux_base.specs.declared.track.TrackId.{TrackId}
 use Rattle.cell_bits.specs.Broken.{Unbroken}
 use Rattle.cell_bits.specs.Word.{word_cells}
 use Rattle.frame_law.specs.Rings.{AreSectors, IsSectorNumber, IsSpaced, LiesAt, bytes_of, stretch}
-use Rattle.frame_law.specs.Stretches.{drop-stretch, stretch-part}
+use Rattle.frame_law.specs.SectorParts.{AreBytes-from, bytes_of-fit, sectors-parts}
+use Rattle.frame_law.specs.Stretches.{frame-stands}
 use Rattle.commodore_gcr.specs.declared.zones.Zone.{Zone}
 use Rattle.commodore_gcr.specs.Blocks.{data_block, data_bytes, header_block, header_bytes}
 use Rattle.commodore_gcr.specs.Coding.{gcr, gcr_bytes, raw_bytes}
-use Rattle.commodore_gcr.specs.CodingLaws.{AreBytes, AreBytes-drop, AreBytes-from, AreBytes-take}
 use Rattle.commodore_gcr.specs.FrameLaws.{frame_of, frame_stands, gap_cells, header_cells, length-frame_of, ten_ones}
 use Rattle.commodore_gcr.specs.Layout.{FRAME_CELLS, pieces_cells, place_of, ring_cells_of, ring_of, sector_cells}
 use Rattle.commodore_gcr.specs.Lengths.{length-bytes_of, length-ring_of, length-sectors}
@@ -51,21 +51,6 @@ close-sectors id1 id2 track bytes (s ∷ numbers) =
 close-ring : (id1 id2 : ℕ) (track : TrackId) (bytes : List ℕ) → AreClose 1 (ring_of id1 id2 track bytes)
 unfolding ring_of
 close-ring id1 id2 track bytes = close-sectors id1 id2 track bytes (range_with_len 0 (sectors_of track))
-
--- numbers up to one of them, it, and those behind it
-range-parts : (first before behind : ℕ)
-    → range_with_len first (before + suc behind) ≡ range_with_len first before ++ (first + before) ∷ range_with_len (first + before + 1) behind
-range-parts first zero behind =
-    let e : 0 + suc behind ≡ suc behind = omega arith in
-    let n : first ≡ first + 0 = omega arith in
-    ap (range_with_len first) e ∙ ap (λ (number : ℕ). number ∷ range_with_len (number + 1) behind) n
-range-parts first (suc before) behind =
-    let e : suc before + suc behind ≡ suc (before + suc behind) = omega arith in
-    let n : first + 1 + before ≡ first + suc before = omega arith in
-    ap (range_with_len first) e
-    ∙ ap (λ (numbers : List ℕ). first ∷ numbers)
-    (range-parts (first + 1) before behind
-    ∙ ap (λ (number : ℕ). range_with_len (first + 1) before ++ number ∷ range_with_len (number + 1) behind) n)
 
 -- a sector's parts: the first 30 ones, its frame, and what fills its data block up with the gap behind it
 before_frame : List Bool
@@ -124,11 +109,7 @@ unfolding ring_of before_in_ring behind_in_ring sectors_before sectors_behind
 ring_parts id1 id2 track bytes s within =
     let f = sector_cells id1 id2 track bytes in
     let behind = sectors_of track - 1 - s in
-    let count : sectors_of track ≡ s + suc behind = omega (arith, within) in
-    let number : 0 + s ≡ s = omega arith in
-    ap (λ (n : ℕ). flat_map f (range_with_len 0 n)) count
-    ∙ ap (flat_map f) (range-parts 0 s behind ∙ ap (λ (n : ℕ). range_with_len 0 s ++ n ∷ range_with_len (n + 1) behind) number)
-    ∙ flat_map-append f (range_with_len 0 s) (s ∷ range_with_len (s + 1) behind)
+    sectors-parts f 0 (sectors_of track) s s behind (omega arith) (omega (arith, within))
     ∙ ap (λ (cells : List Bool). flat_map f (range_with_len 0 s) ++ (cells ++ flat_map f (range_with_len (s + 1) behind))) (sector_parts id1 id2 track bytes s)
     ∙ regroup (flat_map f (range_with_len 0 s)) before_frame (frame_of id1 id2 track s (bytes_of 0 256 bytes s)) (behind_frame (zone_of track))
     (flat_map f (range_with_len (s + 1) behind))
@@ -182,16 +163,10 @@ sector_stands id1 id2 track bytes s from count place known sectors number lies =
     let frame = frame_of id1 id2 track s content in
     let size : length content ≡ 256 = length-bytes_of (sectors_of track) bytes s sectors.whole (omega (arith, most)) in
     let frame_size : length frame ≡ 2782 = length-frame_of id1 id2 track s content size in
-    let here : (from + place) % length ring ≡ length (before_in_ring id1 id2 track bytes s) =
-    ap (λ (n : ℕ). (from + place) % n) (length-ring_of id1 id2 track bytes sectors.whole)
-    ∙ lies.same ∙ sym (length-before_in_ring id1 id2 track bytes s sectors.whole most) in
-    let within : place ≤ count = omega (arith, lies.whole) in
-    let room : length frame ≤ count - place = omega (arith, lies.whole, frame_size) in
-    let rest = stretch ring (from + place + length frame) (count - place - length frame) in
-    let apart : drop place (stretch ring from count) ≡ frame ++ rest =
-    drop-stretch place ring from count within
-    ∙ stretch-part frame ring (before_in_ring id1 id2 track bytes s) (behind_in_ring id1 id2 track bytes s) (from + place) (count - place)
-    (ring_parts id1 id2 track bytes s most) (λ some. here) room in
-    let fit : AreBytes content = AreBytes-take 256 (drop ((s - 0) * 256) bytes) (AreBytes-drop ((s - 0) * 256) bytes (AreBytes-from bytes sectors.fit)) in
-    subst (λ (cells : List Bool). SectorStands track cells s content) (sym apart)
-    (frame_stands id1 id2 track s content rest known most fit size)
+    let apart =
+    frame-stands (before_in_ring id1 id2 track bytes s) frame (behind_in_ring id1 id2 track bytes s) ring (ring_cells_of track) (place_of track s)
+    FRAME_CELLS from count place (ring_parts id1 id2 track bytes s most) (length-ring_of id1 id2 track bytes sectors.whole)
+    (length-before_in_ring id1 id2 track bytes s sectors.whole most) frame_size lies in
+    let fit = AreBytes-from content (bytes_of-fit 0 256 bytes s sectors.fit) in
+    subst (λ (cells : List Bool). SectorStands track cells s content) (sym apart.1)
+    (frame_stands id1 id2 track s content apart.0 known most fit size)

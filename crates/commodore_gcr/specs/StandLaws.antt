@@ -1,10 +1,10 @@
 -- What stands is one thing: the cells determine the sector's number and its bytes.
 use Rattle.std.specs.Prelude.{◌≡◌, ℕ, ◌+◌, Bool, List, [], ◌∷◌, ◌++◌, length, refl}
-use Rattle.std.proofs.Common.{sym, subst, ◌∙◌, inl, inr, arith, length-append}
-use Rattle.std.proofs.lemmas.Bool.{cases_lt}
+use Rattle.std.proofs.Common.{sym, subst, ◌∙◌, arith, length-append}
 use Rattle.flux_base.specs.declared.track.TrackId.{TrackId}
 use Rattle.check_values.specs.Sums.{xor}
 use Rattle.cell_bits.specs.Word.{Stands}
+use Rattle.frame_law.specs.Gaps.{one-first}
 use Rattle.frame_law.specs.Rings.{IsSectorNumber}
 use Rattle.commodore_gcr.specs.Blocks.{data_bytes, header_bytes}
 use Rattle.commodore_gcr.specs.Coding.{BytesAt}
@@ -24,13 +24,7 @@ one_header track cells s t first second =
 -- the sync of the data is one place
 pub one_sync : (cells : List Bool) (p q : ℕ) → IsDataSync cells p → IsDataSync cells q → p ≡ q
 one_sync cells p q first second =
-    elim (cases_lt p q) [
-      | inl before ↦ absurd (second.3 p first.0 before first.2)
-      | inr above ↦ elim (cases_lt q p) [
-        | inl before ↦ absurd (first.3 q second.0 before second.2)
-        | inr below ↦ omega arith
-      ]
-    ]
+    one-first (λ (place : ℕ). Stands cells 0x7FE 11 place) 70 p q first.0 first.2 first.3 second.0 second.2 second.3
 
 same_front : (first x y : ℕ) (xs ys : List ℕ) → length xs ≡ length ys → first ∷ (xs ++ x ∷ []) ≡ first ∷ (ys ++ y ∷ []) → xs ≡ ys
 same_front first x y [] [] size same = refl

@@ -3,7 +3,7 @@ use Rattle.std.specs.Prelude.{◌≡◌, ℕ, zero, suc, ◌+◌, ◌-◌, ◌%�
 use Rattle.std.proofs.Common.{ap, sym, ◌∙◌, arith, add-one, append_assoc, length-append}
 use Rattle.std.proofs.Math.Nat.{mod-eq_of_lt, suc-mod}
 use Rattle.std.proofs.Math.Seq.{get_or-append_seam}
-use Rattle.frame_law.specs.Rings.{cell_of, stretch}
+use Rattle.frame_law.specs.Rings.{LiesAt, cell_of, stretch}
 
 stretch-same : (ring : List Bool) (m n j k : ℕ) → m ≡ n → j ≡ k → stretch ring m j ≡ stretch ring n k
 stretch-same ring m n j k first second =
@@ -44,3 +44,16 @@ stretch-part (cell ∷ part) ring before rest from (suc count) is here within =
     ∙ ap (λ (cells : List Bool). cell ∷ cells)
     (rest_is ∙ ap (λ (cells : List Bool). part ++ cells)
     (stretch-same ring (from + 1 + length part) (from + length (cell ∷ part)) (count - length part) (suc count - length (cell ∷ part)) (omega arith) (omega arith)))
+
+-- a part of the ring stands wherever it lies whole in a stretch
+pub frame-stands : (before frame behind ring : List Bool) (cells begin size from count place : ℕ) → ring ≡ before ++ (frame ++ behind)
+    → length ring ≡ cells → length before ≡ begin → length frame ≡ size → LiesAt cells begin size from count place
+    → (rest : List Bool) × (drop place (stretch ring from count) ≡ frame ++ rest)
+frame-stands before frame behind ring cells begin size from count place parts is at long lies =
+    let here : (from + place) % length ring ≡ length before = ap (λ (n : ℕ). (from + place) % n) is ∙ lies.same ∙ sym at in
+    let within : place ≤ count = omega (arith, lies.whole) in
+    let room : length frame ≤ count - place = omega (arith, lies.whole, long) in (
+      stretch ring (from + place + length frame) (count - place - length frame),
+      drop-stretch place ring from count within
+          ∙ stretch-part frame ring before behind (from + place) (count - place) parts (λ some. here) room,
+    )

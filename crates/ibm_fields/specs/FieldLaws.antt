@@ -1,24 +1,10 @@
 -- What is read behind a part of known length, and bytes in a row.
-use Rattle.std.specs.Prelude.{◌≡◌, ℕ, zero, suc, ◌+◌, ◌*◌, ◌/◌, ◌%◌, ◌<◌, ◌≤◌, Bool, List, [], ◌∷◌, ◌++◌, length, take, drop, get_or, refl}
-use Rattle.std.proofs.Common.{ap, sym, ◌∙◌, arith, add-one}
-use Rattle.std.proofs.lemmas.List.{take-append-le}
-use Rattle.std.proofs.Math.Seq.{drop-append-add}
+use Rattle.std.specs.Prelude.{◌≡◌, ℕ, zero, suc, ◌+◌, ◌*◌, ◌/◌, ◌%◌, Bool, List, [], ◌∷◌, ◌++◌, length, take, refl}
+use Rattle.std.proofs.Common.{ap, ◌∙◌, arith, add-one}
 use Rattle.cell_bits.specs.Bytes.{data_byte, data_cells}
 use Rattle.cell_bits.specs.Word.{number_of}
-use Rattle.ibm_fields.specs.Fields.{AreBytes, bytes_at, high_first, number_at}
-
-pub drop-past : (xs ys : List Bool) (size offset : ℕ) → length xs ≡ size → drop (size + offset) (xs ++ ys) ≡ drop offset ys
-drop-past xs ys size offset is =
-    ap (λ (n : ℕ). drop (n + offset) (xs ++ ys)) (sym is) ∙ drop-append-add xs ys offset
-
-take-whole : (xs : List Bool) → take (length xs) xs ≡ xs
-take-whole [] = refl
-take-whole (x ∷ xs) = ap (λ (rest : List Bool). x ∷ rest) (take-whole xs)
-
-pub take-first : (xs ys : List Bool) (size : ℕ) → length xs ≡ size → take size (xs ++ ys) ≡ xs
-take-first xs ys size is =
-    let within : size ≤ length xs = omega arith in
-    take-append-le size xs ys within ∙ ap (λ (n : ℕ). take n xs) (sym is) ∙ take-whole xs
+use Rattle.frame_law.specs.Parts.{drop-past}
+use Rattle.ibm_fields.specs.Fields.{bytes_at, high_first, number_at}
 
 pub data_byte-past : (xs ys : List Bool) (size offset : ℕ) → length xs ≡ size → data_byte (xs ++ ys) (size + offset) ≡ data_byte ys offset
 unfolding data_byte
@@ -91,20 +77,3 @@ bytes_at-four cells place =
     let fourth : place + 16 + 16 + 16 ≡ place + 48 = omega arith in
     ap (λ (p : ℕ). data_byte cells place ∷ data_byte cells (place + 16) ∷ data_byte cells p ∷ data_byte cells (place + 16 + 16 + 16) ∷ []) third
     ∙ ap (λ (p : ℕ). data_byte cells place ∷ data_byte cells (place + 16) ∷ data_byte cells (place + 32) ∷ data_byte cells p ∷ []) fourth
-
-pub AreBytes-from : (bytes : List ℕ) → ((k : ℕ) → get_or bytes k 0 < 256) → AreBytes bytes
-unfolding AreBytes
-AreBytes-from [] fit = tt
-AreBytes-from (byte ∷ bytes) fit = (fit 0, AreBytes-from bytes (λ k. fit (suc k)))
-
-pub AreBytes-take : (count : ℕ) (bytes : List ℕ) → AreBytes bytes → AreBytes (take count bytes)
-unfolding AreBytes
-AreBytes-take zero bytes fit = tt
-AreBytes-take (suc count) [] fit = tt
-AreBytes-take (suc count) (byte ∷ bytes) fit = (fit.0, AreBytes-take count bytes fit.1)
-
-pub AreBytes-drop : (count : ℕ) (bytes : List ℕ) → AreBytes bytes → AreBytes (drop count bytes)
-unfolding AreBytes
-AreBytes-drop zero bytes fit = fit
-AreBytes-drop (suc count) [] fit = tt
-AreBytes-drop (suc count) (byte ∷ bytes) fit = AreBytes-drop count bytes fit.1

@@ -1,6 +1,6 @@
 -- The fields of the IBM formats, single density (3740) and double density (System 34): bytes that stand behind a mark, and
 -- their check value. A byte takes 16 cells, and is read from its data cells alone.
-use Rattle.std.specs.Prelude.{ℕ, zero, suc, ◌+◌, ◌*◌, ◌/◌, ◌%◌, ◌<◌, Bool, List, [], ◌∷◌}
+use Rattle.std.specs.Prelude.{ℕ, zero, suc, ◌+◌, ◌*◌, ◌/◌, ◌%◌, Bool, List, [], ◌∷◌}
 use Rattle.flux_base.specs.declared.track.TrackId.{TrackId}
 use Rattle.cell_bits.specs.Bytes.{data_byte}
 
@@ -38,8 +38,3 @@ number_at cells place = 256 * data_byte cells place + data_byte cells (place + 1
 -- a number of 16 bits as two bytes, high byte first
 abbrev pub high_first : ℕ → List ℕ
 high_first number = number / 256 ∷ number % 256 ∷ []
-
--- each is a byte
-unfoldable pub AreBytes : List ℕ → Type 0
-AreBytes [] = Unit {0}
-AreBytes (byte ∷ bytes) = (byte < 256) × AreBytes bytes

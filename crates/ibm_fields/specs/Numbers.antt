@@ -1,12 +1,13 @@
--- Check values have 16 bits, and the numbers of a track's sectors in order.
-use Rattle.std.specs.Prelude.{◌≡◌, ℕ, zero, suc, ◌+◌, ◌*◌, ◌%◌, ◌<◌, Bool, true, false, List, [], ◌∷◌, ◌++◌, if◌then◌else◌, nat_eq, bit_xor}
-use Rattle.std.proofs.Common.{ap, ◌∙◌, arith, lit<}
+-- Check values have 16 bits.
+use Rattle.std.specs.Prelude.{ℕ, ◌*◌, ◌%◌, ◌<◌, Bool, true, false, List, [], ◌∷◌, if◌then◌else◌, nat_eq, bit_xor}
+use Rattle.std.proofs.Common.{arith, lit<}
 use Rattle.std.proofs.lemmas.Nat.{xor_of_16}
 use Rattle.std.proofs.Math.Nat.{mod-lt}
 use Rattle.std.specs.Int.{bit_at}
-use Rattle.std.specs.List.{flat_map, fold, range_with_len}
+use Rattle.std.specs.List.{flat_map, fold}
 use Rattle.check_values.specs.Crc.{GENERATOR, bits_of, crc, with_bit}
-use Rattle.ibm_fields.specs.Fields.{AreBytes, high_first}
+use Rattle.ibm_fields.specs.Fields.{high_first}
+use Rattle.frame_law.specs.SectorParts.{AreBytes}
 
 with_bit-lt : (remainder bit : ℕ) → with_bit remainder bit < 65536
 unfolding with_bit
@@ -31,18 +32,3 @@ crc-lt start bytes low = fold-lt (flat_map bits_of bytes) start low
 pub AreBytes-high_first : (number : ℕ) → number < 65536 → AreBytes (high_first number)
 unfolding AreBytes
 AreBytes-high_first number fits = (omega arith, (mod-lt number (lit< tt), tt))
-
--- numbers up to one of them, it, and those behind it
-pub range-parts : (first before behind : ℕ)
-    → range_with_len first (before + suc behind) ≡ range_with_len first before ++ (first + before) ∷ range_with_len (first + before + 1) behind
-range-parts first zero behind =
-    let e : 0 + suc behind ≡ suc behind = omega arith in
-    let n : first ≡ first + 0 = omega arith in
-    ap (range_with_len first) e ∙ ap (λ (number : ℕ). number ∷ range_with_len (number + 1) behind) n
-range-parts first (suc before) behind =
-    let e : suc before + suc behind ≡ suc (before + suc behind) = omega arith in
-    let n : first + 1 + before ≡ first + suc before = omega arith in
-    ap (range_with_len first) e
-    ∙ ap (λ (numbers : List ℕ). first ∷ numbers)
-    (range-parts (first + 1) before behind
-    ∙ ap (λ (number : ℕ). range_with_len (first + 1) before ++ number ∷ range_with_len (number + 1) behind) n)

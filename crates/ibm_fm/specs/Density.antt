@@ -1,11 +1,9 @@
 -- FM cells have no two zeros in a row: each clock cell is a one, but in marks, whose missing clocks lie between ones.
-use Rattle.std.specs.Prelude.{◌≡◌, ℕ, zero, suc, ◌+◌, ◌%◌, ◌<◌, ◌≤◌, Bool, true, false, List, [], ◌∷◌, ◌++◌, length, take, drop, get_or, replicate, refl}
-use Rattle.std.proofs.Common.{ap, sym, ◌∙◌, arith, add-one, inl, inr, length-drop, lit<}
-use Rattle.std.proofs.lemmas.List.{drop-append-le, take-append-le}
-use Rattle.std.proofs.lemmas.Bool.{cases_lt}
-use Rattle.std.proofs.Math.Nat.{mod-eq_of_lt, mod-lt, mod_self, suc-mod, zero-mod}
+use Rattle.std.specs.Prelude.{◌≡◌, ℕ, zero, suc, ◌<◌, Bool, true, false, List, [], ◌∷◌, ◌++◌, length, drop, get_or, replicate, refl}
+use Rattle.std.proofs.Common.{subst, arith, lit≤}
 use Rattle.std.specs.List.{flat_map}
-use Rattle.frame_law.specs.Rings.{IsSpaced, bytes_of, cell_of}
+use Rattle.frame_law.specs.Rings.{IsSpaced, bytes_of}
+use Rattle.frame_law.specs.Zeros.{NoZeroRun, unbroken-front, zeros-spaced, zeros-unbroken}
 use Rattle.flux_base.specs.declared.track.TrackId.{TrackId}
 use Rattle.cell_bits.specs.Broken.{Unbroken}
 use Rattle.cell_bits.specs.Bytes.{fm, fm_cells}
@@ -123,20 +121,6 @@ dense-ring track bytes =
     (dense-append false (sectors_cells track bytes) (pieces_cells track 0 [] lead_out)
     (dense-sectors track bytes sector_numbers) (dense-lead_out track))
 
--- behind each zero comes a one
-pub one-behind_zero : (before : Bool) (cells : List Bool) (place : ℕ) → IsDense before cells → suc place < length cells
-    → get_or cells place false ≡ false → get_or cells (suc place) false ≡ true
-one-behind_zero before [] place dense within zero_there = absurd (omega arith)
-one-behind_zero before (true ∷ cells) zero dense within zero_there = absurd (cc)
-one-behind_zero before (true ∷ cells) (suc place) dense within zero_there =
-    one-behind_zero true cells place dense (omega arith) zero_there
-one-behind_zero false (false ∷ cells) place dense within zero_there = absurd dense
-one-behind_zero true (false ∷ []) zero dense within zero_there = absurd (omega arith)
-one-behind_zero true (false ∷ true ∷ cells) zero dense within zero_there = refl
-one-behind_zero true (false ∷ false ∷ cells) zero dense within zero_there = absurd dense
-one-behind_zero true (false ∷ cells) (suc place) dense within zero_there =
-    one-behind_zero false cells place dense (omega arith) zero_there
-
 dense-drop : (before : Bool) (cells : List Bool) (place : ℕ) → IsDense before cells → (last : Bool) × IsDense last (drop place cells)
 dense-drop before cells zero dense = (before, dense)
 dense-drop before [] (suc place) dense = (before, tt)
@@ -144,19 +128,23 @@ dense-drop before (true ∷ cells) (suc place) dense = dense-drop true cells pla
 dense-drop true (false ∷ cells) (suc place) dense = dense-drop false cells place dense
 dense-drop false (false ∷ cells) (suc place) dense = absurd dense
 
-not_zeros : (before : Bool) (cells : List Bool) → IsDense before cells → ¬ (take 8 cells ≡ replicate 8 false)
-not_zeros before [] dense zeros = cc
-not_zeros before (true ∷ cells) dense zeros = cc
-not_zeros false (false ∷ cells) dense zeros = absurd dense
-not_zeros true (false ∷ []) dense zeros = cc
-not_zeros true (false ∷ true ∷ cells) dense zeros = cc
-not_zeros true (false ∷ false ∷ cells) dense zeros = absurd dense
+two_zeros : (before : Bool) (cells : List Bool) → ¬ IsDense before (false ∷ false ∷ cells)
+two_zeros true cells dense = dense
+two_zeros false cells dense = dense
+
+-- so two zeros never come in a row
+dense-zeros : (before : Bool) (cells : List Bool) → IsDense before cells → NoZeroRun 2 cells
+dense-zeros before cells dense place rest is =
+    let behind = dense-drop before cells place dense in
+    two_zeros behind.0 rest (subst (IsDense behind.0) is behind.1)
 
 -- dense cells are unbroken
 pub dense-unbroken : (before : Bool) (cells : List Bool) (from to : ℕ) → IsDense before cells → Unbroken cells from to
-dense-unbroken before cells from to dense place above below zeros =
-    let rest = dense-drop before cells place dense in
-    not_zeros rest.0 (drop place cells) rest.1 zeros
+dense-unbroken before cells from to dense = zeros-unbroken 2 cells from to (lit≤ tt) (dense-zeros before cells dense)
+
+-- so many of the first cells, where they are dense
+pub unbroken-first : (xs ys : List Bool) (count : ℕ) → IsDense false xs → length xs ≡ count → Unbroken (xs ++ ys) 0 count
+unbroken-first xs ys count dense size = unbroken-front xs ys count (dense-unbroken false xs 0 count dense) (omega arith)
 
 -- a dense list begins with a one
 first_one : (cells : List Bool) → IsDense false cells → 0 < length cells → get_or cells 0 false ≡ true
@@ -164,45 +152,7 @@ first_one [] dense some = absurd (omega arith)
 first_one (true ∷ cells) dense some = refl
 first_one (false ∷ cells) dense some = absurd dense
 
--- also where the ring begins anew
-next_one : (ring : List Bool) (place : ℕ) → IsDense false ring → 0 < length ring → cell_of ring place ≡ false → cell_of ring (place + 1) ≡ true
-next_one ring place dense some zero_there =
-    let m = length ring in
-    let rest = place % m in
-    let below : rest < m = mod-lt place some in
-    let one : place + 1 ≡ suc place = add-one place in
-    elim (cases_lt (suc rest) m) [
-      | inl within ↦ ap (λ (n : ℕ). get_or ring n false) (ap (λ (n : ℕ). n % m) one ∙ suc-mod place m ∙ mod-eq_of_lt within)
-          ∙ one-behind_zero false ring rest dense within zero_there
-      | inr past ↦
-          let last : suc rest ≡ m = omega arith in
-          ap (λ (n : ℕ). get_or ring n false) (ap (λ (n : ℕ). n % m) one ∙ suc-mod place m ∙ ap (λ (n : ℕ). n % m) last ∙ mod_self m)
-          ∙ first_one ring dense some
-    ]
-
--- neighbouring ones are at most two apart
-pub dense-spaced : (ring : List Bool) → IsDense false ring → 0 < length ring → IsSpaced 1 2 ring
-dense-spaced ring dense some = record {
-  has_one = (0, some, ap (λ (n : ℕ). get_or ring n false) (zero-mod (length ring)) ∙ first_one ring dense some);
-  apart = λ place distance near. (
-    near.behind,
-    elim (cases_lt 2 distance) [
-      | inl far ↦ absurd (
-          let one : cell_of ring (place + 1 + 1) ≡ true = next_one ring (place + 1) dense some (near.zeros 1 (lit< tt) (omega arith)) in
-          let second : cell_of ring (place + 2) ≡ false = near.zeros 2 (lit< tt) far in
-          let same : place + 1 + 1 ≡ place + 2 = omega arith in
-          let both = ap (cell_of ring) same in
-          cc)
-      | inr close ↦ close
-    ],
-  );
-}
-
--- so many of the first cells, where they are dense
-pub unbroken-first : (xs ys : List Bool) (count : ℕ) → IsDense false xs → length xs ≡ count → Unbroken (xs ++ ys) 0 count
-unbroken-first xs ys count dense size place above below zeros =
-    let within : place + 8 ≤ length xs = omega arith in
-    let short : place ≤ length xs = omega arith in
-    let fits : 8 ≤ length (drop place xs) = omega (arith, length-drop place xs) in
-    dense-unbroken false xs 0 count dense place above below
-    (sym (ap (take 8) (drop-append-le place xs ys short) ∙ take-append-le 8 (drop place xs) ys fits) ∙ zeros)
+-- neighbouring ones are at most two apart, also where the ring begins anew
+pub dense-spaced : (ring : List Bool) → IsDense false ring → 2 < length ring → IsSpaced 1 2 ring
+dense-spaced ring dense size =
+    zeros-spaced 2 ring size (first_one ring dense (omega arith)) (dense-zeros false (ring ++ ring) (dense-append false ring ring dense dense))

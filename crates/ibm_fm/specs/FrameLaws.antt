@@ -1,17 +1,17 @@
 -- A sector's frame as the ring has it, whatever comes behind it: the sector stands there.
-use Rattle.std.specs.Prelude.{◌≡◌, ℕ, zero, suc, ◌+◌, ◌-◌, ◌*◌, ◌<◌, ◌≤◌, Bool, true, false, not, ◌&&◌, List, ◌∷◌, ◌++◌, length, take, drop, replicate, refl, nat_eq}
-use Rattle.std.proofs.Common.{ap, sym, subst, ◌∙◌, arith, append_assoc, inl, inr, length-append, length-drop, lit<, lit≤}
-use Rattle.std.proofs.Math.Nat.{mod-eq_of_lt}
-use Rattle.std.proofs.lemmas.List.{drop-append-le, take-append-le}
-use Rattle.std.specs.List.{list_all, range_with_len}
+use Rattle.std.specs.Prelude.{◌≡◌, ℕ, ◌+◌, ◌*◌, ◌<◌, ◌≤◌, Bool, true, false, List, ◌∷◌, ◌++◌, length, take, drop, replicate, refl}
+use Rattle.std.proofs.Common.{ap, sym, subst, ◌∙◌, arith, append_assoc, inl, inr, length-append, lit<, lit≤}
 use Rattle.flux_base.specs.declared.track.TrackId.{TrackId}
 use Rattle.cell_bits.specs.Bytes.{data_byte, data_cells, fm, fm_cells}
-use Rattle.cell_bits.specs.Word.{number_of, word_cells}
-use Rattle.cell_bits.specs.WordLaws.{length-word_cells, number_of-word_cells}
-use Rattle.ibm_fields.specs.Fields.{AreBytes, bytes_at, high_first, number_at}
-use Rattle.ibm_fields.specs.FieldLaws.{bytes_at-past, data_byte-past, drop-past, number_at-past, take-first}
+use Rattle.cell_bits.specs.Word.{Stands, number_of, word_cells}
+use Rattle.cell_bits.specs.WordLaws.{length-word_cells}
+use Rattle.frame_law.specs.Gaps.{begins, free_of, gap-free}
+use Rattle.frame_law.specs.Parts.{drop-past, take-first}
+use Rattle.frame_law.specs.SectorParts.{AreBytes}
+use Rattle.ibm_fields.specs.Fields.{bytes_at, high_first, number_at}
+use Rattle.ibm_fields.specs.FieldLaws.{bytes_at-past, data_byte-past, number_at-past}
 use Rattle.ibm_fields.specs.Numbers.{crc-lt}
-use Rattle.ibm_fm.specs.Density.{IsDense, dense-append, dense-fm_bytes, unbroken-first, dense-id_mark, dense-data_mark}
+use Rattle.ibm_fm.specs.Density.{IsDense, dense-append, dense-data_mark, dense-fm_bytes, dense-id_mark, unbroken-first}
 use Rattle.ibm_fm.specs.Layout.{field_cells, fm_bytes}
 use Rattle.ibm_fm.specs.Lengths.{length-fm_bytes}
 use Rattle.ibm_fm.specs.ReadLaws.{number_at-behind, reads-first}
@@ -92,108 +92,44 @@ header_stands track sector rest known least most =
       unbroken = unbroken-first (header_cells track sector) rest 112 (dense-header track sector) (length-header_cells track sector);
     }
 
--- the number is that of no mark
-is_no_mark : ℕ → Bool
-is_no_mark number =
-    not (nat_eq number 0xF57E) && (not (nat_eq number 0xF56F) && (not (nat_eq number 0xF56A) && not (nat_eq number 0xF77A)))
+-- in the gap no mark stands, and behind it the data's does
+free_of_marks : (rest : List Bool)
+    → (free_of (word_cells 16 0xF57E) 272 (gap_and_mark ++ rest) ≡ true)
+    × (free_of (word_cells 16 0xF56F) 272 (gap_and_mark ++ rest) ≡ true)
+    × (free_of (word_cells 16 0xF56A) 272 (gap_and_mark ++ rest) ≡ true)
+    × (free_of (word_cells 16 0xF77A) 272 (gap_and_mark ++ rest) ≡ true)
+unfolding free_of begins gap_and_mark fm fm_cells word_cells
+free_of_marks rest = (refl, refl, refl, refl)
 
-number_in_gap : ℕ → ℕ
-number_in_gap place = number_of (take 16 (drop place gap_and_mark))
-
-no_mark_in_gap : list_all (λ place. is_no_mark (number_in_gap place)) (range_with_len 0 272) ≡ true
-unfolding is_no_mark number_in_gap gap_and_mark fm fm_cells word_cells number_of
-no_mark_in_gap = refl
-
-both_true : (a b : Bool) → (a && b) ≡ true → (a ≡ true) × (b ≡ true)
-both_true true b holds = (refl, holds)
-both_true false b holds = absurd (cc)
-
-each_in_range : (p : ℕ → Bool) (first count k : ℕ) → list_all p (range_with_len first count) ≡ true → k < count → p (first + k) ≡ true
-each_in_range p first zero k all within = absurd (omega arith)
-each_in_range p first (suc count) zero all within =
-    let e : first + 0 ≡ first = omega arith in
-    ap p e ∙ (both_true (p first) (list_all p (range_with_len (first + 1) count)) all).0
-each_in_range p first (suc count) (suc k) all within =
-    let e : first + suc k ≡ first + 1 + k = omega arith in
-    ap p e ∙ each_in_range p (first + 1) count k (both_true (p first) (list_all p (range_with_len (first + 1) count)) all).1 (omega arith)
-
--- in the gap, 16 cells do not depend on what comes behind the mark
-in_gap : (rest : List Bool) (place : ℕ) → place ≤ 272 → take 16 (drop place (gap_and_mark ++ rest)) ≡ take 16 (drop place gap_and_mark)
-in_gap rest place within =
-    let short : place ≤ length gap_and_mark = omega (arith, length-gap_and_mark) in
-    let fits : 16 ≤ length (drop place gap_and_mark) = omega (arith, length-drop place gap_and_mark, length-gap_and_mark) in
-    ap (take 16) (drop-append-le place gap_and_mark rest short) ∙ take-append-le 16 (drop place gap_and_mark) rest fits
-
-mark_number : (rest : List Bool) (place mark : ℕ) → place < 272 → mark < 65536
-    → take 16 (drop place (gap_and_mark ++ rest)) ≡ word_cells 16 mark → number_in_gap place ≡ mark
-unfolding number_in_gap
-mark_number rest place mark within fits stands =
-    let low : place ≤ 272 = omega arith in
-    ap number_of (sym (in_gap rest place low) ∙ stands) ∙ number_of-word_cells 16 mark ∙ mod-eq_of_lt fits
-
-no_mark : (rest : List Bool) (place mark : ℕ) → place < 272 → mark < 65536 → is_no_mark mark ≡ false
-    → ¬ (take 16 (drop place (gap_and_mark ++ rest)) ≡ word_cells 16 mark)
-no_mark rest place mark within fits is_mark stands =
-    let e : 0 + place ≡ place = omega arith in
-    let test : is_no_mark (number_in_gap place) ≡ true =
-    ap (λ (n : ℕ). is_no_mark (number_in_gap n)) (sym e)
-    ∙ each_in_range (λ n. is_no_mark (number_in_gap n)) 0 272 place no_mark_in_gap within in
-    let same : is_no_mark (number_in_gap place) ≡ is_no_mark mark = ap is_no_mark (mark_number rest place mark within fits stands) in
-    cc
-
-id_is_mark : is_no_mark 0xF57E ≡ false
-unfolding is_no_mark
-id_is_mark = refl
-
-data_is_mark : is_no_mark 0xF56F ≡ false
-unfolding is_no_mark
-data_is_mark = refl
-
-deleted_is_mark : is_no_mark 0xF56A ≡ false
-unfolding is_no_mark
-deleted_is_mark = refl
-
-index_is_mark : is_no_mark 0xF77A ≡ false
-unfolding is_no_mark
-index_is_mark = refl
-
-mark_behind_gap : take 16 (drop 272 gap_and_mark) ≡ word_cells 16 0xF56F
+gap_mark : (rest : List Bool) → take 16 (drop 272 (gap_and_mark ++ rest)) ≡ word_cells 16 0xF56F
 unfolding gap_and_mark fm fm_cells word_cells
-mark_behind_gap = refl
+gap_mark rest = refl
 
-byte_of_mark : number_of (data_cells (take 16 (drop 272 gap_and_mark))) ≡ 0xFB
-unfolding gap_and_mark fm fm_cells word_cells number_of data_cells
-byte_of_mark = refl
-
-data_byte-of_mark : (rest : List Bool) → data_byte (gap_and_mark ++ rest) 272 ≡ 0xFB
-unfolding data_byte
-data_byte-of_mark rest = ap (λ (cells : List Bool). number_of (data_cells cells)) (in_gap rest 272 (lit≤ tt)) ∙ byte_of_mark
+gap_byte : (rest : List Bool) → data_byte (gap_and_mark ++ rest) 272 ≡ 0xFB
+unfolding gap_and_mark fm fm_cells word_cells data_byte data_cells number_of
+gap_byte rest = refl
 
 -- the first mark behind the header is the data mark
 opens : (track : TrackId) (sector : ℕ) (rest : List Bool) → OpensData (header_cells track sector ++ (gap_and_mark ++ rest)) 384
 opens track sector rest =
     let header = header_cells track sector in
     let size = length-header_cells track sector in
-    let cells = header ++ (gap_and_mark ++ rest) in
-    let mark : take 16 (drop 384 cells) ≡ word_cells 16 0xF56F =
-    ap (take 16) (drop-past header (gap_and_mark ++ rest) 112 272 size) ∙ in_gap rest 272 (lit≤ tt) ∙ mark_behind_gap in
-    let none : (place mark : ℕ) → 112 ≤ place → place < 384 → mark < 65536 → is_no_mark mark ≡ false → ¬ (take 16 (drop place cells) ≡ word_cells 16 mark) =
-    λ place mark above below fits is_mark stands.
-    let e : 112 + (place - 112) ≡ place = omega arith in
-    no_mark rest (place - 112) mark (omega arith) fits is_mark
-    (ap (take 16) (sym (drop-past header (gap_and_mark ++ rest) 112 (place - 112) size) ∙ ap (λ (n : ℕ). drop n cells) e) ∙ stands) in
+    let gap = gap_and_mark ++ rest in
+    let free = free_of_marks rest in
+    let none : (place mark : ℕ) → 112 ≤ place → place < 384 → free_of (word_cells 16 mark) 272 gap ≡ true → ¬ Stands (header ++ gap) mark 16 place =
+    λ place mark above below none_there. gap-free mark 16 272 header gap 112 place (lit≤ tt) none_there size above below in
     record {
       behind = lit≤ tt;
       near = lit< tt;
-      opens = inl mark;
+      opens = inl (ap (take 16) (drop-past header gap 112 272 size) ∙ gap_mark rest);
       first = λ place above below some. elim some [
         | inl data_mark ↦ elim data_mark [
-          | inl stands ↦ none place 0xF56F above below (lit< tt) data_is_mark stands
-          | inr stands ↦ none place 0xF56A above below (lit< tt) deleted_is_mark stands
+          | inl stands ↦ none place 0xF56F above below free.1 stands
+          | inr stands ↦ none place 0xF56A above below free.2 stands
         ]
         | inr other ↦ elim other [
-          | inl stands ↦ none place 0xF57E above below (lit< tt) id_is_mark stands
-          | inr stands ↦ none place 0xF77A above below (lit< tt) index_is_mark stands
+          | inl stands ↦ none place 0xF57E above below free.0 stands
+          | inr stands ↦ none place 0xF77A above below free.3 stands
         ]
       ];
     }
@@ -212,7 +148,7 @@ frame_stands track sector bytes rest known least most fit size =
     append_assoc header (gap_and_mark ++ field) rest ∙ ap (λ (some : List Bool). header ++ some) (append_assoc gap_and_mark field rest) in
     let header_size = length-header_cells track sector in
     let byte : data_byte whole 384 ≡ 0xFB =
-    ap (λ (some : List Bool). data_byte some 384) apart ∙ data_byte-past header (gap_and_mark ++ behind) 112 272 header_size ∙ data_byte-of_mark behind in
+    ap (λ (some : List Bool). data_byte some 384) apart ∙ data_byte-past header (gap_and_mark ++ behind) 112 272 header_size ∙ gap_byte behind in
     record {
       header = subst (λ (some : List Bool). HeaderStands track some sector) (sym apart)
           (header_stands track sector (gap_and_mark ++ behind) known least most);

@@ -1,5 +1,5 @@
 -- How many cells the parts of a ring have: 16 for each byte and each mark.
-use Rattle.std.specs.Prelude.{◌≡◌, ℕ, zero, suc, ◌+◌, ◌-◌, ◌*◌, ◌≤◌, Bool, List, [], ◌∷◌, ◌++◌, length, drop, replicate, refl}
+use Rattle.std.specs.Prelude.{◌≡◌, ℕ, ◌+◌, ◌-◌, ◌*◌, ◌≤◌, Bool, List, [], ◌∷◌, ◌++◌, length, drop, replicate, refl}
 use Rattle.std.proofs.Common.{ap, ◌∙◌, arith, length-append, length-drop}
 use Rattle.std.proofs.lemmas.List.{length-take, length-replicate}
 use Rattle.std.specs.List.{flat_map, range_with_len}
@@ -8,6 +8,7 @@ use Rattle.cell_bits.specs.Bytes.{fm, fm_cells}
 use Rattle.cell_bits.specs.Word.{word_cells}
 use Rattle.cell_bits.specs.WordLaws.{length-word_cells}
 use Rattle.frame_law.specs.Rings.{bytes_of}
+use Rattle.frame_law.specs.SectorParts.{sectors-length}
 use Rattle.ibm_fields.specs.Fields.{high_first}
 use Rattle.ibm_fm.specs.declared.layout.Piece.{Piece}
 use Rattle.ibm_fm.specs.declared.layout.Piece.TheVariants.{Run, Mark, Address, Content}
@@ -83,15 +84,11 @@ length-sector_cells track bytes sector whole least most =
 -- so many sectors in a row
 pub length-sectors : (track : TrackId) (bytes : List ℕ) (first count : ℕ) → length bytes ≡ 3328 → 1 ≤ first → first + count ≤ 27
     → length (flat_map (sector_cells track bytes) (range_with_len first count)) ≡ 3008 * count
-length-sectors track bytes first zero whole least most = refl
-length-sectors track bytes first (suc count) whole least most =
-    let e = length-append (sector_cells track bytes first) (flat_map (sector_cells track bytes) (range_with_len (first + 1) count)) in
-    omega (
-      arith,
-      e,
-      length-sector_cells track bytes first whole least (omega arith),
-      length-sectors track bytes (first + 1) count whole (omega arith) (omega arith),
-    )
+length-sectors track bytes first count whole least most =
+    let e =
+    sectors-length (sector_cells track bytes) 3008 first count
+    (λ s low high. length-sector_cells track bytes s whole (omega (arith, least, low)) (omega (arith, most, high))) in
+    omega (arith, e)
 
 pub length-ring_of : (track : TrackId) (bytes : List ℕ) → length bytes ≡ 3328 → length (ring_of track bytes) ≡ 83328
 unfolding ring_of sectors_cells sector_numbers

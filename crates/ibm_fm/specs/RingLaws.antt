@@ -1,16 +1,13 @@
 -- The laws of the ring: its length, its ones, and that its sectors stand in every stretch of its repetition.
-use Rattle.std.specs.Prelude.{◌≡◌, ℕ, suc, ◌+◌, ◌-◌, ◌*◌, ◌%◌, ◌≤◌, Bool, false, List, [], ◌∷◌, ◌++◌, length, drop, replicate}
+use Rattle.std.specs.Prelude.{◌≡◌, ℕ, ◌+◌, ◌-◌, ◌≤◌, Bool, false, List, [], ◌++◌, length, drop, replicate}
 use Rattle.std.proofs.Common.{ap, sym, subst, ◌∙◌, arith, append_assoc, length-append}
-use Rattle.std.proofs.lemmas.List.Concat.{flat_map-append}
 use Rattle.std.specs.List.{flat_map, range_with_len}
 use Rattle.flux_base.specs.declared.track.TrackId.{TrackId}
 use Rattle.cell_bits.specs.Broken.{Unbroken}
 use Rattle.cell_bits.specs.Word.{word_cells}
 use Rattle.frame_law.specs.Rings.{AreSectors, IsSectorNumber, IsSpaced, LiesAt, bytes_of, stretch}
-use Rattle.frame_law.specs.Stretches.{drop-stretch, stretch-part}
-use Rattle.ibm_fields.specs.Fields.{AreBytes}
-use Rattle.ibm_fields.specs.FieldLaws.{AreBytes-drop, AreBytes-from, AreBytes-take}
-use Rattle.ibm_fields.specs.Numbers.{range-parts}
+use Rattle.frame_law.specs.SectorParts.{AreBytes-from, bytes_of-fit, sectors-parts}
+use Rattle.frame_law.specs.Stretches.{frame-stands}
 use Rattle.ibm_fm.specs.Density.{dense-ring, dense-spaced, dense-unbroken}
 use Rattle.ibm_fm.specs.FrameLaws.{frame_of, frame_stands, gap_and_mark, length-frame_of}
 use Rattle.ibm_fm.specs.Layout.{FRAME_CELLS, field_cells, fm_bytes, lead_in, lead_out, pieces_cells, place_of, ring_of, sector_cells, sector_numbers, sectors_cells}
@@ -59,13 +56,7 @@ sectors_behind track bytes s = flat_map (sector_cells track bytes) (range_with_l
 sectors_parts : (track : TrackId) (bytes : List ℕ) (s : ℕ) → 1 ≤ s → s ≤ 26
     → sectors_cells track bytes ≡ sectors_before track bytes s ++ (sector_cells track bytes s ++ sectors_behind track bytes s)
 unfolding sectors_cells sector_numbers sectors_before sectors_behind
-sectors_parts track bytes s least most =
-    let count : 26 ≡ s - 1 + suc (26 - s) = omega arith in
-    let number : 1 + (s - 1) ≡ s = omega arith in
-    ap (λ (n : ℕ). flat_map (sector_cells track bytes) (range_with_len 1 n)) count
-    ∙ ap (flat_map (sector_cells track bytes))
-    (range-parts 1 (s - 1) (26 - s) ∙ ap (λ (n : ℕ). range_with_len 1 (s - 1) ++ n ∷ range_with_len (n + 1) (26 - s)) number)
-    ∙ flat_map-append (sector_cells track bytes) (range_with_len 1 (s - 1)) (s ∷ range_with_len (s + 1) (26 - s))
+sectors_parts track bytes s least most = sectors-parts (sector_cells track bytes) 1 26 s (s - 1) (26 - s) (omega arith) (omega arith)
 
 before_in_ring : TrackId → List ℕ → ℕ → List Bool
 before_in_ring track bytes s = pieces_cells track 0 [] lead_in ++ (sectors_before track bytes s ++ before_frame)
@@ -116,15 +107,10 @@ sector_stands track bytes s from count place known sectors number lies =
     let frame = frame_of track s content in
     let size : length content ≡ 128 = length-bytes_of bytes s sectors.whole number.least most in
     let frame_size : length frame ≡ 2480 = length-frame_of track s content size in
-    let here : (from + place) % length ring ≡ length (before_in_ring track bytes s) =
-    ap (λ (n : ℕ). (from + place) % n) (length-ring_of track bytes sectors.whole)
-    ∙ lies.same ∙ sym (length-before_in_ring track bytes s sectors.whole number.least most) in
-    let within : place ≤ count = omega (arith, lies.whole) in
-    let room : length frame ≤ count - place = omega (arith, lies.whole, frame_size) in
-    let apart : drop place (stretch ring from count) ≡ frame ++ stretch ring (from + place + length frame) (count - place - length frame) =
-    drop-stretch place ring from count within
-    ∙ stretch-part frame ring (before_in_ring track bytes s) (behind_in_ring track bytes s) (from + place) (count - place)
-    (ring_parts track bytes s number.least most) (λ some. here) room in
-    let fit : AreBytes content = AreBytes-take 128 (drop ((s - 1) * 128) bytes) (AreBytes-drop ((s - 1) * 128) bytes (AreBytes-from bytes sectors.fit)) in
-    subst (λ (cells : List Bool). SectorStands track cells s content) (sym apart)
-    (frame_stands track s content (stretch ring (from + place + length frame) (count - place - length frame)) known number.least most fit size)
+    let apart =
+    frame-stands (before_in_ring track bytes s) frame (behind_in_ring track bytes s) ring 83328 (place_of s) FRAME_CELLS from count place
+    (ring_parts track bytes s number.least most) (length-ring_of track bytes sectors.whole)
+    (length-before_in_ring track bytes s sectors.whole number.least most) frame_size lies in
+    let fit = AreBytes-from content (bytes_of-fit 1 128 bytes s sectors.fit) in
+    subst (λ (cells : List Bool). SectorStands track cells s content) (sym apart.1)
+    (frame_stands track s content apart.0 known number.least most fit size)

@@ -1,13 +1,13 @@
 -- What stands is one thing: the cells determine the sector's number and its bytes.
 use Rattle.std.specs.Prelude.{◌≡◌, ℕ, ◌+◌, Bool, List, length}
-use Rattle.std.proofs.Common.{ap, sym, ◌∙◌, inl, inr, arith}
-use Rattle.std.proofs.lemmas.Bool.{cases_lt}
+use Rattle.std.proofs.Common.{ap, sym, ◌∙◌, inl, arith, ◌⊎◌}
 use Rattle.flux_base.specs.declared.track.TrackId.{TrackId}
 use Rattle.cell_bits.specs.Word.{Stands}
+use Rattle.frame_law.specs.Gaps.{one-first}
 use Rattle.frame_law.specs.Rings.{IsSectorNumber}
 use Rattle.ibm_fields.specs.Fields.{bytes_at}
 use Rattle.ibm_fields.specs.FieldLaws.{length-bytes_at}
-use Rattle.ibm_fm.specs.Sectors.{HeaderStands, OpensData, SectorStands, address_of}
+use Rattle.ibm_fm.specs.Sectors.{DataMarkAt, HeaderStands, OpensData, OtherMarkAt, SectorStands, address_of}
 
 pub sync_leads : (track : TrackId) (cells : List Bool) (s : ℕ) → HeaderStands track cells s → Stands cells 0xF57E 16 0
 sync_leads track cells s header = header.mark
@@ -19,13 +19,8 @@ one_header track cells s t first second =
 
 one_sync : (cells : List Bool) (p q : ℕ) → OpensData cells p → OpensData cells q → p ≡ q
 one_sync cells p q first second =
-    elim (cases_lt p q) [
-      | inl before ↦ absurd (second.first p first.behind before (inl first.opens))
-      | inr above ↦ elim (cases_lt q p) [
-        | inl before ↦ absurd (first.first q second.behind before (inl second.opens))
-        | inr below ↦ omega arith
-      ]
-    ]
+    one-first (λ (place : ℕ). DataMarkAt cells place ⊎ OtherMarkAt cells place) 112 p q
+    first.behind (inl first.opens) first.first second.behind (inl second.opens) second.first
 
 pub one_content : (track : TrackId) (cells : List Bool) (s t : ℕ) (xs ys : List ℕ)
     → SectorStands track cells s xs → SectorStands track cells t ys → xs ≡ ys

@@ -1,12 +1,14 @@
 -- A sector's frame as the ring has it, whatever comes behind it: the sector stands there.
-use Rattle.std.specs.Prelude.{◌≡◌, ℕ, zero, suc, ◌+◌, ◌-◌, ◌*◌, ◌<◌, ◌≤◌, Bool, true, false, not, ◌&&◌, List, [], ◌∷◌, ◌++◌, length, take, drop, replicate, refl}
+use Rattle.std.specs.Prelude.{◌≡◌, ℕ, ◌+◌, ◌*◌, ◌<◌, ◌≤◌, Bool, true, false, List, [], ◌∷◌, ◌++◌, length, replicate, refl}
 use Rattle.std.proofs.Common.{ap, sym, subst, ◌∙◌, arith, append_assoc, inl, length-append, lit<, lit≤}
 use Rattle.std.proofs.lemmas.List.{length-map, map-append}
 use Rattle.flux_base.specs.declared.track.TrackId.{TrackId}
 use Rattle.cell_bits.specs.Bytes.{data_byte, mfm, mfm_cells}
 use Rattle.cell_bits.specs.Word.{word_cells}
-use Rattle.ibm_fields.specs.Fields.{AreBytes, bytes_at, high_first}
-use Rattle.ibm_fields.specs.FieldLaws.{data_byte-first, drop-past, number_at-high_first}
+use Rattle.frame_law.specs.Gaps.{begins, free_of, gap-free}
+use Rattle.frame_law.specs.SectorParts.{AreBytes}
+use Rattle.ibm_fields.specs.Fields.{bytes_at, high_first}
+use Rattle.ibm_fields.specs.FieldLaws.{data_byte-first, number_at-high_first}
 use Rattle.ibm_fields.specs.Numbers.{AreBytes-high_first, crc-lt}
 use Rattle.mfm_coding.specs.declared.symbol.Symbol.{Symbol}
 use Rattle.mfm_coding.specs.declared.symbol.Symbol.TheVariants.{Data, SyncMark}
@@ -74,53 +76,9 @@ header_stands sectors track sector rest known least most few =
       unbroken = unbroken-first 1 (coded false header) rest 160 (apart-coded header) size;
     }
 
--- the cells of a word stand at the front
-begins : List Bool → List Bool → Bool
-begins [] cells = true
-begins (cell ∷ word) [] = false
-begins (true ∷ word) (true ∷ cells) = begins word cells
-begins (true ∷ word) (false ∷ cells) = false
-begins (false ∷ word) (true ∷ cells) = false
-begins (false ∷ word) (false ∷ cells) = begins word cells
-
--- the mark stands at none of the first places
-free_of_mark : ℕ → List Bool → Bool
-free_of_mark zero cells = true
-free_of_mark (suc count) [] = true
-free_of_mark (suc count) (cell ∷ cells) = not (begins (word_cells 16 0x4489) (cell ∷ cells)) && free_of_mark count cells
-
-begins-same : (word cells : List Bool) → take (length word) cells ≡ word → begins word cells ≡ true
-unfolding begins
-begins-same [] cells same = refl
-begins-same (cell ∷ word) [] same = absurd (cc)
-begins-same (true ∷ word) (true ∷ cells) same = begins-same word cells (cc)
-begins-same (true ∷ word) (false ∷ cells) same = absurd (cc)
-begins-same (false ∷ word) (true ∷ cells) same = absurd (cc)
-begins-same (false ∷ word) (false ∷ cells) same = begins-same word cells (cc)
-
-not_true : (a b : Bool) → (not a && b) ≡ true → ¬ (a ≡ true)
-not_true true b holds is = cc
-not_true false b holds is = cc
-
-both_true : (a b : Bool) → (a && b) ≡ true → b ≡ true
-both_true true b holds = holds
-both_true false b holds = absurd (cc)
-
-no_mark : (count : ℕ) (cells : List Bool) (place : ℕ) → free_of_mark count cells ≡ true → place < count
-    → ¬ (take 16 (drop place cells) ≡ word_cells 16 0x4489)
-unfolding free_of_mark word_cells
-no_mark zero cells place free within stands = absurd (omega arith)
-no_mark (suc count) [] zero free within stands = cc
-no_mark (suc count) [] (suc place) free within stands = cc
-no_mark (suc count) (cell ∷ cells) zero free within stands =
-    not_true (begins (word_cells 16 0x4489) (cell ∷ cells)) (free_of_mark count cells) free
-    (begins-same (word_cells 16 0x4489) (cell ∷ cells) stands)
-no_mark (suc count) (cell ∷ cells) (suc place) free within stands =
-    no_mark count cells place (both_true (not (begins (word_cells 16 0x4489) (cell ∷ cells))) (free_of_mark count cells) free) (omega arith) stands
-
 -- in the gap no mark stands, and behind it the sync does
-gap_free : (before : Bool) (rest : List Bool) → free_of_mark 544 (coded before gap_symbols ++ rest) ≡ true
-unfolding free_of_mark begins coded symbol_cells mfm mfm_cells word_cells
+gap_free : (before : Bool) (rest : List Bool) → free_of (word_cells 16 0x4489) 544 (coded before gap_symbols ++ rest) ≡ true
+unfolding free_of begins coded symbol_cells mfm mfm_cells word_cells
 gap_free true rest = refl
 gap_free false rest = refl
 
@@ -141,9 +99,7 @@ data_sync track sector before rest =
       near = lit< tt;
       stands = SyncAt-past header behind 160 544 size (gap_sync before rest);
       none_before = λ place above below sync.
-          let e : 160 + (place - 160) ≡ place = omega arith in
-          no_mark 544 behind (place - 160) (gap_free before rest) (omega arith)
-          (ap (take 16) (sym (drop-past header behind 160 (place - 160) size) ∙ ap (λ (n : ℕ). drop n (header ++ behind)) e) ∙ sync.first);
+          gap-free 0x4489 16 544 header behind 160 place (lit≤ tt) (gap_free before rest) size above below sync.first;
     }
 
 -- the sector stands at the front of its frame

@@ -1,10 +1,11 @@
 -- How many bytes and marks the parts of a ring have.
-use Rattle.std.specs.Prelude.{◌≡◌, ℕ, zero, suc, ◌+◌, ◌-◌, ◌*◌, ◌≤◌, false, List, [], ◌∷◌, ◌++◌, length, drop, refl}
+use Rattle.std.specs.Prelude.{◌≡◌, ℕ, ◌+◌, ◌-◌, ◌*◌, ◌≤◌, false, List, [], ◌∷◌, ◌++◌, length, drop, refl}
 use Rattle.std.proofs.Common.{ap, sym, subst, ◌∙◌, arith, inl, inr, length-append, length-drop}
 use Rattle.std.proofs.lemmas.List.{length-map, length-take, length-replicate}
 use Rattle.std.specs.List.{flat_map, range_with_len}
 use Rattle.flux_base.specs.declared.track.TrackId.{TrackId}
 use Rattle.frame_law.specs.Rings.{bytes_of}
+use Rattle.frame_law.specs.SectorParts.{sectors-length}
 use Rattle.ibm_fields.specs.Fields.{high_first}
 use Rattle.ibm_mfm.specs.declared.layout.Piece.{Piece}
 use Rattle.ibm_mfm.specs.declared.layout.Piece.TheVariants.{Run, Address, Content}
@@ -73,12 +74,9 @@ length-sector_symbols sectors track bytes sector whole least most =
 pub length-sectors : (sectors : ℕ) (track : TrackId) (bytes : List ℕ) (first count : ℕ) → length bytes ≡ sectors * 512 → 1 ≤ first
     → first + count ≤ sectors + 1
     → length (flat_map (sector_symbols sectors track bytes) (range_with_len first count)) ≡ count * (574 + gap_of sectors)
-length-sectors sectors track bytes first zero whole least most = omega arith
-length-sectors sectors track bytes first (suc count) whole least most =
-    let e = length-append (sector_symbols sectors track bytes first) (flat_map (sector_symbols sectors track bytes) (range_with_len (first + 1) count)) in
-    let one = length-sector_symbols sectors track bytes first whole least (omega arith) in
-    let more = length-sectors sectors track bytes (first + 1) count whole (omega arith) (omega arith) in
-    omega (arith, e, one, more)
+length-sectors sectors track bytes first count whole least most =
+    sectors-length (sector_symbols sectors track bytes) (574 + gap_of sectors) first count
+    (λ s low high. length-sector_symbols sectors track bytes s whole (omega (arith, least, low)) (omega (arith, most, high)))
 
 length-ring_symbols : (sectors : ℕ) (track : TrackId) (bytes : List ℕ) → length bytes ≡ sectors * 512
     → length (ring_symbols sectors track bytes) ≡ 146 + (sectors * (574 + gap_of sectors) + end_gap_of sectors)

@@ -5,8 +5,10 @@ use Rattle.std.proofs.Math.Nat.{mod-eq_of_lt}
 use Rattle.cell_bits.specs.Bytes.{data_byte, data_cells, mfm, mfm_cells}
 use Rattle.cell_bits.specs.Word.{number_of, word_cells}
 use Rattle.cell_bits.specs.WordLaws.{number_of-word_cells}
-use Rattle.ibm_fields.specs.Fields.{AreBytes, bytes_at}
-use Rattle.ibm_fields.specs.FieldLaws.{bytes_at-past, take-first}
+use Rattle.frame_law.specs.Parts.{take-first}
+use Rattle.frame_law.specs.SectorParts.{AreBytes}
+use Rattle.ibm_fields.specs.Fields.{bytes_at}
+use Rattle.ibm_fields.specs.FieldLaws.{bytes_at-past}
 use Rattle.mfm_coding.specs.declared.symbol.Symbol.{Symbol}
 use Rattle.mfm_coding.specs.declared.symbol.Symbol.TheVariants.{Data}
 use Rattle.mfm_coding.specs.Coding.{bytes_as_data, coded, low_bit, symbol_cells}

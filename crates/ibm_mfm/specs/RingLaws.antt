@@ -1,26 +1,23 @@
 -- The laws of the ring: its length, its ones, and that its sectors stand in every stretch of its repetition.
-use Rattle.std.specs.Prelude.{◌≡◌, ℕ, zero, suc, ◌+◌, ◌-◌, ◌*◌, ◌%◌, ◌<◌, ◌≤◌, Bool, true, false, List, [], ◌∷◌, ◌++◌, length, drop, replicate, get_or, refl, nat_eq, if◌then◌else◌}
+use Rattle.std.specs.Prelude.{◌≡◌, ℕ, zero, suc, ◌+◌, ◌-◌, ◌*◌, ◌<◌, ◌≤◌, Bool, true, false, List, [], ◌++◌, length, drop, replicate, get_or, refl, nat_eq, if◌then◌else◌}
 use Rattle.std.proofs.Common.{ap, sym, subst, ◌∙◌, arith, append_assoc, inl, inr, length-append}
-use Rattle.std.proofs.lemmas.List.Concat.{flat_map-append}
 use Rattle.std.specs.List.{flat_map, range_with_len}
 use Rattle.flux_base.specs.declared.track.TrackId.{TrackId}
 use Rattle.cell_bits.specs.Broken.{Unbroken}
 use Rattle.cell_bits.specs.Bytes.{mfm, mfm_cells}
 use Rattle.cell_bits.specs.Word.{word_cells}
 use Rattle.frame_law.specs.Rings.{AreSectors, IsSectorNumber, IsSpaced, LiesAt, bytes_of, stretch}
-use Rattle.frame_law.specs.Stretches.{drop-stretch, stretch-part}
-use Rattle.ibm_fields.specs.Fields.{AreBytes}
-use Rattle.ibm_fields.specs.FieldLaws.{AreBytes-drop, AreBytes-from, AreBytes-take}
-use Rattle.ibm_fields.specs.Numbers.{range-parts}
+use Rattle.frame_law.specs.SectorParts.{AreBytes-from, bytes_of-fit, sectors-parts}
+use Rattle.frame_law.specs.Stretches.{frame-stands}
 use Rattle.mfm_coding.specs.declared.symbol.Symbol.{Symbol}
 use Rattle.mfm_coding.specs.declared.symbol.Symbol.TheVariants.{Data}
 use Rattle.mfm_coding.specs.Coding.{coded, symbol_cells}
-use Rattle.mfm_coding.specs.CodingLaws.{coded-append, last_bit, last_bit-append, length-coded}
+use Rattle.mfm_coding.specs.CodingLaws.{coded-parts, last_bit, last_bit-append, length-coded}
 use Rattle.ibm_mfm.specs.FrameLaws.{frame_of, frame_stands, frame_symbols, length-frame_of, three_marks}
 use Rattle.ibm_mfm.specs.Layout.{FRAME_CELLS, field, gap_of, lead_in, lead_out, pieces_symbols, place_of, ring_cells_of, ring_of, ring_symbols, sector_numbers, sector_symbols, sectors_symbols}
 use Rattle.ibm_mfm.specs.Lengths.{length-bytes_of, length-lead_in, length-ring_of, length-sectors}
 use Rattle.ibm_mfm.specs.Sectors.{IsCount, IsTrack, SectorStands, address_of}
-use Rattle.mfm_coding.specs.Spacing.{AreApart, apart-coded, apart-spaced, apart-unbroken}
+use Rattle.mfm_coding.specs.Spacing.{apart-coded, apart-unbroken, coded-spaced}
 
 pub ring_length : (sectors : ℕ) (track : TrackId) (bytes : List ℕ) → IsTrack sectors track → AreSectors sectors 512 bytes
     → length (ring_of sectors track bytes) ≡ ring_cells_of sectors
@@ -45,15 +42,6 @@ ring_bit sectors track bytes =
     ∙ last_bit-append (last_bit false first) second third
     ∙ lead_out-bit (last_bit (last_bit false first) second) (nat_eq sectors 9)
 
--- two rings, one behind the other, are coded like one
-twice : (sectors : ℕ) (track : TrackId) (bytes : List ℕ)
-    → coded false (ring_symbols sectors track bytes ++ ring_symbols sectors track bytes) ≡ ring_of sectors track bytes ++ ring_of sectors track bytes
-unfolding ring_of
-twice sectors track bytes =
-    let symbols = ring_symbols sectors track bytes in
-    coded-append false symbols symbols
-    ∙ ap (λ (bit : Bool). coded false symbols ++ coded bit symbols) (ring_bit sectors track bytes)
-
 first_one : (sectors : ℕ) (track : TrackId) (bytes : List ℕ) → get_or (ring_of sectors track bytes) 0 false ≡ true
 unfolding ring_of ring_symbols pieces_symbols coded symbol_cells mfm mfm_cells word_cells
 first_one sectors track bytes = refl
@@ -66,11 +54,9 @@ least_length sectors track bytes =
     omega (arith, length-coded false (first ++ rest), length-append first rest, length-lead_in track)
 
 pub ring_spaced : (sectors : ℕ) (track : TrackId) (bytes : List ℕ) → IsSpaced 2 4 (ring_of sectors track bytes)
+unfolding ring_of
 ring_spaced sectors track bytes =
-    apart-spaced (ring_of sectors track bytes)
-    (subst (AreApart 1) (twice sectors track bytes)
-    (apart-coded (ring_symbols sectors track bytes ++ ring_symbols sectors track bytes)))
-    (least_length sectors track bytes) (first_one sectors track bytes)
+    coded-spaced (ring_symbols sectors track bytes) (ring_bit sectors track bytes) (least_length sectors track bytes) (first_one sectors track bytes)
 
 frame_ends : (sectors s : ℕ) → IsCount sectors → IsSectorNumber 1 sectors s → place_of sectors s + FRAME_CELLS ≤ ring_cells_of sectors
 frame_ends sectors s known number =
@@ -120,13 +106,7 @@ sectors_parts : (sectors : ℕ) (track : TrackId) (bytes : List ℕ) (s : ℕ) �
     ≡ sectors_before sectors track bytes s ++ (sector_symbols sectors track bytes s ++ sectors_behind sectors track bytes s)
 unfolding sectors_symbols sector_numbers sectors_before sectors_behind
 sectors_parts sectors track bytes s least most =
-    let f = sector_symbols sectors track bytes in
-    let count : sectors ≡ s - 1 + suc (sectors - s) = omega arith in
-    let number : 1 + (s - 1) ≡ s = omega arith in
-    ap (λ (n : ℕ). flat_map f (range_with_len 1 n)) count
-    ∙ ap (flat_map f)
-    (range-parts 1 (s - 1) (sectors - s) ∙ ap (λ (n : ℕ). range_with_len 1 (s - 1) ++ n ∷ range_with_len (n + 1) (sectors - s)) number)
-    ∙ flat_map-append f (range_with_len 1 (s - 1)) (s ∷ range_with_len (s + 1) (sectors - s))
+    sectors-parts (sector_symbols sectors track bytes) 1 sectors s (s - 1) (sectors - s) (omega arith) (omega arith)
 
 before_in_ring : ℕ → TrackId → List ℕ → ℕ → List Symbol
 before_in_ring sectors track bytes s = pieces_symbols track 0 [] lead_in ++ (sectors_before sectors track bytes s ++ before_frame)
@@ -175,8 +155,7 @@ ring_parts sectors track bytes s least most =
     let bit = last_bit false before in
     let rest = coded (last_bit bit frame) behind in
     ap (coded false) (symbols_parts sectors track bytes s least most)
-    ∙ coded-append false before (frame ++ behind)
-    ∙ ap (λ (cells : List Bool). coded false before ++ cells) (coded-append bit frame behind)
+    ∙ coded-parts before frame behind
     ∙ ap (λ (cells : List Bool). coded false before ++ (cells ++ rest)) (frame_cells bit track s (bytes_of 1 512 bytes s))
 
 place_behind : (sectors s : ℕ) → IsCount sectors → 16 * (146 + ((s - 1) * (574 + gap_of sectors) + 12)) ≡ place_of sectors s
@@ -219,16 +198,10 @@ sector_stands sectors track bytes s from count place known all number lies =
     let frame = frame_of track s content in
     let size : length content ≡ 512 = length-bytes_of sectors bytes s all.whole number.least most in
     let frame_size : length frame ≡ 8992 = length-frame_of track s content size in
-    let here : (from + place) % length ring ≡ length (cells_before sectors track bytes s) =
-    ap (λ (n : ℕ). (from + place) % n) (length-ring_of sectors track bytes known.count all.whole)
-    ∙ lies.same ∙ sym (length-cells_before sectors track bytes s known.count all.whole number.least most) in
-    let within : place ≤ count = omega (arith, lies.whole) in
-    let room : length frame ≤ count - place = omega (arith, lies.whole, frame_size) in
-    let rest = stretch ring (from + place + length frame) (count - place - length frame) in
-    let apart : drop place (stretch ring from count) ≡ frame ++ rest =
-    drop-stretch place ring from count within
-    ∙ stretch-part frame ring (cells_before sectors track bytes s) (cells_behind sectors track bytes s) (from + place) (count - place)
-    (ring_parts sectors track bytes s number.least most) (λ some. here) room in
-    let fit : AreBytes content = AreBytes-take 512 (drop ((s - 1) * 512) bytes) (AreBytes-drop ((s - 1) * 512) bytes (AreBytes-from bytes all.fit)) in
-    subst (λ (cells : List Bool). SectorStands sectors track cells s content) (sym apart)
-    (frame_stands sectors track s content rest known number.least most (few_sectors sectors known.count) fit size)
+    let apart =
+    frame-stands (cells_before sectors track bytes s) frame (cells_behind sectors track bytes s) ring (ring_cells_of sectors) (place_of sectors s)
+    FRAME_CELLS from count place (ring_parts sectors track bytes s number.least most) (length-ring_of sectors track bytes known.count all.whole)
+    (length-cells_before sectors track bytes s known.count all.whole number.least most) frame_size lies in
+    let fit = AreBytes-from content (bytes_of-fit 1 512 bytes s all.fit) in
+    subst (λ (cells : List Bool). SectorStands sectors track cells s content) (sym apart.1)
+    (frame_stands sectors track s content apart.0 known number.least most (few_sectors sectors known.count) fit size)

@@ -1,15 +1,15 @@
 -- What stands is one thing: the cells determine the sector's number and its bytes.
 use Rattle.std.specs.Prelude.{◌≡◌, ℕ, ◌+◌, ◌≤◌, ◌^◌, Bool, List, length}
 use Rattle.std.proofs.Common.{ap, sym, subst, ◌∙◌, inl, inr, arith, lit≤}
-use Rattle.std.proofs.lemmas.Bool.{cases_lt}
 use Rattle.flux_base.specs.declared.track.TrackId.{TrackId}
 use Rattle.cell_bits.specs.Word.{Stands}
+use Rattle.frame_law.specs.Gaps.{one-first}
 use Rattle.frame_law.specs.Rings.{IsSectorNumber}
 use Rattle.ibm_fields.specs.Fields.{bytes_at}
 use Rattle.ibm_fields.specs.FieldLaws.{length-bytes_at}
 use Rattle.ibm_mfm.specs.Layout.{ring_cells_of}
 use Rattle.ibm_mfm.specs.Sectors.{HeaderStands, IsDataSync, IsTrack, SectorStands, address_of}
-use Rattle.ibm_mfm.specs.Syncs.{two_marks-join}
+use Rattle.ibm_mfm.specs.Syncs.{SyncAt, two_marks-join}
 
 pub sync_leads : (sectors : ℕ) (track : TrackId) (cells : List Bool) (s : ℕ) → HeaderStands sectors track cells s → Stands cells 0x44894489 32 0
 sync_leads sectors track cells s header = two_marks-join cells 0 header.sync.first header.sync.second
@@ -23,13 +23,7 @@ one_header sectors track cells s t first second =
 -- the sync of the data is one place
 pub one_sync : (cells : List Bool) (p q : ℕ) → IsDataSync cells p → IsDataSync cells q → p ≡ q
 one_sync cells p q first second =
-    elim (cases_lt p q) [
-      | inl before ↦ absurd (second.none_before p first.behind before first.stands)
-      | inr above ↦ elim (cases_lt q p) [
-        | inl before ↦ absurd (first.none_before q second.behind before second.stands)
-        | inr below ↦ omega arith
-      ]
-    ]
+    one-first (SyncAt cells) 160 p q first.behind first.stands first.none_before second.behind second.stands second.none_before
 
 pub one_content : (sectors : ℕ) (track : TrackId) (cells : List Bool) (s t : ℕ) (xs ys : List ℕ)
     → SectorStands sectors track cells s xs → SectorStands sectors track cells t ys → xs ≡ ys

@@ -1,5 +1,5 @@
 -- Coded bytes and marks: how many cells they have, and how they are joined.
-use Rattle.std.specs.Prelude.{◌≡◌, ℕ, ◌*◌, Bool, List, [], ◌∷◌, ◌++◌, length, refl}
+use Rattle.std.specs.Prelude.{◌≡◌, ℕ, ◌*◌, Bool, List, [], ◌∷◌, ◌++◌, length, refl, false}
 use Rattle.std.proofs.Common.{ap, sym, ◌∙◌, arith, append_assoc, append-nil, length-append}
 use Rattle.cell_bits.specs.Bytes.{last_cell, mfm, mfm_cells}
 use Rattle.cell_bits.specs.Word.{word_cells}
@@ -41,6 +41,14 @@ coded-append before [] ys = refl
 coded-append before (symbol ∷ xs) ys =
     ap (λ (cells : List Bool). symbol_cells before symbol ++ cells) (coded-append (low_bit symbol) xs ys)
     ∙ sym (append_assoc (symbol_cells before symbol) (coded (low_bit symbol) xs) (coded (last_bit (low_bit symbol) xs) ys))
+
+-- a part, what is before it, and what is behind it
+pub coded-parts : (before part behind : List Symbol)
+    → coded false (before ++ (part ++ behind))
+    ≡ coded false before ++ (coded (last_bit false before) part ++ coded (last_bit (last_bit false before) part) behind)
+coded-parts before part behind =
+    coded-append false before (part ++ behind)
+    ∙ ap (λ (cells : List Bool). coded false before ++ cells) (coded-append (last_bit false before) part behind)
 
 pub last_bit-append : (before : Bool) (xs ys : List Symbol) → last_bit before (xs ++ ys) ≡ last_bit (last_bit before xs) ys
 last_bit-append before [] ys = refl
