@@ -9,7 +9,8 @@ use Rattle.std.proofs.lemmas.List.Elements.{All-append, All-weaker, All-drop, Al
 use Rattle.std.proofs.lemmas.List.Folds.{list_all-append}
 use Rattle.std.proofs.Math.Seq.{get_or-append_seam, take-append_seam}
 use Rattle.kryo_stream.specs.declared.block.Block.{Block}
-use Rattle.flux_writer.specs.Written.{spellings, begin_of, interval_blocks, interval_of, in_stream_before, is_first_above, index_block, transition_blocks, stream_blocks}
+use Rattle.kryo_stream.specs.Sequence.{spellings}
+use Rattle.flux_writer.specs.Written.{begin_of, interval_blocks, interval_of, in_stream_before, is_first_above, index_block, transition_blocks, stream_blocks}
 use Rattle.flux_writer.specs.Writing.{count_before, indexes_before, indexes_behind, next_blocks, last_blocks, many_blocks, position_behind, position_after, time_after}
 use Rattle.flux_writer.proofs.Steps.{spellings-append}
 use Rattle.flux_writer.proofs.Rising.{Rises, Rises-from_increasing, Rises-behind, behind_is_late, filter-none, filter-same, filter-before, before-behind, front_is_early}

@@ -7,8 +7,6 @@ pub mod Progress
 pub mod CellTimes
 pub mod Parts
 pub mod Rings
-pub mod Begins
-pub mod Timings
 pub mod Stands
 pub mod ReadTimes
 pub mod ReadIndexes

@@ -4,7 +4,8 @@ use Rattle.cell_bits.specs.Word.{Stands}
 use Rattle.cell_bits.specs.Search.{StandsNowhere}
 use Rattle.flux_base.specs.Outside.{AppendsPart}
 use Rattle.flux_writer.specs.Gathering.{Gathers}
-use Rattle.flux_writer.specs.Written.{cell_time, spellings}
+use Rattle.kryo_stream.specs.Sequence.{spellings}
+use Rattle.flux_writer.specs.Written.{cell_time}
 use Rattle.flux_writer.specs.Writing.{indexes_behind, next_blocks, many_blocks, position_behind, times_between, ones_from, IsReadyAt, IsWritten}
 use Rattle.flux_writer.proofs.CellTimes.{cell_time-le, product-small, times_between-split, times_between-one}
 use Rattle.flux_writer.proofs.Progress.{IsReady-next, IsReady-fits, IsWritten-more, IsWritten-one, IsWritten-part, part_of_one, part_of_more}

@@ -5,7 +5,8 @@ use Rattle.std.proofs.lemmas.List.{take_more, take-append-drop}
 use Rattle.std.specs.List.Sorted.{IsStrictlyIncreasing, IsNonDecreasing}
 use Rattle.flux_base.specs.Outside.{AppendsPart}
 use Rattle.flux_writer.specs.Gathering.{Gathers}
-use Rattle.flux_writer.specs.Written.{spellings, stream_of_times}
+use Rattle.kryo_stream.specs.Sequence.{spellings}
+use Rattle.flux_writer.specs.Written.{stream_of_times}
 use Rattle.flux_writer.specs.Writing.{count_before, indexes_behind, next_blocks, last_blocks, many_blocks, position_behind, position_after, time_after, indexes_after, IsReady, IsWritten, ticks_of}
 use Rattle.flux_writer.specs.declared.indexes.IndexUnit.TheVariants.{Ticks}
 use Rattle.flux_writer.proofs.Gathered.{Gathers-nothing, Gathers-more, Gathers-all, Gathers-part, AppendsPart-longer}

@@ -2,39 +2,39 @@
 use Rattle.std.proofs.Common.{◌≡◌, ◌≤◌, ◌+◌, ◌-◌, ◌*◌, ◌/◌, ◌%◌, ◌++◌, ℕ, zero, suc, List, [], ◌∷◌, map, replicate, refl, ap, ◌∙◌, arith, append_assoc}
 use Rattle.kryo_stream.specs.declared.block.Block.{Block}
 use Rattle.kryo_stream.specs.declared.block.Block.TheVariants.{Flux, Overflow}
+use Rattle.kryo_stream.specs.Sequence.{transitions_from}
 use Rattle.flux_writer.specs.Written.{index_block, interval_blocks}
 use Rattle.flux_writer.specs.Writing.{indexes_before, indexes_behind, last_blocks, many_blocks, position_behind, position_after}
-use Rattle.flux_writer.proofs.Timings.{times_from}
 use Rattle.flux_writer.proofs.Stands.{InOrder}
 
 times_of_indexes : (time position begin : ℕ) (xs : List ℕ) (cs : List Block)
-    → times_from time (map (index_block position begin) xs ++ cs) ≡ times_from time cs
+    → transitions_from time (map (index_block position begin) xs ++ cs) ≡ transitions_from time cs
 times_of_indexes time position begin [] cs = refl
 times_of_indexes time position begin (x ∷ xs) cs =
-    ap (λ t. times_from t (map (index_block position begin) xs ++ cs)) (omega arith) ∙ times_of_indexes time position begin xs cs
+    ap (λ t. transitions_from t (map (index_block position begin) xs ++ cs)) (omega arith) ∙ times_of_indexes time position begin xs cs
 
-times_of_overflows : (n time : ℕ) (cs : List Block) → times_from time (replicate n Overflow ++ cs) ≡ times_from (time + 65536 * n) cs
-times_of_overflows zero time cs = ap (λ t. times_from t cs) (omega arith)
-times_of_overflows (suc n) time cs = times_of_overflows n (time + 65536) cs ∙ ap (λ t. times_from t cs) (omega arith)
+times_of_overflows : (n time : ℕ) (cs : List Block) → transitions_from time (replicate n Overflow ++ cs) ≡ transitions_from (time + 65536 * n) cs
+times_of_overflows zero time cs = ap (λ t. transitions_from t cs) (omega arith)
+times_of_overflows (suc n) time cs = times_of_overflows n (time + 65536) cs ∙ ap (λ t. transitions_from t cs) (omega arith)
 
 times_of_interval : (begin time : ℕ) (cs : List Block) → begin ≤ time
-    → times_from begin (interval_blocks (time - begin) ++ cs) ≡ time ∷ times_from time cs
+    → transitions_from begin (interval_blocks (time - begin) ++ cs) ≡ time ∷ transitions_from time cs
 times_of_interval begin time cs order =
     let n = (time - begin) / 65536 in
     let r = (time - begin) % 65536 in
     let at : (begin + 65536 * n) + r ≡ time = omega (arith, order) in
-    ap (times_from begin) (append_assoc (replicate n Overflow) (Flux r ∷ []) cs)
-    ∙ times_of_overflows n begin (Flux r ∷ cs) ∙ ap (λ t. t ∷ times_from t cs) at
+    ap (transitions_from begin) (append_assoc (replicate n Overflow) (Flux r ∷ []) cs)
+    ∙ times_of_overflows n begin (Flux r ∷ cs) ∙ ap (λ t. t ∷ transitions_from t cs) at
 
 pub times_of_many : (position begin : ℕ) (times indexes : List ℕ) → InOrder begin times
-    → times_from begin (many_blocks position begin times indexes ++ last_blocks (position_after position begin times)) ≡ times
+    → transitions_from begin (many_blocks position begin times indexes ++ last_blocks (position_after position begin times)) ≡ times
 times_of_many position begin [] indexes order = refl
 times_of_many position begin (t ∷ ts) indexes order =
     let front = map (index_block position begin) (indexes_before t indexes) in
     let interval = interval_blocks (t - begin) in
     let rest = many_blocks (position_behind position begin t) t ts (indexes_behind t indexes) in
     let last = last_blocks (position_after (position_behind position begin t) t ts) in
-    ap (times_from begin) (append_assoc (front ++ interval) rest last ∙ append_assoc front interval (rest ++ last))
+    ap (transitions_from begin) (append_assoc (front ++ interval) rest last ∙ append_assoc front interval (rest ++ last))
     ∙ times_of_indexes begin position begin (indexes_before t indexes) (interval ++ (rest ++ last))
     ∙ times_of_interval begin t (rest ++ last) order.0
     ∙ ap (λ ts'. t ∷ ts') (times_of_many (position_behind position begin t) t ts (indexes_behind t indexes) order.1)

@@ -5,7 +5,8 @@ use Rattle.std.proofs.lemmas.List.{take_all, map-append, length-map, get_or_past
 use Rattle.std.proofs.lemmas.Bool.{cases_lt}
 use Rattle.flux_writer.specs.Reading.{HasOneBehind}
 use Rattle.flux_base.specs.Outside.{AppendsPart}
-use Rattle.flux_writer.specs.Written.{cell_time, spellings, quarter, track_cells, track_turns, stream_of_times, stream_of_turns}
+use Rattle.kryo_stream.specs.Sequence.{spellings}
+use Rattle.flux_writer.specs.Written.{cell_time, quarter, track_cells, track_turns, stream_of_times, stream_of_turns}
 use Rattle.std.specs.Io.KnownBytes.{Appends}
 use Rattle.flux_writer.specs.Writing.{many_blocks, last_blocks, ones_from, times_between, IsReadyAt, IsWritten}
 use Rattle.flux_writer.proofs.CellTimes.{ones_from-append, ones_of-is, cell_time-lt}

@@ -2,7 +2,8 @@
 use Rattle.std.proofs.Common.{◌≡◌, ◌≤◌, ◌+◌, ◌-◌, ◌*◌, ◌/◌, ◌++◌, ℕ, List, [], ◌∷◌, length, map, ap, sym, refl, arith, length-append}
 use Rattle.std.specs.List.Sorted.{IsNonDecreasing, IsStrictlyIncreasing}
 use Rattle.kryo_stream.specs.Spelling.{spelling}
-use Rattle.flux_writer.specs.Written.{spellings, index_block, interval_blocks, stream_of_times}
+use Rattle.kryo_stream.specs.Sequence.{spellings}
+use Rattle.flux_writer.specs.Written.{index_block, interval_blocks, stream_of_times}
 use Rattle.flux_writer.specs.Writing.{indexes_before, indexes_behind, last_blocks, many_blocks, position_behind, position_after, time_after}
 use Rattle.flux_writer.specs.Reading.{last_of}
 use Rattle.flux_writer.proofs.Steps.{spellings-append, length-interval}

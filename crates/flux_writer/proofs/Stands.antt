@@ -1,105 +1,72 @@
 -- The blocks of a written stream may stand where they stand.
-use Rattle.std.proofs.Common.{◌≡◌, ◌≤◌, ◌<◌, ◌+◌, ◌-◌, ◌/◌, ◌%◌, ◌++◌, ◌&&◌, ℕ, zero, suc, Bool, true, false, List, [], ◌∷◌, All, length, map, replicate, nat_lt, nat_le, refl, ap, sym, ◌∙◌, subst, arith, append_assoc, length-append, if◌then◌else◌}
+use Rattle.std.proofs.Common.{◌≡◌, ◌≤◌, ◌<◌, ◌+◌, ◌-◌, ◌/◌, ◌%◌, ◌++◌, ◌||◌, ◌&&◌, ℕ, zero, suc, Bool, true, false, List, [], ◌∷◌, All, length, map, replicate, nat_lt, nat_le, refl, ap, sym, ◌∙◌, subst, arith, append_assoc, append-nil, length-append, ◌↔◌, if◌then◌else◌}
 use Rattle.std.specs.List.Sorted.{IsNonDecreasing}
-use Rattle.std.proofs.lemmas.Bool.Decides.{nat_tests}
-use Rattle.std.proofs.lemmas.List.{length-replicate}
-use Rattle.std.proofs.lemmas.List.Elements.{All-nil, All-cons, All-append, All-head, All-tail}
+use Rattle.std.proofs.lemmas.List.{length-replicate, map-append}
+use Rattle.std.proofs.lemmas.List.Elements.{All-head, All-tail}
+use Rattle.std.proofs.lemmas.List.Folds.{list_any-append}
+use Rattle.std.proofs.lemmas.List.Sums.{sum_by-append, sum_by-cons}
 use Rattle.kryo_stream.specs.declared.block.Block.{Block}
-use Rattle.kryo_stream.specs.declared.block.Block.TheVariants.{Flux, Overflow, Nop, StreamInfo, Index, StreamEnd, Info, End}
-use Rattle.byteorder.specs.Endian.{little_bytes}
-use Rattle.kryo_stream.specs.Blocks.{out_of_band}
-use Rattle.kryo_stream.specs.Spelling.{spelling, flux_spelling}
-use Rattle.flux_writer.specs.Written.{spellings, index_block, interval_blocks}
+use Rattle.kryo_stream.specs.declared.block.Block.TheVariants.{Flux, Overflow}
+use Rattle.kryo_stream.specs.Bench.{stream_step}
+use Rattle.kryo_stream.specs.Spelling.{flux_spelling, IsWritable}
+use Rattle.kryo_stream.specs.Stream.{in_stream_bytes, is_stream_end, has_ended, is_end}
+use Rattle.kryo_stream.specs.WellFormed.{MayStand}
+use Rattle.kryo_stream.specs.Sequence.{spellings, spelled, all_spelled, StandsBetween}
+use Rattle.flux_writer.specs.Written.{index_block, interval_blocks}
 use Rattle.flux_writer.specs.Writing.{indexes_before, indexes_behind, last_blocks, many_blocks, position_behind, position_after}
 use Rattle.flux_writer.proofs.Steps.{spellings-interval}
 use Rattle.flux_writer.proofs.Rising.{front_is_early}
-use Rattle.flux_writer.proofs.Begins.{is_empty, Stand}
 
--- each number of the list is a byte
-abbrev AreBytes : List ℕ → Type 0
-AreBytes [] = Unit {0}
-AreBytes (x ∷ xs) = (x < 256) × AreBytes xs
+abbrev pub is_empty : List Block → Bool
+is_empty [] = true
+is_empty (b ∷ bs) = false
 
-All-from_bytes : (xs : List ℕ) → AreBytes xs → All (λ byte. byte < 256) xs
-All-from_bytes [] bytes = All-nil (λ byte. byte < 256)
-All-from_bytes (x ∷ xs) bytes = All-cons (λ byte. byte < 256) x xs bytes.0 (All-from_bytes xs bytes.1)
+-- each block may stand where it stands, where so many in-stream bytes, and perhaps a StreamEnd, stand before the first, and
+-- the last and no other is an End
+abbrev pub Stand : ℕ → Bool → List Block → Type 0
+Stand counted ended [] = Unit {0}
+Stand counted ended (b ∷ bs) =
+    IsWritable b × MayStand counted ended b × (is_end b ≡ is_empty bs) × Stand (counted + stream_step (spelled b)) (ended || is_stream_end b) bs
 
-bytes_of_flux : (ticks : ℕ) → ticks < 65536 → (one two : Bool) → (nat_le 14 ticks && nat_lt ticks 256) ≡ one → nat_lt ticks 2048 ≡ two
-    → AreBytes (if one then ticks ∷ [] else (if two then (ticks / 256) ∷ (ticks % 256) ∷ []
-    else 12 ∷ (ticks / 256) ∷ (ticks % 256) ∷ []))
-bytes_of_flux ticks fits true two is_one is_two = (grind (arith, nat_tests), tt)
-bytes_of_flux ticks fits false true is_one is_two = (omega arith, (omega arith, tt))
-bytes_of_flux ticks fits false false is_one is_two = (omega arith, (omega arith, (omega arith, tt)))
+counted-next : (done : List Block) (b : Block)
+    → in_stream_bytes (all_spelled (done ++ b ∷ [])) ≡ in_stream_bytes (all_spelled done) + stream_step (spelled b)
+counted-next done b =
+    ap in_stream_bytes (map-append spelled done (b ∷ []))
+    ∙ omega (arith, sum_by-append stream_step (all_spelled done) (spelled b ∷ []), sum_by-cons stream_step (spelled b) [])
 
-bytes-append : (xs ys : List ℕ) → AreBytes xs → AreBytes ys → AreBytes (xs ++ ys)
-bytes-append [] ys bytes more = more
-bytes-append (x ∷ xs) ys bytes more = (bytes.0, bytes-append xs ys bytes.1 more)
+ended-next : (done : List Block) (b : Block) → has_ended (all_spelled (done ++ b ∷ [])) ≡ (has_ended (all_spelled done) || is_stream_end b)
+ended-next done b =
+    ap has_ended (map-append spelled done (b ∷ []))
+    ∙ list_any-append (λ p. is_stream_end p.block) (all_spelled done) (spelled b ∷ [])
+    ∙ ap (λ e. has_ended (all_spelled done) || e) (or_false (is_stream_end b))
+  where
+    or_false : (e : Bool) → (e || false) ≡ e
+    or_false true = refl
+    or_false false = refl
 
-four_bytes : (n : ℕ) → AreBytes (little_bytes 4 n)
-four_bytes n = (omega arith, (omega arith, (omega arith, (omega arith, tt))))
+end-iff : (e : Bool) (bs : List Block) → e ≡ is_empty bs → (e ≡ true) ↔ (bs ≡ [])
+end-iff e [] is = ((λ end. refl), (λ none. is))
+end-iff e (b ∷ bs) is = ((λ end. absurd (true_false (sym end ∙ is))), (λ none. absurd (cons_nil none)))
+  where
+    true_false : true ≡ false → ⊥
+    true_false same = cc
 
-header_bytes : (kind size : ℕ) → kind < 256 → AreBytes (out_of_band kind size)
-header_bytes kind size fits = (omega arith, (fits, (omega arith, (omega arith, tt))))
+    cons_nil : b ∷ bs ≡ [] → ⊥
+    cons_nil same = cc
 
--- the blocks that a stream is written of
-abbrev IsOurs : Block → Type 0
-IsOurs (Flux ticks) = ticks < 65536
-IsOurs Overflow = Unit {0}
-IsOurs (Nop _) = ⊥
-IsOurs (StreamInfo _ _) = ⊥
-IsOurs (Index _ _ _) = Unit {0}
-IsOurs (StreamEnd _ _) = Unit {0}
-IsOurs (Info _) = ⊥
-IsOurs End = Unit {0}
-
-abbrev AreOurs : List Block → Type 0
-AreOurs [] = Unit {0}
-AreOurs (b ∷ bs) = IsOurs b × AreOurs bs
-
-bytes_of : (b : Block) → IsOurs b → AreBytes (spelling b)
-bytes_of (Flux ticks) fits = bytes_of_flux ticks fits _ _ refl refl
-bytes_of Overflow ours = (omega arith, tt)
-bytes_of (Nop _) ours = absurd ours
-bytes_of (StreamInfo _ _) ours = absurd ours
-bytes_of (Index position sample counter) ours =
-    bytes-append (out_of_band 2 12) (little_bytes 4 position ++ (little_bytes 4 sample ++ little_bytes 4 counter)) (header_bytes 2 12 (omega arith))
-    (bytes-append (little_bytes 4 position) (little_bytes 4 sample ++ little_bytes 4 counter) (four_bytes position)
-    (bytes-append (little_bytes 4 sample) (little_bytes 4 counter) (four_bytes sample) (four_bytes counter)))
-bytes_of (StreamEnd position code) ours =
-    bytes-append (out_of_band 3 8) (little_bytes 4 position ++ little_bytes 4 code) (header_bytes 3 8 (omega arith))
-    (bytes-append (little_bytes 4 position) (little_bytes 4 code) (four_bytes position) (four_bytes code))
-bytes_of (Info _) ours = absurd ours
-bytes_of End ours = (omega arith, (omega arith, (omega arith, (omega arith, tt))))
-
-pub ours_are_bytes : (bs : List Block) → AreOurs bs → All (λ byte. byte < 256) (spellings bs)
-ours_are_bytes [] ours = All-nil (λ byte. byte < 256)
-ours_are_bytes (b ∷ bs) ours =
-    All-append (λ byte. byte < 256) (spelling b) (spellings bs) (All-from_bytes (spelling b) (bytes_of b ours.0)) (ours_are_bytes bs ours.1)
-
-ours-append : (bs cs : List Block) → AreOurs bs → AreOurs cs → AreOurs (bs ++ cs)
-ours-append [] cs ours more = more
-ours-append (b ∷ bs) cs ours more = (ours.0, ours-append bs cs ours.1 more)
-
-ours_indexes : (position begin : ℕ) (xs : List ℕ) → AreOurs (map (index_block position begin) xs)
-ours_indexes position begin [] = tt
-ours_indexes position begin (x ∷ xs) = (tt, ours_indexes position begin xs)
-
-ours_overflows : (n : ℕ) → AreOurs (replicate n Overflow)
-ours_overflows zero = tt
-ours_overflows (suc n) = (tt, ours_overflows n)
-
-pub ours_many : (position begin : ℕ) (times indexes : List ℕ) → AreOurs (many_blocks position begin times indexes ++ last_blocks (position_after position begin times))
-ours_many position begin [] indexes = (tt, (tt, tt))
-ours_many position begin (t ∷ ts) indexes =
-    let front = map (index_block position begin) (indexes_before t indexes) in
-    let interval = interval_blocks (t - begin) in
-    let rest = many_blocks (position_behind position begin t) t ts (indexes_behind t indexes) in
-    let last = last_blocks (position_after (position_behind position begin t) t ts) in
-    subst AreOurs (sym (append_assoc (front ++ interval) rest last))
-    (ours-append (front ++ interval) (rest ++ last)
-    (ours-append front interval (ours_indexes position begin (indexes_before t indexes))
-    (ours-append (replicate ((t - begin) / 65536) Overflow) (Flux ((t - begin) % 65536) ∷ []) (ours_overflows ((t - begin) / 65536)) (omega arith, tt)))
-    (ours_many (position_behind position begin t) t ts (indexes_behind t indexes)))
+-- so each stands between those before it and those behind it
+pub Stand-each : (done before : List Block) (block : Block) (behind : List Block)
+    → Stand (in_stream_bytes (all_spelled done)) (has_ended (all_spelled done)) (before ++ block ∷ behind) → StandsBetween (done ++ before) block behind
+Stand-each done [] block behind stand =
+    subst (λ front. StandsBetween front block behind) (sym (append-nil done))
+    (record { numbers = stand.0; place = stand.1; end = end-iff (is_end block) behind stand.2 })
+Stand-each done (b ∷ before) block behind stand =
+    let more = done ++ b ∷ [] in
+    let rest = before ++ block ∷ behind in
+    let stands : Stand (in_stream_bytes (all_spelled more)) (has_ended (all_spelled more)) rest =
+    subst (λ n. Stand n (has_ended (all_spelled more)) rest) (sym (counted-next done b))
+    (subst (λ e. Stand (in_stream_bytes (all_spelled done) + stream_step (spelled b)) e rest) (sym (ended-next done b)) stand.3) in
+    subst (λ front. StandsBetween front block behind) (append_assoc done (b ∷ []) before) (Stand-each more before block behind stands)
 
 -- a flux value takes a byte at least
 length-flux : (ticks : ℕ) (one two : Bool) →

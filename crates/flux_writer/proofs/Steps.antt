@@ -7,7 +7,8 @@ use Rattle.kryo_stream.specs.declared.block.Block.{Block}
 use Rattle.kryo_stream.specs.declared.block.Block.TheVariants.{Flux, Overflow}
 use Rattle.kryo_stream.specs.Spelling.{spelling, flux_spelling}
 use Rattle.flux_writer.specs.Gathering.{Gathers}
-use Rattle.flux_writer.specs.Written.{spellings, interval_blocks, index_block}
+use Rattle.kryo_stream.specs.Sequence.{spellings}
+use Rattle.flux_writer.specs.Written.{interval_blocks, index_block}
 use Rattle.flux_writer.specs.Writing.{position_behind, count_before, indexes_before, indexes_behind, next_blocks, many_blocks, position_after, time_after, indexes_after}
 use Rattle.flux_base.specs.Outside.{AppendsPart}
 use Rattle.flux_writer.proofs.Gathered.{Gathers-nothing, Gathers-more, Gathers-part, AppendsPart-longer}

@@ -1,6 +1,6 @@
 -- What a caller of the writer gives, and what a written stream is to its reader.
-use Rattle.std.specs.Prelude.{◌≡◌, ◌<◌, ◌-◌, ℕ, List, Bool, true, false, length, slice_index, get_or, None}
-use Rattle.kryo_stream.specs.Stream.{first_fault, times, indexes, stream_length}
+use Rattle.std.specs.Prelude.{◌≡◌, ◌<◌, ◌-◌, ℕ, List, Bool, true, false, length, slice_index, get_or}
+pub use Rattle.kryo_stream.specs.Sequence.{IsStreamOf}
 use Rattle.flux_writer.specs.Written.{quarter}
 
 -- the last number of a list, and 0 where there is none
@@ -19,10 +19,3 @@ HasOneBehind cells place = (one : ℕ) × (place < one) × (get_or cells one fal
 -- is written of the ring
 abbrev pub HasEarlyOne : List Bool → Type 0
 HasEarlyOne ring = (one : ℕ) × (0 < one) × (one < quarter ring) × (get_or ring one false ≡ true)
-
--- the bytes are one stream without a fault, with these transitions and index times, and nothing stands behind it
-pub record IsStreamOf (bytes transitions turns : List ℕ) : Type 0 where
-  pub no_fault : first_fault bytes ≡ None
-  pub transitions_are : times bytes ≡ transitions
-  pub turns_are : indexes bytes ≡ turns
-  pub whole : stream_length bytes ≡ length bytes

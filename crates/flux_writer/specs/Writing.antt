@@ -7,7 +7,8 @@ use Rattle.kryo_stream.specs.declared.block.Block.TheVariants.{StreamEnd, End}
 use Rattle.flux_writer.specs.declared.indexes.IndexUnit.{IndexUnit}
 use Rattle.flux_writer.specs.declared.indexes.IndexUnit.TheVariants.{Ticks, Cells}
 use Rattle.kryo_stream.specs.Protocol.{OVERFLOW_TICKS}
-use Rattle.flux_writer.specs.Written.{spellings, cell_time, index_block, interval_blocks, track_cells}
+use Rattle.kryo_stream.specs.Sequence.{spellings}
+use Rattle.flux_writer.specs.Written.{cell_time, index_block, interval_blocks, track_cells}
 use Rattle.flux_writer.specs.Gathering.{Gathers}
 
 -- the time in ticks of an index that is given in this unit

@@ -5,11 +5,7 @@ use Rattle.std.specs.List.{list_all, range_with_len}
 use Rattle.kryo_stream.specs.declared.block.Block.{Block}
 use Rattle.kryo_stream.specs.declared.block.Block.TheVariants.{Flux, Overflow, Index, StreamEnd, End}
 use Rattle.kryo_stream.specs.Protocol.{OVERFLOW_TICKS}
-use Rattle.kryo_stream.specs.Spelling.{spelling}
-
--- the bytes of blocks, one behind another
-abbrev pub spellings : List Block → List ℕ
-spellings blocks = flat_map spelling blocks
+use Rattle.kryo_stream.specs.Sequence.{spellings}
 
 -- the time at which interval number k begins: that of the transition before, or 0
 abbrev pub begin_of : List ℕ → ℕ → ℕ

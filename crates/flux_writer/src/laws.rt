@@ -4,7 +4,7 @@ ghost use Rattle.flux_writer.specs.Reading.{last_of, EndsWithTransition, HasOneB
 ghost use Rattle.kryo_stream.specs.Protocol.{OVERFLOW_TICKS};
 ghost use Rattle.flux_writer.specs.Written.{stream_of_times, stream_of_turns, stream_of, cell_time, ones_of, track_cells, track_turns};
 
-use kryo_stream::{spelling_law, stream_law};
+use kryo_stream::blocks_law;
 
 /// A written stream with at least two index times and no more bytes than a stream may have is read as the
 /// transitions and index times that were given. A transition takes three bytes at most and one for each
@@ -17,8 +17,7 @@ pub fn written_law()
         → length (stream_of_times transitions turns)
         ≤ 3 * length transitions + last_of transitions / OVERFLOW_TICKS + 16 * length turns + 16 }
 {
-    stream_law();
-    spelling_law();
+    blocks_law();
 }
 
 /// A written stream of cells with at least two index cells and no more bytes than a stream may have is read as

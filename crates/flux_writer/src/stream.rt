@@ -3,7 +3,8 @@ ghost use Rattle.std.specs.Io.KnownBytes.{Appends};
 ghost use Rattle.flux_base.specs.Outside.{AppendsPart, Rose};
 ghost use Rattle.kryo_stream.specs.Spelling.{spelling, flux_spelling};
 ghost use Rattle.flux_writer.specs.Gathering.{Gathers};
-ghost use Rattle.flux_writer.specs.Written.{spellings, index_block, interval_blocks};
+ghost use Rattle.kryo_stream.specs.Sequence.{spellings};
+ghost use Rattle.flux_writer.specs.Written.{index_block, interval_blocks};
 ghost use Rattle.flux_writer.specs.Writing.{ticks_of, AreCounted, indexes_before, indexes_behind, next_blocks, last_blocks};
 
 use crate::indexes::{IndexTimes, IndexUnit};

@@ -4,7 +4,8 @@ ghost use Rattle.std.specs.Io.KnownBytes.{Appends};
 ghost use Rattle.flux_base.specs.Outside.{AppendsPart, Rose};
 ghost use Rattle.flux_writer.specs.Reading.{HasOneBehind, HasEarlyOne};
 ghost use Rattle.flux_writer.specs.Writing.{IsReadyAt, IsWritten, many_blocks, times_between, track_times};
-ghost use Rattle.flux_writer.specs.Written.{spellings, stream_of, stream_of_turns};
+ghost use Rattle.kryo_stream.specs.Sequence.{spellings};
+ghost use Rattle.flux_writer.specs.Written.{stream_of, stream_of_turns};
 
 use crate::indexes::IndexUnit;
 use crate::stream::StreamWriter;

@@ -12,6 +12,7 @@ use Rattle.kryo_stream.specs.declared.block.Piece.{Piece}
 use Rattle.std.specs.List.Sorted.{IsNonDecreasing}
 use Rattle.kryo_stream.specs.Stream.{in_stream_bytes, total_bytes, ticks, block_ticks, times_of, time_at, flux_time, block_of_byte, holds_byte}
 use Rattle.kryo_stream.specs.Bench.{BenchState, IsComplete, IsSearchable, IsSized, IsSizedBlock, stream_step, flux_ends, end_of, overflow_begins, overflow_of, base_time}
+use Rattle.kryo_stream.specs.Sequence.{IsHeld}
 use Rattle.kryo_stream.proofs.BenchLemmas.{step_of, in_stream_bytes-cons, in_stream_bytes-append, flux_ends-append, overflow_begins-append, overflow_begins-length, slice_get-seam}
 use Rattle.kryo_stream.proofs.FindLemmas.{find-range, FindsFirst, count_by-append, count_by-all, count_by-none, count_by-same, count_by-between}
 
@@ -41,7 +42,7 @@ flux_time-is ps (StreamEnd _ _) = refl
 flux_time-is ps (Info _) = refl
 flux_time-is ps End = refl
 
-take-seam : {X : Type 0} (xs : List X) (y : X) (ys : List X) → take (length xs + 1) (xs ++ y ∷ ys) ≡ xs ++ y ∷ []
+pub take-seam : {X : Type 0} (xs : List X) (y : X) (ys : List X) → take (length xs + 1) (xs ++ y ∷ ys) ≡ xs ++ y ∷ []
 take-seam {X} xs y ys =
     let longer : length (xs ++ y ∷ []) ≡ length xs + 1 = omega (arith, length-append xs (y ∷ [])) in
     ap (λ n. take n (xs ++ y ∷ ys)) (sym longer) ∙ ap (take (length (xs ++ y ∷ []))) (sym (append_assoc xs (y ∷ []) ys))
@@ -143,7 +144,7 @@ get_or-last xs y d =
     let longer : length (xs ++ y ∷ []) ≡ suc (length xs) = omega (arith, length-append xs (y ∷ [])) in
     rw longer (get_or-append_seam xs y [] d)
 
-in_stream_bytes-snoc : (ps : List Piece) (p : Piece) → in_stream_bytes (ps ++ p ∷ []) ≡ in_stream_bytes ps + stream_step p
+pub in_stream_bytes-snoc : (ps : List Piece) (p : Piece) → in_stream_bytes (ps ++ p ∷ []) ≡ in_stream_bytes ps + stream_step p
 in_stream_bytes-snoc ps p = omega (arith, in_stream_bytes-append ps (p ∷ []), in_stream_bytes-cons p [])
 
 -- the three kinds of blocks, as the lists see them
@@ -332,11 +333,6 @@ flux_ends-within q (p ∷ ps) =
     (omega (arith, in_stream_bytes-cons p ps)))
     (λ k d below. let rest = flux_ends-within (q + stream_step p) ps k d below in
     (omega (arith, rest.0), omega (arith, rest.1, in_stream_bytes-cons p ps)))
-
--- the first of these blocks holds the byte, or there is none
-abbrev pub IsHeld : List Piece → List Piece → ℕ → Type 0
-IsHeld before [] position = position ≡ in_stream_bytes before
-IsHeld before (p ∷ ps) position = position < in_stream_bytes before + stream_step p
 
 ends_behind : (before from : List Piece) (position : ℕ) → IsHeld before from position
     → All (λ e. nat_le e position ≡ false) (flux_ends (in_stream_bytes before) from)

@@ -20,3 +20,4 @@ pub mod Unpadding
 pub mod SpellingLaws
 pub mod ReadingLaws
 pub mod StreamLaws
+pub mod Sequences

@@ -10,3 +10,4 @@ pub mod Spelling
 pub mod Bench
 pub mod Progress
 pub mod WellFormed
+pub mod Sequence

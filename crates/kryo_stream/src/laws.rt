@@ -3,6 +3,7 @@ ghost use Rattle.kryo_stream.specs.declared.block.Block.{Block};
 ghost use Rattle.kryo_stream.specs.declared.block.Piece.{Piece};
 ghost use Rattle.kryo_stream.specs.Blocks.{Spells};
 ghost use Rattle.kryo_stream.specs.Padding.{IsPadding, padding_of};
+ghost use Rattle.kryo_stream.specs.Sequence.{AreInOrder, IsStreamOf, spellings, transitions_from};
 ghost use Rattle.kryo_stream.specs.Spelling.{IsWritable, spelling};
 ghost use Rattle.kryo_stream.specs.Stream.{first_fault, stream};
 ghost use Rattle.kryo_stream.specs.WellFormed.{BeginsWith};
@@ -23,6 +24,13 @@ pub fn spelling_law()
     ensures spells { (block : Block) → IsWritable block → Spells (spelling block) block }
     ensures prefix { (a b : Block) (later : List ℕ) → IsWritable a → IsWritable b
         → spelling a ++ later ≡ spelling b → spelling a ≡ spelling b }
+{}
+
+/// Blocks in the protocol's order, spelled one behind another, are one stream without a fault: with the
+/// transitions of the blocks, with their index times, and with nothing behind it.
+pub fn blocks_law()
+    ensures { (blocks : List Block) (turns : List ℕ) → AreInOrder blocks turns
+        → IsStreamOf (spellings blocks) (transitions_from 0 blocks) turns }
 {}
 
 /// The padding before a stream is the greatest number of bytes, at most 16, of which each is padding.

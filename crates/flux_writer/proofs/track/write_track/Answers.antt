@@ -2,7 +2,8 @@ use Rattle.std.proofs.Common.{◌≡◌, ◌<◌, ◌+◌, ◌*◌, ◌/◌, ℕ
 use Rattle.std.specs.List.Sorted.{IsStrictlyIncreasing}
 use Rattle.std.proofs.lemmas.Result.{on_ok_weaker, on_err_weaker}
 use Rattle.flux_base.specs.Outside.{AppendsPart}
-use Rattle.flux_writer.specs.Written.{cell_time, spellings, track_cells, track_turns}
+use Rattle.kryo_stream.specs.Sequence.{spellings}
+use Rattle.flux_writer.specs.Written.{cell_time, track_cells, track_turns}
 use Rattle.flux_writer.specs.Writing.{IsWritten, many_blocks, track_times}
 use Rattle.flux_writer.proofs.Rings.{turns_rise, rising_times, cells_all, cells_end, cells_fail}
 use Rattle.flux_writer.proofs.track.write_track.Goals as goal
