@@ -1,4 +1,4 @@
-use Rattle.std.proofs.Common.{[], ◌≤◌, ◌<◌, length, ap, ◌∙◌, subst, arith}
+use Rattle.std.proofs.Common.{[], ◌≤◌, ◌<◌, length, ap, ◌∙◌, subst, arith, rules}
 use Rattle.std.proofs.lemmas.List.{take_all}
 use Rattle.std.proofs.lemmas.Result.{on_ok_weaker, on_err_weaker}
 use Rattle.flux_writer.specs.Writing.{IsWritten}
@@ -57,24 +57,22 @@ loop-time-preserved g c =
       later = omega (arith, c.loop-time.invariant.later, c.transition.ensures.later);
     }
 
-pub returns-clause-ok : goal.returns-clause-ok
-returns-clause-ok g c =
+pub returns : goal.returns
+returns g c =
     let times = c.args.flux.now.times in
+    let indexes = c.args.flux.now.indexes in
     let k = c.loop-time.time-index in
+    let n = c.loop-time.stream in
+    let start = g.W.Sink.written c.args.sink.now in
+    let middle = g.W.Sink.written c.loop-time.sink in
+    let end = g.W.Sink.written c.finish.new.sink in
     let over : length times ≤ k = omega (arith, c.loop-time-test.false, ap length c.times-time-items.ensures.value) in
-    on_ok_weaker c.finish.result (IsWritten-all (g.W.Sink.written c.args.sink.now) (g.W.Sink.written c.loop-time.sink) (g.W.Sink.written c.finish.new.sink)
-    c.args.flux.now.indexes c.loop-time.stream.piece c.loop-time.stream.position c.loop-time.stream.time c.loop-time.stream.indexes times
-    (subst (IsWritten (g.W.Sink.written c.args.sink.now) (g.W.Sink.written c.loop-time.sink) [] 0 0 c.args.flux.now.indexes
-    c.loop-time.stream.piece c.loop-time.stream.position c.loop-time.stream.time c.loop-time.stream.indexes) (take_all k times over) c.loop-time.invariant.written)
-    c.indexes.ensures.order) c.finish.ensures.ok
-
-pub returns-clause-err : goal.returns-clause-err
-returns-clause-err g c =
-    let times = c.args.flux.now.times in
-    let k = c.loop-time.time-index in
-    let over : length times ≤ k = omega (arith, c.loop-time-test.false, ap length c.times-time-items.ensures.value) in
-    on_err_weaker c.finish.result (IsWritten-end (g.W.Sink.written c.args.sink.now) (g.W.Sink.written c.loop-time.sink) (g.W.Sink.written c.finish.new.sink)
-    c.args.flux.now.indexes c.loop-time.stream.piece c.loop-time.stream.position c.loop-time.stream.time c.loop-time.stream.indexes times
-    (subst (IsWritten (g.W.Sink.written c.args.sink.now) (g.W.Sink.written c.loop-time.sink) [] 0 0 c.args.flux.now.indexes
-    c.loop-time.stream.piece c.loop-time.stream.position c.loop-time.stream.time c.loop-time.stream.indexes) (take_all k times over) c.loop-time.invariant.written)
-    c.indexes.ensures.order) c.finish.ensures.err
+    let written = subst (IsWritten start middle [] 0 0 indexes n.piece n.position n.time n.indexes) (take_all k times over)
+    c.loop-time.invariant.written in
+    let order = c.indexes.ensures.order in
+    record {
+      ok = on_ok_weaker c.finish.result (IsWritten-all start middle end indexes n.piece n.position n.time n.indexes times written order) c.finish.ensures.ok;
+      err = on_err_weaker c.finish.result (IsWritten-end start middle end indexes n.piece n.position n.time n.indexes times written order) c.finish.ensures.err;
+      later = search rules;
+      cause = search rules;
+    }

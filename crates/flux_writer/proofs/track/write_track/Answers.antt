@@ -1,4 +1,4 @@
-use Rattle.std.proofs.Common.{◌≡◌, ◌<◌, ◌+◌, ◌*◌, ◌/◌, ℕ, [], ◌∷◌, List, length, map, ap, sym, ◌∙◌, subst, arith}
+use Rattle.std.proofs.Common.{◌≡◌, ◌≤◌, ◌<◌, ◌+◌, ◌*◌, ◌/◌, ℕ, [], ◌∷◌, List, length, map, ap, sym, ◌∙◌, subst, arith, rules}
 use Rattle.std.specs.List.Sorted.{IsStrictlyIncreasing}
 use Rattle.std.proofs.lemmas.Result.{on_ok_weaker, on_err_weaker}
 use Rattle.flux_base.specs.Outside.{AppendsPart}
@@ -22,33 +22,27 @@ write_ring-requires-clause-order g c =
     subst IsStrictlyIncreasing (sym (made_turns c.args.nominal c.len-length.result (length ring) c.new-stream.result.indexes c.len-length.ensures.length c.new-stream.ensures.indexes))
     (rising_times c.args.nominal (track_turns ring) (omega (arith, c.requires.least)) (turns_rise ring some))
 
-pub returns-in-Ok-clause-ok : goal.returns-in-Ok-clause-ok
-returns-in-Ok-clause-ok g c =
+pub returns-in-Ok : goal.returns-in-Ok
+returns-in-Ok g c =
     let ring = c.args.ring.now.cells in
     let nominal = c.args.nominal in
     let n = c.write_ring.new.stream in
     let start = g.W.Sink.written c.args.sink.now in
     let middle = g.W.Sink.written c.write_ring.new.sink in
+    let end = g.W.Sink.written c.finish.new.sink in
     let some : 0 < length ring = omega (arith, c.requires.one.1, c.requires.one.2) in
+    let long : 1024 ≤ nominal = omega (arith, c.requires.least) in
+    let rise = turns_rise ring some in
     let made = made_turns nominal c.len-length.result (length ring) c.new-stream.result.indexes c.len-length.ensures.length c.new-stream.ensures.indexes in
-    on_ok_weaker c.finish.result (cells_all (track_cells ring) (track_turns ring) nominal (omega (arith, c.requires.least)) (turns_rise ring some)
-    start middle (g.W.Sink.written c.finish.new.sink) n.piece n.position n.time n.indexes
-    (subst (λ l. IsWritten start middle [] 0 0 l n.piece n.position n.time n.indexes (track_times ring nominal)) made c.in-Ok.ensures.ok))
-    c.finish.ensures.ok
-
-pub returns-in-Ok-clause-err : goal.returns-in-Ok-clause-err
-returns-in-Ok-clause-err g c =
-    let ring = c.args.ring.now.cells in
-    let nominal = c.args.nominal in
-    let n = c.write_ring.new.stream in
-    let start = g.W.Sink.written c.args.sink.now in
-    let middle = g.W.Sink.written c.write_ring.new.sink in
-    let some : 0 < length ring = omega (arith, c.requires.one.1, c.requires.one.2) in
-    let made = made_turns nominal c.len-length.result (length ring) c.new-stream.result.indexes c.len-length.ensures.length c.new-stream.ensures.indexes in
-    on_err_weaker c.finish.result (cells_end (track_cells ring) (track_turns ring) nominal (omega (arith, c.requires.least)) (turns_rise ring some)
-    start middle (g.W.Sink.written c.finish.new.sink) n.piece n.position n.time n.indexes
-    (subst (λ l. IsWritten start middle [] 0 0 l n.piece n.position n.time n.indexes (track_times ring nominal)) made c.in-Ok.ensures.ok))
-    c.finish.ensures.err
+    let written = subst (λ l. IsWritten start middle [] 0 0 l n.piece n.position n.time n.indexes (track_times ring nominal)) made c.in-Ok.ensures.ok in
+    record {
+      ok = on_ok_weaker c.finish.result (cells_all (track_cells ring) (track_turns ring) nominal long rise start middle end
+          n.piece n.position n.time n.indexes written) c.finish.ensures.ok;
+      err = on_err_weaker c.finish.result (cells_end (track_cells ring) (track_turns ring) nominal long rise start middle end
+          n.piece n.position n.time n.indexes written) c.finish.ensures.err;
+      later = search rules;
+      cause = search rules;
+    }
 
 pub returns-in-Err-clause-err : goal.returns-in-Err-clause-err
 returns-in-Err-clause-err g c =

@@ -1,4 +1,4 @@
-use Rattle.std.proofs.Common.{[], map, refl, arith, append-nil}
+use Rattle.std.proofs.Common.{◌≤◌, [], map, refl, arith, rules, append-nil}
 use Rattle.std.proofs.lemmas.Result.{on_ok_weaker, on_err_weaker}
 use Rattle.flux_writer.specs.Written.{cell_time}
 use Rattle.flux_writer.specs.Writing.{times_between}
@@ -16,39 +16,29 @@ write_part-requires-clause-ready g c =
     IsReadyAt-start c.args.nominal s.position s.time s.indexes (map (cell_time c.args.nominal) c.args.turns.now) e.position e.time e.indexes
     (rising_times c.args.nominal c.args.turns.now (omega (arith, c.requires.least)) c.requires.order)
 
-pub returns-in-Ok-clause-ok : goal.returns-in-Ok-clause-ok
-returns-in-Ok-clause-ok g c =
+pub returns-in-Ok : goal.returns-in-Ok
+returns-in-Ok g c =
     let e = c.new-stream.ensures in
     let s = c.new-stream.result in
     let n = c.write_part.new.stream in
     let start = g.W.Sink.written c.args.sink.now in
     let middle = g.W.Sink.written c.write_part.new.sink in
+    let end = g.W.Sink.written c.finish.new.sink in
     let cells = c.args.cells.now.cells in
     let turns = c.args.turns.now in
     let nominal = c.args.nominal in
-    on_ok_weaker c.finish.result (cells_all cells turns nominal (omega (arith, c.requires.least)) c.requires.order
-    start middle (g.W.Sink.written c.finish.new.sink) n.piece n.position n.time n.indexes
-    (cells_more nominal [] cells 0 refl start start middle (map (cell_time nominal) turns) s.piece s.position s.time s.indexes
+    let long : 1024 ≤ nominal = omega (arith, c.requires.least) in
+    let written = cells_more nominal [] cells 0 refl start start middle (map (cell_time nominal) turns) s.piece s.position s.time s.indexes
     (IsWritten-start start s.piece s.position s.time s.indexes (map (cell_time nominal) turns) e.piece e.position e.time e.indexes)
     (times_between cells 0 c.len.result 0 nominal) n.piece n.position n.time n.indexes
-    (times_of_turn cells c.len.result c.len.ensures.length 0 nominal) c.in-Ok.ensures.ok)) c.finish.ensures.ok
-
-pub returns-in-Ok-clause-err : goal.returns-in-Ok-clause-err
-returns-in-Ok-clause-err g c =
-    let e = c.new-stream.ensures in
-    let s = c.new-stream.result in
-    let n = c.write_part.new.stream in
-    let start = g.W.Sink.written c.args.sink.now in
-    let middle = g.W.Sink.written c.write_part.new.sink in
-    let cells = c.args.cells.now.cells in
-    let turns = c.args.turns.now in
-    let nominal = c.args.nominal in
-    on_err_weaker c.finish.result (cells_end cells turns nominal (omega (arith, c.requires.least)) c.requires.order
-    start middle (g.W.Sink.written c.finish.new.sink) n.piece n.position n.time n.indexes
-    (cells_more nominal [] cells 0 refl start start middle (map (cell_time nominal) turns) s.piece s.position s.time s.indexes
-    (IsWritten-start start s.piece s.position s.time s.indexes (map (cell_time nominal) turns) e.piece e.position e.time e.indexes)
-    (times_between cells 0 c.len.result 0 nominal) n.piece n.position n.time n.indexes
-    (times_of_turn cells c.len.result c.len.ensures.length 0 nominal) c.in-Ok.ensures.ok)) c.finish.ensures.err
+    (times_of_turn cells c.len.result c.len.ensures.length 0 nominal) c.in-Ok.ensures.ok in
+    let order = c.requires.order in
+    record {
+      ok = on_ok_weaker c.finish.result (cells_all cells turns nominal long order start middle end n.piece n.position n.time n.indexes written) c.finish.ensures.ok;
+      err = on_err_weaker c.finish.result (cells_end cells turns nominal long order start middle end n.piece n.position n.time n.indexes written) c.finish.ensures.err;
+      later = search rules;
+      cause = search rules;
+    }
 
 pub returns-in-Err-clause-err : goal.returns-in-Err-clause-err
 returns-in-Err-clause-err g c =
