@@ -10,8 +10,9 @@ use Rattle.kryo_stream.specs.Stream.{in_stream_bytes, block_ticks, ticks}
 use Rattle.kryo_stream.specs.Sequence.{spellings, spelled, all_spelled, IsTurnAt, TurnsAre}
 use Rattle.flux_writer.specs.Written.{index_block, interval_blocks}
 use Rattle.flux_writer.specs.Writing.{count_before, indexes_before, indexes_behind, last_blocks, many_blocks, position_behind, position_after, indexes_after}
+use Rattle.flux_writer.proofs.Steps.{length-flux_spelling}
 use Rattle.flux_writer.proofs.Rising.{Rises, Rises-behind, before-behind, behind_is_late, front_is_early}
-use Rattle.flux_writer.proofs.Stands.{InOrder, flux_takes, interval_takes}
+use Rattle.flux_writer.proofs.Stands.{InOrder, interval_takes}
 
 -- the in-stream bytes and the ticks of blocks
 abbrev pub moved : List Block → ℕ
@@ -77,7 +78,7 @@ record Seam (j : ℕ) (bs : List Block) : Type 0 where
   whole : bs ≡ replicate j Overflow ++ next ∷ rest
 
 seam : (n j r : ℕ) (cs : List Block) → j ≤ n → Seam j (replicate n Overflow ++ Flux r ∷ cs)
-seam zero zero r cs order = record { next = Flux r; rest = cs; some = flux_takes r; whole = refl }
+seam zero zero r cs order = record { next = Flux r; rest = cs; some = (length-flux_spelling r).0; whole = refl }
 seam zero (suc j) r cs order = absurd (omega arith)
 seam (suc n) zero r cs order = record { next = Overflow; rest = replicate n Overflow ++ Flux r ∷ cs; some = omega arith; whole = refl }
 seam (suc n) (suc j) r cs order =

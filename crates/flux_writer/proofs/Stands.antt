@@ -1,5 +1,5 @@
 -- The blocks of a written stream may stand where they stand.
-use Rattle.std.proofs.Common.{◌≡◌, ◌≤◌, ◌<◌, ◌+◌, ◌-◌, ◌/◌, ◌%◌, ◌++◌, ◌||◌, ◌&&◌, ℕ, zero, suc, Bool, true, false, List, [], ◌∷◌, All, length, map, replicate, nat_lt, nat_le, refl, ap, sym, ◌∙◌, subst, arith, append_assoc, append-nil, length-append, ◌↔◌, if◌then◌else◌}
+use Rattle.std.proofs.Common.{◌≡◌, ◌≤◌, ◌<◌, ◌+◌, ◌-◌, ◌/◌, ◌%◌, ◌++◌, ◌||◌, ℕ, zero, suc, Bool, true, false, List, [], ◌∷◌, All, length, map, replicate, refl, ap, sym, ◌∙◌, subst, arith, append_assoc, append-nil, length-append, ◌↔◌}
 use Rattle.std.specs.List.Sorted.{IsNonDecreasing}
 use Rattle.std.proofs.lemmas.List.{length-replicate, map-append}
 use Rattle.std.proofs.lemmas.List.Elements.{All-head, All-tail}
@@ -67,17 +67,6 @@ Stand-each done (b ∷ before) block behind stand =
     subst (λ n. Stand n (has_ended (all_spelled more)) rest) (sym (counted-next done b))
     (subst (λ e. Stand (in_stream_bytes (all_spelled done) + stream_step (spelled b)) e rest) (sym (ended-next done b)) stand.3) in
     subst (λ front. StandsBetween front block behind) (append_assoc done (b ∷ []) before) (Stand-each more before block behind stands)
-
--- a flux value takes a byte at least
-length-flux : (ticks : ℕ) (one two : Bool) →
-    1 ≤ length {A = ℕ} (if one then ticks ∷ [] else (if two then (ticks / 256) ∷ (ticks % 256) ∷ []
-    else 12 ∷ (ticks / 256) ∷ (ticks % 256) ∷ []))
-length-flux ticks true two = omega arith
-length-flux ticks false true = omega arith
-length-flux ticks false false = omega arith
-
-pub flux_takes : (ticks : ℕ) → 1 ≤ length (flux_spelling ticks)
-flux_takes ticks = length-flux ticks (nat_le 14 ticks && nat_lt ticks 256) (nat_lt ticks 2048)
 
 pub interval_takes : (ticks : ℕ) → length (spellings (interval_blocks ticks)) ≡ ticks / 65536 + length (flux_spelling (ticks % 65536))
 interval_takes ticks =

@@ -28,15 +28,17 @@ spellings-interval ticks =
     ∙ ap (λ bytes. bytes ++ spellings (Flux (ticks % 65536) ∷ [])) (spellings-overflows (ticks / 65536))
     ∙ ap (λ bytes. replicate (ticks / 65536) 11 ++ bytes) (append-nil (flux_spelling (ticks % 65536)))
 
--- a flux value takes three bytes at most, and one at least
-length-flux : (ticks : ℕ) (one two : Bool) →
-    length {A = ℕ} (if one then ticks ∷ [] else (if two then (ticks / 256) ∷ (ticks % 256) ∷ []
-    else 12 ∷ (ticks / 256) ∷ (ticks % 256) ∷ [])) ≤ 3
-length-flux ticks true two = omega arith
-length-flux ticks false true = omega arith
-length-flux ticks false false = omega arith
+-- a flux value takes one byte at least and three at most
+abbrev flux_bytes : ℕ → Bool → Bool → List ℕ
+flux_bytes ticks one two =
+    if one then ticks ∷ [] else (if two then (ticks / 256) ∷ (ticks % 256) ∷ [] else 12 ∷ (ticks / 256) ∷ (ticks % 256) ∷ [])
 
-pub length-flux_spelling : (ticks : ℕ) → length (flux_spelling ticks) ≤ 3
+length-flux : (ticks : ℕ) (one two : Bool) → (1 ≤ length (flux_bytes ticks one two)) × (length (flux_bytes ticks one two) ≤ 3)
+length-flux ticks true two = (omega arith, omega arith)
+length-flux ticks false true = (omega arith, omega arith)
+length-flux ticks false false = (omega arith, omega arith)
+
+pub length-flux_spelling : (ticks : ℕ) → (1 ≤ length (flux_spelling ticks)) × (length (flux_spelling ticks) ≤ 3)
 length-flux_spelling ticks = length-flux ticks (nat_le 14 ticks && nat_lt ticks 256) (nat_lt ticks 2048)
 
 pub length-interval : (ticks : ℕ) → length (spellings (interval_blocks ticks)) ≤ ticks / 65536 + 3
@@ -46,7 +48,7 @@ length-interval ticks =
       ap length (spellings-interval ticks),
       length-append (replicate (ticks / 65536) 11) (flux_spelling (ticks % 65536)),
       length-replicate {A = ℕ} (ticks / 65536) 11,
-      length-flux_spelling (ticks % 65536),
+      (length-flux_spelling (ticks % 65536)).1,
     )
 
 -- several transitions, and then more
