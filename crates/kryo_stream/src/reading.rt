@@ -138,7 +138,8 @@ fn read_stream<S: Source>(
     bench.clear();
     let mut before = Before::start();
     for number in 0..LIMIT + 1 {
-        // Nearly all blocks of a track are transitions of one byte.
+        // Nearly all blocks of a track are transitions of one byte. Their way is written out, since one way for
+        // all blocks takes four times as long.
         if let Some(ticks) = short_flux(&before, intake.bytes()) {
             let block = Block::Flux { ticks };
             let piece = Piece { block, bytes: 1 };
