@@ -11,6 +11,7 @@ use crate::indexes::{IndexTimes, IndexUnit};
 use crate::piece::Piece;
 use byteorder::{ByteOrder, LittleEndian};
 use flux_base::{Failed, Sink};
+use kryo_stream::index_spelling;
 
 /// How many ticks an Overflow block stands for.
 const OVERFLOW_TICKS: u64 = 65536;
@@ -153,7 +154,8 @@ fn write_overflows<W: Sink>(piece: &mut Piece, count: u32, sink: &mut W) -> Resu
     Ok(())
 }
 
-/// Writes a flux value, in as few bytes as it fits.
+/// Writes a flux value, in as few bytes as it fits. It is spelled here, straight into the piece and with no block
+/// made, since nearly all blocks of a stream are such values.
 fn write_flux<W: Sink>(piece: &mut Piece, ticks: u16, sink: &mut W) -> Result<(), Failed>
     ensures ok { OnOk result (Gathers (W.written sink.old) (W.written sink.new) piece.old piece.new (flux_spelling ticks)) }
     ensures err { OnErr result (AppendsPart (W.written sink.old) (W.written sink.new) (piece.old ++ flux_spelling ticks)) }
@@ -188,14 +190,10 @@ fn index_bytes(position: u32, begin: u64, index: u64) -> [u8; 16]
     ensures { result ≡ spelling (index_block position begin index) }
 {
     let since = index - begin;
-    let mut bytes = [0x0D, 2, 12, 0, 0, 0, 0, 0, 0, 0, 0, 0, 0, 0, 0, 0];
-    LittleEndian::write_u32(&mut bytes[4..], position + (since / OVERFLOW_TICKS) as u32);
-    LittleEndian::write_u32(&mut bytes[8..], (since % OVERFLOW_TICKS) as u32);
-    LittleEndian::write_u32(
-        &mut bytes[12..],
-        (index / INDEX_CLOCK % COUNTER_RANGE) as u32,
-    );
-    bytes
+    let block = position + (since / OVERFLOW_TICKS) as u32;
+    let sample = (since % OVERFLOW_TICKS) as u32;
+    let counter = (index / INDEX_CLOCK % COUNTER_RANGE) as u32;
+    index_spelling(block, sample, counter)
 }
 
 /// The bytes of the StreamEnd and End blocks behind so many in-stream bytes.

@@ -18,7 +18,7 @@ pub use fault::{StreamFault, TrackFault};
 pub use intake::Intake;
 pub use laws::{blocks_law, padding_law, spelling_law, stream_law};
 pub use reading::read_track;
-pub use writing::write_block;
+pub use writing::{index_spelling, write_block};
 
 #[cfg(test)]
 mod tests {

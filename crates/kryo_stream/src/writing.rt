@@ -3,6 +3,7 @@ ghost use Rattle.std.specs.Io.KnownBytes.{Appends};
 ghost use Rattle.std.proofs.Math.ListN.{replicate};
 ghost use Rattle.byteorder.specs.Endian.{little_bytes};
 ghost use Rattle.flux_base.specs.Outside.{AppendsPart, Rose};
+ghost use Rattle.kryo_stream.specs.declared.block.Block.TheVariants.{Index};
 ghost use Rattle.kryo_stream.specs.Blocks.{Spells, out_of_band};
 ghost use Rattle.kryo_stream.specs.Spelling.{spelling, flux_spelling, HasNopBytes};
 
@@ -32,7 +33,7 @@ pub fn write_block<W: Sink>(block: &Block, sink: &mut W) -> Result<(), Failed>
             position,
             sample,
             counter,
-        } => write_whole(sink, &index_bytes(position, sample, counter)),
+        } => write_whole(sink, &index_spelling(position, sample, counter)),
         Block::StreamEnd { position, code } => write_whole(sink, &two_numbers(3, position, code)),
         Block::Info { length } => write_info(length, sink),
         Block::End => write_whole(sink, &[0x0D, 0x0D, 0x0D, 0x0D]),
@@ -66,8 +67,8 @@ fn two_numbers(kind: u8, first: u32, second: u32) -> [u8; 12]
 }
 
 /// The bytes of an Index block.
-fn index_bytes(position: u32, sample: u32, counter: u32) -> [u8; 16]
-    ensures { result ≡ out_of_band 2 12 ++ little_bytes 4 position ++ little_bytes 4 sample ++ little_bytes 4 counter }
+pub fn index_spelling(position: u32, sample: u32, counter: u32) -> [u8; 16]
+    ensures { result ≡ spelling (Index position sample counter) }
 {
     let mut bytes = [0x0D, 2, 12, 0, 0, 0, 0, 0, 0, 0, 0, 0, 0, 0, 0, 0];
     LittleEndian::write_u32(&mut bytes[4..], position);

@@ -18,10 +18,10 @@ pub returns-in-StreamInfo-clause-err : goal.returns-in-StreamInfo-clause-err
 returns-in-StreamInfo-clause-err g c = rw c.in-StreamInfo.is (rw c.two_numbers.ensures at c.write_whole-in-StreamInfo.ensures.err)
 
 pub returns-in-Index-clause-ok : goal.returns-in-Index-clause-ok
-returns-in-Index-clause-ok g c = rw c.in-Index.is (rw c.index_bytes.ensures at c.write_whole-in-Index.ensures.ok)
+returns-in-Index-clause-ok g c = rw c.in-Index.is (rw c.index_spelling.ensures at c.write_whole-in-Index.ensures.ok)
 
 pub returns-in-Index-clause-err : goal.returns-in-Index-clause-err
-returns-in-Index-clause-err g c = rw c.in-Index.is (rw c.index_bytes.ensures at c.write_whole-in-Index.ensures.err)
+returns-in-Index-clause-err g c = rw c.in-Index.is (rw c.index_spelling.ensures at c.write_whole-in-Index.ensures.err)
 
 pub returns-in-StreamEnd-clause-ok : goal.returns-in-StreamEnd-clause-ok
 returns-in-StreamEnd-clause-ok g c = rw c.in-StreamEnd.is (rw c.two_numbers-in-StreamEnd.ensures at c.write_whole-in-StreamEnd.ensures.ok)
