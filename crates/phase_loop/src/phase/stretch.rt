@@ -1,5 +1,5 @@
 //! The loop's hot path: stretches of transitions that lie close to one another.
-ghost use Rattle.std.specs.Prelude.{◌≡◌, ◌+◌, ◌-◌, ◌*◌, ◌/◌, ◌^◌, ◌<◌, ◌≤◌, max, length, take, slice_index, All, IfOk, IfSome, IsOk};
+ghost use Rattle.std.specs.Prelude.{◌≡◌, ◌+◌, ◌-◌, ◌*◌, ◌/◌, ◌^◌, ◌<◌, ◌≤◌, max, length, take, slice_index, All, IfOk, IfSome, IsOk, IsTrue, ◌↔◌};
 ghost use Rattle.std.specs.List.Sorted.{IsNonDecreasing};
 ghost use Rattle.cell_bits.specs.State.{room};
 ghost use Rattle.phase_loop.specs.Start.{IsNominal};
@@ -7,7 +7,7 @@ ghost use Rattle.circular_buffer.specs.Buffer.{buffer};
 ghost use Rattle.phase_loop.specs.Window.{IsWindow};
 ghost use Rattle.phase_loop.specs.Stretch.{stand_next, Carries, IsExchange, IsStretch};
 
-use super::{Loop, are_few, few_periods_in};
+use super::Loop;
 use crate::start::{FINE_PER_TICK, in_band_of};
 use crate::window::{INTERVALS, Interval, Totals, Window};
 use cell_bits::Cells;
@@ -79,9 +79,10 @@ impl Loop {
         let oldest = self.window.oldest();
         let most = oldest.len().min(times.len() - 1 - last);
         let mut stand = self.stand();
+        let guess = Guess::by(stand.period);
         for taken in 0..most {
             let fine = FINE_PER_TICK * times[last + 1 + taken];
-            let Some(count) = stand.near(fine) else {
+            let Some(count) = stand.near(fine, guess) else {
                 return Ok((stand, last + taken));
             };
             // The cells come first, so that nothing stands between a period and the next step.
@@ -111,11 +112,11 @@ impl Loop {
 }
 
 impl Stand {
-    /// The count of cells to a time that is not before the place, and fewer than four and a half periods behind
-    /// it, as all are in a readable track.
-    fn near(self, fine: u64) -> Option<u64>
+    /// The guessed count of cells to a time that is not before the place, where it is the right one.
+    fn near(self, fine: u64, guess: Guess) -> Option<u64>
         requires fine { fine ≤ 2 ^ 49 }
-        requires period { self.period ≤ 163840 }
+        requires shortest { 1 ≤ self.period }
+        requires longest { self.period ≤ 163840 }
         ensures count { IfSome result (λ count. count ≡ max 1 ((2 * (fine - self.place) + self.period) / (2 * self.period))) }
         ensures near { IfSome result (λ count. 2 * (fine - self.place) < 9 * self.period) }
         ensures few { IfSome result (λ count. count ≤ 4) }
@@ -124,10 +125,11 @@ impl Stand {
             return None;
         }
         let way = fine - self.place;
-        if !are_few(way, self.period) {
+        let count = guess.count(way);
+        if !is_nearest(count, way, self.period) {
             return None;
         }
-        Some(few_periods_in(way, self.period))
+        Some(count)
     }
 
     /// The stand one interval later, where a full window gives up its oldest. `window` divides by its table.
@@ -152,4 +154,48 @@ impl Stand {
             totals,
         }
     }
+}
+
+/// Guesses how many cells lie in a way, by the period with which a stretch begins. The period of each transition
+/// is the last that is known of it: a count that would wait for it makes the loop a third slower. As the period
+/// hardly changes within a stretch the guess is nearly always right, and it is taken only where it is.
+#[derive(Clone, Copy, Debug, PartialEq, Eq)]
+pub struct Guess {
+    /// The longest way of one cell.
+    one: u64,
+    /// The longest way of two.
+    two: u64,
+    /// The longest way of three.
+    three: u64,
+}
+
+impl Guess {
+    fn by(period: u64) -> Guess
+        requires { period ≤ 163840 }
+    {
+        Guess {
+            one: 3 * period / 2,
+            two: 5 * period / 2,
+            three: 7 * period / 2,
+        }
+    }
+
+    /// A count of cells from one to four, since no recording has more from one transition to the next.
+    fn count(self, way: u64) -> u64
+        ensures some { 1 ≤ result }
+        ensures few { result ≤ 4 }
+    {
+        1 + u64::from(way > self.one) + u64::from(way > self.two) + u64::from(way > self.three)
+    }
+}
+
+/// Whether a way is nearer to that many periods than to any other number of them, or as near as to one less.
+fn is_nearest(count: u64, way: u64, period: u64) -> bool
+    requires count { count ≤ 4 }
+    requires way { way ≤ 2 ^ 50 }
+    requires period { period ≤ 163840 }
+    ensures { IsTrue result ↔ (2 * (count * period) ≤ 2 * way + period) × (2 * way < 2 * (count * period) + period) }
+{
+    let cells = 2 * (count * period);
+    cells <= 2 * way + period && 2 * way < cells + period
 }
