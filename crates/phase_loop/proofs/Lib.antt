@@ -6,3 +6,4 @@ pub mod Appending
 pub mod Quotients
 pub mod Windows
 pub mod Stretches
+pub mod Between

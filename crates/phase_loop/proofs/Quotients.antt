@@ -1,5 +1,5 @@
 -- Quotients by reciprocals and by comparisons.
-use Rattle.std.proofs.Common.{◌≡◌, ℕ, ◌+◌, ◌*◌, ◌/◌, ◌^◌, ◌<◌, ◌≤◌, max, arith, refl, inl, inr, Bool, true, false, nat_le}
+use Rattle.std.proofs.Common.{◌≡◌, ℕ, ◌+◌, ◌*◌, ◌/◌, ◌^◌, ◌<◌, ◌≤◌, max, arith, refl, sym, ◌∙◌, ap, inl, inr, Bool, true, false, nat_le}
 use Rattle.std.proofs.lemmas.Bool.{cases_lt, lt-leb, le-leb}
 use Rattle.phase_loop.specs.Window.{WIDEST}
 use Rattle.std.proofs.Math.Nat.{div-eq_of_lt-le, lt-div-mul-add, div-mul-le_self, mul-le-mul_left, div-le_of_le-mul, div-lt_iff_lt-mul}
@@ -25,6 +25,17 @@ quotient_by_reciprocal total count small least largest =
     let two : (q + 1) * (a * count + count) ≤ (q + 1) * (1099511627776 + count) = mul-le-mul_left (q + 1) (omega arith) in
     omega (arith, one, two, widest, a_high, q_low, small, largest) in
     div-eq_of_lt-le 1099511627776 lower upper
+
+-- the same for ticks, over 2^30
+pub ticks_by_reciprocal : (ticks count : ℕ) → 1024 * ticks ≤ 64 * WIDEST → 64 ≤ count → count ≤ 2048
+    → ticks * (2 ^ 40 / count + 1) / 2 ^ 30 ≡ 1024 * ticks / count
+ticks_by_reciprocal ticks count small least largest =
+    let product : ℕ = ticks * (1099511627776 / count + 1) in
+    let whole : 1024 * ticks * (1099511627776 / count + 1) / 1099511627776 ≡ 1024 * ticks / count =
+    quotient_by_reciprocal (1024 * ticks) count small least largest in
+    let same : 1024 * ticks * (1099511627776 / count + 1) ≡ 1024 * product = omega arith in
+    let shorter : product / 1073741824 ≡ 1024 * product / 1099511627776 = omega arith in
+    shorter ∙ ap (λ (n : ℕ). n / 1099511627776) (sym same) ∙ whole
 
 -- the reciprocal of a count of 64 or more is small
 pub reciprocal_small : (count : ℕ) → 64 ≤ count → 2 ^ 40 / count + 1 ≤ 2 ^ 34 + 1

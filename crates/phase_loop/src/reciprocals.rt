@@ -34,4 +34,15 @@ impl Reciprocals {
         let reciprocal = self.table[count as usize - 1];
         (total * reciprocal) >> 40
     }
+
+    /// The quotient of so many ticks in fine units, rounded down.
+    pub(crate) fn quotient_of_ticks(&self, ticks: u64, count: u64) -> u64
+        requires ticks { 1024 * ticks ≤ 64 * WIDEST }
+        requires least { 64 ≤ count }
+        requires largest { count ≤ 2048 }
+        ensures { result ≡ 1024 * ticks / count }
+    {
+        let reciprocal = self.table[count as usize - 1];
+        (ticks * reciprocal) >> 30
+    }
 }

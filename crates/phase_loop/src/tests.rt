@@ -71,6 +71,15 @@ fn even_times(alloc: Global, count: u64, way: u64) -> Result<Vec<u64>, Memory>
     Ok(times)
 }
 
+/// Appends so many times, each as far behind the one before.
+fn append_even(times: &mut Vec<u64>, count: u64, way: u64) -> Result<(), Memory> {
+    for _number in 0..count {
+        let last = times.last().copied().unwrap_or(0);
+        times.push(last.saturating_add(way))?;
+    }
+    Ok(())
+}
+
 // 1546 ticks are 32.2 cells of 48. The place is then the mean of 32 cells and the time, so that the 68 ticks
 // behind it are 1.6 cells. 1594 ticks are 33.2 cells: there the loop starts anew, and 68 ticks are 1.4 cells.
 #[test]
@@ -139,6 +148,49 @@ fn forgets_at_a_restart(rt: HostRuntime) -> Result<(), Memory> {
     counts[100] = 32;
     counts[102] = 2;
     assert!(rt; gives(rt.alloc(), EVEN, times.as_slice(), &counts)?);
+    Ok(())
+}
+
+// The period falls from 48 ticks to the mean of 64 intervals of 40, behind which 70 ticks are (2 * 69.75 + 40) / 80
+// = 2.2 periods, and less than one and a half of 48. The place is a quarter of a tick ahead by then.
+#[test]
+fn follows_a_faster_track(rt: HostRuntime) -> Result<(), Memory> {
+    let mut times = even_times(rt.alloc(), 101, 48)?;
+    append_even(&mut times, 64, 40)?;
+    append_even(&mut times, 1, 70)?;
+    append_even(&mut times, 1, 40)?;
+    let mut counts = [1u8; 166];
+    counts[164] = 2;
+    assert!(rt; gives(rt.alloc(), EVEN, times.as_slice(), &counts)?);
+    Ok(())
+}
+
+// The same the other way: 62 ticks are (2 * 62.25 + 48) / 96 = 1.8 periods of 48, and more than one and a half of 40.
+#[test]
+fn follows_a_slower_track(rt: HostRuntime) -> Result<(), Memory> {
+    let mut times = even_times(rt.alloc(), 101, 40)?;
+    append_even(&mut times, 64, 48)?;
+    append_even(&mut times, 1, 62)?;
+    append_even(&mut times, 1, 48)?;
+    assert!(rt; gives(rt.alloc(), EVEN, times.as_slice(), &[1; 166])?);
+    Ok(())
+}
+
+// A stretch of 512 ends at transition 576, amid the 64 intervals of 40 ticks that make a period of 40. 62 ticks
+// are then (2 * 61.75 + 40) / 80 = 2.04 periods; with any of the older intervals but a few they would be less than 2.
+#[test]
+fn goes_on_behind_a_stretch(rt: HostRuntime) -> Result<(), Memory> {
+    let mut times = even_times(rt.alloc(), 541, 48)?;
+    append_even(&mut times, 64, 40)?;
+    append_even(&mut times, 1, 62)?;
+    let mut counts = [1u8; 605];
+    counts[604] = 2;
+    assert!(rt; gives(rt.alloc(), EVEN, times.as_slice(), &counts)?);
+
+    let just_one = even_times(rt.alloc(), 577, 48)?;
+    assert!(rt; gives(rt.alloc(), EVEN, just_one.as_slice(), &[1; 576])?);
+    let one_more = even_times(rt.alloc(), 578, 48)?;
+    assert!(rt; gives(rt.alloc(), EVEN, one_more.as_slice(), &[1; 577])?);
     Ok(())
 }
 

@@ -1,5 +1,6 @@
 //! The last intervals since the loop started, with their totals.
-ghost use Rattle.std.specs.Prelude.{◌≡◌, ◌*◌, ◌/◌, ◌<◌, ◌≤◌, [], ◌∷◌, ◌++◌, length, take, IfOk, MatchOption};
+ghost use Rattle.std.specs.Prelude.{◌≡◌, ◌+◌, ◌*◌, ◌/◌, ◌<◌, ◌≤◌, [], ◌∷◌, ◌++◌, length, take, map, All, IfOk, IsTrue, ◌↔◌, MatchOption};
+ghost use Rattle.phase_loop.specs.Window.{IsShort};
 ghost use Rattle.std.specs.List.{sum_by};
 ghost use Rattle.circular_buffer.specs.Buffer.{buffer, keep_last};
 
@@ -10,6 +11,9 @@ use std::marker::Model;
 
 /// How many intervals make a mean.
 pub(crate) const INTERVALS: usize = 64;
+
+/// The most transitions of a stretch.
+pub(crate) const STRETCH: usize = 512;
 
 /// From one transition to the next.
 #[derive(Clone, Copy, Debug, PartialEq, Eq)]
@@ -87,46 +91,47 @@ impl Window {
         self.count += u64::from(interval.count);
     }
 
-    /// The totals of the intervals' lengths.
-    pub(crate) fn totals(&self) -> Totals
-        ensures { IsWindow (buffer self.now 64) result.fine result.count }
+    /// How many cells the intervals have.
+    pub(crate) fn cells(&self) -> u64
+        ensures { IsWindow (buffer self.now 64) (fine_total self.now) result }
     {
-        Totals {
-            fine: self.fine,
-            count: self.count,
-        }
+        self.count
     }
 
-    /// The first intervals of a full window, one at least, in their order, or none of a window that is not full.
-    pub(crate) fn oldest(&self) -> &[Interval]
-        ensures first { result.now ≡ take (length result.now) self.now }
-        ensures full { 0 < length result.now → length self.now ≡ 64 }
-        ensures most { length result.now ≤ 64 }
+    pub(crate) fn is_full(&self) -> bool
+        ensures { IsTrue result ↔ length self.now ≡ 64 }
     {
-        if self.ring.len() < INTERVALS {
-            return &[];
-        }
-        self.ring.as_slices().0
+        self.ring.len() == INTERVALS
     }
 
-    /// Appends intervals, behind which the window has these totals.
-    pub(crate) fn note_all(&mut self, intervals: &[Interval], totals: Totals)
-        requires { IsWindow (buffer (keep_last 64 (self.old ++ intervals.now)) 64) totals.fine totals.count }
-        ensures { self.new ≡ keep_last 64 (self.old ++ intervals.now) }
+    /// Puts the counts of a full window's intervals first.
+    pub(crate) fn put_counts(&self, counts: &mut [u8; INTERVALS + STRETCH])
+        requires full { length self.now ≡ 64 }
+        ensures { take 64 counts.new ≡ map (λ interval. interval.count) self.now }
+    {
+        let (older, later) = self.ring.as_slices();
+        put_counts_of(older, counts, 0);
+        put_counts_of(later, counts, older.len());
+    }
+
+    /// Makes these intervals, which have these totals, the window.
+    pub(crate) fn replace(&mut self, intervals: &[Interval; INTERVALS], totals: Totals)
+        requires { IsWindow (buffer intervals.now 64) totals.fine totals.count }
+        ensures { self.new ≡ intervals.now }
     {
         self.ring.extend_from_slice(intervals);
         self.fine = totals.fine;
         self.count = totals.count;
     }
 
-    /// The mean length of a cell in a full window with these totals.
-    pub(crate) fn mean_of(&self, totals: Totals) -> u64
-        requires fine { totals.fine ≤ 64 * WIDEST }
-        requires least { 64 ≤ totals.count }
-        requires largest { totals.count ≤ 2048 }
-        ensures { result ≡ totals.fine / totals.count }
+    /// The mean length of a cell, in fine units, where so many ticks have so many cells.
+    pub(crate) fn mean_of(&self, ticks: u64, count: u64) -> u64
+        requires ticks { 1024 * ticks ≤ 64 * WIDEST }
+        requires least { 64 ≤ count }
+        requires largest { count ≤ 2048 }
+        ensures { result ≡ 1024 * ticks / count }
     {
-        self.reciprocals.quotient(totals.fine, totals.count)
+        self.reciprocals.quotient_of_ticks(ticks, count)
     }
 
     /// The mean length of a cell in a full window.
@@ -138,5 +143,18 @@ impl Window {
             return None;
         }
         Some(self.reciprocals.quotient(self.fine, self.count))
+    }
+}
+
+/// Puts the counts of intervals at a place and behind it.
+fn put_counts_of(intervals: &[Interval], counts: &mut [u8], from: usize)
+    requires room { from + length intervals.now ≤ length counts.old }
+    requires short { All IsShort intervals.now }
+    ensures put { take (from + length intervals.now) counts.new
+        ≡ take from counts.old ++ map (λ interval. interval.count) intervals.now }
+    ensures length { length counts.new ≡ length counts.old }
+{
+    for place in 0..intervals.len() {
+        counts[from + place] = intervals[place].count as u8;
     }
 }

@@ -1,15 +1,15 @@
 //! The loop's hot path: stretches of transitions that lie close to one another.
-ghost use Rattle.std.specs.Prelude.{◌≡◌, ◌+◌, ◌-◌, ◌*◌, ◌/◌, ◌^◌, ◌<◌, ◌≤◌, max, length, take, slice_index, All, IfOk, IfSome, IsOk, IsTrue, ◌↔◌};
+ghost use Rattle.std.specs.Prelude.{◌≡◌, ◌+◌, ◌-◌, ◌*◌, ◌/◌, ◌^◌, ◌<◌, ◌≤◌, max, length, take, drop, map, slice_index, All, IfOk, IfSome, IsOk, IsTrue, ◌↔◌};
 ghost use Rattle.std.specs.List.Sorted.{IsNonDecreasing};
 ghost use Rattle.cell_bits.specs.State.{room};
-ghost use Rattle.phase_loop.specs.Start.{IsNominal};
 ghost use Rattle.circular_buffer.specs.Buffer.{buffer};
-ghost use Rattle.phase_loop.specs.Window.{IsWindow};
-ghost use Rattle.phase_loop.specs.Stretch.{stand_next, Carries, IsExchange, IsStretch};
+ghost use Rattle.phase_loop.specs.Start.{IsNominal};
+ghost use Rattle.phase_loop.specs.Window.{IsShort, IsWindow, fine_total};
+ghost use Rattle.phase_loop.specs.Stretch.{intervals_with, stand_next, AreBetween, Carries, IsStretch};
 
 use super::Loop;
 use crate::start::{FINE_PER_TICK, in_band_of};
-use crate::window::{INTERVALS, Interval, Totals, Window};
+use crate::window::{INTERVALS, Interval, STRETCH, Totals};
 use cell_bits::Cells;
 use flux_base::Memory;
 
@@ -17,20 +17,18 @@ use flux_base::Memory;
 /// processor's registers.
 #[derive(Clone, Copy, Debug, PartialEq, Eq)]
 pub struct Stand {
-    /// The time of the last transition, in fine units.
-    pub fine: u64,
     /// The place where the loop expects the clock.
     pub place: u64,
     /// The length of a cell.
     pub period: u64,
-    /// The totals of the window's intervals.
-    pub totals: Totals,
+    /// The length of the window in cells.
+    pub count: u64,
 }
 
 impl Loop {
-    /// Takes the next of a track's transitions and appends their cells: as many as a full window has intervals
-    /// to give up in one piece, up to the first that is more than four periods away. `last` is the number of the
-    /// transition at which the loop stands, and the answer that of the one at which it stands then.
+    /// Takes the next of a track's transitions and appends their cells, if the window is full: as many as a stretch
+    /// has, up to the first whose count is not guessed right. `last` is the number of the transition at which the
+    /// loop stands, and the answer that of the one at which it stands then.
     pub(crate) fn follow(
         &mut self,
         times: &[u64],
@@ -41,6 +39,7 @@ impl Loop {
         requires within { All (λ time. time ≤ 2 ^ 39) times.now }
         requires last { last < length times.now }
         requires here { self.old.fine ≡ 1024 * slice_index times.now last }
+        requires window { length self.old.recent ≡ 64 → AreBetween times.now last self.old.recent }
         requires short { length cells.old.cells ≤ 32 * last + 1 }
         ensures forward { IfOk result (λ next. last ≤ next) }
         ensures inside { IfOk result (λ next. next < length times.now) }
@@ -48,67 +47,103 @@ impl Loop {
         ensures room { room cells.old ≤ room cells.new }
         ensures succeeds { 32 * length times.now ≤ room cells.old → IsOk result }
     {
-        let mut fresh = [Interval { fine: 0, count: 0 }; INTERVALS];
-        let (stand, next) = self.stretch(times, last, &mut fresh, cells)?;
-        self.window.note_all(&fresh[..next - last], stand.totals);
-        self.fine = stand.fine;
+        if !self.window.is_full() {
+            return Ok(last);
+        }
+        let mut counts = [0; INTERVALS + STRETCH];
+        self.window.put_counts(&mut counts);
+        let (stand, next) = self.stretch(times, last, &mut counts, cells)?;
+        let taken = next - last;
+        let recent = intervals_to(times, next, &counts[taken..taken + INTERVALS]);
+        let fine = FINE_PER_TICK * times[next];
+        let totals = Totals {
+            fine: fine - FINE_PER_TICK * times[next - INTERVALS],
+            count: stand.count,
+        };
+        self.window.replace(&recent, totals);
+        self.fine = fine;
         self.place = stand.place;
         self.period = stand.period;
         Ok(next)
     }
 
-    /// The stretch of `follow`, with its intervals in the first places of `fresh`.
+    /// The stretch of `follow`. The first of `counts` are those of the window, and the stretch puts its own behind
+    /// them.
     fn stretch(
         &self,
         times: &[u64],
         last: usize,
-        fresh: &mut [Interval; INTERVALS],
+        counts: &mut [u8; INTERVALS + STRETCH],
         cells: &mut Cells,
     ) -> Result<(Stand, usize), Memory>
         requires rising { IsNonDecreasing times.now }
         requires within { All (λ time. time ≤ 2 ^ 39) times.now }
         requires last { last < length times.now }
         requires here { self.now.fine ≡ 1024 * slice_index times.now last }
+        requires full { length self.now.recent ≡ 64 }
+        requires window { AreBetween times.now last self.now.recent }
+        requires counts { take 64 counts.old ≡ map (λ interval. interval.count) self.now.recent }
         requires short { length cells.old.cells ≤ 32 * last + 1 }
-        ensures most { IfOk result (λ r. r.1 ≤ last + 64) }
-        ensures stretch { IfOk result (λ r. IsStretch times.now last r.1 self.now r.0 (take (r.1 - last) fresh.new) cells.old cells.new) }
+        ensures most { IfOk result (λ r. r.1 ≤ last + 512) }
+        ensures stretch { IfOk result (λ r. IsStretch times.now last r.1 self.now r.0 (drop (r.1 - last) (take (64 + (r.1 - last)) counts.new)) cells.old cells.new) }
         ensures room { room cells.old ≤ room cells.new }
         ensures succeeds { 32 * length times.now ≤ room cells.old → IsOk result }
     {
         let nominal = self.start.nominal;
-        let oldest = self.window.oldest();
-        let most = oldest.len().min(times.len() - 1 - last);
+        let guess = Guess::by(self.period);
+        let most = STRETCH.min(times.len() - 1 - last);
         let mut stand = self.stand();
-        let guess = Guess::by(stand.period);
         for taken in 0..most {
-            let fine = FINE_PER_TICK * times[last + 1 + taken];
+            let number = last + taken + 1;
+            let fine = FINE_PER_TICK * times[number];
             let Some(count) = stand.near(fine, guess) else {
                 return Ok((stand, last + taken));
             };
             // The cells come first, so that nothing stands between a period and the next step.
             cells.push_run(count as u8)?;
-            let interval = Interval {
-                fine: (fine - stand.fine) as u32,
-                count: count as u32,
-            };
-            fresh[taken] = interval;
-            stand = stand.after(nominal, oldest[taken], interval, &self.window);
+            let ticks = times[number] - times[number - INTERVALS];
+            let total = stand.count - u64::from(counts[taken]) + count;
+            counts[INTERVALS + taken] = count as u8;
+            let mean = self.window.mean_of(ticks, total);
+            stand = stand.after(nominal, fine, count, total, mean);
         }
         Ok((stand, last + most))
     }
 
     fn stand(&self) -> Stand
-        ensures place { (result.fine ≡ self.now.fine) × (result.place ≡ self.now.place) × (result.period ≡ self.now.period) }
-        ensures totals { IsWindow (buffer self.now.recent 64) result.totals.fine result.totals.count }
-        ensures bounds { (result.place ≤ result.fine + 163840) × (12288 ≤ result.period) × (result.period ≤ 163840) }
+        ensures place { (result.place ≡ self.now.place) × (result.period ≡ self.now.period) }
+        ensures window { IsWindow (buffer self.now.recent 64) (fine_total self.now.recent) result.count }
+        ensures bounds { (result.place ≤ self.now.fine + 163840) × (12288 ≤ result.period) × (result.period ≤ 163840) }
     {
         Stand {
-            fine: self.fine,
             place: self.place,
             period: self.period,
-            totals: self.window.totals(),
+            count: self.window.cells(),
         }
     }
+}
+
+/// The 64 intervals up to a transition, by their counts.
+fn intervals_to(times: &[u64], last: usize, counts: &[u8]) -> [Interval; INTERVALS]
+    requires enough { 64 ≤ last }
+    requires last { last < length times.now }
+    requires rising { IsNonDecreasing times.now }
+    requires within { All (λ time. time ≤ 2 ^ 39) times.now }
+    requires counts { length counts.now ≡ 64 }
+    requires short { All IsShort (intervals_with times.now (last - 64) counts.now) }
+    ensures { result ≡ intervals_with times.now (last - 64) counts.now }
+{
+    let first = last - INTERVALS;
+    let mut intervals = [Interval { fine: 0, count: 0 }; INTERVALS];
+    for place in 0..INTERVALS {
+        let begin = FINE_PER_TICK * times[first + place];
+        let end = FINE_PER_TICK * times[first + place + 1];
+        intervals[place] = Interval {
+            fine: (end - begin) as u32,
+            count: u32::from(counts[place]),
+        };
+    }
+    intervals
 }
 
 impl Stand {
@@ -132,26 +167,20 @@ impl Stand {
         Some(count)
     }
 
-    /// The stand one interval later, where a full window gives up its oldest. `window` divides by its table.
-    fn after(self, nominal: u32, oldest: Interval, interval: Interval, window: &Window) -> Stand
+    /// The stand at the next transition, which lies `count` cells on and gives the window this total of cells and
+    /// this mean.
+    fn after(self, nominal: u32, fine: u64, count: u64, total: u64, mean: u64) -> Stand
         requires nominal { IsNominal nominal }
-        requires fine { self.fine + interval.fine ≤ 2 ^ 49 }
+        requires fine { fine ≤ 2 ^ 49 }
         requires place { self.place ≤ 2 ^ 50 }
         requires period { self.period ≤ 163840 }
-        requires count { interval.count ≤ 32 }
-        requires exchange { IsExchange self.totals oldest interval }
-        ensures { result ≡ stand_next nominal self oldest interval }
+        requires count { count ≤ 4 }
+        ensures { result ≡ stand_next nominal self fine count total mean }
     {
-        let totals = Totals {
-            fine: self.totals.fine - u64::from(oldest.fine) + u64::from(interval.fine),
-            count: self.totals.count - u64::from(oldest.count) + u64::from(interval.count),
-        };
-        let fine = self.fine + u64::from(interval.fine);
         Stand {
-            fine,
-            place: (self.place + u64::from(interval.count) * self.period + fine) / 2,
-            period: in_band_of(nominal, window.mean_of(totals)),
-            totals,
+            place: (self.place + count * self.period + fine) / 2,
+            period: in_band_of(nominal, mean),
+            count: total,
         }
     }
 }
@@ -189,13 +218,14 @@ impl Guess {
     }
 }
 
-/// Whether a way is nearer to that many periods than to any other number of them, or as near as to one less.
+/// Whether so many periods are the nearest to a way: with half a period more, that many whole ones lie in it.
 fn is_nearest(count: u64, way: u64, period: u64) -> bool
     requires count { count ≤ 4 }
     requires way { way ≤ 2 ^ 50 }
     requires period { period ≤ 163840 }
-    ensures { IsTrue result ↔ (2 * (count * period) ≤ 2 * way + period) × (2 * way < 2 * (count * period) + period) }
+    ensures { IsTrue result ↔ (count * period ≤ way + period / 2) × (way + period / 2 < count * period + period) }
 {
-    let cells = 2 * (count * period);
-    cells <= 2 * way + period && 2 * way < cells + period
+    let whole = count * period;
+    let rounded = way + period / 2;
+    whole <= rounded && rounded < whole + period
 }

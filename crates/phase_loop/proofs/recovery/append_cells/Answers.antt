@@ -2,6 +2,7 @@ use Rattle.std.proofs.Common.{arith, ◌≡◌, ◌∙◌, refl, ap, ℕ, ◌+�
 use Rattle.std.proofs.lemmas.List.{take_all}
 use Rattle.phase_loop.specs.Rows.{recovered}
 use Rattle.phase_loop.proofs.Appending.{appended_fine, next_later, first_appended, next_appended}
+use Rattle.phase_loop.proofs.Between.{appended_between}
 use Rattle.phase_loop.proofs.recovery.append_cells.Goals as goal
 
 none : (times : List ℕ) → length times ≡ 0 → times ≡ []
@@ -22,6 +23,9 @@ loop-last-init c =
 
 pub follow-requires-clause-here : goal.follow-requires-clause-here
 follow-requires-clause-here c = appended_fine _ _ _ _ _ _ c.loop-last.invariant.1 c.loop-last.invariant.0
+
+pub follow-requires-clause-window : goal.follow-requires-clause-window
+follow-requires-clause-window c full = appended_between _ _ _ _ _ _ c.loop-last.invariant.1 c.loop-last.invariant.0 full
 
 pub step-requires-clause-later : goal.step-requires-clause-later
 step-requires-clause-later c =

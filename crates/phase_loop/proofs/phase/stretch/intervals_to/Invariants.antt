@@ -1,0 +1,6 @@
+use Rattle.std.proofs.Common.{◌≡◌, take, length}
+use Rattle.phase_loop.specs.Stretch.{intervals_with}
+use Rattle.phase_loop.proofs.phase.stretch.intervals_to.Given as goal
+
+abbrev pub invariant-loop-place : goal.invariant-loop-place
+invariant-loop-place l = (length l.intervals ≡ 64) × (take l.place l.intervals ≡ intervals_with l.times l.first (take l.place l.counts))
