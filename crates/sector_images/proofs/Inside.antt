@@ -1,11 +1,9 @@
 -- Tracks by their numbers, and sectors inside the image.
 use Rattle.std.specs.Prelude.{◌≡◌, ◌<◌, ◌≤◌, ℕ, ◌+◌, ◌*◌}
-use Rattle.std.proofs.Common.{arith, ap, sym, subst, ◌∙◌}
+use Rattle.std.proofs.Common.{arith}
 use Rattle.std.proofs.Math.Nat.{mul-le-mul_left}
-use Rattle.flux_base.specs.declared.track.TrackId.{TrackId}
-use Rattle.sector_images.specs.declared.format.Format.{Format}
 use Rattle.sector_images.specs.Formats.{row, slot, zone}
-use Rattle.sector_images.specs.Places.{IsTrack, NumbersNameTracks, SectorsLieInImages, bytes_of, place_of, sector_place}
+use Rattle.sector_images.specs.Places.{NumbersNameTracks, SectorsLieInImages, bytes_of, place_of, sector_place}
 use Rattle.sector_images.proofs.Computed.{id_at, numbered, numbered_track, track_within}
 use Rattle.sector_images.proofs.Slots.{sectors_fill_tracks}
 

@@ -1,5 +1,5 @@
 -- Where tracks and sectors lie in an image.
-use Rattle.std.specs.Prelude.{◌≡◌, ℕ, ◌+◌, ◌-◌, ◌*◌, ◌<◌, ◌≤◌, Bool, ◌||◌, ◌&&◌, nat_eq, nat_lt, List, length, filter, find, map, sum_by, slice_get, unwrap_or, Some}
+use Rattle.std.specs.Prelude.{◌≡◌, ℕ, ◌+◌, ◌*◌, ◌<◌, ◌≤◌, Bool, ◌||◌, ◌&&◌, nat_eq, nat_lt, List, length, filter, find, map, sum_by, slice_get, take, unwrap_or, Some}
 use Rattle.std.specs.List.{flat_map, range_with_len}
 use Rattle.flux_base.specs.declared.track.TrackId.{TrackId}
 use Rattle.sector_images.specs.declared.format.Format.{Format}
@@ -50,6 +50,15 @@ SectorsFillTracks = (format : Format) (track : TrackId) (sector : ℕ) → IsSec
 abbrev pub NumbersNameTracks : Type 0
 NumbersNameTracks = (format : Format) (number : ℕ) → number < length (tracks format)
     → (track : TrackId) × (slice_get (tracks format) number ≡ Some track) × IsTrack format track
+
+-- the tracks stand in the image by their numbers, one behind another: each begins behind all the bytes of those before it
+abbrev pub TracksJoin : Type 0
+TracksJoin = (format : Format) (number : ℕ) (track : TrackId) → slice_get (tracks format) number ≡ Some track
+    → place_of format track ≡ sum_by (bytes_of format) (take number (tracks format))
+
+-- the bytes of all tracks are those of the image
+abbrev pub TracksFillImages : Type 0
+TracksFillImages = (format : Format) → sum_by (bytes_of format) (tracks format) ≡ (row format).image_size
 
 -- each sector lies whole in the image
 abbrev pub SectorsLieInImages : Type 0

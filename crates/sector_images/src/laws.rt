@@ -1,6 +1,6 @@
 //! What the places of sectors come to.
 
-ghost use Rattle.sector_images.specs.Places.{NumbersNameTracks, SectorsFillTracks, SectorsLieInImages};
+ghost use Rattle.sector_images.specs.Places.{NumbersNameTracks, SectorsFillTracks, SectorsLieInImages, TracksFillImages, TracksJoin};
 
 /// Each sector of a track stands at one number among those of its track in the image, and is the one that
 /// stands there.
@@ -13,4 +13,10 @@ pub fn sectors_fill_tracks()
 pub fn sectors_lie_in_images()
     ensures numbers { NumbersNameTracks }
     ensures sectors { SectorsLieInImages }
+{}
+
+/// The tracks stand in the image by their numbers, one behind another with nothing between them, and fill it.
+pub fn tracks_fill_images()
+    ensures joined { TracksJoin }
+    ensures filled { TracksFillImages }
 {}

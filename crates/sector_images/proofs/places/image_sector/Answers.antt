@@ -1,4 +1,4 @@
-use Rattle.std.proofs.Common.{◌≡◌, ℕ, ◌+◌, ◌∙◌, arith, sym, Some, None}
+use Rattle.std.proofs.Common.{◌≡◌, ◌+◌, ◌∙◌, arith, sym, Some, None}
 use Rattle.sector_images.specs.Formats.{row}
 use Rattle.sector_images.proofs.Slots.{found_there, is_order, slot_by_number, slot_in_order}
 use Rattle.sector_images.proofs.places.image_sector.Goals as goal
