@@ -1,5 +1,5 @@
 -- The first number of a range that passes a test.
-use Rattle.std.specs.Prelude.{◌≡◌, ◌≤◌, ◌<◌, ℕ, zero, suc, ◌+◌, Bool, true, false, cond, find, Some, None, refl}
+use Rattle.std.specs.Prelude.{◌≡◌, ◌≤◌, ◌<◌, ℕ, zero, suc, ◌+◌, Bool, true, false, cond, find, Option, Some, None, refl}
 use Rattle.std.specs.List.{range_with_len}
 use Rattle.std.proofs.Common.{ap, sym, ◌∙◌, arith}
 
@@ -20,3 +20,12 @@ find-none f a zero misses = refl
 find-none f a (suc m) misses =
     ap (λ b. cond b (Some a) (find f (range_with_len (a + 1) m))) (misses a (omega arith) (omega arith))
     ∙ find-none f (a + 1) m (λ k above below. misses k (omega (arith, above)) (omega (arith, below)))
+
+below_by : (a m k : ℕ) (rest : Option ℕ) (b : Bool) → cond b (Some a) rest ≡ Some k → (rest ≡ Some k → k < a + 1 + m) → k < a + suc m
+below_by a m k rest true is later = let same : a ≡ k = cc in omega (arith, same)
+below_by a m k rest false is later = let below = later is in omega (arith, below)
+
+-- a number that is found is one of the range
+pub find-below : (f : ℕ → Bool) (a m k : ℕ) → find f (range_with_len a m) ≡ Some k → k < a + m
+find-below f a zero k is = absurd (cc)
+find-below f a (suc m) k is = below_by a m k (find f (range_with_len (a + 1) m)) (f a) is (λ more. find-below f (a + 1) m k more)

@@ -142,14 +142,14 @@ module _ (header : List Bool → ℕ → Type 0) (sector_stands : List Bool → 
       abbrev piece : ℕ → List ℕ
       piece number = image_bytes sectors (readings_of times indexes cells found) (sector_in number)
 
-      lengths : (first i : ℕ) → length (flat_map piece (range_with_len first i)) ≡ size * i
+      pub lengths : (first i : ℕ) → length (flat_map piece (range_with_len first i)) ≡ size * i
       lengths first zero = omega arith
       lengths first (suc i) =
           let more = length-append (piece first) (flat_map piece (range_with_len (first + 1) i)) in
           omega (arith, more, bytes_size (sector_in first), lengths (first + 1) i)
 
       -- the bytes of a sector stand at its place in the track's part of the image
-      in_image : (i : ℕ) → i < sectors.count → take size (drop (size * i) (flat_map piece (range_with_len 0 sectors.count))) ≡ piece i
+      pub in_image : (i : ℕ) → i < sectors.count → take size (drop (size * i) (flat_map piece (range_with_len 0 sectors.count))) ≡ piece i
       in_image i within =
           let before : List ℕ = flat_map piece (range_with_len 0 i) in
           let rest : List ℕ = flat_map piece (range_with_len (0 + i + 1) (sectors.count - i - 1)) in

@@ -1,6 +1,6 @@
 -- The pieces of a track's part of the image.
 use Rattle.std.specs.Prelude.{◌≡◌, ℕ, ◌+◌, List, replicate, unwrap_or}
-use Rattle.std.proofs.Common.{ap, sym, ◌∙◌, arith}
+use Rattle.std.proofs.Common.{ap, ◌∙◌, arith}
 use Rattle.flux_base.specs.declared.track.TrackId.{TrackId}
 use Rattle.sector_images.specs.Places.{sector_in}
 use Rattle.sector_images.specs.declared.format.Format.{Format}

@@ -13,6 +13,8 @@ pub mod Each
 pub mod OneReading
 pub mod GoodSectors
 pub mod Outcomes
+pub mod DiskParts
+pub mod DiskSectors
 pub mod Telling
 pub mod Chosen
 pub mod Repeated

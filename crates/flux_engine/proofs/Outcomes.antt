@@ -22,7 +22,7 @@ use Rattle.flux_engine.proofs.GoodSectors.{head_of, head_holds, all_agree, good_
 use Rattle.flux_engine.proofs.OneReading.{one_list}
 
 -- one list of readings
-one_found : (format : Format) (track : TrackId) (times' indexes' : List ℕ) (a b : Part) (p : IsPart format track times' indexes' a) (q : IsPart format track times' indexes' b)
+pub one_found : (format : Format) (track : TrackId) (times' indexes' : List ℕ) (a b : Part) (p : IsPart format track times' indexes' a) (q : IsPart format track times' indexes' b)
     → p.found ≡ q.found
 one_found format track times' indexes' a b p q =
     let laws = laws_of format track in
@@ -34,7 +34,7 @@ one_part format track times' indexes' a b p q =
     p.is ∙ ap (λ (found : List Found). part_of format track (readings_of times' indexes' (cells_of format track times' indexes') found))
     (one_found format track times' indexes' a b p q) ∙ sym q.is
 
-abbrev stop_track : Option Stop → ℕ
+abbrev pub stop_track : Option Stop → ℕ
 stop_track None = 0
 stop_track (Some s) = s.track
 

@@ -8,6 +8,7 @@ pub mod Room
 pub mod Answers
 pub mod Reading
 pub mod Laws
+pub mod DiskLaws
 pub mod Rings
 pub mod Carried
 pub mod Captures

@@ -1,8 +1,9 @@
 //! What the definitions behind `decode_track` and `decode_disk` come to.
 
+ghost use Rattle.flux_engine.specs.DiskLaws.{EachHasOneVerdict, GoodIsRightOnDisks, LinesNameVerdicts, OthersAreZeros, PartsStandAtTheirPlaces, WholeDisksFillImages};
 ghost use Rattle.flux_engine.specs.Laws.{OneOutcome, FirstTracksLead, GoodIsRight};
 
-use sector_images::sectors_fill_tracks;
+use sector_images::{sectors_fill_tracks, tracks_fill_images};
 
 /// An input comes to one outcome, and what its first tracks come to is what the outcome begins with.
 pub fn outcomes_are_one()
@@ -17,4 +18,29 @@ pub fn good_is_right()
     ensures { GoodIsRight }
 {
     sectors_fill_tracks()
+}
+
+/// A decoded track's part of the image has the track's bytes in number and stands at the track's place in the
+/// whole image, and a disk that is decoded to its end has all bytes of the image.
+pub fn parts_fill_images()
+    ensures parts { PartsStandAtTheirPlaces }
+    ensures whole { WholeDisksFillImages }
+{
+    tracks_fill_images()
+}
+
+/// Each sector of a decoded track has one verdict over all readings of the track, and the report has the line
+/// that names it.
+/// Where it is good, the place that is named has cells that hold the sector, in the turn that is named, with
+/// the bytes that the whole image has at the sector's place, and all places of the track that hold the sector
+/// hold these bytes.
+/// Where it is not good, the image has zeros there.
+pub fn good_is_right_on_disks()
+    ensures verdicts { EachHasOneVerdict }
+    ensures lines { LinesNameVerdicts }
+    ensures good { GoodIsRightOnDisks }
+    ensures others { OthersAreZeros }
+{
+    sectors_fill_tracks();
+    tracks_fill_images()
 }

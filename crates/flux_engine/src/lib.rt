@@ -28,7 +28,7 @@ mod writing;
 pub use disk::decode_disk;
 pub use disk_streams::write_disk;
 pub use fault::EngineFault;
-pub use laws::{good_is_right, outcomes_are_one};
+pub use laws::{good_is_right, good_is_right_on_disks, outcomes_are_one, parts_fill_images};
 pub use room::DiskRoom;
 pub use track::decode_track;
 pub use track_rings::track_ring;

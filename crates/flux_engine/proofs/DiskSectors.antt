@@ -1,0 +1,194 @@
+-- The sectors of a decoded disk.
+use Rattle.std.specs.Prelude.{◌≡◌, ◌≤◌, ◌<◌, ℕ, suc, ◌+◌, ◌-◌, ◌*◌, Bool, false, List, [], ◌∷◌, ◌++◌, length, take, drop, flat_map, replicate, unwrap_or, Option, Some, None, is_none, if◌then◌else◌, refl}
+use Rattle.std.specs.List.{range_with_len}
+use Rattle.std.proofs.Common.{ap, sym, subst, ◌∙◌, append_assoc, arith}
+use Rattle.std.proofs.Math.Nat.{mul-le-mul_left}
+use Rattle.flux_base.specs.declared.track.TrackId.{TrackId}
+use Rattle.kryo_stream.specs.Stream.{times, indexes}
+use Rattle.sector_images.specs.Formats.{row, slot}
+use Rattle.sector_images.specs.Places.{SectorsFillTracks, TracksJoin, bytes_of, place_of, sector_in, sector_place}
+use Rattle.sector_images.specs.declared.format.Format.{Format}
+use Rattle.sector_report.specs.Lines.{sector_text}
+use Rattle.turn_merge.specs.Readings.{Reading, agreed, agreed_of, bad_ones, first_other, good_ones, verdict, verdict_of, verdict_with, bytes_of as data_of}
+use Rattle.turn_merge.specs.declared.verdict.Place.{Place}
+use Rattle.turn_merge.specs.declared.verdict.Verdict.{Verdict}
+use Rattle.turn_merge.specs.declared.verdict.Verdict.TheVariants.{Good}
+use Rattle.flux_engine.specs.DiskLaws.{EachHasOneVerdict, GoodIsRightOnDisks, HasLine, HasOneVerdict, HasVerdict, IsDecodedSector, IsRightlyGoodOnDisk, LinesNameVerdicts, OthersAreZeros, bytes_at, cells_at}
+use Rattle.flux_engine.specs.Disks.{Decoded, decoded_count, images, last_line, lines, part_at, stop_of, totals_over}
+use Rattle.flux_engine.specs.Laws.{IsRightlyGood}
+use Rattle.flux_engine.specs.Recordings.{cells_of, header_at, sector_at, sectors_of, track_at}
+use Rattle.flux_engine.specs.Streams.{stream_at}
+use Rattle.flux_engine.specs.Tracks.{Found, IsPart, Part, image_bytes, image_of, is_good, line_of, lines_of, part_of, readings_of}
+use Rattle.flux_engine.proofs.ByFormat.{laws_of}
+use Rattle.flux_engine.proofs.DiskParts.{few_parts, image_is, image_split, lines_split, piece_within, place_is, size_at, stop_is}
+use Rattle.flux_engine.proofs.GoodSectors.{in_image}
+use Rattle.flux_engine.proofs.Outcomes.{good_is_right, one_found, one_part}
+use Rattle.flux_engine.proofs.Pieces.{pieces-at}
+
+-- a verdict that is not good leaves no data
+other_none : (good bad : ℕ) (first : Place) (mine : List ℕ) (other : Option Reading) → is_good (verdict_with good bad first other) ≡ false
+    → (if is_none other then Some mine else None) ≡ None
+other_none good bad first mine None is = absurd (cc)
+other_none good bad first mine (Some r) is = refl
+
+none_of : (goods bads : List Reading) → is_good (verdict_of goods bads) ≡ false → agreed_of goods ≡ None
+none_of [] bads is = refl
+none_of (r ∷ more) bads is = other_none (length (r ∷ more)) (length bads) r.place (data_of r) (first_other (data_of r) more) is
+
+none_agreed : (readings : List Reading) (sector : ℕ) (outcome : Verdict) → verdict readings sector ≡ outcome → is_good outcome ≡ false
+    → agreed readings sector ≡ None
+unfolding verdict agreed
+none_agreed readings sector outcome is other =
+    none_of (good_ones readings sector) (bad_ones readings sector) (ap is_good is ∙ other)
+
+-- so many sectors, and one more, are no more than all
+one_more : (size slots sectors : ℕ) → slots < sectors → size * slots + size ≤ sectors * size
+one_more size slots sectors below =
+    let all : size * (slots + 1) ≤ size * sectors = mul-le-mul_left size (omega (arith, below)) in
+    let last : size * (slots + 1) ≡ size * slots + size = omega arith in
+    let turned : size * sectors ≡ sectors * size = omega arith in
+    omega (arith, all, last, turned)
+
+-- a line in the middle of a part of a text
+line_in : (lt a line b rest last : List ℕ) → (lt ++ ((a ++ (line ++ b)) ++ rest)) ++ last ≡ (lt ++ a) ++ (line ++ (b ++ (rest ++ last)))
+line_in lt a line b rest last = simp append_assoc
+
+module _ (format : Format) (x : List ℕ) (o : Decoded) (n sector : ℕ) (s : IsDecodedSector format x o n sector) where
+  abbrev track : TrackId
+  track = track_at format n
+
+  abbrev times_there : List ℕ
+  times_there = times (stream_at x n)
+
+  abbrev indexes_there : List ℕ
+  indexes_there = indexes (stream_at x n)
+
+  abbrev parts : List Part
+  parts = s.outcome.parts
+
+  decoded : n < length parts
+  decoded =
+      let same = ap (decoded_count format) (stop_is format x o s.outcome) in
+      omega (arith, same, s.outcome.many, s.track_decoded)
+
+  module _ (outcome : Verdict) (h : HasVerdict format x n sector outcome) where
+    abbrev readings : List Reading
+    readings = readings_of times_there indexes_there (cells_at format x n) h.found
+
+    abbrev my_part : Part
+    my_part = part_of format track readings
+
+    abbrev is_part : IsPart format track times_there indexes_there my_part
+    is_part = record { found = h.found; all = h.all; is = refl }
+
+    same_part : part_at parts n ≡ my_part
+    same_part = one_part format track times_there indexes_there (part_at parts n) my_part (s.outcome.each n decoded).comes is_part
+
+    -- its bytes in the whole image are its piece of the track's part
+    in_disk : SectorsFillTracks → TracksJoin
+        → bytes_at format o.image track sector ≡ take (row format).sector_size (drop ((row format).sector_size * slot format sector) my_part.image)
+    unfolding sector_place
+    in_disk fills joined =
+        let size : ℕ = (row format).sector_size in
+        let at : ℕ = size * slot format sector in
+        let few = few_parts format x o s.outcome in
+        let fill = fills format track sector s.sector_known in
+        let many = size_at format x parts s.outcome.each few n decoded in
+        let inside = one_more size (slot format sector) (sectors_of format track).count fill.0 in
+        ap (λ (xs : List ℕ). take {A = ℕ} size (drop (place_of format track + at) xs)) (image_is format x o s.outcome ∙ image_split parts n decoded)
+        ∙ piece_within (images (take n parts)) (part_at parts n).image (images (drop (suc n) parts)) (place_of format track) at size
+        (place_is format x parts s.outcome.each few joined n decoded) (omega (arith, many, inside))
+        ∙ ap (λ (p : Part). take {A = ℕ} size (drop at p.image)) same_part
+
+    -- its piece of the track's part is its data, or zeros
+    piece_is : SectorsFillTracks
+        → take (row format).sector_size (drop ((row format).sector_size * slot format sector) my_part.image) ≡ image_bytes (sectors_of format track) readings sector
+    unfolding image_of
+    piece_is fills =
+        let laws = laws_of format track in
+        let fill = fills format track sector s.sector_known in
+        in_image (header_at format track) (sector_at format track) laws.one_header laws.one_content laws.has_header (row format).sector_size laws.content_size
+        times_there indexes_there (cells_at format x n) h.found h.all (sectors_of format track) refl (sector_in format track) (slot format sector) fill.0
+        ∙ ap (image_bytes (sectors_of format track) readings) fill.1
+
+    zeros : SectorsFillTracks → TracksJoin → is_good outcome ≡ false
+        → bytes_at format o.image track sector ≡ replicate (row format).sector_size 0
+    zeros fills joined other =
+        in_disk fills joined ∙ piece_is fills
+        ∙ ap (λ (d : Option (List ℕ)). unwrap_or d (replicate (row format).sector_size 0)) (none_agreed readings sector outcome h.is other)
+
+    has_line : HasLine o.notes (sector_text track sector outcome)
+    unfolding lines_of
+    has_line =
+        let first : ℕ = (row format).first_sector in
+        let count : ℕ = (sectors_of format track).count in
+        let i : ℕ = sector - first in
+        let here : first + i ≡ sector = omega (arith, s.sector_known.0) in
+        let low : i < count = omega (arith, s.sector_known.0, s.sector_known.1) in
+        let line : List ℕ = sector_text track sector outcome in
+        let named : line_of track readings (first + i) ≡ line = ap (line_of track readings) here ∙ ap (sector_text track sector) h.is in
+        let earlier : List ℕ = flat_map (line_of track readings) (range_with_len first i) in
+        let later : List ℕ = flat_map (line_of track readings) (range_with_len (first + i + 1) (count - i - 1)) in
+        let mine : (part_at parts n).lines ≡ earlier ++ (line ++ later) =
+        ap (λ (p : Part). p.lines) same_part ∙ pieces-at (line_of track readings) first i count low
+        ∙ ap (λ (l : List ℕ). earlier ++ (l ++ later)) named in
+        let last : List ℕ = last_line (totals_over parts) (stop_of format x) in
+        let rest : List ℕ = lines (drop (suc n) parts) in
+        record {
+          before = lines (take n parts) ++ earlier;
+          after = later ++ (rest ++ last);
+          is =
+              ap (λ (d : Decoded). d.notes) s.outcome.is
+              ∙ ap (λ (xs : List ℕ). xs ++ last) (lines_split parts n decoded ∙ ap (λ (l : List ℕ). lines (take n parts) ++ (l ++ rest)) mine)
+              ∙ line_in (lines (take n parts)) earlier line later rest last;
+        }
+
+    -- another list of all readings is the same one
+    only : (other : Verdict) → HasVerdict format x n sector other → other ≡ outcome
+    only other h' =
+        let that : IsPart format track times_there indexes_there (part_of format track (readings_of times_there indexes_there (cells_at format x n) h'.found)) =
+        record { found = h'.found; all = h'.all; is = refl } in
+        let same : h'.found ≡ h.found =
+        one_found format track times_there indexes_there (part_of format track (readings_of times_there indexes_there (cells_at format x n) h'.found)) my_part that is_part in
+        sym h'.is
+        ∙ ap (λ (found : List Found). verdict (readings_of times_there indexes_there (cells_at format x n) found) sector) same
+        ∙ h.is
+
+  good : SectorsFillTracks → TracksJoin → (good bad : ℕ) (first : Place) → (h : HasVerdict format x n sector (Good good bad first))
+      → IsRightlyGoodOnDisk format x o.image n sector first
+  unfolding sector_place
+  good fills joined goods bads first h =
+      let outcome = Good goods bads first in
+      let size : ℕ = (row format).sector_size in
+      let part = my_part outcome h in
+      let r : IsRightlyGood format track times_there indexes_there part sector first =
+      good_is_right fills format track times_there indexes_there part (is_part outcome h) sector goods bads first s.sector_known h.is in
+      let place : sector_place format track sector - place_of format track ≡ size * slot format sector = omega arith in
+      record {
+        bytes = r.bytes;
+        stands = r.stands;
+        turn = r.turn;
+        size = (laws_of format track).content_size (drop first.cell (cells_at format x n)) sector r.bytes r.stands;
+        in_image = in_disk outcome h fills joined ∙ ap (λ (k : ℕ). take {A = ℕ} size (drop k part.image)) (sym place) ∙ r.in_image;
+        agreed = r.agreed;
+      }
+
+  -- the verdict of the list of readings that the outcome is made of
+  has_one : HasOneVerdict format x n sector
+  has_one =
+      let comes = (s.outcome.each n decoded).comes in
+      let outcome = verdict (readings_of times_there indexes_there (cells_at format x n) comes.found) sector in
+      let own : HasVerdict format x n sector outcome = record { found = comes.found; all = comes.all; is = refl } in
+      record { outcome = outcome; has = own; only = only outcome own }
+
+pub each_has_one_verdict : EachHasOneVerdict
+each_has_one_verdict format x o n sector s = has_one format x o n sector s
+
+pub lines_name_verdicts : LinesNameVerdicts
+lines_name_verdicts format x o n sector s outcome h = has_line format x o n sector s outcome h
+
+pub good_is_right_on_disks : SectorsFillTracks → TracksJoin → GoodIsRightOnDisks
+good_is_right_on_disks fills joined format x o n sector s g b first h = good format x o n sector s fills joined g b first h
+
+pub others_are_zeros : SectorsFillTracks → TracksJoin → OthersAreZeros
+others_are_zeros fills joined format x o n sector s outcome h other = zeros format x o n sector s outcome h fills joined other

@@ -1,0 +1,8 @@
+use Rattle.flux_engine.proofs.DiskParts.{parts_stand_at_their_places, whole_disks_fill_images}
+use Rattle.flux_engine.proofs.laws.parts_fill_images.Goals as goal
+
+pub returns-clause-parts : goal.returns-clause-parts
+returns-clause-parts c = parts_stand_at_their_places c.tracks_fill_images.ensures.joined
+
+pub returns-clause-whole : goal.returns-clause-whole
+returns-clause-whole c = whole_disks_fill_images c.tracks_fill_images.ensures.filled
