@@ -1,6 +1,7 @@
 //! The lines that the program prints: each ends with one byte 0A, and its numbers are decimal.
 #![tactic(auto)]
 
+mod laws;
 mod line;
 mod refused;
 mod sector_lines;
@@ -8,6 +9,7 @@ mod stream_lines;
 mod totals;
 mod usage;
 
+pub use laws::sectors_have_one_line;
 pub use line::{Line, write_line};
 pub use refused::{image_line, refused_line};
 pub use sector_lines::{sector_line, total_line};

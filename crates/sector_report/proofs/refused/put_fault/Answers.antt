@@ -1,4 +1,3 @@
-use Rattle.std.proofs.Common.{sym, ◌∙◌, ap}
 use Rattle.sector_report.specs.Lines.{fault_text}
 use Rattle.sector_report.proofs.refused.put_fault.Goals as goal
 
