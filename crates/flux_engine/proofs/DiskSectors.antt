@@ -1,27 +1,29 @@
 -- The sectors of a decoded disk.
-use Rattle.std.specs.Prelude.{◌≡◌, ◌≤◌, ◌<◌, ℕ, suc, ◌+◌, ◌-◌, ◌*◌, Bool, false, List, [], ◌∷◌, ◌++◌, length, take, drop, flat_map, replicate, unwrap_or, Option, Some, None, is_none, if◌then◌else◌, refl}
+use Rattle.std.specs.Prelude.{◌≡◌, ◌≤◌, ◌<◌, ℕ, suc, ◌+◌, ◌-◌, ◌*◌, false, List, [], ◌∷◌, ◌++◌, length, take, drop, flat_map, replicate, slice_get, sum_by, unwrap_or, Option, Some, None, is_none, if◌then◌else◌, refl}
 use Rattle.std.specs.List.{range_with_len}
-use Rattle.std.proofs.Common.{ap, sym, subst, ◌∙◌, append_assoc, arith}
+use Rattle.std.proofs.Common.{ap, sym, ◌∙◌, append_assoc, arith}
 use Rattle.std.proofs.Math.Nat.{mul-le-mul_left}
 use Rattle.flux_base.specs.declared.track.TrackId.{TrackId}
 use Rattle.kryo_stream.specs.Stream.{times, indexes}
 use Rattle.sector_images.specs.Formats.{row, slot}
-use Rattle.sector_images.specs.Places.{SectorsFillTracks, TracksJoin, bytes_of, place_of, sector_in, sector_place}
+use Rattle.sector_images.specs.Places.{SectorsFillTracks, TracksJoin, place_of, sector_in, sector_place, tracks}
 use Rattle.sector_images.specs.declared.format.Format.{Format}
+use Rattle.sector_report.specs.LineLaws.{IsOneLine, SectorsHaveOneLine}
 use Rattle.sector_report.specs.Lines.{sector_text}
 use Rattle.turn_merge.specs.Readings.{Reading, agreed, agreed_of, bad_ones, first_other, good_ones, verdict, verdict_of, verdict_with, bytes_of as data_of}
 use Rattle.turn_merge.specs.declared.verdict.Place.{Place}
 use Rattle.turn_merge.specs.declared.verdict.Verdict.{Verdict}
 use Rattle.turn_merge.specs.declared.verdict.Verdict.TheVariants.{Good}
-use Rattle.flux_engine.specs.DiskLaws.{EachHasOneVerdict, GoodIsRightOnDisks, HasLine, HasOneVerdict, HasVerdict, IsDecodedSector, IsRightlyGoodOnDisk, LinesNameVerdicts, OthersAreZeros, bytes_at, cells_at}
+use Rattle.flux_engine.specs.DiskLaws.{EachHasOneVerdict, GoodIsRightOnDisks, HasLine, HasOneVerdict, HasVerdict, IsDecodedSector, IsRightlyGoodOnDisk, LinesNameVerdicts, OthersAreZeros, bytes_at, cells_at, line_number, lines_in}
 use Rattle.flux_engine.specs.Disks.{Decoded, decoded_count, images, last_line, lines, part_at, stop_of, totals_over}
 use Rattle.flux_engine.specs.Laws.{IsRightlyGood}
-use Rattle.flux_engine.specs.Recordings.{cells_of, header_at, sector_at, sectors_of, track_at}
+use Rattle.flux_engine.specs.Recordings.{header_at, sector_at, sectors_of, track_at}
 use Rattle.flux_engine.specs.Streams.{stream_at}
 use Rattle.flux_engine.specs.Tracks.{Found, IsPart, Part, image_bytes, image_of, is_good, line_of, lines_of, part_of, readings_of}
 use Rattle.flux_engine.proofs.ByFormat.{laws_of}
 use Rattle.flux_engine.proofs.DiskParts.{few_parts, image_is, image_split, lines_split, piece_within, place_is, size_at, stop_is}
 use Rattle.flux_engine.proofs.GoodSectors.{in_image}
+use Rattle.flux_engine.proofs.LineNumbers.{Skips, line-first, sectors_on, skips-append, skips-lines, skips-tracks}
 use Rattle.flux_engine.proofs.Outcomes.{good_is_right, one_found, one_part}
 use Rattle.flux_engine.proofs.Pieces.{pieces-at}
 
@@ -117,9 +119,9 @@ module _ (format : Format) (x : List ℕ) (o : Decoded) (n sector : ℕ) (s : Is
         in_disk fills joined ∙ piece_is fills
         ∙ ap (λ (d : Option (List ℕ)). unwrap_or d (replicate (row format).sector_size 0)) (none_agreed readings sector outcome h.is other)
 
-    has_line : HasLine o.notes (sector_text track sector outcome)
+    has_line : SectorsHaveOneLine → HasLine o.notes (sector_text track sector outcome) (line_number format n sector)
     unfolding lines_of
-    has_line =
+    has_line one =
         let first : ℕ = (row format).first_sector in
         let count : ℕ = (sectors_of format track).count in
         let i : ℕ = sector - first in
@@ -134,13 +136,30 @@ module _ (format : Format) (x : List ℕ) (o : Decoded) (n sector : ℕ) (s : Is
         ∙ ap (λ (l : List ℕ). earlier ++ (l ++ later)) named in
         let last : List ℕ = last_line (totals_over parts) (stop_of format x) in
         let rest : List ℕ = lines (drop (suc n) parts) in
+        let before : List ℕ = lines (take n parts) ++ earlier in
+        let after : List ℕ = later ++ (rest ++ last) in
+        let split : o.notes ≡ before ++ (line ++ after) =
+        ap (λ (d : Decoded). d.notes) s.outcome.is
+        ∙ ap (λ (xs : List ℕ). xs ++ last) (lines_split parts n decoded ∙ ap (λ (l : List ℕ). lines (take n parts) ++ (l ++ rest)) mine)
+        ∙ line_in (lines (take n parts)) earlier line later rest last in
+        let mine_is_one : IsOneLine line = one track sector outcome in
+        let number : ℕ = line_number format n sector in
+        let skipped : Skips before number =
+        skips-append (lines (take n parts)) earlier (sum_by (sectors_on format) (take n (tracks format))) i
+        (skips-tracks one format x parts s.outcome.each (few_parts format x o s.outcome) n (omega (arith, decoded)))
+        (skips-lines (line_of track readings) (λ k. one track k (verdict readings k)) first i) in
+        let first_of_rest : number ≡ number + 0 = omega arith in
         record {
-          before = lines (take n parts) ++ earlier;
-          after = later ++ (rest ++ last);
-          is =
-              ap (λ (d : Decoded). d.notes) s.outcome.is
-              ∙ ap (λ (xs : List ℕ). xs ++ last) (lines_split parts n decoded ∙ ap (λ (l : List ℕ). lines (take n parts) ++ (l ++ rest)) mine)
-              ∙ line_in (lines (take n parts)) earlier line later rest last;
+          before = before;
+          after = after;
+          is = split;
+          front = mine_is_one.front;
+          ends = mine_is_one.ends;
+          there =
+              ap (λ (text : List ℕ). slice_get (lines_in text) number) split
+              ∙ ap (slice_get (lines_in (before ++ (line ++ after)))) first_of_rest
+              ∙ skipped.skips (line ++ after) 0
+              ∙ ap (λ (ls : List (List ℕ)). slice_get ls 0) (line-first line after mine_is_one);
         }
 
     -- another list of all readings is the same one
@@ -184,8 +203,8 @@ module _ (format : Format) (x : List ℕ) (o : Decoded) (n sector : ℕ) (s : Is
 pub each_has_one_verdict : EachHasOneVerdict
 each_has_one_verdict format x o n sector s = has_one format x o n sector s
 
-pub lines_name_verdicts : LinesNameVerdicts
-lines_name_verdicts format x o n sector s outcome h = has_line format x o n sector s outcome h
+pub lines_name_verdicts : SectorsHaveOneLine → LinesNameVerdicts
+lines_name_verdicts one format x o n sector s outcome h = has_line format x o n sector s outcome h one
 
 pub good_is_right_on_disks : SectorsFillTracks → TracksJoin → GoodIsRightOnDisks
 good_is_right_on_disks fills joined format x o n sector s g b first h = good format x o n sector s fills joined g b first h

@@ -14,6 +14,7 @@ pub mod OneReading
 pub mod GoodSectors
 pub mod Outcomes
 pub mod DiskParts
+pub mod LineNumbers
 pub mod DiskSectors
 pub mod Telling
 pub mod Chosen

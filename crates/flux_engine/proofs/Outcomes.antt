@@ -1,5 +1,5 @@
 -- The laws of the engine.
-use Rattle.std.specs.Prelude.{◌≡◌, ◌≤◌, ◌<◌, ℕ, ◌-◌, ◌*◌, Bool, List, [], ◌++◌, length, take, drop, find, Option, Some, None, option_and_then, option_map, refl}
+use Rattle.std.specs.Prelude.{◌≡◌, ◌≤◌, ◌<◌, ℕ, ◌-◌, ◌*◌, List, [], ◌++◌, length, take, drop, find, Option, Some, None, option_and_then, option_map, refl}
 use Rattle.std.specs.List.{range_with_len}
 use Rattle.std.proofs.Common.{ap, sym, subst, ◌∙◌, arith, inl, inr, append_assoc, length-take-le}
 use Rattle.std.proofs.lemmas.List.{ext_get_or, get_or-take, take-append-drop}

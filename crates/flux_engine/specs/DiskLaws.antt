@@ -1,10 +1,11 @@
 -- What a decoded disk says of each of its sectors, in its image and in its lines.
-use Rattle.std.specs.Prelude.{◌≡◌, ◌<◌, ℕ, ◌++◌, Bool, false, List, length, take, drop, replicate, None}
+use Rattle.std.specs.Prelude.{◌≡◌, ◌==◌, ◌<◌, ℕ, ◌+◌, ◌-◌, ◌++◌, Bool, false, List, [], ◌∷◌, length, take, drop, replicate, slice_get, sum_by, None, Some}
+use Rattle.std.specs.List.{slice_split}
 use Rattle.flux_base.specs.declared.track.TrackId.{TrackId}
 use Rattle.frame_law.specs.Readings.{AreReadings}
 use Rattle.kryo_stream.specs.Stream.{times, indexes}
-use Rattle.sector_images.specs.Formats.{row}
-use Rattle.sector_images.specs.Places.{IsSector, bytes_of, place_of, sector_place}
+use Rattle.sector_images.specs.Formats.{row, zone}
+use Rattle.sector_images.specs.Places.{IsSector, bytes_of, place_of, sector_place, tracks}
 use Rattle.sector_images.specs.declared.format.Format.{Format}
 use Rattle.sector_report.specs.Lines.{sector_text}
 use Rattle.turn_merge.specs.Readings.{verdict}
@@ -57,17 +58,29 @@ abbrev pub EachHasOneVerdict : Type 0
 EachHasOneVerdict = (format : Format) (x : List ℕ) (o : Decoded) (n sector : ℕ) → IsDecodedSector format x o n sector
     → HasOneVerdict format x n sector
 
--- the line stands in the text
-pub record HasLine (text line : List ℕ) : Type 0 where
+-- the lines of a text, without their line ends, and what stands behind the last line end
+abbrev pub lines_in : List ℕ → List (List ℕ)
+lines_in text = slice_split (λ byte. byte == 10) text
+
+-- The text has this line, with its line end, as its line of this number, from 0.
+pub record HasLine (text line : List ℕ) (number : ℕ) : Type 0 where
   pub before : List ℕ
   pub after : List ℕ
   pub is : text ≡ before ++ (line ++ after)
+  pub front : List ℕ
+  pub ends : line ≡ front ++ 10 ∷ []
+  pub there : slice_get (lines_in text) number ≡ Some front
 
--- the report has the line of each sector, with the sector's verdict
+-- the lines before that of a sector of track number n: those of all sectors of the tracks before it, and of the sectors of
+-- smaller numbers
+abbrev pub line_number : Format → ℕ → ℕ → ℕ
+line_number format n sector = sum_by (λ track. (zone format track.cylinder).sectors) (take n (tracks format)) + (sector - (row format).first_sector)
+
+-- the report's line of each sector names the sector and its verdict
 abbrev pub LinesNameVerdicts : Type 0
 LinesNameVerdicts = (format : Format) (x : List ℕ) (o : Decoded) (n sector : ℕ) → IsDecodedSector format x o n sector
     → (outcome : Verdict) → HasVerdict format x n sector outcome
-    → HasLine o.notes (sector_text (track_at format n) sector outcome)
+    → HasLine o.notes (sector_text (track_at format n) sector outcome) (line_number format n sector)
 
 -- the bytes at a sector's place in a disk's image
 abbrev pub bytes_at : Format → List ℕ → TrackId → ℕ → List ℕ

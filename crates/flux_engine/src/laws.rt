@@ -4,6 +4,7 @@ ghost use Rattle.flux_engine.specs.DiskLaws.{EachHasOneVerdict, GoodIsRightOnDis
 ghost use Rattle.flux_engine.specs.Laws.{OneOutcome, FirstTracksLead, GoodIsRight};
 
 use sector_images::{sectors_fill_tracks, tracks_fill_images};
+use sector_report::sectors_have_one_line;
 
 /// An input comes to one outcome, and what its first tracks come to is what the outcome begins with.
 pub fn outcomes_are_one()
@@ -29,8 +30,8 @@ pub fn parts_fill_images()
     tracks_fill_images()
 }
 
-/// Each sector of a decoded track has one verdict over all readings of the track, and the report has the line
-/// that names it.
+/// Each sector of a decoded track has one verdict over all readings of the track, and its line in the report,
+/// behind those of all sectors before it, names it.
 /// Where it is good, the place that is named has cells that hold the sector, in the turn that is named, with
 /// the bytes that the whole image has at the sector's place, and all places of the track that hold the sector
 /// hold these bytes.
@@ -42,5 +43,6 @@ pub fn good_is_right_on_disks()
     ensures others { OthersAreZeros }
 {
     sectors_fill_tracks();
+    sectors_have_one_line();
     tracks_fill_images()
 }

@@ -5,7 +5,7 @@ pub returns-clause-verdicts : goal.returns-clause-verdicts
 returns-clause-verdicts c = each_has_one_verdict
 
 pub returns-clause-lines : goal.returns-clause-lines
-returns-clause-lines c = lines_name_verdicts
+returns-clause-lines c = lines_name_verdicts c.sectors_have_one_line.ensures
 
 pub returns-clause-good : goal.returns-clause-good
 returns-clause-good c = good_is_right_on_disks c.sectors_fill_tracks.ensures c.tracks_fill_images.ensures.joined
