@@ -47,9 +47,9 @@ intervals_are times number row (next ∷ rows) timed =
     let later : next.fine ≡ 1024 * slice_index times (number + 1) = timed 1 (omega arith) in
     let rest : intervals (next ∷ rows) ≡ intervals_with times (number + 1) (counts_of (intervals (next ∷ rows))) =
     intervals_are times (number + 1) next rows
-        (λ k within.
-            let same : number + suc k ≡ number + 1 + k = omega arith in
-            timed (suc k) (omega (arith, within)) ∙ ap (λ (n : ℕ). 1024 * slice_index times n) same) in
+    (λ k within.
+    let same : number + suc k ≡ number + 1 + k = omega arith in
+    timed (suc k) (omega (arith, within)) ∙ ap (λ (n : ℕ). 1024 * slice_index times n) same) in
     let head : interval_between row next ≡ interval_at times number next.count =
     ap (λ (f : ℕ). mk f row.fine) later ∙ ap (λ (f : ℕ). mk (1024 * slice_index times (number + 1)) f) here in
     ap (λ (i : Interval). i ∷ intervals (next ∷ rows)) head
@@ -84,11 +84,11 @@ held_between start times last state within holds full =
     ∙ ap intervals split in
     let timed : (j : ℕ) → j < length (row_at rows k ∷ drop (k + 1) rows) → (row_at (row_at rows k ∷ drop (k + 1) rows) j).fine ≡ 1024 * slice_index times (k + j) =
     λ j short.
-        let far : k + j ≤ last = omega (arith, short, length-drop (k + 1) rows, rows_are) in
-        ap (λ (l : List Row). (row_at l j).fine) (sym split)
-        ∙ ap (λ (r : Row). r.fine) (get_or-drop k rows j no_row)
-        ∙ row_fine start so_far (length so_far - 1) (k + j) holds.rising (omega (arith, many)) (omega (arith, far, end))
-        ∙ ap (λ (t : ℕ). 1024 * t) (get_or-take (last + 1) times (k + j) 0 (omega (arith, far))) in
+    let far : k + j ≤ last = omega (arith, short, length-drop (k + 1) rows, rows_are) in
+    ap (λ (l : List Row). (row_at l j).fine) (sym split)
+    ∙ ap (λ (r : Row). r.fine) (get_or-drop k rows j no_row)
+    ∙ row_fine start so_far (length so_far - 1) (k + j) holds.rising (omega (arith, many)) (omega (arith, far, end))
+    ∙ ap (λ (t : ℕ). 1024 * t) (get_or-take (last + 1) times (k + j) 0 (omega (arith, far))) in
     let P : List Interval → Type 0 = λ l. l ≡ intervals_with times k (counts_of l) in
     record {
       enough = enough;

@@ -218,14 +218,13 @@ impl Guess {
     }
 }
 
-/// Whether so many periods are the nearest to a way: with half a period more, that many whole ones lie in it.
+/// Whether so many periods are the nearest to a way, or one less is as near.
 fn is_nearest(count: u64, way: u64, period: u64) -> bool
     requires count { count ≤ 4 }
     requires way { way ≤ 2 ^ 50 }
     requires period { period ≤ 163840 }
-    ensures { IsTrue result ↔ (count * period ≤ way + period / 2) × (way + period / 2 < count * period + period) }
+    ensures { IsTrue result ↔ (2 * (count * period) ≤ 2 * way + period) × (2 * way < 2 * (count * period) + period) }
 {
-    let whole = count * period;
-    let rounded = way + period / 2;
-    whole <= rounded && rounded < whole + period
+    let cells = 2 * (count * period);
+    cells <= 2 * way + period && 2 * way < cells + period
 }

@@ -22,8 +22,7 @@ loop-place-preserved c =
     let so_far : List ℕ = take k c.args.counts.now in
     let x : Interval = interval_at times (first + k) (slice_index c.args.counts.now k) in
     let inside : k < length c.args.counts.now = omega (arith, c.loop-place-test.true, c.requires.counts) in
-    let many : first + k ≡ first + length so_far = omega (arith, length-take-le k c.args.counts.now (omega (arith, inside))) in
-    (
+    let many : first + k ≡ first + length so_far = omega (arith, length-take-le k c.args.counts.now (omega (arith, inside))) in (
       omega (arith, c.loop-place.invariant.0, length-set c.loop-place.intervals k (interval_at times (first + k) c.from.result)),
       rw c.from.ensures
           (take_more_set c.loop-place.intervals k x (omega (arith, c.loop-place.invariant.0, c.loop-place-test.true))
