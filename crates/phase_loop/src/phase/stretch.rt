@@ -185,9 +185,9 @@ impl Stand {
     }
 }
 
-/// Guesses how many cells lie in a way, by the period with which a stretch begins. The period of each transition
-/// is the last that is known of it: a count that would wait for it makes the loop a third slower. As the period
-/// hardly changes within a stretch the guess is nearly always right, and it is taken only where it is.
+/// Guesses how many cells lie in a way, by the period with which a stretch begins. The period of each transition is
+/// known last of all, and a count that waits for it makes the loop slower. As the period hardly changes within a
+/// stretch the guess is nearly always right, and it is taken only where it is.
 #[derive(Clone, Copy, Debug, PartialEq, Eq)]
 pub struct Guess {
     /// The longest way of one cell.
@@ -225,6 +225,7 @@ fn is_nearest(count: u64, way: u64, period: u64) -> bool
     requires period { period ≤ 163840 }
     ensures { IsTrue result ↔ (2 * (count * period) ≤ 2 * way + period) × (2 * way < 2 * (count * period) + period) }
 {
+    // Not the product that the next place is made of, so that the place need not wait for this check's.
     let cells = 2 * (count * period);
     cells <= 2 * way + period && 2 * way < cells + period
 }
