@@ -8,32 +8,15 @@ back with every sector good. The largest dump has some 60 MB and takes half a mi
 """
 import os
 import random
-import subprocess
 import sys
 import tempfile
-import time
 from pathlib import Path
 
 from disks import FORMATS, dump
+from measure import measure
 
 TOP = Path(__file__).resolve().parent.parent
 TURNS = 5
-RUNS = 5
-
-
-def measure(command, path):
-    """The best of some runs: seconds, and peak resident memory in MiB; the exit code and what the last one wrote."""
-    best, peak = 1e9, 0
-    for _ in range(RUNS):
-        with open(path, "rb") as source, tempfile.TemporaryFile() as out:
-            start = time.perf_counter()
-            child = subprocess.Popen(command, stdin=source, stdout=out, stderr=subprocess.DEVNULL)
-            _, status, usage = os.wait4(child.pid, 0)
-            best = min(best, time.perf_counter() - start)
-            peak = max(peak, usage.ru_maxrss)
-            out.seek(0)
-            written = out.read()
-    return best, peak / 1024, os.waitstatus_to_exitcode(status), written
 
 
 def main():
@@ -45,13 +28,14 @@ def main():
         image = chance.randbytes(form.image_bytes())
         sectors = sum(form.sectors(cylinder) for cylinder, _ in form.tracks())
         total = f"total {sectors} good {sectors} bad 0 missing 0 contradictory 0\n".encode()
-        with tempfile.NamedTemporaryFile(suffix=".raw") as file:
+        with tempfile.NamedTemporaryFile(suffix=".raw") as file, tempfile.NamedTemporaryFile() as out:
             for track in dump(word, image, TURNS, chance):
                 file.write(track)
             file.flush()
             size = os.path.getsize(file.name) / 1e6
             for verb in ("decode", "report"):
-                seconds, peak, code, written = measure([program, verb, word], file.name)
+                seconds, peak, code = measure([program, verb, word], file.name, out.name)
+                written = Path(out.name).read_bytes()
                 print(f"{word:10} {verb:8} {size:7.1f} {seconds:9.4f} {size / seconds:7.1f} {peak:6.1f}", flush=True)
                 right = written == image if verb == "decode" else written.endswith(total)
                 if code != 0 or not right:
