@@ -24,7 +24,7 @@ joint-lt a b m n a_fits b_fits within =
     low-lt x j k fits = let grows : 2 ^ (j + k) ≡ 2 ^ j * 2 ^ k = pow-add 2 j k in let some : 0 < 2 ^ j = pow_pos j in
         omega (arith, mul-le-mul_right (2 ^ k) some)
 
-joint-cells : (a b m n : ℕ) → a < 2 ^ m → b < 2 ^ n → m + n ≤ 64 → word_cells (m + n) (bit_or (a * 2 ^ n % 2 ^ 64) b) ≡ word_cells m a ++ word_cells n b
+pub joint-cells : (a b m n : ℕ) → a < 2 ^ m → b < 2 ^ n → m + n ≤ 64 → word_cells (m + n) (bit_or (a * 2 ^ n % 2 ^ 64) b) ≡ word_cells m a ++ word_cells n b
 joint-cells a b m n a_fits b_fits within =
     ap (word_cells (m + n)) (joint-is a b m n a_fits b_fits within) ∙ word_cells-append m n a b b_fits
 

@@ -1,4 +1,5 @@
 pub mod Appending
+pub mod Runs
 pub mod Candidates
 pub mod Joining
 pub mod Packing

@@ -1,3 +1,6 @@
+ghost use Rattle.std.specs.Prelude.{All, IfOk};
+ghost use Rattle.cell_bits.specs.Run.{IsShortRun};
+
 use super::*;
 use flux_base::Memory;
 use std::alloc::Global;
@@ -10,6 +13,19 @@ fn zeros(alloc: Global, count: u8) -> Result<Cells, Memory> {
         cells.push_cell(false)?;
     }
     Ok(cells)
+}
+
+/// So many runs of one to four cells.
+fn short_runs(alloc: Global, length: usize) -> Result<Vec<u8>, Memory>
+    ensures { IfOk result (λ counts. All IsShortRun counts.items) }
+{
+    let mut noise = 1u32;
+    let mut counts = Vec::new(alloc);
+    for _ in 0..length {
+        noise = noise.wrapping_mul(1_664_525).wrapping_add(1_013_904_223);
+        counts.push(1 + (noise >> 30) as u8)?;
+    }
+    Ok(counts)
 }
 
 /// The search of `find_word`, place by place and cell by cell.
@@ -91,6 +107,30 @@ fn each_push_crosses_the_border(rt: HostRuntime) -> Result<(), Fail> {
     first.push_mfm(0)?;
     assert_eq!(rt; first.len(), 16);
     assert_eq!(rt; first.word_at(0, 16), 0xAAAA);
+    Ok(())
+}
+
+#[test]
+fn short_runs_are_runs_one_behind_another(rt: HostRuntime) -> Result<(), Fail> {
+    for length in [0usize, 1, 7, 8, 9, 16, 23, 200] {
+        let counts = short_runs(rt.alloc(), length)?;
+        for before in [0u8, 1, 32, 63] {
+            let mut together = zeros(rt.alloc(), before)?;
+            let mut apart = zeros(rt.alloc(), before)?;
+            together.push_short_runs(&counts)?;
+            for count in &counts {
+                apart.push_run(*count)?;
+            }
+            assert_eq!(rt; together.len(), apart.len(), "{length} behind {before}");
+            for place in 0..apart.len() {
+                assert_eq!(rt;
+                    together.cell(place),
+                    apart.cell(place),
+                    "{place} of {length} behind {before}"
+                );
+            }
+        }
+    }
     Ok(())
 }
 

@@ -1,12 +1,15 @@
-ghost use Rattle.std.specs.Prelude.{◌≡◌, ◌^◌, ◌<◌, ◌≤◌, [], ◌∷◌, ◌++◌, OnOk, OnErr, IsOk};
+ghost use Rattle.std.specs.Prelude.{◌≡◌, ℕ, ◌*◌, ◌^◌, ◌<◌, ◌≤◌, [], ◌∷◌, ◌++◌, All, length, take, flat_map, OnOk, OnErr, IsOk};
 ghost use Rattle.cell_bits.specs.State.{room};
 ghost use Rattle.cell_bits.specs.Word.{word_cells};
 ghost use Rattle.cell_bits.specs.Spread.{spread_of};
-ghost use Rattle.cell_bits.specs.Run.{run_cells};
+ghost use Rattle.cell_bits.specs.Run.{run_cells, IsShortRun};
 ghost use Rattle.cell_bits.specs.Bytes.{fm, mfm, last_cell};
 
 use super::{Cells, MOST_WORDS};
 use flux_base::Memory;
+
+/// How many short runs are appended together.
+const GROUP: usize = 8;
 
 impl Cells {
     /// Appends one cell. Memory leaves the list as it was.
@@ -30,6 +33,26 @@ impl Cells {
         ensures succeeds { count ≤ self.old.spare → IsOk result }
     {
         self.append(1, count as u32)
+    }
+
+    /// Appends the runs of several counts, each of 1 to 4, as `push_run` appends one, but eight runs at a time. Memory
+    /// leaves the runs of some of the first counts behind the list.
+    pub fn push_short_runs(&mut self, counts: &[u8]) -> Result<(), Memory>
+        requires short { All IsShortRun counts.now }
+        ensures cells { OnOk result (self.new.cells ≡ self.old.cells ++ flat_map run_cells counts.now) }
+        ensures part { OnErr result ((k : ℕ) × (self.new.cells ≡ self.old.cells ++ flat_map run_cells (take k counts.now))) }
+        ensures room { room self.old ≤ room self.new }
+        ensures succeeds { 4 * length counts.now ≤ self.old.spare → IsOk result }
+    {
+        let groups = counts.len() / GROUP;
+        for group in 0..groups {
+            let (bits, count) = joined_runs(&counts[GROUP * group..GROUP * group + GROUP]);
+            self.append(bits, count)?;
+        }
+        for place in GROUP * groups..counts.len() {
+            self.push_run(counts[place])?;
+        }
+        Ok(())
     }
 
     /// Appends the low `count` bits of the word, 1 to 32, high bit first. Memory leaves the list as it was.
@@ -101,6 +124,26 @@ impl Cells {
         self.filled = over;
         Ok(())
     }
+}
+
+/// The runs of at most eight counts, each of 1 to 4: their cells as the low bits of a number, high bit first, and how many
+/// they are.
+fn joined_runs(counts: &[u8]) -> (u64, u32)
+    requires few { length counts.now ≤ 8 }
+    requires short { All IsShortRun counts.now }
+    ensures cells { word_cells result.1 result.0 ≡ flat_map run_cells counts.now }
+    ensures fits { result.0 < 2 ^ result.1 }
+    ensures least { length counts.now ≤ result.1 }
+    ensures most { result.1 ≤ 4 * length counts.now }
+{
+    let mut bits = 0;
+    let mut cells = 0;
+    for place in 0..counts.len() {
+        let count = counts[place] as u32;
+        bits = bits << count | 1;
+        cells += count;
+    }
+    (bits, cells)
 }
 
 /// The bits of a byte with a zero before each: a number of 16 bits.
