@@ -1,18 +1,20 @@
 -- One transition more in a stretch.
-use Rattle.std.proofs.Common.{◌≡◌, ℕ, zero, suc, ◌+◌, ◌-◌, ◌*◌, ◌/◌, ◌<◌, ◌≤◌, max, List, [], ◌∷◌, ◌++◌, length, take, drop, get_or, set, arith, refl, sym, ◌∙◌, ap, subst, Some, nat_lt, false, inl, inr, slice_index, length-append}
+use Rattle.std.proofs.Common.{◌≡◌, ℕ, zero, suc, ◌+◌, ◌-◌, ◌*◌, ◌/◌, ◌<◌, ◌≤◌, max, All, Bool, List, [], ◌∷◌, ◌++◌, flat_map, length, take, drop, get_or, set, arith, refl, sym, ◌∙◌, ap, subst, Some, nat_lt, false, inl, inr, slice_index, length-append}
 use Rattle.std.specs.List.Sorted.{IsNonDecreasing}
 use Rattle.std.proofs.lemmas.Bool.{le-ltb, cases_lt, cond-false}
-use Rattle.std.proofs.lemmas.List.{length_push, length-map, drop_more, drop-take, drop-append-le, get_or-take, length-take-le, take_more_set}
+use Rattle.std.proofs.lemmas.List.{length_push, length-map, length-drop, length-take, drop_more, drop-take, drop-set-add, drop-append-le, get_or-take, get_or-drop, length-take-le, take_more_set, take-take, append-nil, append_assoc}
+use Rattle.std.proofs.lemmas.List.Elements.{All-set, All-take}
+use Rattle.std.proofs.lemmas.List.Concat.{flat_map-append}
 use Rattle.std.proofs.lemmas.List.Sums.{sum_by-cons}
 use Rattle.std.proofs.Math.Nat.{div-mul-le_self, mul-le-mul_right}
 use Rattle.circular_buffer.specs.Buffer.{buffer, keep_last}
 use Rattle.cell_bits.specs.State.{CellsState, room}
-use Rattle.cell_bits.specs.Run.{run_cells}
+use Rattle.cell_bits.specs.Run.{run_cells, IsShortRun}
 use Rattle.phase_loop.specs.Start.{in_band, IsNominal}
 use Rattle.phase_loop.specs.Window.{WIDEST, IsShort, IsWindow, fine_total, count_total}
 use Rattle.phase_loop.specs.State.{LoopState}
 use Rattle.phase_loop.specs.Step.{periods_to, joined, period_from, state_after, count_after}
-use Rattle.phase_loop.specs.Stretch.{interval_at, intervals_with, counts_of, stand_next, standing, AreBetween, IsStretch}
+use Rattle.phase_loop.specs.Stretch.{interval_at, intervals_with, counts_of, stand_next, standing, with_runs, AreBetween, AreGuessed, IsStretch}
 use Rattle.phase_loop.specs.Appended.{IsAppended}
 use Rattle.phase_loop.specs.declared.window.Interval.{Interval}
 use Rattle.phase_loop.specs.declared.window.Totals.{Totals}
@@ -317,3 +319,74 @@ window_counts counts taken =
     ap (λ (k : ℕ). take k (drop taken counts)) many
     ∙ sym (drop-take taken 64 counts)
     ∙ ap (λ (k : ℕ). drop taken (take k counts)) (sym end)
+
+-- no cells, where it does not matter which they are
+abbrev pub no_cells : CellsState
+no_cells = record { cells = []; spare = 0 }
+
+-- the same stretch with other cells that are the same list
+pub stretch_with : (times : List ℕ) (last next : ℕ) (state : LoopState) (stand : Stand) (counts : List ℕ) (cells now longer : CellsState)
+    → IsStretch times last next state stand counts cells now → longer.cells ≡ now.cells → room cells ≤ room longer
+    → IsStretch times last next state stand counts cells longer
+stretch_with times last next state stand counts cells now longer s same room_kept = record {
+  from = s.from;
+  inside = s.inside;
+  enough = s.enough;
+  full = s.full;
+  carries = λ start before appended.
+      let after = s.carries start before appended in
+      record {
+        holds = after.holds;
+        cells_are = same ∙ after.cells_are;
+        keeps = omega (arith, appended.keeps, room_kept);
+        short = rw same after.short;
+      };
+  window = s.window;
+  place = s.place;
+  shortest = s.shortest;
+  longest = s.longest;
+  short = rw same s.short;
+  keeps = room_kept;
+}
+
+-- one run more
+pub runs_more : (cells : CellsState) (counts : List ℕ) (taken n : ℕ) → 64 + taken < length counts
+    → (with_runs cells (take (taken + 1) (drop 64 (set counts (64 + taken) n)))).cells ≡ (with_runs cells (take taken (drop 64 counts))).cells ++ run_cells n
+runs_more cells counts taken n within =
+    let rest : List ℕ = drop 64 counts in
+    let before : List Bool = flat_map run_cells (take taken rest) in
+    let within' : taken < length rest = omega (arith, within, length-drop 64 counts) in
+    let later : take (taken + 1) (drop 64 (set counts (64 + taken) n)) ≡ take taken rest ++ n ∷ [] =
+    ap (λ (l : List ℕ). take (taken + 1) l) (drop-set-add 64 counts taken n) ∙ take_more_set rest taken n within' in
+    ap (λ (l : List ℕ). cells.cells ++ flat_map run_cells l) later
+    ∙ ap (λ (l : List Bool). cells.cells ++ l) (flat_map-append run_cells (take taken rest) (n ∷ []) ∙ ap (λ (l : List Bool). before ++ l) (append-nil (run_cells n)))
+    ∙ sym (append_assoc cells.cells before (run_cells n))
+
+-- a guess is short
+pub guess_short : (most : ℕ) (counts : List ℕ) (taken : ℕ) → AreGuessed most counts → taken < most → 64 + taken < length counts
+    → IsShortRun (slice_index counts (64 + taken))
+guess_short most counts taken guessed early within =
+    let is : get_or (take most (drop 64 counts)) taken 0 ≡ get_or counts (64 + taken) 0 =
+    get_or-take most (drop 64 counts) taken 0 early ∙ get_or-drop 64 counts taken 0 in
+    subst IsShortRun is (guessed taken 0 (omega (arith, early, within, length-take most (drop 64 counts), length-drop 64 counts)))
+
+take_set : (n i y : ℕ) (xs : List ℕ) → take n (set xs i y) ≡ set (take n xs) i y
+take_set zero i y xs = refl
+take_set (suc n) i y [] = refl
+take_set (suc n) zero y (x ∷ xs) = refl
+take_set (suc n) (suc i) y (x ∷ xs) = ap (λ (l : List ℕ). x ∷ l) (take_set n i y xs)
+
+-- a count that is put right is short
+pub guess_right : (most : ℕ) (counts : List ℕ) (taken n : ℕ) → AreGuessed most counts → IsShortRun n
+    → AreGuessed most (set counts (64 + taken) n)
+guess_right most counts taken n guessed short =
+    let is : take most (drop 64 (set counts (64 + taken) n)) ≡ set (take most (drop 64 counts)) taken n =
+    ap (λ (l : List ℕ). take most l) (drop-set-add 64 counts taken n) ∙ take_set most taken n (drop 64 counts) in
+    subst (λ (l : List ℕ). All IsShortRun l) (sym is) (All-set IsShortRun (take most (drop 64 counts)) taken n short guessed)
+
+-- those that were taken are short
+pub taken_short : (most : ℕ) (counts : List ℕ) (taken : ℕ) → AreGuessed most counts → taken ≤ most
+    → All IsShortRun (take taken (drop 64 counts))
+taken_short most counts taken guessed within =
+    subst (λ (l : List ℕ). All IsShortRun l) (take-take taken most (drop 64 counts) within)
+    (All-take IsShortRun taken (take most (drop 64 counts)) guessed)

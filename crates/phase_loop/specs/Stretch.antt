@@ -1,7 +1,8 @@
 -- A stretch of transitions that a loop with a full window takes while its numbers stand in registers.
-use Rattle.std.specs.Prelude.{◌≡◌, ℕ, ◌+◌, ◌-◌, ◌*◌, ◌/◌, ◌<◌, ◌≤◌, List, [], ◌∷◌, map, length, slice_index}
+use Rattle.std.specs.Prelude.{◌≡◌, ℕ, ◌+◌, ◌-◌, ◌*◌, ◌/◌, ◌<◌, ◌≤◌, List, [], ◌∷◌, ◌++◌, All, map, flat_map, length, take, drop, slice_index}
 use Rattle.circular_buffer.specs.Buffer.{buffer}
 use Rattle.cell_bits.specs.State.{CellsState, room}
+use Rattle.cell_bits.specs.Run.{run_cells, IsShortRun}
 use Rattle.phase_loop.specs.Start.{FINE_PER_TICK, INTERVALS, LONGEST, SHORTEST_PERIOD, LONGEST_PERIOD, in_band}
 use Rattle.phase_loop.specs.Window.{IsWindow}
 use Rattle.phase_loop.specs.State.{LoopState}
@@ -54,6 +55,14 @@ abbrev pub Carries : List ℕ → (last next : ℕ) → (old new : LoopState) �
 Carries times last next old new cells longer =
     (start : LoopStart) (before : CellsState) → IsAppended start times last old before cells → IsAppended start times next new before longer
 
+-- behind the counts of the window stand those of so many transitions, all short
+abbrev pub AreGuessed : (most : ℕ) → List ℕ → Type 0
+AreGuessed most counts = All IsShortRun (take most (drop INTERVALS counts))
+
+-- the cells with some runs behind them
+abbrev pub with_runs : CellsState → List ℕ → CellsState
+with_runs cells counts = record { cells = cells.cells ++ flat_map run_cells counts; spare = cells.spare }
+
 -- the stand at transition number `next` of a stretch behind number `last`, and the counts of the window there
 pub record IsStretch (times : List ℕ) (last next : ℕ) (state : LoopState) (stand : Stand) (counts : List ℕ) (cells longer : CellsState) : Type 0 where
   pub from : last ≤ next
@@ -68,3 +77,8 @@ pub record IsStretch (times : List ℕ) (last next : ℕ) (state : LoopState) (s
   pub longest : stand.period ≤ LONGEST_PERIOD
   pub short : length longer.cells ≤ LONGEST * next + 1
   pub keeps : room cells ≤ room longer
+
+-- the stand behind so many transitions of a stretch, whatever cells the loop's are and the stretch's runs stand behind
+abbrev pub TakesRuns : List ℕ → (last taken : ℕ) → LoopState → Stand → List ℕ → Type 0
+TakesRuns times last taken state stand counts = (cells : CellsState) → length cells.cells ≤ LONGEST * last + 1
+    → IsStretch times last (last + taken) state stand (drop taken (take (INTERVALS + taken) counts)) cells (with_runs cells (take taken (drop INTERVALS counts)))

@@ -1,6 +1,7 @@
 //! The loop that follows a track's clock.
 ghost use Rattle.std.specs.Prelude.{◌≡◌, ℕ, ◌+◌, ◌*◌, ◌/◌, ◌^◌, ◌≤◌, ◌<◌, max, [], ◌∷◌, ◌++◌, List, IfOk, ◌↔◌, IsTrue};
 
+mod guess;
 mod stretch;
 
 use crate::start::{FINE_PER_TICK, LoopStart, in_band_of};
@@ -23,6 +24,8 @@ pub struct Loop {
     place: u64,
     period: u64,
     window: Window,
+    /// The number of the track's transition from which on a stretch is tried again.
+    next_stretch: usize,
 }
 
 impl Model for Loop {
@@ -58,6 +61,7 @@ impl Loop {
             place: 0,
             period: 16384,
             window,
+            next_stretch: 0,
         })
     }
 
@@ -69,6 +73,7 @@ impl Loop {
         ensures time { self.new.fine ≡ 1024 * time }
     {
         self.start = start;
+        self.next_stretch = 0;
         self.restart(FINE_PER_TICK * time);
     }
 

@@ -60,6 +60,38 @@ fn gives(alloc: Global, start: LoopStart, times: &[u64], counts: &[u8]) -> Resul
     Ok(are_runs(&cells, counts))
 }
 
+/// The counts that the loop gives step by step.
+fn counts_of_steps(alloc: Global, start: LoopStart, times: &[u64]) -> Result<Vec<u8>, Memory>
+    requires { IsStart start }
+{
+    let mut counts = Vec::new(alloc);
+    let mut bench = Loop::new(alloc)?;
+    if let Some((first, later)) = times.split_first() {
+        let mut last = (*first).min(LATEST);
+        bench.start(start, last);
+        for time in later {
+            last = last.max(*time).min(LATEST);
+            counts.push(bench.step(last))?;
+        }
+    }
+    Ok(counts)
+}
+
+/// Times of one to four cells of 48 ticks, each time up to so many ticks off.
+fn noisy_times(alloc: Global, count: usize, noise: u64) -> Result<Vec<u64>, Memory>
+    requires { noise ≤ 24 }
+{
+    let mut times = Vec::new(alloc);
+    let mut random = 1u32;
+    let mut even = 0u64;
+    for _number in 0..count {
+        random = random.wrapping_mul(1_664_525).wrapping_add(1_013_904_223);
+        even = even.saturating_add(48 * (1 + u64::from(random >> 30)));
+        times.push(even.saturating_add(u64::from(random >> 16) % (noise + 1)))?;
+    }
+    Ok(times)
+}
+
 /// So many times, each as far behind the one before, the first of them 0.
 fn even_times(alloc: Global, count: u64, way: u64) -> Result<Vec<u64>, Memory>
     requires { count * way ≤ 2 ^ 39 }
@@ -191,6 +223,17 @@ fn goes_on_behind_a_stretch(rt: HostRuntime) -> Result<(), Memory> {
     assert!(rt; gives(rt.alloc(), EVEN, just_one.as_slice(), &[1; 576])?);
     let one_more = even_times(rt.alloc(), 578, 48)?;
     assert!(rt; gives(rt.alloc(), EVEN, one_more.as_slice(), &[1; 577])?);
+    Ok(())
+}
+
+// The more noise, the more guesses are wrong: with 24 ticks an interval is up to half a cell off.
+#[test]
+fn a_stretch_is_steps(rt: HostRuntime) -> Result<(), Memory> {
+    for noise in [0u64, 6, 18, 24] {
+        let times = noisy_times(rt.alloc(), 3000, noise)?;
+        let counts = counts_of_steps(rt.alloc(), EVEN, &times)?;
+        assert!(rt; gives(rt.alloc(), EVEN, &times, &counts)?, "{noise}");
+    }
     Ok(())
 }
 

@@ -1,17 +1,25 @@
 //! The loop's hot path: stretches of transitions that lie close to one another.
-ghost use Rattle.std.specs.Prelude.{◌≡◌, ◌+◌, ◌-◌, ◌*◌, ◌/◌, ◌^◌, ◌<◌, ◌≤◌, max, length, take, drop, map, slice_index, All, IfOk, IfSome, IsOk, IsTrue, ◌↔◌};
+ghost use Rattle.std.specs.Prelude.{◌≡◌, ℕ, ◌+◌, ◌-◌, ◌*◌, ◌/◌, ◌^◌, ◌<◌, ◌≤◌, max, length, take, drop, slice_index, All, IfOk, IfSome, IsOk, IsTrue, ◌↔◌};
 ghost use Rattle.std.specs.List.Sorted.{IsNonDecreasing};
 ghost use Rattle.cell_bits.specs.State.{room};
+ghost use Rattle.cell_bits.specs.Run.{IsShortRun};
 ghost use Rattle.circular_buffer.specs.Buffer.{buffer};
 ghost use Rattle.phase_loop.specs.Start.{IsNominal};
 ghost use Rattle.phase_loop.specs.Window.{IsShort, IsWindow, fine_total};
-ghost use Rattle.phase_loop.specs.Stretch.{intervals_with, stand_next, AreBetween, Carries, IsStretch};
+ghost use Rattle.phase_loop.specs.Stretch.{intervals_with, counts_of, stand_next, AreBetween, AreGuessed, Carries, IsStretch, TakesRuns};
 
-use super::Loop;
+use super::guess::Guess;
+use super::{Loop, are_few, few_periods_in};
 use crate::start::{FINE_PER_TICK, in_band_of};
 use crate::window::{INTERVALS, Interval, STRETCH, Totals};
 use cell_bits::Cells;
 use flux_base::Memory;
+
+/// A stretch of fewer transitions is short: what is done before and behind it takes longer than it saves.
+const SHORT_STRETCH: usize = 128;
+
+/// How many transitions no stretch is tried behind a short one.
+const PAUSE: usize = 256;
 
 /// What a step of a loop with a full window changes, without the intervals: few enough numbers to stay in the
 /// processor's registers.
@@ -26,9 +34,10 @@ pub struct Stand {
 }
 
 impl Loop {
-    /// Takes the next of a track's transitions and appends their cells, if the window is full: as many as a stretch
-    /// has, up to the first whose count is not guessed right. `last` is the number of the transition at which the
-    /// loop stands, and the answer that of the one at which it stands then.
+    /// Takes the next of a track's transitions and appends their cells, if the window is full and the last stretch was
+    /// not a short one just now: as many as a stretch has, up to the first with more than four cells or before the
+    /// place. `last` is the number of the transition at which the loop stands, and the answer that of the one at which
+    /// it stands then.
     pub(crate) fn follow(
         &mut self,
         times: &[u64],
@@ -47,7 +56,7 @@ impl Loop {
         ensures room { room cells.old ≤ room cells.new }
         ensures succeeds { 32 * length times.now ≤ room cells.old → IsOk result }
     {
-        if !self.window.is_full() {
+        if last < self.next_stretch || !self.window.is_full() {
             return Ok(last);
         }
         let mut counts = [0; INTERVALS + STRETCH];
@@ -64,6 +73,7 @@ impl Loop {
         self.fine = fine;
         self.place = stand.place;
         self.period = stand.period;
+        self.next_stretch = next_stretch_behind(next, taken);
         Ok(next)
     }
 
@@ -82,32 +92,61 @@ impl Loop {
         requires here { self.now.fine ≡ 1024 * slice_index times.now last }
         requires full { length self.now.recent ≡ 64 }
         requires window { AreBetween times.now last self.now.recent }
-        requires counts { take 64 counts.old ≡ map (λ interval. interval.count) self.now.recent }
+        requires counts { take 64 counts.old ≡ counts_of self.now.recent }
         requires short { length cells.old.cells ≤ 32 * last + 1 }
         ensures most { IfOk result (λ r. r.1 ≤ last + 512) }
         ensures stretch { IfOk result (λ r. IsStretch times.now last r.1 self.now r.0 (drop (r.1 - last) (take (64 + (r.1 - last)) counts.new)) cells.old cells.new) }
         ensures room { room cells.old ≤ room cells.new }
         ensures succeeds { 32 * length times.now ≤ room cells.old → IsOk result }
     {
-        let nominal = self.start.nominal;
-        let guess = Guess::by(self.period);
         let most = STRETCH.min(times.len() - 1 - last);
+        let guess = Guess::by(self.period);
+        guess.put_counts(
+            &times[last..last + most + 1],
+            &mut counts[INTERVALS..INTERVALS + most],
+        );
+        let (stand, taken) = self.take_guesses(times, last, most, counts);
+        cells.push_short_runs(&counts[INTERVALS..INTERVALS + taken])?;
+        Ok((stand, last + taken))
+    }
+
+    /// Takes the transitions of a stretch, whose counts are guessed, and puts right a count that is guessed wrong. The
+    /// answer is the stand at the last that it takes, and how many they are.
+    fn take_guesses(
+        &self,
+        times: &[u64],
+        last: usize,
+        most: usize,
+        counts: &mut [u8; INTERVALS + STRETCH],
+    ) -> (Stand, usize)
+        requires rising { IsNonDecreasing times.now }
+        requires within { All (λ time. time ≤ 2 ^ 39) times.now }
+        requires inside { last + most < length times.now }
+        requires most { most ≤ 512 }
+        requires here { self.now.fine ≡ 1024 * slice_index times.now last }
+        requires full { length self.now.recent ≡ 64 }
+        requires window { AreBetween times.now last self.now.recent }
+        requires counts { take 64 counts.old ≡ counts_of self.now.recent }
+        requires guesses { AreGuessed most counts.old }
+        ensures most { result.1 ≤ most }
+        ensures guesses { AreGuessed most counts.new }
+        ensures stretch { TakesRuns times.now last result.1 self.now result.0 counts.new }
+    {
+        let nominal = self.start.nominal;
         let mut stand = self.stand();
         for taken in 0..most {
             let number = last + taken + 1;
             let fine = FINE_PER_TICK * times[number];
-            let Some(count) = stand.near(fine, guess) else {
-                return Ok((stand, last + taken));
+            let Some((count, length)) = stand.near(fine, counts[INTERVALS + taken]) else {
+                return (stand, taken);
             };
-            // The cells come first, so that nothing stands between a period and the next step.
-            cells.push_run(count as u8)?;
             let ticks = times[number] - times[number - INTERVALS];
             let total = stand.count - u64::from(counts[taken]) + count;
             counts[INTERVALS + taken] = count as u8;
             let mean = self.window.mean_of(ticks, total);
-            stand = stand.after(nominal, fine, count, total, mean);
+            stand = stand.after(nominal, fine, length, total, mean);
         }
-        Ok((stand, last + most))
+        (stand, most)
     }
 
     fn stand(&self) -> Stand
@@ -120,6 +159,16 @@ impl Loop {
             period: self.period,
             count: self.window.cells(),
         }
+    }
+}
+
+/// From which transition on a stretch is tried again, where the last one took so many and ended at this one. A short one
+/// is a sign of noise.
+fn next_stretch_behind(last: usize, taken: usize) -> usize {
+    if taken < SHORT_STRETCH {
+        last.saturating_add(PAUSE)
+    } else {
+        last
     }
 }
 
@@ -147,85 +196,73 @@ fn intervals_to(times: &[u64], last: usize, counts: &[u8]) -> [Interval; INTERVA
 }
 
 impl Stand {
-    /// The guessed count of cells to a time that is not before the place, where it is the right one.
-    fn near(self, fine: u64, guess: Guess) -> Option<u64>
+    /// The count of cells to a time that is not before the place and has no more than four, and their length: the guess,
+    /// where it is the right one.
+    fn near(self, fine: u64, guess: u8) -> Option<(u64, u64)>
         requires fine { fine ≤ 2 ^ 49 }
         requires shortest { 1 ≤ self.period }
         requires longest { self.period ≤ 163840 }
-        ensures count { IfSome result (λ count. count ≡ max 1 ((2 * (fine - self.place) + self.period) / (2 * self.period))) }
-        ensures near { IfSome result (λ count. 2 * (fine - self.place) < 9 * self.period) }
-        ensures few { IfSome result (λ count. count ≤ 4) }
+        requires guess { IsShortRun guess }
+        ensures count { IfSome result (λ r. r.0 ≡ max 1 ((2 * (fine - self.place) + self.period) / (2 * self.period))) }
+        ensures length { IfSome result (λ r. r.1 ≡ r.0 * self.period) }
+        ensures near { IfSome result (λ r. 2 * (fine - self.place) < 9 * self.period) }
+        ensures few { IfSome result (λ r. r.0 ≤ 4) }
     {
         if fine < self.place {
             return None;
         }
         let way = fine - self.place;
-        let count = guess.count(way);
-        if !is_nearest(count, way, self.period) {
-            return None;
+        let count = u64::from(guess);
+        let length = count * self.period;
+        if is_nearest(length, way, self.period) {
+            return Some((count, length));
         }
-        Some(count)
+        let count = count_of_few(way, self.period)?;
+        Some((count, count * self.period))
     }
 
-    /// The stand at the next transition, which lies `count` cells on and gives the window this total of cells and
-    /// this mean.
-    fn after(self, nominal: u32, fine: u64, count: u64, total: u64, mean: u64) -> Stand
+    /// The stand at the next transition, where the cells to it have this length, and the window gets this total of cells
+    /// and this mean.
+    fn after(self, nominal: u32, fine: u64, length: u64, total: u64, mean: u64) -> Stand
         requires nominal { IsNominal nominal }
         requires fine { fine ≤ 2 ^ 49 }
         requires place { self.place ≤ 2 ^ 50 }
-        requires period { self.period ≤ 163840 }
-        requires count { count ≤ 4 }
-        ensures { result ≡ stand_next nominal self fine count total mean }
+        requires length { length ≤ 4 * 163840 }
+        ensures { (count : ℕ) → length ≡ count * self.period → result ≡ stand_next nominal self fine count total mean }
     {
         Stand {
-            place: (self.place + count * self.period + fine) / 2,
+            place: (self.place + length + fine) / 2,
             period: in_band_of(nominal, mean),
             count: total,
         }
     }
 }
 
-/// Guesses how many cells lie in a way, by the period with which a stretch begins. The period of each transition is
-/// known last of all, and a count that waits for it makes the loop slower. As the period hardly changes within a
-/// stretch the guess is nearly always right, and it is taken only where it is.
-#[derive(Clone, Copy, Debug, PartialEq, Eq)]
-pub struct Guess {
-    /// The longest way of one cell.
-    one: u64,
-    /// The longest way of two.
-    two: u64,
-    /// The longest way of three.
-    three: u64,
-}
-
-impl Guess {
-    fn by(period: u64) -> Guess
-        requires { period ≤ 163840 }
-    {
-        Guess {
-            one: 3 * period / 2,
-            two: 5 * period / 2,
-            three: 7 * period / 2,
-        }
-    }
-
-    /// A count of cells from one to four, since no recording has more from one transition to the next.
-    fn count(self, way: u64) -> u64
-        ensures some { 1 ≤ result }
-        ensures few { result ≤ 4 }
-    {
-        1 + u64::from(way > self.one) + u64::from(way > self.two) + u64::from(way > self.three)
-    }
-}
-
-/// Whether so many periods are the nearest to a way, or one less is as near.
-fn is_nearest(count: u64, way: u64, period: u64) -> bool
-    requires count { count ≤ 4 }
+/// How many periods lie in a way, where they are few. A call, so that a transition whose guess is right does not wait for
+/// the comparisons.
+#[cold]
+#[inline(never)]
+fn count_of_few(way: u64, period: u64) -> Option<u64>
     requires way { way ≤ 2 ^ 50 }
     requires period { period ≤ 163840 }
-    ensures { IsTrue result ↔ (2 * (count * period) ≤ 2 * way + period) × (2 * way < 2 * (count * period) + period) }
+    ensures count { IfSome result (λ count. count ≡ max 1 ((2 * way + period) / (2 * period))) }
+    ensures near { IfSome result (λ count. 2 * way < 9 * period) }
+    ensures few { IfSome result (λ count. count ≤ 4) }
 {
-    // Not the product that the next place is made of, so that the place need not wait for this check's.
-    let cells = 2 * (count * period);
-    cells <= 2 * way + period && 2 * way < cells + period
+    if are_few(way, period) {
+        Some(few_periods_in(way, period))
+    } else {
+        None
+    }
+}
+
+/// Whether cells of this length are the nearest to a way, or one less is as near.
+fn is_nearest(length: u64, way: u64, period: u64) -> bool
+    requires length { length ≤ 4 * 163840 }
+    requires way { way ≤ 2 ^ 50 }
+    requires period { period ≤ 163840 }
+    ensures { IsTrue result ↔ (2 * length ≤ 2 * way + period) × (2 * way < 2 * length + period) }
+{
+    // Where the way is shorter by more than half a period, the difference wraps round, far above a period.
+    (way + period / 2).wrapping_sub(length) < period
 }

@@ -1,5 +1,6 @@
-use Rattle.std.proofs.Common.{arith, ◌≡◌, ℕ, ap, refl, subst, ◌+◌, ◌-◌, ◌*◌, ◌<◌, List, [], length, take, drop, set, slice_index, sym, ◌∙◌, append-nil, length-append}
+use Rattle.std.proofs.Common.{arith, ◌≡◌, ℕ, ap, refl, subst, ◌+◌, ◌-◌, ◌*◌, ◌<◌, ◌≤◌, List, [], length, take, drop, set, slice_index, append-nil, length-append}
 use Rattle.std.proofs.lemmas.List.{length-set}
+use Rattle.std.proofs.Math.Nat.{mul-le-mul_right}
 use Rattle.cell_bits.specs.State.{CellsState}
 use Rattle.cell_bits.specs.Run.{run_cells}
 use Rattle.phase_loop.specs.Start.{IsNominal}
@@ -84,8 +85,11 @@ after-stand-requires-clause-place c =
     let time = c.requires.within (c.args.last + c.loop-taken.taken) 0 s.inside in
     omega (arith, time, s.place)
 
-pub after-stand-requires-clause-period : goal.after-stand-requires-clause-period
-after-stand-requires-clause-period c = let s = c.loop-taken.invariant.stretch no_cells (omega arith) in s.longest
+pub after-stand-requires-clause-length : goal.after-stand-requires-clause-length
+after-stand-requires-clause-length c =
+    let s = c.loop-taken.invariant.stretch no_cells (omega arith) in
+    let most : c.in-Some.count * c.loop-taken.stand.period ≤ 4 * c.loop-taken.stand.period = mul-le-mul_right c.loop-taken.stand.period c.in-Some.ensures.few in
+    omega (arith, most, s.longest, c.in-Some.ensures.length)
 
 pub loop-taken-preserved : goal.loop-taken-preserved
 loop-taken-preserved c =
@@ -112,7 +116,7 @@ loop-taken-preserved c =
           let longer : CellsState = with_runs cells (take (c.loop-taken.taken + 1) (drop 64 counts)) in
           let longer_are = runs_more cells c.loop-taken.counts c.loop-taken.taken c.in-Some.count room_for in
           let P : List ℕ → Type 0 = λ l. IsStretch c.args.times.now c.args.last here c.args.self.now c.loop-taken.stand l cells now in
-          rw (number, c.after-stand.ensures, c.mean_of-mean.ensures, ticks, c.from.ensures, nominal_is, next.shift.now)
+          rw (number, c.after-stand.ensures c.in-Some.count c.in-Some.ensures.length, c.mean_of-mean.ensures, ticks, c.from.ensures, nominal_is, next.shift.now)
           (stretch_more _ _ _ _ _ totals oldest c.in-Some.count next.shift.rest cells now longer c.requires.rising nominal
           (subst P next.shift.was (c.loop-taken.invariant.stretch cells short))
           (omega (arith, c.loop-taken-test.true, c.requires.inside)) next.exchange refl
