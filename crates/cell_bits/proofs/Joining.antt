@@ -95,3 +95,16 @@ pub cell-split : (cells : List Bool) (place block : ℕ) → IsWindow cells (64 
 cell-split cells place block shown =
     let here : 64 * (place / 64) + place % 64 ≡ place = omega arith in
     ap (λ bit. bit == 1) (shr_and_one block (63 - place % 64)) ∙ shown (place % 64) (omega arith) ∙ ap (λ n. get_or cells n false) here
+
+-- the cells of a block from a place on, shifted to the front, with zeros behind them
+module _ (cells : List Bool) (place block : ℕ) (shown : IsWindow cells (64 * (place / 64)) block) where
+  pub shifted-cell : (k : ℕ) → k + place % 64 < 64 → digit (block * 2 ^ (place % 64) % 2 ^ 64) (63 - k) ≡ get_or cells (place + k) false
+  shifted-cell k within =
+      let at : 63 - k - place % 64 ≡ 63 - (place % 64 + k) = omega arith in
+      let here : 64 * (place / 64) + (place % 64 + k) ≡ place + k = omega arith in
+      ap (λ bit. bit == 1) (bit_at-mod (block * 2 ^ (place % 64)) 64 (63 - k) (omega arith) ∙ bit_at-shl_high block (place % 64) (63 - k) (omega arith))
+      ∙ ap (digit block) at ∙ shown (place % 64 + k) (omega arith) ∙ ap (λ n. get_or cells n false) here
+
+  pub shifted-past : (k : ℕ) → k < 64 → 64 ≤ k + place % 64 → digit (block * 2 ^ (place % 64) % 2 ^ 64) (63 - k) ≡ false
+  shifted-past k within past =
+      ap (λ bit. bit == 1) (bit_at-mod (block * 2 ^ (place % 64)) 64 (63 - k) (omega arith) ∙ bit_at-shl_low block (place % 64) (63 - k) (omega arith))

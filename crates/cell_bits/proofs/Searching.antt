@@ -1,12 +1,13 @@
--- A word that is sought 64 places at a time.
-use Rattle.std.proofs.Common.{◌≡◌, ℕ, ◌+◌, ◌-◌, ◌<◌, ◌≤◌, Bool, true, false, ◌⊎◌, inl, inr, List, length, take, drop, get_or, Option, Some, None, refl, sym, ap, ◌∙◌, subst, arith, length-take, length-take-le, length-drop, get_or-take, get_or-drop, ext_get_or, ◌↔◌, IsTrue, is_some, not, replicate}
+-- A word, and a one, that are sought 64 places at a time.
+use Rattle.std.proofs.Common.{◌≡◌, ℕ, ◌+◌, ◌-◌, ◌*◌, ◌/◌, ◌%◌, ◌^◌, ◌<◌, ◌≤◌, Bool, true, false, ◌⊎◌, inl, inr, List, length, take, drop, get_or, Option, Some, None, refl, sym, ap, ◌∙◌, subst, arith, length-take, length-take-le, length-drop, get_or-take, get_or-drop, ext_get_or, ◌↔◌, IsTrue, is_some, not, replicate}
 use Rattle.std.proofs.lemmas.Bool.{cases_lt}
+use Rattle.std.proofs.lemmas.List.{get_or_past}
 use Rattle.cell_bits.specs.Word.{digit, word_cells, Stands}
 use Rattle.cell_bits.specs.WordLaws.{length-word_cells, get_or-word_cells}
-use Rattle.cell_bits.specs.Search.{StandsNowhere, IsFirstWord}
+use Rattle.cell_bits.specs.Search.{StandsNowhere, IsFirstWord, HasNoOne}
 use Rattle.cell_bits.specs.Broken.{Unbroken}
 use Rattle.cell_bits.specs.Window.{IsWindow, AreCandidates, cell_of_two}
-use Rattle.cell_bits.proofs.Joining.{two_windows}
+use Rattle.cell_bits.proofs.Joining.{two_windows, shifted-cell, shifted-past}
 use Rattle.cell_bits.proofs.Candidates.{zero-digit}
 
 module _ (cells : List Bool) (value count : ℕ) where
@@ -69,6 +70,45 @@ module _ (cells : List Bool) (value count : ℕ) where
 
     pub nowhere-block : (from : ℕ) → places ≡ 0 → StandsNowhere cells value count from place → StandsNowhere cells value count from (place + 64)
     nowhere-block from empty so_far = nowhere-more from 64 (omega arith) (λ k below. ap (λ n. digit n (63 - k)) empty ∙ zero-digit (63 - k)) so_far
+
+-- ones that are sought in the rest of a block
+module _ (cells : List Bool) where
+  pub no-one-yet : (from : ℕ) → HasNoOne cells from from
+  no-one-yet from place after before = absurd (omega arith)
+
+  -- no place is left, since no one stands behind the list's end
+  pub no-one-beyond : (from place to : ℕ) → HasNoOne cells from place → (place < to → length cells ≤ place) → HasNoOne cells from to
+  no-one-beyond from place to so_far beyond other after before = by_place (cases_lt other place)
+    where
+      by_place : (other < place) ⊎ (place ≤ other) → get_or cells other false ≡ false
+      by_place (inl earlier) = so_far other after earlier
+      by_place (inr later) = get_or_past cells other false (omega (arith, beyond))
+
+  module _ (place block : ℕ) (shown : IsWindow cells (64 * (place / 64)) block) where
+    pub one-told : (k : ℕ) → k < 64 → digit (block * 2 ^ (place % 64) % 2 ^ 64) (63 - k) ≡ true
+        → (k + place % 64 < 64) × (get_or cells (place + k) false ≡ true)
+    one-told k within told = by_place (cases_lt (k + place % 64) 64)
+      where
+        by_place : (k + place % 64 < 64) ⊎ (64 ≤ k + place % 64) → (k + place % 64 < 64) × (get_or cells (place + k) false ≡ true)
+        by_place (inl here) = (here, sym (shifted-cell cells place block shown k here) ∙ told)
+        by_place (inr past) = let no : true ≡ false = sym told ∙ shifted-past cells place block shown k within past in cc
+
+    -- the places before the first one that is told are passed over
+    pub no-one-more : (from n : ℕ) → n ≤ 64 - place % 64 → ((k : ℕ) → k < n → digit (block * 2 ^ (place % 64) % 2 ^ 64) (63 - k) ≡ false)
+        → HasNoOne cells from place → HasNoOne cells from (place + n)
+    no-one-more from n most none so_far other after before = by_place (cases_lt other place)
+      where
+        by_place : (other < place) ⊎ (place ≤ other) → get_or cells other false ≡ false
+        by_place (inl earlier) = so_far other after earlier
+        by_place (inr later) =
+            let at : other ≡ place + (other - place) = omega arith in
+            ap (λ n. get_or cells n false) at ∙ sym (shifted-cell cells place block shown (other - place) (omega arith))
+            ∙ none (other - place) (omega arith)
+
+    pub no-one-block : (from : ℕ) → block * 2 ^ (place % 64) % 2 ^ 64 ≡ 0 → HasNoOne cells from place
+        → HasNoOne cells from (place + (64 - place % 64))
+    no-one-block from empty so_far =
+        no-one-more from (64 - place % 64) (omega arith) (λ k below. ap (λ n. digit n (63 - k)) empty ∙ zero-digit (63 - k)) so_far
 
 -- eight zeros are a word
 eight-zeros : word_cells 8 0 ≡ replicate 8 false

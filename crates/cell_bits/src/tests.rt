@@ -158,3 +158,42 @@ fn finds_what_a_plain_search_finds(rt: HostRuntime) -> Result<(), Fail> {
     }
     Ok(())
 }
+
+#[test]
+fn finds_each_one_that_a_plain_search_finds(rt: HostRuntime) -> Result<(), Fail> {
+    let mut noise = 1u32;
+    for length in [0usize, 1, 63, 64, 65, 130, 320] {
+        for chance in [0u32, 600, 20_000, 65_535] {
+            let mut cells = Cells::new(rt.alloc());
+            for _ in 0..length {
+                noise = noise.wrapping_mul(1_664_525).wrapping_add(1_013_904_223);
+                cells.push_cell(noise >> 16 <= chance)?;
+            }
+            for from in [0usize, 1, 62, 63, 64, 127, 128, 300, 400] {
+                for to in [0usize, 1, 63, 64, 65, 129, 200, 320, 500] {
+                    assert_eq!(rt;
+                        cells.find_one(from, to),
+                        first_by_cells(&cells, from, to, 1, 1),
+                        "from {from} to {to} of {length}"
+                    );
+                }
+            }
+        }
+    }
+    Ok(())
+}
+
+// Of 200 cells the last is the only one, in the cells behind the last whole word.
+#[test]
+fn finds_a_one_behind_words_of_zeros(rt: HostRuntime) -> Result<(), Fail> {
+    let mut cells = Cells::new(rt.alloc());
+    for place in 0..200 {
+        cells.push_cell(place == 199)?;
+    }
+    assert_eq!(rt; cells.find_one(0, usize::MAX), Some(199));
+    assert_eq!(rt; cells.find_one(199, 200), Some(199));
+    assert_eq!(rt; cells.find_one(0, 199), None);
+    assert_eq!(rt; cells.find_one(200, usize::MAX), None);
+    assert_eq!(rt; cells.find_one(usize::MAX, usize::MAX), None);
+    Ok(())
+}

@@ -1,5 +1,5 @@
 ghost use Rattle.std.specs.Prelude.{◌≡◌, ℕ, ◌-◌, ◌<◌, ◌≤◌, length, ◌↔◌, true, IsTrue};
-ghost use Rattle.cell_bits.specs.Search.{IsFirstWord};
+ghost use Rattle.cell_bits.specs.Search.{IsFirstWord, IsFirstOne};
 ghost use Rattle.cell_bits.specs.Word.{digit};
 ghost use Rattle.cell_bits.specs.Window.{AreCandidates};
 ghost use Rattle.cell_bits.specs.Broken.{Unbroken};
@@ -31,6 +31,25 @@ impl Cells {
             }
             here = next;
             place += 64;
+        }
+        None
+    }
+
+    /// The least place, at least `from` and below `to`, whose cell is a one. None where there is none. `from` and
+    /// `to` may lie behind the list's end.
+    #[inline]
+    pub fn find_one(&self, from: usize, to: usize) -> Option<usize>
+        ensures { IsFirstOne self.now.cells from to result }
+    {
+        let end = to.min(self.len());
+        let mut place = from;
+        while place < end {
+            let ahead = self.block(place / 64) << (place % 64);
+            if ahead != 0 {
+                let one = place + ahead.leading_zeros() as usize;
+                return if one < end { Some(one) } else { None };
+            }
+            place += 64 - place % 64;
         }
         None
     }
