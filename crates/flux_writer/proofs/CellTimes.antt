@@ -2,11 +2,10 @@
 use Rattle.std.proofs.Common.{◌≡◌, ◌≤◌, ◌<◌, ◌+◌, ◌-◌, ◌*◌, ◌++◌, ℕ, zero, suc, Bool, true, false, cond, List, [], ◌∷◌, length, map, take, drop, filter, get_or, refl, ap, sym, ◌∙◌, arith, inl, inr, append_assoc, append-nil, length-append, length-drop}
 use Rattle.std.specs.List.{range_with_len}
 use Rattle.std.proofs.lemmas.Bool.{cases_lt}
-use Rattle.std.proofs.lemmas.List.{length-take-le, map-append, get_or_past, drop_all, drop-drop}
+use Rattle.std.proofs.lemmas.List.{length-take-le, map-append, get_or_past, drop-drop}
 use Rattle.std.proofs.Math.Nat.{mul-le-mul, mul-le-mul_right}
 use Rattle.std.proofs.Math.Seq.{take-add, drop-cons, get_or-append_seam}
-use Rattle.cell_bits.specs.Word.{Stands, word_cells}
-use Rattle.cell_bits.specs.Search.{StandsNowhere}
+use Rattle.cell_bits.specs.Search.{HasNoOne}
 use Rattle.flux_writer.specs.Written.{cell_time, ones_of}
 use Rattle.flux_writer.specs.Writing.{ones_from, times_between}
 
@@ -42,33 +41,15 @@ ones_from-append n (x ∷ xs) ys =
       | false ↦ rest
     ]
 
--- a one stands at a place of the list, or a zero
-pub one_at : (cells : List Bool) (q : ℕ) → Stands cells 1 1 q → (q < length cells) × (get_or cells q false ≡ true)
-unfolding word_cells
-one_at cells q stands = elim (cases_lt q (length cells)) [
-  | inl inside ↦ (inside, head_is (get_or cells q false) (take 0 (drop (suc q) cells)) (sym (ap (take 1) (drop-cons cells q false inside)) ∙ stands))
-  | inr past ↦ absurd (nothing (sym (ap (take 1) (drop_all q cells past)) ∙ stands))
+-- a cell that is a one lies in the list
+one_within : (cells : List Bool) (q : ℕ) → get_or cells q false ≡ true → q < length cells
+one_within cells q one = elim (cases_lt q (length cells)) [
+  | inl inside ↦ inside
+  | inr past ↦ absurd (other (sym (get_or_past cells q false past) ∙ one))
 ]
   where
-    head_is : (b : Bool) (rest : List Bool) → b ∷ rest ≡ true ∷ [] → b ≡ true
-    head_is b rest e = cc
-
-    nothing : [] ≡ true ∷ [] → ⊥
-    nothing e = cc
-
-pub no_one_at : (cells : List Bool) (q : ℕ) → (Stands cells 1 1 q → ⊥) → get_or cells q false ≡ false
-unfolding word_cells
-no_one_at cells q none = elim (cases_lt q (length cells)) [
-  | inl inside ↦ by_value (get_or cells q false) refl inside
-  | inr past ↦ get_or_past cells q false past
-]
-  where
-    stands : get_or cells q false ≡ true → q < length cells → Stands cells 1 1 q
-    stands is inside = ap (take 1) (drop-cons cells q false inside) ∙ ap (λ b. b ∷ []) is
-
-    by_value : (b : Bool) → get_or cells q false ≡ b → q < length cells → get_or cells q false ≡ false
-    by_value true is inside = absurd (none (stands is inside))
-    by_value false is inside = is
+    other : false ≡ true → ⊥
+    other e = cc
 
 -- no cell is a one
 none_between : (cells : List Bool) (place count number : ℕ) → place + count ≤ length cells
@@ -122,31 +103,31 @@ times_between-split cells from place to number nominal start order within =
 
 module _ (cells : List Bool) (from number nominal : ℕ) where
   -- one more transition
-  pub times_between-one : (place one to : ℕ) → from ≤ place → place ≤ one → Stands cells 1 1 one → StandsNowhere cells 1 1 place one
+  pub times_between-one : (place one to : ℕ) → from ≤ place → place ≤ one → get_or cells one false ≡ true → HasNoOne cells place one
       → times_between cells from (one + 1) number nominal
       ≡ times_between cells from place number nominal ++ cell_time nominal (number + (one - from)) ∷ []
   times_between-one place one to start order stands nowhere =
-      let is = one_at cells one stands in
+      let inside : one < length cells = one_within cells one stands in
       let n = one - place in
       let size : (one + 1) - place ≡ suc n = omega arith in
       let at : place + n ≡ one = omega arith in
       let last : (number + (place - from)) + n ≡ number + (one - from) = omega arith in
-      times_between-split cells from place (one + 1) number nominal start (omega arith) (omega (arith, is.0))
+      times_between-split cells from place (one + 1) number nominal start (omega arith) (omega (arith, inside))
       ∙ ap (λ m. times_between cells from place number nominal ++ map (cell_time nominal) (ones_from (number + (place - from)) (take m (drop place cells)))) size
       ∙ ap (λ l. times_between cells from place number nominal ++ map (cell_time nominal) l)
-      (one_between cells place n (number + (place - from)) (omega (arith, at, is.0))
-      (λ k below. no_one_at cells (place + k) (nowhere (place + k) (omega arith) (omega (arith, at, below))))
-      (ap (λ q. get_or cells q false) at ∙ is.1))
+      (one_between cells place n (number + (place - from)) (omega (arith, at, inside))
+      (λ k below. nowhere (place + k) (omega arith) (omega (arith, at, below)))
+      (ap (λ q. get_or cells q false) at ∙ stands))
       ∙ ap (λ m. times_between cells from place number nominal ++ cell_time nominal m ∷ []) last
 
   -- no more transitions
-  pub times_between-none : (place to : ℕ) → from ≤ place → place ≤ to → to ≤ length cells → StandsNowhere cells 1 1 place to
+  pub times_between-none : (place to : ℕ) → from ≤ place → place ≤ to → to ≤ length cells → HasNoOne cells place to
       → times_between cells from to number nominal ≡ times_between cells from place number nominal
   times_between-none place to start order within nowhere =
       times_between-split cells from place to number nominal start order within
       ∙ ap (λ l. times_between cells from place number nominal ++ map (cell_time nominal) l)
       (none_between cells place (to - place) (number + (place - from)) (omega arith)
-      (λ k below. no_one_at cells (place + k) (nowhere (place + k) (omega arith) (omega (arith, below)))))
+      (λ k below. nowhere (place + k) (omega arith) (omega (arith, below))))
       ∙ append-nil (times_between cells from place number nominal)
 
 -- the ones of a whole list

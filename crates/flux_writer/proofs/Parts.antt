@@ -1,7 +1,6 @@
 -- A part of a list of cells, as it is written.
-use Rattle.std.proofs.Common.{◌≡◌, ◌≤◌, ◌<◌, ◌+◌, ◌-◌, ◌/◌, ◌++◌, ℕ, Bool, List, [], ◌∷◌, length, map, take, drop, Option, sym, subst, arith}
-use Rattle.cell_bits.specs.Word.{Stands}
-use Rattle.cell_bits.specs.Search.{StandsNowhere}
+use Rattle.std.proofs.Common.{◌≡◌, ◌≤◌, ◌<◌, ◌+◌, ◌-◌, ◌/◌, ◌++◌, ℕ, Bool, true, false, List, [], ◌∷◌, length, map, take, drop, get_or, Option, sym, subst, arith}
+use Rattle.cell_bits.specs.Search.{HasNoOne}
 use Rattle.flux_base.specs.Outside.{AppendsPart}
 use Rattle.flux_writer.specs.Gathering.{Gathers}
 use Rattle.kryo_stream.specs.Sequence.{spellings}
@@ -44,7 +43,7 @@ fits nominal position time number K indexes r order short few =
 
 -- one more one of the part
 module _ (cells : List Bool) (from number nominal place one to : ℕ) (start : from ≤ place) (order : place ≤ one)
-    (stands : Stands cells 1 1 one) (nowhere : StandsNowhere cells 1 1 place one)
+    (stands : get_or cells one false ≡ true) (nowhere : HasNoOne cells place one)
     (old mid new : Option (List ℕ)) (held : List ℕ) (position time : ℕ) (indexes held' : List ℕ) (position' time' : ℕ) (indexes' : List ℕ)
     (w : IsWritten old mid held position time indexes held' position' time' indexes' (times_between cells from place number nominal)) where
   pub next_one : (held'' : List ℕ) (position'' time'' : ℕ) (indexes'' : List ℕ)

@@ -164,7 +164,7 @@ fn write_part<W: Sink>(
     ensures cause { OnErr result (Rose (W.faults sink.old) (W.faults sink.new)) }
 {
     let mut place = part.from;
-    while let Some(one) = cells.find_word(place, part.to, 1, 1) {
+    while let Some(one) = cells.find_one(place, part.to) {
         let number = part.number + (one - part.from) as u64;
         let time = (number + 1) * nominal as u64 / 1024;
         match stream.transition(time, sink) {

@@ -7,14 +7,14 @@ use Rattle.flux_writer.proofs.track.write_part.Goals as goal
 pub transition-requires-clause-order : goal.transition-requires-clause-order
 transition-requires-clause-order g c =
     let i = c.loop-one.invariant in
-    let f = rw c.in-Some.is at c.find_word.ensures in
+    let f = rw c.in-Some.is at c.find_one.ensures in
     in_time c.args.nominal c.loop-one.stream.position c.loop-one.stream.time (c.args.part.number + (c.loop-one.place - c.args.part.from))
     (c.args.part.number + (c.in-Some.one - c.args.part.from)) c.loop-one.stream.indexes i.ready (omega (arith, i.from, f.0))
 
 pub transition-requires-clause-few : goal.transition-requires-clause-few
 transition-requires-clause-few g c =
     let i = c.loop-one.invariant in
-    let f = rw c.in-Some.is at c.find_word.ensures in
+    let f = rw c.in-Some.is at c.find_one.ensures in
     fits c.args.nominal c.loop-one.stream.position c.loop-one.stream.time (c.args.part.number + (c.loop-one.place - c.args.part.from))
     (c.args.part.number + (c.in-Some.one - c.args.part.from)) c.loop-one.stream.indexes i.ready (omega (arith, i.from, f.0))
     c.requires.nominal (omega (arith, i.from, f.0, f.1, c.requires.few))
@@ -22,7 +22,7 @@ transition-requires-clause-few g c =
 pub loop-one-preserved : goal.loop-one-preserved
 loop-one-preserved g c =
     let i = c.loop-one.invariant in
-    let f = rw c.in-Some.is at c.find_word.ensures in
+    let f = rw c.in-Some.is at c.find_one.ensures in
     let e = c.in-Ok.ensures in
     let next : (c.args.part.number + (c.in-Some.one - c.args.part.from)) + 1 ≡ c.args.part.number + ((c.in-Some.one + 1) - c.args.part.from) =
     omega (arith, i.from, f.0) in
@@ -44,7 +44,7 @@ loop-one-preserved g c =
 pub returns-in-Err-clause-err : goal.returns-in-Err-clause-err
 returns-in-Err-clause-err g c =
     let i = c.loop-one.invariant in
-    let f = rw c.in-Some.is at c.find_word.ensures in
+    let f = rw c.in-Some.is at c.find_one.ensures in
     next_one_fails c.args.cells.now.cells c.args.part.from c.args.part.number c.args.nominal c.loop-one.place c.in-Some.one
     c.args.part.to i.from f.0 f.2 f.3 (g.W.Sink.written c.args.sink.now) (g.W.Sink.written c.loop-one.sink) (g.W.Sink.written c.transition.new.sink)
     c.args.stream.now.piece c.args.stream.now.position c.args.stream.now.time c.args.stream.now.indexes
@@ -54,7 +54,7 @@ returns-in-Err-clause-err g c =
 pub returns-clause-ok : goal.returns-clause-ok
 returns-clause-ok g c =
     let i = c.loop-one.invariant in
-    let none = rw c.in_default.is at c.find_word.ensures in
+    let none = rw c.in_default.is at c.find_one.ensures in
     subst (IsWritten (g.W.Sink.written c.args.sink.now) (g.W.Sink.written c.loop-one.sink)
     c.args.stream.now.piece c.args.stream.now.position c.args.stream.now.time c.args.stream.now.indexes
     c.loop-one.stream.piece c.loop-one.stream.position c.loop-one.stream.time c.loop-one.stream.indexes)
