@@ -1,5 +1,5 @@
 -- The blocks of one transition and of several.
-use Rattle.std.proofs.Common.{◌≡◌, ◌≤◌, ◌<◌, ◌+◌, ◌/◌, ◌%◌, ◌++◌, ◌&&◌, ℕ, zero, suc, Bool, true, false, cond, List, [], ◌∷◌, length, map, take, drop, replicate, nat_lt, nat_le, refl, ap, sym, ◌∙◌, subst, arith, append_assoc, append-nil, length-append, slice_get, Option, Some, if◌then◌else◌}
+use Rattle.std.proofs.Common.{◌≡◌, ◌≤◌, ◌<◌, ◌+◌, ◌/◌, ◌%◌, ◌++◌, ◌&&◌, ℕ, zero, suc, Bool, true, false, cond, List, [], ◌∷◌, length, map, take, drop, replicate, nat_lt, nat_le, refl, ap, sym, ◌∙◌, subst, arith, append_assoc, append-nil, length-append, slice_get, Option, Some, None, if◌then◌else◌}
 use Rattle.std.proofs.lemmas.Bool.Decides.{nat_tests}
 use Rattle.std.proofs.lemmas.List.{length-replicate, map-append}
 use Rattle.std.proofs.lemmas.List.Concat.{flat_map-append}
@@ -103,6 +103,17 @@ module _ (time index : ℕ) (indexes : List ℕ) where
 
   pub indexes_behind-no : time ≤ index → indexes_behind time (index ∷ indexes) ≡ index ∷ indexes
   indexes_behind-no behind = ap (λ n. drop n (index ∷ indexes)) (count_before-no behind)
+
+-- no index time lies before the time where the first one does not, or where none is left
+pub count_before-first : (time index : ℕ) (indexes : List ℕ) → slice_get indexes 0 ≡ Some index → time ≤ index → count_before time indexes ≡ 0
+count_before-first time index [] is behind = cc
+count_before-first time index (x ∷ indexes) is behind =
+    let same : x ≡ index = cc in
+    count_before-no time x indexes (omega arith)
+
+pub count_before-empty : (time : ℕ) (indexes : List ℕ) → slice_get indexes 0 ≡ None → count_before time indexes ≡ 0
+count_before-empty time [] is = refl
+count_before-empty time (x ∷ indexes) is = cc
 
 -- the Index blocks of an interval are written one by one: those so far, and those that are left before its end
 pub record IndexesWritten (old new : Option (List ℕ)) (held held' : List ℕ) (position begin end : ℕ) (indexes left : List ℕ) : Type 0 where

@@ -16,17 +16,19 @@ pub(crate) enum IndexUnit {
 pub(crate) struct IndexTimes<'a> {
     places: &'a [u64],
     unit: IndexUnit,
+    /// The time of the first of the places, worked out once, since each transition is compared with it.
+    next: Option<u64>,
 }
 
 impl<'a> Model for IndexTimes<'a> {
-    ghost use Rattle.std.specs.Prelude.{ℕ, List, map};
+    ghost use Rattle.std.specs.Prelude.{◌≡◌, ℕ, List, map, slice_get};
     ghost use Rattle.flux_writer.specs.Writing.{ticks_of, AreCounted};
 
     ghost Value = { List ℕ };
 
     ghost view = { λ t. map (ticks_of t.unit) t.places.now };
 
-    ghost invariant = { λ t. AreCounted t.unit t.places.now };
+    ghost invariant = { λ t. AreCounted t.unit t.places.now × (t.next ≡ slice_get (map (ticks_of t.unit) t.places.now) 0) };
 }
 
 impl<'a> IndexTimes<'a> {
@@ -35,15 +37,20 @@ impl<'a> IndexTimes<'a> {
         requires { AreCounted unit places.now }
         ensures { result ≡ map (ticks_of unit) places.now }
     {
-        IndexTimes { places, unit }
+        IndexTimes {
+            places,
+            unit,
+            next: first_time(unit, places),
+        }
     }
 
     /// The next index time, if it lies before `end`.
+    #[inline]
     pub(crate) fn next_before(&self, end: u64) -> Option<u64>
         ensures some { IfSome result (λ time. (slice_get self.now 0 ≡ Some time) × (time < end)) }
         ensures none { IfNone result (count_before end self.now ≡ 0) }
     {
-        let time = ticks(self.unit, *self.places.first()?);
+        let time = self.next?;
         if time < end { Some(time) } else { None }
     }
 
@@ -53,7 +60,16 @@ impl<'a> IndexTimes<'a> {
         ensures { self.new ≡ drop 1 self.old }
     {
         self.places = &self.places[1..];
+        self.next = first_time(self.unit, self.places);
     }
+}
+
+/// The time of the first of some indexes, in ticks.
+fn first_time(unit: IndexUnit, places: &[u64]) -> Option<u64>
+    requires { AreCounted unit places.now }
+    ensures { result ≡ slice_get (map (ticks_of unit) places.now) 0 }
+{
+    Some(ticks(unit, *places.first()?))
 }
 
 /// The time of an index, in ticks.

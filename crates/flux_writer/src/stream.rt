@@ -49,7 +49,9 @@ impl<'a> StreamWriter<'a> {
         }
     }
 
-    /// Writes the transition at `time`, with the index times that lie before it.
+    /// Writes the transition at `time`, with the index times that lie before it. Before most there are none, and
+    /// then nothing but its interval is looked at.
+    #[inline]
     pub(crate) fn transition<W: Sink>(&mut self, time: u64, sink: &mut W) -> Result<(), Failed>
         requires order { self.old.time ≤ time }
         requires begun { All (λ index. self.old.time ≤ index) self.old.indexes }
@@ -65,6 +67,9 @@ impl<'a> StreamWriter<'a> {
         ensures later { W.faults sink.old ≤ W.faults sink.new }
         ensures cause { OnErr result (Rose (W.faults sink.old) (W.faults sink.new)) }
     {
+        if self.indexes.next_before(time).is_none() {
+            return self.write_interval(time, sink);
+        }
         match self.write_indexes(time, sink) {
             Ok(()) => self.write_interval(time, sink),
             Err(failed) => Err(failed),
@@ -87,6 +92,7 @@ impl<'a> StreamWriter<'a> {
     }
 
     /// Writes the index times that lie before `end`, the end of the interval.
+    #[inline(never)]
     fn write_indexes<W: Sink>(&mut self, end: u64, sink: &mut W) -> Result<(), Failed>
         requires begun { All (λ index. self.old.time ≤ index) self.old.indexes }
         requires few { self.old.position + (end - self.old.time) / 65536 < 2 ^ 32 }
@@ -111,6 +117,7 @@ impl<'a> StreamWriter<'a> {
     }
 
     /// Writes the interval that ends at `time`.
+    #[inline]
     fn write_interval<W: Sink>(&mut self, time: u64, sink: &mut W) -> Result<(), Failed>
         requires order { self.old.time ≤ time }
         requires few { self.old.position + (time - self.old.time) / 65536 + 3 < 2 ^ 32 }
@@ -126,15 +133,57 @@ impl<'a> StreamWriter<'a> {
         ensures cause { OnErr result (Rose (W.faults sink.old) (W.faults sink.new)) }
     {
         let ticks = time - self.time;
-        let overflows = (ticks / OVERFLOW_TICKS) as u32;
-        let rest = (ticks % OVERFLOW_TICKS) as u16;
-        match write_overflows(&mut self.piece, overflows, sink) {
-            Ok(()) => {}
-            Err(failed) => return Err(failed),
-        }
-        self.position += overflows + flux_length(rest);
+        self.position += interval_length(ticks);
         self.time = time;
-        write_flux(&mut self.piece, rest, sink)
+        write_blocks(&mut self.piece, ticks, sink)
+    }
+}
+
+/// How many bytes the blocks of an interval of so many ticks take.
+#[inline]
+fn interval_length(ticks: u64) -> u32
+    requires few { ticks / 65536 + 3 < 2 ^ 32 }
+    ensures value { result ≡ length (spellings (interval_blocks ticks)) }
+    ensures most { result ≤ ticks / 65536 + 3 }
+{
+    match ticks {
+        0x0E..=0xFF => 1,
+        _ => (ticks / OVERFLOW_TICKS) as u32 + flux_length((ticks % OVERFLOW_TICKS) as u16),
+    }
+}
+
+/// Writes the blocks of an interval of so many ticks. Nearly all are one byte, which is put straight into the piece
+/// and with no block made.
+#[inline]
+fn write_blocks<W: Sink>(piece: &mut Piece, ticks: u64, sink: &mut W) -> Result<(), Failed>
+    requires few { ticks / 65536 < 2 ^ 32 }
+    ensures ok { OnOk result (Gathers (W.written sink.old) (W.written sink.new) piece.old piece.new
+        (spellings (interval_blocks ticks))) }
+    ensures err { OnErr result (AppendsPart (W.written sink.old) (W.written sink.new)
+        (piece.old ++ spellings (interval_blocks ticks))) }
+    ensures later { W.faults sink.old ≤ W.faults sink.new }
+    ensures cause { OnErr result (Rose (W.faults sink.old) (W.faults sink.new)) }
+{
+    match ticks {
+        0x0E..=0xFF => piece.put_byte(ticks as u8, sink),
+        _ => write_any_blocks(piece, ticks, sink),
+    }
+}
+
+/// Writes the blocks of any interval: its overflows, and a flux value.
+#[inline(never)]
+fn write_any_blocks<W: Sink>(piece: &mut Piece, ticks: u64, sink: &mut W) -> Result<(), Failed>
+    requires few { ticks / 65536 < 2 ^ 32 }
+    ensures ok { OnOk result (Gathers (W.written sink.old) (W.written sink.new) piece.old piece.new
+        (spellings (interval_blocks ticks))) }
+    ensures err { OnErr result (AppendsPart (W.written sink.old) (W.written sink.new)
+        (piece.old ++ spellings (interval_blocks ticks))) }
+    ensures later { W.faults sink.old ≤ W.faults sink.new }
+    ensures cause { OnErr result (Rose (W.faults sink.old) (W.faults sink.new)) }
+{
+    match write_overflows(piece, (ticks / OVERFLOW_TICKS) as u32, sink) {
+        Ok(()) => write_flux(piece, (ticks % OVERFLOW_TICKS) as u16, sink),
+        Err(failed) => Err(failed),
     }
 }
 
@@ -154,8 +203,7 @@ fn write_overflows<W: Sink>(piece: &mut Piece, count: u32, sink: &mut W) -> Resu
     Ok(())
 }
 
-/// Writes a flux value, in as few bytes as it fits. It is spelled here, straight into the piece and with no block
-/// made, since nearly all blocks of a stream are such values.
+/// Writes a flux value, in as few bytes as it fits.
 fn write_flux<W: Sink>(piece: &mut Piece, ticks: u16, sink: &mut W) -> Result<(), Failed>
     ensures ok { OnOk result (Gathers (W.written sink.old) (W.written sink.new) piece.old piece.new (flux_spelling ticks)) }
     ensures err { OnErr result (AppendsPart (W.written sink.old) (W.written sink.new) (piece.old ++ flux_spelling ticks)) }

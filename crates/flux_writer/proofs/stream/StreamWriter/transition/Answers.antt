@@ -14,10 +14,10 @@ returns-in-Ok-clause-ok g c =
     let front = map (index_block c.args.self.now.position c.args.self.now.time) (indexes_before c.args.time c.args.self.now.indexes) in
     let interval = interval_blocks (c.args.time - c.args.self.now.time) in
     let middle = g.W.Sink.written c.write_indexes.new.sink in
-    let end = g.W.Sink.written c.write_interval.new.sink in
-    on_ok_weaker c.write_interval.result (λ more. subst (Gathers _ _ _ _) (sym (spellings-append front interval))
-    (Gathers-more _ _ _ _ _ (spellings front) (spellings interval) c.in-Ok.ensures.ok _ (subst (λ t. Gathers middle end c.write_indexes.new.self.piece c.write_interval.new.self.piece (spellings (interval_blocks (c.args.time - t)))) c.in-Ok.ensures.time more)))
-    c.write_interval.ensures.ok
+    let end = g.W.Sink.written c.write_interval-in-Ok.new.sink in
+    on_ok_weaker c.write_interval-in-Ok.result (λ more. subst (Gathers _ _ _ _) (sym (spellings-append front interval))
+    (Gathers-more _ _ _ _ _ (spellings front) (spellings interval) c.in-Ok.ensures.ok _ (subst (λ t. Gathers middle end c.write_indexes.new.self.piece c.write_interval-in-Ok.new.self.piece (spellings (interval_blocks (c.args.time - t)))) c.in-Ok.ensures.time more)))
+    c.write_interval-in-Ok.ensures.ok
 
 pub returns-in-Ok-clause-err : goal.returns-in-Ok-clause-err
 returns-in-Ok-clause-err g c =
@@ -25,8 +25,8 @@ returns-in-Ok-clause-err g c =
     let interval = interval_blocks (c.args.time - c.args.self.now.time) in
     let start = g.W.Sink.written c.args.sink.now in
     let middle = g.W.Sink.written c.write_indexes.new.sink in
-    let end = g.W.Sink.written c.write_interval.new.sink in
-    on_err_weaker c.write_interval.result (λ part. subst (λ bytes. AppendsPart start end (c.args.self.now.piece ++ bytes)) (sym (spellings-append front interval))
+    let end = g.W.Sink.written c.write_interval-in-Ok.new.sink in
+    on_err_weaker c.write_interval-in-Ok.result (λ part. subst (λ bytes. AppendsPart start end (c.args.self.now.piece ++ bytes)) (sym (spellings-append front interval))
     (Gathers-part start middle end c.args.self.now.piece c.write_indexes.new.self.piece (spellings front) (spellings interval) c.in-Ok.ensures.ok
     (subst (λ t. AppendsPart middle end (c.write_indexes.new.self.piece ++ spellings (interval_blocks (c.args.time - t)))) c.in-Ok.ensures.time part)))
-    c.write_interval.ensures.err
+    c.write_interval-in-Ok.ensures.err
