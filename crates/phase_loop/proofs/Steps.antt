@@ -79,7 +79,7 @@ length-recent rows x history =
     let some : List Interval = drop (last_row rows).restart all in
     omega (arith, length-drop (length some - 64) some, length-drop (last_row rows).restart all, length_push (intervals rows) x, length-intervals rows, history.restart, history.some)
 
--- once there are 64, they are those behind the row 64 before the last
+-- once there are 64, they are those behind the 64th row before the last
 recent-full : (rows : List Row) (x : Interval) → IsHistory rows → 64 ≤ length rows - (last_row rows).restart
     → keep_last 64 (drop (last_row rows).restart (intervals rows ++ x ∷ [])) ≡ intervals (drop (length rows - 64) rows) ++ x ∷ []
 recent-full rows x history enough =

@@ -8,7 +8,7 @@ ghost use Rattle.cell_bits.specs.Bytes.{fm, mfm, last_cell};
 use super::{Cells, MOST_WORDS};
 use flux_base::Memory;
 
-/// How many short runs are appended together.
+/// How many short runs are appended together: at most 32 cells, as many as `append` takes.
 const GROUP: usize = 8;
 
 impl Cells {
