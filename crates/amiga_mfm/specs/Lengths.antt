@@ -4,8 +4,8 @@ use Rattle.std.proofs.Common.{ap, ◌∙◌, arith, length-append, length-drop}
 use Rattle.std.proofs.lemmas.List.{length-map, length-take}
 use Rattle.std.specs.List.{range_with_len}
 use Rattle.flux_base.specs.declared.track.TrackId.{TrackId}
-use Rattle.frame_law.specs.Rings.{bytes_of}
-use Rattle.frame_law.specs.SectorParts.{sectors-length}
+use Rattle.track_rings.specs.Rings.{bytes_of}
+use Rattle.track_rings.specs.SectorParts.{sectors-length}
 use Rattle.mfm_coding.specs.declared.symbol.Symbol.TheVariants.{Data}
 use Rattle.mfm_coding.specs.CodingLaws.{length-coded}
 use Rattle.amiga_mfm.specs.declared.half.Half.TheVariants.{Odd, Even}

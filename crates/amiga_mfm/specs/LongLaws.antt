@@ -4,7 +4,7 @@ use Rattle.std.proofs.Common.{ap, sym, ◌∙◌, arith, append_assoc, length-ap
 use Rattle.cell_bits.specs.Bytes.{data_byte, data_cells, mfm, mfm_cells}
 use Rattle.cell_bits.specs.Word.{number_of, word, word_cells}
 use Rattle.cell_bits.specs.WordLaws.{length-word_cells, number_of-word_cells, word_cells-number_of}
-use Rattle.frame_law.specs.Parts.{take-first, word-past}
+use Rattle.track_rings.specs.Parts.{take-first, word-past}
 use Rattle.mfm_coding.specs.declared.symbol.Symbol.{Symbol}
 use Rattle.mfm_coding.specs.declared.symbol.Symbol.TheVariants.{Data}
 use Rattle.mfm_coding.specs.Coding.{coded, low_bit, symbol_cells}

@@ -8,9 +8,9 @@ use Rattle.flux_base.specs.declared.track.TrackId.{TrackId}
 use Rattle.cell_bits.specs.Broken.{Unbroken}
 use Rattle.cell_bits.specs.Bytes.{data_byte, data_cells, mfm, mfm_cells}
 use Rattle.cell_bits.specs.Word.{number_of, word_cells}
-use Rattle.frame_law.specs.Rings.{AreSectors, IsSectorNumber, IsSpaced, LiesAt, bytes_of, stretch}
-use Rattle.frame_law.specs.SectorParts.{bytes_of-fit, sectors-parts}
-use Rattle.frame_law.specs.Stretches.{frame-stands}
+use Rattle.track_rings.specs.Rings.{AreSectors, IsSectorNumber, IsSpaced, LiesAt, bytes_of, stretch}
+use Rattle.track_rings.specs.SectorParts.{bytes_of-fit, sectors-parts}
+use Rattle.track_rings.specs.Stretches.{frame-stands}
 use Rattle.mfm_coding.specs.declared.symbol.Symbol.{Symbol}
 use Rattle.mfm_coding.specs.declared.symbol.Symbol.TheVariants.{Data}
 use Rattle.mfm_coding.specs.Coding.{coded, symbol_cells}

@@ -4,7 +4,7 @@ use Rattle.std.proofs.Common.{ap, sym, ◌∙◌, arith, length-append}
 use Rattle.std.specs.Int.{to_be_bytes, w32}
 use Rattle.std.specs.List.{flat_map}
 use Rattle.flux_base.specs.declared.track.TrackId.{TrackId}
-use Rattle.frame_law.specs.Rings.{IsSectorNumber}
+use Rattle.track_rings.specs.Rings.{IsSectorNumber}
 use Rattle.amiga_mfm.specs.Longs.{bytes_at, longs_at}
 use Rattle.amiga_mfm.specs.Sectors.{HeaderStands, SectorStands, track_number}
 

@@ -7,8 +7,8 @@ use Rattle.std.specs.List.{flat_map}
 use Rattle.flux_base.specs.declared.track.TrackId.{TrackId}
 use Rattle.cell_bits.specs.Word.{number_of, word, word_cells}
 use Rattle.cell_bits.specs.WordLaws.{length-word_cells}
-use Rattle.frame_law.specs.Gaps.{begins, free_of, gap-free}
-use Rattle.frame_law.specs.Parts.{drop-past}
+use Rattle.track_rings.specs.Gaps.{begins, free_of, gap-free}
+use Rattle.track_rings.specs.Parts.{drop-past}
 use Rattle.apple_gcr.specs.FourAndFour.{first_half, four_and_four, second_half}
 use Rattle.apple_gcr.specs.Layout.{EPILOGUE, VOLUME, address_of, self_syncs}
 use Rattle.apple_gcr.specs.NibbleLaws.{IsDiskByte-first_half, IsDiskByte-second_half}

@@ -3,7 +3,7 @@ use Rattle.std.specs.Prelude.{ℕ, ◌+◌, ◌*◌, Bool, List, [], ◌∷◌, 
 use Rattle.std.specs.List.{range_with_len}
 use Rattle.flux_base.specs.declared.track.TrackId.{TrackId}
 use Rattle.cell_bits.specs.Word.{word_cells}
-use Rattle.frame_law.specs.Rings.{bytes_of}
+use Rattle.track_rings.specs.Rings.{bytes_of}
 use Rattle.apple_gcr.specs.declared.layout.Piece.{Piece}
 use Rattle.apple_gcr.specs.declared.layout.Piece.TheVariants.{SelfSyncs, Mark, Address, Content}
 use Rattle.apple_gcr.specs.FourAndFour.{four_and_four}

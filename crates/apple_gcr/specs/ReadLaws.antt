@@ -5,7 +5,7 @@ use Rattle.std.proofs.lemmas.List.{length-take}
 use Rattle.std.proofs.Math.Nat.{mod-eq_of_lt, pow-le-pow_right}
 use Rattle.cell_bits.specs.Word.{number_of, word, word_cells}
 use Rattle.cell_bits.specs.WordLaws.{length-word_cells, number_of-lt, number_of-word_cells}
-use Rattle.frame_law.specs.Parts.{take-first, word-past}
+use Rattle.track_rings.specs.Parts.{take-first, word-past}
 use Rattle.apple_gcr.specs.NibbleLaws.{IsDiskByte, disk_byte-close, disk_byte-fits}
 use Rattle.apple_gcr.specs.Nibbles.{bytes_cells, disk_byte}
 use Rattle.apple_gcr.specs.Spacing.{IsClose, IsClose-append, is_close}

@@ -5,9 +5,9 @@ use Rattle.std.specs.List.{flat_map, range_with_len}
 use Rattle.flux_base.specs.declared.track.TrackId.{TrackId}
 use Rattle.cell_bits.specs.Broken.{Unbroken}
 use Rattle.cell_bits.specs.Word.{word_cells}
-use Rattle.frame_law.specs.Rings.{AreSectors, IsSectorNumber, IsSpaced, LiesAt, bytes_of, stretch}
-use Rattle.frame_law.specs.SectorParts.{bytes_of-fit, sectors-parts}
-use Rattle.frame_law.specs.Stretches.{frame-stands}
+use Rattle.track_rings.specs.Rings.{AreSectors, IsSectorNumber, IsSpaced, LiesAt, bytes_of, stretch}
+use Rattle.track_rings.specs.SectorParts.{bytes_of-fit, sectors-parts}
+use Rattle.track_rings.specs.Stretches.{frame-stands}
 use Rattle.apple_gcr.specs.FourAndFour.{four_and_four}
 use Rattle.apple_gcr.specs.FrameLaws.{close-frame, frame_of, frame_stands, gap_and_mark, header_cells, length-frame_of}
 use Rattle.apple_gcr.specs.Layout.{EPILOGUE, FRAME_CELLS, address_of, lead_in, pieces_cells, place_of, ring_of, sector_cells, sector_numbers, sectors_cells, self_syncs}

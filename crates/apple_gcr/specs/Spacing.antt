@@ -1,8 +1,8 @@
 -- Cells with no three zeros in a row, as each byte of Apple's disks has them: its first cell is a one.
 use Rattle.std.specs.Prelude.{◌≡◌, ℕ, zero, suc, ◌<◌, ◌≤◌, Bool, true, false, List, [], ◌∷◌, ◌++◌, length, drop, get_or, refl}
 use Rattle.std.proofs.Common.{ap, sym, ◌∙◌, arith, lit≤}
-use Rattle.frame_law.specs.Rings.{IsSpaced}
-use Rattle.frame_law.specs.Zeros.{NoZeroRun, unbroken-front, zeros-spaced, zeros-unbroken}
+use Rattle.track_rings.specs.Rings.{IsSpaced}
+use Rattle.track_rings.specs.Zeros.{NoZeroRun, unbroken-front, zeros-spaced, zeros-unbroken}
 use Rattle.cell_bits.specs.Broken.{Unbroken}
 
 -- behind so many zeros, no three zeros come in a row

@@ -2,8 +2,8 @@
 use Rattle.std.specs.Prelude.{◌≡◌, ℕ, ◌+◌, ◌*◌, ◌%◌, Bool, List, bit_and, bit_or}
 use Rattle.std.proofs.Common.{ap, sym, subst, ◌∙◌, arith}
 use Rattle.flux_base.specs.declared.track.TrackId.{TrackId}
-use Rattle.frame_law.specs.Gaps.{one-first}
-use Rattle.frame_law.specs.Rings.{IsSectorNumber}
+use Rattle.track_rings.specs.Gaps.{one-first}
+use Rattle.track_rings.specs.Rings.{IsSectorNumber}
 use Rattle.cell_bits.specs.Word.{Stands}
 use Rattle.apple_gcr.specs.FourAndFour.{FourAndFourAt}
 use Rattle.apple_gcr.specs.NibbleLaws.{halves-read}

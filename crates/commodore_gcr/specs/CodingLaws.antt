@@ -7,8 +7,8 @@ use Rattle.std.proofs.lemmas.List.FromFn.{get_or-map-range_with_len}
 use Rattle.std.proofs.Math.Nat.{mod-eq_of_lt, mod-lt}
 use Rattle.cell_bits.specs.Word.{number_of, word_cells}
 use Rattle.cell_bits.specs.WordLaws.{length-word_cells, number_of-word_cells, word_cells-append}
-use Rattle.frame_law.specs.Parts.{drop-past, take-first}
-use Rattle.frame_law.specs.SectorParts.{AreBytes}
+use Rattle.track_rings.specs.Parts.{drop-past, take-first}
+use Rattle.track_rings.specs.SectorParts.{AreBytes}
 use Rattle.commodore_gcr.specs.Coding.{ByteAt, BytesAt, code_of, gcr, gcr_bytes}
 use Rattle.commodore_gcr.specs.declared.coding.TheConstants.{NIBBLES}
 

@@ -7,9 +7,9 @@ use Rattle.std.specs.List.{fold}
 use Rattle.flux_base.specs.declared.track.TrackId.{TrackId}
 use Rattle.check_values.specs.Sums.{xor}
 use Rattle.cell_bits.specs.Word.{word_cells}
-use Rattle.frame_law.specs.Gaps.{begins, free_of, gap-free}
-use Rattle.frame_law.specs.Parts.{drop-past}
-use Rattle.frame_law.specs.SectorParts.{AreBytes}
+use Rattle.track_rings.specs.Gaps.{begins, free_of, gap-free}
+use Rattle.track_rings.specs.Parts.{drop-past}
+use Rattle.track_rings.specs.SectorParts.{AreBytes}
 use Rattle.commodore_gcr.specs.Blocks.{address_of, data_bytes, header_bytes}
 use Rattle.commodore_gcr.specs.Coding.{BytesAt, code_of, gcr, gcr_bytes, raw_bytes}
 use Rattle.commodore_gcr.specs.CodingLaws.{BytesAt-front, BytesAt-past, gcr-mod, length-gcr_bytes}

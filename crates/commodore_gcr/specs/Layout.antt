@@ -2,7 +2,7 @@
 use Rattle.std.specs.Prelude.{ℕ, ◌+◌, ◌*◌, Bool, List, [], ◌∷◌, replicate, flat_map}
 use Rattle.std.specs.List.{range_with_len}
 use Rattle.flux_base.specs.declared.track.TrackId.{TrackId}
-use Rattle.frame_law.specs.Rings.{bytes_of}
+use Rattle.track_rings.specs.Rings.{bytes_of}
 use Rattle.commodore_gcr.specs.declared.layout.Piece.{Piece}
 use Rattle.commodore_gcr.specs.declared.layout.Piece.TheVariants.{Raw, HeaderBlock, DataBlock}
 use Rattle.commodore_gcr.specs.declared.zones.Zone.{Zone}

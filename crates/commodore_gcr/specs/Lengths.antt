@@ -6,8 +6,8 @@ use Rattle.std.specs.List.{flat_map, range_with_len}
 use Rattle.flux_base.specs.declared.track.TrackId.{TrackId}
 use Rattle.cell_bits.specs.Word.{word_cells}
 use Rattle.cell_bits.specs.WordLaws.{length-word_cells}
-use Rattle.frame_law.specs.Rings.{bytes_of}
-use Rattle.frame_law.specs.SectorParts.{sectors-length}
+use Rattle.track_rings.specs.Rings.{bytes_of}
+use Rattle.track_rings.specs.SectorParts.{sectors-length}
 use Rattle.commodore_gcr.specs.declared.layout.Piece.{Piece}
 use Rattle.commodore_gcr.specs.declared.layout.Piece.TheVariants.{Raw, HeaderBlock, DataBlock}
 use Rattle.check_values.specs.Sums.{xor}

@@ -6,9 +6,9 @@ use Rattle.std.specs.List.{flat_map, range_with_len}
 use Rattle.flux_base.specs.declared.track.TrackId.{TrackId}
 use Rattle.cell_bits.specs.Broken.{Unbroken}
 use Rattle.cell_bits.specs.Word.{word_cells}
-use Rattle.frame_law.specs.Rings.{AreSectors, IsSectorNumber, IsSpaced, LiesAt, bytes_of, stretch}
-use Rattle.frame_law.specs.SectorParts.{AreBytes-from, bytes_of-fit, sectors-parts}
-use Rattle.frame_law.specs.Stretches.{frame-stands}
+use Rattle.track_rings.specs.Rings.{AreSectors, IsSectorNumber, IsSpaced, LiesAt, bytes_of, stretch}
+use Rattle.track_rings.specs.SectorParts.{AreBytes-from, bytes_of-fit, sectors-parts}
+use Rattle.track_rings.specs.Stretches.{frame-stands}
 use Rattle.commodore_gcr.specs.declared.zones.Zone.{Zone}
 use Rattle.commodore_gcr.specs.Blocks.{data_block, data_bytes, header_block, header_bytes}
 use Rattle.commodore_gcr.specs.Coding.{gcr, gcr_bytes, raw_bytes}

@@ -4,8 +4,8 @@ use Rattle.std.specs.List.{range_with_len}
 use Rattle.std.proofs.Common.{subst, arith, lit≤}
 use Rattle.cell_bits.specs.Broken.{Unbroken}
 use Rattle.cell_bits.specs.Word.{word_cells}
-use Rattle.frame_law.specs.Rings.{IsSpaced}
-use Rattle.frame_law.specs.Zeros.{NoZeroRun, unbroken-front, zeros-spaced, zeros-unbroken}
+use Rattle.track_rings.specs.Rings.{IsSpaced}
+use Rattle.track_rings.specs.Zeros.{NoZeroRun, unbroken-front, zeros-spaced, zeros-unbroken}
 use Rattle.commodore_gcr.specs.Coding.{code_of, gcr, gcr_bytes, raw_bytes}
 use Rattle.commodore_gcr.specs.CodingLaws.{agree_at, nibble-lt}
 

@@ -4,8 +4,8 @@ use Rattle.std.proofs.Common.{sym, subst, ◌∙◌, arith, length-append}
 use Rattle.flux_base.specs.declared.track.TrackId.{TrackId}
 use Rattle.check_values.specs.Sums.{xor}
 use Rattle.cell_bits.specs.Word.{Stands}
-use Rattle.frame_law.specs.Gaps.{one-first}
-use Rattle.frame_law.specs.Rings.{IsSectorNumber}
+use Rattle.track_rings.specs.Gaps.{one-first}
+use Rattle.track_rings.specs.Rings.{IsSectorNumber}
 use Rattle.commodore_gcr.specs.Blocks.{data_bytes, header_bytes}
 use Rattle.commodore_gcr.specs.Coding.{BytesAt}
 use Rattle.commodore_gcr.specs.CodingLaws.{one_list_at}

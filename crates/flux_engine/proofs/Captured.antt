@@ -7,7 +7,7 @@ use Rattle.std.proofs.lemmas.List.{get_or-map, length-map}
 use Rattle.std.proofs.Math.Nat.{div-mul-le_self, lt-div-mul-add, le-div_iff_mul-le, mul-le-mul_right}
 use Rattle.flux_writer.specs.Reading.{HasEarlyOne, IsStreamOf, last_of}
 use Rattle.flux_writer.specs.Written.{cell_time, ones_of, quarter, stream_of, track_cells, track_turns}
-use Rattle.frame_law.specs.Rings.{AreNeighbours, cell_of}
+use Rattle.track_rings.specs.Rings.{AreNeighbours, cell_of}
 use Rattle.flux_engine.specs.Captures.{Capture, mean_cell}
 use Rattle.flux_engine.specs.Carried.{AreClose, Carried, DRIFT, OFF_SPEED, OFF_START}
 use Rattle.flux_engine.proofs.Chosen.{AreChosen, are_chosen}

@@ -7,7 +7,7 @@ use Rattle.std.proofs.lemmas.List.{get_or-drop, get_or-take, get_or_append_left,
 use Rattle.std.proofs.Math.Nat.{add-mod_right, mod-eq_of_lt}
 use Rattle.flux_writer.specs.Reading.{HasEarlyOne}
 use Rattle.flux_writer.specs.Written.{quarter, track_cells}
-use Rattle.frame_law.specs.Rings.{AreNeighbours, IsSpaced, cell_of}
+use Rattle.track_rings.specs.Rings.{AreNeighbours, IsSpaced, cell_of}
 use Rattle.flux_engine.proofs.Chosen.{AreChosen, are_chosen}
 
 module _ (ring : List Bool) where

@@ -16,7 +16,7 @@ use Rattle.flux_base.specs.declared.outside.Memory.{Memory}
 use Rattle.flux_base.specs.declared.track.TrackId.{TrackId}
 use Rattle.flux_writer.specs.Reading.{HasEarlyOne, IsStreamOf}
 use Rattle.flux_writer.specs.Written.{cell_time, ones_of, stream_of, track_cells, track_turns}
-use Rattle.frame_law.specs.Rings.{AreSectors, IsSpaced}
+use Rattle.track_rings.specs.Rings.{AreSectors, IsSpaced}
 use Rattle.ibm_fm.specs.RingLaws.{ring_length as ring_length-fm, ring_spaced as ring_spaced-fm}
 use Rattle.ibm_mfm.specs.RingLaws.{ring_length as ring_length-mfm, ring_spaced as ring_spaced-mfm}
 use Rattle.sector_images.specs.Formats.{Zone, commodore_zone, row, zone}

@@ -6,7 +6,7 @@ use Rattle.cell_bits.specs.Ones.{ones}
 use Rattle.frame_law.specs.declared.reading.Reading.{Reading as Frame}
 use Rattle.frame_law.specs.declared.reading.Reading.TheVariants.{Nothing, Bad, Good}
 use Rattle.frame_law.specs.Readings.{AreReadings, FirstReading, Reads}
-use Rattle.frame_law.specs.Rings.{IsSectorNumber}
+use Rattle.track_rings.specs.Rings.{IsSectorNumber}
 use Rattle.turn_merge.specs.Book.{Knowledge, StandsFor, SameShape}
 use Rattle.turn_merge.specs.Readings.{Reading}
 use Rattle.turn_merge.specs.declared.verdict.Place.{Place}

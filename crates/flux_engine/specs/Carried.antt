@@ -1,7 +1,7 @@
 -- Transitions that carry a ring: which times may be met where a drive turns over a written track.
 use Rattle.std.specs.Prelude.{◌≡◌, ◌≤◌, ◌<◌, ℕ, ◌+◌, ◌-◌, ◌*◌, Bool, true, List, length, slice_index}
 use Rattle.std.specs.Int.{abs_diff}
-use Rattle.frame_law.specs.Rings.{AreNeighbours, cell_of}
+use Rattle.track_rings.specs.Rings.{AreNeighbours, cell_of}
 
 -- how many fine units make a tick
 abbrev pub FINE_PER_TICK : ℕ

@@ -7,7 +7,7 @@ use Rattle.cell_bits.specs.State.{CellsState, room}
 use Rattle.commodore_gcr.specs.Layout.{ring_of as ring_of-commodore}
 use Rattle.flux_base.specs.declared.track.TrackId.{TrackId}
 use Rattle.flux_writer.specs.Written.{stream_of}
-use Rattle.frame_law.specs.Rings.{IsSpaced}
+use Rattle.track_rings.specs.Rings.{IsSpaced}
 use Rattle.ibm_fm.specs.Layout.{ring_of as ring_of-fm}
 use Rattle.ibm_mfm.specs.Layout.{ring_of as ring_of-mfm}
 use Rattle.sector_images.specs.Formats.{row, zone}

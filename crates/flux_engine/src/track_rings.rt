@@ -2,7 +2,7 @@
 
 ghost use Rattle.std.specs.Prelude.{◌≡◌, ◌*◌, ◌≤◌, ◌<◌, [], length, OnOk, OnErr, IsOk};
 ghost use Rattle.cell_bits.specs.State.{room};
-ghost use Rattle.frame_law.specs.Rings.{AreSectors};
+ghost use Rattle.track_rings.specs.Rings.{AreSectors};
 ghost use Rattle.sector_images.specs.Formats.{row, zone};
 ghost use Rattle.sector_images.specs.Places.{IsTrack, tracks};
 ghost use Rattle.flux_engine.specs.Recordings.{sectors_of as sectors_in};

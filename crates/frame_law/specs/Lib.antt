@@ -1,9 +1,3 @@
-pub mod Gaps
 pub mod Laws
-pub mod Parts
 pub mod Readings
-pub mod Rings
-pub mod SectorParts
-pub mod Stretches
 pub mod Writing
-pub mod Zeros

@@ -3,7 +3,7 @@ use Rattle.std.specs.Prelude.{◌≡◌, ℕ, zero, suc, ◌+◌, ◌*◌, ◌/�
 use Rattle.std.proofs.Common.{ap, ◌∙◌, arith, add-one}
 use Rattle.cell_bits.specs.Bytes.{data_byte, data_cells}
 use Rattle.cell_bits.specs.Word.{number_of}
-use Rattle.frame_law.specs.Parts.{drop-past}
+use Rattle.track_rings.specs.Parts.{drop-past}
 use Rattle.ibm_fields.specs.Fields.{bytes_at, high_first, number_at}
 
 pub data_byte-past : (xs ys : List Bool) (size offset : ℕ) → length xs ≡ size → data_byte (xs ++ ys) (size + offset) ≡ data_byte ys offset

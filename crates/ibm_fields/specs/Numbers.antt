@@ -7,7 +7,7 @@ use Rattle.std.specs.Int.{bit_at}
 use Rattle.std.specs.List.{flat_map, fold}
 use Rattle.check_values.specs.Crc.{GENERATOR, bits_of, crc, with_bit}
 use Rattle.ibm_fields.specs.Fields.{high_first}
-use Rattle.frame_law.specs.SectorParts.{AreBytes}
+use Rattle.track_rings.specs.SectorParts.{AreBytes}
 
 with_bit-lt : (remainder bit : ℕ) → with_bit remainder bit < 65536
 unfolding with_bit

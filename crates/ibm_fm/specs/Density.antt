@@ -2,8 +2,8 @@
 use Rattle.std.specs.Prelude.{◌≡◌, ℕ, zero, suc, ◌<◌, Bool, true, false, List, [], ◌∷◌, ◌++◌, length, drop, get_or, replicate, refl}
 use Rattle.std.proofs.Common.{subst, arith, lit≤}
 use Rattle.std.specs.List.{flat_map}
-use Rattle.frame_law.specs.Rings.{IsSpaced, bytes_of}
-use Rattle.frame_law.specs.Zeros.{NoZeroRun, unbroken-front, zeros-spaced, zeros-unbroken}
+use Rattle.track_rings.specs.Rings.{IsSpaced, bytes_of}
+use Rattle.track_rings.specs.Zeros.{NoZeroRun, unbroken-front, zeros-spaced, zeros-unbroken}
 use Rattle.flux_base.specs.declared.track.TrackId.{TrackId}
 use Rattle.cell_bits.specs.Broken.{Unbroken}
 use Rattle.cell_bits.specs.Bytes.{fm, fm_cells}

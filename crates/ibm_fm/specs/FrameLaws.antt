@@ -5,9 +5,9 @@ use Rattle.flux_base.specs.declared.track.TrackId.{TrackId}
 use Rattle.cell_bits.specs.Bytes.{data_byte, data_cells, fm, fm_cells}
 use Rattle.cell_bits.specs.Word.{Stands, number_of, word_cells}
 use Rattle.cell_bits.specs.WordLaws.{length-word_cells}
-use Rattle.frame_law.specs.Gaps.{begins, free_of, gap-free}
-use Rattle.frame_law.specs.Parts.{drop-past, take-first}
-use Rattle.frame_law.specs.SectorParts.{AreBytes}
+use Rattle.track_rings.specs.Gaps.{begins, free_of, gap-free}
+use Rattle.track_rings.specs.Parts.{drop-past, take-first}
+use Rattle.track_rings.specs.SectorParts.{AreBytes}
 use Rattle.ibm_fields.specs.Fields.{bytes_at, high_first, number_at}
 use Rattle.ibm_fields.specs.FieldLaws.{bytes_at-past, data_byte-past, number_at-past}
 use Rattle.ibm_fields.specs.Numbers.{crc-lt}

@@ -4,7 +4,7 @@ use Rattle.std.specs.List.{range_with_len}
 use Rattle.flux_base.specs.declared.track.TrackId.{TrackId}
 use Rattle.cell_bits.specs.Bytes.{fm}
 use Rattle.cell_bits.specs.Word.{word_cells}
-use Rattle.frame_law.specs.Rings.{bytes_of}
+use Rattle.track_rings.specs.Rings.{bytes_of}
 use Rattle.ibm_fields.specs.Fields.{DATA_BYTE, ID_BYTE, high_first}
 use Rattle.ibm_fm.specs.declared.layout.Piece.{Piece}
 use Rattle.ibm_fm.specs.declared.layout.Piece.TheVariants.{Run, Mark, Address, Content}

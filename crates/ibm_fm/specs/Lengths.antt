@@ -7,8 +7,8 @@ use Rattle.flux_base.specs.declared.track.TrackId.{TrackId}
 use Rattle.cell_bits.specs.Bytes.{fm, fm_cells}
 use Rattle.cell_bits.specs.Word.{word_cells}
 use Rattle.cell_bits.specs.WordLaws.{length-word_cells}
-use Rattle.frame_law.specs.Rings.{bytes_of}
-use Rattle.frame_law.specs.SectorParts.{sectors-length}
+use Rattle.track_rings.specs.Rings.{bytes_of}
+use Rattle.track_rings.specs.SectorParts.{sectors-length}
 use Rattle.ibm_fields.specs.Fields.{high_first}
 use Rattle.ibm_fm.specs.declared.layout.Piece.{Piece}
 use Rattle.ibm_fm.specs.declared.layout.Piece.TheVariants.{Run, Mark, Address, Content}

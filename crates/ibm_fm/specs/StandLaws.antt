@@ -3,8 +3,8 @@ use Rattle.std.specs.Prelude.{◌≡◌, ℕ, ◌+◌, Bool, List, length}
 use Rattle.std.proofs.Common.{ap, sym, ◌∙◌, inl, arith, ◌⊎◌}
 use Rattle.flux_base.specs.declared.track.TrackId.{TrackId}
 use Rattle.cell_bits.specs.Word.{Stands}
-use Rattle.frame_law.specs.Gaps.{one-first}
-use Rattle.frame_law.specs.Rings.{IsSectorNumber}
+use Rattle.track_rings.specs.Gaps.{one-first}
+use Rattle.track_rings.specs.Rings.{IsSectorNumber}
 use Rattle.ibm_fields.specs.Fields.{bytes_at}
 use Rattle.ibm_fields.specs.FieldLaws.{length-bytes_at}
 use Rattle.ibm_fm.specs.Sectors.{DataMarkAt, HeaderStands, OpensData, OtherMarkAt, SectorStands, address_of}

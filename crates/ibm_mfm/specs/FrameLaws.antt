@@ -5,8 +5,8 @@ use Rattle.std.proofs.lemmas.List.{length-map, map-append}
 use Rattle.flux_base.specs.declared.track.TrackId.{TrackId}
 use Rattle.cell_bits.specs.Bytes.{data_byte, mfm, mfm_cells}
 use Rattle.cell_bits.specs.Word.{word_cells}
-use Rattle.frame_law.specs.Gaps.{begins, free_of, gap-free}
-use Rattle.frame_law.specs.SectorParts.{AreBytes}
+use Rattle.track_rings.specs.Gaps.{begins, free_of, gap-free}
+use Rattle.track_rings.specs.SectorParts.{AreBytes}
 use Rattle.ibm_fields.specs.Fields.{bytes_at, high_first}
 use Rattle.ibm_fields.specs.FieldLaws.{data_byte-first, number_at-high_first}
 use Rattle.ibm_fields.specs.Numbers.{AreBytes-high_first, crc-lt}

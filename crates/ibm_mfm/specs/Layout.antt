@@ -2,7 +2,7 @@
 use Rattle.std.specs.Prelude.{ℕ, ◌+◌, ◌-◌, ◌*◌, Bool, false, List, [], ◌∷◌, ◌++◌, replicate, flat_map, nat_eq, if◌then◌else◌}
 use Rattle.std.specs.List.{range_with_len}
 use Rattle.flux_base.specs.declared.track.TrackId.{TrackId}
-use Rattle.frame_law.specs.Rings.{bytes_of}
+use Rattle.track_rings.specs.Rings.{bytes_of}
 use Rattle.ibm_fields.specs.Fields.{DATA_BYTE, ID_BYTE, high_first}
 use Rattle.ibm_mfm.specs.declared.layout.Piece.{Piece}
 use Rattle.ibm_mfm.specs.declared.layout.Piece.TheVariants.{Run, Address, Content}

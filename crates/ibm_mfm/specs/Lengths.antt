@@ -4,8 +4,8 @@ use Rattle.std.proofs.Common.{ap, sym, subst, ◌∙◌, arith, inl, inr, length
 use Rattle.std.proofs.lemmas.List.{length-map, length-take, length-replicate}
 use Rattle.std.specs.List.{flat_map, range_with_len}
 use Rattle.flux_base.specs.declared.track.TrackId.{TrackId}
-use Rattle.frame_law.specs.Rings.{bytes_of}
-use Rattle.frame_law.specs.SectorParts.{sectors-length}
+use Rattle.track_rings.specs.Rings.{bytes_of}
+use Rattle.track_rings.specs.SectorParts.{sectors-length}
 use Rattle.ibm_fields.specs.Fields.{high_first}
 use Rattle.ibm_mfm.specs.declared.layout.Piece.{Piece}
 use Rattle.ibm_mfm.specs.declared.layout.Piece.TheVariants.{Run, Address, Content}

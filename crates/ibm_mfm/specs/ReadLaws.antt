@@ -5,8 +5,8 @@ use Rattle.std.proofs.Math.Nat.{mod-eq_of_lt}
 use Rattle.cell_bits.specs.Bytes.{data_byte, data_cells, mfm, mfm_cells}
 use Rattle.cell_bits.specs.Word.{number_of, word_cells}
 use Rattle.cell_bits.specs.WordLaws.{number_of-word_cells}
-use Rattle.frame_law.specs.Parts.{take-first}
-use Rattle.frame_law.specs.SectorParts.{AreBytes}
+use Rattle.track_rings.specs.Parts.{take-first}
+use Rattle.track_rings.specs.SectorParts.{AreBytes}
 use Rattle.ibm_fields.specs.Fields.{bytes_at}
 use Rattle.ibm_fields.specs.FieldLaws.{bytes_at-past}
 use Rattle.mfm_coding.specs.declared.symbol.Symbol.{Symbol}

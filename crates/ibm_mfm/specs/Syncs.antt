@@ -4,7 +4,7 @@ use Rattle.std.proofs.Common.{ap, sym, ◌∙◌, arith, lit≤}
 use Rattle.std.proofs.lemmas.List.{drop-drop, drop-take, take-take}
 use Rattle.std.proofs.Math.Seq.{take-add}
 use Rattle.cell_bits.specs.Word.{Stands, word_cells}
-use Rattle.frame_law.specs.Parts.{drop-past}
+use Rattle.track_rings.specs.Parts.{drop-past}
 use Rattle.mfm_coding.specs.Coding.{SYNC_MARK}
 
 -- three marks stand whole from the place on

@@ -3,8 +3,8 @@ use Rattle.std.specs.Prelude.{◌≡◌, ℕ, zero, suc, ◌+◌, ◌%◌, ◌�
 use Rattle.std.proofs.Common.{ap, sym, subst, ◌∙◌, arith, inl, inr, lit≤}
 use Rattle.std.proofs.lemmas.List.{get_or-drop}
 use Rattle.std.proofs.lemmas.Bool.{cases_lt}
-use Rattle.frame_law.specs.Rings.{IsSpaced, cell_of}
-use Rattle.frame_law.specs.Zeros.{NoZeroRun, cell-near, first-one, most-apart, unbroken-front, zeros-unbroken}
+use Rattle.track_rings.specs.Rings.{IsSpaced, cell_of}
+use Rattle.track_rings.specs.Zeros.{NoZeroRun, cell-near, first-one, most-apart, unbroken-front, zeros-unbroken}
 use Rattle.cell_bits.specs.Broken.{Unbroken}
 use Rattle.cell_bits.specs.Bytes.{mfm, mfm_cells}
 use Rattle.cell_bits.specs.Word.{digit, word_cells}

@@ -4,7 +4,7 @@ use Rattle.std.specs.List.{flat_map, range_with_len}
 use Rattle.std.proofs.Common.{ap, sym, subst, ◌∙◌, arith, lit<, length-append}
 use Rattle.std.proofs.lemmas.List.{get_or-drop}
 use Rattle.std.proofs.lemmas.List.Concat.{flat_map-append}
-use Rattle.frame_law.specs.Rings.{bytes_of}
+use Rattle.track_rings.specs.Rings.{bytes_of}
 
 -- numbers up to one of them, it, and those behind it
 range-parts : (first before behind : ℕ)

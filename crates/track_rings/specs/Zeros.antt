@@ -7,7 +7,7 @@ use Rattle.std.proofs.Math.ListN.{get_or-append}
 use Rattle.std.proofs.Math.Nat.{add-mod_left, mod-add-mod, mod-eq_of_lt, mod-lt, zero-mod}
 use Rattle.std.proofs.Math.Seq.{get_or-append_right}
 use Rattle.cell_bits.specs.Broken.{Unbroken}
-use Rattle.frame_law.specs.Rings.{AreNeighbours, IsSpaced, cell_of}
+use Rattle.track_rings.specs.Rings.{AreNeighbours, IsSpaced, cell_of}
 
 -- so many zeros in a row come at no place
 abbrev pub NoZeroRun : ℕ → List Bool → Type 0

@@ -3,7 +3,7 @@ use Rattle.std.specs.Prelude.{◌≡◌, ℕ, zero, suc, ◌+◌, ◌-◌, ◌<�
 use Rattle.std.proofs.Common.{ap, sym, ◌∙◌, arith, inl, inr}
 use Rattle.cell_bits.specs.Word.{Stands, word_cells}
 use Rattle.cell_bits.specs.WordLaws.{length-word_cells}
-use Rattle.frame_law.specs.Parts.{drop-past}
+use Rattle.track_rings.specs.Parts.{drop-past}
 use Rattle.std.proofs.lemmas.Bool.{cases_lt}
 
 -- the cells of a word stand at the front

@@ -3,7 +3,7 @@ use Rattle.std.specs.Prelude.{◌≡◌, ℕ, zero, suc, ◌+◌, ◌-◌, ◌%�
 use Rattle.std.proofs.Common.{ap, sym, ◌∙◌, arith, add-one, append_assoc, length-append}
 use Rattle.std.proofs.Math.Nat.{mod-eq_of_lt, suc-mod}
 use Rattle.std.proofs.Math.Seq.{get_or-append_seam}
-use Rattle.frame_law.specs.Rings.{LiesAt, cell_of, stretch}
+use Rattle.track_rings.specs.Rings.{LiesAt, cell_of, stretch}
 
 stretch-same : (ring : List Bool) (m n j k : ℕ) → m ≡ n → j ≡ k → stretch ring m j ≡ stretch ring n k
 stretch-same ring m n j k first second =
