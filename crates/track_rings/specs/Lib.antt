@@ -1,6 +1,11 @@
 pub mod Gaps
 pub mod Parts
 pub mod Rings
+pub mod RowLaws
+pub mod Rows
 pub mod SectorParts
+pub mod Spaced
+pub mod SpacedLaws
 pub mod Stretches
+pub mod TrackLaws
 pub mod Zeros
