@@ -1,6 +1,11 @@
+pub mod Cuts
+pub mod Fronts
 pub mod Gaps
+pub mod OwnSectors
+pub mod Owning
 pub mod Parts
 pub mod Rings
 pub mod SectorParts
 pub mod Stretches
+pub mod Syncs
 pub mod Zeros
