@@ -1,4 +1,8 @@
+pub mod Cuts
+pub mod Fronts
 pub mod Gaps
+pub mod OwnSectors
+pub mod Owning
 pub mod Parts
 pub mod Rings
 pub mod RowLaws
@@ -7,5 +11,6 @@ pub mod SectorParts
 pub mod Spaced
 pub mod SpacedLaws
 pub mod Stretches
+pub mod Syncs
 pub mod TrackLaws
 pub mod Zeros

@@ -1,0 +1,237 @@
+-- Where a sync can stand: it is sought in what is known of the cells.
+use Rattle.std.specs.Prelude.{◌≡◌, ℕ, zero, suc, ◌+◌, ◌-◌, ◌*◌, ◌<◌, ◌≤◌, Bool, true, false, ◌&&◌, List, [], ◌∷◌, ◌++◌, length, take, drop, map, Option, Some, None, refl}
+use Rattle.std.specs.List.{flat_map, range_with_len}
+use Rattle.std.proofs.Common.{ap, sym, subst, ◌∙◌, arith, inl, inr, append_assoc, length-append}
+use Rattle.std.proofs.lemmas.Bool.{cases_lt}
+use Rattle.track_rings.specs.Fronts.{AgreeTo}
+use Rattle.track_rings.specs.Parts.{drop-past}
+
+-- what is known of cells: each is a one, a zero, or anything
+abbrev pub Pattern : Type 0
+Pattern = List (Option Bool)
+
+-- such cells stand at the front
+unfoldable pub fits : List (Option Bool) → List Bool → Bool
+fits [] cells = true
+fits (known ∷ pattern) [] = false
+fits (None ∷ pattern) (cell ∷ cells) = fits pattern cells
+fits (Some true ∷ pattern) (true ∷ cells) = fits pattern cells
+fits (Some true ∷ pattern) (false ∷ cells) = false
+fits (Some false ∷ pattern) (true ∷ cells) = false
+fits (Some false ∷ pattern) (false ∷ cells) = fits pattern cells
+
+-- a cell that is a one in the first pattern and a zero in the second, or the other way
+unfoldable pub clashes : List (Option Bool) → List (Option Bool) → Bool
+clashes [] others = false
+clashes (known ∷ pattern) [] = false
+clashes (None ∷ pattern) (other ∷ others) = clashes pattern others
+clashes (Some true ∷ pattern) (None ∷ others) = clashes pattern others
+clashes (Some true ∷ pattern) (Some true ∷ others) = clashes pattern others
+clashes (Some true ∷ pattern) (Some false ∷ others) = true
+clashes (Some false ∷ pattern) (None ∷ others) = clashes pattern others
+clashes (Some false ∷ pattern) (Some true ∷ others) = true
+clashes (Some false ∷ pattern) (Some false ∷ others) = clashes pattern others
+
+-- the first pattern, from each of so many first places of the second on
+unfoldable pub clashes_at_all : List (Option Bool) → ℕ → List (Option Bool) → Bool
+clashes_at_all sync zero known = true
+clashes_at_all sync (suc count) [] = false
+clashes_at_all sync (suc count) (cell ∷ known) = clashes sync (cell ∷ known) && clashes_at_all sync count known
+
+-- both parts of a test
+pub both_true : (a b : Bool) → (a && b) ≡ true → (a ≡ true) × (b ≡ true)
+both_true true b holds = (refl, holds)
+both_true false b holds = absurd (cc)
+
+clashes-not : (pattern others : List (Option Bool)) (cells : List Bool) → clashes pattern others ≡ true → fits pattern cells ≡ true
+    → ¬ (fits others cells ≡ true)
+unfolding fits clashes
+clashes-not [] others cells clash first second = cc
+clashes-not (known ∷ pattern) [] cells clash first second = cc
+clashes-not (known ∷ pattern) (other ∷ others) [] clash first second = cc
+clashes-not (None ∷ pattern) (None ∷ others) (cell ∷ cells) clash first second = clashes-not pattern others cells clash first second
+clashes-not (None ∷ pattern) (Some true ∷ others) (true ∷ cells) clash first second = clashes-not pattern others cells clash first second
+clashes-not (None ∷ pattern) (Some true ∷ others) (false ∷ cells) clash first second = cc
+clashes-not (None ∷ pattern) (Some false ∷ others) (true ∷ cells) clash first second = cc
+clashes-not (None ∷ pattern) (Some false ∷ others) (false ∷ cells) clash first second = clashes-not pattern others cells clash first second
+clashes-not (Some true ∷ pattern) (other ∷ others) (false ∷ cells) clash first second = cc
+clashes-not (Some true ∷ pattern) (None ∷ others) (true ∷ cells) clash first second = clashes-not pattern others cells clash first second
+clashes-not (Some true ∷ pattern) (Some true ∷ others) (true ∷ cells) clash first second = clashes-not pattern others cells clash first second
+clashes-not (Some true ∷ pattern) (Some false ∷ others) (true ∷ cells) clash first second = cc
+clashes-not (Some false ∷ pattern) (other ∷ others) (true ∷ cells) clash first second = cc
+clashes-not (Some false ∷ pattern) (None ∷ others) (false ∷ cells) clash first second = clashes-not pattern others cells clash first second
+clashes-not (Some false ∷ pattern) (Some true ∷ others) (false ∷ cells) clash first second = cc
+clashes-not (Some false ∷ pattern) (Some false ∷ others) (false ∷ cells) clash first second = clashes-not pattern others cells clash first second
+
+fits-rest : (known : Option Bool) (pattern : List (Option Bool)) (cell : Bool) (cells : List Bool) → fits (known ∷ pattern) (cell ∷ cells) ≡ true
+    → fits pattern cells ≡ true
+unfolding fits
+fits-rest None pattern cell cells fit = fit
+fits-rest (Some true) pattern true cells fit = fit
+fits-rest (Some true) pattern false cells fit = absurd (cc)
+fits-rest (Some false) pattern true cells fit = absurd (cc)
+fits-rest (Some false) pattern false cells fit = fit
+
+fits-none : (known : Option Bool) (pattern : List (Option Bool)) → ¬ (fits (known ∷ pattern) [] ≡ true)
+unfolding fits
+fits-none known pattern fit = cc
+
+-- the sync stands at none of the places where it clashes with what is known
+pub clashes-nowhere : (sync : List (Option Bool)) (count : ℕ) (known : List (Option Bool)) (cells : List Bool) (place : ℕ)
+    → clashes_at_all sync count known ≡ true → fits known cells ≡ true → place < count → ¬ (fits sync (drop place cells) ≡ true)
+unfolding clashes_at_all
+clashes-nowhere sync zero known cells place clash fit within stands = absurd (omega arith)
+clashes-nowhere sync (suc count) [] cells place clash fit within stands = cc
+clashes-nowhere sync (suc count) (cell ∷ known) [] place clash fit within stands = fits-none cell known fit
+clashes-nowhere sync (suc count) (cell ∷ known) (first ∷ cells) zero clash fit within stands =
+    clashes-not sync (cell ∷ known) (first ∷ cells) (both_true (clashes sync (cell ∷ known)) (clashes_at_all sync count known) clash).0 stands fit
+clashes-nowhere sync (suc count) (cell ∷ known) (first ∷ cells) (suc place) clash fit within stands =
+    clashes-nowhere sync count known cells place (both_true (clashes sync (cell ∷ known)) (clashes_at_all sync count known) clash).1
+    (fits-rest cell known first cells fit) (omega arith) stands
+
+-- what is known of a list, from a place on
+pub fits-drop : (place : ℕ) (pattern : List (Option Bool)) (cells : List Bool) → fits pattern cells ≡ true → fits (drop place pattern) (drop place cells) ≡ true
+unfolding fits
+fits-drop zero pattern cells fit = fit
+fits-drop (suc place) [] cells fit = refl
+fits-drop (suc place) (known ∷ pattern) [] fit = absurd (fits-none known pattern fit)
+fits-drop (suc place) (known ∷ pattern) (cell ∷ cells) fit = fits-drop place pattern cells (fits-rest known pattern cell cells fit)
+
+-- known cells, as a pattern
+abbrev pub all_known : List Bool → List (Option Bool)
+all_known cells = map (λ cell. Some cell) cells
+
+pub fits-known : (word rest : List Bool) → fits (all_known word) (word ++ rest) ≡ true
+unfolding fits
+fits-known [] rest = refl
+fits-known (true ∷ word) rest = fits-known word rest
+fits-known (false ∷ word) rest = fits-known word rest
+
+-- cells that begin with a word
+pub fits-word : (word cells : List Bool) (size : ℕ) → length word ≡ size → take size cells ≡ word → fits (all_known word) cells ≡ true
+unfolding fits
+fits-word [] cells size is same = refl
+fits-word (bit ∷ word) cells zero is same = absurd (omega (arith, is))
+fits-word (bit ∷ word) [] (suc size) is same = absurd (cc)
+fits-word (true ∷ word) (true ∷ cells) (suc size) is same = fits-word word cells size (omega (arith, is)) (cc)
+fits-word (true ∷ word) (false ∷ cells) (suc size) is same = absurd (cc)
+fits-word (false ∷ word) (true ∷ cells) (suc size) is same = absurd (cc)
+fits-word (false ∷ word) (false ∷ cells) (suc size) is same = fits-word word cells size (omega (arith, is)) (cc)
+
+-- what is known of cells and then of more
+pub fits-append : (first others : List (Option Bool)) (xs ys : List Bool) → length first ≡ length xs → fits first xs ≡ true → fits others ys ≡ true
+    → fits (first ++ others) (xs ++ ys) ≡ true
+unfolding fits
+fits-append [] others [] ys size fit more = more
+fits-append [] others (cell ∷ xs) ys size fit more = absurd (omega (arith, size))
+fits-append (known ∷ first) others [] ys size fit more = absurd (omega (arith, size))
+fits-append (None ∷ first) others (cell ∷ xs) ys size fit more = fits-append first others xs ys (omega (arith, size)) fit more
+fits-append (Some true ∷ first) others (true ∷ xs) ys size fit more = fits-append first others xs ys (omega (arith, size)) fit more
+fits-append (Some true ∷ first) others (false ∷ xs) ys size fit more = absurd (cc)
+fits-append (Some false ∷ first) others (true ∷ xs) ys size fit more = absurd (cc)
+fits-append (Some false ∷ first) others (false ∷ xs) ys size fit more = fits-append first others xs ys (omega (arith, size)) fit more
+
+-- as far as it is known, it stands in all cells that agree
+pub fits-agree : (pattern : List (Option Bool)) (xs ys : List Bool) → AgreeTo (length pattern) xs ys → fits pattern xs ≡ true → fits pattern ys ≡ true
+unfolding fits
+fits-agree [] xs ys same fit = refl
+fits-agree (known ∷ pattern) [] ys same fit = absurd (fits-none known pattern fit)
+fits-agree (known ∷ pattern) (cell ∷ xs) [] same fit = absurd (cc)
+fits-agree (None ∷ pattern) (cell ∷ xs) (other ∷ ys) same fit = fits-agree pattern xs ys (cc) fit
+fits-agree (Some true ∷ pattern) (false ∷ xs) (other ∷ ys) same fit = absurd (cc)
+fits-agree (Some true ∷ pattern) (true ∷ xs) (false ∷ ys) same fit = absurd (cc)
+fits-agree (Some true ∷ pattern) (true ∷ xs) (true ∷ ys) same fit = fits-agree pattern xs ys (cc) fit
+fits-agree (Some false ∷ pattern) (true ∷ xs) (other ∷ ys) same fit = absurd (cc)
+fits-agree (Some false ∷ pattern) (false ∷ xs) (true ∷ ys) same fit = absurd (cc)
+fits-agree (Some false ∷ pattern) (false ∷ xs) (false ∷ ys) same fit = fits-agree pattern xs ys (cc) fit
+
+-- What is tested begins in the first cells at such places only, whatever it takes in of the cells after them.
+abbrev pub Only : (List Bool → Type 0) → (ℕ → Type 0) → List Bool → List Bool → Type 0
+Only Test Here xs ys = (place : ℕ) → place < length xs → Test (drop place (xs ++ ys)) → Here place
+
+-- it begins nowhere in them
+abbrev pub Nowhere : (List Bool → Type 0) → List Bool → List Bool → Type 0
+Nowhere Test xs ys = Only Test (λ place. ⊥) xs ys
+
+-- a sync stands at the front
+abbrev pub Syncs : List (Option Bool) → List Bool → Type 0
+Syncs sync cells = fits sync cells ≡ true
+
+module _ (Test : List Bool → Type 0) where
+  pub only-weaken : (Here There : ℕ → Type 0) (xs ys : List Bool) → ((place : ℕ) → place < length xs → Here place → There place)
+      → Only Test Here xs ys → Only Test There xs ys
+  only-weaken Here There xs ys weaker only place within test = weaker place within (only place within test)
+
+  pub only-none : (Here : ℕ → Type 0) (ys : List Bool) → Only Test Here [] ys
+  only-none Here ys place within test = absurd (omega (arith, within))
+
+  -- some cells, and then more
+  pub only-append : (Here : ℕ → Type 0) (xs ys zs : List Bool) → Only Test Here xs (ys ++ zs)
+      → Only Test (λ place. Here (length xs + place)) ys zs → Only Test Here (xs ++ ys) zs
+  only-append Here xs ys zs first second place within test =
+      let apart = append_assoc xs ys zs in
+      elim (cases_lt place (length xs)) [
+        | inl low ↦ first place low (subst (λ (cells : List Bool). Test (drop place cells)) apart test)
+        | inr past ↦
+            let e : length xs + (place - length xs) ≡ place = omega arith in
+            let inside : place - length xs < length ys = omega (arith, within, length-append xs ys) in
+            let there = ap (λ (cells : List Bool). drop place cells) apart ∙ ap (λ (n : ℕ). drop n (xs ++ (ys ++ zs))) (sym e)
+            ∙ drop-past xs (ys ++ zs) (length xs) (place - length xs) refl in
+            subst Here e (second (place - length xs) inside (subst Test there test))
+      ]
+
+  -- cells in which it does not begin, and then more
+  pub only-skip : (Here : ℕ → Type 0) (xs ys zs : List Bool) → Nowhere Test xs (ys ++ zs)
+      → Only Test (λ place. Here (length xs + place)) ys zs → Only Test Here (xs ++ ys) zs
+  only-skip Here xs ys zs none more = only-append Here xs ys zs (λ place within test. absurd (none place within test)) more
+
+  pub nowhere-append : (xs ys zs : List Bool) → Nowhere Test xs (ys ++ zs) → Nowhere Test ys zs → Nowhere Test (xs ++ ys) zs
+  nowhere-append xs ys zs first second = only-append (λ place. ⊥) xs ys zs first second
+
+  -- nor does it begin later than the cells in which it does
+  pub only-then : (Here : ℕ → Type 0) (xs ys zs : List Bool) → Only Test Here xs (ys ++ zs) → Nowhere Test ys zs → Only Test Here (xs ++ ys) zs
+  only-then Here xs ys zs first none = only-append Here xs ys zs first (λ place within test. absurd (none place within test))
+
+  -- at the first cell alone
+  pub only-first : (cell : Bool) (xs ys : List Bool) → Nowhere Test xs ys → Only Test (λ place. place ≡ 0) (cell ∷ xs) ys
+  only-first cell xs ys none zero within test = refl
+  only-first cell xs ys none (suc place) within test = absurd (none place (omega (arith, within)) test)
+
+  -- pieces in a row, each followed by what later pieces may follow
+  pub nowhere-all : {X : Type 0} (After : List Bool → Type 0) (f : X → List Bool)
+      → ((x : X) (rest : List Bool) → After rest → Nowhere Test (f x) rest × After (f x ++ rest))
+      → (pieces : List X) (rest : List Bool) → After rest → Nowhere Test (flat_map f pieces) rest × After (flat_map f pieces ++ rest)
+  nowhere-all After f each [] rest after = (only-none (λ place. ⊥) rest, after)
+  nowhere-all After f each (piece ∷ pieces) rest after =
+      let more = nowhere-all After f each pieces rest after in
+      let one = each piece (flat_map f pieces ++ rest) more.1 in
+      (nowhere-append (f piece) (flat_map f pieces) rest one.0 more.0, subst After (sym (append_assoc (f piece) (flat_map f pieces) rest)) one.1)
+
+  -- the sectors of a track, in each of which it begins at one place
+  pub only-sectors : (After : List Bool → Type 0) (f : ℕ → List Bool) (size offset first count : ℕ)
+      → ((s : ℕ) → first ≤ s → s < first + count → length (f s) ≡ size)
+      → ((s : ℕ) (rest : List Bool) → first ≤ s → s < first + count → After rest
+      → Only Test (λ place. place ≡ offset) (f s) rest × After (f s ++ rest))
+      → (rest : List Bool) → After rest
+      → Only Test (λ place. (k : ℕ) × (k < count) × (place ≡ k * size + offset)) (flat_map f (range_with_len first count)) rest
+      × After (flat_map f (range_with_len first count) ++ rest)
+  only-sectors After f size offset first zero long each rest after = (λ place within test. absurd (omega (arith, within)), after)
+  only-sectors After f size offset first (suc count) long each rest after =
+      let others = flat_map f (range_with_len (first + 1) count) in
+      let more = only-sectors After f size offset (first + 1) count (λ s least most. long s (omega arith) (omega arith))
+      (λ s next least most. each s next (omega arith) (omega arith)) rest after in
+      let one = each first (others ++ rest) (omega arith) (omega arith) more.1 in
+      let here = long first (omega arith) (omega arith) in (
+        only-append (λ place. (k : ℕ) × (k < suc count) × (place ≡ k * size + offset)) (f first) others rest
+            (λ place within test. (0, omega arith, (let at = one.0 place within test in omega (arith, at))))
+            (λ place within test.
+            let at = more.0 place within test in
+            (at.0 + 1, omega (arith, at.1), (let e : (at.0 + 1) * size ≡ at.0 * size + size = omega arith in omega (arith, at.2, here, e)))),
+        subst After (sym (append_assoc (f first) others rest)) one.1,
+      )
+
+-- a sync begins in known cells nowhere where it clashes with them
+pub nowhere-known : (sync known : List (Option Bool)) (xs ys : List Bool) (count : ℕ) → length xs ≡ count
+    → clashes_at_all sync count known ≡ true → fits known (xs ++ ys) ≡ true → Nowhere (Syncs sync) xs ys
+nowhere-known sync known xs ys count size clash fit place within stands =
+    clashes-nowhere sync count known (xs ++ ys) place clash fit (omega (arith, size, within)) stands
