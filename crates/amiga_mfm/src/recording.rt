@@ -23,17 +23,13 @@ impl Recording for AmigaMfm {
 
     const LONGEST: u8 = 4;
 
-    const SYNC: u32 = SYNC;
-
-    const SYNC_CELLS: u8 = SYNC_CELLS;
-
     ghost SHORTEST = { 2 };
 
     ghost LONGEST = { 4 };
 
-    ghost SYNC = { 0x44894489 };
+    ghost sync = { λ r. 0x44894489 };
 
-    ghost SYNC_CELLS = { 32 };
+    ghost sync_cells = { λ r. 32 };
 
     ghost has_track = { λ r track. IsTrack track };
 
@@ -54,6 +50,14 @@ impl Recording for AmigaMfm {
     ghost sector_size = { λ r. 512 };
 
     ghost ring_cells = { λ r track. 100000 };
+
+    fn sync(&self) -> u32 {
+        SYNC
+    }
+
+    fn sync_cells(&self) -> u8 {
+        SYNC_CELLS
+    }
 
     fn first_sector(&self) -> u8 {
         FIRST_SECTOR
@@ -98,7 +102,7 @@ impl Recording for AmigaMfm {
         Reading::Bad { sector }
     }
 
-    ghost sync_size = { (lit≤ tt, lit≤ tt) };
+    ghost sync_size = { λ r. (lit≤ tt, lit≤ tt) };
 
     ghost sync_leads = { λ r track cells s header. header.sync };
 

@@ -23,17 +23,13 @@ impl Recording for AppleGcr {
 
     const LONGEST: u8 = 3;
 
-    const SYNC: u32 = ADDRESS_MARK;
-
-    const SYNC_CELLS: u8 = MARK_CELLS;
-
     ghost SHORTEST = { 1 };
 
     ghost LONGEST = { 3 };
 
-    ghost SYNC = { 0xD5AA96 };
+    ghost sync = { λ r. 0xD5AA96 };
 
-    ghost SYNC_CELLS = { 24 };
+    ghost sync_cells = { λ r. 24 };
 
     ghost has_track = { λ r track. IsTrack track };
 
@@ -54,6 +50,14 @@ impl Recording for AppleGcr {
     ghost sector_size = { λ r. 256 };
 
     ghost ring_cells = { λ r track. 49994 };
+
+    fn sync(&self) -> u32 {
+        ADDRESS_MARK
+    }
+
+    fn sync_cells(&self) -> u8 {
+        MARK_CELLS
+    }
 
     fn first_sector(&self) -> u8 {
         0
@@ -99,7 +103,7 @@ impl Recording for AppleGcr {
         Reading::Bad { sector }
     }
 
-    ghost sync_size = { (lit≤ tt, lit≤ tt) };
+    ghost sync_size = { λ r. (lit≤ tt, lit≤ tt) };
 
     ghost sync_leads = { λ r track cells s header. header.mark };
 

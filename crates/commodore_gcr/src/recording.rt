@@ -34,17 +34,13 @@ impl Recording for CommodoreGcr {
 
     const LONGEST: u8 = 3;
 
-    const SYNC: u32 = SYNC;
-
-    const SYNC_CELLS: u8 = SYNC_CELLS;
-
     ghost SHORTEST = { 1 };
 
     ghost LONGEST = { 3 };
 
-    ghost SYNC = { 0x7FE };
+    ghost sync = { λ r. 0x7FE };
 
-    ghost SYNC_CELLS = { 11 };
+    ghost sync_cells = { λ r. 11 };
 
     ghost has_track = { λ r track. IsTrack track };
 
@@ -65,6 +61,14 @@ impl Recording for CommodoreGcr {
     ghost sector_size = { λ r. 256 };
 
     ghost ring_cells = { λ r track. ring_cells_of track };
+
+    fn sync(&self) -> u32 {
+        SYNC
+    }
+
+    fn sync_cells(&self) -> u8 {
+        SYNC_CELLS
+    }
 
     fn first_sector(&self) -> u8 {
         0
@@ -110,7 +114,7 @@ impl Recording for CommodoreGcr {
         Reading::Bad { sector }
     }
 
-    ghost sync_size = { (lit≤ tt, lit≤ tt) };
+    ghost sync_size = { λ r. (lit≤ tt, lit≤ tt) };
 
     ghost sync_leads = { λ r track cells s header. sync_leads track cells s header };
 

@@ -1,12 +1,12 @@
 -- A list is that of the readings exactly where it is all that stands in the cells.
-use Rattle.std.specs.Prelude.{◌≡◌, ◌≢◌, ℕ, zero, suc, ◌+◌, ◌<◌, ◌≤◌, Bool, List, [], ◌∷◌, length, drop, Contains, refl, slice_index, Some}
+use Rattle.std.specs.Prelude.{◌≡◌, ◌≢◌, ℕ, zero, suc, ◌+◌, ◌<◌, ◌≤◌, Bool, List, [], ◌∷◌, length, drop, Contains, refl, slice_index, Some, None}
 use Rattle.std.specs.List.Sorted.{IsStrictlyIncreasing}
 use Rattle.std.proofs.Common.{ap, sym, subst, ◌∙◌, arith, length-drop, inl, inr, ◌⊎◌}
 use Rattle.std.proofs.lemmas.Bool.{cases_lt}
 use Rattle.std.proofs.lemmas.List.Elements.{All-contains, All-weaker, All-contains_itself}
 use Rattle.frame_law.specs.declared.reading.Reading.{Reading}
 use Rattle.frame_law.specs.declared.reading.Reading.TheVariants.{Nothing, Bad, Good}
-use Rattle.frame_law.specs.Laws.{Found, places, HasHeader, AreAllFrom}
+use Rattle.frame_law.specs.Laws.{Found, places, HasHeader, AreAllFrom, ReadingsAreOne}
 use Rattle.frame_law.specs.Readings.{Reads, AreReadings, FirstReading}
 
 contains_first : {X : Type 0} (x : X) (xs : List X) → Contains (x ∷ xs) x
@@ -94,6 +94,44 @@ module _ (header : List Bool → ℕ → Type 0) (sector : List Bool → ℕ →
       let same = one_header cells s t (has_header cells s xs first) (has_header cells t ys second) in
       let bytes = one_content cells s t xs ys first second in
       ap (λ (n : ℕ). let a : Found = (place, Good n, xs) in a) same ∙ ap (λ (zs : List ℕ). let a : Found = (place, Good t, zs) in a) bytes
+
+  -- a first reading does not stand before another
+  not_before : (cells : List Bool) (from : ℕ) (f g : Found) → FirstReading header sector cells from (Some (f.0, f.1)) f.2
+      → FirstReading header sector cells from (Some (g.0, g.1)) g.2 → g.0 ≤ f.0
+  not_before cells from f g first second =
+      elim (cases_lt f.0 g.0) [
+        | inr least ↦ least
+        | inl before ↦
+            let s = stands (drop f.0 cells) f.1 f.2 first.2 first.3 in
+            absurd (second.1 f.0 s.0 first.0 before s.1)
+      ]
+
+  one_place : (cells : List Bool) (from : ℕ) (f g : Found) → FirstReading header sector cells from (Some (f.0, f.1)) f.2
+      → FirstReading header sector cells from (Some (g.0, g.1)) g.2 → f ≡ g
+  one_place cells from f g first second =
+      let least = not_before cells from f g first second in
+      let most = not_before cells from g f second first in
+      let same : f.0 ≡ g.0 = omega (arith, least, most) in
+      let there : Reads (header (drop f.0 cells)) (sector (drop f.0 cells)) g.1 g.2 =
+      subst (λ (p : ℕ). Reads (header (drop p cells)) (sector (drop p cells)) g.1 g.2) (sym same) second.3 in
+      one_reading f.0 (drop f.0 cells) f.1 g.1 f.2 g.2 first.2 second.2 first.3 there
+      ∙ ap (λ (p : ℕ). let a : Found = (p, g.1, g.2) in a) same
+
+  one_none : (cells : List Bool) (from : ℕ) (f : Found) → FirstReading header sector cells from None [] → FirstReading header sector cells from (Some (f.0, f.1)) f.2 → ⊥
+  one_none cells from f none first =
+      let s = stands (drop f.0 cells) f.1 f.2 first.2 first.3 in
+      none.1 (f.0 + 1) f.0 s.0 first.0 (omega arith) s.1
+
+  -- all readings of a list of cells are one list
+  pub one_list : ReadingsAreOne header sector
+  one_list cells from [] [] all others = refl
+  one_list cells from [] (g ∷ gs) all others = absurd (one_none cells from g all others.0)
+  one_list cells from (f ∷ fs) [] all others = absurd (one_none cells from f others all.0)
+  one_list cells from (f ∷ fs) (g ∷ gs) all others =
+      let same = one_place cells from f g all.0 others.0 in
+      let rest = one_list cells (f.0 + 1) fs gs all.1
+      (subst (λ (n : ℕ). AreReadings header sector cells (n + 1) gs) (sym (ap (λ (h : Found). h.0) same)) others.1) in
+      ap (λ (h : Found). h ∷ fs) same ∙ ap (λ (hs : List Found). g ∷ hs) rest
 
   module _ (cells : List Bool) where
     -- what is read at a place is there

@@ -37,7 +37,20 @@ module _ (header : List Bool → ℕ → Type 0) (sector : List Bool → ℕ →
     pub bad : (place s : ℕ) (bytes : List ℕ) → from ≤ place → Contains found (place, Bad s, bytes) ↔ ((bytes ≡ []) × HasHeaderOnly place s)
     pub no_other : (place : ℕ) (bytes : List ℕ) → ¬ Contains found (place, Nothing, bytes)
 
+-- What the cells tell: no two headers and no two contents of sectors stand in the same ones, and a sector stands with its
+-- header, and with as many bytes as a sector has.
+pub record SectorsAreTold (header : List Bool → ℕ → Type 0) (sector : List Bool → ℕ → List ℕ → Type 0) (size : ℕ) : Type 0 where
+  pub one_header : (cells : List Bool) (s t : ℕ) → header cells s → header cells t → s ≡ t
+  pub one_content : (cells : List Bool) (s t : ℕ) (xs ys : List ℕ) → sector cells s xs → sector cells t ys → xs ≡ ys
+  pub has_header : (cells : List Bool) (s : ℕ) (xs : List ℕ) → sector cells s xs → header cells s
+  pub content_size : (cells : List Bool) (s : ℕ) (xs : List ℕ) → sector cells s xs → length xs ≡ size
+
 -- in any cells and from any place on, a list is what repeated searches find exactly where it is all that stands there
 abbrev pub ReadingsAreAll : (List Bool → ℕ → Type 0) → (List Bool → ℕ → List ℕ → Type 0) → Type 0
 ReadingsAreAll header sector = (cells : List Bool) (from : ℕ) (found : List Found)
     → AreReadings header sector cells from found ↔ AreAllFrom header sector cells from found
+
+-- in any cells and from any place on, repeated searches find one list
+abbrev pub ReadingsAreOne : (List Bool → ℕ → Type 0) → (List Bool → ℕ → List ℕ → Type 0) → Type 0
+ReadingsAreOne header sector = (cells : List Bool) (from : ℕ) (found other : List Found)
+    → AreReadings header sector cells from found → AreReadings header sector cells from other → found ≡ other

@@ -1,3 +1,4 @@
 pub mod Laws
 pub mod Readings
+pub mod Spacing
 pub mod Writing

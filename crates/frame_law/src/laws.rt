@@ -1,12 +1,42 @@
-//! What repeated searches for readings come to.
+//! What the laws of every recording come to, for all its values, tracks, cells and bytes.
 
-ghost use Rattle.frame_law.specs.Laws.{ReadingsAreAll};
+ghost use Rattle.std.specs.Prelude.{◌≡◌, ◌≤◌, ℕ, ◌+◌, List, length, drop};
+ghost use Rattle.cell_bits.specs.Broken.{Unbroken};
+ghost use Rattle.flux_base.specs.declared.track.TrackId.{TrackId};
+ghost use Rattle.frame_law.specs.Laws.{ReadingsAreAll, ReadingsAreOne, SectorsAreTold};
+ghost use Rattle.track_rings.specs.Rings.{AreSectors, IsSectorNumber, IsSpaced, LiesAt, bytes_of, stretch};
 
 use crate::Recording;
-use flux_base::TrackId;
 
 /// A list is that of the readings that repeated searches find in a list of cells exactly where it is all that
-/// stands there.
-pub fn readings_are_all<R: Recording>(recording: &R, track: TrackId)
-    ensures { ReadingsAreAll (R.header_at recording.now track) (R.sector_at recording.now track) }
+/// stands there, and so they find one list.
+pub fn readings_are_all<R: Recording>()
+    ensures all { (r : R) (track : TrackId) → ReadingsAreAll (R.header_at r track) (R.sector_at r track) }
+    ensures one { (r : R) (track : TrackId) → ReadingsAreOne (R.header_at r track) (R.sector_at r track) }
+{}
+
+/// The cells tell which header and which sector stands in them.
+pub fn sectors_are_told<R: Recording>()
+    ensures { (r : R) (track : TrackId) → SectorsAreTold (R.header_at r track) (R.sector_at r track) (R.sector_size r) }
+{}
+
+/// The ring of each track is as long as `ring_cells` says, with its neighbouring ones 1 to 4 cells apart, and has
+/// each sector of the track, whole and unbroken, wherever the sector's frame lies whole in a stretch of it.
+pub fn rings_hold_sectors<R: Recording>()
+    ensures length { (r : R) (track : TrackId) (bytes : List ℕ) → R.has_track r track
+        → AreSectors (R.sectors r track) (R.sector_size r) bytes
+        → length (R.ring r track bytes) ≡ R.ring_cells r track }
+    ensures spaced { (r : R) (track : TrackId) (bytes : List ℕ) → R.has_track r track
+        → AreSectors (R.sectors r track) (R.sector_size r) bytes → IsSpaced 1 4 (R.ring r track bytes) }
+    ensures stand { (r : R) (track : TrackId) (bytes : List ℕ) (s from count place : ℕ) → R.has_track r track
+        → AreSectors (R.sectors r track) (R.sector_size r) bytes
+        → IsSectorNumber (R.first_sector r) (R.sectors r track) s
+        → LiesAt (R.ring_cells r track) (R.sector_place r track s) (R.frame_cells r) from count place
+        → R.sector_at r track (drop place (stretch (R.ring r track bytes) from count)) s
+        (bytes_of (R.first_sector r) (R.sector_size r) bytes s) }
+    ensures whole { (r : R) (track : TrackId) (bytes : List ℕ) (s : ℕ) → R.has_track r track
+        → AreSectors (R.sectors r track) (R.sector_size r) bytes
+        → IsSectorNumber (R.first_sector r) (R.sectors r track) s
+        → (R.sector_place r track s + R.frame_cells r ≤ R.ring_cells r track)
+        × Unbroken (R.ring r track bytes) (R.sector_place r track s) (R.sector_place r track s + R.frame_cells r) }
 {}

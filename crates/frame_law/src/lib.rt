@@ -5,12 +5,13 @@
 
 mod cells_from;
 mod laws;
+mod one_of_two;
 mod reading;
 mod recording;
 mod search;
 
 pub use cells_from::CellsFrom;
-pub use laws::readings_are_all;
+pub use laws::{readings_are_all, rings_hold_sectors, sectors_are_told};
 pub use reading::{Reading, SectorBuffer};
 pub use recording::Recording;
 pub use search::next_reading;

@@ -20,18 +20,16 @@ pub trait Recording {
     const SHORTEST: u8;
     /// The greatest distance of neighbouring ones of a ring, in cells, at most 4.
     const LONGEST: u8;
-    /// The cells with which each header begins, as a number, high bit first: what a search looks for.
-    const SYNC: u32;
-    /// How many cells these are, 1 to 32.
-    const SYNC_CELLS: u8;
 
     ghost SHORTEST: { ℕ };
 
     ghost LONGEST: { ℕ };
 
-    ghost SYNC: { ℕ };
+    /// The cells with which each header begins, as a number, high bit first: what a search looks for.
+    ghost sync: { Self → ℕ };
 
-    ghost SYNC_CELLS: { ℕ };
+    /// How many cells these are, 1 to 32.
+    ghost sync_cells: { Self → ℕ };
 
     /// The track is one of the recording's.
     ghost has_track: { Self → TrackId → Type 0 };
@@ -58,6 +56,14 @@ pub trait Recording {
     ghost sector_size: { Self → ℕ };
 
     ghost ring_cells: { Self → TrackId → ℕ };
+
+    /// The cells with which each header begins, as a number, high bit first.
+    fn sync(&self) -> u32
+        ensures { result ≡ sync self.now };
+
+    /// How many cells these are, 1 to 32.
+    fn sync_cells(&self) -> u8
+        ensures { result ≡ sync_cells self.now };
 
     /// The number of a track's first sector.
     fn first_sector(&self) -> u8
@@ -103,10 +109,10 @@ pub trait Recording {
             Reads (header_at self.now track here) (sector_at self.now track here) result buffer.new.items };
 
     /// Each header begins with the sync cells.
-    ghost sync_size: { (1 ≤ SYNC_CELLS) × (SYNC_CELLS ≤ 32) };
+    ghost sync_size: { (r : Self) → (1 ≤ sync_cells r) × (sync_cells r ≤ 32) };
 
     ghost sync_leads: { (r : Self) (track : TrackId) (cells : List Bool) (s : ℕ) →
-        header_at r track cells s → Stands cells SYNC SYNC_CELLS 0 };
+        header_at r track cells s → Stands cells (sync r) (sync_cells r) 0 };
 
     /// What stands is one thing: no two headers, and no two contents of sectors, stand in the same cells.
     ghost one_header: { (r : Self) (track : TrackId) (cells : List Bool) (s t : ℕ) →

@@ -21,8 +21,10 @@ pub fn next_reading<R: Recording>(
         FirstReading header sector cells.now.cells from result buffer.new.items }
     ensures within { IfSome result (λ found. found.0 < length cells.now.cells) }
 {
+    let sync = recording.sync();
+    let sync_cells = recording.sync_cells();
     let mut start = from;
-    while let Some(place) = cells.find_word(start, cells.len(), R::SYNC, R::SYNC_CELLS) {
+    while let Some(place) = cells.find_word(start, cells.len(), sync, sync_cells) {
         match recording.read_at(cells, place, track, buffer) {
             Reading::Nothing => start = place + 1,
             reading => return Some((place, reading)),

@@ -23,17 +23,13 @@ impl Recording for IbmFm {
 
     const LONGEST: u8 = 2;
 
-    const SYNC: u32 = FM_ID_MARK;
-
-    const SYNC_CELLS: u8 = MARK_CELLS;
-
     ghost SHORTEST = { 1 };
 
     ghost LONGEST = { 2 };
 
-    ghost SYNC = { 0xF57E };
+    ghost sync = { λ r. 0xF57E };
 
-    ghost SYNC_CELLS = { 16 };
+    ghost sync_cells = { λ r. 16 };
 
     ghost has_track = { λ r track. IsTrack track };
 
@@ -54,6 +50,14 @@ impl Recording for IbmFm {
     ghost sector_size = { λ r. 128 };
 
     ghost ring_cells = { λ r track. 83328 };
+
+    fn sync(&self) -> u32 {
+        FM_ID_MARK
+    }
+
+    fn sync_cells(&self) -> u8 {
+        MARK_CELLS
+    }
 
     fn first_sector(&self) -> u8 {
         FIRST_SECTOR
@@ -99,7 +103,7 @@ impl Recording for IbmFm {
         Reading::Bad { sector }
     }
 
-    ghost sync_size = { (lit≤ tt, lit≤ tt) };
+    ghost sync_size = { λ r. (lit≤ tt, lit≤ tt) };
 
     ghost sync_leads = { λ r track cells s header. sync_leads track cells s header };
 

@@ -27,17 +27,13 @@ impl Recording for IbmMfm {
 
     const LONGEST: u8 = 4;
 
-    const SYNC: u32 = TWO_MARKS;
-
-    const SYNC_CELLS: u8 = TWO_MARKS_CELLS;
-
     ghost SHORTEST = { 2 };
 
     ghost LONGEST = { 4 };
 
-    ghost SYNC = { 0x44894489 };
+    ghost sync = { λ r. 0x44894489 };
 
-    ghost SYNC_CELLS = { 32 };
+    ghost sync_cells = { λ r. 32 };
 
     ghost has_track = { λ r track. IsTrack r.sectors track };
 
@@ -58,6 +54,14 @@ impl Recording for IbmMfm {
     ghost sector_size = { λ r. 512 };
 
     ghost ring_cells = { λ r track. ring_cells_of r.sectors };
+
+    fn sync(&self) -> u32 {
+        TWO_MARKS
+    }
+
+    fn sync_cells(&self) -> u8 {
+        TWO_MARKS_CELLS
+    }
 
     fn first_sector(&self) -> u8 {
         FIRST_SECTOR
@@ -103,7 +107,7 @@ impl Recording for IbmMfm {
         Reading::Bad { sector }
     }
 
-    ghost sync_size = { (lit≤ tt, lit≤ tt) };
+    ghost sync_size = { λ r. (lit≤ tt, lit≤ tt) };
 
     ghost sync_leads = { λ r track cells s header. sync_leads r.sectors track cells s header };
 

@@ -1,0 +1,126 @@
+//! One of two recordings is a recording: all that it says is what the one says that is there.
+
+ghost use Rattle.std.specs.Prelude.{◌≡◌, ℕ, ◌≤◌, length, min, max};
+ghost use Rattle.std.proofs.Common.{arith};
+ghost use Rattle.either.specs.declared.Either.TheVariants.{Left, Right};
+ghost use Rattle.frame_law.specs.Spacing.{spaced_wider};
+
+use crate::{Reading, Recording, SectorBuffer};
+use cell_bits::Cells;
+use either::{Either, for_both};
+use flux_base::{Memory, TrackId};
+
+impl<A: Recording, B: Recording> Recording for Either<A, B> {
+    const SHORTEST: u8 = if A::SHORTEST < B::SHORTEST {
+        A::SHORTEST
+    } else {
+        B::SHORTEST
+    };
+
+    const LONGEST: u8 = if A::LONGEST < B::LONGEST {
+        B::LONGEST
+    } else {
+        A::LONGEST
+    };
+
+    ghost SHORTEST = { min A.SHORTEST B.SHORTEST };
+
+    ghost LONGEST = { max A.LONGEST B.LONGEST };
+
+    ghost sync = { elim [ Left r ↦ A.sync r | Right r ↦ B.sync r ] };
+
+    ghost sync_cells = { elim [ Left r ↦ A.sync_cells r | Right r ↦ B.sync_cells r ] };
+
+    ghost has_track = { elim [ Left r ↦ A.has_track r | Right r ↦ B.has_track r ] };
+
+    ghost header_at = { elim [ Left r ↦ A.header_at r | Right r ↦ B.header_at r ] };
+
+    ghost sector_at = { elim [ Left r ↦ A.sector_at r | Right r ↦ B.sector_at r ] };
+
+    ghost ring = { elim [ Left r ↦ A.ring r | Right r ↦ B.ring r ] };
+
+    ghost sector_place = { elim [ Left r ↦ A.sector_place r | Right r ↦ B.sector_place r ] };
+
+    ghost frame_cells = { elim [ Left r ↦ A.frame_cells r | Right r ↦ B.frame_cells r ] };
+
+    ghost first_sector = { elim [ Left r ↦ A.first_sector r | Right r ↦ B.first_sector r ] };
+
+    ghost sectors = { elim [ Left r ↦ A.sectors r | Right r ↦ B.sectors r ] };
+
+    ghost sector_size = { elim [ Left r ↦ A.sector_size r | Right r ↦ B.sector_size r ] };
+
+    ghost ring_cells = { elim [ Left r ↦ A.ring_cells r | Right r ↦ B.ring_cells r ] };
+
+    fn sync(&self) -> u32 {
+        for_both!(self, r => r.sync())
+    }
+
+    fn sync_cells(&self) -> u8 {
+        for_both!(self, r => r.sync_cells())
+    }
+
+    fn first_sector(&self) -> u8 {
+        for_both!(self, r => r.first_sector())
+    }
+
+    fn sectors(&self, track: TrackId) -> u8 {
+        for_both!(self, r => r.sectors(track))
+    }
+
+    fn sector_size(&self) -> u16 {
+        for_both!(self, r => r.sector_size())
+    }
+
+    fn ring_cells(&self, track: TrackId) -> u32 {
+        for_both!(self, r => r.ring_cells(track))
+    }
+
+    fn ring(&self, track: TrackId, bytes: &[u8], cells: &mut Cells) -> Result<(), Memory> {
+        for_both!(self, r => r.ring(track, bytes, cells))
+    }
+
+    fn read_at(
+        &self,
+        cells: &Cells,
+        place: usize,
+        track: TrackId,
+        buffer: &mut SectorBuffer,
+    ) -> Reading {
+        for_both!(self, r => r.read_at(cells, place, track, buffer))
+    }
+
+    ghost sync_size = { elim [ Left r ↦ A.sync_size r | Right r ↦ B.sync_size r ] };
+
+    ghost sync_leads = { elim [ Left r ↦ A.sync_leads r | Right r ↦ B.sync_leads r ] };
+
+    ghost one_header = { elim [ Left r ↦ A.one_header r | Right r ↦ B.one_header r ] };
+
+    ghost one_content = { elim [ Left r ↦ A.one_content r | Right r ↦ B.one_content r ] };
+
+    ghost header_of_sector = { elim [ Left r ↦ A.header_of_sector r | Right r ↦ B.header_of_sector r ] };
+
+    ghost header_number = { elim [ Left r ↦ A.header_number r | Right r ↦ B.header_number r ] };
+
+    ghost content_size = { elim [ Left r ↦ A.content_size r | Right r ↦ B.content_size r ] };
+
+    ghost sizes = { elim [ Left r ↦ A.sizes r | Right r ↦ B.sizes r ] };
+
+    ghost ring_length = { elim [ Left r ↦ A.ring_length r | Right r ↦ B.ring_length r ] };
+
+    ghost distances = { (
+      Prim.omega (arith, A.distances.0, B.distances.0),
+      Prim.omega (arith, A.distances.1, B.distances.1),
+      Prim.omega (arith, A.distances.2, B.distances.2),
+    ) };
+
+    ghost ring_spaced = { elim [
+      | Left r ↦ λ track bytes known sectors.
+          spaced_wider _ _ (Prim.omega arith) (Prim.omega arith) (A.ring_spaced r track bytes known sectors)
+      | Right r ↦ λ track bytes known sectors.
+          spaced_wider _ _ (Prim.omega arith) (Prim.omega arith) (B.ring_spaced r track bytes known sectors)
+    ] };
+
+    ghost sector_stands = { elim [ Left r ↦ A.sector_stands r | Right r ↦ B.sector_stands r ] };
+
+    ghost frame_whole = { elim [ Left r ↦ A.frame_whole r | Right r ↦ B.frame_whole r ] };
+}
