@@ -1,11 +1,12 @@
 -- Where a cell of the list lies in the words that hold it.
-use Rattle.std.proofs.Common.{◌≡◌, ℕ, ◌+◌, ◌-◌, ◌*◌, ◌%◌, ◌^◌, ◌<◌, ◌≤◌, min, Bool, false, ◌==◌, List, [], ◌∷◌, ◌++◌, length, take, get_or, refl, sym, ap, ◌∙◌, subst, arith, length-append, length-take-le, ◌⊎◌, inl, inr}
+use Rattle.std.proofs.Common.{◌≡◌, ℕ, ◌+◌, ◌-◌, ◌*◌, ◌%◌, ◌^◌, ◌<◌, ◌≤◌, min, Bool, false, ◌==◌, List, [], ◌∷◌, ◌++◌, length, take, drop, get_or, refl, sym, ap, ◌∙◌, subst, arith, append_assoc, length-append, length-take-le, ◌⊎◌, inl, inr}
 use Rattle.std.specs.List.{flat_map}
 use Rattle.std.proofs.lemmas.Nat.{shl_whole, pow_pos}
 use Rattle.std.proofs.lemmas.Bool.{cases_lt}
 use Rattle.std.proofs.lemmas.Nat.Bits.{bit_at-zero, bit_at_cat_low, bit_at_cat_high}
-use Rattle.std.proofs.lemmas.List.{get_or_append_left, get_or-append_right, get_or_past}
-use Rattle.std.proofs.lemmas.List.Concat.{get_or-flat_map}
+use Rattle.std.proofs.lemmas.List.{get_or_append_left, get_or-append_right, get_or_past, take-append-drop}
+use Rattle.std.proofs.Math.Seq.{take-append_seam}
+use Rattle.std.proofs.lemmas.List.Concat.{flat_map-append, get_or-flat_map}
 use Rattle.cell_bits.specs.Word.{digit, word_cells}
 use Rattle.cell_bits.specs.WordLaws.{length-word_cells, get_or-word_cells}
 use Rattle.cell_bits.specs.Window.{IsWindow}
@@ -92,3 +93,34 @@ room-grows words words' filled filled' last last' n n' cap cap' e e' more grown 
 pub room-within : (words : List ℕ) (filled last n cap : ℕ) → length words ≡ n → n ≤ cap → n ≤ most_words → filled < 64
     → length (all_cells words filled last) + (64 * min cap most_words + 63 - (64 * n + filled)) ≤ 64 * min cap most_words + 63
 room-within words filled last n cap e capacity most few = omega (arith, length-all words filled last)
+
+-- cells were appended: the first words, and what stood after them, are the cells from before
+pub taken_back : (words words' : List ℕ) (filled last filled' last' : ℕ) (more : List Bool) → filled' < 64
+    → all_cells words' filled' last' ≡ all_cells words filled last ++ more
+    → all_cells (take (length words) words') filled last ≡ all_cells words filled last
+taken_back words words' filled last filled' last' more few is = ap (λ cells. cells ++ word_cells filled last) same
+  where
+    first : List Bool
+    first = flat_map (word_cells 64) (take (length words) words')
+
+    rest : List Bool
+    rest = flat_map (word_cells 64) (drop (length words) words')
+
+    whole : List Bool
+    whole = flat_map (word_cells 64) words
+
+    split : first ++ (rest ++ word_cells filled' last') ≡ whole ++ (word_cells filled last ++ more)
+    split = sym (append_assoc first rest (word_cells filled' last'))
+        ∙ ap (λ cells. cells ++ word_cells filled' last') (sym (flat_map-append (word_cells 64) (take (length words) words') (drop (length words) words')))
+        ∙ ap (λ ws. all_cells ws filled' last') (take-append-drop (length words) words')
+        ∙ is ∙ append_assoc whole (word_cells filled last) more
+
+    enough : length words ≤ length words'
+    enough = omega (arith, ap length is, length-all words' filled' last', length-all words filled last, length-append (all_cells words filled last) more)
+
+    even : length first ≡ length whole
+    even = omega (arith, length-whole (take (length words) words'), length-whole words, length-take-le (length words) words' enough)
+
+    same : first ≡ whole
+    same = sym (take-append_seam first (rest ++ word_cells filled' last')) ∙ ap (take (length first)) split
+        ∙ ap (λ n. take n (whole ++ (word_cells filled last ++ more))) even ∙ take-append_seam whole (word_cells filled last ++ more)

@@ -8,11 +8,13 @@
 #![tactic(auto)]
 
 mod cells;
+mod laws;
 mod marks;
 #[cfg(test)]
 mod tests;
 
 pub use cells::Cells;
+pub use laws::marks_law;
 pub use marks::{
     FM_DATA_MARK, FM_DELETED_DATA_MARK, FM_ID_MARK, FM_INDEX_MARK, MFM_A1_MARK, MFM_C2_MARK,
 };

@@ -36,13 +36,34 @@ impl Cells {
     }
 
     /// Appends the runs of several counts, each of 1 to 4, as `push_run` appends one, but eight runs at a time. Memory
-    /// leaves the runs of some of the first counts behind the list.
+    /// leaves the list as it was.
     pub fn push_short_runs(&mut self, counts: &[u8]) -> Result<(), Memory>
+        requires short { All IsShortRun counts.now }
+        ensures cells { OnOk result (self.new.cells ≡ self.old.cells ++ flat_map run_cells counts.now) }
+        ensures unchanged { OnErr result (self.new.cells ≡ self.old.cells) }
+        ensures room { room self.old ≤ room self.new }
+        ensures few { length (flat_map run_cells counts.now) ≤ 4 * length counts.now }
+        ensures succeeds { length (flat_map run_cells counts.now) ≤ self.old.spare → IsOk result }
+    {
+        let words = self.words.len();
+        let last = self.last;
+        let filled = self.filled;
+        let pushed = self.push_groups(counts);
+        if pushed.is_err() {
+            self.words.truncate(words);
+            self.last = last;
+            self.filled = filled;
+        }
+        pushed
+    }
+
+    /// What `push_short_runs` appends. Memory leaves the runs of some of the first counts at the list's end.
+    fn push_groups(&mut self, counts: &[u8]) -> Result<(), Memory>
         requires short { All IsShortRun counts.now }
         ensures cells { OnOk result (self.new.cells ≡ self.old.cells ++ flat_map run_cells counts.now) }
         ensures part { OnErr result ((k : ℕ) × (self.new.cells ≡ self.old.cells ++ flat_map run_cells (take k counts.now))) }
         ensures room { room self.old ≤ room self.new }
-        ensures succeeds { 4 * length counts.now ≤ self.old.spare → IsOk result }
+        ensures succeeds { length (flat_map run_cells counts.now) ≤ self.old.spare → IsOk result }
     {
         let groups = counts.len() / GROUP;
         for group in 0..groups {
