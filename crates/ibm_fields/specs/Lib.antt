@@ -1,3 +1,4 @@
 pub mod Fields
+pub mod FieldFronts
 pub mod FieldLaws
 pub mod Numbers

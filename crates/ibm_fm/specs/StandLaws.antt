@@ -17,7 +17,7 @@ one_header track cells s t first second =
     let same : address_of track s ≡ address_of track t = sym first.address ∙ second.address in
     cc
 
-one_sync : (cells : List Bool) (p q : ℕ) → OpensData cells p → OpensData cells q → p ≡ q
+pub one_sync : (cells : List Bool) (p q : ℕ) → OpensData cells p → OpensData cells q → p ≡ q
 one_sync cells p q first second =
     one-first (λ (place : ℕ). DataMarkAt cells place ⊎ OtherMarkAt cells place) 112 p q
     first.behind (inl first.opens) first.first second.behind (inl second.opens) second.first

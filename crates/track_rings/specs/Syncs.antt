@@ -131,6 +131,17 @@ fits-append (Some true ∷ first) others (false ∷ xs) ys size fit more = absur
 fits-append (Some false ∷ first) others (true ∷ xs) ys size fit more = absurd (cc)
 fits-append (Some false ∷ first) others (false ∷ xs) ys size fit more = fits-append first others xs ys (omega (arith, size)) fit more
 
+-- a part of what is known
+pub fits-front : (first others : List (Option Bool)) (cells : List Bool) → fits (first ++ others) cells ≡ true → fits first cells ≡ true
+unfolding fits
+fits-front [] others cells fit = refl
+fits-front (known ∷ first) others [] fit = absurd (fits-none known (first ++ others) fit)
+fits-front (None ∷ first) others (cell ∷ cells) fit = fits-front first others cells fit
+fits-front (Some true ∷ first) others (true ∷ cells) fit = fits-front first others cells fit
+fits-front (Some true ∷ first) others (false ∷ cells) fit = absurd (cc)
+fits-front (Some false ∷ first) others (true ∷ cells) fit = absurd (cc)
+fits-front (Some false ∷ first) others (false ∷ cells) fit = fits-front first others cells fit
+
 -- as far as it is known, it stands in all cells that agree
 pub fits-agree : (pattern : List (Option Bool)) (xs ys : List Bool) → AgreeTo (length pattern) xs ys → fits pattern xs ≡ true → fits pattern ys ≡ true
 unfolding fits
@@ -180,55 +191,79 @@ module _ (Test : List Bool → Type 0) where
             subst Here e (second (place - length xs) inside (subst Test there test))
       ]
 
-  -- cells in which it does not begin, and then more
-  pub only-skip : (Here : ℕ → Type 0) (xs ys zs : List Bool) → Nowhere Test xs (ys ++ zs)
-      → Only Test (λ place. Here (length xs + place)) ys zs → Only Test Here (xs ++ ys) zs
-  only-skip Here xs ys zs none more = only-append Here xs ys zs (λ place within test. absurd (none place within test)) more
-
-  pub nowhere-append : (xs ys zs : List Bool) → Nowhere Test xs (ys ++ zs) → Nowhere Test ys zs → Nowhere Test (xs ++ ys) zs
-  nowhere-append xs ys zs first second = only-append (λ place. ⊥) xs ys zs first second
-
-  -- nor does it begin later than the cells in which it does
-  pub only-then : (Here : ℕ → Type 0) (xs ys zs : List Bool) → Only Test Here xs (ys ++ zs) → Nowhere Test ys zs → Only Test Here (xs ++ ys) zs
-  only-then Here xs ys zs first none = only-append Here xs ys zs first (λ place within test. absurd (none place within test))
-
   -- at the first cell alone
   pub only-first : (cell : Bool) (xs ys : List Bool) → Nowhere Test xs ys → Only Test (λ place. place ≡ 0) (cell ∷ xs) ys
   only-first cell xs ys none zero within test = refl
   only-first cell xs ys none (suc place) within test = absurd (none place (omega (arith, within)) test)
 
-  -- pieces in a row, each followed by what later pieces may follow
-  pub nowhere-all : {X : Type 0} (After : List Bool → Type 0) (f : X → List Bool)
-      → ((x : X) (rest : List Bool) → After rest → Nowhere Test (f x) rest × After (f x ++ rest))
-      → (pieces : List X) (rest : List Bool) → After rest → Nowhere Test (flat_map f pieces) rest × After (flat_map f pieces ++ rest)
-  nowhere-all After f each [] rest after = (only-none (λ place. ⊥) rest, after)
-  nowhere-all After f each (piece ∷ pieces) rest after =
-      let more = nowhere-all After f each pieces rest after in
-      let one = each piece (flat_map f pieces ++ rest) more.1 in
-      (nowhere-append (f piece) (flat_map f pieces) rest one.0 more.0, subst After (sym (append_assoc (f piece) (flat_map f pieces) rest)) one.1)
+  -- Cells in which what is tested begins at such places only, where the cells after them are as they have to be; and they give
+  -- what the cells before them ask for.
+  abbrev pub SyncPart : (ℕ → Type 0) → (List Bool → Type 0) → (List Bool → Type 0) → List Bool → Type 0
+  SyncPart Here Needs Gives xs = (rest : List Bool) → Needs rest → Only Test Here xs rest × Gives (xs ++ rest)
+
+  -- nowhere
+  abbrev pub QuietPart : (List Bool → Type 0) → (List Bool → Type 0) → List Bool → Type 0
+  QuietPart Needs Gives xs = SyncPart (λ place. ⊥) Needs Gives xs
+
+  pub part-append : (Here : ℕ → Type 0) (Needs Middle Gives : List Bool → Type 0) (xs ys : List Bool) → SyncPart Here Middle Gives xs
+      → SyncPart (λ place. Here (length xs + place)) Needs Middle ys → SyncPart Here Needs Gives (xs ++ ys)
+  part-append Here Needs Middle Gives xs ys first second rest needs =
+      let more = second rest needs in
+      let one = first (ys ++ rest) more.1 in
+      (only-append Here xs ys rest one.0 more.0, subst Gives (sym (append_assoc xs ys rest)) one.1)
+
+  -- quiet cells, and then more
+  pub part-skip : (Here : ℕ → Type 0) (Needs Middle Gives : List Bool → Type 0) (xs ys : List Bool) → QuietPart Middle Gives xs
+      → SyncPart (λ place. Here (length xs + place)) Needs Middle ys → SyncPart Here Needs Gives (xs ++ ys)
+  part-skip Here Needs Middle Gives xs ys first second =
+      part-append Here Needs Middle Gives xs ys
+      (λ rest middle. (let one = first rest middle in ((λ place within test. absurd (one.0 place within test)), one.1))) second
+
+  -- cells, and then quiet ones
+  pub part-then : (Here : ℕ → Type 0) (Needs Middle Gives : List Bool → Type 0) (xs ys : List Bool) → SyncPart Here Middle Gives xs
+      → QuietPart Needs Middle ys → SyncPart Here Needs Gives (xs ++ ys)
+  part-then Here Needs Middle Gives xs ys first second =
+      part-append Here Needs Middle Gives xs ys first
+      (λ rest needs. (let one = second rest needs in ((λ place within test. absurd (one.0 place within test)), one.1)))
+
+  pub quiet-append : (Needs Middle Gives : List Bool → Type 0) (xs ys : List Bool) → QuietPart Middle Gives xs → QuietPart Needs Middle ys
+      → QuietPart Needs Gives (xs ++ ys)
+  quiet-append Needs Middle Gives xs ys first second = part-append (λ place. ⊥) Needs Middle Gives xs ys first second
+
+  pub quiet-none : (Needs : List Bool → Type 0) → QuietPart Needs Needs []
+  quiet-none Needs rest needs = (only-none (λ place. ⊥) rest, needs)
+
+  -- quiet pieces in a row, any of which may follow any
+  pub quiet-all : {X : Type 0} (Needs : List Bool → Type 0) (f : X → List Bool) → ((x : X) → QuietPart Needs Needs (f x))
+      → (pieces : List X) → QuietPart Needs Needs (flat_map f pieces)
+  quiet-all Needs f each [] = quiet-none Needs
+  quiet-all Needs f each (piece ∷ pieces) =
+      quiet-append Needs Needs Needs (f piece) (flat_map f pieces) (each piece) (quiet-all Needs f each pieces)
 
   -- the sectors of a track, in each of which it begins at one place
-  pub only-sectors : (After : List Bool → Type 0) (f : ℕ → List Bool) (size offset first count : ℕ)
+  pub part-sectors : (Needs : List Bool → Type 0) (f : ℕ → List Bool) (size offset first count : ℕ)
       → ((s : ℕ) → first ≤ s → s < first + count → length (f s) ≡ size)
-      → ((s : ℕ) (rest : List Bool) → first ≤ s → s < first + count → After rest
-      → Only Test (λ place. place ≡ offset) (f s) rest × After (f s ++ rest))
-      → (rest : List Bool) → After rest
-      → Only Test (λ place. (k : ℕ) × (k < count) × (place ≡ k * size + offset)) (flat_map f (range_with_len first count)) rest
-      × After (flat_map f (range_with_len first count) ++ rest)
-  only-sectors After f size offset first zero long each rest after = (λ place within test. absurd (omega (arith, within)), after)
-  only-sectors After f size offset first (suc count) long each rest after =
+      → ((s : ℕ) → first ≤ s → s < first + count → SyncPart (λ place. place ≡ offset) Needs Needs (f s))
+      → SyncPart (λ place. (k : ℕ) × (k < count) × (place ≡ k * size + offset)) Needs Needs (flat_map f (range_with_len first count))
+  part-sectors Needs f size offset first zero long each = λ rest needs. (λ place within test. absurd (omega arith), needs)
+  part-sectors Needs f size offset first (suc count) long each =
       let others = flat_map f (range_with_len (first + 1) count) in
-      let more = only-sectors After f size offset (first + 1) count (λ s least most. long s (omega arith) (omega arith))
-      (λ s next least most. each s next (omega arith) (omega arith)) rest after in
-      let one = each first (others ++ rest) (omega arith) (omega arith) more.1 in
-      let here = long first (omega arith) (omega arith) in (
-        only-append (λ place. (k : ℕ) × (k < suc count) × (place ≡ k * size + offset)) (f first) others rest
-            (λ place within test. (0, omega arith, (let at = one.0 place within test in omega (arith, at))))
-            (λ place within test.
-            let at = more.0 place within test in
-            (at.0 + 1, omega (arith, at.1), (let e : (at.0 + 1) * size ≡ at.0 * size + size = omega arith in omega (arith, at.2, here, e)))),
-        subst After (sym (append_assoc (f first) others rest)) one.1,
-      )
+      let more = part-sectors Needs f size offset (first + 1) count (λ s least most. long s (omega arith) (omega arith))
+      (λ s least most. each s (omega arith) (omega arith)) in
+      let one = each first (omega arith) (omega arith) in
+      let here = long first (omega arith) (omega arith) in
+      part-append (λ place. (k : ℕ) × (k < suc count) × (place ≡ k * size + offset)) Needs Needs Needs (f first) others
+      (λ rest needs.
+      let at = one rest needs in
+      (λ place within test. (0, omega arith, (let e = at.0 place within test in omega (arith, e))), at.1))
+      (λ rest needs.
+      let at = more rest needs in (
+        λ place within test.
+            let place_at = at.0 place within test in
+            let e : (place_at.0 + 1) * size ≡ place_at.0 * size + size = omega arith in
+            (place_at.0 + 1, omega (arith, place_at.1), omega (arith, place_at.2, here, e)),
+        at.1,
+      ))
 
 -- a sync begins in known cells nowhere where it clashes with them
 pub nowhere-known : (sync known : List (Option Bool)) (xs ys : List Bool) (count : ℕ) → length xs ≡ count
