@@ -11,3 +11,5 @@ pub mod Lengths
 pub mod StandLaws
 pub mod FrameLaws
 pub mod RingLaws
+pub mod Syncs
+pub mod OwnLaws

@@ -53,7 +53,7 @@ unfolding ring_of
 close-ring id1 id2 track bytes = close-sectors id1 id2 track bytes (range_with_len 0 (sectors_of track))
 
 -- a sector's parts: the first 30 ones, its frame, and what fills its data block up with the gap behind it
-before_frame : List Bool
+unfoldable pub before_frame : List Bool
 before_frame = replicate 30 true
 
 behind_frame : Zone → List Bool
@@ -87,22 +87,22 @@ sector_parts id1 id2 track bytes s =
     (flat_map-append gcr (data_bytes content) (0x00 ∷ 0x00 ∷ []))
     ∙ frame_parts before_frame ten_ones header fill gap ones data_cells zeros last
 
-sectors_before : ℕ → ℕ → TrackId → List ℕ → ℕ → List Bool
+unfoldable pub sectors_before : ℕ → ℕ → TrackId → List ℕ → ℕ → List Bool
 sectors_before id1 id2 track bytes s = flat_map (sector_cells id1 id2 track bytes) (range_with_len 0 s)
 
 sectors_behind : ℕ → ℕ → TrackId → List ℕ → ℕ → List Bool
 sectors_behind id1 id2 track bytes s = flat_map (sector_cells id1 id2 track bytes) (range_with_len (s + 1) (sectors_of track - 1 - s))
 
-before_in_ring : ℕ → ℕ → TrackId → List ℕ → ℕ → List Bool
+unfoldable pub before_in_ring : ℕ → ℕ → TrackId → List ℕ → ℕ → List Bool
 before_in_ring id1 id2 track bytes s = sectors_before id1 id2 track bytes s ++ before_frame
 
-behind_in_ring : ℕ → ℕ → TrackId → List ℕ → ℕ → List Bool
+pub behind_in_ring : ℕ → ℕ → TrackId → List ℕ → ℕ → List Bool
 behind_in_ring id1 id2 track bytes s = behind_frame (zone_of track) ++ sectors_behind id1 id2 track bytes s
 
 regroup : (b z f g c : List Bool) → b ++ ((z ++ (f ++ g)) ++ c) ≡ (b ++ z) ++ (f ++ (g ++ c))
 regroup b z f g c = simp append_assoc
 
-ring_parts : (id1 id2 : ℕ) (track : TrackId) (bytes : List ℕ) (s : ℕ) → s < sectors_of track
+pub ring_parts : (id1 id2 : ℕ) (track : TrackId) (bytes : List ℕ) (s : ℕ) → s < sectors_of track
     → ring_of id1 id2 track bytes
     ≡ before_in_ring id1 id2 track bytes s ++ (frame_of id1 id2 track s (bytes_of 0 256 bytes s) ++ behind_in_ring id1 id2 track bytes s)
 unfolding ring_of before_in_ring behind_in_ring sectors_before sectors_behind
