@@ -20,17 +20,17 @@ use Rattle.apple_gcr.specs.Spacing.{IsClose, IsClose-append, is_close, unbroken-
 use Rattle.apple_gcr.specs.ValueLaws.{AreBytes, data_nibbles-are, get_or-data_nibbles, length-data_nibbles, length-values_of, values_of-carry, values_of-fit}
 
 -- an address in 4-and-4
-abbrev address_bytes : TrackId → ℕ → List ℕ
+abbrev pub address_bytes : TrackId → ℕ → List ℕ
 address_bytes track sector =
     first_half VOLUME ∷ second_half VOLUME ∷ first_half track.cylinder ∷ second_half track.cylinder
     ∷ first_half sector ∷ second_half sector
     ∷ first_half (check_of VOLUME track.cylinder sector) ∷ second_half (check_of VOLUME track.cylinder sector) ∷ []
 
-address_cells : (track : TrackId) (sector : ℕ) → flat_map four_and_four (address_of track sector) ≡ bytes_cells (address_bytes track sector)
+pub address_cells : (track : TrackId) (sector : ℕ) → flat_map four_and_four (address_of track sector) ≡ bytes_cells (address_bytes track sector)
 unfolding four_and_four bytes_cells word_cells
 address_cells track sector = refl
 
-check-fits : (cylinder sector : ℕ) → cylinder < 256 → sector < 256 → check_of VOLUME cylinder sector < 256
+pub check-fits : (cylinder sector : ℕ) → cylinder < 256 → sector < 256 → check_of VOLUME cylinder sector < 256
 check-fits cylinder sector first second =
     xor_of_8 (bit_xor VOLUME cylinder) sector (xor_of_8 VOLUME cylinder (lit< tt) first) second
 

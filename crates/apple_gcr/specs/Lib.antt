@@ -4,11 +4,13 @@ pub mod Layout
 pub mod Lengths
 pub mod NibbleLaws
 pub mod Nibbles
+pub mod OwnLaws
 pub mod ReadLaws
 pub mod RingLaws
 pub mod Sectors
 pub mod SixAndTwo
 pub mod Spacing
 pub mod StandLaws
+pub mod Syncs
 pub mod Tables
 pub mod ValueLaws

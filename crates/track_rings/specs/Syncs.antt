@@ -43,7 +43,7 @@ pub both_true : (a b : Bool) → (a && b) ≡ true → (a ≡ true) × (b ≡ tr
 both_true true b holds = (refl, holds)
 both_true false b holds = absurd (cc)
 
-clashes-not : (pattern others : List (Option Bool)) (cells : List Bool) → clashes pattern others ≡ true → fits pattern cells ≡ true
+pub clashes-not : (pattern others : List (Option Bool)) (cells : List Bool) → clashes pattern others ≡ true → fits pattern cells ≡ true
     → ¬ (fits others cells ≡ true)
 unfolding fits clashes
 clashes-not [] others cells clash first second = cc
