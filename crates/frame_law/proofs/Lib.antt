@@ -1,3 +1,4 @@
 pub mod AllReadings
+pub mod RowWrites
 pub mod Shifts
 pub mod Skips

@@ -4,14 +4,19 @@
 #![tactic(auto)]
 
 mod cells_from;
+mod frame_reading;
 mod laws;
+mod layout;
 mod one_of_two;
 mod reading;
 mod recording;
+mod ring_writing;
 mod search;
+mod table_recording;
 
 pub use cells_from::CellsFrom;
 pub use laws::{readings_are_all, rings_hold_sectors, sectors_are_told};
+pub use layout::Layout;
 pub use reading::{Reading, SectorBuffer};
 pub use recording::Recording;
 pub use search::next_reading;

@@ -89,6 +89,16 @@ impl<A: Recording, B: Recording> Recording for Either<A, B> {
         for_both!(self, r => r.read_at(cells, place, track, buffer))
     }
 
+    fn read_after_sync(
+        &self,
+        cells: &Cells,
+        place: usize,
+        track: TrackId,
+        buffer: &mut SectorBuffer,
+    ) -> Reading {
+        for_both!(self, r => r.read_after_sync(cells, place, track, buffer))
+    }
+
     ghost sync_size = { elim [ Left r ↦ A.sync_size r | Right r ↦ B.sync_size r ] };
 
     ghost sync_leads = { elim [ Left r ↦ A.sync_leads r | Right r ↦ B.sync_leads r ] };

@@ -108,6 +108,22 @@ pub trait Recording {
         ensures { let here = drop place cells.now.cells in
             Reads (header_at self.now track here) (sector_at self.now track here) result buffer.new.items };
 
+    /// The same, where the caller has found the sync at the place: it is not compared again.
+    fn read_after_sync(
+        &self,
+        cells: &Cells,
+        place: usize,
+        track: TrackId,
+        buffer: &mut SectorBuffer,
+    ) -> Reading
+        requires track { has_track self.now track }
+        requires sync { Stands cells.now.cells (sync self.now) (sync_cells self.now) place }
+        ensures { let here = drop place cells.now.cells in
+            Reads (header_at self.now track here) (sector_at self.now track here) result buffer.new.items }
+    {
+        self.read_at(cells, place, track, buffer)
+    }
+
     /// Each header begins with the sync cells.
     ghost sync_size: { (r : Self) → (1 ≤ sync_cells r) × (sync_cells r ≤ 32) };
 

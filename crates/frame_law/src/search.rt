@@ -25,7 +25,7 @@ pub fn next_reading<R: Recording>(
     let sync_cells = recording.sync_cells();
     let mut start = from;
     while let Some(place) = cells.find_word(start, cells.len(), sync, sync_cells) {
-        match recording.read_at(cells, place, track, buffer) {
+        match recording.read_after_sync(cells, place, track, buffer) {
             Reading::Nothing => start = place + 1,
             reading => return Some((place, reading)),
         }

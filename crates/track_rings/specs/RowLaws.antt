@@ -62,7 +62,17 @@ module _ {X : Type 0} (asks : Bool) (cells_of : Bool → X → List Bool) where
   bit_after-append before [] ys = refl
   bit_after-append before (x ∷ xs) ys = bit_after-append (asks && last_of before (cells_of before x)) xs ys
 
-  -- it is the last cell, where the coding asks
+  -- it is a zero where the coding does not ask
+  pub bit_after-asked : (before : Bool) (xs : List X) → (asks && before) ≡ before → (asks && bit_after before xs) ≡ bit_after before xs
+  unfolding bit_after
+  bit_after-asked before [] is = is
+  bit_after-asked before (x ∷ xs) is = bit_after-asked (asks && last_of before (cells_of before x)) xs (and-twice asks (last_of before (cells_of before x)))
+    where
+      and-twice : (a b : Bool) → (a && (a && b)) ≡ (a && b)
+      and-twice true b = refl
+      and-twice false b = refl
+
+  -- and the last cell, where it asks
   pub bit_after-last : (before : Bool) (xs : List X) → (asks && before) ≡ before
       → bit_after before xs ≡ (asks && last_of before (coded asks cells_of before xs))
   unfolding coded bit_after last_of

@@ -252,6 +252,21 @@ module _ (shortest longest most : ℕ) {X : Type 0} (asks : Bool) (cells_of : Bo
       follow-append (f first) (flat_map f (range_with_len (first + 1) count)) (each first (omega arith) (omega arith))
       (follow-each f (first + 1) count (λ n least most. each n (omega arith) (omega arith)))
 
+  -- as many zeros as the cell before tells
+  seen-of : (a bit : Bool) → (a && bit) ≡ bit → (seen : ℕ) × (seen ≤ 1) × ((a && is_zero seen) ≡ bit)
+  seen-of true true asked = (0, omega arith, refl)
+  seen-of true false asked = (1, omega arith, refl)
+  seen-of false bit asked = (1, omega arith, asked)
+
+  -- so they are unbroken, and so many of their first cells whatever comes after them
+  pub follow-unbroken : (bit : Bool) (xs : List X) (rest : List Bool) (count : ℕ) → (asks && bit) ≡ bit → 1 ≤ most → 0 < longest → longest ≤ 8
+      → MayFollowAll xs → count ≤ length (coded asks cells_of bit xs) → Unbroken (coded asks cells_of bit xs ++ rest) 0 count
+  follow-unbroken bit xs rest count asked zeros some few all size =
+      let seen = seen-of asks bit asked in
+      let spaced = (all seen.0 (omega (arith, seen.1, zeros))).0 in
+      spaced-first shortest longest seen.0 (coded asks cells_of bit xs) rest count some few
+      (subst (λ (b : Bool). is_spaced shortest longest seen.0 (coded asks cells_of b xs) ≡ true) seen.2 spaced) size
+
   -- so a ring of them is spaced, where the cell that its first row asks for is that before its first one
   pub follow-ring : (xs : List X) → 0 < longest → 1 ≤ most → longest ≤ length (coded asks cells_of false xs) → MayFollowAll xs
       → (asks && last_of false (coded asks cells_of false xs)) ≡ false → IsSpaced shortest longest (coded asks cells_of false xs)

@@ -1,0 +1,17 @@
+-- The rows of one of a track's sectors, of its part of the bytes of all.
+use Rattle.std.proofs.Common.{◌≡◌, ℕ, ◌+◌, ◌-◌, ◌*◌, List, take, drop, arith, ap, ◌∙◌}
+use Rattle.track_rings.specs.Rings.{bytes_of}
+use Rattle.track_rings.specs.Rows.{Rows, parts_of, sector_parts, sector_rows}
+
+pub sector_parts-at : {Row : Type 0} (first size : ℕ) (bytes : List ℕ) (table : Rows Row) (index sector begin long : ℕ) (rows : List Row)
+    → sector ≡ first + index → begin ≡ index * size → long ≡ size → rows ≡ sector_rows table
+    → parts_of sector (take (begin + long - begin) (drop begin bytes)) rows ≡ sector_parts first size bytes table (first + index)
+unfolding sector_parts
+sector_parts-at first size bytes table index sector begin long rows number at whole same =
+    let count : begin + long - begin ≡ size = omega (arith, whole) in
+    let offset : begin ≡ (first + index - first) * size =
+    at ∙ ap (λ (n : ℕ). n * size) (let e : index ≡ first + index - first = omega arith in e) in
+    ap (λ (n : ℕ). parts_of n (take (begin + long - begin) (drop begin bytes)) rows) number
+    ∙ ap (λ (n : ℕ). parts_of (first + index) (take n (drop begin bytes)) rows) count
+    ∙ ap (λ (n : ℕ). parts_of (first + index) (take size (drop n bytes)) rows) offset
+    ∙ ap (parts_of (first + index) (bytes_of first size bytes (first + index))) same

@@ -1,0 +1,66 @@
+-- A sector on a track, said once for every recording: its header, and after it its data. What a header names and what data hold
+-- each recording says for itself.
+use Rattle.std.specs.Prelude.{ℕ, ◌+◌, ◌^◌, ◌<◌, ◌≤◌, Bool, List, length}
+use Rattle.cell_bits.specs.Broken.{Unbroken}
+use Rattle.cell_bits.specs.Word.{Stands}
+use Rattle.track_rings.specs.Rings.{IsSectorNumber}
+
+-- A header of so many cells: it begins with the sync, names a sector of the track, and is unbroken.
+pub record HeaderStands (sync sync_cells header_cells first sectors : ℕ) (names : List Bool → ℕ → Type 0) (cells : List Bool) (sector : ℕ) : Type 0 where
+  pub begins : Stands cells sync sync_cells 0
+  pub whole : header_cells ≤ length cells
+  pub named : names cells sector
+  pub known : IsSectorNumber first sectors sector
+  pub unbroken : Unbroken cells 0 header_cells
+
+-- the data's sync begins less than this number of cells after the header
+abbrev pub DATA_REACH : ℕ
+DATA_REACH = 1024
+
+-- the data's sync: the first of all syncs after the header, and within reach
+pub record IsDataSync (header_cells : ℕ) (is_sync : ℕ → Type 0) (sync : ℕ) : Type 0 where
+  pub after : header_cells ≤ sync
+  pub near : sync < header_cells + DATA_REACH
+  pub stands : is_sync sync
+  pub first : (place : ℕ) → header_cells ≤ place → place < sync → ¬ is_sync place
+
+-- The data after a header, of so many cells from their sync on: they hold these bytes, and all cells from the header's begin to
+-- their end are unbroken.
+pub record DataStand (header_cells data_cells : ℕ) (is_sync : List Bool → ℕ → Type 0) (hold : List Bool → ℕ → List ℕ → Type 0)
+    (cells : List Bool) (bytes : List ℕ) : Type 0 where
+  pub sync : ℕ
+  pub first_sync : IsDataSync header_cells (is_sync cells) sync
+  pub whole : sync + data_cells ≤ length cells
+  pub held : hold cells sync bytes
+  pub unbroken : Unbroken cells 0 (sync + data_cells)
+
+-- a sector: its header and its data
+pub record SectorStands (Header Content : Type 0) : Type 0 where
+  pub header : Header
+  pub content : Content
+
+-- What a frame that is written has at its front: the sync, this sector's name, and at the data's place the first sync after the
+-- header, with data that hold these bytes.
+pub record FrameStands (sync sync_cells header_cells data_place : ℕ) (names : List Bool → ℕ → Type 0) (is_sync : List Bool → ℕ → Type 0)
+    (hold : List Bool → ℕ → List ℕ → Type 0) (cells : List Bool) (sector : ℕ) (bytes : List ℕ) : Type 0 where
+  pub begins : Stands cells sync sync_cells 0
+  pub named : names cells sector
+  pub opens : is_sync cells data_place
+  pub first : (place : ℕ) → header_cells ≤ place → place < data_place → ¬ is_sync cells place
+  pub held : hold cells data_place bytes
+
+-- the distances of ones, the cells of a sync and of a header, and how many zeros may stand last in a row
+pub record AreSizes (shortest longest sync_cells header_cells zeros : ℕ) : Type 0 where
+  pub some_cells : 1 ≤ sync_cells
+  pub word : sync_cells ≤ 32
+  pub apart : 1 ≤ shortest
+  pub order : shortest ≤ longest
+  pub near : longest ≤ 4
+  pub header : 4 ≤ header_cells
+  pub last : 1 ≤ zeros
+
+-- the data of a frame that is written begin after its header, within reach, and a frame has at most 2^18 cells
+pub record IsWithinReach (header_cells data_place data_cells : ℕ) : Type 0 where
+  pub after : header_cells ≤ data_place
+  pub near : data_place < header_cells + DATA_REACH
+  pub few : data_place + data_cells ≤ 2 ^ 18

@@ -1,0 +1,77 @@
+//! A sector is read in one way for every recording: its header, and the data at the first sync after it.
+
+ghost use Rattle.std.specs.Prelude.{◌≡◌, ℕ, ◌≤◌, [], List, false, length, IfSome, IfNone, IsTrue};
+ghost use Rattle.cell_bits.specs.Word.{Stands};
+ghost use Rattle.frame_law.specs.Frames.{DataStand, HeaderStands, SectorStands};
+ghost use Rattle.frame_law.specs.Readings.{Reads};
+
+use crate::{CellsFrom, Layout, Reading, SectorBuffer};
+use flux_base::TrackId;
+
+/// What is read at the front of the cells, where the sync stands. The buffer then has a good sector's bytes, and
+/// is else empty.
+pub(crate) fn read_frame<L: Layout>(
+    layout: &L,
+    frame: &CellsFrom,
+    track: TrackId,
+    buffer: &mut SectorBuffer,
+) -> Reading
+    requires track { L.has_track layout.now track }
+    requires sync { Stands frame.now L.SYNC L.SYNC_CELLS 0 }
+    ensures { let header : (s : ℕ) → Type 0 = λ s. HeaderStands L.SYNC L.SYNC_CELLS L.HEADER_CELLS (L.lowest_sector layout.now) (L.sector_count layout.now track) (L.names_sector layout.now track) frame.now s in
+        let content : List ℕ → Type 0 = λ bytes. DataStand L.HEADER_CELLS (L.data_cells layout.now) (L.is_sync layout.now) (L.hold layout.now) frame.now bytes in
+        Reads header (λ s bytes. SectorStands (header s) (content bytes)) result buffer.new.items }
+{
+    buffer.clear();
+    let Some(sector) = header_sector(layout, frame, track) else {
+        return Reading::Nothing;
+    };
+    if read_content(layout, frame, buffer) {
+        return Reading::Good { sector };
+    }
+    buffer.clear();
+    Reading::Bad { sector }
+}
+
+/// The number of the sector whose header, of this track, stands at the front of the cells after the sync.
+fn header_sector<L: Layout>(layout: &L, frame: &CellsFrom, track: TrackId) -> Option<u8>
+    requires track { L.has_track layout.now track }
+    requires sync { Stands frame.now L.SYNC L.SYNC_CELLS 0 }
+    ensures stands { IfSome result (λ s. HeaderStands L.SYNC L.SYNC_CELLS L.HEADER_CELLS (L.lowest_sector layout.now) (L.sector_count layout.now track) (L.names_sector layout.now track) frame.now s) }
+    ensures none { IfNone result ((s : ℕ) → ¬ HeaderStands L.SYNC L.SYNC_CELLS L.HEADER_CELLS (L.lowest_sector layout.now) (L.sector_count layout.now track) (L.names_sector layout.now track) frame.now s) }
+{
+    if frame.len() < L::HEADER_CELLS {
+        return None;
+    }
+    let sector = layout.read_header(frame, track)?;
+    let first = layout.lowest_sector();
+    if sector < first {
+        return None;
+    }
+    if sector - first >= layout.sector_count(track) {
+        return None;
+    }
+    if !frame.unbroken_to(L::HEADER_CELLS) {
+        return None;
+    }
+    Some(sector)
+}
+
+/// Whether data stand after the header at the front of the cells. Then the buffer, which was empty, has them.
+fn read_content<L: Layout>(layout: &L, frame: &CellsFrom, buffer: &mut SectorBuffer) -> bool
+    requires { buffer.old.items ≡ [] }
+    ensures good { IsTrue result → DataStand L.HEADER_CELLS (L.data_cells layout.now) (L.is_sync layout.now) (L.hold layout.now) frame.now buffer.new.items }
+    ensures bad { result ≡ false → (bytes : List ℕ) → ¬ DataStand L.HEADER_CELLS (L.data_cells layout.now) (L.is_sync layout.now) (L.hold layout.now) frame.now bytes }
+{
+    let Some(sync) = layout.find_data(frame) else {
+        return false;
+    };
+    let end = sync + layout.data_cells();
+    if frame.len() < end {
+        return false;
+    }
+    if !frame.unbroken_to(end) {
+        return false;
+    }
+    layout.read_data(frame, sync, buffer)
+}

@@ -1,0 +1,208 @@
+ghost use Rattle.std.specs.Prelude.{◌≡◌, ℕ, ◌+◌, ◌*◌, ◌^◌, ◌<◌, ◌≤◌, ◌⊎◌, ◌&&◌, List, [], ◌++◌, Bool, false, length, IfSome, IfNone, IsTrue};
+ghost use Rattle.cell_bits.specs.Bytes.{last_cell};
+ghost use Rattle.flux_base.specs.declared.track.TrackId.{TrackId};
+ghost use Rattle.frame_law.specs.Frames.{AreSizes, FrameStands, IsDataSync, IsWithinReach};
+ghost use Rattle.frame_law.specs.Writing.{AppendsCells};
+ghost use Rattle.track_rings.specs.Rings.{IsSectorNumber};
+ghost use Rattle.track_rings.specs.Rows.{IsContent, Rows, frame_size, last_of, ring_size, rows_cells, sector_rows};
+ghost use Rattle.track_rings.specs.SectorParts.{AreBytes};
+ghost use Rattle.track_rings.specs.Spaced.{MayFollow};
+
+use crate::{CellsFrom, SectorBuffer};
+use cell_bits::Cells;
+use flux_base::{Memory, TrackId};
+
+/// The table of a recording's tracks and the few facts about it: whoever has these is a
+/// [`Recording`](crate::Recording).
+///
+/// A track is rows, one after another: the lead-in, those of each sector, and the lead-out. An impl says which rows
+/// these are and which cells each has; what a header names; where a sync for data stands, and what data hold. What
+/// all recordings have in common is said in `frame_law`: that a header begins with the sync, that a sector is a
+/// header and the data at the first sync after it, and that both are unbroken.
+pub trait Layout {
+    /// A row of a track, such as a gap, a mark, a sector's address or its bytes.
+    type Row: Copy;
+
+    /// The least distance of neighbouring ones of a ring, in cells.
+    const SHORTEST: u8;
+    /// The greatest distance of neighbouring ones of a ring, in cells, at most 4.
+    const LONGEST: u8;
+    /// The cells with which each header begins, as a number, high bit first.
+    const SYNC: u32;
+    /// How many cells these are, 1 to 32.
+    const SYNC_CELLS: u8;
+    /// The cells of a header, from the begin of its sync to its end.
+    const HEADER_CELLS: usize;
+
+    ghost SHORTEST: { ℕ };
+
+    ghost LONGEST: { ℕ };
+
+    ghost SYNC: { ℕ };
+
+    ghost SYNC_CELLS: { ℕ };
+
+    ghost HEADER_CELLS: { ℕ };
+
+    /// The track is one of the recording's.
+    ghost has_track: { Self → TrackId → Type 0 };
+
+    ghost lowest_sector: { Self → ℕ };
+
+    ghost sector_count: { Self → TrackId → ℕ };
+
+    ghost sector_bytes: { Self → ℕ };
+
+    ghost track_cells: { Self → TrackId → ℕ };
+
+    /// The header at the front of the cells, which are as many as one has, names this sector of this track.
+    ghost names_sector: { Self → TrackId → List Bool → ℕ → Type 0 };
+
+    /// A sync for data, whether it opens them or not, stands at this place of the cells.
+    ghost is_sync: { Self → List Bool → ℕ → Type 0 };
+
+    /// The data of the frame at the front of the cells, whose sync stands at this place, hold these bytes.
+    ghost hold: { Self → List Bool → ℕ → List ℕ → Type 0 };
+
+    /// How many cells data have, from the begin of their sync on.
+    ghost data_cells: { Self → ℕ };
+
+    /// The rows of a track.
+    ghost rows: { Self → TrackId → Rows Self.Row };
+
+    /// The coding asks for the cell before what it codes.
+    ghost asks: { Bool };
+
+    /// The cells of a row for this sector with these bytes, after the cell that the coding asks for.
+    ghost row_cells: { Self → TrackId → Bool → ℕ → List ℕ → Self.Row → List Bool };
+
+    /// How many cells a row has where there are so many bytes.
+    ghost row_size: { Self → TrackId → ℕ → Self.Row → ℕ };
+
+    /// The most zeros that stand at the end of a row.
+    ghost last_zeros: { ℕ };
+
+    /// The place of the data's sync in a frame that is written.
+    ghost data_place: { Self → ℕ };
+
+    /// The number of a track's first sector.
+    fn lowest_sector(&self) -> u8
+        ensures { result ≡ lowest_sector self.now };
+
+    /// How many sectors the track has.
+    fn sector_count(&self, track: TrackId) -> u8
+        requires { has_track self.now track }
+        ensures { result ≡ sector_count self.now track };
+
+    /// How many bytes a sector has.
+    fn sector_bytes(&self) -> u16
+        ensures { result ≡ sector_bytes self.now };
+
+    /// How many cells the track's ring has.
+    fn track_cells(&self, track: TrackId) -> u32
+        requires { has_track self.now track }
+        ensures { result ≡ track_cells self.now track };
+
+    /// How many cells data have, from the begin of their sync on.
+    fn data_cells(&self) -> usize
+        ensures { result ≡ data_cells self.now };
+
+    /// The rows before the track's first sector.
+    fn lead_in(&self, track: TrackId) -> &[Self::Row]
+        requires { has_track self.now track }
+        ensures { result.now ≡ (rows self.now track).lead_in };
+
+    /// The rows of each sector.
+    fn sector_rows(&self, track: TrackId) -> &[Self::Row]
+        requires { has_track self.now track }
+        ensures { result.now ≡ sector_rows (rows self.now track) };
+
+    /// The rows after the track's last sector.
+    fn lead_out(&self, track: TrackId) -> &[Self::Row]
+        requires { has_track self.now track }
+        ensures { result.now ≡ (rows self.now track).lead_out };
+
+    /// Appends a row for this sector with these bytes. Rows outside of sectors get the first sector's number and
+    /// no bytes, of which they have no use.
+    fn append_row(
+        &self,
+        track: TrackId,
+        sector: u8,
+        bytes: &[u8],
+        row: Self::Row,
+        cells: &mut Cells,
+    ) -> Result<(), Memory>
+        requires track { has_track self.now track }
+        requires sector { IsSectorNumber (lowest_sector self.now) (sector_count self.now track) sector }
+        requires bytes { (length bytes.now ≡ 0) ⊎ (length bytes.now ≡ sector_bytes self.now) }
+        ensures { let before = asks && last_cell cells.old.cells in
+            AppendsCells cells.old cells.new (row_cells self.now track before sector bytes.now row) result };
+
+    /// The sector of this track that the header at the front of the cells names.
+    fn read_header(&self, frame: &CellsFrom, track: TrackId) -> Option<u8>
+        requires track { has_track self.now track }
+        requires whole { HEADER_CELLS ≤ length frame.now }
+        ensures named { IfSome result (λ sector. names_sector self.now track frame.now sector) }
+        ensures none { IfNone result ((sector : ℕ) → ¬ names_sector self.now track frame.now sector) };
+
+    /// The place of the first sync after the header at the front of the cells, where it is within reach.
+    fn find_data(&self, frame: &CellsFrom) -> Option<usize>
+        ensures first { IfSome result (λ sync. IsDataSync HEADER_CELLS (is_sync self.now frame.now) sync) }
+        ensures none { IfNone result ((sync : ℕ) → ¬ IsDataSync HEADER_CELLS (is_sync self.now frame.now) sync) };
+
+    /// Whether the data whose sync stands at the place hold bytes. Then the buffer, which was empty, has them.
+    fn read_data(&self, frame: &CellsFrom, sync: usize, buffer: &mut SectorBuffer) -> bool
+        requires sync { IsDataSync HEADER_CELLS (is_sync self.now frame.now) sync }
+        requires whole { sync + data_cells self.now ≤ length frame.now }
+        requires empty { buffer.old.items ≡ [] }
+        ensures good { IsTrue result → hold self.now frame.now sync buffer.new.items }
+        ensures bad { result ≡ false → (bytes : List ℕ) → ¬ hold self.now frame.now sync bytes };
+
+    /// The distances of ones are 1 to 4 cells, a sync has 1 to 32, and a header has four at least.
+    ghost sizes: { AreSizes SHORTEST LONGEST SYNC_CELLS HEADER_CELLS last_zeros };
+
+    /// A sector's number has 8 bits, and its bytes fit the buffer.
+    ghost counts: { (r : Self) (track : TrackId) → has_track r track →
+        (1 ≤ sector_count r track) × (lowest_sector r + sector_count r track ≤ 256) × (sector_bytes r ≤ 512) };
+
+    /// The data of a frame that is written begin within reach of its header.
+    ghost reach: { (r : Self) → IsWithinReach HEADER_CELLS (data_place r) (data_cells r) };
+
+    /// The rows of a frame end where its data do, and all rows together are the track's ring.
+    ghost sums: { (r : Self) (track : TrackId) → has_track r track →
+        (frame_size (row_size r track) (sector_bytes r) (rows r track) ≡ data_place r + data_cells r)
+        × (ring_size (row_size r track) (sector_count r track) (sector_bytes r) (rows r track) ≡ track_cells r track)
+        × (track_cells r track ≤ 2 ^ 18) };
+
+    /// A row has the cells that are counted for it.
+    ghost row_length: { (r : Self) (track : TrackId) (before : Bool) (s : ℕ) (bytes : List ℕ) (row : Self.Row) →
+        length (row_cells r track before s bytes row) ≡ row_size r track (length bytes) row };
+
+    /// Any row may follow any other: its ones are spaced, and few zeros stand last.
+    ghost row_follows: { (r : Self) (track : TrackId) (s : ℕ) (bytes : List ℕ) (row : Self.Row) →
+        has_track r track → IsContent (lowest_sector r) (sector_count r track) (sector_bytes r) s bytes →
+        MayFollow SHORTEST LONGEST last_zeros asks (λ before. row_cells r track before s bytes row) };
+
+    /// A track ends as it begins: where the coding asks for the cell before the ring's first one, a zero stands last.
+    ghost ends: { (r : Self) (track : TrackId) (before : Bool) → has_track r track →
+        let last = rows_cells asks (row_cells r track) before (lowest_sector r) [] (rows r track).lead_out in
+        (asks && last_of before last) ≡ false };
+
+    /// What cells name and hold is one thing.
+    ghost one_name: { (r : Self) (track : TrackId) (cells : List Bool) (s t : ℕ) →
+        names_sector r track cells s → names_sector r track cells t → s ≡ t };
+
+    ghost one_content: { (r : Self) (cells : List Bool) (sync : ℕ) (xs ys : List ℕ) →
+        hold r cells sync xs → hold r cells sync ys → xs ≡ ys };
+
+    ghost content_size: { (r : Self) (cells : List Bool) (sync : ℕ) (xs : List ℕ) →
+        hold r cells sync xs → length xs ≡ sector_bytes r };
+
+    /// The rows of a frame are read back, whatever comes after them: its header names the sector, and its data hold
+    /// the sector's bytes.
+    ghost frame_stands: { (r : Self) (track : TrackId) (s : ℕ) (bytes : List ℕ) (before : Bool) (rest : List Bool) →
+        has_track r track → IsSectorNumber (lowest_sector r) (sector_count r track) s →
+        AreBytes bytes → length bytes ≡ sector_bytes r →
+        FrameStands SYNC SYNC_CELLS HEADER_CELLS (data_place r) (names_sector r track) (is_sync r) (hold r)
+        (rows_cells asks (row_cells r track) before s bytes (rows r track).frame ++ rest) s bytes };
+}

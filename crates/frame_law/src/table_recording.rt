@@ -1,0 +1,164 @@
+//! Whoever has a table of its tracks is a recording.
+
+ghost use Rattle.std.specs.Prelude.{◌≡◌, ℕ, ◌+◌, ◌*◌, ◌<◌, ◌≤◌, List, Bool, length};
+ghost use Rattle.std.proofs.Common.{arith, refl, subst};
+ghost use Rattle.frame_law.specs.Frames.{DataStand, HeaderStands, SectorStands};
+ghost use Rattle.frame_law.specs.FrameLaws.{frame_within, one_content, ring_length, ring_spaced, sector_stands};
+ghost use Rattle.track_rings.specs.Rows.{place_of, ring_of};
+
+use crate::frame_reading::read_frame;
+use crate::ring_writing::append_track;
+use crate::{CellsFrom, Layout, Reading, Recording, SectorBuffer};
+use cell_bits::Cells;
+use flux_base::{Memory, TrackId};
+
+impl<L: Layout> Recording for L {
+    const SHORTEST: u8 = L::SHORTEST;
+
+    const LONGEST: u8 = L::LONGEST;
+
+    ghost SHORTEST = { L.SHORTEST };
+
+    ghost LONGEST = { L.LONGEST };
+
+    ghost sync = { λ r. L.SYNC };
+
+    ghost sync_cells = { λ r. L.SYNC_CELLS };
+
+    ghost has_track = { λ r track. L.has_track r track };
+
+    ghost header_at = { λ r track cells s.
+        HeaderStands L.SYNC L.SYNC_CELLS L.HEADER_CELLS (L.lowest_sector r) (L.sector_count r track) (L.names_sector r track) cells s };
+
+    ghost sector_at = { λ r track cells s bytes.
+        SectorStands
+        (HeaderStands L.SYNC L.SYNC_CELLS L.HEADER_CELLS (L.lowest_sector r) (L.sector_count r track) (L.names_sector r track) cells s)
+        (DataStand L.HEADER_CELLS (L.data_cells r) (L.is_sync r) (L.hold r) cells bytes) };
+
+    ghost ring = { λ r track bytes.
+        ring_of L.asks (L.row_cells r track) (L.lowest_sector r) (L.sector_count r track) (L.sector_bytes r) bytes (L.rows r track) };
+
+    ghost sector_place = { λ r track s.
+        place_of (L.row_size r track) (L.lowest_sector r) (L.sector_bytes r) (L.rows r track) s };
+
+    ghost frame_cells = { λ r. L.data_place r + L.data_cells r };
+
+    ghost first_sector = { λ r. L.lowest_sector r };
+
+    ghost sectors = { λ r track. L.sector_count r track };
+
+    ghost sector_size = { λ r. L.sector_bytes r };
+
+    ghost ring_cells = { λ r track. L.track_cells r track };
+
+    fn sync(&self) -> u32 {
+        L::SYNC
+    }
+
+    fn sync_cells(&self) -> u8 {
+        L::SYNC_CELLS
+    }
+
+    fn first_sector(&self) -> u8 {
+        self.lowest_sector()
+    }
+
+    fn sectors(&self, track: TrackId) -> u8 {
+        self.sector_count(track)
+    }
+
+    fn sector_size(&self) -> u16 {
+        self.sector_bytes()
+    }
+
+    fn ring_cells(&self, track: TrackId) -> u32 {
+        self.track_cells(track)
+    }
+
+    fn ring(&self, track: TrackId, bytes: &[u8], cells: &mut Cells) -> Result<(), Memory> {
+        cells.clear();
+        let written = append_track(self, track, bytes, cells);
+        if written.is_err() {
+            cells.clear();
+        }
+        written
+    }
+
+    fn read_at(
+        &self,
+        cells: &Cells,
+        place: usize,
+        track: TrackId,
+        buffer: &mut SectorBuffer,
+    ) -> Reading {
+        let frame = CellsFrom::new(cells, place);
+        if frame.stands_at(0, L::SYNC, L::SYNC_CELLS) {
+            return read_frame(self, &frame, track, buffer);
+        }
+        buffer.clear();
+        Reading::Nothing
+    }
+
+    fn read_after_sync(
+        &self,
+        cells: &Cells,
+        place: usize,
+        track: TrackId,
+        buffer: &mut SectorBuffer,
+    ) -> Reading {
+        read_frame(self, &CellsFrom::new(cells, place), track, buffer)
+    }
+
+    ghost sync_size = { λ r. (L.sizes.some_cells, L.sizes.word) };
+
+    ghost sync_leads = { λ r track cells s header. header.begins };
+
+    ghost one_header = { λ r track cells s t first second. L.one_name r track cells s t first.named second.named };
+
+    ghost one_content = { λ r track cells s t xs ys first second.
+        one_content L.HEADER_CELLS (L.data_cells r) (L.is_sync r) (L.hold r) cells xs ys (L.one_content r cells)
+        first.content second.content };
+
+    ghost header_of_sector = { λ r track cells s xs sector. sector.header };
+
+    ghost header_number = { λ r track cells s known header. header.known };
+
+    ghost content_size = { λ r track cells s xs sector.
+        L.content_size r cells sector.content.sync xs sector.content.held };
+
+    ghost sizes = { λ r track known.
+        ((L.counts r track known).1, (L.counts r track known).2, (L.sums r track known).2) };
+
+    ghost ring_length = { λ r track bytes known given.
+        ring_length L.asks (L.row_cells r track) (L.row_size r track) (L.row_length r track)
+        (L.lowest_sector r) (L.sector_count r track) (L.sector_bytes r) (L.rows r track) bytes (L.track_cells r track)
+        given.whole (L.sums r track known).1 };
+
+    ghost distances = { (L.sizes.apart, L.sizes.order, L.sizes.near) };
+
+    ghost ring_spaced = { λ r track bytes known given.
+        ring_spaced L.asks (L.row_cells r track) (L.row_size r track) (L.row_length r track)
+        (L.lowest_sector r) (L.sector_count r track) (L.sector_bytes r) (L.rows r track)
+        L.SHORTEST L.LONGEST L.last_zeros L.SYNC_CELLS L.HEADER_CELLS L.sizes
+        (λ s content row. L.row_follows r track s content row known)
+        bytes (L.data_place r) (L.data_cells r) (L.counts r track known).0 (L.reach r) given (L.sums r track known).0
+        (λ before. L.ends r track before known) };
+
+    ghost sector_stands = { λ r track bytes s from count place known given number lies.
+        sector_stands L.asks (L.row_cells r track) (L.row_size r track) (L.row_length r track)
+        (L.lowest_sector r) (L.sector_count r track) (L.sector_bytes r) (L.rows r track)
+        L.SHORTEST L.LONGEST L.last_zeros L.SYNC_CELLS L.HEADER_CELLS L.sizes
+        (λ n content row. L.row_follows r track n content row known)
+        (L.data_cells r) L.SYNC (L.data_place r) (L.is_sync r) (L.hold r) (L.names_sector r track)
+        bytes s from count place (L.track_cells r track) given number
+        (λ content before rest fit long. L.frame_stands r track s content before rest known number fit long)
+        (L.sums r track known).0 (L.sums r track known).1 (L.reach r) lies };
+
+    ghost frame_whole = { λ r track bytes s known given number.
+        frame_within L.asks (L.row_cells r track) (L.row_size r track) (L.row_length r track)
+        (L.lowest_sector r) (L.sector_count r track) (L.sector_bytes r) (L.rows r track)
+        L.SHORTEST L.LONGEST L.last_zeros L.SYNC_CELLS L.HEADER_CELLS L.sizes
+        (λ n content row. L.row_follows r track n content row known)
+        bytes s (L.track_cells r track) (L.data_place r + L.data_cells r) (L.counts r track known).0 given number
+        (L.sums r track known).0 (L.sums r track known).1 };
+}
