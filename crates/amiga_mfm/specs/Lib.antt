@@ -4,6 +4,8 @@ pub mod Lengths
 pub mod LongLaws
 pub mod Longs
 pub mod Masks
+pub mod OwnLaws
 pub mod RingLaws
+pub mod Syncs
 pub mod Sectors
 pub mod StandLaws

@@ -30,7 +30,7 @@ lead_out-bit : (before : Bool) (track : TrackId) → last_bit before (pieces_sym
 unfolding pieces_symbols
 lead_out-bit before track = refl
 
-ring_bit : (track : TrackId) (bytes : List ℕ) → last_bit false (ring_symbols track bytes) ≡ false
+pub ring_bit : (track : TrackId) (bytes : List ℕ) → last_bit false (ring_symbols track bytes) ≡ false
 unfolding ring_symbols
 ring_bit track bytes =
     last_bit-append false (sectors_symbols track bytes) (pieces_symbols track 0 [] lead_out)
@@ -60,7 +60,7 @@ frame_whole track bytes s number = (
 )
 
 -- a sector's parts: two bytes of zeros, and its frame
-before_frame : List Symbol
+unfoldable pub before_frame : List Symbol
 before_frame = replicate 2 (Data 0x00)
 
 pub halves_symbols-append : (xs ys : List ℕ) → halves_symbols (xs ++ ys) ≡ halves_symbols xs ++ halves_symbols ys
@@ -91,10 +91,10 @@ symbols_of_frame info longs =
     (halves_symbols-append second (third ++ last) ∙ ap (λ (symbols : List Symbol). halves_symbols second ++ symbols) (halves_symbols-append third last)))
     ∙ frame_parts marks (halves_symbols first) (replicate 16 (Data 0x00)) (halves_symbols second) (halves_symbols third) (halves_symbols last)
 
-frame_in_ring : TrackId → List ℕ → ℕ → List Symbol
+unfoldable pub frame_in_ring : TrackId → List ℕ → ℕ → List Symbol
 frame_in_ring track bytes s = frame_symbols (info_of track s) (longs_of (bytes_of 0 512 bytes s))
 
-sector_parts : (track : TrackId) (bytes : List ℕ) (s : ℕ) → sector_symbols track bytes s ≡ before_frame ++ frame_in_ring track bytes s
+pub sector_parts : (track : TrackId) (bytes : List ℕ) (s : ℕ) → sector_symbols track bytes s ≡ before_frame ++ frame_in_ring track bytes s
 unfolding sector_symbols pieces_symbols before_frame frame_in_ring
 sector_parts track bytes s =
     ap (λ (symbols : List Symbol). replicate 2 (Data 0x00) ++ symbols)

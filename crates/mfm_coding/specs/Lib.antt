@@ -1,4 +1,5 @@
 pub mod Coding
 pub mod CodingLaws
+pub mod MarkPlaces
 pub mod Spacing
 pub mod Writes

@@ -3,6 +3,7 @@ use Rattle.std.specs.Prelude.{◌≡◌, ℕ, zero, suc, ◌+◌, ◌-◌, ◌*�
 use Rattle.std.specs.List.{flat_map, range_with_len}
 use Rattle.std.proofs.Common.{ap, sym, subst, ◌∙◌, arith, inl, inr, append_assoc, length-append}
 use Rattle.std.proofs.lemmas.Bool.{cases_lt}
+use Rattle.std.proofs.lemmas.List.{drop-drop}
 use Rattle.track_rings.specs.Fronts.{AgreeTo}
 use Rattle.track_rings.specs.Parts.{drop-past}
 
@@ -270,3 +271,11 @@ pub nowhere-known : (sync known : List (Option Bool)) (xs ys : List Bool) (count
     → clashes_at_all sync count known ≡ true → fits known (xs ++ ys) ≡ true → Nowhere (Syncs sync) xs ys
 nowhere-known sync known xs ys count size clash fit place within stands =
     clashes-nowhere sync count known (xs ++ ys) place clash fit (omega (arith, size, within)) stands
+
+-- the same of some places of known cells
+pub nowhere-from : (sync known : List (Option Bool)) (cells : List Bool) (start count place : ℕ) → clashes_at_all sync count (drop start known) ≡ true
+    → fits known cells ≡ true → start ≤ place → place < start + count → ¬ (fits sync (drop place cells) ≡ true)
+nowhere-from sync known cells start count place clash fit above below stands =
+    let e : start + (place - start) ≡ place = omega arith in
+    clashes-nowhere sync count (drop start known) (drop start cells) (place - start) clash (fits-drop start known cells fit) (omega arith)
+    (subst (λ (rest : List Bool). fits sync rest ≡ true) (sym (drop-drop (place - start) start cells ∙ ap (λ (n : ℕ). drop n cells) e)) stands)
