@@ -15,10 +15,11 @@ use Rattle.sector_images.specs.Places.{TracksFillImages, TracksJoin, bytes_of, p
 use Rattle.sector_images.specs.declared.format.Format.{Format}
 use Rattle.flux_engine.specs.DiskLaws.{PartsStandAtTheirPlaces, StandsInImage, WholeDisksFillImages}
 use Rattle.flux_engine.specs.Disks.{Stop, AreParts, Decoded, IsDecoded, decoded_count, images, lines, no_totals, part_at, stop_at, stop_of}
-use Rattle.flux_engine.specs.Recordings.{cells_of, header_at, sector_at, sectors_of, track_at}
+use Rattle.disk_recordings.specs.Laws.{TracksAreRead}
+use Rattle.disk_recordings.specs.Members.{header_at, sector_at}
+use Rattle.flux_engine.specs.Recordings.{cells_of, sectors_of, track_at}
 use Rattle.flux_engine.specs.Streams.{has_fault, stream_at}
 use Rattle.flux_engine.specs.Tracks.{Part, IsPart, image_of}
-use Rattle.flux_engine.proofs.ByFormat.{laws_of}
 use Rattle.flux_engine.proofs.Finding.{find-below}
 use Rattle.flux_engine.proofs.GoodSectors.{lengths}
 use Rattle.flux_engine.proofs.Outcomes.{stop_track}
@@ -43,16 +44,15 @@ whole_piece before part rest place size at many =
     ap (take size) gone ∙ ap (λ (n : ℕ). take n (part ++ rest)) (sym many) ∙ take-append_seam part rest
 
 -- a track's part of the image has the track's bytes in number
-part_size : (format : Format) (track : TrackId) (times' indexes' : List ℕ) (part : Part) → IsPart format track times' indexes' part
+part_size : TracksAreRead → (format : Format) (track : TrackId) (times' indexes' : List ℕ) (part : Part) → IsPart format track times' indexes' part
     → length part.image ≡ bytes_of format track
 unfolding image_of
-part_size format track times' indexes' part is =
-    let laws = laws_of format track in
+part_size read format track times' indexes' part is =
     let size : ℕ = (row format).sector_size in
     let count : ℕ = (sectors_of format track).count in
     let turned : size * count ≡ count * size = omega arith in
     ap (λ (p : Part). length p.image) is.is
-    ∙ lengths (header_at format track) (sector_at format track) laws.one_header laws.one_content laws.has_header size laws.content_size
+    ∙ lengths (header_at format track) (sector_at format track) size (read.told format track) (read.all format track)
     times' indexes' (cells_of format track times' indexes') is.found is.all (sectors_of format track) refl (sector_in format track) 0 count
     ∙ turned
 
@@ -92,9 +92,9 @@ tracks_more format n low =
     ∙ ap (λ (m : ℕ). sum_by (bytes_of format) (take n ts) + m) (one ∙ ap (bytes_of format) here)
 
 -- the parts of the first tracks
-module _ (format : Format) (x : List ℕ) (ps : List Part) (are : AreParts format x ps) (few : length ps ≤ length (tracks format)) where
+module _ (read : TracksAreRead) (format : Format) (x : List ℕ) (ps : List Part) (are : AreParts format x ps) (few : length ps ≤ length (tracks format)) where
   pub size_at : (n : ℕ) → n < length ps → length (part_at ps n).image ≡ bytes_of format (track_at format n)
-  size_at n low = part_size format (track_at format n) (times (stream_at x n)) (indexes (stream_at x n)) (part_at ps n) (are n low).comes
+  size_at n low = part_size read format (track_at format n) (times (stream_at x n)) (indexes (stream_at x n)) (part_at ps n) (are n low).comes
 
   size_before : (n : ℕ) → n ≤ length ps → length (images (take n ps)) ≡ sum_by (bytes_of format) (take n (tracks format))
   size_before zero low = refl
@@ -161,12 +161,12 @@ module _ (format : Format) (x : List ℕ) (o : Decoded) (is : IsDecoded format x
   pub stop_is : o.stop ≡ stop_of format x
   stop_is = ap (λ (d : Decoded). d.stop) is.is
 
-pub parts_stand_at_their_places : TracksJoin → PartsStandAtTheirPlaces
-parts_stand_at_their_places joined format x o is n low =
+pub parts_stand_at_their_places : TracksAreRead → TracksJoin → PartsStandAtTheirPlaces
+parts_stand_at_their_places read joined format x o is n low =
     subst (StandsInImage format (track_at format n) (part_at is.parts n).image) (sym (image_is format x o is))
-    (stands format x is.parts is.each (few_parts format x o is) joined n low)
+    (stands read format x is.parts is.each (few_parts format x o is) joined n low)
 
-pub whole_disks_fill_images : TracksFillImages → WholeDisksFillImages
-whole_disks_fill_images filled format x o is ended =
+pub whole_disks_fill_images : TracksAreRead → TracksFillImages → WholeDisksFillImages
+whole_disks_fill_images read filled format x o is ended =
     let all : length is.parts ≡ length (tracks format) = is.many ∙ ap (decoded_count format) (sym (stop_is format x o is) ∙ ended) in
-    ap length (image_is format x o is) ∙ whole format x is.parts is.each (few_parts format x o is) filled all
+    ap length (image_is format x o is) ∙ whole read format x is.parts is.each (few_parts format x o is) filled all

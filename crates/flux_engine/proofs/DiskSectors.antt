@@ -17,10 +17,11 @@ use Rattle.turn_merge.specs.declared.verdict.Verdict.TheVariants.{Good}
 use Rattle.flux_engine.specs.DiskLaws.{EachHasOneVerdict, GoodIsRightOnDisks, HasLine, HasOneVerdict, HasVerdict, IsDecodedSector, IsRightlyGoodOnDisk, LinesNameVerdicts, OthersAreZeros, bytes_at, cells_at, line_number, lines_in}
 use Rattle.flux_engine.specs.Disks.{Decoded, decoded_count, images, last_line, lines, part_at, stop_of, totals_over}
 use Rattle.flux_engine.specs.Laws.{IsRightlyGood}
-use Rattle.flux_engine.specs.Recordings.{header_at, sector_at, sectors_of, track_at}
+use Rattle.disk_recordings.specs.Laws.{TracksAreRead}
+use Rattle.disk_recordings.specs.Members.{header_at, sector_at}
+use Rattle.flux_engine.specs.Recordings.{sectors_of, track_at}
 use Rattle.flux_engine.specs.Streams.{stream_at}
 use Rattle.flux_engine.specs.Tracks.{Found, IsPart, Part, image_bytes, image_of, is_good, line_of, lines_of, part_of, readings_of}
-use Rattle.flux_engine.proofs.ByFormat.{laws_of}
 use Rattle.flux_engine.proofs.DiskParts.{few_parts, image_is, image_split, lines_split, piece_within, place_is, size_at, stop_is}
 use Rattle.flux_engine.proofs.GoodSectors.{in_image}
 use Rattle.flux_engine.proofs.LineNumbers.{Skips, line-first, sectors_on, skips-append, skips-lines, skips-tracks}
@@ -55,7 +56,7 @@ one_more size slots sectors below =
 line_in : (lt a line b rest last : List ℕ) → (lt ++ ((a ++ (line ++ b)) ++ rest)) ++ last ≡ (lt ++ a) ++ (line ++ (b ++ (rest ++ last)))
 line_in lt a line b rest last = simp append_assoc
 
-module _ (format : Format) (x : List ℕ) (o : Decoded) (n sector : ℕ) (s : IsDecodedSector format x o n sector) where
+module _ (read : TracksAreRead) (format : Format) (x : List ℕ) (o : Decoded) (n sector : ℕ) (s : IsDecodedSector format x o n sector) where
   abbrev track : TrackId
   track = track_at format n
 
@@ -84,7 +85,7 @@ module _ (format : Format) (x : List ℕ) (o : Decoded) (n sector : ℕ) (s : Is
     is_part = record { found = h.found; all = h.all; is = refl }
 
     same_part : part_at parts n ≡ my_part
-    same_part = one_part format track times_there indexes_there (part_at parts n) my_part (s.outcome.each n decoded).comes is_part
+    same_part = one_part read format track times_there indexes_there (part_at parts n) my_part (s.outcome.each n decoded).comes is_part
 
     -- its bytes in the whole image are its piece of the track's part
     in_disk : SectorsFillTracks → TracksJoin
@@ -95,11 +96,11 @@ module _ (format : Format) (x : List ℕ) (o : Decoded) (n sector : ℕ) (s : Is
         let at : ℕ = size * slot format sector in
         let few = few_parts format x o s.outcome in
         let fill = fills format track sector s.sector_known in
-        let many = size_at format x parts s.outcome.each few n decoded in
+        let many = size_at read format x parts s.outcome.each few n decoded in
         let inside = one_more size (slot format sector) (sectors_of format track).count fill.0 in
         ap (λ (xs : List ℕ). take {A = ℕ} size (drop (place_of format track + at) xs)) (image_is format x o s.outcome ∙ image_split parts n decoded)
         ∙ piece_within (images (take n parts)) (part_at parts n).image (images (drop (suc n) parts)) (place_of format track) at size
-        (place_is format x parts s.outcome.each few joined n decoded) (omega (arith, many, inside))
+        (place_is read format x parts s.outcome.each few joined n decoded) (omega (arith, many, inside))
         ∙ ap (λ (p : Part). take {A = ℕ} size (drop at p.image)) same_part
 
     -- its piece of the track's part is its data, or zeros
@@ -107,9 +108,8 @@ module _ (format : Format) (x : List ℕ) (o : Decoded) (n sector : ℕ) (s : Is
         → take (row format).sector_size (drop ((row format).sector_size * slot format sector) my_part.image) ≡ image_bytes (sectors_of format track) readings sector
     unfolding image_of
     piece_is fills =
-        let laws = laws_of format track in
         let fill = fills format track sector s.sector_known in
-        in_image (header_at format track) (sector_at format track) laws.one_header laws.one_content laws.has_header (row format).sector_size laws.content_size
+        in_image (header_at format track) (sector_at format track) (row format).sector_size (read.told format track) (read.all format track)
         times_there indexes_there (cells_at format x n) h.found h.all (sectors_of format track) refl (sector_in format track) (slot format sector) fill.0
         ∙ ap (image_bytes (sectors_of format track) readings) fill.1
 
@@ -168,7 +168,7 @@ module _ (format : Format) (x : List ℕ) (o : Decoded) (n sector : ℕ) (s : Is
         let that : IsPart format track times_there indexes_there (part_of format track (readings_of times_there indexes_there (cells_at format x n) h'.found)) =
         record { found = h'.found; all = h'.all; is = refl } in
         let same : h'.found ≡ h.found =
-        one_found format track times_there indexes_there (part_of format track (readings_of times_there indexes_there (cells_at format x n) h'.found)) my_part that is_part in
+        one_found read format track times_there indexes_there (part_of format track (readings_of times_there indexes_there (cells_at format x n) h'.found)) my_part that is_part in
         sym h'.is
         ∙ ap (λ (found : List Found). verdict (readings_of times_there indexes_there (cells_at format x n) found) sector) same
         ∙ h.is
@@ -181,13 +181,13 @@ module _ (format : Format) (x : List ℕ) (o : Decoded) (n sector : ℕ) (s : Is
       let size : ℕ = (row format).sector_size in
       let part = my_part outcome h in
       let r : IsRightlyGood format track times_there indexes_there part sector first =
-      good_is_right fills format track times_there indexes_there part (is_part outcome h) sector goods bads first s.sector_known h.is in
+      good_is_right read fills format track times_there indexes_there part (is_part outcome h) sector goods bads first s.sector_known h.is in
       let place : sector_place format track sector - place_of format track ≡ size * slot format sector = omega arith in
       record {
         bytes = r.bytes;
         stands = r.stands;
         turn = r.turn;
-        size = (laws_of format track).content_size (drop first.cell (cells_at format x n)) sector r.bytes r.stands;
+        size = (read.told format track).content_size (drop first.cell (cells_at format x n)) sector r.bytes r.stands;
         in_image = in_disk outcome h fills joined ∙ ap (λ (k : ℕ). take {A = ℕ} size (drop k part.image)) (sym place) ∙ r.in_image;
         agreed = r.agreed;
       }
@@ -200,14 +200,14 @@ module _ (format : Format) (x : List ℕ) (o : Decoded) (n sector : ℕ) (s : Is
       let own : HasVerdict format x n sector outcome = record { found = comes.found; all = comes.all; is = refl } in
       record { outcome = outcome; has = own; only = only outcome own }
 
-pub each_has_one_verdict : EachHasOneVerdict
-each_has_one_verdict format x o n sector s = has_one format x o n sector s
+pub each_has_one_verdict : TracksAreRead → EachHasOneVerdict
+each_has_one_verdict read format x o n sector s = has_one read format x o n sector s
 
-pub lines_name_verdicts : SectorsHaveOneLine → LinesNameVerdicts
-lines_name_verdicts one format x o n sector s outcome h = has_line format x o n sector s outcome h one
+pub lines_name_verdicts : TracksAreRead → SectorsHaveOneLine → LinesNameVerdicts
+lines_name_verdicts read one format x o n sector s outcome h = has_line read format x o n sector s outcome h one
 
-pub good_is_right_on_disks : SectorsFillTracks → TracksJoin → GoodIsRightOnDisks
-good_is_right_on_disks fills joined format x o n sector s g b first h = good format x o n sector s fills joined g b first h
+pub good_is_right_on_disks : TracksAreRead → SectorsFillTracks → TracksJoin → GoodIsRightOnDisks
+good_is_right_on_disks read fills joined format x o n sector s g b first h = good read format x o n sector s fills joined g b first h
 
-pub others_are_zeros : SectorsFillTracks → TracksJoin → OthersAreZeros
-others_are_zeros fills joined format x o n sector s outcome h other = zeros format x o n sector s outcome h fills joined other
+pub others_are_zeros : TracksAreRead → SectorsFillTracks → TracksJoin → OthersAreZeros
+others_are_zeros read fills joined format x o n sector s outcome h other = zeros read format x o n sector s outcome h fills joined other

@@ -1,9 +1,19 @@
 -- What holds of each member of a list, by the list's parts.
-use Rattle.std.specs.Prelude.{◌≡◌, Bool, true, false, cond, List, [], ◌∷◌, ◌++◌, filter, flat_map, find, Option, Some, None, refl}
+use Rattle.std.specs.Prelude.{◌≡◌, suc, zero, Bool, Contains, true, false, cond, List, [], ◌∷◌, ◌++◌, filter, flat_map, find, Option, Some, None, refl}
+use Rattle.std.proofs.Common.{arith, subst}
 
 abbrev pub Each : {X : Type 0} → (X → Type 0) → List X → Type 0
 Each P [] = Unit {0}
 Each P (x ∷ xs) = P x × Each P xs
+
+pub each-of : {X : Type 0} (P : X → Type 0) (xs : List X) → ((x : X) → Contains xs x → P x) → Each P xs
+each-of P [] all = tt
+each-of P (x ∷ xs) all = (all x (0, omega arith, refl), each-of P xs (λ y has. all y (suc has.0, omega (arith, has.1), has.2)))
+
+pub each-at : {X : Type 0} (P : X → Type 0) (xs : List X) (x : X) → Each P xs → Contains xs x → P x
+each-at P [] x all has = absurd (omega (arith, has.1))
+each-at P (y ∷ xs) x all (zero, within, same) = subst P same all.0
+each-at P (y ∷ xs) x all (suc k, within, same) = each-at P xs x all.1 (k, omega (arith, within), same)
 
 pub each-append : {X : Type 0} (P : X → Type 0) (xs ys : List X) → Each P xs → Each P ys → Each P (xs ++ ys)
 each-append P [] ys first then = then

@@ -1,5 +1,5 @@
 -- A sector with a good verdict.
-use Rattle.std.specs.Prelude.{◌≡◌, ◌<◌, ℕ, zero, suc, ◌+◌, ◌-◌, ◌*◌, Bool, true, false, not, ◌&&◌, List, [], ◌∷◌, ◌++◌, length, take, drop, flat_map, replicate, nat_eq, is_some, is_none, unwrap_or, Option, Some, None, if◌then◌else◌, refl}
+use Rattle.std.specs.Prelude.{◌≡◌, ◌<◌, ℕ, zero, suc, ◌+◌, ◌-◌, ◌*◌, Bool, true, false, not, ◌&&◌, Contains, List, [], ◌∷◌, ◌++◌, length, take, drop, flat_map, replicate, nat_eq, is_some, is_none, unwrap_or, Option, Some, None, if◌then◌else◌, refl}
 use Rattle.std.specs.List.{range_with_len}
 use Rattle.std.specs.Str.{bytes_eq}
 use Rattle.std.proofs.Common.{ap, sym, subst, ◌∙◌, arith, length-append}
@@ -9,14 +9,14 @@ use Rattle.std.proofs.Math.Seq.{drop-append_seam, take-append_seam}
 use Rattle.std.proofs.lemmas.Slice.Eq.{bytes_eq-Decides}
 use Rattle.frame_law.specs.declared.reading.Reading.{Reading as Frame}
 use Rattle.frame_law.specs.declared.reading.Reading.TheVariants.{Nothing, Bad as BadFrame, Good as GoodFrame}
+use Rattle.frame_law.specs.Laws.{ReadingsAreAll, SectorsAreTold}
 use Rattle.frame_law.specs.Readings.{AreReadings}
 use Rattle.turn_merge.specs.Readings.{Reading, good_ones, bad_ones, bytes_of, first_other, verdict_with, verdict_of, agreed_of, verdict, agreed}
 use Rattle.turn_merge.specs.declared.verdict.Place.{Place}
 use Rattle.turn_merge.specs.declared.verdict.Verdict.TheVariants.{Good}
 use Rattle.flux_engine.specs.Tracks.{Found, place_at, readings_at, readings_of, image_bytes}
 use Rattle.flux_engine.specs.declared.sectors.Sectors.{Sectors}
-use Rattle.flux_engine.proofs.Each.{Each, each-map, each-flat, each-unflat, each-filter, each-unfilter, each-missed}
-use Rattle.flux_engine.proofs.OneReading.{StandsAs, holds_here, good_stands}
+use Rattle.flux_engine.proofs.Each.{Each, each-at, each-map, each-flat, each-of, each-unflat, each-filter, each-unfilter, each-missed}
 use Rattle.flux_engine.proofs.Pieces.{pieces-at}
 
 abbrev is_good_of : ℕ → Reading → Bool
@@ -65,12 +65,20 @@ same_bytes goods first h =
     (each-missed (λ (q : Reading). not (bytes_eq (bytes_of q) mine)) h.more h.same) in
     subst (Each (λ (q : Reading). bytes_of q ≡ mine)) (sym h.all) (refl, others)
 
-module _ (header : List Bool → ℕ → Type 0) (sector_stands : List Bool → ℕ → List ℕ → Type 0)
-    (one_header : (cells : List Bool) (s t : ℕ) → header cells s → header cells t → s ≡ t)
-    (one_content : (cells : List Bool) (s t : ℕ) (xs ys : List ℕ) → sector_stands cells s xs → sector_stands cells t ys → xs ≡ ys)
-    (has_header : (cells : List Bool) (s : ℕ) (xs : List ℕ) → sector_stands cells s xs → header cells s)
-    (size : ℕ) (content_size : (cells : List Bool) (s : ℕ) (xs : List ℕ) → sector_stands cells s xs → length xs ≡ size)
+-- a good reading is one of a sector that stands
+abbrev StandsAs : (List Bool → ℕ → List ℕ → Type 0) → List Bool → Frame → List ℕ → Type 0
+StandsAs sector cells Nothing bytes = Unit {0}
+StandsAs sector cells (BadFrame s) bytes = Unit {0}
+StandsAs sector cells (GoodFrame s) bytes = sector cells s bytes
+
+module _ (header : List Bool → ℕ → Type 0) (sector_stands : List Bool → ℕ → List ℕ → Type 0) (size : ℕ)
+    (told : SectorsAreTold header sector_stands size) (read : ReadingsAreAll header sector_stands)
     (times indexes : List ℕ) (cells : List Bool) (found : List Found) (all : AreReadings header sector_stands cells 0 found) where
+  stands_as : (place : ℕ) (frame : Frame) (bytes : List ℕ) → Contains found (place, frame, bytes) → StandsAs sector_stands (drop place cells) frame bytes
+  stands_as place Nothing bytes has = tt
+  stands_as place (BadFrame s) bytes has = tt
+  stands_as place (GoodFrame s) bytes has = (((read cells 0 found).0 all).good place s bytes (omega arith)).0 has
+
   abbrev of_found : Found → List Reading
   of_found f = readings_at (place_at times indexes cells f.0) f.1 f.2
 
@@ -88,7 +96,7 @@ module _ (header : List Bool → ℕ → Type 0) (sector_stands : List Bool → 
   each_named : Each Named (readings_of times indexes cells found)
   each_named =
       each-flat of_found (λ (f : Found). StandsAs sector_stands (drop f.0 cells) f.1 f.2) Named (λ f here. named f.0 f.1 f.2 here) found
-      (good_stands header sector_stands one_header one_content has_header cells 0 found all)
+      (each-of (λ (f : Found). StandsAs sector_stands (drop f.0 cells) f.1 f.2) found (λ f has. stands_as f.0 f.1 f.2 has))
 
   goods_named : (sector : ℕ) → Each (λ (r : Reading). Named r × (is_good_of sector r ≡ true)) (good_ones (readings_of times indexes cells found) sector)
   goods_named sector = each-filter (is_good_of sector) Named (readings_of times indexes cells found) each_named
@@ -114,9 +122,8 @@ module _ (header : List Bool → ℕ → Type 0) (sector_stands : List Bool → 
         let each = each-unfilter (is_good_of sector) (λ (q : Reading). bytes_of q ≡ mine) (readings_of times indexes cells found)
         (same_bytes (good_ones (readings_of times indexes cells found) sector) first h) in
         let per_found = each-unflat of_found (λ (q : Reading). is_good_of sector q ≡ true → bytes_of q ≡ mine) found each in
-        let at = holds_here header sector_stands one_header one_content has_header
-        (λ (f : Found). Each (λ (q : Reading). is_good_of sector q ≡ true → bytes_of q ≡ mine) (of_found f)) cells 0 place sector others found all
-        (omega arith) here per_found in
+        let at = each-at (λ (f : Found). Each (λ (q : Reading). is_good_of sector q ≡ true → bytes_of q ≡ mine) (of_found f)) found
+        (place, GoodFrame sector, others) per_found ((((read cells 0 found).0 all).good place sector others (omega arith)).1 here) in
         at.0 (ap (λ (b : Bool). b && true) (eq-eqb sector sector refl))
 
   module _ (sectors : Sectors) (sizes : sectors.size ≡ size) where
@@ -135,7 +142,7 @@ module _ (header : List Bool → ℕ → Type 0) (sector_stands : List Bool → 
     bytes_size n =
         agreed_size (good_ones (readings_of times indexes cells found) n)
         (each-map (λ (r : Reading). Named r × (is_good_of n r ≡ true)) (λ (r : Reading). length (bytes_of r) ≡ size)
-        (λ r says. content_size (drop r.place.cell cells) n (bytes_of r) (good_holds n r says.0 says.1).0) (good_ones (readings_of times indexes cells found) n) (goods_named n))
+        (λ r says. told.content_size (drop r.place.cell cells) n (bytes_of r) (good_holds n r says.0 says.1).0) (good_ones (readings_of times indexes cells found) n) (goods_named n))
 
     -- a sector stands at each number from 0 on
     module _ (sector_in : ℕ → ℕ) where

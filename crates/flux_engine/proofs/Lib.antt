@@ -10,7 +10,6 @@ pub mod Finding
 pub mod Counting
 pub mod Disks
 pub mod Each
-pub mod OneReading
 pub mod GoodSectors
 pub mod Outcomes
 pub mod DiskParts

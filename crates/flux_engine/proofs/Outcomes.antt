@@ -14,25 +14,12 @@ use Rattle.sector_images.specs.declared.format.Format.{Format}
 use Rattle.turn_merge.specs.Readings.{bytes_of}
 use Rattle.flux_engine.specs.Disks.{Stop, part_at, AreParts, images, lines, totals_over, stop_at, stop_of, decoded_count, Decoded, decoded_of, last_line, no_totals}
 use Rattle.flux_engine.specs.Laws.{OneOutcome, FirstTracksLead, GoodIsRight}
-use Rattle.flux_engine.specs.Recordings.{header_at, sector_at, track_at, sectors_of, cells_of}
+use Rattle.disk_recordings.specs.Laws.{TracksAreRead}
+use Rattle.disk_recordings.specs.Members.{header_at, sector_at}
+use Rattle.flux_engine.specs.Recordings.{track_at, sectors_of, cells_of}
 use Rattle.flux_engine.specs.Streams.{stream_at, has_fault}
 use Rattle.flux_engine.specs.Tracks.{Found, Part, IsPart, image_of, part_of, readings_of}
-use Rattle.flux_engine.proofs.ByFormat.{laws_of}
 use Rattle.flux_engine.proofs.GoodSectors.{head_of, head_holds, all_agree, good_image}
-use Rattle.flux_engine.proofs.OneReading.{one_list}
-
--- one list of readings
-pub one_found : (format : Format) (track : TrackId) (times' indexes' : List ℕ) (a b : Part) (p : IsPart format track times' indexes' a) (q : IsPart format track times' indexes' b)
-    → p.found ≡ q.found
-one_found format track times' indexes' a b p q =
-    let laws = laws_of format track in
-    one_list (header_at format track) (sector_at format track) laws.one_header laws.one_content laws.has_header
-    (cells_of format track times' indexes') 0 p.found q.found p.all q.all
-
-pub one_part : (format : Format) (track : TrackId) (times' indexes' : List ℕ) (a b : Part) → IsPart format track times' indexes' a → IsPart format track times' indexes' b → a ≡ b
-one_part format track times' indexes' a b p q =
-    p.is ∙ ap (λ (found : List Found). part_of format track (readings_of times' indexes' (cells_of format track times' indexes') found))
-    (one_found format track times' indexes' a b p q) ∙ sym q.is
 
 abbrev pub stop_track : Option Stop → ℕ
 stop_track None = 0
@@ -40,29 +27,6 @@ stop_track (Some s) = s.track
 
 no_part : Part
 no_part = record { image = []; lines = []; totals = no_totals }
-
-one_parts : (format : Format) (x : List ℕ) (ps qs : List Part) → AreParts format x ps → AreParts format x qs → length ps ≡ length qs → ps ≡ qs
-unfolding no_part
-one_parts format x ps qs are others same =
-    ext_get_or no_part ps qs same
-    (λ k low. one_part format (track_at format k) (times (stream_at x k)) (indexes (stream_at x k)) (part_at ps k) (part_at qs k)
-    (are k low).comes (others k (omega (arith, low, same))).comes)
-
-pub one_outcome : OneOutcome
-one_outcome format x a b p q =
-    p.is ∙ ap (λ (parts : List Part). decoded_of parts (stop_of format x)) (one_parts format x p.parts q.parts p.each q.each (p.many ∙ sym q.many)) ∙ sym q.is
-
--- the first parts of an outcome
-first_parts : (format : Format) (x : List ℕ) (ps qs : List Part) → AreParts format x ps → AreParts format x qs → length ps ≤ length qs → take (length ps) qs ≡ ps
-unfolding no_part
-first_parts format x ps qs are others fewer =
-    let size : length (take (length ps) qs) ≡ length ps = length-take-le (length ps) qs fewer in
-    ext_get_or no_part (take (length ps) qs) ps size
-    (λ (k : ℕ) low.
-    let within : k < length ps = omega (arith, low, size) in
-    get_or-take (length ps) qs k no_part within
-    ∙ one_part format (track_at format k) (times (stream_at x k)) (indexes (stream_at x k)) (part_at qs k) (part_at ps k)
-    (others k (omega (arith, within, fewer))).comes (are k within).comes)
 
 by_fault : (x : List ℕ) (n : ℕ) (s : Stop) (fault : Option (ℕ × StreamFault)) → first_fault (stream_at x n) ≡ fault
     → option_map (λ (f : ℕ × StreamFault). let stop : Stop = record { track = n; block = f.0; fault = f.1 } in stop) fault ≡ Some s
@@ -92,43 +56,77 @@ stop_late format x parts are within (Some s) is =
           absurd (not_none (first_fault (stream_at x s.track)) fault.0 fault.1 (are s.track early).no_fault)
     ]
 
-pub first_tracks_lead : FirstTracksLead
-first_tracks_lead format x parts o are within d =
-    let n : ℕ = length parts in
-    let late : n ≤ decoded_count format (stop_of format x) = stop_late format x parts are within (stop_of format x) refl in
-    let fewer : n ≤ length d.parts = omega (arith, late, d.many) in
-    let rest : List Part = drop n d.parts in
-    let split : d.parts ≡ parts ++ rest =
-    sym (take-append-drop n d.parts) ∙ ap (λ (ps : List Part). ps ++ rest) (first_parts format x parts d.parts are d.each fewer) in
-    let image : o.image ≡ images parts ++ images rest =
-    ap (λ (a : Decoded). a.image) d.is ∙ ap images split ∙ flat_map-append (λ (p : Part). p.image) parts rest in
-    let last : List ℕ = last_line (totals_over d.parts) (stop_of format x) in
-    let notes : o.notes ≡ lines parts ++ (lines rest ++ last) =
-    ap (λ (a : Decoded). a.notes) d.is
-    ∙ ap (λ (xs : List ℕ). xs ++ last) (ap lines split ∙ flat_map-append (λ (p : Part). p.lines) parts rest)
-    ∙ append_assoc (lines parts) (lines rest) last in
-    ((images rest, image), (lines rest ++ last, notes))
+module _ (read : TracksAreRead) where
+  -- one list of readings
+  pub one_found : (format : Format) (track : TrackId) (times' indexes' : List ℕ) (a b : Part) (p : IsPart format track times' indexes' a) (q : IsPart format track times' indexes' b)
+      → p.found ≡ q.found
+  one_found format track times' indexes' a b p q =
+      read.one format track (cells_of format track times' indexes') 0 p.found q.found p.all q.all
 
-pub good_is_right : SectorsFillTracks → GoodIsRight
-unfolding image_of sector_place
-good_is_right fills format track times' indexes' part is sector good bad first known verdict_is =
-    let cells = cells_of format track times' indexes' in
-    let h = head_of (readings_of times' indexes' cells is.found) sector good bad first verdict_is in
-    let laws = laws_of format track in
-    let size : ℕ = (row format).sector_size in
-    let fill = fills format track sector known in
-    let place : sector_place format track sector - place_of format track ≡ size * slot format sector = omega arith in
-    let holds = head_holds (header_at format track) (sector_at format track) laws.one_header laws.one_content laws.has_header size laws.content_size
-    times' indexes' cells is.found is.all sector first h in
-    record {
-      bytes = bytes_of h.head;
-      stands = holds.0;
-      turn = holds.1;
-      in_image =
-          ap (λ (n : ℕ). take {A = ℕ} size (drop n part.image)) place
-          ∙ ap (λ (p : Part). take {A = ℕ} size (drop (size * slot format sector) p.image)) is.is
-          ∙ good_image (header_at format track) (sector_at format track) laws.one_header laws.one_content laws.has_header size laws.content_size
-          times' indexes' cells is.found is.all (sectors_of format track) refl (sector_in format track) sector (slot format sector) first h fill.1 fill.0;
-      agreed = all_agree (header_at format track) (sector_at format track) laws.one_header laws.one_content laws.has_header size laws.content_size
-          times' indexes' cells is.found is.all sector first h;
-    }
+  pub one_part : (format : Format) (track : TrackId) (times' indexes' : List ℕ) (a b : Part) → IsPart format track times' indexes' a → IsPart format track times' indexes' b → a ≡ b
+  one_part format track times' indexes' a b p q =
+      p.is ∙ ap (λ (found : List Found). part_of format track (readings_of times' indexes' (cells_of format track times' indexes') found))
+      (one_found format track times' indexes' a b p q) ∙ sym q.is
+
+  one_parts : (format : Format) (x : List ℕ) (ps qs : List Part) → AreParts format x ps → AreParts format x qs → length ps ≡ length qs → ps ≡ qs
+  unfolding no_part
+  one_parts format x ps qs are others same =
+      ext_get_or no_part ps qs same
+      (λ k low. one_part format (track_at format k) (times (stream_at x k)) (indexes (stream_at x k)) (part_at ps k) (part_at qs k)
+      (are k low).comes (others k (omega (arith, low, same))).comes)
+
+  pub one_outcome : OneOutcome
+  one_outcome format x a b p q =
+      p.is ∙ ap (λ (parts : List Part). decoded_of parts (stop_of format x)) (one_parts format x p.parts q.parts p.each q.each (p.many ∙ sym q.many)) ∙ sym q.is
+
+  -- the first parts of an outcome
+  first_parts : (format : Format) (x : List ℕ) (ps qs : List Part) → AreParts format x ps → AreParts format x qs → length ps ≤ length qs → take (length ps) qs ≡ ps
+  unfolding no_part
+  first_parts format x ps qs are others fewer =
+      let size : length (take (length ps) qs) ≡ length ps = length-take-le (length ps) qs fewer in
+      ext_get_or no_part (take (length ps) qs) ps size
+      (λ (k : ℕ) low.
+      let within : k < length ps = omega (arith, low, size) in
+      get_or-take (length ps) qs k no_part within
+      ∙ one_part format (track_at format k) (times (stream_at x k)) (indexes (stream_at x k)) (part_at qs k) (part_at ps k)
+      (others k (omega (arith, within, fewer))).comes (are k within).comes)
+
+  pub first_tracks_lead : FirstTracksLead
+  first_tracks_lead format x parts o are within d =
+      let n : ℕ = length parts in
+      let late : n ≤ decoded_count format (stop_of format x) = stop_late format x parts are within (stop_of format x) refl in
+      let fewer : n ≤ length d.parts = omega (arith, late, d.many) in
+      let rest : List Part = drop n d.parts in
+      let split : d.parts ≡ parts ++ rest =
+      sym (take-append-drop n d.parts) ∙ ap (λ (ps : List Part). ps ++ rest) (first_parts format x parts d.parts are d.each fewer) in
+      let image : o.image ≡ images parts ++ images rest =
+      ap (λ (a : Decoded). a.image) d.is ∙ ap images split ∙ flat_map-append (λ (p : Part). p.image) parts rest in
+      let last : List ℕ = last_line (totals_over d.parts) (stop_of format x) in
+      let notes : o.notes ≡ lines parts ++ (lines rest ++ last) =
+      ap (λ (a : Decoded). a.notes) d.is
+      ∙ ap (λ (xs : List ℕ). xs ++ last) (ap lines split ∙ flat_map-append (λ (p : Part). p.lines) parts rest)
+      ∙ append_assoc (lines parts) (lines rest) last in
+      ((images rest, image), (lines rest ++ last, notes))
+
+  pub good_is_right : SectorsFillTracks → GoodIsRight
+  unfolding image_of sector_place
+  good_is_right fills format track times' indexes' part is sector good bad first known verdict_is =
+      let cells = cells_of format track times' indexes' in
+      let h = head_of (readings_of times' indexes' cells is.found) sector good bad first verdict_is in
+      let size : ℕ = (row format).sector_size in
+      let fill = fills format track sector known in
+      let place : sector_place format track sector - place_of format track ≡ size * slot format sector = omega arith in
+      let holds = head_holds (header_at format track) (sector_at format track) size (read.told format track) (read.all format track)
+      times' indexes' cells is.found is.all sector first h in
+      record {
+        bytes = bytes_of h.head;
+        stands = holds.0;
+        turn = holds.1;
+        in_image =
+            ap (λ (n : ℕ). take {A = ℕ} size (drop n part.image)) place
+            ∙ ap (λ (p : Part). take {A = ℕ} size (drop (size * slot format sector) p.image)) is.is
+            ∙ good_image (header_at format track) (sector_at format track) size (read.told format track) (read.all format track)
+            times' indexes' cells is.found is.all (sectors_of format track) refl (sector_in format track) sector (slot format sector) first h fill.1 fill.0;
+        agreed = all_agree (header_at format track) (sector_at format track) size (read.told format track) (read.all format track)
+            times' indexes' cells is.found is.all sector first h;
+      }

@@ -1,140 +1,40 @@
 -- The ring of each format's tracks, and the bytes in its sectors.
-use Rattle.std.specs.Prelude.{◌≡◌, ◌<◌, ◌≤◌, ℕ, zero, suc, ◌+◌, ◌-◌, ◌*◌, ◌⊎◌, All, Bool, List, [], ◌++◌, length, take, drop, flat_map, get_or, map, slice_get, nat_lt, if◌then◌else◌, true, false, ◌∷◌, unwrap_or, Option, Some, Result, Ok, Err, OnOk, refl}
+use Rattle.std.specs.Prelude.{◌≡◌, ◌<◌, ◌≤◌, ℕ, zero, suc, ◌+◌, ◌-◌, ◌*◌, All, Bool, List, [], ◌++◌, length, take, drop, flat_map, get_or, map, slice_get, nat_lt, if◌then◌else◌, true, false, ◌∷◌, unwrap_or, Option, Some, Result, Ok, Err, OnOk, refl}
 use Rattle.std.specs.List.{range_with_len}
 use Rattle.std.proofs.Common.{arith, lit≤, ap, sym, subst, ◌∙◌, inl, inr, length-append, length-drop}
 use Rattle.std.proofs.lemmas.Bool.{cases_lt}
 use Rattle.std.proofs.lemmas.List.{length-take-le}
 use Rattle.std.proofs.lemmas.List.Elements.{All-append, All-drop, All-get_or, All-take}
-use Rattle.std.proofs.lemmas.List.FromFn.{get_or-map-range_with_len}
-use Rattle.amiga_mfm.specs.RingLaws.{ring_length as ring_length-amiga, ring_spaced as ring_spaced-amiga}
-use Rattle.apple_gcr.specs.RingLaws.{ring_length as ring_length-apple, ring_spaced as ring_spaced-apple}
 use Rattle.cell_bits.specs.State.{CellsState, room}
-use Rattle.commodore_gcr.specs.Layout.{ring_cells_of as ring_cells_of-commodore, ring_of as ring_of-commodore}
-use Rattle.commodore_gcr.specs.RingLaws.{ring_length as ring_length-commodore, ring_spaced as ring_spaced-commodore}
-use Rattle.commodore_gcr.specs.Zones.{sectors_of as sectors_of-commodore, zone_of}
+use Rattle.disk_recordings.specs.Laws.{RingsHaveCells}
+use Rattle.disk_recordings.specs.Members.{ring_at}
+use Rattle.disk_recordings.specs.Recordings.{DiskRecording, recording_of}
+use Rattle.disk_recordings.specs.contracts.meaning.DiskRecordingMeaning.TheImpl.{ghosts}
+use Rattle.disk_recordings.specs.declared.disk_id.DiskId.{DiskId}
 use Rattle.flux_base.specs.declared.outside.Memory.{Memory}
 use Rattle.flux_base.specs.declared.track.TrackId.{TrackId}
 use Rattle.flux_writer.specs.Reading.{HasEarlyOne, IsStreamOf}
 use Rattle.flux_writer.specs.Written.{cell_time, ones_of, stream_of, track_cells, track_turns}
-use Rattle.track_rings.specs.Rings.{AreSectors, IsSpaced}
-use Rattle.ibm_fm.specs.RingLaws.{ring_length as ring_length-fm, ring_spaced as ring_spaced-fm}
-use Rattle.ibm_mfm.specs.RingLaws.{ring_length as ring_length-mfm, ring_spaced as ring_spaced-mfm}
+use Rattle.track_rings.specs.Rings.{AreSectors}
 use Rattle.sector_images.specs.Formats.{Zone, commodore_zone, row, zone}
 use Rattle.sector_images.specs.Places.{IsTrack, NumbersNameTracks, SectorsLieInImages, sector_place, tracks}
 use Rattle.sector_images.specs.declared.format.Format.{Format}
 use Rattle.sector_images.specs.declared.format.Format.TheVariants.{Ibm3740, Ibm360, Ibm720, Ibm1440, Amiga, C1541, C1541Forty, AppleDo, ApplePo}
 use Rattle.flux_engine.specs.Captures.{WritesCaptures}
 use Rattle.flux_engine.specs.Recordings.{sectors_of, track_at}
-use Rattle.flux_engine.specs.Rings.{FIRST_ID, SECOND_ID, IsImage, IsRing, disk_id, nominal_of, ring_cells_of, ring_of, ring_with, HasRoomForRings, track_stream, sector_bytes, track_bytes}
+use Rattle.flux_engine.specs.Rings.{IsImage, IsRing, disk_id, nominal_of, ring_cells_of, ring_of, ring_with, HasRoomForRings, track_stream, sector_bytes, track_bytes}
 use Rattle.flux_engine.specs.declared.sectors.Sectors.{Sectors}
 use Rattle.flux_engine.proofs.Captured.{captures}
 use Rattle.flux_engine.proofs.Pieces.{pieces-more}
 use Rattle.flux_engine.proofs.Repeated.{early_one}
 
--- what is closer is within wider bounds
-spaced_wider : (least most : ℕ) (ring : List Bool) → IsSpaced least most ring → 1 ≤ least → most ≤ 4 → IsSpaced 1 4 ring
-spaced_wider least most ring spaced low high = record {
-  has_one = spaced.has_one;
-  apart = λ place distance near.
-      let both = spaced.apart place distance near in
-      (omega (arith, low, both.0), omega (arith, high, both.1));
-}
-
--- the zones of a Commodore 1541's disk are the same in the recording and in the format
-same_sectors : (head : ℕ) → map (λ n. sectors_of-commodore (record { cylinder = n; head = head })) (range_with_len 0 40)
-    ≡ map (λ n. (commodore_zone n).sectors) (range_with_len 0 40)
-unfolding zone_of
-same_sectors head = refl
-
-same_ring_cells : (head : ℕ) → map (λ n. ring_cells_of-commodore (record { cylinder = n; head = head })) (range_with_len 0 40)
-    ≡ map (λ n. (commodore_zone n).ring_cells) (range_with_len 0 40)
-unfolding zone_of
-same_ring_cells head = refl
-
-same_by_table : (f g : ℕ → ℕ) (n : ℕ) → n < 40 → map f (range_with_len 0 40) ≡ map g (range_with_len 0 40) → f n ≡ g n
-same_by_table f g n below same =
-    sym (get_or-map-range_with_len f 0 40 n n 0 below (omega arith)) ∙ ap (λ (xs : List ℕ). get_or xs n 0) same
-    ∙ get_or-map-range_with_len g 0 40 n n 0 below (omega arith)
-
-count_same : (track : TrackId) → track.cylinder < 40 → sectors_of-commodore track ≡ (commodore_zone track.cylinder).sectors
-count_same track below =
-    same_by_table (λ n. sectors_of-commodore (record { cylinder = n; head = track.head })) (λ n. (commodore_zone n).sectors) track.cylinder below
-    (same_sectors track.head)
-
-cells_same : (track : TrackId) → track.cylinder < 40 → ring_cells_of-commodore track ≡ (commodore_zone track.cylinder).ring_cells
-cells_same track below =
-    same_by_table (λ n. ring_cells_of-commodore (record { cylinder = n; head = track.head })) (λ n. (commodore_zone n).ring_cells) track.cylinder below
-    (same_ring_cells track.head)
-
-commodore_ring : (id1 id2 : ℕ) (track : TrackId) (bytes : List ℕ) → track.cylinder < 40
-    → AreSectors (commodore_zone track.cylinder).sectors 256 bytes
-    → IsRing (commodore_zone track.cylinder).ring_cells (ring_of-commodore id1 id2 track bytes)
-commodore_ring id1 id2 track bytes below sectors = record {
-  cells_are = ring_length-commodore id1 id2 track bytes (subst (λ (n : ℕ). AreSectors n 256 bytes) (sym (count_same track below)) sectors) ∙ cells_same track below;
-  spaced = spaced_wider 1 3 _ (ring_spaced-commodore id1 id2 track bytes) (omega arith) (omega arith);
-}
-
--- a track of a Commodore 1541's disk, as it is one of the recording's
-abbrev pub IsCommodore : Format → Type 0
-IsCommodore format = (format ≡ C1541) ⊎ (format ≡ C1541Forty)
-
-few_cylinders : (format : Format) (track : TrackId) → IsTrack format track → IsCommodore format → track.cylinder < 40
-few_cylinders format track known (inl is) = (let here : IsTrack C1541 track = subst (λ (f : Format). IsTrack f track) is known in omega (arith, here.0))
-few_cylinders format track known (inr is) = (let here : IsTrack C1541Forty track = subst (λ (f : Format). IsTrack f track) is known in here.0)
-
-sectors_are : (format : Format) (track : TrackId) → IsCommodore format → (sectors_of format track).count * (sectors_of format track).size ≡ (commodore_zone track.cylinder).sectors * 256
-sectors_are format track (inl is) = ap (λ (f : Format). (sectors_of f track).count * (sectors_of f track).size) is
-sectors_are format track (inr is) = ap (λ (f : Format). (sectors_of f track).count * (sectors_of f track).size) is
-
-cells_are : (format : Format) (track : TrackId) → IsCommodore format → (zone format track.cylinder).ring_cells ≡ (commodore_zone track.cylinder).ring_cells
-cells_are format track (inl is) = ap (λ (f : Format). (zone f track.cylinder).ring_cells) is
-cells_are format track (inr is) = ap (λ (f : Format). (zone f track.cylinder).ring_cells) is
-
-pub commodore_bytes : (format : Format) (track : TrackId) (size : ℕ) → IsTrack format track → IsCommodore format
-    → size ≡ (sectors_of format track).count * (sectors_of format track).size → size ≡ sectors_of-commodore track * 256
-commodore_bytes format track size known is size_is =
-    size_is ∙ sectors_are format track is ∙ ap (λ (n : ℕ). n * 256) (sym (count_same track (few_cylinders format track known is)))
-
-pub commodore_cells : (format : Format) (track : TrackId) → IsTrack format track → IsCommodore format
-    → ring_cells_of-commodore track ≡ (zone format track.cylinder).ring_cells
-commodore_cells format track known is = cells_same track (few_cylinders format track known is) ∙ sym (cells_are format track is)
-
--- the ring of each format's track
-pub is_ring : (format : Format) (track : TrackId) (image : List ℕ) → IsTrack format track
+-- the ring of a format's track
+pub is_ring : RingsHaveCells → (format : Format) (track : TrackId) (image : List ℕ) → IsTrack format track
     → AreSectors (sectors_of format track).count (sectors_of format track).size (track_bytes format track image)
     → IsRing (zone format track.cylinder).ring_cells (ring_with format track image)
-is_ring Ibm3740 track image known sectors = record {
-  cells_are = ring_length-fm track (track_bytes Ibm3740 track image) sectors;
-  spaced = spaced_wider 1 2 _ (ring_spaced-fm track (track_bytes Ibm3740 track image) sectors) (omega arith) (omega arith);
-}
-is_ring Ibm360 track image known sectors = record {
-  cells_are = ring_length-mfm 9 track (track_bytes Ibm360 track image) (record { count = inl refl; cylinder = omega (arith, known.0); head = known.1 }) sectors;
-  spaced = spaced_wider 2 4 _ (ring_spaced-mfm 9 track (track_bytes Ibm360 track image)) (omega arith) (omega arith);
-}
-is_ring Ibm720 track image known sectors = record {
-  cells_are = ring_length-mfm 9 track (track_bytes Ibm720 track image) (record { count = inl refl; cylinder = known.0; head = known.1 }) sectors;
-  spaced = spaced_wider 2 4 _ (ring_spaced-mfm 9 track (track_bytes Ibm720 track image)) (omega arith) (omega arith);
-}
-is_ring Ibm1440 track image known sectors = record {
-  cells_are = ring_length-mfm 18 track (track_bytes Ibm1440 track image) (record { count = inr refl; cylinder = known.0; head = known.1 }) sectors;
-  spaced = spaced_wider 2 4 _ (ring_spaced-mfm 18 track (track_bytes Ibm1440 track image)) (omega arith) (omega arith);
-}
-is_ring Amiga track image known sectors = record {
-  cells_are = ring_length-amiga track (track_bytes Amiga track image) sectors;
-  spaced = spaced_wider 2 4 _ (ring_spaced-amiga track (track_bytes Amiga track image)) (omega arith) (omega arith);
-}
-is_ring C1541 track image known sectors =
-    commodore_ring (disk_id C1541 image FIRST_ID) (disk_id C1541 image SECOND_ID) track (track_bytes C1541 track image) (omega (arith, known.0)) sectors
-is_ring C1541Forty track image known sectors =
-    commodore_ring (disk_id C1541Forty image FIRST_ID) (disk_id C1541Forty image SECOND_ID) track (track_bytes C1541Forty track image) known.0 sectors
-is_ring AppleDo track image known sectors = record {
-  cells_are = ring_length-apple track (track_bytes AppleDo track image) sectors;
-  spaced = spaced_wider 1 3 _ (ring_spaced-apple track (track_bytes AppleDo track image) (record { cylinder = known.0; head = omega (arith, known.1) }) sectors) (omega arith) (omega arith);
-}
-is_ring ApplePo track image known sectors = record {
-  cells_are = ring_length-apple track (track_bytes ApplePo track image) sectors;
-  spaced = spaced_wider 1 3 _ (ring_spaced-apple track (track_bytes ApplePo track image) (record { cylinder = known.0; head = omega (arith, known.1) }) sectors) (omega arith) (omega arith);
-}
+is_ring have format track image known sectors =
+    let ring = have format (disk_id format image) track (track_bytes format track image) known sectors in
+    record { cells_are = ring.0; spaced = ring.1 }
 
 -- bytes of so many pieces of the same size
 module _ (piece : ℕ → List ℕ) (size : ℕ) where
@@ -268,17 +168,31 @@ is_stream format image number track ring nominal at made cell =
     ∙ ap (λ (t : TrackId). stream_of (ring_of format image number) (zone format t.cylinder).nominal) (sym (is_track_at format number track at))
     ∙ ap (track_stream format image) here
 
+-- the cells that a format's recording made, with an image's bytes, are the ring of the track
+pub is_made : (format : Format) (track : TrackId) (image bytes : List ℕ) (id : DiskId) (recording : DiskRecording) (result : Result (Unit {0}) Memory) (cells : List Bool)
+    → recording ≡ recording_of format id → recording_of format id ≡ recording_of format (disk_id format image) → bytes ≡ track_bytes format track image
+    → OnOk result (cells ≡ ghosts.ring recording track bytes) → OnOk result (cells ≡ ring_with format track image)
+is_made format track image bytes id recording result cells is same bytes_are made =
+    let ring : ghosts.ring recording track bytes ≡ ring_with format track image =
+    ap (λ (r : DiskRecording). ghosts.ring r track bytes) (is ∙ same) ∙ ap (ring_at format (disk_id format image) track) bytes_are in
+    subst (λ (r : List Bool). OnOk result (cells ≡ r)) ring made
+
+pub is_ring_of : (format : Format) (number : ℕ) (track : TrackId) (image : List ℕ) (result : Result (Unit {0}) Memory) (cells : List Bool)
+    → slice_get (tracks format) number ≡ Some track → OnOk result (cells ≡ ring_with format track image) → OnOk result (cells ≡ ring_of format image number)
+is_ring_of format number track image result cells at made =
+    subst (λ (t : TrackId). OnOk result (cells ≡ ring_with format t image)) (sym (is_track_at format number track at)) made
+
 -- the cells that were made are a ring
-pub made_ring : (format : Format) (number : ℕ) (track : TrackId) (image bytes : List ℕ) (result : Result (Unit {0}) Memory) (cells : List Bool)
+pub made_ring : RingsHaveCells → (format : Format) (number : ℕ) (track : TrackId) (image bytes : List ℕ) (result : Result (Unit {0}) Memory) (cells : List Bool)
     → slice_get (tracks format) number ≡ Some track → IsTrack format track → bytes ≡ track_bytes format track image
     → AreSectors (sectors_of format track).count (sectors_of format track).size bytes
     → OnOk result (cells ≡ ring_with format track image) → OnOk result (IsRing (ring_cells_of format number) cells)
-made_ring format number track image bytes (Err why) cells at known is sectors made = tt
-made_ring format number track image bytes (Ok u) cells at known is sectors made =
+made_ring have format number track image bytes (Err why) cells at known is sectors made = tt
+made_ring have format number track image bytes (Ok u) cells at known is sectors made =
     let whole : AreSectors (sectors_of format track).count (sectors_of format track).size (track_bytes format track image) =
     subst (AreSectors (sectors_of format track).count (sectors_of format track).size) is sectors in
     let ring : IsRing (zone format track.cylinder).ring_cells cells =
-    subst (IsRing (zone format track.cylinder).ring_cells) (sym made) (is_ring format track image known whole) in
+    subst (IsRing (zone format track.cylinder).ring_cells) (sym made) (is_ring have format track image known whole) in
     subst (λ (t : TrackId). IsRing (zone format t.cylinder).ring_cells cells) (sym (is_track_at format number track at)) ring
 
 -- what the writer promises of a ring's stream
@@ -291,12 +205,12 @@ track_known names format k below =
     let named = names format k below in
     subst (IsTrack format) (sym (is_track_at format k named.0 named.1)) named.2
 
-pub writes_captures : NumbersNameTracks → SectorsLieInImages → RingsAreRead → WritesCaptures
-writes_captures names lie reads format image k is below =
+pub writes_captures : RingsHaveCells → NumbersNameTracks → SectorsLieInImages → RingsAreRead → WritesCaptures
+writes_captures have names lie reads format image k is below =
     let track : TrackId = track_at format k in
     let known : IsTrack format track = track_known names format k below in
     let ring : IsRing (zone format track.cylinder).ring_cells (ring_with format track image) =
-    is_ring format track image known (are_sectors lie format track image is known) in
+    is_ring have format track image known (are_sectors lie format track image is known) in
     let bounds : IsWritable (zone format track.cylinder) = is_writable format track in
     let early : HasEarlyOne (ring_with format track image) = is_early format track (ring_with format track image) ring in
     captures (ring_with format track image) (nominal_of format k) early (omega (arith, ring.cells_are, bounds.many)) bounds.least

@@ -13,7 +13,8 @@ use Rattle.turn_merge.specs.declared.verdict.Place.{Place}
 use Rattle.turn_merge.specs.declared.verdict.Verdict.{Verdict}
 use Rattle.turn_merge.specs.declared.verdict.Verdict.TheVariants.{Good}
 use Rattle.flux_engine.specs.Disks.{Decoded, IsDecoded, decoded_count, part_at}
-use Rattle.flux_engine.specs.Recordings.{header_at, sector_at, track_at, cells_of}
+use Rattle.disk_recordings.specs.Members.{header_at, sector_at}
+use Rattle.flux_engine.specs.Recordings.{track_at, cells_of}
 use Rattle.flux_engine.specs.Streams.{stream_at}
 use Rattle.flux_engine.specs.Tracks.{Found, is_good, place_at, readings_of}
 

@@ -8,7 +8,8 @@ use Rattle.turn_merge.specs.Readings.{verdict}
 use Rattle.turn_merge.specs.declared.verdict.Place.{Place}
 use Rattle.turn_merge.specs.declared.verdict.Verdict.TheVariants.{Good}
 use Rattle.flux_engine.specs.Disks.{AreParts, images, lines, Decoded, IsDecoded}
-use Rattle.flux_engine.specs.Recordings.{sector_at, cells_of}
+use Rattle.disk_recordings.specs.Members.{sector_at}
+use Rattle.flux_engine.specs.Recordings.{cells_of}
 use Rattle.flux_engine.specs.Tracks.{Part, IsPart, place_at, readings_of}
 
 -- an input comes to one outcome

@@ -1,19 +1,16 @@
 -- What is written of an image: for each track its ring, with the image's bytes in its sectors, and the stream of the ring.
 use Rattle.std.specs.Prelude.{◌≡◌, ◌≤◌, ◌<◌, ℕ, ◌+◌, All, Bool, List, length, take, drop, flat_map, get_or}
 use Rattle.std.specs.List.{range_with_len}
-use Rattle.amiga_mfm.specs.Layout.{ring_of as ring_of-amiga}
-use Rattle.apple_gcr.specs.Layout.{ring_of as ring_of-apple}
 use Rattle.cell_bits.specs.State.{CellsState, room}
-use Rattle.commodore_gcr.specs.Layout.{ring_of as ring_of-commodore}
+use Rattle.disk_recordings.specs.Agreement.{directory_track}
+use Rattle.disk_recordings.specs.Members.{ring_at}
+use Rattle.disk_recordings.specs.declared.disk_id.DiskId.{DiskId}
 use Rattle.flux_base.specs.declared.track.TrackId.{TrackId}
 use Rattle.flux_writer.specs.Written.{stream_of}
 use Rattle.track_rings.specs.Rings.{IsSpaced}
-use Rattle.ibm_fm.specs.Layout.{ring_of as ring_of-fm}
-use Rattle.ibm_mfm.specs.Layout.{ring_of as ring_of-mfm}
 use Rattle.sector_images.specs.Formats.{row, zone}
 use Rattle.sector_images.specs.Places.{IsTrack, sector_place, tracks}
 use Rattle.sector_images.specs.declared.format.Format.{Format}
-use Rattle.sector_images.specs.declared.format.Format.TheVariants.{Ibm3740, Ibm360, Ibm720, Ibm1440, Amiga, C1541, C1541Forty, AppleDo, ApplePo}
 use Rattle.flux_engine.specs.Recordings.{sectors_of, track_at}
 use Rattle.flux_engine.specs.Tracks.{numbers}
 
@@ -32,34 +29,22 @@ track_bytes format track image = flat_map (sector_bytes format track image) (num
 
 -- where an image of a Commodore 1541's disk has the disk's two ids: in sector 0 of track 18, counted from 1, at the bytes A2
 -- and A3
-abbrev pub directory_track : TrackId
-directory_track = record { cylinder = 17; head = 0 }
-
 abbrev pub FIRST_ID : ℕ
 FIRST_ID = 0xA2
 
 abbrev pub SECOND_ID : ℕ
 SECOND_ID = 0xA3
 
-abbrev pub disk_id : Format → List ℕ → ℕ → ℕ
-disk_id format image offset = get_or image (sector_place format directory_track 0 + offset) 0
+abbrev pub id_byte : Format → List ℕ → ℕ → ℕ
+id_byte format image offset = get_or image (sector_place format directory_track 0 + offset) 0
 
--- the ring of a Commodore 1541's track
-abbrev pub commodore_ring : Format → TrackId → List ℕ → List Bool
-commodore_ring format track image =
-    ring_of-commodore (disk_id format image FIRST_ID) (disk_id format image SECOND_ID) track (track_bytes format track image)
+-- the id of the disk that an image has; disks of other formats have none, and their rings do not hang on it
+abbrev pub disk_id : Format → List ℕ → DiskId
+disk_id format image = record { first = id_byte format image FIRST_ID; second = id_byte format image SECOND_ID }
 
 -- the ring of a track with an image's bytes in its sectors
 abbrev pub ring_with : Format → TrackId → List ℕ → List Bool
-ring_with Ibm3740 track image = ring_of-fm track (track_bytes Ibm3740 track image)
-ring_with Ibm360 track image = ring_of-mfm 9 track (track_bytes Ibm360 track image)
-ring_with Ibm720 track image = ring_of-mfm 9 track (track_bytes Ibm720 track image)
-ring_with Ibm1440 track image = ring_of-mfm 18 track (track_bytes Ibm1440 track image)
-ring_with Amiga track image = ring_of-amiga track (track_bytes Amiga track image)
-ring_with C1541 track image = commodore_ring C1541 track image
-ring_with C1541Forty track image = commodore_ring C1541Forty track image
-ring_with AppleDo track image = ring_of-apple track (track_bytes AppleDo track image)
-ring_with ApplePo track image = ring_of-apple track (track_bytes ApplePo track image)
+ring_with format track image = ring_at format (disk_id format image) track (track_bytes format track image)
 
 -- the ring of track number k, from 0
 abbrev pub ring_of : Format → List ℕ → ℕ → List Bool

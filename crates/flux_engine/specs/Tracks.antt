@@ -15,7 +15,8 @@ use Rattle.turn_merge.specs.Readings.{Reading, good_reading, bad_reading, verdic
 use Rattle.turn_merge.specs.declared.verdict.Place.{Place}
 use Rattle.turn_merge.specs.declared.verdict.Verdict.{Verdict}
 use Rattle.turn_merge.specs.declared.verdict.Verdict.TheVariants.{Good, Contradictory, Bad, Missing}
-use Rattle.flux_engine.specs.Recordings.{header_at, sector_at, sectors_of, cells_of}
+use Rattle.disk_recordings.specs.Members.{header_at, sector_at}
+use Rattle.flux_engine.specs.Recordings.{sectors_of, cells_of}
 use Rattle.flux_engine.specs.declared.sectors.Sectors.{Sectors}
 
 -- what is read at a place of the cells, with the bytes of a good sector

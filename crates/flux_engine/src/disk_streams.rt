@@ -9,7 +9,7 @@ ghost use Rattle.flux_engine.specs.Answers.{Stayed};
 ghost use Rattle.flux_engine.specs.Rings.{HasRoomForRings, streams_of};
 ghost use Rattle.flux_engine.specs.Writes.{IsWrittenOrWrongSize, SaysOfBytes, WriteCause, WritesDisk, TakesFewer};
 
-use crate::track_rings::track_ring;
+use crate::ring_making::track_ring;
 use crate::write_fault::WriteFault;
 use crate::write_room::WriteRoom;
 use cell_bits::Cells;

@@ -3,6 +3,7 @@
 ghost use Rattle.flux_engine.specs.DiskLaws.{EachHasOneVerdict, GoodIsRightOnDisks, LinesNameVerdicts, OthersAreZeros, PartsStandAtTheirPlaces, WholeDisksFillImages};
 ghost use Rattle.flux_engine.specs.Laws.{OneOutcome, FirstTracksLead, GoodIsRight};
 
+use disk_recordings::tracks_are_read;
 use sector_images::{sectors_fill_tracks, tracks_fill_images};
 use sector_report::sectors_have_one_line;
 
@@ -10,7 +11,9 @@ use sector_report::sectors_have_one_line;
 pub fn outcomes_are_one()
     ensures one { OneOutcome }
     ensures first { FirstTracksLead }
-{}
+{
+    tracks_are_read()
+}
 
 /// A sector is called good only where the place that is named has cells that hold it, in the turn that is
 /// named, with the bytes that the image has at the sector's place; and all places that hold the sector hold
@@ -18,6 +21,7 @@ pub fn outcomes_are_one()
 pub fn good_is_right()
     ensures { GoodIsRight }
 {
+    tracks_are_read();
     sectors_fill_tracks()
 }
 
@@ -27,6 +31,7 @@ pub fn parts_fill_images()
     ensures parts { PartsStandAtTheirPlaces }
     ensures whole { WholeDisksFillImages }
 {
+    tracks_are_read();
     tracks_fill_images()
 }
 
@@ -42,6 +47,7 @@ pub fn good_is_right_on_disks()
     ensures good { GoodIsRightOnDisks }
     ensures others { OthersAreZeros }
 {
+    tracks_are_read();
     sectors_fill_tracks();
     sectors_have_one_line();
     tracks_fill_images()

@@ -9,10 +9,12 @@ ghost use Rattle.sector_images.specs.Places.{IsTrack, tracks};
 ghost use Rattle.turn_merge.specs.Book.{StandsFor};
 
 use crate::fault::EngineFault;
-use crate::recordings::{gather_track, sectors_of};
+use crate::gathering::gather;
+use crate::recordings::sectors_of;
 use crate::room::{DiskRoom, Tools};
 use crate::sectors::Sectors;
 use crate::writing::{write_image, write_lines};
+use disk_recordings::{DiskId, recording_of};
 use flux_base::{Sink, Source, TrackId};
 use index_turns::TrackFlux;
 use kryo_stream::{Intake, StreamBench, TrackFault, read_track};
@@ -130,6 +132,13 @@ fn read_sectors(format: Format, track: TrackId, tools: &mut Tools) -> Sectors
         Err(_) => unreachable!(),
     }
     tools.book.clear(sectors.count);
-    gather_track(format, track, &tools.flux, &tools.cells, &mut tools.book);
+    let recording = recording_of(format, DiskId::ANY);
+    gather(
+        &recording,
+        track,
+        &tools.flux,
+        &tools.cells,
+        &mut tools.book,
+    );
     sectors
 }

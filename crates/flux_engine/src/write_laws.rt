@@ -2,6 +2,7 @@
 
 ghost use Rattle.flux_engine.specs.Captures.{WritesCaptures};
 
+use disk_recordings::tracks_have_rings;
 use flux_writer::track_law;
 use sector_images::sectors_lie_in_images;
 
@@ -10,6 +11,7 @@ use sector_images::sectors_lie_in_images;
 pub fn streams_are_captures()
     ensures { WritesCaptures }
 {
+    tracks_have_rings();
     track_law();
     sectors_lie_in_images()
 }

@@ -2,7 +2,7 @@ use Rattle.flux_engine.proofs.DiskParts.{parts_stand_at_their_places, whole_disk
 use Rattle.flux_engine.proofs.laws.parts_fill_images.Goals as goal
 
 pub returns-clause-parts : goal.returns-clause-parts
-returns-clause-parts c = parts_stand_at_their_places c.tracks_fill_images.ensures.joined
+returns-clause-parts c = parts_stand_at_their_places c.tracks_are_read.ensures c.tracks_fill_images.ensures.joined
 
 pub returns-clause-whole : goal.returns-clause-whole
-returns-clause-whole c = whole_disks_fill_images c.tracks_fill_images.ensures.filled
+returns-clause-whole c = whole_disks_fill_images c.tracks_are_read.ensures c.tracks_fill_images.ensures.filled

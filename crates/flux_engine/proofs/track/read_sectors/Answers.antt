@@ -3,6 +3,6 @@ use Rattle.flux_engine.specs.Gathering.{AreCellsOf}
 use Rattle.flux_engine.proofs.RecoveredCells.{are_cells}
 use Rattle.flux_engine.proofs.track.read_sectors.Goals as goal
 
-pub gather_track-requires-clause-cells : goal.gather_track-requires-clause-cells
-gather_track-requires-clause-cells c =
+pub gather-requires-clause-cells : goal.gather-requires-clause-cells
+gather-requires-clause-cells c =
     subst (AreCellsOf c.args.tools.now.flux.times) (sym c.in-Ok.ensures.ok) (are_cells c.for_turn-start.result c.args.tools.now.flux.times c.requires.bounded.few_times)

@@ -6,7 +6,7 @@ use Rattle.flux_engine.specs.Recordings.{sectors_of}
 use Rattle.flux_engine.specs.Rings.{sector_bytes, track_bytes}
 use Rattle.flux_engine.specs.declared.sectors.Sectors.{Sectors}
 use Rattle.flux_engine.proofs.RingLaws.{sectors_fit, sectors_more, slice_size}
-use Rattle.flux_engine.proofs.track_rings.sector_bytes.Goals as goal
+use Rattle.flux_engine.proofs.ring_making.sector_bytes.Goals as goal
 
 pub returns-clause-bytes : goal.returns-clause-bytes
 unfolding track_bytes

@@ -2,7 +2,7 @@ use Rattle.std.proofs.Common.{◌≡◌, ◌*◌}
 use Rattle.std.specs.List.{flat_map, range_with_len}
 use Rattle.arrayvec.specs.ArrayVec.{array_vec_len}
 use Rattle.flux_engine.specs.Rings.{sector_bytes}
-use Rattle.flux_engine.proofs.track_rings.sector_bytes.Given as goal
+use Rattle.flux_engine.proofs.ring_making.sector_bytes.Given as goal
 
 abbrev pub invariant-loop-index : goal.invariant-loop-index
 invariant-loop-index l = record {

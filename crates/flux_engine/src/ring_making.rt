@@ -3,20 +3,18 @@
 ghost use Rattle.std.specs.Prelude.{◌≡◌, ◌*◌, ◌≤◌, ◌<◌, [], length, OnOk, OnErr, IsOk};
 ghost use Rattle.cell_bits.specs.State.{room};
 ghost use Rattle.track_rings.specs.Rings.{AreSectors};
-ghost use Rattle.sector_images.specs.Formats.{row, zone};
+ghost use Rattle.disk_recordings.specs.Recordings.{recording_of as recording_in};
+ghost use Rattle.sector_images.specs.Formats.{row};
 ghost use Rattle.sector_images.specs.Places.{IsTrack, tracks};
 ghost use Rattle.flux_engine.specs.Recordings.{sectors_of as sectors_in};
-ghost use Rattle.flux_engine.specs.Rings.{FIRST_ID, SECOND_ID, IsRing, directory_track, disk_id, ring_cells_of, ring_of, ring_with, track_bytes};
+ghost use Rattle.flux_engine.specs.Rings.{FIRST_ID, SECOND_ID, IsRing, disk_id, ring_cells_of, ring_of, track_bytes};
 
-use crate::recordings::{EIGHTEEN_SECTORS, NINE_SECTORS, sectors_of};
-use amiga_mfm::AmigaMfm;
-use apple_gcr::AppleGcr;
+use crate::recordings::sectors_of;
 use arrayvec::ArrayVec;
 use cell_bits::Cells;
-use commodore_gcr::CommodoreGcr;
+use disk_recordings::{DiskId, has_id, recording_of, tracks_have_rings};
 use flux_base::{Memory, TrackId};
 use frame_law::Recording;
-use ibm_fm::IbmFm;
 use sector_images::{Format, image_place, track_id};
 
 /// The most bytes of a track: 18 sectors of 512 bytes.
@@ -60,34 +58,8 @@ pub fn track_ring(
 {
     let track = track_id(format, number);
     let bytes = sector_bytes(format, track, image);
-    recorded(format, track, image, &bytes, cells)
-}
-
-/// Makes `cells` the ring of a track, whose bytes in the image are given in the order of the sectors' numbers.
-fn recorded(
-    format: Format,
-    track: TrackId,
-    image: &[u8],
-    bytes: &[u8],
-    cells: &mut Cells,
-) -> Result<(), Memory>
-    requires track { IsTrack format track }
-    requires image { length image.now ≡ (row format).image_size }
-    requires bytes { bytes.now ≡ track_bytes format track image.now }
-    requires size { length bytes.now ≡ (sectors_in format track).count * (sectors_in format track).size }
-    ensures ok { OnOk result (cells.new.cells ≡ ring_with format track image.now) }
-    ensures err { OnErr result (cells.new.cells ≡ []) }
-    ensures succeeds { (zone format track.cylinder).ring_cells ≤ room cells.old → IsOk result }
-    ensures room { room cells.old ≤ room cells.new }
-{
-    match format {
-        Format::Ibm3740 => IbmFm.ring(track, bytes, cells),
-        Format::Ibm360 | Format::Ibm720 => NINE_SECTORS.ring(track, bytes, cells),
-        Format::Ibm1440 => EIGHTEEN_SECTORS.ring(track, bytes, cells),
-        Format::Amiga => AmigaMfm.ring(track, bytes, cells),
-        Format::C1541 | Format::C1541Forty => disk_of(format, image).ring(track, bytes, cells),
-        Format::AppleDo | Format::ApplePo => AppleGcr.ring(track, bytes, cells),
-    }
+    tracks_have_rings();
+    recording_of(format, id_of(format, image)).ring(track, &bytes, cells)
 }
 
 /// The bytes of all sectors of a track.
@@ -110,17 +82,17 @@ fn sector_bytes(format: Format, track: TrackId, image: &[u8]) -> TrackBytes
     bytes
 }
 
-/// The recording of a Commodore 1541's disk, with the ids that its image has.
-fn disk_of(format: Format, image: &[u8]) -> CommodoreGcr
-    requires track { IsTrack format directory_track }
-    requires size { (row format).sector_size ≡ 256 }
+/// An id that the disk's ring may have: the one that the image has, where disks of the format have one.
+fn id_of(format: Format, image: &[u8]) -> DiskId
     requires image { length image.now ≡ (row format).image_size }
-    ensures first { result.id1 ≡ disk_id format image.now FIRST_ID }
-    ensures second { result.id2 ≡ disk_id format image.now SECOND_ID }
+    ensures { recording_in format result ≡ recording_in format (disk_id format image.now) }
 {
+    if !has_id(format) {
+        return DiskId::ANY;
+    }
     let directory = image_place(format, DIRECTORY_TRACK, 0);
-    CommodoreGcr {
-        id1: image[(directory + FIRST_ID) as usize],
-        id2: image[(directory + SECOND_ID) as usize],
+    DiskId {
+        first: image[(directory + FIRST_ID) as usize],
+        second: image[(directory + SECOND_ID) as usize],
     }
 }

@@ -1,0 +1,19 @@
+-- The recording of each format is one for the format.
+use Rattle.std.proofs.Common.{arith, rules}
+use Rattle.sector_images.specs.declared.format.Format.{Format}
+use Rattle.sector_images.specs.declared.format.Format.TheVariants.{Ibm3740, Ibm360, Ibm720, Ibm1440, Amiga, C1541, C1541Forty, AppleDo, ApplePo}
+use Rattle.disk_recordings.specs.Agreement.{Agrees}
+use Rattle.disk_recordings.specs.Recordings.{recording_of}
+use Rattle.disk_recordings.specs.declared.disk_id.DiskId.{DiskId}
+use Rattle.disk_recordings.proofs.Zones.{cells_same, sectors_same}
+
+pub agrees : (format : Format) (id : DiskId) → Agrees format (recording_of format id)
+agrees Ibm3740 id = search (rules, arith)
+agrees Ibm360 id = search (rules, arith)
+agrees Ibm720 id = search (rules, arith)
+agrees Ibm1440 id = search (rules, arith)
+agrees Amiga id = search (rules, arith)
+agrees C1541 id = search (rules, arith, cells_same, sectors_same)
+agrees C1541Forty id = search (rules, arith, cells_same, sectors_same)
+agrees AppleDo id = search (rules, arith)
+agrees ApplePo id = search (rules, arith)

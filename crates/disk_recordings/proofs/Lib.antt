@@ -1,0 +1,3 @@
+pub mod Zones
+pub mod Agree
+pub mod Recorded

@@ -1,0 +1,42 @@
+-- What the laws of the recordings come to for the formats.
+use Rattle.std.specs.Prelude.{◌≡◌, ◌≤◌, ℕ, ◌+◌, List, length, drop}
+use Rattle.cell_bits.specs.Broken.{Unbroken}
+use Rattle.flux_base.specs.declared.track.TrackId.{TrackId}
+use Rattle.frame_law.specs.Laws.{ReadingsAreAll, ReadingsAreOne, SectorsAreTold}
+use Rattle.sector_images.specs.Formats.{row, zone}
+use Rattle.sector_images.specs.Places.{IsSector, IsTrack}
+use Rattle.sector_images.specs.declared.format.Format.{Format}
+use Rattle.track_rings.specs.Rings.{AreSectors, IsSpaced, LiesAt, bytes_of, stretch}
+use Rattle.disk_recordings.specs.Members.{frame_cells, header_at, place_in_ring, ring_at, sector_at}
+use Rattle.disk_recordings.specs.declared.disk_id.DiskId.{DiskId}
+
+-- Of each format's tracks, the cells tell which header and which sector stands in them, a list is what repeated searches find
+-- exactly where it is all that stands there, and they find one list.
+pub record TracksAreRead : Type 0 where
+  pub told : (format : Format) (track : TrackId) → SectorsAreTold (header_at format track) (sector_at format track) (row format).sector_size
+  pub all : (format : Format) (track : TrackId) → ReadingsAreAll (header_at format track) (sector_at format track)
+  pub one : (format : Format) (track : TrackId) → ReadingsAreOne (header_at format track) (sector_at format track)
+
+-- the bytes of all sectors of a track
+abbrev pub AreTrackBytes : Format → TrackId → List ℕ → Type 0
+AreTrackBytes format track bytes = AreSectors (zone format track.cylinder).sectors (row format).sector_size bytes
+
+-- the ring of each track has the format's cells, and its neighbouring ones are 1 to 4 cells apart
+abbrev pub RingsHaveCells : Type 0
+RingsHaveCells = (format : Format) (id : DiskId) (track : TrackId) (bytes : List ℕ) → IsTrack format track → AreTrackBytes format track bytes
+    → (length (ring_at format id track bytes) ≡ (zone format track.cylinder).ring_cells) × IsSpaced 1 4 (ring_at format id track bytes)
+
+-- in any stretch of the repeated ring in which a sector's frame lies whole, the sector stands with its bytes
+abbrev pub SectorsStand : Type 0
+SectorsStand = (format : Format) (id : DiskId) (track : TrackId) (bytes : List ℕ) (s from count place : ℕ) → IsTrack format track
+    → AreTrackBytes format track bytes → IsSector format track s
+    → LiesAt (zone format track.cylinder).ring_cells (place_in_ring format track s) (frame_cells format) from count place
+    → sector_at format track (drop place (stretch (ring_at format id track bytes) from count)) s
+    (bytes_of (row format).first_sector (row format).sector_size bytes s)
+
+-- a sector's frame lies whole in the ring, and is unbroken there
+abbrev pub FramesAreWhole : Type 0
+FramesAreWhole = (format : Format) (id : DiskId) (track : TrackId) (bytes : List ℕ) (s : ℕ) → IsTrack format track → AreTrackBytes format track bytes
+    → IsSector format track s
+    → (place_in_ring format track s + frame_cells format ≤ (zone format track.cylinder).ring_cells)
+    × Unbroken (ring_at format id track bytes) (place_in_ring format track s) (place_in_ring format track s + frame_cells format)

@@ -1,0 +1,4 @@
+pub mod Recordings
+pub mod Members
+pub mod Agreement
+pub mod Laws

@@ -1,0 +1,27 @@
+-- What stands on the tracks of a format, by the format's recording.
+use Rattle.std.specs.Prelude.{ℕ, Bool, List}
+use Rattle.flux_base.specs.declared.track.TrackId.{TrackId}
+use Rattle.sector_images.specs.declared.format.Format.{Format}
+use Rattle.disk_recordings.specs.Recordings.{ANY_ID, recording_of}
+use Rattle.disk_recordings.specs.contracts.meaning.DiskRecordingMeaning.TheImpl.{ghosts}
+use Rattle.disk_recordings.specs.declared.disk_id.DiskId.{DiskId}
+
+-- the header of this sector of the track stands at the front of the cells
+abbrev pub header_at : Format → TrackId → List Bool → ℕ → Type 0
+header_at format = ghosts.header_at (recording_of format ANY_ID)
+
+-- this sector of the track stands at the front of the cells, with these bytes
+abbrev pub sector_at : Format → TrackId → List Bool → ℕ → List ℕ → Type 0
+sector_at format = ghosts.sector_at (recording_of format ANY_ID)
+
+-- the ring of a track with these bytes of its sectors, on a disk with this id
+abbrev pub ring_at : Format → DiskId → TrackId → List ℕ → List Bool
+ring_at format id = ghosts.ring (recording_of format id)
+
+-- the place in the ring at which a sector's header begins
+abbrev pub place_in_ring : Format → TrackId → ℕ → ℕ
+place_in_ring format = ghosts.sector_place (recording_of format ANY_ID)
+
+-- how many cells of the ring a sector's frame has
+abbrev pub frame_cells : Format → ℕ
+frame_cells format = ghosts.frame_cells (recording_of format ANY_ID)

@@ -1,0 +1,16 @@
+/// The two bytes of a Commodore 1541 disk's id. No other disk has one.
+#[derive(Clone, Copy, Debug, PartialEq, Eq)]
+pub struct DiskId {
+    /// The first character.
+    pub first: u8,
+    /// The second character.
+    pub second: u8,
+}
+
+impl DiskId {
+    /// An id for disks that are read: what stands on them is the same for all ids.
+    pub const ANY: DiskId = DiskId {
+        first: 0,
+        second: 0,
+    };
+}

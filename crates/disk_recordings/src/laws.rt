@@ -1,0 +1,24 @@
+//! What the laws of the recordings come to for the formats: for all tracks, ids, bytes and cells.
+
+ghost use Rattle.disk_recordings.specs.Laws.{FramesAreWhole, RingsHaveCells, SectorsStand, TracksAreRead};
+
+use crate::recordings::DiskRecording;
+use frame_law::{readings_are_all, rings_hold_sectors, sectors_are_told};
+
+/// The cells of a format's track tell what stands in them, and repeated searches find all of it, as one list.
+pub fn tracks_are_read()
+    ensures { TracksAreRead }
+{
+    sectors_are_told::<DiskRecording>();
+    readings_are_all::<DiskRecording>()
+}
+
+/// The ring of a format's track has the format's cells, with neighbouring ones 1 to 4 cells apart, and has each
+/// sector of the track, whole and unbroken.
+pub fn tracks_have_rings()
+    ensures cells { RingsHaveCells }
+    ensures stand { SectorsStand }
+    ensures whole { FramesAreWhole }
+{
+    rings_hold_sectors::<DiskRecording>()
+}

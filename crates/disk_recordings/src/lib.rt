@@ -1,0 +1,12 @@
+//! Which recording the tracks of each format have. This is the one place that names the recordings: whoever
+//! reads or writes disks goes through [`Recording`](frame_law::Recording) alone.
+#![tactic(auto)]
+
+mod disk_id;
+mod laws;
+mod meaning;
+mod recordings;
+
+pub use disk_id::DiskId;
+pub use laws::{tracks_are_read, tracks_have_rings};
+pub use recordings::{DiskRecording, has_id, recording_of};
