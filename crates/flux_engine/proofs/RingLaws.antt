@@ -14,7 +14,7 @@ use Rattle.commodore_gcr.specs.RingLaws.{ring_length as ring_length-commodore, r
 use Rattle.commodore_gcr.specs.Zones.{sectors_of as sectors_of-commodore, zone_of}
 use Rattle.flux_base.specs.declared.outside.Memory.{Memory}
 use Rattle.flux_base.specs.declared.track.TrackId.{TrackId}
-use Rattle.flux_writer.specs.Reading.{HasEarlyOne, IsStreamOf}
+use Rattle.flux_writer.specs.Reading.{MOST_RING_CELLS, HasEarlyOne, IsStreamOf}
 use Rattle.flux_writer.specs.Written.{cell_time, ones_of, stream_of, track_cells, track_turns}
 use Rattle.track_rings.specs.Rings.{AreSectors, IsSpaced}
 use Rattle.ibm_fm.specs.RingLaws.{ring_length as ring_length-fm, ring_spaced as ring_spaced-fm}
@@ -283,7 +283,7 @@ made_ring format number track image bytes (Ok u) cells at known is sectors made 
 
 -- what the writer promises of a ring's stream
 abbrev pub RingsAreRead : Type 0
-RingsAreRead = (ring : List Bool) (nominal : ℕ) → 1024 ≤ nominal → nominal ≤ 131072 → length ring ≤ 262144 → HasEarlyOne ring
+RingsAreRead = (ring : List Bool) (nominal : ℕ) → 1024 ≤ nominal → nominal ≤ 131072 → length ring ≤ MOST_RING_CELLS → HasEarlyOne ring
     → IsStreamOf (stream_of ring nominal) (map (cell_time nominal) (ones_of (track_cells ring))) (map (cell_time nominal) (track_turns ring))
 
 pub track_known : NumbersNameTracks → (format : Format) (k : ℕ) → k < length (tracks format) → IsTrack format (track_at format k)
