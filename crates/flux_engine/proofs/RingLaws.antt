@@ -13,7 +13,7 @@ use Rattle.disk_recordings.specs.contracts.meaning.DiskRecordingMeaning.TheImpl.
 use Rattle.disk_recordings.specs.declared.disk_id.DiskId.{DiskId}
 use Rattle.flux_base.specs.declared.outside.Memory.{Memory}
 use Rattle.flux_base.specs.declared.track.TrackId.{TrackId}
-use Rattle.flux_writer.specs.Reading.{HasEarlyOne, IsStreamOf}
+use Rattle.flux_writer.specs.Reading.{MOST_RING_CELLS, HasEarlyOne, IsStreamOf}
 use Rattle.flux_writer.specs.Written.{cell_time, ones_of, stream_of, track_cells, track_turns}
 use Rattle.track_rings.specs.Rings.{AreSectors}
 use Rattle.sector_images.specs.Formats.{Zone, commodore_zone, row, zone}
@@ -197,7 +197,7 @@ made_ring have format number track image bytes (Ok u) cells at known is sectors 
 
 -- what the writer promises of a ring's stream
 abbrev pub RingsAreRead : Type 0
-RingsAreRead = (ring : List Bool) (nominal : ℕ) → 1024 ≤ nominal → nominal ≤ 131072 → length ring ≤ 262144 → HasEarlyOne ring
+RingsAreRead = (ring : List Bool) (nominal : ℕ) → 1024 ≤ nominal → nominal ≤ 131072 → length ring ≤ MOST_RING_CELLS → HasEarlyOne ring
     → IsStreamOf (stream_of ring nominal) (map (cell_time nominal) (ones_of (track_cells ring))) (map (cell_time nominal) (track_turns ring))
 
 pub track_known : NumbersNameTracks → (format : Format) (k : ℕ) → k < length (tracks format) → IsTrack format (track_at format k)

@@ -1,14 +1,15 @@
 -- The streams of cells and of rings are read back.
-use Rattle.std.proofs.Common.{◌≡◌, ◌≤◌, ◌<◌, ◌+◌, ◌-◌, ◌*◌, ◌/◌, ℕ, zero, suc, Bool, true, false, cond, List, [], ◌∷◌, All, length, map, take, get_or, ap, sym, ◌∙◌, refl, subst, arith, length-append}
+use Rattle.std.proofs.Common.{◌≡◌, ◌≤◌, ◌<◌, ◌+◌, ◌-◌, ◌*◌, ℕ, zero, suc, Bool, true, false, cond, List, [], ◌∷◌, All, length, map, take, get_or, ap, sym, ◌∙◌, refl, subst, arith, length-append}
 use Rattle.std.specs.List.Sorted.{IsNonDecreasing, IsStrictlyIncreasing}
 use Rattle.std.proofs.lemmas.List.{length-map, get_or-take, get_or-append_right, length-take-le}
 use Rattle.std.proofs.lemmas.List.Elements.{All-nil, All-cons, All-weaker, All-head}
 use Rattle.std.proofs.Math.Nat.{mul-le-mul}
 use Rattle.flux_writer.specs.Written.{cell_time, ones_of, stream_of_times, stream_of_turns, stream_of, track_cells, track_turns, quarter}
 use Rattle.flux_writer.specs.Writing.{ones_from}
-use Rattle.flux_writer.specs.Reading.{last_of, EndsWithTransition, HasOneBehind, HasEarlyOne, IsStreamOf}
+use Rattle.flux_writer.specs.Reading.{MOST_RING_CELLS, last_of, EndsWithTransition, HasOneBehind, HasEarlyOne, IsStreamOf}
 use Rattle.flux_writer.proofs.Rising.{Rises}
 use Rattle.flux_writer.proofs.CellTimes.{cell_time-le, cell_time-lt, ones_of-is}
+use Rattle.flux_writer.proofs.Sizes.{stream_takes_close}
 use Rattle.flux_writer.proofs.Rings.{rising_times, turns_rise, cells_after, length-cells_after, all_parts}
 
 -- the numbers of ones are at least that of the first cell, below that behind the last, and rise
@@ -104,10 +105,6 @@ abbrev pub ReadsLaw : Type 0
 ReadsLaw = (transitions turns : List ℕ) → IsNonDecreasing transitions → IsStrictlyIncreasing turns → EndsWithTransition transitions turns
     → 2 ≤ length turns → length (stream_of_times transitions turns) ≤ 4194304 → IsStreamOf (stream_of_times transitions turns) transitions turns
 
-abbrev pub SizeLaw : Type 0
-SizeLaw = (transitions turns : List ℕ) → IsNonDecreasing transitions → IsStrictlyIncreasing turns
-    → length (stream_of_times transitions turns) ≤ 3 * length transitions + last_of transitions / 65536 + 16 * length turns + 16
-
 pub turns_read : ReadsLaw → (cells : List Bool) (turns : List ℕ) (nominal : ℕ) → 1024 ≤ nominal → IsStrictlyIncreasing turns
     → All (HasOneBehind cells) turns → 2 ≤ length turns → length (stream_of_turns cells turns nominal) ≤ 4194304
     → IsStreamOf (stream_of_turns cells turns nominal) (map (cell_time nominal) (ones_of cells)) (map (cell_time nominal) turns)
@@ -139,7 +136,7 @@ last_within nominal cells =
     last_of_all [] bound all = omega arith
     last_of_all (x ∷ xs) bound all = all (length (x ∷ xs) - 1) 0 (omega arith)
 
-length-track_cells : (ring : List Bool) → length (track_cells ring) ≤ 4 * length ring
+length-track_cells : (ring : List Bool) → length (track_cells ring) ≡ quarter ring + 3 * length ring + quarter ring
 length-track_cells ring =
     omega (
       arith,
@@ -149,17 +146,19 @@ length-track_cells ring =
       length-take-le (quarter ring) ring (omega arith),
     )
 
-track_is_short : SizeLaw → (ring : List Bool) (nominal : ℕ) → 1024 ≤ nominal → nominal ≤ 131072 → 0 < length ring → length ring ≤ 262144
+-- two bytes a cell, and one for each 2048 ticks: a cell has at most 128, so that the longest ring takes less than a stream may have
+track_is_short : (ring : List Bool) (nominal : ℕ) → 1024 ≤ nominal → nominal ≤ 131072 → 0 < length ring → length ring ≤ MOST_RING_CELLS
     → length (stream_of ring nominal) ≤ 4194304
-track_is_short law ring nominal long short some few =
+track_is_short ring nominal long short some few =
     let cells = track_cells ring in
     let ts = map (cell_time nominal) (ones_of cells) in
-    let size = law ts (map (cell_time nominal) (track_turns ring)) (transitions_in_order nominal cells) (rising_times nominal (track_turns ring) long (turns_rise ring some)) in
+    let size = stream_takes_close ts (map (cell_time nominal) (track_turns ring)) (transitions_in_order nominal cells)
+    (rising_times nominal (track_turns ring) long (turns_rise ring some)) in
     let ones : length ts ≤ length cells =
     omega (arith, length-map (ones_of cells) (cell_time nominal), ap length (ones_of-is cells), ones_few 0 cells) in
-    let most : length cells + 1 ≤ 1048577 = omega (arith, few, length-track_cells ring) in
-    let product : (length cells + 1) * nominal ≤ 1048577 * 131072 = mul-le-mul most short in
-    omega (arith, size, ones, last_within nominal cells, product, few, length-track_cells ring)
+    let most : length cells + 1 ≤ 1835009 = omega (arith, few, length-track_cells ring) in
+    let product : (length cells + 1) * nominal ≤ 1835009 * 131072 = mul-le-mul most short in
+    omega (arith, size, ones, last_within nominal cells, product, most)
 
 -- the early one of a ring stands behind the last index cell
 ones_behind_turns : (ring : List Bool) → HasEarlyOne ring → All (HasOneBehind (track_cells ring)) (track_turns ring)
@@ -186,10 +185,10 @@ TurnsLaw = (cells : List Bool) (turns : List ℕ) (nominal : ℕ) → 1024 ≤ n
     → All (HasOneBehind cells) turns → 2 ≤ length turns → length (stream_of_turns cells turns nominal) ≤ 4194304
     → IsStreamOf (stream_of_turns cells turns nominal) (map (cell_time nominal) (ones_of cells)) (map (cell_time nominal) turns)
 
-pub track_reads : SizeLaw → TurnsLaw → (ring : List Bool) (nominal : ℕ) → 1024 ≤ nominal → nominal ≤ 131072 → length ring ≤ 262144
+pub track_reads : TurnsLaw → (ring : List Bool) (nominal : ℕ) → 1024 ≤ nominal → nominal ≤ 131072 → length ring ≤ MOST_RING_CELLS
     → HasEarlyOne ring → IsStreamOf (stream_of ring nominal) (map (cell_time nominal) (ones_of (track_cells ring)))
     (map (cell_time nominal) (track_turns ring))
-track_reads size law ring nominal long short few early =
+track_reads law ring nominal long short few early =
     let some : 0 < length ring = omega (arith, early.1, early.2) in
     law (track_cells ring) (track_turns ring) nominal long (turns_rise ring some) (ones_behind_turns ring early) (omega arith)
-    (track_is_short size ring nominal long short some few)
+    (track_is_short ring nominal long short some few)

@@ -51,6 +51,24 @@ length-interval ticks =
       (length-flux_spelling (ticks % 65536)).1,
     )
 
+-- no more than two where it is below 2048
+length-flux_close : (ticks : ℕ) (one two : Bool) → (two ≡ false → 2048 ≤ ticks) → length (flux_bytes ticks one two) ≤ ticks / 2048 + 2
+length-flux_close ticks true two far = omega arith
+length-flux_close ticks false true far = omega arith
+length-flux_close ticks false false far = omega (arith, far refl)
+
+pub length-interval_close : (ticks : ℕ) → length (spellings (interval_blocks ticks)) ≤ (ticks / 65536 + ticks / 2048) + 2
+length-interval_close ticks =
+    let rest : ℕ = ticks % 65536 in
+    let far : nat_lt rest 2048 ≡ false → 2048 ≤ rest = λ not_below. grind (arith, nat_tests) in
+    omega (
+      arith,
+      ap length (spellings-interval ticks),
+      length-append (replicate (ticks / 65536) 11) (flux_spelling rest),
+      length-replicate {A = ℕ} (ticks / 65536) 11,
+      length-flux_close rest (nat_le 14 rest && nat_lt rest 256) (nat_lt rest 2048) far,
+    )
+
 -- several transitions, and then more
 pub many_blocks-append : (position begin : ℕ) (xs ys indexes : List ℕ)
     → many_blocks position begin (xs ++ ys) indexes ≡ many_blocks position begin xs indexes

@@ -15,6 +15,10 @@ EndsWithTransition transitions turns = 0 < length turns → last_of turns < last
 abbrev pub HasOneBehind : List Bool → ℕ → Type 0
 HasOneBehind cells place = (one : ℕ) × (place < one) × (get_or cells one false ≡ true)
 
+-- the most cells of a ring that is written
+abbrev pub MOST_RING_CELLS : ℕ
+MOST_RING_CELLS = 524288
+
 -- a cell that is a one stands in the ring's first quarter, behind its first cell, and so behind the last index cell of what
 -- is written of the ring
 abbrev pub HasEarlyOne : List Bool → Type 0

@@ -1,6 +1,6 @@
 ghost use Rattle.std.specs.Prelude.{◌≤◌, ◌+◌, ◌*◌, ◌/◌, ℕ, List, Bool, All, length, map};
 ghost use Rattle.std.specs.List.Sorted.{IsNonDecreasing, IsStrictlyIncreasing};
-ghost use Rattle.flux_writer.specs.Reading.{last_of, EndsWithTransition, HasOneBehind, HasEarlyOne, IsStreamOf};
+ghost use Rattle.flux_writer.specs.Reading.{MOST_RING_CELLS, last_of, EndsWithTransition, HasOneBehind, HasEarlyOne, IsStreamOf};
 ghost use Rattle.kryo_stream.specs.Protocol.{OVERFLOW_TICKS};
 ghost use Rattle.flux_writer.specs.Written.{stream_of_times, stream_of_turns, stream_of, cell_time, ones_of, track_cells, track_turns};
 
@@ -31,13 +31,12 @@ pub fn turns_law()
     written_law();
 }
 
-/// The written stream of a ring of at most 262144 cells is read as the times of the ones and of the index cells of
+/// The written stream of a ring that `write_track` takes is read as the times of the ones and of the index cells of
 /// what is written of the ring: its last quarter, three turns and its first quarter.
 pub fn track_law()
-    ensures { (ring : List Bool) (nominal : ℕ) → 1024 ≤ nominal → nominal ≤ 131072 → length ring ≤ 262144
+    ensures { (ring : List Bool) (nominal : ℕ) → 1024 ≤ nominal → nominal ≤ 131072 → length ring ≤ MOST_RING_CELLS
         → HasEarlyOne ring → IsStreamOf (stream_of ring nominal) (map (cell_time nominal) (ones_of (track_cells ring)))
         (map (cell_time nominal) (track_turns ring)) }
 {
-    written_law();
     turns_law();
 }

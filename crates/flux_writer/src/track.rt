@@ -2,7 +2,7 @@ ghost use Rattle.std.specs.Prelude.{◌≡◌, ◌<◌, ◌≤◌, ◌+◌, ◌-
 ghost use Rattle.std.specs.List.Sorted.{IsStrictlyIncreasing};
 ghost use Rattle.std.specs.Io.KnownBytes.{Appends};
 ghost use Rattle.flux_base.specs.Outside.{AppendsPart, Rose};
-ghost use Rattle.flux_writer.specs.Reading.{HasOneBehind, HasEarlyOne};
+ghost use Rattle.flux_writer.specs.Reading.{MOST_RING_CELLS, HasOneBehind, HasEarlyOne};
 ghost use Rattle.flux_writer.specs.Writing.{IsReadyAt, IsWritten, many_blocks, times_between, track_times};
 ghost use Rattle.kryo_stream.specs.Sequence.{spellings};
 ghost use Rattle.flux_writer.specs.Written.{stream_of, stream_of_turns};
@@ -55,7 +55,7 @@ pub fn write_turns<W: Sink>(
 pub fn write_track<W: Sink>(ring: &Cells, nominal: u32, sink: &mut W) -> Result<(), Failed>
     requires least { 16384 ≤ nominal }
     requires most { nominal ≤ 131072 }
-    requires few { length ring.now.cells ≤ 524288 }
+    requires few { length ring.now.cells ≤ MOST_RING_CELLS }
     requires one { HasEarlyOne ring.now.cells }
     ensures ok { OnOk result (Appends (W.written sink.old) (W.written sink.new)
         (stream_of ring.now.cells nominal)) }
@@ -94,7 +94,7 @@ fn write_ring<W: Sink>(
     nominal: u32,
     sink: &mut W,
 ) -> Result<(), Failed>
-    requires few { length ring.now.cells ≤ 524288 }
+    requires few { length ring.now.cells ≤ MOST_RING_CELLS }
     requires nominal { nominal ≤ 131072 }
     requires piece { stream.old.piece ≡ [] }
     requires position { stream.old.position ≡ 0 }
