@@ -1,98 +1,73 @@
--- A sector's frame as the ring has it, whatever comes behind it: the sector stands there.
-use Rattle.std.specs.Prelude.{◌≡◌, ℕ, ◌+◌, ◌*◌, ◌<◌, ◌≤◌, Bool, true, false, List, ◌∷◌, ◌++◌, length, take, drop, replicate, refl}
-use Rattle.std.proofs.Common.{ap, sym, subst, ◌∙◌, arith, append_assoc, inl, inr, length-append, lit<, lit≤}
+-- A sector's frame as it is written, whatever comes after it: its header names the sector, and its data hold the bytes.
+use Rattle.std.specs.Prelude.{◌≡◌, ℕ, ◌+◌, ◌*◌, ◌<◌, ◌≤◌, Bool, true, false, List, [], ◌∷◌, ◌++◌, length, take, drop, replicate, refl}
+use Rattle.std.proofs.Common.{ap, sym, subst, ◌∙◌, arith, append_assoc, append-nil, inl, inr, length-append, lit<, lit≤}
 use Rattle.flux_base.specs.declared.track.TrackId.{TrackId}
 use Rattle.cell_bits.specs.Bytes.{data_byte, data_cells, fm, fm_cells}
 use Rattle.cell_bits.specs.Word.{Stands, number_of, word_cells}
 use Rattle.cell_bits.specs.WordLaws.{length-word_cells}
 use Rattle.track_rings.specs.Gaps.{begins, free_of, gap-free}
 use Rattle.track_rings.specs.Parts.{drop-past, take-first}
+use Rattle.track_rings.specs.Rings.{IsSectorNumber}
+use Rattle.track_rings.specs.Rows.{coded, rows_cells}
 use Rattle.track_rings.specs.SectorParts.{AreBytes}
+use Rattle.frame_law.specs.Frames.{FrameStands}
 use Rattle.ibm_fields.specs.Fields.{bytes_at, high_first, number_at}
 use Rattle.ibm_fields.specs.FieldLaws.{bytes_at-past, data_byte-past, number_at-past}
 use Rattle.ibm_fields.specs.Numbers.{crc-lt}
-use Rattle.ibm_fm.specs.Density.{IsDense, dense-append, dense-data_mark, dense-fm_bytes, dense-id_mark, unbroken-first}
-use Rattle.ibm_fm.specs.Layout.{field_cells, fm_bytes}
-use Rattle.ibm_fm.specs.Lengths.{length-fm_bytes}
-use Rattle.ibm_fm.specs.ReadLaws.{number_at-behind, reads-first}
-use Rattle.ibm_fm.specs.Sectors.{HeaderStands, IsTrack, OpensData, SectorStands, address_of, check_of}
+use Rattle.ibm_fm.specs.Layout.{field_cells, fm_bytes, row_cells, rows}
+use Rattle.ibm_fm.specs.ReadLaws.{number_at-after, reads-first}
+use Rattle.ibm_fm.specs.RowLaws.{length-fm_bytes}
+use Rattle.ibm_fm.specs.Sectors.{Hold, IsSync, IsTrack, NamesSector, address_of, check_of}
 
--- the header's cells
-abbrev pub header_cells : TrackId → ℕ → List Bool
-header_cells track sector = word_cells 16 0xF57E ++ field_cells 0xFE (address_of track sector)
-
--- the gap from there to the data, and the data mark
-unfoldable pub gap_and_mark : List Bool
+-- the gap from a header to the data, and the data mark
+unfoldable gap_and_mark : List Bool
 gap_and_mark = fm_bytes (replicate 11 0xFF) ++ (fm_bytes (replicate 6 0x00) ++ word_cells 16 0xF56F)
 
--- the frame's cells
-abbrev pub frame_of : TrackId → ℕ → List ℕ → List Bool
-frame_of track sector bytes = header_cells track sector ++ (gap_and_mark ++ field_cells 0xFB bytes)
+-- a frame's cells, and what comes after them
+abbrev frame_of : TrackId → ℕ → List ℕ → List Bool → List Bool
+frame_of track sector bytes rest = word_cells 16 0xF57E ++ (field_cells 0xFE (address_of track sector) ++ (gap_and_mark ++ (field_cells 0xFB bytes ++ rest)))
+
+regroup : (i a g z m f rest : List Bool) → (i ++ (a ++ (g ++ (z ++ (m ++ (f ++ [])))))) ++ rest ≡ i ++ (a ++ ((g ++ (z ++ m)) ++ (f ++ rest)))
+regroup i a g z m f rest = simp (append_assoc, append-nil)
+
+frame-cells : (track : TrackId) (sector : ℕ) (bytes : List ℕ) (before : Bool) (rest : List Bool)
+    → rows_cells false (row_cells track) before sector bytes rows.frame ++ rest ≡ frame_of track sector bytes rest
+unfolding rows_cells coded gap_and_mark
+frame-cells track sector bytes before rest =
+    regroup (word_cells 16 0xF57E) (field_cells 0xFE (address_of track sector)) (fm_bytes (replicate 11 0xFF)) (fm_bytes (replicate 6 0x00))
+    (word_cells 16 0xF56F) (field_cells 0xFB bytes) rest
 
 length-field_cells : (mark : ℕ) (bytes : List ℕ) → length (field_cells mark bytes) ≡ 16 * (length bytes + 2)
 length-field_cells mark bytes =
     let check = high_first (check_of mark bytes) in
     length-fm_bytes (bytes ++ check) ∙ ap (λ (n : ℕ). 16 * n) (length-append bytes check)
 
-length-header_cells : (track : TrackId) (sector : ℕ) → length (header_cells track sector) ≡ 112
-length-header_cells track sector =
-    let whole = length-append (word_cells 16 0xF57E) (field_cells 0xFE (address_of track sector)) in
-    omega (arith, whole, length-word_cells 16 0xF57E, length-field_cells 0xFE (address_of track sector))
-
 length-gap_and_mark : length gap_and_mark ≡ 288
 unfolding gap_and_mark fm fm_cells word_cells
 length-gap_and_mark = refl
 
-pub length-frame_of : (track : TrackId) (sector : ℕ) (bytes : List ℕ) → length bytes ≡ 128 → length (frame_of track sector bytes) ≡ 2480
-length-frame_of track sector bytes size =
-    let whole = length-append (header_cells track sector) (gap_and_mark ++ field_cells 0xFB bytes) in
-    let rest = length-append gap_and_mark (field_cells 0xFB bytes) in
-    omega (arith, whole, rest, length-header_cells track sector, length-gap_and_mark, length-field_cells 0xFB bytes)
+-- the mark of a header, and what comes after it
+mark-begins : (rest : List Bool) → Stands (word_cells 16 0xF57E ++ rest) 0xF57E 16 0
+mark-begins rest = take-first (word_cells 16 0xF57E) rest 16 (length-word_cells 16 0xF57E)
 
-dense-field : (mark : ℕ) (bytes : List ℕ) → IsDense false (field_cells mark bytes)
-dense-field mark bytes = dense-fm_bytes (bytes ++ high_first (check_of mark bytes))
-
-dense-header : (track : TrackId) (sector : ℕ) → IsDense false (header_cells track sector)
-dense-header track sector =
-    dense-append false (word_cells 16 0xF57E) (field_cells 0xFE (address_of track sector)) dense-id_mark
-    (dense-field 0xFE (address_of track sector))
-
-dense-gap_and_mark : IsDense false gap_and_mark
-unfolding gap_and_mark
-dense-gap_and_mark =
-    dense-append false (fm_bytes (replicate 11 0xFF)) (fm_bytes (replicate 6 0x00) ++ word_cells 16 0xF56F) (dense-fm_bytes (replicate 11 0xFF))
-    (dense-append false (fm_bytes (replicate 6 0x00)) (word_cells 16 0xF56F) (dense-fm_bytes (replicate 6 0x00)) dense-data_mark)
-
-dense-frame : (track : TrackId) (sector : ℕ) (bytes : List ℕ) → IsDense false (frame_of track sector bytes)
-dense-frame track sector bytes =
-    dense-append false (header_cells track sector) (gap_and_mark ++ field_cells 0xFB bytes) (dense-header track sector)
-    (dense-append false gap_and_mark (field_cells 0xFB bytes) dense-gap_and_mark (dense-field 0xFB bytes))
-
--- the header stands at the front of its cells
-pub header_stands : (track : TrackId) (sector : ℕ) (rest : List Bool) → IsTrack track → 1 ≤ sector → sector ≤ 26
-    → HeaderStands track (header_cells track sector ++ rest) sector
+-- a header names its sector
+names-sector : (track : TrackId) (sector : ℕ) (rest : List Bool) → IsTrack track → IsSectorNumber 1 26 sector
+    → NamesSector track (word_cells 16 0xF57E ++ (field_cells 0xFE (address_of track sector) ++ rest)) sector
 unfolding AreBytes
-header_stands track sector rest known least most =
-    let cells = header_cells track sector ++ rest in
+names-sector track sector rest known number =
     let mark = word_cells 16 0xF57E in
-    let field = field_cells 0xFE (address_of track sector) in
     let address = address_of track sector in
     let check = high_first (check_of 0xFE address) in
-    let apart : cells ≡ mark ++ (field ++ rest) = append_assoc mark field rest in
+    let behind = field_cells 0xFE address ++ rest in
     let size : length mark ≡ 16 = length-word_cells 16 0xF57E in
-    let fit : AreBytes address = (omega (arith, known.cylinder), (omega (arith, known.head), (omega arith, (lit< tt, tt)))) in
+    let low : sector < 256 = omega (arith, number.most) in
+    let fit : AreBytes address = (omega (arith, known.cylinder), (omega (arith, known.head), (low, (lit< tt, tt)))) in
     record {
-      mark = ap (λ (some : List Bool). take 16 some) apart ∙ take-first mark (field ++ rest) 16 size;
-      whole = (let e = length-append (header_cells track sector) rest in omega (arith, e, length-header_cells track sector));
-      address = ap (λ (some : List Bool). bytes_at some 16 4) apart ∙ bytes_at-past mark (field ++ rest) 16 0 4 size
-          ∙ reads-first address check rest fit;
-      known = (least, most);
-      check = ap (λ (some : List Bool). number_at some 80) apart ∙ number_at-past mark (field ++ rest) 16 64 size
-          ∙ number_at-behind address (check_of 0xFE address) rest (crc-lt 0xFFFF (0xFE ∷ address) (lit< tt));
-      unbroken = unbroken-first (header_cells track sector) rest 112 (dense-header track sector) (length-header_cells track sector);
+      address = bytes_at-past mark behind 16 0 4 size ∙ reads-first address check rest fit;
+      check = number_at-past mark behind 16 64 size ∙ number_at-after address (check_of 0xFE address) rest (crc-lt 0xFFFF (0xFE ∷ address) (lit< tt));
     }
 
--- in the gap no mark stands, and behind it the data's does
+-- in the gap no mark stands, and after it the data's does
 free_of_marks : (rest : List Bool)
     → (free_of (word_cells 16 0xF57E) 272 (gap_and_mark ++ rest) ≡ true)
     × (free_of (word_cells 16 0xF56F) 272 (gap_and_mark ++ rest) ≡ true)
@@ -109,64 +84,64 @@ gap_byte : (rest : List Bool) → data_byte (gap_and_mark ++ rest) 272 ≡ 0xFB
 unfolding gap_and_mark fm fm_cells word_cells data_byte data_cells number_of
 gap_byte rest = refl
 
--- the first mark behind the header is the data mark
-opens : (track : TrackId) (sector : ℕ) (rest : List Bool) → OpensData (header_cells track sector ++ (gap_and_mark ++ rest)) 384
-opens track sector rest =
-    let header = header_cells track sector in
-    let size = length-header_cells track sector in
+no-mark : (header rest : List Bool) (place : ℕ) → length header ≡ 112 → 112 ≤ place → place < 384 → ¬ IsSync (header ++ (gap_and_mark ++ rest)) place
+no-mark header rest place size above below some =
     let gap = gap_and_mark ++ rest in
     let free = free_of_marks rest in
-    let none : (place mark : ℕ) → 112 ≤ place → place < 384 → free_of (word_cells 16 mark) 272 gap ≡ true → ¬ Stands (header ++ gap) mark 16 place =
-    λ place mark above below none_there. gap-free mark 16 272 header gap 112 place (lit≤ tt) none_there size above below in
+    let none : (mark : ℕ) → free_of (word_cells 16 mark) 272 gap ≡ true → ¬ Stands (header ++ gap) mark 16 place =
+    λ mark none_there. gap-free mark 16 272 header gap 112 place (lit≤ tt) none_there size above below in
+    elim some [
+      | inl data_mark ↦ elim data_mark [
+        | inl stands ↦ none 0xF56F free.1 stands
+        | inr stands ↦ none 0xF56A free.2 stands
+      ]
+      | inr other ↦ elim other [
+        | inl stands ↦ none 0xF57E free.0 stands
+        | inr stands ↦ none 0xF77A free.3 stands
+      ]
+    ]
+
+-- data hold their bytes
+holds : (header : List Bool) (bytes : List ℕ) (rest : List Bool) → length header ≡ 112 → AreBytes bytes → length bytes ≡ 128
+    → Hold (header ++ (gap_and_mark ++ (field_cells 0xFB bytes ++ rest))) 384 bytes
+holds header bytes rest header_size fit size =
+    let check = high_first (check_of 0xFB bytes) in
+    let behind = field_cells 0xFB bytes ++ rest in
+    let gap = gap_and_mark ++ behind in
+    let byte : data_byte (header ++ gap) 384 ≡ 0xFB = data_byte-past header gap 112 272 header_size ∙ gap_byte behind in
     record {
-      behind = lit≤ tt;
-      near = lit< tt;
-      opens = inl (ap (take 16) (drop-past header gap 112 272 size) ∙ gap_mark rest);
-      first = λ place above below some. elim some [
-        | inl data_mark ↦ elim data_mark [
-          | inl stands ↦ none place 0xF56F above below free.1 stands
-          | inr stands ↦ none place 0xF56A above below free.2 stands
-        ]
-        | inr other ↦ elim other [
-          | inl stands ↦ none place 0xF57E above below free.0 stands
-          | inr stands ↦ none place 0xF77A above below free.3 stands
-        ]
-      ];
+      opens = inl (ap (take 16) (drop-past header gap 112 272 header_size) ∙ gap_mark behind);
+      content = bytes_at-past header gap 112 288 128 header_size
+          ∙ bytes_at-past gap_and_mark behind 288 0 128 length-gap_and_mark
+          ∙ ap (bytes_at behind 0) (sym size)
+          ∙ reads-first bytes check rest fit;
+      check = number_at-past header gap 112 2336 header_size
+          ∙ number_at-past gap_and_mark behind 288 2048 length-gap_and_mark
+          ∙ ap (λ (n : ℕ). number_at behind (16 * n)) (sym size)
+          ∙ number_at-after bytes (check_of 0xFB bytes) rest (crc-lt 0xFFFF (0xFB ∷ bytes) (lit< tt))
+          ∙ ap (λ (mark : ℕ). check_of mark bytes) (sym byte);
     }
 
--- the sector stands at the front of its frame
-pub frame_stands : (track : TrackId) (sector : ℕ) (bytes : List ℕ) (rest : List Bool) → IsTrack track → 1 ≤ sector → sector ≤ 26
-    → AreBytes bytes → length bytes ≡ 128 → SectorStands track (frame_of track sector bytes ++ rest) sector bytes
-frame_stands track sector bytes rest known least most fit size =
-    let header = header_cells track sector in
-    let field = field_cells 0xFB bytes in
-    let check = high_first (check_of 0xFB bytes) in
-    let behind = field ++ rest in
-    let cells = header ++ (gap_and_mark ++ behind) in
-    let whole = frame_of track sector bytes ++ rest in
-    let apart : whole ≡ cells =
-    append_assoc header (gap_and_mark ++ field) rest ∙ ap (λ (some : List Bool). header ++ some) (append_assoc gap_and_mark field rest) in
-    let header_size = length-header_cells track sector in
-    let byte : data_byte whole 384 ≡ 0xFB =
-    ap (λ (some : List Bool). data_byte some 384) apart ∙ data_byte-past header (gap_and_mark ++ behind) 112 272 header_size ∙ gap_byte behind in
-    record {
-      header = subst (λ (some : List Bool). HeaderStands track some sector) (sym apart)
-          (header_stands track sector (gap_and_mark ++ behind) known least most);
-      content = record {
-        sync = 384;
-        mark = subst (λ (some : List Bool). OpensData some 384) (sym apart) (opens track sector behind);
-        whole = (let e = length-append (frame_of track sector bytes) rest in omega (arith, e, length-frame_of track sector bytes size));
-        content = ap (λ (some : List Bool). bytes_at some 400 128) apart
-            ∙ bytes_at-past header (gap_and_mark ++ behind) 112 288 128 header_size
-            ∙ bytes_at-past gap_and_mark behind 288 0 128 length-gap_and_mark
-            ∙ ap (bytes_at behind 0) (sym size)
-            ∙ reads-first bytes check rest fit;
-        check = ap (λ (some : List Bool). number_at some 2448) apart
-            ∙ number_at-past header (gap_and_mark ++ behind) 112 2336 header_size
-            ∙ number_at-past gap_and_mark behind 288 2048 length-gap_and_mark
-            ∙ ap (λ (n : ℕ). number_at behind (16 * n)) (sym size)
-            ∙ number_at-behind bytes (check_of 0xFB bytes) rest (crc-lt 0xFFFF (0xFB ∷ bytes) (lit< tt))
-            ∙ ap (λ (mark : ℕ). check_of mark bytes) (sym byte);
-        unbroken = unbroken-first (frame_of track sector bytes) rest 2480 (dense-frame track sector bytes) (length-frame_of track sector bytes size);
-      };
-    }
+-- the rows of a frame are read back
+pub frame_stands : (track : TrackId) (sector : ℕ) (bytes : List ℕ) (before : Bool) (rest : List Bool) → IsTrack track → IsSectorNumber 1 26 sector
+    → AreBytes bytes → length bytes ≡ 128
+    → FrameStands 0xF57E 16 112 384 (NamesSector track) IsSync Hold (rows_cells false (row_cells track) before sector bytes rows.frame ++ rest) sector bytes
+frame_stands track sector bytes before rest known number fit size =
+    let mark = word_cells 16 0xF57E in
+    let field = field_cells 0xFE (address_of track sector) in
+    let header = mark ++ field in
+    let behind = field_cells 0xFB bytes ++ rest in
+    let header_size : length header ≡ 112 =
+    omega (arith, length-append mark field, length-word_cells 16 0xF57E, length-field_cells 0xFE (address_of track sector)) in
+    let grouped : frame_of track sector bytes rest ≡ header ++ (gap_and_mark ++ behind) = sym (append_assoc mark field (gap_and_mark ++ behind)) in
+    let data_held = holds header bytes rest header_size fit size in
+    subst (λ (cells : List Bool). FrameStands 0xF57E 16 112 384 (NamesSector track) IsSync Hold cells sector bytes)
+    (sym (frame-cells track sector bytes before rest))
+    (record {
+      begins = mark-begins (field ++ (gap_and_mark ++ behind));
+      named = names-sector track sector (gap_and_mark ++ behind) known number;
+      opens = subst (λ (cells : List Bool). IsSync cells 384) (sym grouped) (inl data_held.opens);
+      first = λ place above below.
+          subst (λ (cells : List Bool). ¬ IsSync cells place) (sym grouped) (no-mark header behind place header_size above below);
+      held = subst (λ (cells : List Bool). Hold cells 384 bytes) (sym grouped) data_held;
+    })

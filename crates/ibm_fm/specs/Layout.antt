@@ -1,72 +1,63 @@
--- The ring of a track of the IBM 3740 diskette: 5208 bytes, from index to index.
-use Rattle.std.specs.Prelude.{ℕ, ◌+◌, ◌-◌, ◌*◌, Bool, List, [], ◌∷◌, ◌++◌, replicate, flat_map}
-use Rattle.std.specs.List.{range_with_len}
+-- The rows of a track of the IBM 3740 diskette: 5208 bytes, from index to index.
+use Rattle.std.specs.Prelude.{ℕ, ◌+◌, ◌*◌, Bool, false, List, [], ◌∷◌, ◌++◌, replicate, flat_map}
 use Rattle.flux_base.specs.declared.track.TrackId.{TrackId}
 use Rattle.cell_bits.specs.Bytes.{fm}
 use Rattle.cell_bits.specs.Word.{word_cells}
-use Rattle.track_rings.specs.Rings.{bytes_of}
+use Rattle.track_rings.specs.Rows.{Rows, place_of as place_in, ring_of as ring_of_rows}
 use Rattle.ibm_fields.specs.Fields.{DATA_BYTE, ID_BYTE, high_first}
-use Rattle.ibm_fm.specs.declared.layout.Piece.{Piece}
-use Rattle.ibm_fm.specs.declared.layout.Piece.TheVariants.{Run, Mark, Address, Content}
+use Rattle.ibm_fm.specs.declared.layout.Mark.{Mark}
+use Rattle.ibm_fm.specs.declared.layout.Mark.TheVariants.{Index, Id, Data}
+use Rattle.ibm_fm.specs.declared.layout.Row.{Row}
+use Rattle.ibm_fm.specs.declared.layout.Row.TheVariants.{Run, Mark as AMark, Address, Content}
 use Rattle.ibm_fm.specs.Sectors.{SECTORS, SECTOR_SIZE, ID_MARK, DATA_MARK, INDEX_MARK, check_of, address_of}
 
--- before the first sector: a gap, the index mark, and a gap
-abbrev pub lead_in : List Piece
-lead_in = Run 40 0xFF ∷ Run 6 0x00 ∷ Mark INDEX_MARK ∷ Run 26 0xFF ∷ []
+-- the marks by their cells
+abbrev pub word_of : Mark → ℕ
+word_of Index = INDEX_MARK
+word_of Id = ID_MARK
+word_of Data = DATA_MARK
 
--- a sector: header, gap, data, gap
-abbrev pub sector_layout : List Piece
-sector_layout =
-    Run 6 0x00 ∷ Mark ID_MARK ∷ Address ∷ Run 11 0xFF
-    ∷ Run 6 0x00 ∷ Mark DATA_MARK ∷ Content ∷ Run 27 0xFF ∷ []
-
--- behind the last sector: the gap that fills the track
-abbrev pub lead_out : List Piece
-lead_out = Run 247 0xFF ∷ []
+-- before the first sector a gap, the index mark, and a gap; a sector's header, gap and data, between six bytes of 00 and a gap; and
+-- after the last sector the gap that fills the track
+abbrev pub rows : Rows Row
+rows = record {
+  lead_in = Run 40 0xFF ∷ Run 6 0x00 ∷ AMark Index ∷ Run 26 0xFF ∷ [];
+  before = Run 6 0x00 ∷ [];
+  frame = AMark Id ∷ Address ∷ Run 11 0xFF ∷ Run 6 0x00 ∷ AMark Data ∷ Content ∷ [];
+  after = Run 27 0xFF ∷ [];
+  lead_out = Run 247 0xFF ∷ [];
+}
 
 -- bytes in FM
 abbrev pub fm_bytes : List ℕ → List Bool
 fm_bytes bytes = flat_map fm bytes
 
--- what stands behind a mark: bytes, and the check value of the mark's byte and of them
+-- what stands after a mark: bytes, and the check value of the mark's byte and of them
 abbrev pub field_cells : ℕ → List ℕ → List Bool
 field_cells mark bytes = fm_bytes (bytes ++ high_first (check_of mark bytes))
 
--- the cells of a piece, for this sector with these bytes
-abbrev pub piece_cells : TrackId → ℕ → List ℕ → Piece → List Bool
-piece_cells track sector bytes (Run count byte) = fm_bytes (replicate count byte)
-piece_cells track sector bytes (Mark mark) = word_cells 16 mark
-piece_cells track sector bytes Address = field_cells ID_BYTE (address_of track sector)
-piece_cells track sector bytes Content = field_cells DATA_BYTE bytes
+-- the cells of a row, for this sector with these bytes
+abbrev pub row_cells : TrackId → Bool → ℕ → List ℕ → Row → List Bool
+row_cells track before sector bytes (Run count byte) = fm_bytes (replicate count byte)
+row_cells track before sector bytes (AMark mark) = word_cells 16 (word_of mark)
+row_cells track before sector bytes Address = field_cells ID_BYTE (address_of track sector)
+row_cells track before sector bytes Content = field_cells DATA_BYTE bytes
 
-unfoldable pub pieces_cells : TrackId → ℕ → List ℕ → List Piece → List Bool
-pieces_cells track sector bytes pieces = flat_map (piece_cells track sector bytes) pieces
-
--- the cells of one sector, of the bytes of all
-unfoldable pub sector_cells : TrackId → List ℕ → ℕ → List Bool
-sector_cells track bytes sector = pieces_cells track sector (bytes_of 1 SECTOR_SIZE bytes sector) sector_layout
-
--- the sectors of a track, in order
-unfoldable pub sector_numbers : List ℕ
-sector_numbers = range_with_len 1 SECTORS
-
--- all sectors
-unfoldable pub sectors_cells : TrackId → List ℕ → List Bool
-sectors_cells track bytes = flat_map (sector_cells track bytes) sector_numbers
+-- how many they are: 16 for each byte and each mark
+abbrev pub row_size : ℕ → Row → ℕ
+row_size count (Run bytes byte) = 16 * bytes
+row_size count (AMark mark) = 16
+row_size count Address = 16 * 6
+row_size count Content = 16 * (count + 2)
 
 -- the ring
-unfoldable pub ring_of : TrackId → List ℕ → List Bool
-ring_of track bytes = pieces_cells track 0 [] lead_in ++ (sectors_cells track bytes ++ pieces_cells track 0 [] lead_out)
+abbrev pub ring_of : TrackId → List ℕ → List Bool
+ring_of track bytes = ring_of_rows false (row_cells track) 1 SECTORS SECTOR_SIZE bytes rows
 
--- the place of a sector's header in the ring, behind 73 bytes of lead-in, 188 bytes for each sector before it and
--- the 6 bytes of 00 before its mark
+-- the place of a sector's header in the ring
 abbrev pub place_of : ℕ → ℕ
-place_of sector = 1264 + 3008 * (sector - 1)
+place_of sector = place_in row_size 1 SECTOR_SIZE rows sector
 
 -- the cells of a sector's frame: header, 17 bytes of gap, data
 abbrev pub FRAME_CELLS : ℕ
 FRAME_CELLS = 2480
-
--- the cells of a ring
-abbrev pub RING_CELLS : ℕ
-RING_CELLS = 83328

@@ -1,10 +1,9 @@
-pub mod Density
 pub mod FrameLaws
 pub mod Layout
-pub mod Lengths
 pub mod OwnLaws
 pub mod ReadLaws
 pub mod RingLaws
+pub mod RowLaws
 pub mod Sectors
 pub mod StandLaws
 pub mod Syncs

@@ -1,6 +1,6 @@
 -- What stands depends on its own cells alone, and in a stretch of a ring between zeros it is one of the ring's own sectors.
 use Rattle.std.specs.Prelude.{◌≡◌, ℕ, ◌+◌, ◌-◌, ◌%◌, ◌<◌, ◌≤◌, Bool, false, suc, List, ◌++◌, length, take, drop, replicate}
-use Rattle.std.proofs.Common.{ap, sym, ◌∙◌, arith, inl, inr, ◌⊎◌}
+use Rattle.std.proofs.Common.{ap, sym, ◌∙◌, arith, inl, inr}
 use Rattle.std.proofs.Math.Nat.{mod-eq_of_lt}
 use Rattle.flux_base.specs.declared.track.TrackId.{TrackId}
 use Rattle.track_rings.specs.Fronts.{AgreeTo, agree-data_byte, agree-front, agree-length, agree-less, agree-stands, agree-unbroken}
@@ -8,23 +8,26 @@ use Rattle.track_rings.specs.OwnSectors.{IsAlone, IsOwnPlace, between_zeros}
 use Rattle.track_rings.specs.Owning.{IsOwner, Owner, SaysEarly, leads-not_zeros}
 use Rattle.track_rings.specs.Owning as owning
 use Rattle.track_rings.specs.Rings.{AreSectors, bytes_of}
+use Rattle.frame_law.specs.Frames.{IsDataSync}
 use Rattle.ibm_fields.specs.FieldFronts.{agree-bytes_at, agree-number_at}
 use Rattle.ibm_fields.specs.Fields.{bytes_at}
 use Rattle.ibm_fm.specs.Layout.{FRAME_CELLS, place_of, ring_of}
 use Rattle.ibm_fm.specs.RingLaws.{ring_length, sector_stands}
-use Rattle.ibm_fm.specs.Sectors.{DataMarkAt, HeaderStands, IsTrack, OpensData, OtherMarkAt, SectorStands, address_of, check_of}
-use Rattle.ibm_fm.specs.StandLaws.{one_sync}
+use Rattle.ibm_fm.specs.Sectors.{DataMarkAt, HeaderStands, IsSync, IsTrack, SectorStands, address_of, check_of}
+use Rattle.ibm_fm.specs.StandLaws.{one_sync, place-is}
 use Rattle.ibm_fm.specs.Syncs.{id_marks, leads, length-sync_rest, sync_rest}
 
 -- a header stands in all cells that agree with its own
 agree-header : (track : TrackId) (total : ℕ) (cells others : List Bool) (s : ℕ) → AgreeTo total cells others → 112 ≤ total
     → HeaderStands track cells s → HeaderStands track others s
 agree-header track total cells others s same long header = record {
-  mark = agree-stands total cells others same 0xF57E 16 0 (omega arith) header.mark;
+  begins = agree-stands total cells others same 0xF57E 16 0 (omega arith) header.begins;
   whole = agree-length 112 cells others (agree-less total cells others same 112 long) header.whole;
-  address = sym (agree-bytes_at total cells others same 16 4 (omega arith)) ∙ header.address;
+  named = record {
+    address = sym (agree-bytes_at total cells others same 16 4 (omega arith)) ∙ header.named.address;
+    check = sym (agree-number_at total cells others same 80 (omega arith)) ∙ header.named.check;
+  };
   known = header.known;
-  check = sym (agree-number_at total cells others same 80 (omega arith)) ∙ header.check;
   unbroken = agree-unbroken total cells others same 0 112 long header.unbroken;
 }
 
@@ -39,7 +42,7 @@ header_alone track cells s header = record {
 
 -- marks stand in both
 agree-mark : (total : ℕ) (cells others : List Bool) (place : ℕ) → AgreeTo total cells others → place + 16 ≤ total
-    → DataMarkAt cells place ⊎ OtherMarkAt cells place → DataMarkAt others place ⊎ OtherMarkAt others place
+    → IsSync cells place → IsSync others place
 agree-mark total cells others place same long (inl (inl stands)) = inl (inl (agree-stands total cells others same 0xF56F 16 place long stands))
 agree-mark total cells others place same long (inl (inr stands)) = inl (inr (agree-stands total cells others same 0xF56A 16 place long stands))
 agree-mark total cells others place same long (inr (inl stands)) = inr (inl (agree-stands total cells others same 0xF57E 16 place long stands))
@@ -50,12 +53,12 @@ agree-data_mark : (total : ℕ) (cells others : List Bool) (place : ℕ) → Agr
 agree-data_mark total cells others place same long (inl stands) = inl (agree-stands total cells others same 0xF56F 16 place long stands)
 agree-data_mark total cells others place same long (inr stands) = inr (agree-stands total cells others same 0xF56A 16 place long stands)
 
-agree-opens : (total : ℕ) (cells others : List Bool) (sync : ℕ) → AgreeTo total cells others → sync + 16 ≤ total → OpensData cells sync
-    → OpensData others sync
+agree-opens : (total : ℕ) (cells others : List Bool) (sync : ℕ) → AgreeTo total cells others → sync + 16 ≤ total
+    → IsDataSync 112 (IsSync cells) sync → IsDataSync 112 (IsSync others) sync
 agree-opens total cells others sync same long opens = record {
-  behind = opens.behind;
+  after = opens.after;
   near = opens.near;
-  opens = agree-data_mark total cells others sync same long opens.opens;
+  stands = agree-mark total cells others sync same long opens.stands;
   first = λ place above below mark. opens.first place above below (agree-mark total others cells place (sym same) (omega arith) mark);
 }
 
@@ -65,7 +68,7 @@ sector_alone track cells s bytes sector =
     let content = sector.content in
     let sync = content.sync in
     let end = sync + 2096 in
-    let above : 112 ≤ sync = content.mark.behind in record {
+    let above : 112 ≤ sync = content.first_sync.after in record {
       end = end;
       some = omega arith;
       within = content.whole;
@@ -76,11 +79,14 @@ sector_alone track cells s bytes sector =
             header = agree-header track end cells others s same (omega arith) sector.header;
             content = record {
               sync = sync;
-              mark = agree-opens end cells others sync same (omega arith) content.mark;
+              first_sync = agree-opens end cells others sync same (omega arith) content.first_sync;
               whole = agree-length end cells others same content.whole;
-              content = sym (agree-bytes_at end cells others same (sync + 16) 128 (omega arith)) ∙ content.content;
-              check = sym (agree-number_at end cells others same (sync + 2064) (omega arith)) ∙ content.check
-                  ∙ ap (λ (byte : ℕ). check_of byte bytes) (agree-data_byte end cells others same sync (omega arith));
+              held = record {
+                opens = agree-data_mark end cells others sync same (omega arith) content.held.opens;
+                content = sym (agree-bytes_at end cells others same (sync + 16) 128 (omega arith)) ∙ content.held.content;
+                check = sym (agree-number_at end cells others same (sync + 2064) (omega arith)) ∙ content.held.check
+                    ∙ ap (λ (byte : ℕ). check_of byte bytes) (agree-data_byte end cells others same sync (omega arith));
+              };
               unbroken = agree-unbroken end cells others same 0 end (omega arith) content.unbroken;
             };
           };
@@ -96,7 +102,7 @@ header_early track cells s header = record {
   long = omega (arith, length-sync_rest);
   says = λ others same t bytes sector.
       let named : address_of track s ≡ address_of track t =
-      sym header.address ∙ agree-bytes_at 105 cells others same 16 4 (omega arith) ∙ sector.header.address in
+      sym header.named.address ∙ agree-bytes_at 105 cells others same 16 4 (omega arith) ∙ sector.header.named.address in
       cc;
 }
 
@@ -106,17 +112,17 @@ sector_early : (track : TrackId) (cells : List Bool) (s : ℕ) (bytes : List ℕ
 sector_early track cells s bytes sector =
     let content = sector.content in
     let sync = content.sync in
-    let above : 112 ≤ sync = content.mark.behind in record {
+    let above : 112 ≤ sync = content.first_sync.after in record {
       end = sync + 2096;
       within = content.whole;
       unbroken = content.unbroken;
       long = omega (arith, length-sync_rest);
       says = λ others same t others_bytes other.
           let total = sync + 2096 - 7 in
-          let opens = agree-opens total cells others sync same (omega arith) content.mark in
-          let one : sync ≡ other.content.sync = one_sync others sync other.content.sync opens other.content.mark in
-          sym content.content ∙ agree-bytes_at total cells others same (sync + 16) 128 (omega arith)
-          ∙ ap (λ (place : ℕ). bytes_at others (place + 16) 128) one ∙ other.content.content;
+          let opens = agree-opens total cells others sync same (omega arith) content.first_sync in
+          let one : sync ≡ other.content.sync = one_sync others sync other.content.sync opens other.content.first_sync in
+          sym content.held.content ∙ agree-bytes_at total cells others same (sync + 16) 128 (omega arith)
+          ∙ ap (λ (place : ℕ). bytes_at others (place + 16) 128) one ∙ other.content.held.content;
     }
 
 pub no_header : (track : TrackId) (count s : ℕ) → ¬ HeaderStands track (replicate count false) s
@@ -145,7 +151,7 @@ owns track bytes known sectors = record {
   leads = leads track;
   only = id_marks track bytes sectors.whole;
   stands = λ s count number framed.
-      let low : place_of s + 0 < 83328 = omega (arith, number.least, number.most) in
+      let low : place_of s + 0 < 83328 = omega (arith, number.least, number.most, place-is s) in
       let same : (place_of s + 0) % 83328 ≡ place_of s = mod-eq_of_lt low ∙ (omega arith) in
       sector_stands track bytes s (place_of s) count 0 known sectors number (record { same = same; whole = framed });
   has_header = λ cells s content sector. sector.header;

@@ -12,7 +12,7 @@ use Rattle.ibm_fields.specs.Fields.{bytes_at, high_first, number_at}
 use Rattle.ibm_fields.specs.FieldLaws.{bytes_at-past, number_at-high_first}
 use Rattle.ibm_fields.specs.Numbers.{AreBytes-high_first}
 use Rattle.ibm_fm.specs.Layout.{fm_bytes}
-use Rattle.ibm_fm.specs.Lengths.{length-fm, length-fm_bytes}
+use Rattle.ibm_fm.specs.RowLaws.{length-fm, length-fm_bytes}
 
 data_cells-fm_cells : (bits : List Bool) → data_cells (fm_cells bits) ≡ bits
 unfolding data_cells fm_cells
@@ -53,10 +53,10 @@ pub reads-first : (bytes after : List ℕ) (rest : List Bool) → AreBytes bytes
 reads-first bytes after rest fit =
     ap (λ (cells : List Bool). bytes_at cells 0 (length bytes)) (apart bytes after rest) ∙ reads-front bytes (fm_bytes after ++ rest) fit
 
--- those behind others
-reads-behind : (others bytes : List ℕ) (rest : List Bool) → AreBytes bytes
+-- those after others
+reads-after : (others bytes : List ℕ) (rest : List Bool) → AreBytes bytes
     → bytes_at (fm_bytes (others ++ bytes) ++ rest) (16 * length others) (length bytes) ≡ bytes
-reads-behind others bytes rest fit =
+reads-after others bytes rest fit =
     let last = fm_bytes bytes ++ rest in
     let e : 16 * length others ≡ 16 * length others + 0 = omega arith in
     ap (λ (cells : List Bool). bytes_at cells (16 * length others) (length bytes)) (apart others bytes rest)
@@ -64,9 +64,9 @@ reads-behind others bytes rest fit =
     ∙ bytes_at-past (fm_bytes others) last (16 * length others) 0 (length bytes) (length-fm_bytes others)
     ∙ reads-front bytes rest fit
 
--- a number of 16 bits reads back behind the bytes of a field
-pub number_at-behind : (bytes : List ℕ) (number : ℕ) (rest : List Bool) → number < 65536
+-- a number of 16 bits reads back after the bytes of a field
+pub number_at-after : (bytes : List ℕ) (number : ℕ) (rest : List Bool) → number < 65536
     → number_at (fm_bytes (bytes ++ high_first number) ++ rest) (16 * length bytes) ≡ number
-number_at-behind bytes number rest fits =
+number_at-after bytes number rest fits =
     number_at-high_first (fm_bytes (bytes ++ high_first number) ++ rest) (16 * length bytes) number
-    (reads-behind bytes (high_first number) rest (AreBytes-high_first number fits))
+    (reads-after bytes (high_first number) rest (AreBytes-high_first number fits))

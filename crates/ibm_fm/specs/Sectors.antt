@@ -1,12 +1,11 @@
--- The sectors of the IBM 3740 diskette, single density (FM): when a header and when a sector stands at the front of a
--- list of cells. A byte takes 16 cells. Clock cells are looked at in marks alone.
-use Rattle.std.specs.Prelude.{◌≡◌, ℕ, ◌+◌, ◌<◌, ◌≤◌, Bool, List, ◌∷◌, length, ◌⊎◌}
+-- The sectors of the IBM 3740 diskette, single density (FM): what a header names and what data hold. A byte takes 16 cells. Clock cells are looked at in marks alone.
+use Rattle.std.specs.Prelude.{◌≡◌, ℕ, ◌+◌, ◌<◌, Bool, List, ◌∷◌, ◌⊎◌}
 use Rattle.flux_base.specs.declared.track.TrackId.{TrackId}
-use Rattle.cell_bits.specs.Broken.{Unbroken}
 use Rattle.cell_bits.specs.Bytes.{data_byte}
 use Rattle.cell_bits.specs.Word.{Stands}
 use Rattle.check_values.specs.Crc.{crc}
-use Rattle.ibm_fields.specs.Fields.{CHECK_START, DATA_REACH, ID_BYTE, address, bytes_at, number_at}
+use Rattle.frame_law.specs.Frames.{DataStand, HeaderStands as Header, SectorStands as Sector}
+use Rattle.ibm_fields.specs.Fields.{CHECK_START, ID_BYTE, address, bytes_at, number_at}
 
 -- the tracks: 77 cylinders of one side
 pub record IsTrack (track : TrackId) : Type 0 where
@@ -61,14 +60,10 @@ ADDRESS_PLACE = 16
 abbrev pub ADDRESS_CHECK_PLACE : ℕ
 ADDRESS_CHECK_PLACE = 80
 
--- a header: the ID mark, the address of this sector of this track, and the address's check value
-pub record HeaderStands (track : TrackId) (cells : List Bool) (sector : ℕ) : Type 0 where
-  pub mark : MarkAt cells ID_MARK 0
-  pub whole : HEADER_CELLS ≤ length cells
+-- a header names a sector: the address of this sector of this track, and the address's check value
+pub record NamesSector (track : TrackId) (cells : List Bool) (sector : ℕ) : Type 0 where
   pub address : bytes_at cells ADDRESS_PLACE 4 ≡ address_of track sector
-  pub known : (1 ≤ sector) × (sector ≤ SECTORS)
   pub check : number_at cells ADDRESS_CHECK_PLACE ≡ check_of ID_BYTE (address_of track sector)
-  pub unbroken : Unbroken cells 0 HEADER_CELLS
 
 -- the marks that open data: the data mark and the deleted data mark
 abbrev pub DataMarkAt : List Bool → ℕ → Type 0
@@ -78,12 +73,9 @@ DataMarkAt cells place = MarkAt cells DATA_MARK place ⊎ MarkAt cells DELETED_D
 abbrev pub OtherMarkAt : List Bool → ℕ → Type 0
 OtherMarkAt cells place = MarkAt cells ID_MARK place ⊎ MarkAt cells INDEX_MARK place
 
--- the first mark behind the header begins less than 1024 cells behind it, and opens data
-pub record OpensData (cells : List Bool) (sync : ℕ) : Type 0 where
-  pub behind : HEADER_CELLS ≤ sync
-  pub near : sync < HEADER_CELLS + DATA_REACH
-  pub opens : DataMarkAt cells sync
-  pub first : (place : ℕ) → HEADER_CELLS ≤ place → place < sync → ¬ (DataMarkAt cells place ⊎ OtherMarkAt cells place)
+-- after a header any of the marks is a sync
+abbrev pub IsSync : List Bool → ℕ → Type 0
+IsSync cells place = DataMarkAt cells place ⊎ OtherMarkAt cells place
 
 -- the cells of the data: mark, bytes, check value
 abbrev pub DATA_CELLS : ℕ
@@ -96,17 +88,16 @@ CONTENT_PLACE = 16
 abbrev pub CONTENT_CHECK_PLACE : ℕ
 CONTENT_CHECK_PLACE = 2064
 
--- the data: their mark, which is the first mark behind the header, the bytes and their check value, with all cells from the
--- header's begin on unbroken
-pub record DataStands (cells : List Bool) (bytes : List ℕ) : Type 0 where
-  pub sync : ℕ
-  pub mark : OpensData cells sync
-  pub whole : sync + DATA_CELLS ≤ length cells
+-- data hold bytes: a mark that opens them, the bytes, and the check value of the mark's byte and of them
+pub record Hold (cells : List Bool) (sync : ℕ) (bytes : List ℕ) : Type 0 where
+  pub opens : DataMarkAt cells sync
   pub content : bytes_at cells (sync + CONTENT_PLACE) SECTOR_SIZE ≡ bytes
   pub check : number_at cells (sync + CONTENT_CHECK_PLACE) ≡ check_of (data_byte cells sync) bytes
-  pub unbroken : Unbroken cells 0 (sync + DATA_CELLS)
 
--- a sector: its header and its data
-pub record SectorStands (track : TrackId) (cells : List Bool) (sector : ℕ) (bytes : List ℕ) : Type 0 where
-  pub header : HeaderStands track cells sector
-  pub content : DataStands cells bytes
+-- a header and a sector stand, as on any track
+abbrev pub HeaderStands : TrackId → List Bool → ℕ → Type 0
+HeaderStands track cells sector = Header ID_MARK 16 HEADER_CELLS 1 SECTORS (NamesSector track) cells sector
+
+abbrev pub SectorStands : TrackId → List Bool → ℕ → List ℕ → Type 0
+SectorStands track cells sector bytes =
+    Sector (HeaderStands track cells sector) (DataStand HEADER_CELLS DATA_CELLS IsSync Hold cells bytes)

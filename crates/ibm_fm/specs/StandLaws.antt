@@ -1,36 +1,56 @@
--- What stands is one thing: the cells determine the sector's number and its bytes.
-use Rattle.std.specs.Prelude.{◌≡◌, ℕ, ◌+◌, Bool, List, length}
-use Rattle.std.proofs.Common.{ap, sym, ◌∙◌, inl, arith, ◌⊎◌}
+-- What cells name and hold is one thing, and the numbers of the recording.
+use Rattle.std.specs.Prelude.{◌≡◌, ℕ, ◌+◌, ◌-◌, ◌*◌, Bool, List, length, refl}
+use Rattle.std.proofs.Common.{ap, sym, ◌∙◌, arith, lit≤, lit<}
 use Rattle.flux_base.specs.declared.track.TrackId.{TrackId}
-use Rattle.cell_bits.specs.Word.{Stands}
-use Rattle.track_rings.specs.Gaps.{one-first}
-use Rattle.track_rings.specs.Rings.{IsSectorNumber}
-use Rattle.ibm_fields.specs.Fields.{bytes_at}
+use Rattle.frame_law.specs.FrameLaws.{one_content as one_content-of, one_sync as one_sync-of}
+use Rattle.frame_law.specs.Frames.{AreSizes, IsDataSync, IsWithinReach}
 use Rattle.ibm_fields.specs.FieldLaws.{length-bytes_at}
-use Rattle.ibm_fm.specs.Sectors.{DataMarkAt, HeaderStands, OpensData, OtherMarkAt, SectorStands, address_of}
+use Rattle.track_rings.specs.Rows.{frame_size, ring_size, total}
+use Rattle.ibm_fm.specs.Layout.{place_of, row_size, rows}
+use Rattle.ibm_fm.specs.Sectors.{HeaderStands, Hold, IsSync, NamesSector, SectorStands, address_of}
 
-pub sync_leads : (track : TrackId) (cells : List Bool) (s : ℕ) → HeaderStands track cells s → Stands cells 0xF57E 16 0
-sync_leads track cells s header = header.mark
+pub sizes : AreSizes 1 2 16 112 1
+sizes = record {
+  some_cells = lit≤ tt;
+  word = lit≤ tt;
+  apart = lit≤ tt;
+  order = lit≤ tt;
+  near = lit≤ tt;
+  header = lit≤ tt;
+  last = lit≤ tt;
+}
 
-pub one_header : (track : TrackId) (cells : List Bool) (s t : ℕ) → HeaderStands track cells s → HeaderStands track cells t → s ≡ t
-one_header track cells s t first second =
+pub within_reach : IsWithinReach 112 384 2096
+within_reach = record { after = lit≤ tt; near = lit< tt; few = lit≤ tt }
+
+-- the rows of a frame, and those of a track
+pub sums : (frame_size row_size 128 rows ≡ 2480) × (ring_size row_size 26 128 rows ≡ 83328)
+unfolding total
+sums = (refl, refl)
+
+-- a sector's place is after 73 bytes of lead-in, 188 bytes for each sector before it, and 6 bytes of 00
+pub place-is : (sector : ℕ) → place_of sector ≡ 1264 + 3008 * (sector - 1)
+unfolding total
+place-is sector = omega arith
+
+pub one_name : (track : TrackId) (cells : List Bool) (s t : ℕ) → NamesSector track cells s → NamesSector track cells t → s ≡ t
+one_name track cells s t first second =
     let same : address_of track s ≡ address_of track t = sym first.address ∙ second.address in
     cc
 
-pub one_sync : (cells : List Bool) (p q : ℕ) → OpensData cells p → OpensData cells q → p ≡ q
-one_sync cells p q first second =
-    one-first (λ (place : ℕ). DataMarkAt cells place ⊎ OtherMarkAt cells place) 112 p q
-    first.behind (inl first.opens) first.first second.behind (inl second.opens) second.first
+pub bytes_held : (cells : List Bool) (sync : ℕ) (xs : List ℕ) → Hold cells sync xs → length xs ≡ 128
+bytes_held cells sync xs held = sym (ap length held.content) ∙ length-bytes_at cells (sync + 16) 128
+
+pub one_header : (track : TrackId) (cells : List Bool) (s t : ℕ) → HeaderStands track cells s → HeaderStands track cells t → s ≡ t
+one_header track cells s t first second = one_name track cells s t first.named second.named
+
+pub one_sync : (cells : List Bool) (p q : ℕ) → IsDataSync 112 (IsSync cells) p → IsDataSync 112 (IsSync cells) q → p ≡ q
+one_sync cells p q first second = one_sync-of 112 (IsSync cells) p q first second
 
 pub one_content : (track : TrackId) (cells : List Bool) (s t : ℕ) (xs ys : List ℕ)
     → SectorStands track cells s xs → SectorStands track cells t ys → xs ≡ ys
 one_content track cells s t xs ys first second =
-    let same = one_sync cells first.content.sync second.content.sync first.content.mark second.content.mark in
-    sym first.content.content ∙ ap (λ (sync : ℕ). bytes_at cells (sync + 16) 128) same ∙ second.content.content
-
-pub header_number : (track : TrackId) (cells : List Bool) (s : ℕ) → HeaderStands track cells s → IsSectorNumber 1 26 s
-header_number track cells s header = record { least = header.known.0; most = omega (arith, header.known.1) }
+    one_content-of 112 2096 IsSync Hold cells xs ys (λ sync us vs one other. sym one.content ∙ other.content) first.content second.content
 
 pub content_size : (track : TrackId) (cells : List Bool) (s : ℕ) (xs : List ℕ) → SectorStands track cells s xs → length xs ≡ 128
-content_size track cells s xs sector =
-    sym (ap length sector.content.content) ∙ length-bytes_at cells (sector.content.sync + 16) 128
+content_size track cells s xs sector = bytes_held cells sector.content.sync xs sector.content.held

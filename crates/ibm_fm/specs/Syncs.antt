@@ -1,17 +1,20 @@
 -- Where the ID mark stands in a ring: only where a sector's header begins.
-use Rattle.std.specs.Prelude.{◌≡◌, ℕ, ◌+◌, Bool, true, List, [], ◌∷◌, ◌++◌, length, replicate, Option, Some, None, refl}
+use Rattle.std.specs.Prelude.{◌≡◌, ℕ, ◌+◌, ◌<◌, ◌≤◌, Bool, true, false, List, [], ◌∷◌, ◌++◌, length, replicate, Option, Some, None, refl}
 use Rattle.std.specs.List.{flat_map, range_with_len}
-use Rattle.std.proofs.Common.{sym, subst, ◌∙◌, arith, append_assoc}
+use Rattle.std.proofs.Common.{ap, sym, subst, ◌∙◌, arith, append_assoc}
 use Rattle.flux_base.specs.declared.track.TrackId.{TrackId}
 use Rattle.cell_bits.specs.Bytes.{fm, fm_cells}
 use Rattle.cell_bits.specs.Word.{word_cells}
 use Rattle.cell_bits.specs.WordLaws.{length-word_cells}
 use Rattle.track_rings.specs.Owning.{IsSyncPlace, Leads}
 use Rattle.track_rings.specs.Rings.{bytes_of}
+use Rattle.track_rings.specs.Rows.{coded, rows_cells, sector_rows, total}
+use Rattle.track_rings.specs.TrackLaws.{flat-ring, length-bytes_of, length-rows_cells}
 use Rattle.track_rings.specs.Syncs.{Only, QuietPart, SyncPart, Syncs, all_known, clashes, clashes_at_all, fits, fits-front, fits-known, fits-word, nowhere-known, only-first, part-sectors, part-skip, part-then, quiet-all, quiet-append, quiet-none}
 use Rattle.ibm_fields.specs.Fields.{high_first}
-use Rattle.ibm_fm.specs.Layout.{field_cells, fm_bytes, lead_in, lead_out, pieces_cells, place_of, ring_of, sector_cells, sector_numbers, sectors_cells}
-use Rattle.ibm_fm.specs.Lengths.{length-fm_bytes, length-lead_in, length-sector_cells}
+use Rattle.ibm_fm.specs.Layout.{field_cells, fm_bytes, place_of, ring_of, row_cells, row_size, rows}
+use Rattle.ibm_fm.specs.RowLaws.{length-fm_bytes, row_length}
+use Rattle.ibm_fm.specs.StandLaws.{place-is}
 use Rattle.ibm_fm.specs.Sectors.{HeaderStands, address_of, check_of}
 
 -- the ID mark, without its first cell, which is a one
@@ -27,7 +30,7 @@ length-sync_rest = refl
 
 pub leads : (track : TrackId) (cells : List Bool) (s : ℕ) → HeaderStands track cells s → Leads 0 sync_rest cells
 unfolding sync_rest word_cells
-leads track cells s header = fits-word (word_cells 16 0xF57E) cells 16 (length-word_cells 16 0xF57E) header.mark
+leads track cells s header = fits-word (word_cells 16 0xF57E) cells 16 (length-word_cells 16 0xF57E) header.begins
 
 -- eight clock cells, each with a data cell after it
 unfoldable eight_clocks : List (Option Bool)
@@ -49,7 +52,7 @@ unfolding Clocked eight_clocks sync_rest word_cells clashes_at_all clashes fits
 bit_quiet bit rest clocked = (
   nowhere-known (Some true ∷ sync_rest) (Some true ∷ None ∷ eight_clocks) (true ∷ bit ∷ []) rest 2 refl refl clocked,
   fits-front (Some true ∷ None ∷ Some true ∷ None ∷ Some true ∷ None ∷ Some true ∷ None
-  ∷ Some true ∷ None ∷ Some true ∷ None ∷ Some true ∷ None ∷ Some true ∷ None ∷ []) (Some true ∷ None ∷ []) (true ∷ bit ∷ rest) clocked,
+      ∷ Some true ∷ None ∷ Some true ∷ None ∷ Some true ∷ None ∷ Some true ∷ None ∷ []) (Some true ∷ None ∷ []) (true ∷ bit ∷ rest) clocked,
 )
 
 bits_quiet : (bits : List Bool) → QuietPart IdMark Clocked Clocked (fm_cells bits)
@@ -100,8 +103,29 @@ id_mark_first rest clocked = (
   tt,
 )
 
-lead_in_quiet : (track : TrackId) → QuietPart IdMark Clocked Clocked (pieces_cells track 0 [] lead_in)
-unfolding pieces_cells
+-- the rows before the first sector, those of a sector, and those after the last one
+lead_in_cells : TrackId → List Bool
+lead_in_cells track = rows_cells false (row_cells track) false 1 [] rows.lead_in
+
+sector_cells : TrackId → List ℕ → ℕ → List Bool
+sector_cells track bytes sector = rows_cells false (row_cells track) false sector (bytes_of 1 128 bytes sector) (sector_rows rows)
+
+lead_out_cells : TrackId → List Bool
+lead_out_cells track = rows_cells false (row_cells track) false 1 [] rows.lead_out
+
+length-lead_in : (track : TrackId) → length (lead_in_cells track) ≡ 1168
+unfolding total lead_in_cells
+length-lead_in track = length-rows_cells false (row_cells track) row_size (row_length track) false 1 [] rows.lead_in
+
+length-sector_cells : (track : TrackId) (bytes : List ℕ) (sector : ℕ) → length bytes ≡ 3328 → 1 ≤ sector → sector < 27
+    → length (sector_cells track bytes sector) ≡ 3008
+unfolding total sector_cells
+length-sector_cells track bytes sector whole least most =
+    length-rows_cells false (row_cells track) row_size (row_length track) false sector (bytes_of 1 128 bytes sector) (sector_rows rows)
+    ∙ ap (λ (n : ℕ). total (row_size n) (sector_rows rows)) (length-bytes_of 1 26 128 bytes sector whole (record { least = least; most = most }))
+
+lead_in_quiet : (track : TrackId) → QuietPart IdMark Clocked Clocked (lead_in_cells track)
+unfolding lead_in_cells rows_cells coded
 lead_in_quiet track =
     quiet-append IdMark Clocked Clocked Clocked (fm_bytes (replicate 40 0xFF))
     (fm_bytes (replicate 6 0x00) ++ (word_cells 16 0xF77A ++ (fm_bytes (replicate 26 0xFF) ++ []))) (bytes_quiet (replicate 40 0xFF))
@@ -109,8 +133,8 @@ lead_in_quiet track =
     (quiet-append IdMark Clocked Clocked Anything (word_cells 16 0xF77A) (fm_bytes (replicate 26 0xFF) ++ []) index_mark_quiet
     (quiet-append IdMark Clocked Clocked Clocked (fm_bytes (replicate 26 0xFF)) [] (bytes_quiet (replicate 26 0xFF)) (quiet-none IdMark Clocked))))
 
-lead_out_quiet : (track : TrackId) → QuietPart IdMark Clocked Clocked (pieces_cells track 0 [] lead_out)
-unfolding pieces_cells
+lead_out_quiet : (track : TrackId) → QuietPart IdMark Clocked Clocked (lead_out_cells track)
+unfolding lead_out_cells rows_cells coded
 lead_out_quiet track =
     quiet-append IdMark Clocked Clocked Clocked (fm_bytes (replicate 247 0xFF)) [] (bytes_quiet (replicate 247 0xFF)) (quiet-none IdMark Clocked)
 
@@ -137,7 +161,7 @@ behind_mark_quiet track content sector =
     (quiet-append IdMark Clocked Clocked Clocked (fm_bytes (replicate 27 0xFF)) [] (bytes_quiet (replicate 27 0xFF)) (quiet-none IdMark Clocked))))))
 
 sector_part : (track : TrackId) (bytes : List ℕ) (sector : ℕ) → SyncPart IdMark (λ place. place ≡ 96) Clocked Clocked (sector_cells track bytes sector)
-unfolding sector_cells pieces_cells behind_mark
+unfolding sector_cells rows_cells coded behind_mark
 sector_part track bytes sector =
     let zeros = fm_bytes (replicate 6 0x00) in
     let content = bytes_of 1 128 bytes sector in
@@ -153,25 +177,28 @@ byte_clocked : (byte : ℕ) (rest : List Bool) → Clocked (fm byte ++ rest)
 unfolding Clocked eight_clocks fits fm fm_cells word_cells
 byte_clocked byte rest = refl
 
-ring_clocked : (track : TrackId) (bytes : List ℕ) → Clocked (ring_of track bytes)
-unfolding ring_of pieces_cells
-ring_clocked track bytes =
+ring_clocked : (track : TrackId) (rest : List Bool) → Clocked (lead_in_cells track ++ rest)
+unfolding lead_in_cells rows_cells coded
+ring_clocked track rest =
     let more = fm_bytes (replicate 6 0x00) ++ (word_cells 16 0xF77A ++ (fm_bytes (replicate 26 0xFF) ++ [])) in
-    let rest = sectors_cells track bytes ++ pieces_cells track 0 [] lead_out in
     subst Clocked (sym (append_assoc (fm_bytes (replicate 40 0xFF)) more rest ∙ append_assoc (fm 0xFF) (fm_bytes (replicate 39 0xFF)) (more ++ rest)))
     (byte_clocked 0xFF (fm_bytes (replicate 39 0xFF) ++ (more ++ rest)))
+
+parts : (track : TrackId) (bytes : List ℕ) → ring_of track bytes
+    ≡ lead_in_cells track ++ (flat_map (sector_cells track bytes) (range_with_len 1 26) ++ lead_out_cells track)
+unfolding lead_in_cells sector_cells lead_out_cells
+parts track bytes = flat-ring (row_cells track) 1 26 128 bytes rows
 
 -- so in the ring it begins where headers do
 pub id_marks : (track : TrackId) (bytes : List ℕ) → length bytes ≡ 3328
     → Only IdMark (IsSyncPlace place_of 1 26 0) (ring_of track bytes) (ring_of track bytes)
-unfolding ring_of sectors_cells sector_numbers
 id_marks track bytes whole =
-    let first = pieces_cells track 0 [] lead_in in
+    let first = lead_in_cells track in
     let all = flat_map (sector_cells track bytes) (range_with_len 1 26) in
-    let last = pieces_cells track 0 [] lead_out in
+    let last = lead_out_cells track in
     let size = length-lead_in track in
     let sectors = part-sectors IdMark Clocked (sector_cells track bytes) 3008 96 1 26
-    (λ s least most. length-sector_cells track bytes s whole least (omega (arith, most)))
+    (λ s least most. length-sector_cells track bytes s whole least most)
     (λ s least most. sector_part track bytes s) in
     let here : ℕ → Type 0 = IsSyncPlace place_of 1 26 0 in
     let part = part-skip IdMark here Clocked Clocked Clocked first (all ++ last) (lead_in_quiet track)
@@ -180,8 +207,8 @@ id_marks track bytes whole =
     let at = sectors rest clocked in (
       λ place within test.
           let k = at.0 place within test in
-          (k.0 + 1, record { least = omega arith; most = omega (arith, k.1) }, omega (arith, k.2, size)),
+          (k.0 + 1, record { least = omega arith; most = omega (arith, k.1) }, omega (arith, k.2, size, place-is (k.0 + 1))),
       at.1,
     ))
     (lead_out_quiet track)) in
-    (part (ring_of track bytes) (ring_clocked track bytes)).0
+    subst (λ (ring : List Bool). Only IdMark here ring ring) (sym (parts track bytes)) (part (first ++ (all ++ last)) (ring_clocked track (all ++ last))).0

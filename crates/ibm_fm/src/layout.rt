@@ -1,40 +1,63 @@
+ghost use Rattle.std.specs.Prelude.{◌≡◌};
+ghost use Rattle.ibm_fm.specs.Layout.{word_of};
+
 use cell_bits::{FM_DATA_MARK, FM_ID_MARK, FM_INDEX_MARK};
 
-/// A part of a track's ring.
+/// A row of a track.
 #[derive(Clone, Copy)]
-pub(crate) enum Piece {
+pub enum Row {
     /// So many times the same byte.
     Run(u8, u8),
-    /// An address mark, by its cells.
-    Mark(u32),
+    Mark(Mark),
     /// A sector's address and its check value.
     Address,
     /// A sector's bytes and their check value.
     Content,
 }
 
+/// An address mark that is written.
+#[derive(Clone, Copy)]
+pub enum Mark {
+    Index,
+    Id,
+    Data,
+}
+
+impl Mark {
+    /// The mark by its cells.
+    pub(crate) fn word(self) -> u32
+        ensures { result ≡ word_of self }
+    {
+        match self {
+            Mark::Index => FM_INDEX_MARK,
+            Mark::Id => FM_ID_MARK,
+            Mark::Data => FM_DATA_MARK,
+        }
+    }
+}
+
 /// Before the first sector: a gap with the index mark.
-pub(crate) const LEAD_IN: [Piece; 4] = [
-    Piece::Run(40, 0xFF),
-    Piece::Run(6, 0x00),
-    Piece::Mark(FM_INDEX_MARK),
-    Piece::Run(26, 0xFF),
+pub(crate) const LEAD_IN: [Row; 4] = [
+    Row::Run(40, 0xFF),
+    Row::Run(6, 0x00),
+    Row::Mark(Mark::Index),
+    Row::Run(26, 0xFF),
 ];
 
 /// A sector: header, gap, data, gap.
-pub(crate) const SECTOR: [Piece; 8] = [
-    Piece::Run(6, 0x00),
-    Piece::Mark(FM_ID_MARK),
-    Piece::Address,
-    Piece::Run(11, 0xFF),
-    Piece::Run(6, 0x00),
-    Piece::Mark(FM_DATA_MARK),
-    Piece::Content,
-    Piece::Run(27, 0xFF),
+pub(crate) const SECTOR: [Row; 8] = [
+    Row::Run(6, 0x00),
+    Row::Mark(Mark::Id),
+    Row::Address,
+    Row::Run(11, 0xFF),
+    Row::Run(6, 0x00),
+    Row::Mark(Mark::Data),
+    Row::Content,
+    Row::Run(27, 0xFF),
 ];
 
-/// Behind the last sector: the gap that fills the track up to 5208 bytes.
-pub(crate) const LEAD_OUT: [Piece; 1] = [Piece::Run(247, 0xFF)];
+/// After the last sector: the gap that fills the track up to 5208 bytes.
+pub(crate) const LEAD_OUT: [Row; 1] = [Row::Run(247, 0xFF)];
 
 pub(crate) const FIRST_SECTOR: u8 = 1;
 

@@ -4,9 +4,8 @@
 mod data_field;
 mod header;
 mod layout;
-mod pieces;
 mod recording;
-mod track;
+mod rows;
 
 pub use recording::IbmFm;
 

@@ -194,6 +194,26 @@ pub bit_zero : (asks : Bool) (seen : ℕ) (cells : List Bool) → (asks && last_
     → (asks && is_zero (zeros_after seen cells)) ≡ false
 bit_zero asks seen cells last = sym (bit-zeros asks seen cells) ∙ last
 
+-- What may follow where the coding does not ask for the cell before.
+module _ (shortest longest most : ℕ) where
+  pub cells-append : (xs ys : List Bool) → MayFollow shortest longest most false (λ before. xs) → MayFollow shortest longest most false (λ before. ys)
+      → MayFollow shortest longest most false (λ before. xs ++ ys)
+  cells-append xs ys first second seen low =
+      let one = first seen low in
+      let two = second (zeros_after seen xs) one.1 in (
+        spaced-append shortest longest seen xs ys one.0 two.0,
+        subst (λ (n : ℕ). n ≤ most) (sym (zeros_after-append seen xs ys)) two.1,
+      )
+
+  pub cells-none : MayFollow shortest longest most false (λ before. [])
+  unfolding is_spaced zeros_after
+  cells-none seen low = (refl, low)
+
+  pub cells-each : {X : Type 0} (f : X → List Bool) → ((x : X) → MayFollow shortest longest most false (λ before. f x)) → (xs : List X)
+      → MayFollow shortest longest most false (λ before. flat_map f xs)
+  cells-each f each [] = cells-none
+  cells-each f each (x ∷ xs) = cells-append (f x) (flat_map f xs) (each x) (cells-each f each xs)
+
 module _ (shortest longest most : ℕ) {X : Type 0} (asks : Bool) (cells_of : Bool → X → List Bool) where
   -- all of them may follow, one after another
   abbrev pub MayFollowAll : List X → Type 0

@@ -1,50 +1,35 @@
-ghost use Rattle.std.specs.Prelude.{◌≡◌, ℕ, replicate};
+ghost use Rattle.std.specs.Prelude.{◌≡◌, ℕ, false, replicate};
 ghost use Rattle.frame_law.specs.Writing.{AppendsCells};
 ghost use Rattle.cell_bits.specs.Bytes.{fm};
 ghost use Rattle.cell_bits.specs.Word.{word_cells};
 ghost use Rattle.ibm_fields.specs.Fields.{high_first};
-ghost use Rattle.ibm_fm.specs.Layout.{field_cells, fm_bytes, piece_cells, pieces_cells};
+ghost use Rattle.ibm_fm.specs.Layout.{field_cells, fm_bytes, row_cells, word_of};
 ghost use Rattle.ibm_fm.specs.Sectors.{check_of};
 
-use crate::layout::{MARK_CELLS, Piece, SIZE_CODE};
+use crate::layout::{MARK_CELLS, Mark, Row, SIZE_CODE};
 use cell_bits::Cells;
 use check_values::crc16;
 use flux_base::{Memory, TrackId};
 use ibm_fields::{CHECK_START, DATA_BYTE, ID_BYTE};
 
-/// Appends a part of the ring, each piece for this sector with these bytes.
-pub(crate) fn push_pieces(
+/// Appends a row for this sector with these bytes.
+pub(crate) fn push_row(
     cells: &mut Cells,
-    pieces: &[Piece],
+    row: Row,
     track: TrackId,
     sector: u8,
     bytes: &[u8],
 ) -> Result<(), Memory>
-    ensures { AppendsCells cells.old cells.new (pieces_cells track sector bytes.now pieces.now) result }
+    ensures { AppendsCells cells.old cells.new (row_cells track false sector bytes.now row) result }
 {
-    for piece in pieces {
-        push_piece(cells, *piece, track, sector, bytes)?;
-    }
-    Ok(())
-}
-
-fn push_piece(
-    cells: &mut Cells,
-    piece: Piece,
-    track: TrackId,
-    sector: u8,
-    bytes: &[u8],
-) -> Result<(), Memory>
-    ensures { AppendsCells cells.old cells.new (piece_cells track sector bytes.now piece) result }
-{
-    match piece {
-        Piece::Run(count, byte) => push_run(cells, count, byte),
-        Piece::Mark(mark) => push_mark(cells, mark),
-        Piece::Address => {
+    match row {
+        Row::Run(count, byte) => push_run(cells, count, byte),
+        Row::Mark(mark) => push_mark(cells, mark),
+        Row::Address => {
             let address = [track.cylinder, track.head, sector, SIZE_CODE];
             push_field(cells, ID_BYTE, &address)
         }
-        Piece::Content => push_field(cells, DATA_BYTE, bytes),
+        Row::Content => push_field(cells, DATA_BYTE, bytes),
     }
 }
 
@@ -57,10 +42,10 @@ fn push_run(cells: &mut Cells, count: u8, byte: u8) -> Result<(), Memory>
     Ok(())
 }
 
-fn push_mark(cells: &mut Cells, mark: u32) -> Result<(), Memory>
-    ensures { AppendsCells cells.old cells.new (word_cells 16 mark) result }
+fn push_mark(cells: &mut Cells, mark: Mark) -> Result<(), Memory>
+    ensures { AppendsCells cells.old cells.new (word_cells 16 (word_of mark)) result }
 {
-    cells.push_word(mark, MARK_CELLS)
+    cells.push_word(mark.word(), MARK_CELLS)
 }
 
 fn push_byte(cells: &mut Cells, byte: u8) -> Result<(), Memory>
@@ -69,7 +54,7 @@ fn push_byte(cells: &mut Cells, byte: u8) -> Result<(), Memory>
     cells.push_fm(byte)
 }
 
-/// Appends what stands behind a mark: bytes, and the check value of mark and bytes.
+/// Appends what stands after a mark: bytes, and the check value of mark and bytes.
 fn push_field(cells: &mut Cells, mark: u8, bytes: &[u8]) -> Result<(), Memory>
     ensures { AppendsCells cells.old cells.new (field_cells mark bytes.now) result }
 {

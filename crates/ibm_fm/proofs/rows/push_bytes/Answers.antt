@@ -1,6 +1,6 @@
 use Rattle.cell_bits.specs.Bytes.{fm}
 use Rattle.frame_law.specs.Writing.{AppendsCells-none, AppendsCells-next, AppendsCells-short}
-use Rattle.ibm_fm.proofs.pieces.push_bytes.Goals as goal
+use Rattle.ibm_fm.proofs.rows.push_bytes.Goals as goal
 
 pub loop-byte-init : goal.loop-byte-init
 loop-byte-init c = AppendsCells-none c.args.cells.now

@@ -3,8 +3,8 @@ use Rattle.std.proofs.lemmas.List.{length-replicate}
 use Rattle.cell_bits.specs.Bytes.{fm}
 use Rattle.frame_law.specs.Writing.{AppendsCells-stop}
 use Rattle.ibm_fm.specs.Layout.{fm_bytes}
-use Rattle.ibm_fm.specs.Lengths.{length-fm, length-fm_bytes}
-use Rattle.ibm_fm.proofs.pieces.push_run.Goals as goal
+use Rattle.ibm_fm.specs.RowLaws.{length-fm, length-fm_bytes}
+use Rattle.ibm_fm.proofs.rows.push_run.Goals as goal
 
 pub returns-in_err-push_byte : goal.returns-in_err-push_byte
 returns-in_err-push_byte c =

@@ -1,6 +1,6 @@
 use Rattle.std.proofs.Common.{arith}
-use Rattle.ibm_fm.specs.Lengths.{length-fm}
-use Rattle.ibm_fm.proofs.pieces.push_byte.Goals as goal
+use Rattle.ibm_fm.specs.RowLaws.{length-fm}
+use Rattle.ibm_fm.proofs.rows.push_byte.Goals as goal
 
 pub returns : goal.returns
 returns c = record {

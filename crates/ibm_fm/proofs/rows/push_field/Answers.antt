@@ -4,9 +4,9 @@ use Rattle.cell_bits.specs.Bytes.{fm}
 use Rattle.frame_law.specs.Writing.{AppendsCells, AppendsCells-more, AppendsCells-none, AppendsCells-stop}
 use Rattle.ibm_fields.specs.Fields.{high_first}
 use Rattle.ibm_fm.specs.Layout.{field_cells, fm_bytes}
-use Rattle.ibm_fm.specs.Lengths.{length-fm_bytes}
+use Rattle.ibm_fm.specs.RowLaws.{length-fm_bytes}
 use Rattle.ibm_fm.specs.Sectors.{check_of}
-use Rattle.ibm_fm.proofs.pieces.push_field.Goals as goal
+use Rattle.ibm_fm.proofs.rows.push_field.Goals as goal
 
 pub returns-in_err-push_bytes : goal.returns-in_err-push_bytes
 returns-in_err-push_bytes c =
