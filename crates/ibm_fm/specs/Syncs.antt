@@ -49,7 +49,7 @@ unfolding Clocked eight_clocks sync_rest word_cells clashes_at_all clashes fits
 bit_quiet bit rest clocked = (
   nowhere-known (Some true ∷ sync_rest) (Some true ∷ None ∷ eight_clocks) (true ∷ bit ∷ []) rest 2 refl refl clocked,
   fits-front (Some true ∷ None ∷ Some true ∷ None ∷ Some true ∷ None ∷ Some true ∷ None
-  ∷ Some true ∷ None ∷ Some true ∷ None ∷ Some true ∷ None ∷ Some true ∷ None ∷ []) (Some true ∷ None ∷ []) (true ∷ bit ∷ rest) clocked,
+      ∷ Some true ∷ None ∷ Some true ∷ None ∷ Some true ∷ None ∷ Some true ∷ None ∷ []) (Some true ∷ None ∷ []) (true ∷ bit ∷ rest) clocked,
 )
 
 bits_quiet : (bits : List Bool) → QuietPart IdMark Clocked Clocked (fm_cells bits)
