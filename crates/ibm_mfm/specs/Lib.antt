@@ -1,6 +1,8 @@
 pub mod FrameLaws
+pub mod HeaderSyncs
 pub mod Layout
 pub mod Lengths
+pub mod OwnLaws
 pub mod ReadLaws
 pub mod RingLaws
 pub mod Sectors

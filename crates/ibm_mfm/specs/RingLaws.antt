@@ -32,7 +32,7 @@ lead_out-bit : (before first : Bool) → last_bit before (replicate (if first th
 lead_out-bit before true = refl
 lead_out-bit before false = refl
 
-ring_bit : (sectors : ℕ) (track : TrackId) (bytes : List ℕ) → last_bit false (ring_symbols sectors track bytes) ≡ false
+pub ring_bit : (sectors : ℕ) (track : TrackId) (bytes : List ℕ) → last_bit false (ring_symbols sectors track bytes) ≡ false
 unfolding ring_symbols pieces_symbols
 ring_bit sectors track bytes =
     let first = pieces_symbols track 0 [] lead_in in
@@ -58,7 +58,7 @@ unfolding ring_of
 ring_spaced sectors track bytes =
     coded-spaced (ring_symbols sectors track bytes) (ring_bit sectors track bytes) (least_length sectors track bytes) (first_one sectors track bytes)
 
-frame_ends : (sectors s : ℕ) → IsCount sectors → IsSectorNumber 1 sectors s → place_of sectors s + FRAME_CELLS ≤ ring_cells_of sectors
+pub frame_ends : (sectors s : ℕ) → IsCount sectors → IsSectorNumber 1 sectors s → place_of sectors s + FRAME_CELLS ≤ ring_cells_of sectors
 frame_ends sectors s known number =
     let Claim = λ (n : ℕ). IsSectorNumber 1 n s → place_of n s + FRAME_CELLS ≤ ring_cells_of n in
     elim known [

@@ -4,7 +4,7 @@ use Rattle.std.specs.List.{flat_map, range_with_len}
 use Rattle.std.proofs.Common.{subst, sym, arith, append_assoc}
 use Rattle.cell_bits.specs.Bytes.{mfm, mfm_cells}
 use Rattle.cell_bits.specs.Word.{digit, word_cells}
-use Rattle.track_rings.specs.Syncs.{QuietPart, SyncPart, Syncs, all_known, clashes, clashes-not, fits, fits-append, fits-drop, fits-front, fits-known, part-append, quiet-append, quiet-none}
+use Rattle.track_rings.specs.Syncs.{QuietPart, SyncPart, Syncs, all_known, clashes, clashes-not, fits, fits-append, fits-drop, fits-front, fits-known, part-append, part-skip, part-then, quiet-append, quiet-none}
 use Rattle.mfm_coding.specs.declared.symbol.Symbol.{Symbol}
 use Rattle.mfm_coding.specs.declared.symbol.Symbol.TheVariants.{Data, SyncMark, IndexMark}
 use Rattle.mfm_coding.specs.Coding.{bytes_as_data, coded, symbol_cells}
@@ -201,3 +201,46 @@ module _ (Test : List Bool → Type 0) (f : ℕ → List Symbol) (size offset : 
       let cells = coded-append before one others in
       subst (λ (b : Bool). SyncPart Test here (FollowsBit b) (FollowsBit before) (coded before (one ++ others))) (sym bits)
       (subst (λ (all : List Bool). SyncPart Test here (FollowsBit (last_bit bit others)) (FollowsBit before) all) (sym cells) joined)
+
+-- Symbols in whose cells the sync begins at such places only, after any data bit.
+abbrev pub SyncSymbols : (List Bool → Type 0) → (ℕ → Type 0) → List Symbol → Type 0
+SyncSymbols Test Here symbols =
+    (before : Bool) → SyncPart Test Here (FollowsBit (last_bit before symbols)) (FollowsBit before) (coded before symbols)
+
+abbrev pub QuietSymbols : (List Bool → Type 0) → List Symbol → Type 0
+QuietSymbols Test symbols = SyncSymbols Test (λ place. ⊥) symbols
+
+module _ (Test : List Bool → Type 0) where
+  symbols-joined : (Here : ℕ → Type 0) (xs ys : List Symbol) (before : Bool)
+      → SyncPart Test Here (FollowsBit (last_bit (last_bit before xs) ys)) (FollowsBit before) (coded before xs ++ coded (last_bit before xs) ys)
+      → SyncPart Test Here (FollowsBit (last_bit before (xs ++ ys))) (FollowsBit before) (coded before (xs ++ ys))
+  symbols-joined Here xs ys before part =
+      subst (λ (b : Bool). SyncPart Test Here (FollowsBit b) (FollowsBit before) (coded before (xs ++ ys))) (sym (last_bit-append before xs ys))
+      (subst (λ (cells : List Bool). SyncPart Test Here (FollowsBit (last_bit (last_bit before xs) ys)) (FollowsBit before) cells)
+      (sym (coded-append before xs ys)) part)
+
+  -- quiet ones, and then more
+  pub symbols-skip : (Here : ℕ → Type 0) (xs ys : List Symbol) → QuietSymbols Test xs → SyncSymbols Test (λ place. Here (16 * length xs + place)) ys
+      → SyncSymbols Test Here (xs ++ ys)
+  symbols-skip Here xs ys first second before =
+      let bit = last_bit before xs in
+      let size = length-coded before xs in
+      symbols-joined Here xs ys before
+      (part-skip Test Here (FollowsBit (last_bit bit ys)) (FollowsBit bit) (FollowsBit before) (coded before xs) (coded bit ys) (first before)
+      (λ rest follows.
+      let at = second bit rest follows in
+      (λ place within test. subst (λ (n : ℕ). Here (n + place)) (sym size) (at.0 place within test), at.1)))
+
+  -- symbols, and then quiet ones
+  pub symbols-then : (Here : ℕ → Type 0) (xs ys : List Symbol) → SyncSymbols Test Here xs → QuietSymbols Test ys → SyncSymbols Test Here (xs ++ ys)
+  symbols-then Here xs ys first second before =
+      let bit = last_bit before xs in
+      symbols-joined Here xs ys before
+      (part-then Test Here (FollowsBit (last_bit bit ys)) (FollowsBit bit) (FollowsBit before) (coded before xs) (coded bit ys) (first before) (second bit))
+
+  pub quiet-symbols : (xs ys : List Symbol) → QuietSymbols Test xs → QuietSymbols Test ys → QuietSymbols Test (xs ++ ys)
+  quiet-symbols xs ys first second = symbols-then (λ place. ⊥) xs ys first second
+
+  pub no-symbols : QuietSymbols Test []
+  unfolding coded
+  no-symbols before = quiet-none Test (FollowsBit before)
