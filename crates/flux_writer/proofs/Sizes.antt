@@ -5,7 +5,7 @@ use Rattle.kryo_stream.specs.Spelling.{spelling}
 use Rattle.kryo_stream.specs.Sequence.{spellings}
 use Rattle.flux_writer.specs.Written.{index_block, interval_blocks, stream_of_times}
 use Rattle.flux_writer.specs.Writing.{indexes_before, indexes_behind, last_blocks, many_blocks, position_behind, position_after, time_after}
-use Rattle.flux_writer.specs.Reading.{last_of}
+use Rattle.track_rings.specs.Rings.{last_in}
 use Rattle.flux_writer.proofs.Steps.{spellings-append, length-interval}
 use Rattle.flux_writer.proofs.Rising.{before-behind}
 use Rattle.flux_writer.proofs.Equal.{stream_blocks-is}
@@ -42,12 +42,12 @@ many_take position begin (t ∷ ts) xs order =
       length-append (indexes_before t xs) (indexes_behind t xs),
     )
 
-last_time : (ts : List ℕ) → time_after 0 ts ≡ last_of ts
+last_time : (ts : List ℕ) → time_after 0 ts ≡ last_in ts
 last_time [] = refl
 last_time (t ∷ ts) = sym (last-is t ts)
 
 pub stream_takes : (ts xs : List ℕ) → IsNonDecreasing ts → IsStrictlyIncreasing xs
-    → length (stream_of_times ts xs) ≤ 3 * length ts + last_of ts / 65536 + 16 * length xs + 16
+    → length (stream_of_times ts xs) ≤ 3 * length ts + last_in ts / 65536 + 16 * length xs + 16
 stream_takes ts xs order rising =
     let all = many_blocks 0 0 ts xs in
     let last = last_blocks (position_after 0 0 ts) in
