@@ -5,11 +5,11 @@ use Rattle.std.proofs.Common.{arith, ap, sym, subst, ◌∙◌, inl, inr, add-on
 use Rattle.std.proofs.lemmas.Bool.{cases_lt}
 use Rattle.std.proofs.lemmas.List.{get_or-map, length-map}
 use Rattle.std.proofs.Math.Nat.{div-mul-le_self, lt-div-mul-add, le-div_iff_mul-le, mul-le-mul_right}
-use Rattle.flux_writer.specs.Reading.{HasEarlyOne, IsStreamOf, last_of}
+use Rattle.flux_writer.specs.Reading.{HasEarlyOne, IsStreamOf}
 use Rattle.flux_writer.specs.Written.{cell_time, ones_of, quarter, stream_of, track_cells, track_turns}
-use Rattle.track_rings.specs.Rings.{AreNeighbours, cell_of}
+use Rattle.track_rings.specs.Rings.{AreNeighbours, cell_of, last_in}
 use Rattle.flux_engine.specs.Captures.{Capture, mean_cell}
-use Rattle.flux_engine.specs.Carried.{AreClose, Carried, DRIFT, OFF_SPEED, OFF_START}
+use Rattle.phase_loop.specs.Carried.{AreClose, Carried, DRIFT, OFF_SPEED, OFF_START}
 use Rattle.flux_engine.proofs.Chosen.{AreChosen, are_chosen}
 use Rattle.flux_engine.proofs.Repeated.{begin, own_cell, same_later, written_length, written_runs}
 
@@ -180,7 +180,7 @@ module _ (ring : List Bool) (nominal : ℕ) where
     some_ones : (0 < length ones) × (slice_index ones 0 ≤ first_K)
     some_ones = chosen.first first_K (omega arith) (omega (arith, written_length ring, early.2)) first_is_one
 
-    two_turns : slice_index places 0 + 2 * length ring ≤ last_of places
+    two_turns : slice_index places 0 + 2 * length ring ≤ last_in places
     two_turns =
         let some = some_ones.0 in
         let late : last_K ≤ slice_index ones (length ones - 1) =
@@ -188,7 +188,7 @@ module _ (ring : List Bool) (nominal : ℕ) where
         let size : length places ≡ length ones = length-map ones place_of in
         let first = mapped place_of ones 0 some in
         let last = mapped place_of ones (length ones - 1) (omega (arith, some)) in
-        let end : last_of places ≡ place_of (slice_index ones (length ones - 1)) = ap (λ (m : ℕ). slice_index places (m - 1)) size ∙ last in
+        let end : last_in places ≡ place_of (slice_index ones (length ones - 1)) = ap (λ (m : ℕ). slice_index places (m - 1)) size ∙ last in
         omega (arith, first, end, late, some_ones.1)
 
   start : 1024 ≤ length ring → 16384 ≤ nominal

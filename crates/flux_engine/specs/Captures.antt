@@ -1,11 +1,12 @@
 -- Streams that capture a ring: what a drive within the bounds of disturbance gives of a written track.
 use Rattle.std.specs.Prelude.{◌≡◌, ◌≤◌, ◌<◌, ℕ, ◌+◌, ◌*◌, ◌/◌, Bool, List, length, slice_index, None}
 use Rattle.index_turns.specs.Track.{turn_length}
-use Rattle.flux_writer.specs.Reading.{last_of}
 use Rattle.kryo_stream.specs.Stream.{first_fault, indexes, stream_length, times}
+use Rattle.phase_loop.specs.Carried.{AreClose, Carried, OFF_START}
+use Rattle.phase_loop.specs.Start.{FINE_PER_TICK}
 use Rattle.sector_images.specs.Places.{tracks}
 use Rattle.sector_images.specs.declared.format.Format.{Format}
-use Rattle.flux_engine.specs.Carried.{AreClose, Carried, FINE_PER_TICK, OFF_START}
+use Rattle.track_rings.specs.Rings.{last_in}
 use Rattle.flux_engine.specs.Rings.{IsImage, nominal_of, ring_of, track_stream}
 
 -- the mean cell of the first turn in fine units, where a ring of so many cells turns
@@ -20,7 +21,7 @@ pub record Capture (x : List ℕ) (ring : List Bool) (nominal : ℕ) : Type 0 wh
   pub places : List ℕ
   pub periods : List ℕ
   pub carried : Carried (times x) ring nominal places periods
-  pub two_turns : slice_index places 0 + 2 * length ring ≤ last_of places
+  pub two_turns : slice_index places 0 + 2 * length ring ≤ last_in places
   pub start : AreClose OFF_START nominal (mean_cell (indexes x) (length ring)) (slice_index periods 0)
 
 -- the stream that is written of each track of an image is a capture of the track's ring

@@ -10,6 +10,5 @@ pub mod Reading
 pub mod Laws
 pub mod DiskLaws
 pub mod Rings
-pub mod Carried
 pub mod Captures
 pub mod Writes

@@ -4,9 +4,10 @@ use Rattle.std.specs.List.Sorted.{IsNonDecreasing, IsStrictlyIncreasing}
 use Rattle.std.proofs.lemmas.List.{length-map, get_or-take, get_or-append_right, length-take-le}
 use Rattle.std.proofs.lemmas.List.Elements.{All-nil, All-cons, All-weaker, All-head}
 use Rattle.std.proofs.Math.Nat.{mul-le-mul}
+use Rattle.track_rings.specs.Rings.{last_in}
 use Rattle.flux_writer.specs.Written.{cell_time, ones_of, stream_of_times, stream_of_turns, stream_of, track_cells, track_turns, quarter}
 use Rattle.flux_writer.specs.Writing.{ones_from}
-use Rattle.flux_writer.specs.Reading.{MOST_RING_CELLS, last_of, EndsWithTransition, HasOneBehind, HasEarlyOne, IsStreamOf}
+use Rattle.flux_writer.specs.Reading.{MOST_RING_CELLS, EndsWithTransition, HasOneBehind, HasEarlyOne, IsStreamOf}
 use Rattle.flux_writer.proofs.Rising.{Rises}
 use Rattle.flux_writer.proofs.CellTimes.{cell_time-le, cell_time-lt, ones_of-is}
 use Rattle.flux_writer.proofs.Sizes.{stream_takes_close}
@@ -77,7 +78,7 @@ get_or-map-at f (x ∷ xs) (suc i) below = get_or-map-at f xs i (omega arith)
 
 -- the last transition is that of the last one
 one_is_early : (nominal : ℕ) (cells : List Bool) (p : ℕ) → get_or cells p false ≡ true
-    → cell_time nominal p ≤ last_of (map (cell_time nominal) (ones_of cells))
+    → cell_time nominal p ≤ last_in (map (cell_time nominal) (ones_of cells))
 one_is_early nominal cells p is =
     let ones = ones_from 0 cells in
     let ts = map (cell_time nominal) ones in
@@ -85,7 +86,7 @@ one_is_early nominal cells p is =
     let size : length ts ≡ length ones = length-map ones (cell_time nominal) in
     let this : get_or ts it.0 0 ≡ cell_time nominal p = get_or-map-at (cell_time nominal) ones it.0 it.1 ∙ ap (cell_time nominal) (it.2 ∙ omega arith) in
     let order = times_in_order nominal ones (ones_rise 0 cells) it.0 (length ts - 1) 0 (omega (arith, it.1, size)) (omega (arith, it.1, size)) in
-    let last : last_of (map (cell_time nominal) (ones_of cells)) ≡ last_of ts = ap (λ o. last_of (map (cell_time nominal) o)) (ones_of-is cells) in
+    let last : last_in (map (cell_time nominal) (ones_of cells)) ≡ last_in ts = ap (λ o. last_in (map (cell_time nominal) o)) (ones_of-is cells) in
     omega (arith, this, order, last)
 
 pub turns_end : (cells : List Bool) (turns : List ℕ) (nominal : ℕ) → 1024 ≤ nominal → All (HasOneBehind cells) turns
@@ -96,7 +97,7 @@ turns_end cells turns nominal long behind some =
     let inside : k < length turns = omega (arith, some, size) in
     let it = behind k 0 inside in
     let same : length (map (cell_time nominal) turns) - 1 ≡ k = omega (arith, size) in
-    let last : last_of (map (cell_time nominal) turns) ≡ cell_time nominal (get_or turns k 0) =
+    let last : last_in (map (cell_time nominal) turns) ≡ cell_time nominal (get_or turns k 0) =
     ap (λ i. get_or (map (cell_time nominal) turns) i 0) same ∙ get_or-map-at (cell_time nominal) turns k inside in
     omega (arith, last, cell_time-lt nominal (get_or turns k 0) it.0 long it.1, one_is_early nominal cells it.0 it.2)
 
@@ -122,19 +123,19 @@ ones_few n (c ∷ cells) =
       | false ↦ omega (arith, rest)
     ]
 
-last_within : (nominal : ℕ) (cells : List Bool) → last_of (map (cell_time nominal) (ones_of cells)) ≤ cell_time nominal (length cells)
+last_within : (nominal : ℕ) (cells : List Bool) → last_in (map (cell_time nominal) (ones_of cells)) ≤ cell_time nominal (length cells)
 last_within nominal cells =
     let ones = ones_from 0 cells in
     let ts = map (cell_time nominal) ones in
     let all : All (λ t. t ≤ cell_time nominal (length cells)) ts = map-All (cell_time nominal) (λ k. (0 ≤ k) × (k < 0 + length cells))
     (λ t. t ≤ cell_time nominal (length cells)) (λ k in_range. cell_time-le nominal k (length cells) (omega (arith, in_range.1))) ones (ones_within 0 cells) in
-    let same : last_of (map (cell_time nominal) (ones_of cells)) ≡ last_of ts = ap (λ o. last_of (map (cell_time nominal) o)) (ones_of-is cells) in
-    let last : last_of ts ≤ cell_time nominal (length cells) = last_of_all ts (cell_time nominal (length cells)) all in
+    let same : last_in (map (cell_time nominal) (ones_of cells)) ≡ last_in ts = ap (λ o. last_in (map (cell_time nominal) o)) (ones_of-is cells) in
+    let last : last_in ts ≤ cell_time nominal (length cells) = last_in_all ts (cell_time nominal (length cells)) all in
     omega (arith, same, last)
   where
-    last_of_all : (xs : List ℕ) (bound : ℕ) → All (λ x. x ≤ bound) xs → last_of xs ≤ bound
-    last_of_all [] bound all = omega arith
-    last_of_all (x ∷ xs) bound all = all (length (x ∷ xs) - 1) 0 (omega arith)
+    last_in_all : (xs : List ℕ) (bound : ℕ) → All (λ x. x ≤ bound) xs → last_in xs ≤ bound
+    last_in_all [] bound all = omega arith
+    last_in_all (x ∷ xs) bound all = all (length (x ∷ xs) - 1) 0 (omega arith)
 
 length-track_cells : (ring : List Bool) → length (track_cells ring) ≡ quarter ring + 3 * length ring + quarter ring
 length-track_cells ring =

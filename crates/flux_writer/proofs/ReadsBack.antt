@@ -4,9 +4,10 @@ use Rattle.std.specs.List.Sorted.{IsNonDecreasing, IsStrictlyIncreasing}
 use Rattle.std.proofs.lemmas.List.Elements.{All-nil, All-cons, All-head, All-tail, All-drop}
 use Rattle.kryo_stream.specs.declared.block.Block.{Block}
 use Rattle.kryo_stream.specs.Sequence.{spellings, transitions_from, AreInOrder, IsStreamOf}
+use Rattle.track_rings.specs.Rings.{last_in}
 use Rattle.flux_writer.specs.Written.{index_block, interval_blocks, stream_of_times}
 use Rattle.flux_writer.specs.Writing.{count_before, indexes_before, indexes_behind, last_blocks, many_blocks, position_behind, position_after, time_after, indexes_after}
-use Rattle.flux_writer.specs.Reading.{last_of, EndsWithTransition}
+use Rattle.flux_writer.specs.Reading.{EndsWithTransition}
 use Rattle.flux_writer.proofs.Steps.{spellings-append, indexes_behind-yes}
 use Rattle.flux_writer.proofs.Rising.{Rises, Rises-from_increasing}
 use Rattle.flux_writer.proofs.Equal.{all_blocks, stream_blocks-is}
@@ -32,7 +33,7 @@ position_within position begin (t ∷ ts) indexes =
     )
 
 -- all that rise lie before what the last lies before
-all_early : (xs : List ℕ) (time : ℕ) → Rises xs → last_of xs < time → All (λ x. x < time) xs
+all_early : (xs : List ℕ) (time : ℕ) → Rises xs → last_in xs < time → All (λ x. x < time) xs
 all_early [] time rises early = All-nil (λ x. x < time)
 all_early (x ∷ []) time rises early = All-cons (λ y. y < time) x [] early (All-nil (λ y. y < time))
 all_early (x ∷ y ∷ ys) time rises early =
@@ -51,7 +52,7 @@ nothing_left t [] xs early = none_behind t xs early
 nothing_left t (u ∷ ts) xs early =
     nothing_left u ts (indexes_behind t xs) (All-drop (λ x. x < time_after u ts) (count_before t xs) xs early)
 
-pub last-is : (t : ℕ) (ts : List ℕ) → last_of (t ∷ ts) ≡ time_after t ts
+pub last-is : (t : ℕ) (ts : List ℕ) → last_in (t ∷ ts) ≡ time_after t ts
 last-is t [] = refl
 last-is t (u ∷ ts) =
     let last : length (t ∷ u ∷ ts) - 1 ≡ suc (length (u ∷ ts) - 1) = omega arith in
@@ -62,7 +63,7 @@ all_written : (ts xs : List ℕ) → IsStrictlyIncreasing xs → EndsWithTransit
 all_written [] xs rising ends some = absurd (let before = ends some in omega (arith, before))
 all_written (t ∷ ts) xs rising ends some =
     nothing_left t ts xs (all_early xs (time_after t ts) (Rises-from_increasing xs rising)
-    (subst (λ time. last_of xs < time) (last-is t ts) (ends some)))
+    (subst (λ time. last_in xs < time) (last-is t ts) (ends some)))
 
 pub from_zero : (ts : List ℕ) → IsNonDecreasing ts → IsNonDecreasing (0 ∷ ts)
 from_zero ts order zero j d before inside = omega arith

@@ -5,7 +5,6 @@ use Rattle.kryo_stream.specs.Spelling.{spelling}
 use Rattle.kryo_stream.specs.Sequence.{spellings}
 use Rattle.flux_writer.specs.Written.{index_block, interval_blocks, stream_of_times}
 use Rattle.flux_writer.specs.Writing.{indexes_before, indexes_behind, last_blocks, many_blocks, position_behind, position_after, time_after}
-use Rattle.flux_writer.specs.Reading.{last_of}
 use Rattle.flux_writer.proofs.Steps.{spellings-append, length-interval, length-interval_close}
 use Rattle.flux_writer.proofs.Rising.{before-behind}
 use Rattle.flux_writer.proofs.Equal.{stream_blocks-is}
@@ -49,13 +48,13 @@ module _ (each : ℕ) (cost : ℕ → ℕ) (adds : (a b : ℕ) → cost a + cost
         length-append (indexes_before t xs) (indexes_behind t xs),
       )
 
-last_time : (ts : List ℕ) → time_after 0 ts ≡ last_of ts
+last_time : (ts : List ℕ) → time_after 0 ts ≡ last_in ts
 last_time [] = refl
 last_time (t ∷ ts) = sym (last-is t ts)
 
 stream_costs : (each : ℕ) (cost : ℕ → ℕ) → ((a b : ℕ) → cost a + cost b ≤ cost (a + b))
     → ((ticks : ℕ) → length (spellings (interval_blocks ticks)) ≤ cost ticks + each) → (ts xs : List ℕ) → IsNonDecreasing ts → IsStrictlyIncreasing xs
-    → length (stream_of_times ts xs) ≤ each * length ts + cost (last_of ts) + 16 * length xs + 16
+    → length (stream_of_times ts xs) ≤ each * length ts + cost (last_in ts) + 16 * length xs + 16
 stream_costs each cost adds takes ts xs order rising =
     let all = many_blocks 0 0 ts xs in
     let last = last_blocks (position_after 0 0 ts) in
@@ -69,10 +68,10 @@ stream_costs each cost adds takes ts xs order rising =
     )
 
 pub stream_takes : (ts xs : List ℕ) → IsNonDecreasing ts → IsStrictlyIncreasing xs
-    → length (stream_of_times ts xs) ≤ 3 * length ts + last_of ts / 65536 + 16 * length xs + 16
+    → length (stream_of_times ts xs) ≤ 3 * length ts + last_in ts / 65536 + 16 * length xs + 16
 stream_takes = stream_costs 3 (λ ticks. ticks / 65536) (λ a b. omega arith) length-interval
 
 -- two bytes a transition, and one for each 2048 ticks
 pub stream_takes_close : (ts xs : List ℕ) → IsNonDecreasing ts → IsStrictlyIncreasing xs
-    → length (stream_of_times ts xs) ≤ 2 * length ts + (last_of ts / 65536 + last_of ts / 2048) + 16 * length xs + 16
+    → length (stream_of_times ts xs) ≤ 2 * length ts + (last_in ts / 65536 + last_in ts / 2048) + 16 * length xs + 16
 stream_takes_close = stream_costs 2 (λ ticks. ticks / 65536 + ticks / 2048) (λ a b. omega arith) length-interval_close

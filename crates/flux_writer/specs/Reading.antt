@@ -1,15 +1,12 @@
 -- What a caller of the writer gives, and what a written stream is to its reader.
-use Rattle.std.specs.Prelude.{◌≡◌, ◌<◌, ◌-◌, ℕ, List, Bool, true, false, length, slice_index, get_or}
+use Rattle.std.specs.Prelude.{◌≡◌, ◌<◌, ℕ, List, Bool, true, false, length, get_or}
 pub use Rattle.kryo_stream.specs.Sequence.{IsStreamOf}
+use Rattle.track_rings.specs.Rings.{last_in}
 use Rattle.flux_writer.specs.Written.{quarter}
-
--- the last number of a list, and 0 where there is none
-abbrev pub last_of : List ℕ → ℕ
-last_of xs = slice_index xs (length xs - 1)
 
 -- the last index time lies before the last transition, so that there is one where there are index times
 abbrev pub EndsWithTransition : List ℕ → List ℕ → Type 0
-EndsWithTransition transitions turns = 0 < length turns → last_of turns < last_of transitions
+EndsWithTransition transitions turns = 0 < length turns → last_in turns < last_in transitions
 
 -- a cell that is a one stands behind the place
 abbrev pub HasOneBehind : List Bool → ℕ → Type 0

@@ -1,7 +1,8 @@
 ghost use Rattle.std.specs.Prelude.{◌≤◌, ◌+◌, ◌*◌, ◌/◌, ℕ, List, Bool, All, length, map};
 ghost use Rattle.std.specs.List.Sorted.{IsNonDecreasing, IsStrictlyIncreasing};
-ghost use Rattle.flux_writer.specs.Reading.{MOST_RING_CELLS, last_of, EndsWithTransition, HasOneBehind, HasEarlyOne, IsStreamOf};
+ghost use Rattle.flux_writer.specs.Reading.{MOST_RING_CELLS, EndsWithTransition, HasOneBehind, HasEarlyOne, IsStreamOf};
 ghost use Rattle.kryo_stream.specs.Protocol.{OVERFLOW_TICKS};
+ghost use Rattle.track_rings.specs.Rings.{last_in};
 ghost use Rattle.flux_writer.specs.Written.{stream_of_times, stream_of_turns, stream_of, cell_time, ones_of, track_cells, track_turns};
 
 use kryo_stream::blocks_law;
@@ -15,7 +16,7 @@ pub fn written_law()
         → IsStreamOf (stream_of_times transitions turns) transitions turns }
     ensures size { (transitions turns : List ℕ) → IsNonDecreasing transitions → IsStrictlyIncreasing turns
         → length (stream_of_times transitions turns)
-        ≤ 3 * length transitions + last_of transitions / OVERFLOW_TICKS + 16 * length turns + 16 }
+        ≤ 3 * length transitions + last_in transitions / OVERFLOW_TICKS + 16 * length turns + 16 }
 {
     blocks_law();
 }

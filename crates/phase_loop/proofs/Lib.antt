@@ -7,3 +7,8 @@ pub mod Quotients
 pub mod Windows
 pub mod Stretches
 pub mod Between
+pub mod Nearness
+pub mod Clock
+pub mod Tracking
+pub mod Carrying
+pub mod PieceCells

@@ -1,12 +1,13 @@
 -- The rows of a list of times, with one time more.
-use Rattle.std.proofs.Common.{◌≡◌, ℕ, zero, suc, ◌+◌, ◌-◌, ◌*◌, ◌<◌, ◌≤◌, List, [], ◌∷◌, ◌++◌, length, drop, map, arith, refl, sym, ◌∙◌, ap, slice_index}
+use Rattle.std.proofs.Common.{◌≡◌, ℕ, zero, suc, ◌+◌, ◌-◌, ◌*◌, ◌<◌, ◌≤◌, List, [], ◌∷◌, ◌++◌, length, drop, map, arith, refl, sym, ◌∙◌, ap, slice_index, length-drop}
 use Rattle.std.specs.List.Sorted.{IsNonDecreasing}
 use Rattle.std.proofs.lemmas.List.{length_push, get_or_push, get_or_append_left, get_or_default, drop-append-le, map-append}
 use Rattle.std.proofs.lemmas.List.Sorted.{IsNonDecreasingBy-push, IsNonDecreasingBy-short}
 use Rattle.phase_loop.specs.Rows.{Row, last_row, row_of_start, next_row, with_next_row, rows_to, rows_of, counts}
-use Rattle.phase_loop.specs.State.{LoopState, state_behind, Holds}
+use Rattle.phase_loop.specs.State.{LoopState, intervals, state_behind, Holds}
 use Rattle.phase_loop.specs.Step.{state_after, count_after}
 use Rattle.phase_loop.specs.declared.start.LoopStart.{LoopStart}
+use Rattle.phase_loop.specs.declared.window.Interval.{Interval}
 use Rattle.phase_loop.proofs.Intervals.{last_row-push}
 use Rattle.phase_loop.proofs.Steps.{IsHistory, history-next, next_follows, state_behind-next, count-next}
 
@@ -120,3 +121,12 @@ unfolding state_behind
 holds_fine state start times holds =
     ap (λ (s : LoopState). s.fine) holds.values
     ∙ (known start times (length times - 1) holds.rising (omega (arith, holds.some))).last
+
+-- the loop holds at most 64 intervals
+pub holds_few : (state : LoopState) (start : LoopStart) (times : List ℕ) → Holds state start times → length state.recent ≤ 64
+unfolding state_behind
+holds_few state start times holds =
+    let rows : List Row = rows_of start times in
+    let since : List Interval = drop (last_row rows).restart (intervals rows) in
+    let recent : length state.recent ≡ length (drop (length since - 64) since) = ap (λ (s : LoopState). length s.recent) holds.values in
+    omega (arith, recent, length-drop (length since - 64) since)

@@ -7,3 +7,5 @@ pub mod Loop
 pub mod Reciprocals
 pub mod Appended
 pub mod Stretch
+pub mod Carried
+pub mod Pieces

@@ -1,12 +1,14 @@
 //! Clock recovery: the times of a track's transitions become counts of bit cells.
 #![tactic(auto)]
 
+mod laws;
 mod phase;
 mod reciprocals;
 mod recovery;
 mod start;
 mod window;
 
+pub use laws::disturbed_rings_are_recovered;
 pub use phase::Loop;
 pub use recovery::recover;
 pub use start::LoopStart;

@@ -1,5 +1,5 @@
 //! The loop that follows a track's clock.
-ghost use Rattle.std.specs.Prelude.{◌≡◌, ℕ, ◌+◌, ◌*◌, ◌/◌, ◌^◌, ◌≤◌, ◌<◌, max, [], ◌∷◌, ◌++◌, List, IfOk, ◌↔◌, IsTrue};
+ghost use Rattle.std.specs.Prelude.{◌≡◌, ℕ, ◌+◌, ◌*◌, ◌/◌, ◌^◌, ◌≤◌, ◌<◌, max, [], ◌∷◌, ◌++◌, List, length, IfOk, ◌↔◌, IsTrue};
 
 mod guess;
 mod stretch;
@@ -41,7 +41,7 @@ impl Model for Loop {
 }
 
 impl Loop {
-    ghost use Rattle.phase_loop.specs.Start.{IsStart};
+    ghost use Rattle.phase_loop.specs.Start.{INTERVALS, IsStart};
     ghost use Rattle.phase_loop.specs.Rows.{counts};
     ghost use Rattle.phase_loop.specs.State.{Holds};
     ghost use Rattle.phase_loop.specs.Step.{state_after, count_after, restarted};
@@ -89,6 +89,7 @@ impl Loop {
         ensures holds { (start : LoopStart) (times : List ℕ) → Holds self.old start times
             → Holds self.new start (times ++ time ∷ []) }
         ensures time { self.new.fine ≡ 1024 * time }
+        ensures window { length self.new.recent ≤ INTERVALS }
         ensures some { 1 ≤ result }
         ensures most { result ≤ 32 }
     {

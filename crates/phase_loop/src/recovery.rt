@@ -2,8 +2,9 @@
 ghost use Rattle.std.specs.Prelude.{◌≡◌, ℕ, ◌*◌, ◌^◌, ◌≤◌, [], length, All, OnOk, OnErr, IsOk};
 ghost use Rattle.std.specs.List.Sorted.{IsNonDecreasing};
 ghost use Rattle.cell_bits.specs.State.{room};
-ghost use Rattle.phase_loop.specs.Start.{IsStart};
+ghost use Rattle.phase_loop.specs.Start.{INTERVALS, IsStart};
 ghost use Rattle.phase_loop.specs.Rows.{recovered};
+ghost use Rattle.phase_loop.specs.Pieces.{FollowsRing, FollowsPieces};
 
 use crate::phase::Loop;
 use crate::start::LoopStart;
@@ -13,7 +14,10 @@ use index_turns::TrackFlux;
 
 /// Makes `cells` the cells of a track: a one for its first transition and, for each later one, the zeros and
 /// the one of its count. Times are at most 2^39 ticks. `bench` is the loop that does the work; what it holds
-/// before does not matter. After `Memory` there are no cells.
+/// before does not matter, and its window stays bounded. After `Memory` there are no cells.
+///
+/// Where the times carry a ring within the bounds of disturbance, the cells are the ring's; where they carry it in pieces,
+/// those of the pieces.
 pub fn recover(
     flux: &TrackFlux,
     start: LoopStart,
@@ -23,7 +27,10 @@ pub fn recover(
     requires start { IsStart start }
     requires times { All (λ time. time ≤ 2 ^ 39) flux.now.times }
     ensures ok { OnOk result (cells.new.cells ≡ recovered start flux.now.times) }
+    ensures ring { OnOk result (FollowsRing start.nominal start.first flux.now.times cells.new.cells) }
+    ensures pieces { OnOk result (FollowsPieces start.nominal start.first flux.now.times cells.new.cells) }
     ensures err { OnErr result (cells.new.cells ≡ []) }
+    ensures window { length bench.new.recent ≤ INTERVALS }
     ensures room { room cells.old ≤ room cells.new }
     ensures succeeds { 32 * length flux.now.times ≤ room cells.old → IsOk result }
 {
@@ -35,7 +42,7 @@ pub fn recover(
     result
 }
 
-/// Appends the cells of these times to a list that is empty.
+/// Appends the cells of these times to a list that is empty. The loop starts anew even where there is no time.
 fn append_cells(
     times: &[u64],
     start: LoopStart,
@@ -47,14 +54,16 @@ fn append_cells(
     requires within { All (λ time. time ≤ 2 ^ 39) times.now }
     requires empty { cells.old.cells ≡ [] }
     ensures ok { OnOk result (cells.new.cells ≡ recovered start times.now) }
+    ensures window { length bench.new.recent ≤ INTERVALS }
     ensures room { room cells.old ≤ room cells.new }
     ensures succeeds { 32 * length times.now ≤ room cells.old → IsOk result }
 {
     let Some((first, _)) = times.split_first() else {
+        bench.start(start, 0);
         return Ok(());
     };
-    cells.push_cell(true)?;
     bench.start(start, *first);
+    cells.push_cell(true)?;
     let mut last = 0;
     while last + 1 < times.len() {
         last = bench.follow(times, last, cells)?;

@@ -1,5 +1,5 @@
 -- A track's ring, which the turning disk repeats endlessly, and where its sectors lie in a part of the repetition.
-use Rattle.std.specs.Prelude.{◌≡◌, ℕ, zero, suc, ◌+◌, ◌-◌, ◌*◌, ◌%◌, ◌<◌, ◌≤◌, Bool, true, false, List, [], ◌∷◌, length, take, drop, get_or}
+use Rattle.std.specs.Prelude.{◌≡◌, ℕ, zero, suc, ◌+◌, ◌-◌, ◌*◌, ◌%◌, ◌<◌, ◌≤◌, Bool, true, false, List, [], ◌∷◌, length, take, drop, get_or, slice_index}
 
 -- the cell at a place of the endlessly repeated ring
 abbrev pub cell_of : List Bool → ℕ → Bool
@@ -9,6 +9,10 @@ cell_of ring place = get_or ring (place % length ring) false
 unfoldable pub stretch : List Bool → ℕ → ℕ → List Bool
 stretch ring from zero = []
 stretch ring from (suc count) = cell_of ring from ∷ stretch ring (from + 1) count
+
+-- the last of a list of places or times, and 0 where there is none
+abbrev pub last_in : List ℕ → ℕ
+last_in xs = slice_index xs (length xs - 1)
 
 -- a one stands at a place, the next one a distance behind it, and none between them
 pub record AreNeighbours (ring : List Bool) (place distance : ℕ) : Type 0 where

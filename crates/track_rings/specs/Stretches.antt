@@ -9,6 +9,16 @@ stretch-same : (ring : List Bool) (m n j k : ℕ) → m ≡ n → j ≡ k → st
 stretch-same ring m n j k first second =
     ap (λ (from : ℕ). stretch ring from j) first ∙ ap (stretch ring n) second
 
+-- two stretches, of which one begins where the other ends
+pub stretch-append : (ring : List Bool) (from m n : ℕ) → stretch ring from (m + n) ≡ stretch ring from m ++ stretch ring (from + m) n
+unfolding stretch
+stretch-append ring from zero n = stretch-same ring from (from + 0) (0 + n) n (omega arith) (omega arith)
+stretch-append ring from (suc m) n =
+    stretch-same ring from from (suc m + n) (suc (m + n)) (omega arith) (omega arith)
+    ∙ ap (λ (cells : List Bool). cell_of ring from ∷ cells)
+    (stretch-append ring (from + 1) m n
+    ∙ ap (λ (cells : List Bool). stretch ring (from + 1) m ++ cells) (stretch-same ring (from + 1 + m) (from + suc m) n n (omega arith) (omega arith)))
+
 pub drop-stretch : (place : ℕ) (ring : List Bool) (from count : ℕ) → place ≤ count
     → drop place (stretch ring from count) ≡ stretch ring (from + place) (count - place)
 unfolding stretch

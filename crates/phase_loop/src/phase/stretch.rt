@@ -1,5 +1,5 @@
 //! The loop's hot path: stretches of transitions that lie close to one another.
-ghost use Rattle.std.specs.Prelude.{◌≡◌, ℕ, ◌+◌, ◌-◌, ◌*◌, ◌/◌, ◌^◌, ◌<◌, ◌≤◌, max, length, take, drop, slice_index, All, IfOk, IfSome, IsOk, IsTrue, ◌↔◌};
+ghost use Rattle.std.specs.Prelude.{◌≡◌, ℕ, ◌+◌, ◌-◌, ◌*◌, ◌/◌, ◌^◌, ◌<◌, ◌≤◌, max, length, take, drop, slice_index, All, IfOk, IfSome, IsOk, OnErr, IsTrue, ◌↔◌};
 ghost use Rattle.std.specs.List.Sorted.{IsNonDecreasing};
 ghost use Rattle.cell_bits.specs.State.{room};
 ghost use Rattle.cell_bits.specs.Run.{IsShortRun};
@@ -53,6 +53,7 @@ impl Loop {
         ensures forward { IfOk result (λ next. last ≤ next) }
         ensures inside { IfOk result (λ next. next < length times.now) }
         ensures carries { IfOk result (λ next. Carries times.now last next self.old self.new cells.old cells.new) }
+        ensures kept { OnErr result (self.new ≡ self.old) }
         ensures room { room cells.old ≤ room cells.new }
         ensures succeeds { 32 * length times.now ≤ room cells.old → IsOk result }
     {

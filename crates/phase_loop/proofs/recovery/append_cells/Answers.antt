@@ -3,6 +3,7 @@ use Rattle.std.proofs.lemmas.List.{take_all}
 use Rattle.phase_loop.specs.Rows.{recovered}
 use Rattle.phase_loop.proofs.Appending.{appended_fine, next_later, first_appended, next_appended}
 use Rattle.phase_loop.proofs.Between.{appended_between}
+use Rattle.phase_loop.proofs.Times.{holds_few}
 use Rattle.phase_loop.proofs.recovery.append_cells.Goals as goal
 
 none : (times : List ℕ) → length times ≡ 0 → times ≡ []
@@ -19,7 +20,7 @@ loop-last-init c =
     let some : 0 < length c.args.times.now = omega (arith, ap length split) in
     let is : c.in-Some.first.now ≡ slice_index c.args.times.now 0 = rw split refl in
     let cells : c.push_cell.new.self.cells ≡ true ∷ [] = c.in_ok-push_cell.ensures.cells ∙ ap (λ cs. cs ++ true ∷ []) c.requires.empty in
-    (some, first_appended _ _ _ _ _ _ some is c.start.ensures.holds cells c.push_cell.ensures.room)
+    (some, first_appended _ _ _ _ _ _ some is c.start-2.ensures.holds cells c.push_cell.ensures.room)
 
 pub follow-requires-clause-here : goal.follow-requires-clause-here
 follow-requires-clause-here c = appended_fine _ _ _ _ _ _ c.loop-last.invariant.1 c.loop-last.invariant.0
@@ -44,3 +45,15 @@ returns-clause-ok c =
     let all : take (c.loop-last.last + 1) c.args.times.now ≡ c.args.times.now =
     take_all _ _ (omega (arith, c.loop-last-test.false)) in
     c.loop-last.invariant.1.cells_are ∙ ap (λ ts. recovered c.args.start ts) all
+
+pub returns-in_default-clause-window : goal.returns-in_default-clause-window
+returns-in_default-clause-window c = holds_few _ _ _ c.start.ensures.holds
+
+pub returns-in_err-push_cell-clause-window : goal.returns-in_err-push_cell-clause-window
+returns-in_err-push_cell-clause-window c = holds_few _ _ _ c.start-2.ensures.holds
+
+pub returns-in_err-last-clause-window : goal.returns-in_err-last-clause-window
+returns-in_err-last-clause-window c = rw c.in_err-last.ensures.kept (holds_few _ _ _ c.loop-last.invariant.1.holds)
+
+pub returns-clause-window : goal.returns-clause-window
+returns-clause-window c = holds_few _ _ _ c.loop-last.invariant.1.holds

@@ -2,10 +2,7 @@
 use Rattle.std.specs.Prelude.{◌≡◌, ◌≤◌, ◌<◌, ℕ, ◌+◌, ◌-◌, ◌*◌, Bool, true, List, length, slice_index}
 use Rattle.std.specs.Int.{abs_diff}
 use Rattle.track_rings.specs.Rings.{AreNeighbours, cell_of}
-
--- how many fine units make a tick
-abbrev pub FINE_PER_TICK : ℕ
-FINE_PER_TICK = 1024
+use Rattle.phase_loop.specs.Start.{FINE_PER_TICK}
 
 -- two numbers of fine units are apart by at most one of so many parts of the nominal cell
 abbrev pub AreClose : (parts nominal a b : ℕ) → Type 0
