@@ -3,6 +3,7 @@ use Rattle.std.proofs.Common.{◌≡◌, ◌≤◌, ◌+◌, ◌-◌, ◌*◌, �
 use Rattle.std.specs.List.Sorted.{IsNonDecreasing, IsStrictlyIncreasing}
 use Rattle.kryo_stream.specs.Spelling.{spelling}
 use Rattle.kryo_stream.specs.Sequence.{spellings}
+use Rattle.track_rings.specs.Rings.{last_in}
 use Rattle.flux_writer.specs.Written.{index_block, interval_blocks, stream_of_times}
 use Rattle.flux_writer.specs.Writing.{indexes_before, indexes_behind, last_blocks, many_blocks, position_behind, position_after, time_after}
 use Rattle.flux_writer.proofs.Steps.{spellings-append, length-interval, length-interval_close}
