@@ -28,14 +28,14 @@ pub joint-cells : (a b m n : ℕ) → a < 2 ^ m → b < 2 ^ n → m + n ≤ 64 �
 joint-cells a b m n a_fits b_fits within =
     ap (word_cells (m + n)) (joint-is a b m n a_fits b_fits within) ∙ word_cells-append m n a b b_fits
 
--- all the cells find place behind the last whole word
+-- all the cells find place after the last whole word
 pub appended-within : (words : List ℕ) (filled last bits count : ℕ) → last < 2 ^ filled → bits < 2 ^ count → filled + count ≤ 64
     → all_cells words (filled + count) (bit_or (last * 2 ^ count % 2 ^ 64) bits) ≡ all_cells words filled last ++ word_cells count bits
 appended-within words filled last bits count fits bits_fit within =
     ap (λ cells. flat_map (word_cells 64) words ++ cells) (joint-cells last bits filled count fits bits_fit within)
     ∙ sym (append_assoc (flat_map (word_cells 64) words) (word_cells filled last) (word_cells count bits))
 
--- the first cells make a whole word of those behind the last one, and the others stand behind it
+-- the first cells make a whole word of those after the last one, and the others stand after it
 pub appended-over : (words : List ℕ) (filled last bits count free over : ℕ) → filled + free ≡ 64 → count ≡ free + over → last < 2 ^ filled → bits < 2 ^ count
     → all_cells (words ++ bit_or (last * 2 ^ free % 2 ^ 64) (bits / 2 ^ over) ∷ []) over (bits % 2 ^ over) ≡ all_cells words filled last ++ word_cells count bits
 appended-over words filled last bits count free over full more fits bits_fit =

@@ -7,7 +7,7 @@ use Rattle.std.proofs.lemmas.Nat.Bits.{bit_at-lt, bit_at-zero, bit_at_and, bit_a
 use Rattle.std.proofs.lemmas.Nat.{leading_top, shr_high}
 use Rattle.std.specs.Int.Count.{count_leading_zeros}
 use Rattle.cell_bits.specs.Word.{digit}
-use Rattle.cell_bits.specs.Window.{cell_of_two, IsJoined, MeetsAt, AreCandidates}
+use Rattle.cell_bits.specs.inside.Window.{cell_of_two, IsJoined, MeetsAt, AreCandidates}
 
 -- a test of a digit
 from_digit : (value place : ℕ) → digit value place ≡ true → bit_at value place ≡ 1

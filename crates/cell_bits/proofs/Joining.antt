@@ -6,7 +6,7 @@ use Rattle.std.proofs.lemmas.Bool.Decides.{nat_tests}
 use Rattle.std.proofs.lemmas.Nat.{pow_pos, shr-shr, shr_split}
 use Rattle.std.proofs.lemmas.Nat.Bits.{bit_at_above, bit_at_cat_low, bit_at_cat_high, bit_at_or, shr_and_one}
 use Rattle.cell_bits.specs.Word.{digit}
-use Rattle.cell_bits.specs.Window.{cell_of_two, IsJoined, IsWindow}
+use Rattle.cell_bits.specs.inside.Window.{cell_of_two, IsJoined, IsWindow}
 
 bit_at-mod : (value width place : ℕ) → place < width → bit_at (value % 2 ^ width) place ≡ bit_at value place
 bit_at-mod value width place low =
@@ -63,7 +63,7 @@ joined-shifted high low shift some few high_fits low_fits k within = by_place (c
         let all : max (bit_at (high * 2 ^ shift) (63 - k)) (bit_at low (64 - shift + (63 - k))) ≡ bit_at low (64 - shift + (63 - k)) = omega arith in
         ap (λ bit. bit == 1) (either ∙ all ∙ ap (bit_at low) e) ∙ sym (cell_of_two-low high low (shift + k) second)
 
--- two blocks of the list, one behind the other
+-- two blocks of the list, one after the other
 pub two_windows : (cells : List Bool) (place high low : ℕ) → IsWindow cells place high → IsWindow cells (place + 64) low
     → (k : ℕ) → k < 128 → cell_of_two high low k ≡ get_or cells (place + k) false
 two_windows cells place high low first second k within = by_place (cases_lt k 64)
@@ -96,7 +96,7 @@ cell-split cells place block shown =
     let here : 64 * (place / 64) + place % 64 ≡ place = omega arith in
     ap (λ bit. bit == 1) (shr_and_one block (63 - place % 64)) ∙ shown (place % 64) (omega arith) ∙ ap (λ n. get_or cells n false) here
 
--- the cells of a block from a place on, shifted to the front, with zeros behind them
+-- the cells of a block from a place on, shifted to the front, with zeros after them
 module _ (cells : List Bool) (place block : ℕ) (shown : IsWindow cells (64 * (place / 64)) block) where
   pub shifted-cell : (k : ℕ) → k + place % 64 < 64 → digit (block * 2 ^ (place % 64) % 2 ^ 64) (63 - k) ≡ get_or cells (place + k) false
   shifted-cell k within =

@@ -9,10 +9,10 @@ use Rattle.std.proofs.Math.Seq.{take-append_seam}
 use Rattle.std.proofs.lemmas.List.Concat.{flat_map-append, get_or-flat_map}
 use Rattle.cell_bits.specs.Word.{digit, word_cells}
 use Rattle.cell_bits.specs.WordLaws.{length-word_cells, get_or-word_cells}
-use Rattle.cell_bits.specs.Window.{IsWindow}
-use Rattle.cell_bits.specs.Packed.{most_words}
+use Rattle.cell_bits.specs.inside.Window.{IsWindow}
+use Rattle.cell_bits.specs.inside.Packed.{most_words}
 
--- the cells of whole words, and those behind them
+-- the cells of whole words, and those after them
 abbrev pub all_cells : List ℕ → ℕ → ℕ → List Bool
 all_cells words filled last = flat_map (word_cells 64) words ++ word_cells filled last
 
@@ -40,7 +40,7 @@ block-whole words filled last index within k low =
     get_or_append_left (flat_map f words) (word_cells filled last) false (64 * index + k) (omega (arith, length-whole words)) in
     sym (left ∙ at ∙ get_or-word_cells 64 (get_or words index 0) k low)
 
--- a cell behind the whole words
+-- a cell after the whole words
 behind : (words : List ℕ) (filled last k : ℕ) → get_or (all_cells words filled last) (64 * length words + k) false ≡ get_or (word_cells filled last) k false
 behind words filled last k =
     let e : 64 * length words + k - 64 * length words ≡ k = omega arith in

@@ -29,9 +29,9 @@ joined-more counts place bits cells within some joined fits room =
     ∙ sym (runs-more counts place within)
 
 -- several runs more
-pub runs-behind : (counts : List ℕ) (place number : ℕ)
+pub runs-after : (counts : List ℕ) (place number : ℕ)
     → flat_map run_cells (take (place + number) counts) ≡ flat_map run_cells (take place counts) ++ flat_map run_cells (take number (drop place counts))
-runs-behind counts place number =
+runs-after counts place number =
     ap (flat_map run_cells) (take-add place number counts)
     ∙ flat_map-append run_cells (take place counts) (take number (drop place counts))
 
@@ -63,7 +63,7 @@ runs-within counts place number =
       ap (λ all. length (flat_map run_cells all)) (take-append-drop (place + number) counts),
       ap length (flat_map-append run_cells first rest),
       length-append (flat_map run_cells first) (flat_map run_cells rest),
-      ap length (runs-behind counts place number),
+      ap length (runs-after counts place number),
       length-append (flat_map run_cells (take place counts)) (flat_map run_cells (take number (drop place counts))),
     )
 
@@ -73,7 +73,7 @@ run-within counts place within some =
     omega (
       arith,
       runs-within counts place 1,
-      ap length (runs-behind counts place 1),
+      ap length (runs-after counts place 1),
       length-append (flat_map run_cells (take place counts)) (flat_map run_cells (take 1 (drop place counts))),
       ap length (runs-more counts place within),
       length-append (flat_map run_cells (take place counts)) (run_cells (slice_index counts place)),

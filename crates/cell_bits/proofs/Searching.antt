@@ -6,7 +6,7 @@ use Rattle.cell_bits.specs.Word.{digit, word_cells, Stands}
 use Rattle.cell_bits.specs.WordLaws.{length-word_cells, get_or-word_cells}
 use Rattle.cell_bits.specs.Search.{StandsNowhere, IsFirstWord, HasNoOne}
 use Rattle.cell_bits.specs.Broken.{Unbroken}
-use Rattle.cell_bits.specs.Window.{IsWindow, AreCandidates, cell_of_two}
+use Rattle.cell_bits.specs.inside.Window.{IsWindow, AreCandidates, cell_of_two}
 use Rattle.cell_bits.proofs.Joining.{two_windows, shifted-cell, shifted-past}
 use Rattle.cell_bits.proofs.Candidates.{zero-digit}
 
@@ -76,7 +76,7 @@ module _ (cells : List Bool) where
   pub no-one-yet : (from : ℕ) → HasNoOne cells from from
   no-one-yet from place after before = absurd (omega arith)
 
-  -- no place is left, since no one stands behind the list's end
+  -- no place is left, since no one stands past the list's end
   pub no-one-beyond : (from place to : ℕ) → HasNoOne cells from place → (place < to → length cells ≤ place) → HasNoOne cells from to
   no-one-beyond from place to so_far beyond other after before = by_place (cases_lt other place)
     where

@@ -7,7 +7,7 @@ use Rattle.cell_bits.specs.Word.{word_cells, number_of}
 use Rattle.cell_bits.specs.WordLaws.{word_cells-number_of, number_of-word_cells, number_of-lt, word_cells-append}
 use Rattle.cell_bits.specs.Bytes.{fm, mfm, fm_cells, mfm_cells, data_cells}
 use Rattle.cell_bits.specs.Marks.{woven}
-use Rattle.cell_bits.specs.Spread.{spread_of}
+use Rattle.cell_bits.specs.inside.Spread.{spread_of}
 
 -- the check holds of each number below n
 each_below : (ℕ → Bool) → ℕ → Bool
@@ -109,7 +109,7 @@ gathered-is cells within =
     ap (word_cells 4) same ∙ ap (λ n. word_cells n (number_of (data_cells (word_cells 8 cells)))) (sym (length-gathered cells))
     ∙ word_cells-number_of (data_cells (word_cells 8 cells))
 
--- the bits of two bytes, one behind the other
+-- the bits of two bytes, one after the other
 data_cells-append : (high low : ℕ) → data_cells (word_cells 8 high ++ word_cells 8 low) ≡ data_cells (word_cells 8 high) ++ data_cells (word_cells 8 low)
 unfolding data_cells word_cells
 data_cells-append high low = refl

@@ -10,7 +10,7 @@ use Rattle.cell_bits.specs.Word.{digit, word_cells, number_of, word}
 use Rattle.cell_bits.specs.WordLaws.{digit-number, length-word_cells, get_or-word_cells, number_of-word_cells}
 use Rattle.cell_bits.specs.Bytes.{data_byte, data_cells}
 use Rattle.cell_bits.specs.Ones.{ones, ones_from_to}
-use Rattle.cell_bits.specs.Window.{IsWindow}
+use Rattle.cell_bits.specs.inside.Window.{IsWindow}
 use Rattle.cell_bits.proofs.Joining.{digit-shr}
 
 -- the first cells of a window are those cells of the list
@@ -66,7 +66,7 @@ ones-word_cells (suc count) value =
     sum_by-cons (λ c. cond c 1 0) (digit value count) (word_cells count value) in
     first ∙ ap (λ n. n + ones (word_cells count value)) (digit-number value count) ∙ ap (λ n. bit + n) (ones-word_cells count value) ∙ sym digits
 
--- the ones of a stretch, and of as many cells of a window behind it
+-- the ones of a stretch, and of as many cells of a window after it
 pub ones-more : (cells : List Bool) (from place block count total : ℕ) → from ≤ place → total ≡ ones_from_to cells from place
     → IsWindow cells place block → block < 2 ^ 64 → count ≤ 64 → place + count ≤ length cells
     → total + count_of (block / 2 ^ (64 - count)) ≡ ones_from_to cells from (place + count)

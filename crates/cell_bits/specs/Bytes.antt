@@ -7,7 +7,7 @@ unfoldable pub fm_cells : List Bool → List Bool
 fm_cells [] = []
 fm_cells (bit ∷ bits) = true ∷ bit ∷ fm_cells bits
 
--- MFM, behind a given data bit: a clock cell is a one exactly where the data bit before it and the one behind it are zeros
+-- MFM, after a given data bit: a clock cell is a one exactly where the data bit before it and the one after it are zeros
 unfoldable pub mfm_cells : Bool → List Bool → List Bool
 mfm_cells before [] = []
 mfm_cells before (bit ∷ bits) = not (before || bit) ∷ bit ∷ mfm_cells bit bits

@@ -2,11 +2,9 @@ pub mod Broken
 pub mod Bytes
 pub mod Marks
 pub mod Ones
-pub mod Packed
 pub mod Run
 pub mod Search
 pub mod State
-pub mod Spread
-pub mod Window
 pub mod Word
 pub mod WordLaws
+pub mod inside

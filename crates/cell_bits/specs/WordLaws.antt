@@ -31,7 +31,7 @@ word_cells-low (suc count) above low high within =
     let same : digit (high * 2 ^ above + low) count ≡ digit low count = ap (λ bit. bit == 1) (bit_at_cat_low high above low count (omega arith)) in
     rw (same, word_cells-low count above low high (omega arith))
 
--- two numbers, one behind the other
+-- two numbers, one after the other
 pub word_cells-append : (m n high low : ℕ) → low < 2 ^ n → word_cells (m + n) (high * 2 ^ n + low) ≡ word_cells m high ++ word_cells n low
 unfolding word_cells
 word_cells-append zero n high low fits = rw zero-add (word_cells-low n n low high (omega arith))

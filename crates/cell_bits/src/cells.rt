@@ -1,6 +1,6 @@
 ghost use Rattle.std.specs.Prelude.{◌≡◌, ◌*◌, ◌^◌, ◌<◌, ◌≤◌, [], length, get_or, false, OnOk, IsOk};
 ghost use Rattle.cell_bits.specs.State.{room};
-ghost use Rattle.cell_bits.specs.Window.{IsWindow, IsJoined};
+ghost use Rattle.cell_bits.specs.inside.Window.{IsWindow, IsJoined};
 
 mod pushes;
 mod reads;
@@ -17,9 +17,9 @@ const MOST_WORDS: usize = 0x01FF_FFFF_FFFF_FFFF;
 /// number of further cells that can be appended without memory. No call lowers the sum of length and spare.
 #[derive(Debug, Drop)]
 pub struct Cells {
-    /// The cells, high bit first, but for those behind the last whole word.
+    /// The cells, high bit first, but for those after the last whole word.
     words: Vec<u64>,
-    /// The cells behind the last whole word, in the low bits, high bit first.
+    /// The cells after the last whole word, in the low bits, high bit first.
     last: u64,
     /// How many cells `last` holds, below 64.
     filled: u32,
@@ -30,7 +30,7 @@ impl Model for Cells {
 
     ghost Value = { CellsState };
 
-    ghost use Rattle.cell_bits.specs.Packed.{packed, IsPacked};
+    ghost use Rattle.cell_bits.specs.inside.Packed.{packed, IsPacked};
 
     ghost view = { packed };
 
@@ -91,7 +91,7 @@ impl Cells {
         (self.block(place / 64) >> (63 - place % 64)) & 1 == 1
     }
 
-    /// The 64 cells from place 64 * `index` on, high bit first, with zeros behind the list's end.
+    /// The 64 cells from place 64 * `index` on, high bit first, with zeros past the list's end.
     fn block(&self, index: usize) -> u64
         ensures { IsWindow self.now.cells (64 * index) result }
     {
@@ -102,7 +102,7 @@ impl Cells {
         }
     }
 
-    /// The 64 cells from a place on, high bit first, with zeros behind the list's end.
+    /// The 64 cells from a place on, high bit first, with zeros past the list's end.
     fn window(&self, place: usize) -> u64
         ensures { IsWindow self.now.cells place result }
     {
@@ -115,7 +115,7 @@ impl Cells {
     }
 }
 
-/// The 64 cells of two blocks, one behind the other, from a place of the first on.
+/// The 64 cells of two blocks, one after the other, from a place of the first on.
 fn joined(high: u64, low: u64, shift: u32) -> u64
     requires { shift < 64 }
     ensures { IsJoined high low shift result }

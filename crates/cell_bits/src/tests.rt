@@ -111,7 +111,7 @@ fn each_push_crosses_the_border(rt: HostRuntime) -> Result<(), Fail> {
 }
 
 #[test]
-fn short_runs_are_runs_one_behind_another(rt: HostRuntime) -> Result<(), Fail> {
+fn short_runs_are_runs_one_after_another(rt: HostRuntime) -> Result<(), Fail> {
     for length in [0usize, 1, 7, 8, 9, 16, 23, 200] {
         let counts = short_runs(rt.alloc(), length)?;
         for before in [0u8, 1, 32, 63] {
@@ -121,12 +121,12 @@ fn short_runs_are_runs_one_behind_another(rt: HostRuntime) -> Result<(), Fail> {
             for count in &counts {
                 apart.push_run(*count)?;
             }
-            assert_eq!(rt; together.len(), apart.len(), "{length} behind {before}");
+            assert_eq!(rt; together.len(), apart.len(), "{length} after {before}");
             for place in 0..apart.len() {
                 assert_eq!(rt;
                     together.cell(place),
                     apart.cell(place),
-                    "{place} of {length} behind {before}"
+                    "{place} of {length} after {before}"
                 );
             }
         }
@@ -183,9 +183,9 @@ fn finds_each_one_that_a_plain_search_finds(rt: HostRuntime) -> Result<(), Fail>
     Ok(())
 }
 
-// Of 200 cells the last is the only one, in the cells behind the last whole word.
+// Of 200 cells the last is the only one, in the cells after the last whole word.
 #[test]
-fn finds_a_one_behind_words_of_zeros(rt: HostRuntime) -> Result<(), Fail> {
+fn finds_a_one_after_words_of_zeros(rt: HostRuntime) -> Result<(), Fail> {
     let mut cells = Cells::new(rt.alloc());
     for place in 0..200 {
         cells.push_cell(place == 199)?;

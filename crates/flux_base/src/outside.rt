@@ -57,7 +57,7 @@ pub trait Sink {
         ensures bound { WritesAtMost result piece.now }
         ensures progress { IfOk result (λ n. 0 < length piece.now → 0 < n) }
 
-        // The bytes taken stand behind those taken before. After `Failed` none was taken.
+        // The bytes taken stand after those taken before. After `Failed` none was taken.
         ensures bytes { WriteAppends (written self.old) (written self.new) result piece.now }
         ensures later { faults self.old ≤ faults self.new }
         ensures cause { OnErr result (Rose (faults self.old) (faults self.new)) };

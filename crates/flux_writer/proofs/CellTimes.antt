@@ -7,7 +7,7 @@ use Rattle.std.proofs.Math.Nat.{mul-le-mul, mul-le-mul_right}
 use Rattle.std.proofs.Math.Seq.{take-add, drop-cons, get_or-append_seam}
 use Rattle.cell_bits.specs.Search.{HasNoOne}
 use Rattle.flux_writer.specs.Written.{cell_time, ones_of}
-use Rattle.flux_writer.specs.Writing.{ones_from, times_between}
+use Rattle.flux_writer.specs.inside.Writing.{ones_from, times_between}
 
 pub cell_time-le : (nominal j k : ℕ) → j ≤ k → cell_time nominal j ≤ cell_time nominal k
 cell_time-le nominal j k order =
@@ -84,7 +84,7 @@ one_between cells place count number within zeros one =
     drop-drop-here : drop count (drop place cells) ≡ drop (place + count) cells
     drop-drop-here = drop-drop count place cells ∙ ap (λ n. drop n cells) (omega arith)
 
--- cells up to a place, and those behind it
+-- cells up to a place, and those after it
 pub times_between-split : (cells : List Bool) (from place to number nominal : ℕ) → from ≤ place → place ≤ to → to ≤ length cells
     → times_between cells from to number nominal ≡ times_between cells from place number nominal
     ++ map (cell_time nominal) (ones_from (number + (place - from)) (take (to - place) (drop place cells)))

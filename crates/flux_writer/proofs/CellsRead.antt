@@ -6,14 +6,14 @@ use Rattle.std.proofs.lemmas.List.Elements.{All-nil, All-cons, All-weaker, All-h
 use Rattle.std.proofs.Math.Nat.{mul-le-mul}
 use Rattle.track_rings.specs.Rings.{last_in}
 use Rattle.flux_writer.specs.Written.{cell_time, ones_of, stream_of_times, stream_of_turns, stream_of, track_cells, track_turns, quarter}
-use Rattle.flux_writer.specs.Writing.{ones_from}
-use Rattle.flux_writer.specs.Reading.{MOST_RING_CELLS, EndsWithTransition, HasOneBehind, HasEarlyOne, IsStreamOf}
+use Rattle.flux_writer.specs.inside.Writing.{ones_from}
+use Rattle.flux_writer.specs.Reading.{MOST_RING_CELLS, EndsWithTransition, HasOneAfter, HasEarlyOne, IsStreamOf}
 use Rattle.flux_writer.proofs.Rising.{Rises}
 use Rattle.flux_writer.proofs.CellTimes.{cell_time-le, cell_time-lt, ones_of-is}
 use Rattle.flux_writer.proofs.Sizes.{stream_takes_close}
 use Rattle.flux_writer.proofs.Rings.{rising_times, turns_rise, cells_after, length-cells_after, all_parts}
 
--- the numbers of ones are at least that of the first cell, below that behind the last, and rise
+-- the numbers of ones are at least that of the first cell, below that after the last, and rise
 ones_within : (n : ℕ) (cells : List Bool) → All (λ k. (n ≤ k) × (k < n + length cells)) (ones_from n cells)
 ones_within n [] = All-nil (λ k. (n ≤ k) × (k < n + 0))
 ones_within n (c ∷ cells) =
@@ -89,7 +89,7 @@ one_is_early nominal cells p is =
     let last : last_in (map (cell_time nominal) (ones_of cells)) ≡ last_in ts = ap (λ o. last_in (map (cell_time nominal) o)) (ones_of-is cells) in
     omega (arith, this, order, last)
 
-pub turns_end : (cells : List Bool) (turns : List ℕ) (nominal : ℕ) → 1024 ≤ nominal → All (HasOneBehind cells) turns
+pub turns_end : (cells : List Bool) (turns : List ℕ) (nominal : ℕ) → 1024 ≤ nominal → All (HasOneAfter cells) turns
     → EndsWithTransition (map (cell_time nominal) (ones_of cells)) (map (cell_time nominal) turns)
 turns_end cells turns nominal long behind some =
     let size : length (map (cell_time nominal) turns) ≡ length turns = length-map turns (cell_time nominal) in
@@ -107,7 +107,7 @@ ReadsLaw = (transitions turns : List ℕ) → IsNonDecreasing transitions → Is
     → 2 ≤ length turns → length (stream_of_times transitions turns) ≤ 4194304 → IsStreamOf (stream_of_times transitions turns) transitions turns
 
 pub turns_read : ReadsLaw → (cells : List Bool) (turns : List ℕ) (nominal : ℕ) → 1024 ≤ nominal → IsStrictlyIncreasing turns
-    → All (HasOneBehind cells) turns → 2 ≤ length turns → length (stream_of_turns cells turns nominal) ≤ 4194304
+    → All (HasOneAfter cells) turns → 2 ≤ length turns → length (stream_of_turns cells turns nominal) ≤ 4194304
     → IsStreamOf (stream_of_turns cells turns nominal) (map (cell_time nominal) (ones_of cells)) (map (cell_time nominal) turns)
 turns_read law cells turns nominal long rising behind two short =
     law (map (cell_time nominal) (ones_of cells)) (map (cell_time nominal) turns) (transitions_in_order nominal cells)
@@ -161,9 +161,9 @@ track_is_short ring nominal long short some few =
     let product : (length cells + 1) * nominal ≤ 1835009 * 131072 = mul-le-mul most short in
     omega (arith, size, ones, last_within nominal cells, product, most)
 
--- the early one of a ring stands behind the last index cell
-ones_behind_turns : (ring : List Bool) → HasEarlyOne ring → All (HasOneBehind (track_cells ring)) (track_turns ring)
-ones_behind_turns ring early k d below =
+-- the early one of a ring stands after the last index cell
+ones_after_turns : (ring : List Bool) → HasEarlyOne ring → All (HasOneAfter (track_cells ring)) (track_turns ring)
+ones_after_turns ring early k d below =
     let place : ℕ = (quarter ring + 3 * length ring) + early.0 in
     let size : length (cells_after ring 3) ≡ quarter ring + 3 * length ring = length-cells_after ring 3 in
     let is : get_or (track_cells ring) place false ≡ true =
@@ -183,7 +183,7 @@ ones_behind_turns ring early k d below =
 -- what turns_law says
 abbrev pub TurnsLaw : Type 0
 TurnsLaw = (cells : List Bool) (turns : List ℕ) (nominal : ℕ) → 1024 ≤ nominal → IsStrictlyIncreasing turns
-    → All (HasOneBehind cells) turns → 2 ≤ length turns → length (stream_of_turns cells turns nominal) ≤ 4194304
+    → All (HasOneAfter cells) turns → 2 ≤ length turns → length (stream_of_turns cells turns nominal) ≤ 4194304
     → IsStreamOf (stream_of_turns cells turns nominal) (map (cell_time nominal) (ones_of cells)) (map (cell_time nominal) turns)
 
 pub track_reads : TurnsLaw → (ring : List Bool) (nominal : ℕ) → 1024 ≤ nominal → nominal ≤ 131072 → length ring ≤ MOST_RING_CELLS
@@ -191,5 +191,5 @@ pub track_reads : TurnsLaw → (ring : List Bool) (nominal : ℕ) → 1024 ≤ n
     (map (cell_time nominal) (track_turns ring))
 track_reads law ring nominal long short few early =
     let some : 0 < length ring = omega (arith, early.1, early.2) in
-    law (track_cells ring) (track_turns ring) nominal long (turns_rise ring some) (ones_behind_turns ring early) (omega arith)
+    law (track_cells ring) (track_turns ring) nominal long (turns_rise ring some) (ones_after_turns ring early) (omega arith)
     (track_is_short ring nominal long short some few)

@@ -11,9 +11,9 @@ use Rattle.std.proofs.Math.Seq.{get_or-append_seam, take-append_seam}
 use Rattle.kryo_stream.specs.declared.block.Block.{Block}
 use Rattle.kryo_stream.specs.Sequence.{spellings}
 use Rattle.flux_writer.specs.Written.{begin_of, interval_blocks, interval_of, in_stream_before, is_first_above, index_block, transition_blocks, stream_blocks}
-use Rattle.flux_writer.specs.Writing.{count_before, indexes_before, indexes_behind, next_blocks, last_blocks, many_blocks, position_behind, position_after, time_after}
+use Rattle.flux_writer.specs.inside.Writing.{count_before, indexes_before, indexes_from, next_blocks, last_blocks, many_blocks, next_position, position_after, time_after}
 use Rattle.flux_writer.proofs.Steps.{spellings-append}
-use Rattle.flux_writer.proofs.Rising.{Rises, Rises-from_increasing, Rises-behind, behind_is_late, filter-none, filter-same, filter-before, before-behind, front_is_early}
+use Rattle.flux_writer.proofs.Rising.{Rises, Rises-from_increasing, Rises-from, from_is_late, filter-none, filter-same, filter-before, before-from, front_is_early}
 
 -- the blocks of a stream that is written a transition at a time
 abbrev pub all_blocks : List ℕ → List ℕ → List Block
@@ -35,10 +35,10 @@ range-more a (suc n) =
     ap (range_with_len a) f ∙ ap (λ xs. a ∷ xs) (range-more (a + 1) n)
     ∙ ap (λ k. a ∷ (range_with_len (a + 1) n ++ k ∷ [])) e
 
--- the time at which the interval behind some transitions begins
-begin_behind : (b : ℕ) (ds xs : List ℕ) → get_or (b ∷ (ds ++ xs)) (length ds) 0 ≡ time_after b ds
-begin_behind b [] xs = refl
-begin_behind b (d ∷ ds) xs = begin_behind d ds xs
+-- the time at which the interval after some transitions begins
+begin_after : (b : ℕ) (ds xs : List ℕ) → get_or (b ∷ (ds ++ xs)) (length ds) 0 ≡ time_after b ds
+begin_after b [] xs = refl
+begin_after b (d ∷ ds) xs = begin_after d ds xs
 
 begin_within : (b : ℕ) (ds xs : List ℕ) (k : ℕ) → k < length ds → get_or (b ∷ (ds ++ xs)) k 0 ≡ get_or (b ∷ ds) k 0
 begin_within b ds xs zero inside = refl
@@ -52,7 +52,7 @@ interval-front ds xs k inside =
 interval-next : (ds : List ℕ) (t : ℕ) (ts : List ℕ) → interval_of (ds ++ t ∷ ts) (length ds) ≡ interval_blocks (t - time_after 0 ds)
 interval-next ds t ts =
     ap (λ e. interval_blocks (e - begin_of (ds ++ t ∷ ts) (length ds))) (get_or-append_seam ds t ts 0)
-    ∙ ap (λ b. interval_blocks (t - b)) (begin_behind 0 ds (t ∷ ts))
+    ∙ ap (λ b. interval_blocks (t - b)) (begin_after 0 ds (t ∷ ts))
 
 -- the in-stream bytes before an interval are those of the transitions before it
 abbrev pub in_stream : List ℕ → ℕ
@@ -62,7 +62,7 @@ in_stream-front : (ds xs : List ℕ) → in_stream_before (ds ++ xs) (length ds)
 in_stream-front ds xs = ap (λ bs. length (spellings bs))
     (flat_map-range (interval_of (ds ++ xs)) (interval_of ds) 0 (length ds) (λ k low high. interval-front ds xs k (omega (arith, high))))
 
-in_stream-next : (ds : List ℕ) (t : ℕ) → in_stream (ds ++ t ∷ []) ≡ position_behind (in_stream ds) (time_after 0 ds) t
+in_stream-next : (ds : List ℕ) (t : ℕ) → in_stream (ds ++ t ∷ []) ≡ next_position (in_stream ds) (time_after 0 ds) t
 in_stream-next ds t =
     let W = ds ++ t ∷ [] in
     let size : length W ≡ length ds + 1 = length-append ds (t ∷ []) in
@@ -84,7 +84,7 @@ in_stream-after ds [] = ap in_stream (append-nil ds)
 in_stream-after ds (t ∷ ts) =
     ap in_stream (sym (append_assoc ds (t ∷ []) ts)) ∙ in_stream-after (ds ++ t ∷ []) ts
     ∙ ap (λ p. position_after p (time_after 0 (ds ++ t ∷ [])) ts) (in_stream-next ds t)
-    ∙ ap (λ b. position_after (position_behind (in_stream ds) (time_after 0 ds) t) b ts) (time_after-next 0 ds t)
+    ∙ ap (λ b. position_after (next_position (in_stream ds) (time_after 0 ds) t) b ts) (time_after-next 0 ds t)
 
 -- no time of these is above the index
 abbrev pub is_past : List ℕ → ℕ → Bool
@@ -129,11 +129,11 @@ module _ (ds : List ℕ) (t : ℕ) (ts done rest : List ℕ) (gone : All (λ ind
       let W = ds ++ t ∷ ts in
       let k = length ds in
       ap (λ p. map (index_block p (begin_of W k)) (filter (is_first_above W k) (done ++ rest)) ++ interval_of W k) (in_stream-front ds (t ∷ ts))
-      ∙ ap (λ b. map (index_block (in_stream ds) b) (filter (is_first_above W k) (done ++ rest)) ++ interval_of W k) (begin_behind 0 ds (t ∷ ts))
+      ∙ ap (λ b. map (index_block (in_stream ds) b) (filter (is_first_above W k) (done ++ rest)) ++ interval_of W k) (begin_after 0 ds (t ∷ ts))
       ∙ ap (λ is. map (index_block (in_stream ds) (time_after 0 ds)) is ++ interval_of W k) indexes-next
       ∙ ap (λ bs. map (index_block (in_stream ds) (time_after 0 ds)) (indexes_before t rest) ++ bs) (interval-next ds t ts)
 
-  -- the index times that are gone and left behind the next transition
+  -- the index times that are gone and left after the next transition
   gone-next : All (λ index. is_past (ds ++ t ∷ []) index ≡ false) (done ++ indexes_before t rest)
   gone-next = All-append (λ index. is_past (ds ++ t ∷ []) index ≡ false) done (indexes_before t rest)
       (All-weaker (λ index. is_past ds index ≡ false) (λ index. is_past (ds ++ t ∷ []) index ≡ false)
@@ -145,11 +145,11 @@ module _ (ds : List ℕ) (t : ℕ) (ts done rest : List ℕ) (gone : All (λ ind
       late : (index : ℕ) → index < t → nat_le t index ≡ false
       late index early = grind (arith, nat_tests, early)
 
-  left-next : All (λ index. is_past (ds ++ t ∷ []) index ≡ true) (indexes_behind t rest)
-  left-next = λ k d below. is_past-push ds t (get_or (indexes_behind t rest) k d)
-      ∙ both (is_past ds (get_or (indexes_behind t rest) k d)) (nat_le t (get_or (indexes_behind t rest) k d))
+  left-next : All (λ index. is_past (ds ++ t ∷ []) index ≡ true) (indexes_from t rest)
+  left-next = λ k d below. is_past-push ds t (get_or (indexes_from t rest) k d)
+      ∙ both (is_past ds (get_or (indexes_from t rest) k d)) (nat_le t (get_or (indexes_from t rest) k d))
       (All-drop (λ index. is_past ds index ≡ true) (count_before t rest) rest left k d below)
-      (late (get_or (indexes_behind t rest) k d) (behind_is_late t rest rises k d below))
+      (late (get_or (indexes_from t rest) k d) (from_is_late t rest rises k d below))
     where
       late : (index : ℕ) → t ≤ index → nat_le t index ≡ true
       late index early = grind (arith, nat_tests, early)
@@ -166,18 +166,18 @@ blocks-from ds (t ∷ ts) done rest gone left rises =
     let is = done ++ rest in
     let W : (ds ++ t ∷ []) ++ ts ≡ ds ++ t ∷ ts = append_assoc ds (t ∷ []) ts in
     let size : length (ds ++ t ∷ []) ≡ length ds + 1 = length-append ds (t ∷ []) in
-    let all : (done ++ indexes_before t rest) ++ indexes_behind t rest ≡ is =
-    append_assoc done (indexes_before t rest) (indexes_behind t rest) ∙ ap (λ xs. done ++ xs) (before-behind t rest) in
+    let all : (done ++ indexes_before t rest) ++ indexes_from t rest ≡ is =
+    append_assoc done (indexes_before t rest) (indexes_from t rest) ∙ ap (λ xs. done ++ xs) (before-from t rest) in
     ap (λ bs. bs ++ flat_map (transition_blocks (ds ++ t ∷ ts) is) (range_with_len (length ds + 1) (length ts)))
     (transition-next ds t ts done rest gone left rises)
     ∙ ap (λ bs. next_blocks (in_stream ds) (time_after 0 ds) t rest ++ bs)
     (ap (λ n. flat_map (transition_blocks (ds ++ t ∷ ts) is) (range_with_len n (length ts))) (sym size)
     ∙ ap (λ w. flat_map (transition_blocks w is) (range_with_len (length (ds ++ t ∷ [])) (length ts))) (sym W)
     ∙ ap (λ i. flat_map (transition_blocks ((ds ++ t ∷ []) ++ ts) i) (range_with_len (length (ds ++ t ∷ [])) (length ts))) (sym all)
-    ∙ blocks-from (ds ++ t ∷ []) ts (done ++ indexes_before t rest) (indexes_behind t rest)
-    (gone-next ds t ts done rest gone left rises) (left-next ds t ts done rest gone left rises) (Rises-behind t rest rises)
-    ∙ ap (λ p. many_blocks p (time_after 0 (ds ++ t ∷ [])) ts (indexes_behind t rest)) (in_stream-next ds t)
-    ∙ ap (λ b. many_blocks (position_behind (in_stream ds) (time_after 0 ds) t) b ts (indexes_behind t rest)) (time_after-next 0 ds t))
+    ∙ blocks-from (ds ++ t ∷ []) ts (done ++ indexes_before t rest) (indexes_from t rest)
+    (gone-next ds t ts done rest gone left rises) (left-next ds t ts done rest gone left rises) (Rises-from t rest rises)
+    ∙ ap (λ p. many_blocks p (time_after 0 (ds ++ t ∷ [])) ts (indexes_from t rest)) (in_stream-next ds t)
+    ∙ ap (λ b. many_blocks (next_position (in_stream ds) (time_after 0 ds) t) b ts (indexes_from t rest)) (time_after-next 0 ds t))
 
 pub stream_blocks-is : (times indexes : List ℕ) → IsStrictlyIncreasing indexes → stream_blocks times indexes ≡ all_blocks times indexes
 stream_blocks-is times indexes rising =

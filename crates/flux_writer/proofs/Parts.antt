@@ -2,17 +2,17 @@
 use Rattle.std.proofs.Common.{◌≡◌, ◌≤◌, ◌<◌, ◌+◌, ◌-◌, ◌/◌, ◌++◌, ℕ, Bool, true, false, List, [], ◌∷◌, length, map, take, drop, get_or, Option, sym, subst, arith}
 use Rattle.cell_bits.specs.Search.{HasNoOne}
 use Rattle.flux_base.specs.Outside.{AppendsPart}
-use Rattle.flux_writer.specs.Gathering.{Gathers}
+use Rattle.flux_writer.specs.inside.Gathering.{Gathers}
 use Rattle.kryo_stream.specs.Sequence.{spellings}
 use Rattle.flux_writer.specs.Written.{cell_time}
-use Rattle.flux_writer.specs.Writing.{indexes_behind, next_blocks, many_blocks, position_behind, times_between, ones_from, IsReadyAt, IsWritten}
+use Rattle.flux_writer.specs.inside.Writing.{indexes_from, next_blocks, many_blocks, next_position, times_between, ones_from, IsReadyAt, IsWritten}
 use Rattle.flux_writer.proofs.CellTimes.{cell_time-le, product-small, times_between-split, times_between-one}
 use Rattle.flux_writer.proofs.Progress.{IsReady-next, IsReady-fits, IsWritten-more, IsWritten-one, IsWritten-part, part_of_one, part_of_more}
 
 -- the next cell that is a one
 pub IsReadyAt-next : (nominal position time number K : ℕ) (indexes : List ℕ) → IsReadyAt nominal position time number indexes → number ≤ K
-    → IsReadyAt nominal (position_behind position time (cell_time nominal K)) (cell_time nominal K) (K + 1)
-    (indexes_behind (cell_time nominal K) indexes)
+    → IsReadyAt nominal (next_position position time (cell_time nominal K)) (cell_time nominal K) (K + 1)
+    (indexes_from (cell_time nominal K) indexes)
 IsReadyAt-next nominal position time number K indexes r order =
     let early : time ≤ cell_time nominal K = omega (arith, r.reached, cell_time-le nominal number K order) in
     let next = IsReady-next position time number (cell_time nominal K) indexes r.ready early in
@@ -48,9 +48,9 @@ module _ (cells : List Bool) (from number nominal place one to : ℕ) (start : f
     (w : IsWritten old mid held position time indexes held' position' time' indexes' (times_between cells from place number nominal)) where
   pub next_one : (held'' : List ℕ) (position'' time'' : ℕ) (indexes'' : List ℕ)
       → Gathers mid new held' held'' (spellings (next_blocks position' time' (cell_time nominal (number + (one - from))) indexes'))
-      → position'' ≡ position_behind position' time' (cell_time nominal (number + (one - from)))
+      → position'' ≡ next_position position' time' (cell_time nominal (number + (one - from)))
       → time'' ≡ cell_time nominal (number + (one - from))
-      → indexes'' ≡ indexes_behind (cell_time nominal (number + (one - from))) indexes'
+      → indexes'' ≡ indexes_from (cell_time nominal (number + (one - from))) indexes'
       → IsWritten old new held position time indexes held'' position'' time'' indexes'' (times_between cells from (one + 1) number nominal)
   next_one held'' position'' time'' indexes'' g position_is time_is indexes_are =
       subst (IsWritten old new held position time indexes held'' position'' time'' indexes'')

@@ -4,21 +4,21 @@ use Rattle.std.specs.Io.KnownBytes.{Appends}
 use Rattle.std.proofs.lemmas.List.{take_more, take-append-drop}
 use Rattle.std.specs.List.Sorted.{IsStrictlyIncreasing, IsNonDecreasing}
 use Rattle.flux_base.specs.Outside.{AppendsPart}
-use Rattle.flux_writer.specs.Gathering.{Gathers}
+use Rattle.flux_writer.specs.inside.Gathering.{Gathers}
 use Rattle.kryo_stream.specs.Sequence.{spellings}
 use Rattle.flux_writer.specs.Written.{stream_of_times}
-use Rattle.flux_writer.specs.Writing.{count_before, indexes_behind, next_blocks, last_blocks, many_blocks, position_behind, position_after, time_after, indexes_after, IsReady, IsWritten, ticks_of}
+use Rattle.flux_writer.specs.inside.Writing.{count_before, indexes_from, next_blocks, last_blocks, many_blocks, next_position, position_after, time_after, indexes_after, IsReady, IsWritten, ticks_of}
 use Rattle.flux_writer.specs.declared.indexes.IndexUnit.TheVariants.{Ticks}
 use Rattle.flux_writer.proofs.Gathered.{Gathers-nothing, Gathers-more, Gathers-all, Gathers-part, AppendsPart-longer}
 use Rattle.flux_writer.proofs.Steps.{spellings-append, length-interval, many_blocks-append, position_after-append, time_after-append, indexes_after-append}
-use Rattle.flux_writer.proofs.Rising.{Rises-from_increasing, behind_is_late, IsStrictlyIncreasing-drop}
+use Rattle.flux_writer.proofs.Rising.{Rises-from_increasing, from_is_late, IsStrictlyIncreasing-drop}
 use Rattle.flux_writer.proofs.Equal.{stream_blocks-is}
 
 pub IsReady-next : (position begin count time : ℕ) (indexes : List ℕ) → IsReady position begin count indexes → begin ≤ time
-    → IsReady (position_behind position begin time) time (count + 1) (indexes_behind time indexes)
+    → IsReady (next_position position begin time) time (count + 1) (indexes_from time indexes)
 IsReady-next position begin count time indexes ready order = record {
   room = omega (arith, ready.room, order, length-interval (time - begin));
-  begun = behind_is_late time indexes (Rises-from_increasing indexes ready.rising);
+  begun = from_is_late time indexes (Rises-from_increasing indexes ready.rising);
   rising = IsStrictlyIncreasing-drop (count_before time indexes) indexes ready.rising;
 }
 
@@ -77,7 +77,7 @@ module _ (old new : Option (List ℕ)) (held : List ℕ) (position begin time : 
 
   pub IsWritten-one : (held' : List ℕ) (position' begin' : ℕ) (indexes' : List ℕ)
       → Gathers old new held held' (spellings (next_blocks position begin time indexes))
-      → position' ≡ position_behind position begin time → begin' ≡ time → indexes' ≡ indexes_behind time indexes
+      → position' ≡ next_position position begin time → begin' ≡ time → indexes' ≡ indexes_from time indexes
       → IsWritten old new held position begin indexes held' position' begin' indexes' (time ∷ [])
   IsWritten-one held' position' begin' indexes' g position_is time_is indexes_are = record {
     bytes = subst (λ bs. Gathers old new held held' (spellings bs)) one_more g;
@@ -159,8 +159,8 @@ module _ (times items : List ℕ) (k : ℕ) (same : items ≡ times) (inside : k
       (w : IsWritten old mid [] 0 0 indexes held position begin left (take k times)) where
     pub IsWritten-next : (held' : List ℕ) (position' time' : ℕ) (left' : List ℕ)
         → Gathers mid new held held' (spellings (next_blocks position begin (get_or items k 0) left))
-        → position' ≡ position_behind position begin (get_or items k 0) → time' ≡ get_or items k 0
-        → left' ≡ indexes_behind (get_or items k 0) left
+        → position' ≡ next_position position begin (get_or items k 0) → time' ≡ get_or items k 0
+        → left' ≡ indexes_from (get_or items k 0) left
         → IsWritten old new [] 0 0 indexes held' position' time' left' (take (k + 1) times)
     IsWritten-next held' position' time' left' g position_is time_is left_is =
         subst (IsWritten old new [] 0 0 indexes held' position' time' left') (sym next-is)

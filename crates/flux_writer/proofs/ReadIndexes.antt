@@ -9,9 +9,9 @@ use Rattle.kryo_stream.specs.Bench.{stream_step}
 use Rattle.kryo_stream.specs.Stream.{in_stream_bytes, block_ticks, ticks}
 use Rattle.kryo_stream.specs.Sequence.{spellings, spelled, all_spelled, IsTurnAt, TurnsAre}
 use Rattle.flux_writer.specs.Written.{index_block, interval_blocks}
-use Rattle.flux_writer.specs.Writing.{count_before, indexes_before, indexes_behind, last_blocks, many_blocks, position_behind, position_after, indexes_after}
+use Rattle.flux_writer.specs.inside.Writing.{count_before, indexes_before, indexes_from, last_blocks, many_blocks, next_position, position_after, indexes_after}
 use Rattle.flux_writer.proofs.Steps.{length-flux_spelling}
-use Rattle.flux_writer.proofs.Rising.{Rises, Rises-behind, before-behind, behind_is_late, front_is_early}
+use Rattle.flux_writer.proofs.Rising.{Rises, Rises-from, before-from, from_is_late, front_is_early}
 use Rattle.flux_writer.proofs.Stands.{InOrder, interval_takes}
 
 -- the in-stream bytes and the ticks of blocks
@@ -70,7 +70,7 @@ passed_interval t =
     let r = t % 65536 in
     omega (arith, passed-append (replicate n Overflow) (Flux r ∷ []), passed-cons (Flux r) [], passed_overflows n)
 
--- the block that stands behind some of an interval's overflows
+-- the block that stands after some of an interval's overflows
 record Seam (j : ℕ) (bs : List Block) : Type 0 where
   next : Block
   rest : List Block
@@ -85,7 +85,7 @@ seam (suc n) (suc j) r cs order =
     let inner = seam n j r cs (omega arith) in
     record { next = inner.next; rest = inner.rest; some = inner.some; whole = ap (λ bs. Overflow ∷ bs) inner.whole }
 
--- an index of the interval behind some blocks
+-- an index of the interval after some blocks
 module _ (done : List Block) (position begin : ℕ) (at : moved done ≡ position) (now : passed done ≡ begin) where
   index_here : (xs : List ℕ) (t : ℕ) (cs : List Block) (index : ℕ) → begin ≤ index → index < t
       → IsTurnAt (done ++ (map (index_block position begin) xs ++ (interval_blocks (t - begin) ++ cs)))
@@ -140,8 +140,8 @@ read_many done position begin [] indexes at now order begun rises over = over
 read_many done position begin (t ∷ ts) indexes at now order begun rises over =
     let front = map (index_block position begin) (indexes_before t indexes) in
     let interval = interval_blocks (t - begin) in
-    let next = position_behind position begin t in
-    let behind = indexes_behind t indexes in
+    let next = next_position position begin t in
+    let behind = indexes_from t indexes in
     let rest = many_blocks next t ts behind in
     let last = last_blocks (position_after next t ts) in
     let more = done ++ (front ++ interval) in
@@ -156,11 +156,11 @@ read_many done position begin (t ∷ ts) indexes at now order begun rises over =
     omega (arith, now, order.0, passed-append done (front ++ interval), passed-append front interval, passed_indexes position begin (indexes_before t indexes), passed_interval (t - begin)) in
     let later : TurnsAre all (rest ++ last) behind =
     subst (λ w. TurnsAre w (rest ++ last) behind) same
-    (read_many more next t ts behind at_next now_next order.1 (behind_is_late t indexes rises) (Rises-behind t indexes rises) over) in
+    (read_many more next t ts behind at_next now_next order.1 (from_is_late t indexes rises) (Rises-from t indexes rises) over) in
     let here : All (λ x. IsTurnAt all (position + (x - begin) / 65536) ((x - begin) % 65536) x) (indexes_before t indexes) =
     λ i d below. index_here done position begin at now (indexes_before t indexes) t (rest ++ last) (get_or (indexes_before t indexes) i d)
     (All-take (λ index. begin ≤ index) (count_before t indexes) indexes begun i d below) (front_is_early t indexes i d below) in
     let found = read_indexes all position begin (indexes_before t indexes) behind (interval ++ (rest ++ last)) here
     (turns_of_interval all (t - begin) (rest ++ last) behind later) in
     subst (λ bs. TurnsAre (done ++ bs) bs indexes) (sym blocks)
-    (subst (TurnsAre all (front ++ (interval ++ (rest ++ last)))) (before-behind t indexes) found)
+    (subst (TurnsAre all (front ++ (interval ++ (rest ++ last)))) (before-from t indexes) found)

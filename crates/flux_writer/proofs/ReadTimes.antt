@@ -4,7 +4,7 @@ use Rattle.kryo_stream.specs.declared.block.Block.{Block}
 use Rattle.kryo_stream.specs.declared.block.Block.TheVariants.{Flux, Overflow}
 use Rattle.kryo_stream.specs.Sequence.{transitions_from}
 use Rattle.flux_writer.specs.Written.{index_block, interval_blocks}
-use Rattle.flux_writer.specs.Writing.{indexes_before, indexes_behind, last_blocks, many_blocks, position_behind, position_after}
+use Rattle.flux_writer.specs.inside.Writing.{indexes_before, indexes_from, last_blocks, many_blocks, next_position, position_after}
 use Rattle.flux_writer.proofs.Stands.{InOrder}
 
 times_of_indexes : (time position begin : ℕ) (xs : List ℕ) (cs : List Block)
@@ -32,9 +32,9 @@ times_of_many position begin [] indexes order = refl
 times_of_many position begin (t ∷ ts) indexes order =
     let front = map (index_block position begin) (indexes_before t indexes) in
     let interval = interval_blocks (t - begin) in
-    let rest = many_blocks (position_behind position begin t) t ts (indexes_behind t indexes) in
-    let last = last_blocks (position_after (position_behind position begin t) t ts) in
+    let rest = many_blocks (next_position position begin t) t ts (indexes_from t indexes) in
+    let last = last_blocks (position_after (next_position position begin t) t ts) in
     ap (transitions_from begin) (append_assoc (front ++ interval) rest last ∙ append_assoc front interval (rest ++ last))
     ∙ times_of_indexes begin position begin (indexes_before t indexes) (interval ++ (rest ++ last))
     ∙ times_of_interval begin t (rest ++ last) order.0
-    ∙ ap (λ ts'. t ∷ ts') (times_of_many (position_behind position begin t) t ts (indexes_behind t indexes) order.1)
+    ∙ ap (λ ts'. t ∷ ts') (times_of_many (next_position position begin t) t ts (indexes_from t indexes) order.1)

@@ -6,26 +6,26 @@ use Rattle.kryo_stream.specs.declared.block.Block.{Block}
 use Rattle.kryo_stream.specs.Sequence.{spellings, transitions_from, AreInOrder, IsStreamOf}
 use Rattle.track_rings.specs.Rings.{last_in}
 use Rattle.flux_writer.specs.Written.{index_block, interval_blocks, stream_of_times}
-use Rattle.flux_writer.specs.Writing.{count_before, indexes_before, indexes_behind, last_blocks, many_blocks, position_behind, position_after, time_after, indexes_after}
+use Rattle.flux_writer.specs.inside.Writing.{count_before, indexes_before, indexes_from, last_blocks, many_blocks, next_position, position_after, time_after, indexes_after}
 use Rattle.flux_writer.specs.Reading.{EndsWithTransition}
-use Rattle.flux_writer.proofs.Steps.{spellings-append, indexes_behind-yes}
+use Rattle.flux_writer.proofs.Steps.{spellings-append, indexes_from-yes}
 use Rattle.flux_writer.proofs.Rising.{Rises, Rises-from_increasing}
 use Rattle.flux_writer.proofs.Equal.{all_blocks, stream_blocks-is}
 use Rattle.flux_writer.proofs.Stands.{Stand, Stand-each, stand_many, InOrder-from_sorted}
 use Rattle.flux_writer.proofs.ReadTimes.{times_of_many}
 use Rattle.flux_writer.proofs.ReadIndexes.{read_many}
 
--- the stream position behind some transitions is at most the number of their bytes
+-- the stream position after some transitions is at most the number of their bytes
 position_within : (position begin : ℕ) (ts indexes : List ℕ)
     → position_after position begin ts ≤ position + length (spellings (many_blocks position begin ts indexes))
 position_within position begin [] indexes = omega arith
 position_within position begin (t ∷ ts) indexes =
     let front = map (index_block position begin) (indexes_before t indexes) in
     let interval = interval_blocks (t - begin) in
-    let rest = many_blocks (position_behind position begin t) t ts (indexes_behind t indexes) in
+    let rest = many_blocks (next_position position begin t) t ts (indexes_from t indexes) in
     omega (
       arith,
-      position_within (position_behind position begin t) t ts (indexes_behind t indexes),
+      position_within (next_position position begin t) t ts (indexes_from t indexes),
       ap length (spellings-append (front ++ interval) rest),
       length-append (spellings (front ++ interval)) (spellings rest),
       ap length (spellings-append front interval),
@@ -42,15 +42,15 @@ all_early (x ∷ y ∷ ys) time rises early =
     let first : x < time = omega (arith, All-head (λ z. x < z) y ys rises.0, All-head (λ z. z < time) y ys rest) in
     All-cons (λ z. z < time) x (y ∷ ys) first rest
 
-none_behind : (time : ℕ) (xs : List ℕ) → All (λ x. x < time) xs → indexes_behind time xs ≡ []
-none_behind time [] early = refl
-none_behind time (x ∷ xs) early =
-    indexes_behind-yes time x xs (All-head (λ y. y < time) x xs early) ∙ none_behind time xs (All-tail (λ y. y < time) x xs early)
+none_left : (time : ℕ) (xs : List ℕ) → All (λ x. x < time) xs → indexes_from time xs ≡ []
+none_left time [] early = refl
+none_left time (x ∷ xs) early =
+    indexes_from-yes time x xs (All-head (λ y. y < time) x xs early) ∙ none_left time xs (All-tail (λ y. y < time) x xs early)
 
 nothing_left : (t : ℕ) (ts xs : List ℕ) → All (λ x. x < time_after t ts) xs → indexes_after (t ∷ ts) xs ≡ []
-nothing_left t [] xs early = none_behind t xs early
+nothing_left t [] xs early = none_left t xs early
 nothing_left t (u ∷ ts) xs early =
-    nothing_left u ts (indexes_behind t xs) (All-drop (λ x. x < time_after u ts) (count_before t xs) xs early)
+    nothing_left u ts (indexes_from t xs) (All-drop (λ x. x < time_after u ts) (count_before t xs) xs early)
 
 pub last-is : (t : ℕ) (ts : List ℕ) → last_in (t ∷ ts) ≡ time_after t ts
 last-is t [] = refl
@@ -58,7 +58,7 @@ last-is t (u ∷ ts) =
     let last : length (t ∷ u ∷ ts) - 1 ≡ suc (length (u ∷ ts) - 1) = omega arith in
     ap (λ n. get_or (t ∷ u ∷ ts) n 0) last ∙ last-is u ts
 
--- no index time is left behind the last transition
+-- no index time is left after the last transition
 all_written : (ts xs : List ℕ) → IsStrictlyIncreasing xs → EndsWithTransition ts xs → 0 < length xs → indexes_after ts xs ≡ []
 all_written [] xs rising ends some = absurd (let before = ends some in omega (arith, before))
 all_written (t ∷ ts) xs rising ends some =

@@ -3,12 +3,12 @@ use Rattle.std.proofs.Common.{◌≡◌, ◌≤◌, ◌<◌, ◌+◌, ◌-◌, �
 use Rattle.std.specs.List.Sorted.{IsStrictlyIncreasing}
 use Rattle.std.proofs.lemmas.List.{take_all, map-append, length-map, get_or_past}
 use Rattle.std.proofs.lemmas.Bool.{cases_lt}
-use Rattle.flux_writer.specs.Reading.{HasOneBehind}
+use Rattle.flux_writer.specs.Reading.{HasOneAfter}
 use Rattle.flux_base.specs.Outside.{AppendsPart}
 use Rattle.kryo_stream.specs.Sequence.{spellings}
 use Rattle.flux_writer.specs.Written.{cell_time, quarter, track_cells, track_turns, stream_of_times, stream_of_turns}
 use Rattle.std.specs.Io.KnownBytes.{Appends}
-use Rattle.flux_writer.specs.Writing.{many_blocks, last_blocks, ones_from, times_between, IsReadyAt, IsWritten}
+use Rattle.flux_writer.specs.inside.Writing.{many_blocks, last_blocks, ones_from, times_between, IsReadyAt, IsWritten}
 use Rattle.flux_writer.proofs.CellTimes.{ones_from-append, ones_of-is, cell_time-lt}
 use Rattle.flux_writer.proofs.Progress.{IsReady-start, IsWritten-more, IsWritten-part, IsWritten-all, IsWritten-end, part_of_more, part_of_stream}
 
@@ -35,7 +35,7 @@ all_parts ring =
     append_assoc ((front ++ ring) ++ ring) ring back ∙ append_assoc (front ++ ring) ring (ring ++ back)
     ∙ append_assoc front ring (ring ++ (ring ++ back))
 
--- what is written behind some turns
+-- what is written after some turns
 pub rest_of_turns : (ring : List Bool) (turns : ℕ) → turns < 3 → (rest : List Bool) × ((cells_after ring turns ++ ring) ++ rest ≡ track_cells ring)
 rest_of_turns ring zero few =
     let front = cells_after ring 0 in
@@ -105,8 +105,8 @@ rising_times nominal turns long rising k within =
     get_or-map-at f (x ∷ xs) zero below = refl
     get_or-map-at f (x ∷ xs) (suc i) below = get_or-map-at f xs i (omega arith)
 
--- index cells with a one behind them are few enough to be counted
-pub are_counted : (cells : List Bool) (turns : List ℕ) → length cells ≤ 2097152 → All (HasOneBehind cells) turns
+-- index cells with a one after them are few enough to be counted
+pub are_counted : (cells : List Bool) (turns : List ℕ) → length cells ≤ 2097152 → All (HasOneAfter cells) turns
     → All (λ place. place < 4294967296) turns
 are_counted cells turns few behind = λ k d below.
     let it = behind k d below in

@@ -1,4 +1,4 @@
--- Index times that rise, before a time and behind it.
+-- Index times that rise, before a time and after it.
 use Rattle.std.proofs.Common.{◌≡◌, ◌≤◌, ◌<◌, ◌+◌, ◌++◌, ℕ, suc, Bool, true, false, cond, List, [], ◌∷◌, All, drop, get_or, nat_lt, refl, ap, sym, ◌∙◌, subst, arith, length-drop, inl, inr}
 use Rattle.std.specs.List.{filter, AllPairs}
 use Rattle.std.specs.List.Sorted.{IsStrictlyIncreasing}
@@ -7,8 +7,8 @@ use Rattle.std.proofs.lemmas.Bool.Decides.{nat_tests}
 use Rattle.std.proofs.lemmas.List.{get_or-drop, take-append-drop}
 use Rattle.std.proofs.lemmas.List.Elements.{All-head, All-tail, All-cons, All-nil, All-weaker}
 use Rattle.std.proofs.lemmas.List.Kept.{AllPairs-from_increasing}
-use Rattle.flux_writer.specs.Writing.{count_before, indexes_before, indexes_behind}
-use Rattle.flux_writer.proofs.Steps.{indexes_before-yes, indexes_behind-yes, indexes_before-no, indexes_behind-no}
+use Rattle.flux_writer.specs.inside.Writing.{count_before, indexes_before, indexes_from}
+use Rattle.flux_writer.proofs.Steps.{indexes_before-yes, indexes_from-yes, indexes_before-no, indexes_from-no}
 
 -- each number is below all later ones
 abbrev pub Rises : List ℕ → Type 0
@@ -36,20 +36,20 @@ IsStrictlyIncreasing-drop n xs rising k within =
       rising (n + k) (omega (arith, length-drop n xs, within)),
     )
 
--- those behind a time are not before it
-pub behind_is_late : (time : ℕ) (xs : List ℕ) → Rises xs → All (λ x. time ≤ x) (indexes_behind time xs)
-behind_is_late time [] rises = All-nil (λ x. time ≤ x)
-behind_is_late time (x ∷ xs) rises = elim (cases_lt x time) [
-  | inl before ↦ subst (All (λ y. time ≤ y)) (sym (indexes_behind-yes time x xs before)) (behind_is_late time xs rises.1)
-  | inr behind ↦ subst (All (λ y. time ≤ y)) (sym (indexes_behind-no time x xs behind))
+-- those after a time are not before it
+pub from_is_late : (time : ℕ) (xs : List ℕ) → Rises xs → All (λ x. time ≤ x) (indexes_from time xs)
+from_is_late time [] rises = All-nil (λ x. time ≤ x)
+from_is_late time (x ∷ xs) rises = elim (cases_lt x time) [
+  | inl before ↦ subst (All (λ y. time ≤ y)) (sym (indexes_from-yes time x xs before)) (from_is_late time xs rises.1)
+  | inr behind ↦ subst (All (λ y. time ≤ y)) (sym (indexes_from-no time x xs behind))
       (All-cons (λ y. time ≤ y) x xs behind (All-weaker (λ y. x < y) (λ y. time ≤ y) (λ y later. omega (arith, later, behind)) xs rises.0))
 ]
 
-pub Rises-behind : (time : ℕ) (xs : List ℕ) → Rises xs → Rises (indexes_behind time xs)
-Rises-behind time [] rises = tt
-Rises-behind time (x ∷ xs) rises = elim (cases_lt x time) [
-  | inl before ↦ subst Rises (sym (indexes_behind-yes time x xs before)) (Rises-behind time xs rises.1)
-  | inr behind ↦ subst Rises (sym (indexes_behind-no time x xs behind)) rises
+pub Rises-from : (time : ℕ) (xs : List ℕ) → Rises xs → Rises (indexes_from time xs)
+Rises-from time [] rises = tt
+Rises-from time (x ∷ xs) rises = elim (cases_lt x time) [
+  | inl before ↦ subst Rises (sym (indexes_from-yes time x xs before)) (Rises-from time xs rises.1)
+  | inr behind ↦ subst Rises (sym (indexes_from-no time x xs behind)) rises
 ]
 
 -- none passes the test
@@ -81,9 +81,9 @@ filter-before time (x ∷ xs) rises = elim (cases_lt x time) [
       ∙ sym (indexes_before-no time x xs behind)
 ]
 
--- those before a time, and those behind it, are all
-pub before-behind : (time : ℕ) (xs : List ℕ) → indexes_before time xs ++ indexes_behind time xs ≡ xs
-before-behind time xs = take-append-drop (count_before time xs) xs
+-- those before a time, and those after it, are all
+pub before-from : (time : ℕ) (xs : List ℕ) → indexes_before time xs ++ indexes_from time xs ≡ xs
+before-from time xs = take-append-drop (count_before time xs) xs
 
 -- those at the front lie before the time
 pub front_is_early : (time : ℕ) (xs : List ℕ) → All (λ x. x < time) (indexes_before time xs)

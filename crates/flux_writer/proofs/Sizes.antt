@@ -5,9 +5,9 @@ use Rattle.kryo_stream.specs.Spelling.{spelling}
 use Rattle.kryo_stream.specs.Sequence.{spellings}
 use Rattle.track_rings.specs.Rings.{last_in}
 use Rattle.flux_writer.specs.Written.{index_block, interval_blocks, stream_of_times}
-use Rattle.flux_writer.specs.Writing.{indexes_before, indexes_behind, last_blocks, many_blocks, position_behind, position_after, time_after}
+use Rattle.flux_writer.specs.inside.Writing.{indexes_before, indexes_from, last_blocks, many_blocks, next_position, position_after, time_after}
 use Rattle.flux_writer.proofs.Steps.{spellings-append, length-interval, length-interval_close}
-use Rattle.flux_writer.proofs.Rising.{before-behind}
+use Rattle.flux_writer.proofs.Rising.{before-from}
 use Rattle.flux_writer.proofs.Equal.{stream_blocks-is}
 use Rattle.flux_writer.proofs.Stands.{InOrder, InOrder-from_sorted}
 use Rattle.flux_writer.proofs.ReadsBack.{last-is, from_zero}
@@ -30,7 +30,7 @@ module _ (each : ℕ) (cost : ℕ → ℕ) (adds : (a b : ℕ) → cost a + cost
   many_take position begin (t ∷ ts) xs order =
       let front = map (index_block position begin) (indexes_before t xs) in
       let interval = interval_blocks (t - begin) in
-      let rest = many_blocks (position_behind position begin t) t ts (indexes_behind t xs) in
+      let rest = many_blocks (next_position position begin t) t ts (indexes_from t xs) in
       let sum : begin + (t - begin) ≡ t = omega (arith, order.0) in
       let product : each * length (t ∷ ts) ≡ each + each * length ts = grind arith in
       omega (
@@ -38,15 +38,15 @@ module _ (each : ℕ) (cost : ℕ → ℕ) (adds : (a b : ℕ) → cost a + cost
         adds begin (t - begin),
         ap cost sum,
         product,
-        many_take (position_behind position begin t) t ts (indexes_behind t xs) order.1,
+        many_take (next_position position begin t) t ts (indexes_from t xs) order.1,
         ap length (spellings-append (front ++ interval) rest),
         length-append (spellings (front ++ interval)) (spellings rest),
         ap length (spellings-append front interval),
         length-append (spellings front) (spellings interval),
         indexes_take position begin (indexes_before t xs),
         takes (t - begin),
-        ap length (before-behind t xs),
-        length-append (indexes_before t xs) (indexes_behind t xs),
+        ap length (before-from t xs),
+        length-append (indexes_before t xs) (indexes_from t xs),
       )
 
 last_time : (ts : List ℕ) → time_after 0 ts ≡ last_in ts

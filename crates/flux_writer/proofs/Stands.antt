@@ -13,7 +13,7 @@ use Rattle.kryo_stream.specs.Stream.{in_stream_bytes, is_stream_end, has_ended, 
 use Rattle.kryo_stream.specs.WellFormed.{MayStand}
 use Rattle.kryo_stream.specs.Sequence.{spellings, spelled, all_spelled, StandsBetween}
 use Rattle.flux_writer.specs.Written.{index_block, interval_blocks}
-use Rattle.flux_writer.specs.Writing.{indexes_before, indexes_behind, last_blocks, many_blocks, position_behind, position_after}
+use Rattle.flux_writer.specs.inside.Writing.{indexes_before, indexes_from, last_blocks, many_blocks, next_position, position_after}
 use Rattle.flux_writer.proofs.Steps.{spellings-interval}
 use Rattle.flux_writer.proofs.Rising.{front_is_early}
 
@@ -54,7 +54,7 @@ end-iff e (b ∷ bs) is = ((λ end. absurd (true_false (sym end ∙ is))), (λ n
     cons_nil : b ∷ bs ≡ [] → ⊥
     cons_nil same = cc
 
--- so each stands between those before it and those behind it
+-- so each stands between those before it and those after it
 pub Stand-each : (done before : List Block) (block : Block) (behind : List Block)
     → Stand (in_stream_bytes (all_spelled done)) (has_ended (all_spelled done)) (before ++ block ∷ behind) → StandsBetween (done ++ before) block behind
 Stand-each done [] block behind stand =
@@ -79,7 +79,7 @@ interval_takes ticks =
 
 position_after-le : (position begin : ℕ) (times : List ℕ) → position ≤ position_after position begin times
 position_after-le position begin [] = omega arith
-position_after-le position begin (t ∷ ts) = omega (arith, position_after-le (position_behind position begin t) t ts)
+position_after-le position begin (t ∷ ts) = omega (arith, position_after-le (next_position position begin t) t ts)
 
 -- the times do not fall
 abbrev pub InOrder : ℕ → List ℕ → Type 0
@@ -130,13 +130,13 @@ stand_many position begin [] indexes fits = ((fits, omega arith), (refl, refl), 
 stand_many position begin (t ∷ ts) indexes fits =
     let front = map (index_block position begin) (indexes_before t indexes) in
     let interval = interval_blocks (t - begin) in
-    let rest = many_blocks (position_behind position begin t) t ts (indexes_behind t indexes) in
-    let last = last_blocks (position_after (position_behind position begin t) t ts) in
-    let bound = position_after-le (position_behind position begin t) t ts in
+    let rest = many_blocks (next_position position begin t) t ts (indexes_from t indexes) in
+    let last = last_blocks (position_after (next_position position begin t) t ts) in
+    let bound = position_after-le (next_position position begin t) t ts in
     let some : is_empty (rest ++ last) ≡ false = not_empty rest last refl in
     subst (Stand position false) (sym (append_assoc (front ++ interval) rest last))
     (subst (Stand position false) (sym (append_assoc front interval (rest ++ last)))
     (stand_indexes position begin (indexes_before t indexes) (interval ++ (rest ++ last))
     (λ k d below. let early = front_is_early t indexes k d below in omega (arith, early, bound, fits, interval_takes (t - begin)))
     (not_empty interval (rest ++ last) some)
-    (stand_interval (t - begin) position (rest ++ last) some (stand_many (position_behind position begin t) t ts (indexes_behind t indexes) fits))))
+    (stand_interval (t - begin) position (rest ++ last) some (stand_many (next_position position begin t) t ts (indexes_from t indexes) fits))))

@@ -6,10 +6,10 @@ use Rattle.std.proofs.lemmas.List.Concat.{flat_map-append}
 use Rattle.kryo_stream.specs.declared.block.Block.{Block}
 use Rattle.kryo_stream.specs.declared.block.Block.TheVariants.{Flux, Overflow}
 use Rattle.kryo_stream.specs.Spelling.{spelling, flux_spelling}
-use Rattle.flux_writer.specs.Gathering.{Gathers}
+use Rattle.flux_writer.specs.inside.Gathering.{Gathers}
 use Rattle.kryo_stream.specs.Sequence.{spellings}
 use Rattle.flux_writer.specs.Written.{interval_blocks, index_block}
-use Rattle.flux_writer.specs.Writing.{position_behind, count_before, indexes_before, indexes_behind, next_blocks, many_blocks, position_after, time_after, indexes_after}
+use Rattle.flux_writer.specs.inside.Writing.{next_position, count_before, indexes_before, indexes_from, next_blocks, many_blocks, position_after, time_after, indexes_after}
 use Rattle.flux_base.specs.Outside.{AppendsPart}
 use Rattle.flux_writer.proofs.Gathered.{Gathers-nothing, Gathers-more, Gathers-part, AppendsPart-longer}
 
@@ -76,16 +76,16 @@ pub many_blocks-append : (position begin : ℕ) (xs ys indexes : List ℕ)
 many_blocks-append position begin [] ys indexes = refl
 many_blocks-append position begin (x ∷ xs) ys indexes =
     ap (λ bs. next_blocks position begin x indexes ++ bs)
-    (many_blocks-append (position_behind position begin x) x xs ys (indexes_behind x indexes))
+    (many_blocks-append (next_position position begin x) x xs ys (indexes_from x indexes))
     ∙ sym (append_assoc (next_blocks position begin x indexes)
-    (many_blocks (position_behind position begin x) x xs (indexes_behind x indexes))
-    (many_blocks (position_after (position_behind position begin x) x xs) (time_after x xs) ys
-    (indexes_after xs (indexes_behind x indexes))))
+    (many_blocks (next_position position begin x) x xs (indexes_from x indexes))
+    (many_blocks (position_after (next_position position begin x) x xs) (time_after x xs) ys
+    (indexes_after xs (indexes_from x indexes))))
 
 pub position_after-append : (position begin : ℕ) (xs ys : List ℕ)
     → position_after position begin (xs ++ ys) ≡ position_after (position_after position begin xs) (time_after begin xs) ys
 position_after-append position begin [] ys = refl
-position_after-append position begin (x ∷ xs) ys = position_after-append (position_behind position begin x) x xs ys
+position_after-append position begin (x ∷ xs) ys = position_after-append (next_position position begin x) x xs ys
 
 pub time_after-append : (begin : ℕ) (xs ys : List ℕ) → time_after begin (xs ++ ys) ≡ time_after (time_after begin xs) ys
 time_after-append begin [] ys = refl
@@ -93,7 +93,7 @@ time_after-append begin (x ∷ xs) ys = time_after-append x xs ys
 
 pub indexes_after-append : (xs ys indexes : List ℕ) → indexes_after (xs ++ ys) indexes ≡ indexes_after ys (indexes_after xs indexes)
 indexes_after-append [] ys indexes = refl
-indexes_after-append (x ∷ xs) ys indexes = indexes_after-append xs ys (indexes_behind x indexes)
+indexes_after-append (x ∷ xs) ys indexes = indexes_after-append xs ys (indexes_from x indexes)
 
 -- an index time that comes first and lies before the time, or does not
 module _ (time index : ℕ) (indexes : List ℕ) where
@@ -113,14 +113,14 @@ module _ (time index : ℕ) (indexes : List ℕ) where
   pub indexes_before-yes : index < time → indexes_before time (index ∷ indexes) ≡ index ∷ indexes_before time indexes
   indexes_before-yes before = ap (λ n. take n (index ∷ indexes)) (count_before-yes before)
 
-  pub indexes_behind-yes : index < time → indexes_behind time (index ∷ indexes) ≡ indexes_behind time indexes
-  indexes_behind-yes before = ap (λ n. drop n (index ∷ indexes)) (count_before-yes before)
+  pub indexes_from-yes : index < time → indexes_from time (index ∷ indexes) ≡ indexes_from time indexes
+  indexes_from-yes before = ap (λ n. drop n (index ∷ indexes)) (count_before-yes before)
 
   pub indexes_before-no : time ≤ index → indexes_before time (index ∷ indexes) ≡ []
   indexes_before-no behind = ap (λ n. take n (index ∷ indexes)) (count_before-no behind)
 
-  pub indexes_behind-no : time ≤ index → indexes_behind time (index ∷ indexes) ≡ index ∷ indexes
-  indexes_behind-no behind = ap (λ n. drop n (index ∷ indexes)) (count_before-no behind)
+  pub indexes_from-no : time ≤ index → indexes_from time (index ∷ indexes) ≡ index ∷ indexes
+  indexes_from-no behind = ap (λ n. drop n (index ∷ indexes)) (count_before-no behind)
 
 -- no index time lies before the time where the first one does not, or where none is left
 pub count_before-first : (time index : ℕ) (indexes : List ℕ) → slice_get indexes 0 ≡ Some index → time ≤ index → count_before time indexes ≡ 0
@@ -138,7 +138,7 @@ pub record IndexesWritten (old new : Option (List ℕ)) (held held' : List ℕ) 
   pub done : List ℕ
   pub bytes : Gathers old new held held' (spellings (map (index_block position begin) done))
   pub before : done ++ indexes_before end left ≡ indexes_before end indexes
-  pub behind : indexes_behind end left ≡ indexes_behind end indexes
+  pub behind : indexes_from end left ≡ indexes_from end indexes
 
 pub IndexesWritten-none : (old : Option (List ℕ)) (held : List ℕ) (position begin end : ℕ) (indexes : List ℕ)
     → IndexesWritten old old held held position begin end indexes indexes
@@ -173,7 +173,7 @@ module _ (old mid new : Option (List ℕ)) (held held' : List ℕ) (position beg
         (Gathers-more old mid new held held' (spellings (map (index_block position begin) w.done))
         (spelling (index_block position begin index)) w.bytes held'' (subst (Gathers mid new held' held'') spelled g));
     before = all_before;
-    behind = sym (indexes_behind-yes end index left before) ∙ ap (indexes_behind end) (sym is) ∙ w.behind;
+    behind = sym (indexes_from-yes end index left before) ∙ ap (indexes_from end) (sym is) ∙ w.behind;
   }
 
   pub IndexesWritten-part : AppendsPart mid new (held' ++ bytes)
@@ -197,7 +197,7 @@ module _ (old mid new : Option (List ℕ)) (held held' : List ℕ) (position beg
 pub IndexesWritten-all : (old new : Option (List ℕ)) (held held' : List ℕ) (position begin end : ℕ) (indexes left : List ℕ)
     → IndexesWritten old new held held' position begin end indexes left → count_before end left ≡ 0
     → Gathers old new held held' (spellings (map (index_block position begin) (indexes_before end indexes)))
-    × (left ≡ indexes_behind end indexes)
+    × (left ≡ indexes_from end indexes)
 IndexesWritten-all old new held held' position begin end indexes left w none = (
   subst (λ xs. Gathers old new held held' (spellings (map (index_block position begin) xs)))
       (sym (append-nil w.done) ∙ ap (λ n. w.done ++ take n left) (sym none) ∙ w.before) w.bytes,

@@ -1,4 +1,3 @@
 pub mod Written
-pub mod Gathering
-pub mod Writing
 pub mod Reading
+pub mod inside

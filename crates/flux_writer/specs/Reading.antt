@@ -8,15 +8,15 @@ use Rattle.flux_writer.specs.Written.{quarter}
 abbrev pub EndsWithTransition : List ℕ → List ℕ → Type 0
 EndsWithTransition transitions turns = 0 < length turns → last_in turns < last_in transitions
 
--- a cell that is a one stands behind the place
-abbrev pub HasOneBehind : List Bool → ℕ → Type 0
-HasOneBehind cells place = (one : ℕ) × (place < one) × (get_or cells one false ≡ true)
+-- a cell that is a one stands after the place
+abbrev pub HasOneAfter : List Bool → ℕ → Type 0
+HasOneAfter cells place = (one : ℕ) × (place < one) × (get_or cells one false ≡ true)
 
 -- the most cells of a ring that is written
 abbrev pub MOST_RING_CELLS : ℕ
 MOST_RING_CELLS = 524288
 
--- a cell that is a one stands in the ring's first quarter, behind its first cell, and so behind the last index cell of what
+-- a cell that is a one stands in the ring's first quarter, after its first cell, and so after the last index cell of what
 -- is written of the ring
 abbrev pub HasEarlyOne : List Bool → Type 0
 HasEarlyOne ring = (one : ℕ) × (0 < one) × (one < quarter ring) × (get_or ring one false ≡ true)

@@ -1,5 +1,5 @@
 ghost use Rattle.std.specs.Prelude.{◌≡◌, ◌<◌, [], ◌∷◌, Some, IfSome, IfNone, map, drop, length, slice_get};
-ghost use Rattle.flux_writer.specs.Writing.{ticks_of, AreCounted, count_before};
+ghost use Rattle.flux_writer.specs.inside.Writing.{ticks_of, AreCounted, count_before};
 
 use std::marker::Model;
 
@@ -22,7 +22,7 @@ pub(crate) struct IndexTimes<'a> {
 
 impl<'a> Model for IndexTimes<'a> {
     ghost use Rattle.std.specs.Prelude.{◌≡◌, ℕ, List, map, slice_get};
-    ghost use Rattle.flux_writer.specs.Writing.{ticks_of, AreCounted};
+    ghost use Rattle.flux_writer.specs.inside.Writing.{ticks_of, AreCounted};
 
     ghost Value = { List ℕ };
 

@@ -1,6 +1,6 @@
 ghost use Rattle.std.specs.Prelude.{◌≤◌, ◌+◌, ◌*◌, ◌/◌, ℕ, List, Bool, All, length, map};
 ghost use Rattle.std.specs.List.Sorted.{IsNonDecreasing, IsStrictlyIncreasing};
-ghost use Rattle.flux_writer.specs.Reading.{MOST_RING_CELLS, EndsWithTransition, HasOneBehind, HasEarlyOne, IsStreamOf};
+ghost use Rattle.flux_writer.specs.Reading.{MOST_RING_CELLS, EndsWithTransition, HasOneAfter, HasEarlyOne, IsStreamOf};
 ghost use Rattle.kryo_stream.specs.Protocol.{OVERFLOW_TICKS};
 ghost use Rattle.track_rings.specs.Rings.{last_in};
 ghost use Rattle.flux_writer.specs.Written.{stream_of_times, stream_of_turns, stream_of, cell_time, ones_of, track_cells, track_turns};
@@ -25,7 +25,7 @@ pub fn written_law()
 /// the times of the cells that are ones and of the index cells.
 pub fn turns_law()
     ensures { (cells : List Bool) (turns : List ℕ) (nominal : ℕ) → 1024 ≤ nominal → IsStrictlyIncreasing turns
-        → All (HasOneBehind cells) turns → 2 ≤ length turns → length (stream_of_turns cells turns nominal) ≤ 4194304
+        → All (HasOneAfter cells) turns → 2 ≤ length turns → length (stream_of_turns cells turns nominal) ≤ 4194304
         → IsStreamOf (stream_of_turns cells turns nominal) (map (cell_time nominal) (ones_of cells))
         (map (cell_time nominal) turns) }
 {

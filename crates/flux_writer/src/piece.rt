@@ -1,7 +1,7 @@
 ghost use Rattle.std.specs.Prelude.{◌≡◌, ◌<◌, ◌≤◌, ◌+◌, ◌++◌, [], ◌∷◌, length, take, OnOk, OnErr};
 ghost use Rattle.std.specs.Io.KnownBytes.{Appends};
 ghost use Rattle.flux_base.specs.Outside.{AppendsPart, Rose};
-ghost use Rattle.flux_writer.specs.Gathering.{Gathers};
+ghost use Rattle.flux_writer.specs.inside.Gathering.{Gathers};
 
 use flux_base::{Failed, Sink, write_whole};
 use std::marker::Model;
@@ -37,7 +37,7 @@ impl Piece {
         }
     }
 
-    /// Puts bytes behind those that are held, of which the sink is given all first where there is no room.
+    /// Puts bytes after those that are held, of which the sink is given all first where there is no room.
     pub(crate) fn put<W: Sink>(&mut self, bytes: &[u8], sink: &mut W) -> Result<(), Failed>
         requires { length bytes.now ≤ 4096 }
         ensures ok { OnOk result (Gathers (W.written sink.old) (W.written sink.new) self.old self.new bytes.now) }
@@ -55,7 +55,7 @@ impl Piece {
         Ok(())
     }
 
-    /// Puts one byte behind those that are held, as `put` does.
+    /// Puts one byte after those that are held, as `put` does.
     #[inline]
     pub(crate) fn put_byte<W: Sink>(&mut self, byte: u8, sink: &mut W) -> Result<(), Failed>
         ensures ok { OnOk result (Gathers (W.written sink.old) (W.written sink.new) self.old self.new (byte ∷ [])) }
@@ -73,7 +73,7 @@ impl Piece {
         Ok(())
     }
 
-    /// Puts one byte behind those that are held, where there is room for it.
+    /// Puts one byte after those that are held, where there is room for it.
     #[inline]
     fn append_byte(&mut self, byte: u8)
         requires { length self.old < 4096 }
@@ -83,7 +83,7 @@ impl Piece {
         self.filled += 1;
     }
 
-    /// Puts bytes behind those that are held, where there is room for them.
+    /// Puts bytes after those that are held, where there is room for them.
     fn append(&mut self, bytes: &[u8])
         requires { length self.old + length bytes.now ≤ 4096 }
         ensures { self.new ≡ self.old ++ bytes.now }

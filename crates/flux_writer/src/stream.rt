@@ -2,10 +2,10 @@ ghost use Rattle.std.specs.Prelude.{◌≡◌, ◌<◌, ◌≤◌, ◌+◌, ◌-
 ghost use Rattle.std.specs.Io.KnownBytes.{Appends};
 ghost use Rattle.flux_base.specs.Outside.{AppendsPart, Rose};
 ghost use Rattle.kryo_stream.specs.Spelling.{spelling, flux_spelling};
-ghost use Rattle.flux_writer.specs.Gathering.{Gathers};
+ghost use Rattle.flux_writer.specs.inside.Gathering.{Gathers};
 ghost use Rattle.kryo_stream.specs.Sequence.{spellings};
 ghost use Rattle.flux_writer.specs.Written.{index_block, interval_blocks};
-ghost use Rattle.flux_writer.specs.Writing.{ticks_of, AreCounted, indexes_before, indexes_behind, next_blocks, last_blocks};
+ghost use Rattle.flux_writer.specs.inside.Writing.{ticks_of, AreCounted, indexes_before, indexes_from, next_blocks, last_blocks};
 
 use crate::indexes::{IndexTimes, IndexUnit};
 use crate::piece::Piece;
@@ -61,7 +61,7 @@ impl<'a> StreamWriter<'a> {
         ensures position { OnOk result (self.new.position ≡ self.old.position
             + length (spellings (interval_blocks (time - self.old.time)))) }
         ensures time { OnOk result (self.new.time ≡ time) }
-        ensures indexes { OnOk result (self.new.indexes ≡ indexes_behind time self.old.indexes) }
+        ensures indexes { OnOk result (self.new.indexes ≡ indexes_from time self.old.indexes) }
         ensures err { OnErr result (AppendsPart (W.written sink.old) (W.written sink.new)
             (self.old.piece ++ spellings (next_blocks self.old.position self.old.time time self.old.indexes))) }
         ensures later { W.faults sink.old ≤ W.faults sink.new }
@@ -76,7 +76,7 @@ impl<'a> StreamWriter<'a> {
         }
     }
 
-    /// Writes what stands behind the last interval.
+    /// Writes what stands after the last interval.
     pub(crate) fn finish<W: Sink>(&mut self, sink: &mut W) -> Result<(), Failed>
         ensures ok { OnOk result (Appends (W.written sink.old) (W.written sink.new)
             (self.old.piece ++ spellings (last_blocks self.old.position))) }
@@ -100,7 +100,7 @@ impl<'a> StreamWriter<'a> {
             (spellings (map (index_block self.old.position self.old.time) (indexes_before end self.old.indexes)))) }
         ensures position { self.new.position ≡ self.old.position }
         ensures time { self.new.time ≡ self.old.time }
-        ensures indexes { OnOk result (self.new.indexes ≡ indexes_behind end self.old.indexes) }
+        ensures indexes { OnOk result (self.new.indexes ≡ indexes_from end self.old.indexes) }
         ensures err { OnErr result (AppendsPart (W.written sink.old) (W.written sink.new) (self.old.piece
             ++ spellings (map (index_block self.old.position self.old.time) (indexes_before end self.old.indexes)))) }
         ensures later { W.faults sink.old ≤ W.faults sink.new }
@@ -244,7 +244,7 @@ fn index_bytes(position: u32, begin: u64, index: u64) -> [u8; 16]
     index_spelling(block, sample, counter)
 }
 
-/// The bytes of the StreamEnd and End blocks behind so many in-stream bytes.
+/// The bytes of the StreamEnd and End blocks after so many in-stream bytes.
 fn end_bytes(position: u32) -> [u8; 16]
     ensures { result ≡ spellings (last_blocks position) }
 {

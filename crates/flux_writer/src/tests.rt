@@ -23,7 +23,7 @@ fn writes_indexes_inside_an_interval(rt: HostRuntime) -> Result<(), Fail> {
 
 // An index at exactly a transition's time belongs to the next interval, and one just before an interval's end to it.
 #[test]
-fn an_index_at_a_transition_stands_behind_it(rt: HostRuntime) -> Result<(), Fail> {
+fn an_index_at_a_transition_stands_after_it(rt: HostRuntime) -> Result<(), Fail> {
     let mut flux = TrackFlux::new(rt.alloc());
     flux.push_time(96)?;
     flux.push_time(65632)?;
@@ -54,7 +54,7 @@ fn writes_a_track_without_transitions(rt: HostRuntime) -> Result<(), Fail> {
     Ok(())
 }
 
-// The second index lies at the end of a cell that is a one, and so behind its transition.
+// The second index lies at the end of a cell that is a one, and so after its transition.
 #[test]
 fn writes_cells_with_their_turns(rt: HostRuntime) -> Result<(), Fail> {
     let mut cells = Cells::new(rt.alloc());

@@ -2,8 +2,8 @@ ghost use Rattle.std.specs.Prelude.{◌≡◌, ◌<◌, ◌≤◌, ◌+◌, ◌-
 ghost use Rattle.std.specs.List.Sorted.{IsStrictlyIncreasing};
 ghost use Rattle.std.specs.Io.KnownBytes.{Appends};
 ghost use Rattle.flux_base.specs.Outside.{AppendsPart, Rose};
-ghost use Rattle.flux_writer.specs.Reading.{MOST_RING_CELLS, HasOneBehind, HasEarlyOne};
-ghost use Rattle.flux_writer.specs.Writing.{IsReadyAt, IsWritten, many_blocks, times_between, track_times};
+ghost use Rattle.flux_writer.specs.Reading.{MOST_RING_CELLS, HasOneAfter, HasEarlyOne};
+ghost use Rattle.flux_writer.specs.inside.Writing.{IsReadyAt, IsWritten, many_blocks, times_between, track_times};
 ghost use Rattle.kryo_stream.specs.Sequence.{spellings};
 ghost use Rattle.flux_writer.specs.Written.{stream_of, stream_of_turns};
 
@@ -14,7 +14,7 @@ use flux_base::{Failed, Sink};
 
 /// Writes the stream of a list of cells, of which each takes `nominal` fine units of 1/1024 tick: a transition
 /// for each one, and an index at the time of each of the index cells `turns`. The nominal cell is 16384 to
-/// 131072, there are at most 2097152 cells, and the index cells rise strictly, each with a one behind it.
+/// 131072, there are at most 2097152 cells, and the index cells rise strictly, each with a one after it.
 ///
 /// `Failed` comes only where the sink's count of faults rose. Then a shorter prefix of the stream was written.
 pub fn write_turns<W: Sink>(
@@ -27,7 +27,7 @@ pub fn write_turns<W: Sink>(
     requires most { nominal ≤ 131072 }
     requires few { length cells.now.cells ≤ 2097152 }
     requires order { IsStrictlyIncreasing turns.now }
-    requires behind { All (HasOneBehind cells.now.cells) turns.now }
+    requires ones { All (HasOneAfter cells.now.cells) turns.now }
     ensures ok { OnOk result (Appends (W.written sink.old) (W.written sink.new)
         (stream_of_turns cells.now.cells turns.now nominal)) }
     ensures err { OnErr result (AppendsPart (W.written sink.old) (W.written sink.new)
@@ -49,7 +49,7 @@ pub fn write_turns<W: Sink>(
 
 /// Writes the stream of a ring of cells: its last quarter, three turns and its first quarter, with an index
 /// where each turn begins and where the last one ends. The nominal cell is 16384 to 131072 fine units, the
-/// ring has at most 524288 cells, and a one stands in its first quarter, behind its first cell.
+/// ring has at most 524288 cells, and a one stands in its first quarter, after its first cell.
 ///
 /// `Failed` comes only where the sink's count of faults rose. Then a shorter prefix of the stream was written.
 pub fn write_track<W: Sink>(ring: &Cells, nominal: u32, sink: &mut W) -> Result<(), Failed>

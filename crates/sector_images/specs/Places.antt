@@ -32,7 +32,7 @@ bytes_of format track = (zone format track.cylinder).sectors * (row format).sect
 unfoldable pub place_of : Format → TrackId → ℕ
 place_of format track = sum_by (bytes_of format) (filter (λ t. comes_before t track) (tracks format))
 
--- a sector's first byte in the image: the track's first, and behind it the sectors that stand before this one
+-- a sector's first byte in the image: the track's first, and after it the sectors that stand before this one
 unfoldable pub sector_place : Format → TrackId → ℕ → ℕ
 sector_place format track sector = place_of format track + (row format).sector_size * slot format sector
 
@@ -51,7 +51,7 @@ abbrev pub NumbersNameTracks : Type 0
 NumbersNameTracks = (format : Format) (number : ℕ) → number < length (tracks format)
     → (track : TrackId) × (slice_get (tracks format) number ≡ Some track) × IsTrack format track
 
--- the tracks stand in the image by their numbers, one behind another: each begins behind all the bytes of those before it
+-- the tracks stand in the image by their numbers, one after another: each begins after all the bytes of those before it
 abbrev pub TracksJoin : Type 0
 TracksJoin = (format : Format) (number : ℕ) (track : TrackId) → slice_get (tracks format) number ≡ Some track
     → place_of format track ≡ sum_by (bytes_of format) (take number (tracks format))

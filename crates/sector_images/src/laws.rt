@@ -15,7 +15,7 @@ pub fn sectors_lie_in_images()
     ensures sectors { SectorsLieInImages }
 {}
 
-/// The tracks stand in the image by their numbers, one behind another with nothing between them, and fill it.
+/// The tracks stand in the image by their numbers, one after another with nothing between them, and fill it.
 pub fn tracks_fill_images()
     ensures joined { TracksJoin }
     ensures filled { TracksFillImages }

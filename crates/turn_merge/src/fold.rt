@@ -59,7 +59,7 @@ pub(crate) fn with_good(verdict: Verdict, held: &mut [u8], place: Place, bytes: 
     }
 }
 
-/// The verdict with the first good reading, whose bytes are kept, behind `bad` bad ones.
+/// The verdict with the first good reading, whose bytes are kept, after `bad` bad ones.
 fn first_good(bad: u32, held: &mut [u8], place: Place, bytes: &[u8]) -> Verdict
     requires { length held.old ≡ length bytes.now }
     ensures verdict { result ≡ Verdict.Good 1 bad place }

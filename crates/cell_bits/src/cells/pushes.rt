@@ -1,7 +1,7 @@
 ghost use Rattle.std.specs.Prelude.{◌≡◌, ℕ, ◌*◌, ◌^◌, ◌<◌, ◌≤◌, [], ◌∷◌, ◌++◌, All, length, take, flat_map, OnOk, OnErr, IsOk};
 ghost use Rattle.cell_bits.specs.State.{room};
 ghost use Rattle.cell_bits.specs.Word.{word_cells};
-ghost use Rattle.cell_bits.specs.Spread.{spread_of};
+ghost use Rattle.cell_bits.specs.inside.Spread.{spread_of};
 ghost use Rattle.cell_bits.specs.Run.{run_cells, IsShortRun};
 ghost use Rattle.cell_bits.specs.Bytes.{fm, mfm, last_cell};
 
@@ -22,7 +22,7 @@ impl Cells {
         self.append(cell as u64, 1)
     }
 
-    /// Appends the cells from behind one flux transition to the next: `count` - 1 zeros and a one, for a count
+    /// Appends the cells from after one flux transition to the next: `count` - 1 zeros and a one, for a count
     /// of 1 to 32. Memory leaves the list as it was.
     pub fn push_run(&mut self, count: u8) -> Result<(), Memory>
         requires some { 1 ≤ count }
@@ -184,7 +184,7 @@ fn fm_word(byte: u8) -> u32
     spread(byte) | 0xAAAA
 }
 
-/// The 16 cells of a byte in MFM as a number, high bit first, behind the data bit `before`.
+/// The 16 cells of a byte in MFM as a number, high bit first, after the data bit `before`.
 fn mfm_word(before: bool, byte: u8) -> u32
     ensures cells { word_cells 16 result ≡ mfm before byte }
     ensures bound { result < 2 ^ 16 }

@@ -1,7 +1,7 @@
 ghost use Rattle.std.specs.Prelude.{◌≡◌, ℕ, ◌-◌, ◌<◌, ◌≤◌, length, ◌↔◌, true, IsTrue};
 ghost use Rattle.cell_bits.specs.Search.{IsFirstWord, IsFirstOne};
 ghost use Rattle.cell_bits.specs.Word.{digit};
-ghost use Rattle.cell_bits.specs.Window.{AreCandidates};
+ghost use Rattle.cell_bits.specs.inside.Window.{AreCandidates};
 ghost use Rattle.cell_bits.specs.Broken.{Unbroken};
 
 use super::{Cells, joined};
@@ -9,7 +9,7 @@ use super::{Cells, joined};
 impl Cells {
     /// The least place, at least `from` and below `to`, where the low `count` bits of the word stand whole,
     /// high bit first, for a count of 1 to 32. None where there is none. The bits above are not looked at, and
-    /// `from` and `to` may lie behind the list's end.
+    /// `from` and `to` may lie past the list's end.
     pub fn find_word(&self, from: usize, to: usize, word: u32, count: u8) -> Option<usize>
         requires some { 1 ≤ count }
         requires most { count ≤ 32 }
@@ -36,7 +36,7 @@ impl Cells {
     }
 
     /// The least place, at least `from` and below `to`, whose cell is a one. None where there is none. `from` and
-    /// `to` may lie behind the list's end.
+    /// `to` may lie past the list's end.
     #[inline]
     pub fn find_one(&self, from: usize, to: usize) -> Option<usize>
         ensures { IsFirstOne self.now.cells from to result }

@@ -2,7 +2,7 @@ use Rattle.std.proofs.Common.{◌/◌, ◌%◌, ◌++◌, replicate, subst, sym}
 use Rattle.std.proofs.lemmas.Result.{on_ok_weaker, on_err_weaker}
 use Rattle.flux_base.specs.Outside.{AppendsPart}
 use Rattle.kryo_stream.specs.Spelling.{flux_spelling}
-use Rattle.flux_writer.specs.Gathering.{Gathers}
+use Rattle.flux_writer.specs.inside.Gathering.{Gathers}
 use Rattle.flux_writer.proofs.Gathered.{Gathers-more, Gathers-part, AppendsPart-longer}
 use Rattle.flux_writer.proofs.Steps.{spellings-interval}
 use Rattle.flux_writer.proofs.stream.write_any_blocks.Goals as goal

@@ -1,7 +1,7 @@
 use Rattle.std.proofs.Common.{◌≡◌, ◌+◌, ◌-◌, ◌++◌, ◌∷◌, [], ℕ, replicate, subst, ap, ◌∙◌, arith}
 use Rattle.std.proofs.lemmas.List.{replicate-append-replicate}
 use Rattle.flux_base.specs.Outside.{AppendsPart}
-use Rattle.flux_writer.specs.Gathering.{Gathers}
+use Rattle.flux_writer.specs.inside.Gathering.{Gathers}
 use Rattle.flux_writer.proofs.Gathered.{Gathers-more, Gathers-part, AppendsPart-longer}
 use Rattle.flux_writer.proofs.stream.write_overflows.Goals as goal
 

@@ -1,5 +1,5 @@
 use Rattle.std.proofs.Common.{◌≤◌, replicate}
-use Rattle.flux_writer.specs.Gathering.{Gathers}
+use Rattle.flux_writer.specs.inside.Gathering.{Gathers}
 use Rattle.flux_writer.proofs.stream.write_overflows.Given as goal
 
 abbrev pub invariant-loop : goal.invariant-loop

@@ -1,7 +1,7 @@
 use Rattle.std.proofs.Common.{[], ◌≤◌, ◌<◌, length, ap, ◌∙◌, subst, arith, rules}
 use Rattle.std.proofs.lemmas.List.{take_all}
 use Rattle.std.proofs.lemmas.Result.{on_ok_weaker, on_err_weaker}
-use Rattle.flux_writer.specs.Writing.{IsWritten}
+use Rattle.flux_writer.specs.inside.Writing.{IsWritten}
 use Rattle.flux_writer.proofs.Progress.{IsReady-start, IsReady-next, IsReady-fits, IsWritten-start, IsWritten-next, IsWritten-fails, IsWritten-all, IsWritten-end, next_in_order, ticks_are}
 use Rattle.flux_writer.proofs.times.write_times.Goals as goal
 

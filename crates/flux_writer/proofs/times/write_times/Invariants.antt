@@ -1,5 +1,5 @@
 use Rattle.std.proofs.Common.{◌≤◌, [], take}
-use Rattle.flux_writer.specs.Writing.{IsReady, IsWritten}
+use Rattle.flux_writer.specs.inside.Writing.{IsReady, IsWritten}
 use Rattle.flux_writer.proofs.times.write_times.Given as goal
 
 abbrev pub invariant-loop-time : goal.invariant-loop-time

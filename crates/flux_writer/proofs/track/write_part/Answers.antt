@@ -1,5 +1,5 @@
 use Rattle.std.proofs.Common.{◌≡◌, ◌+◌, ◌-◌, sym, subst, arith}
-use Rattle.flux_writer.specs.Writing.{IsWritten}
+use Rattle.flux_writer.specs.inside.Writing.{IsWritten}
 use Rattle.flux_writer.proofs.CellTimes.{times_between-none}
 use Rattle.flux_writer.proofs.Parts.{IsReadyAt-next, IsReadyAt-later, in_time, fits, next_one, next_one_fails}
 use Rattle.flux_writer.proofs.track.write_part.Goals as goal

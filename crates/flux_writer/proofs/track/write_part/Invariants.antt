@@ -1,5 +1,5 @@
 use Rattle.std.proofs.Common.{◌≤◌, ◌+◌, ◌-◌}
-use Rattle.flux_writer.specs.Writing.{IsReadyAt, IsWritten, times_between}
+use Rattle.flux_writer.specs.inside.Writing.{IsReadyAt, IsWritten, times_between}
 use Rattle.flux_writer.proofs.track.write_part.Given as goal
 
 abbrev pub invariant-loop-one : goal.invariant-loop-one

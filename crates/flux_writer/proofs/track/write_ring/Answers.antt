@@ -1,7 +1,7 @@
 use Rattle.std.proofs.Common.{◌≡◌, ◌+◌, ◌*◌, ◌/◌, ◌-◌, ◌++◌, suc, [], length, take, refl, ap, sym, ◌∙◌, subst, arith, append-nil}
 use Rattle.std.proofs.lemmas.Result.{on_ok_weaker, on_err_weaker}
 use Rattle.flux_writer.specs.Written.{quarter, track_cells}
-use Rattle.flux_writer.specs.Writing.{IsReadyAt, IsWritten, times_between}
+use Rattle.flux_writer.specs.inside.Writing.{IsReadyAt, IsWritten, times_between}
 use Rattle.flux_writer.proofs.Progress.{IsWritten-start}
 use Rattle.flux_writer.proofs.Rings.{cells_after, length-cells_after, times_of_cells, times_of_turn, times_of_end, times_of_begin, cells_more, cells_part, rest_of_turns, all_parts}
 use Rattle.flux_writer.proofs.track.write_ring.Goals as goal

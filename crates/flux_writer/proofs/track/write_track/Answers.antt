@@ -4,7 +4,7 @@ use Rattle.std.proofs.lemmas.Result.{on_ok_weaker, on_err_weaker}
 use Rattle.flux_base.specs.Outside.{AppendsPart}
 use Rattle.kryo_stream.specs.Sequence.{spellings}
 use Rattle.flux_writer.specs.Written.{cell_time, track_cells, track_turns}
-use Rattle.flux_writer.specs.Writing.{IsWritten, many_blocks, track_times}
+use Rattle.flux_writer.specs.inside.Writing.{IsWritten, many_blocks, track_times}
 use Rattle.flux_writer.proofs.Rings.{turns_rise, rising_times, cells_all, cells_end, cells_fail}
 use Rattle.flux_writer.proofs.track.write_track.Goals as goal
 

@@ -1,13 +1,13 @@
 use Rattle.std.proofs.Common.{◌≤◌, [], map, refl, arith, rules, append-nil}
 use Rattle.std.proofs.lemmas.Result.{on_ok_weaker, on_err_weaker}
 use Rattle.flux_writer.specs.Written.{cell_time}
-use Rattle.flux_writer.specs.Writing.{times_between}
+use Rattle.flux_writer.specs.inside.Writing.{times_between}
 use Rattle.flux_writer.proofs.Progress.{IsWritten-start}
 use Rattle.flux_writer.proofs.Rings.{are_counted, rising_times, IsReadyAt-start, times_of_turn, cells_more, cells_part, cells_all, cells_end, cells_fail}
 use Rattle.flux_writer.proofs.track.write_turns.Goals as goal
 
 pub new-stream-requires : goal.new-stream-requires
-new-stream-requires g c = are_counted c.args.cells.now.cells c.args.turns.now c.requires.few c.requires.behind
+new-stream-requires g c = are_counted c.args.cells.now.cells c.args.turns.now c.requires.few c.requires.ones
 
 pub write_part-requires-clause-ready : goal.write_part-requires-clause-ready
 write_part-requires-clause-ready g c =

@@ -1,6 +1,6 @@
 use Rattle.std.proofs.Common.{◌-◌, ◌≤◌}
 use Rattle.cell_bits.specs.Search.{StandsNowhere}
-use Rattle.cell_bits.specs.Window.{IsWindow}
+use Rattle.cell_bits.specs.inside.Window.{IsWindow}
 use Rattle.cell_bits.proofs.cells.Cells.find_word.Given as goal
 
 abbrev pub invariant-loop-place : goal.invariant-loop-place

@@ -3,7 +3,7 @@ use Rattle.std.proofs.lemmas.Bool.{false≢true}
 use Rattle.cell_bits.specs.Word.{word_cells}
 use Rattle.cell_bits.specs.Run.{run_cells}
 use Rattle.cell_bits.specs.WordLaws.{length-word_cells}
-use Rattle.cell_bits.proofs.Runs.{runs-behind, runs-within, run-within}
+use Rattle.cell_bits.proofs.Runs.{runs-after, runs-within, run-within}
 use Rattle.cell_bits.proofs.cells.Cells.push_groups.Goals as goal
 
 pub loop-group-preserved : goal.loop-group-preserved
@@ -20,7 +20,7 @@ loop-group-preserved c =
           c.in_ok-append.ensures.cells
           ∙ ap (λ (cells : List Bool). cells ++ group) c.loop-group.invariant.cells
           ∙ ap (λ (cells : List Bool). before ++ cells) runs
-          ∙ simp append_assoc (ap (λ (cells : List Bool). c.args.self.now.cells ++ cells) (sym (runs-behind c.args.counts.now here 8)))
+          ∙ simp append_assoc (ap (λ (cells : List Bool). c.args.self.now.cells ++ cells) (sym (runs-after c.args.counts.now here 8)))
           ∙ ap (λ n. c.args.self.now.cells ++ flat_map run_cells (take n c.args.counts.now)) next;
       room = omega (arith, c.loop-group.invariant.room, c.append.ensures.room);
     }

@@ -2,7 +2,7 @@ use Rattle.std.proofs.Common.{◌^◌, ◌<◌, ap, sym, ◌∙◌, subst, arith
 use mir.Val.{bool_byte}
 use Rattle.std.proofs.lemmas.Nat.{or_lt, and_le_r}
 use Rattle.cell_bits.specs.Word.{word_cells}
-use Rattle.cell_bits.specs.Spread.{spread_of}
+use Rattle.cell_bits.specs.inside.Spread.{spread_of}
 use Rattle.cell_bits.proofs.Tables.{mfm_bits, mfm-is, spread-lt}
 use Rattle.cell_bits.proofs.cells.pushes.mfm_word.Goals as goal
 

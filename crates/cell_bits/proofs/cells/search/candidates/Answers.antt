@@ -1,5 +1,5 @@
 use Rattle.std.proofs.Common.{◌+◌, subst, arith, bit_and}
-use Rattle.cell_bits.specs.Window.{AreCandidates}
+use Rattle.cell_bits.specs.inside.Window.{AreCandidates}
 use Rattle.cell_bits.proofs.Candidates.{candidates-all, candidates-more, candidates-none, digit-tested}
 use Rattle.cell_bits.proofs.cells.search.candidates.Goals as goal
 

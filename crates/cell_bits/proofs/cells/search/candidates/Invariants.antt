@@ -1,4 +1,4 @@
-use Rattle.cell_bits.specs.Window.{AreCandidates}
+use Rattle.cell_bits.specs.inside.Window.{AreCandidates}
 use Rattle.cell_bits.proofs.cells.search.candidates.Given as goal
 
 abbrev pub invariant-loop-offset : goal.invariant-loop-offset

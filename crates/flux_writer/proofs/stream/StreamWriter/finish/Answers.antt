@@ -1,6 +1,6 @@
 use Rattle.std.proofs.lemmas.Result.{on_err_weaker}
 use Rattle.kryo_stream.specs.Sequence.{spellings}
-use Rattle.flux_writer.specs.Writing.{last_blocks}
+use Rattle.flux_writer.specs.inside.Writing.{last_blocks}
 use Rattle.flux_writer.proofs.Gathered.{Gathers-given}
 use Rattle.flux_writer.proofs.stream.StreamWriter.finish.Goals as goal
 

@@ -1,10 +1,10 @@
 use Rattle.std.proofs.Common.{◌++◌, ◌-◌, map, subst, sym}
 use Rattle.std.proofs.lemmas.Result.{on_ok_weaker, on_err_weaker}
 use Rattle.flux_base.specs.Outside.{AppendsPart}
-use Rattle.flux_writer.specs.Gathering.{Gathers}
+use Rattle.flux_writer.specs.inside.Gathering.{Gathers}
 use Rattle.kryo_stream.specs.Sequence.{spellings}
 use Rattle.flux_writer.specs.Written.{index_block, interval_blocks}
-use Rattle.flux_writer.specs.Writing.{indexes_before}
+use Rattle.flux_writer.specs.inside.Writing.{indexes_before}
 use Rattle.flux_writer.proofs.Gathered.{Gathers-more, Gathers-part}
 use Rattle.flux_writer.proofs.Steps.{spellings-append}
 use Rattle.flux_writer.proofs.stream.StreamWriter.transition.Goals as goal

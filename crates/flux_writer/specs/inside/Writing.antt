@@ -9,7 +9,7 @@ use Rattle.flux_writer.specs.declared.indexes.IndexUnit.TheVariants.{Ticks, Cell
 use Rattle.kryo_stream.specs.Protocol.{OVERFLOW_TICKS}
 use Rattle.kryo_stream.specs.Sequence.{spellings}
 use Rattle.flux_writer.specs.Written.{cell_time, index_block, interval_blocks, track_cells}
-use Rattle.flux_writer.specs.Gathering.{Gathers}
+use Rattle.flux_writer.specs.inside.Gathering.{Gathers}
 
 -- the time in ticks of an index that is given in this unit
 abbrev pub ticks_of : IndexUnit → ℕ → ℕ
@@ -21,33 +21,33 @@ abbrev pub AreCounted : IndexUnit → List ℕ → Type 0
 AreCounted Ticks places = Unit {0}
 AreCounted (Cells nominal) places = All (λ place. place < 2 ^ 32) places
 
--- how many index times at the front lie before a time, which they are, and those behind them
+-- how many index times at the front lie before a time, which they are, and those after them
 abbrev pub count_before : ℕ → List ℕ → ℕ
 count_before time indexes = prefix_len (λ index. nat_lt index time) indexes
 
 abbrev pub indexes_before : ℕ → List ℕ → List ℕ
 indexes_before time indexes = take (count_before time indexes) indexes
 
-abbrev pub indexes_behind : ℕ → List ℕ → List ℕ
-indexes_behind time indexes = drop (count_before time indexes) indexes
+abbrev pub indexes_from : ℕ → List ℕ → List ℕ
+indexes_from time indexes = drop (count_before time indexes) indexes
 
--- the stream position behind an interval
-abbrev pub position_behind : ℕ → ℕ → ℕ → ℕ
-position_behind position begin time = position + length (spellings (interval_blocks (time - begin)))
+-- the stream position after an interval
+abbrev pub next_position : ℕ → ℕ → ℕ → ℕ
+next_position position begin time = position + length (spellings (interval_blocks (time - begin)))
 
 -- the blocks of the next transition, where its interval begins at this stream position and time
 abbrev pub next_blocks : ℕ → ℕ → ℕ → List ℕ → List Block
 next_blocks position begin time indexes =
     map (index_block position begin) (indexes_before time indexes) ++ interval_blocks (time - begin)
 
--- the blocks behind the last interval
+-- the blocks after the last interval
 abbrev pub last_blocks : ℕ → List Block
 last_blocks position = StreamEnd position 0 ∷ End ∷ []
 
--- the stream position, the time and the index times that are left, behind several transitions
+-- the stream position, the time and the index times that are left, after several transitions
 abbrev pub position_after : ℕ → ℕ → List ℕ → ℕ
 position_after position begin [] = position
-position_after position begin (time ∷ times) = position_after (position_behind position begin time) time times
+position_after position begin (time ∷ times) = position_after (next_position position begin time) time times
 
 abbrev pub time_after : ℕ → List ℕ → ℕ
 time_after begin [] = begin
@@ -55,14 +55,14 @@ time_after begin (time ∷ times) = time_after time times
 
 abbrev pub indexes_after : List ℕ → List ℕ → List ℕ
 indexes_after [] indexes = indexes
-indexes_after (time ∷ times) indexes = indexes_after times (indexes_behind time indexes)
+indexes_after (time ∷ times) indexes = indexes_after times (indexes_from time indexes)
 
 -- the blocks of several transitions in order
 abbrev pub many_blocks : ℕ → ℕ → List ℕ → List ℕ → List Block
 many_blocks position begin [] indexes = []
 many_blocks position begin (time ∷ times) indexes =
     next_blocks position begin time indexes
-    ++ many_blocks (position_behind position begin time) time times (indexes_behind time indexes)
+    ++ many_blocks (next_position position begin time) time times (indexes_from time indexes)
 
 -- the numbers of the cells that are ones, where the first cell has this number
 abbrev pub ones_from : ℕ → List Bool → List ℕ
@@ -89,7 +89,7 @@ pub record IsReadyAt (nominal position time number : ℕ) (indexes : List ℕ) :
   pub reached : time ≤ cell_time nominal number
 
 -- A writer that held these bytes, at this stream position and time, with these index times left, wrote the transitions at
--- `times`: what the sink took and what is held now are their blocks, and position, time and index times left are those behind
+-- `times`: what the sink took and what is held now are their blocks, and position, time and index times left are those after
 -- them.
 pub record IsWritten (old new : Option (List ℕ)) (held : List ℕ) (position time : ℕ) (indexes held' : List ℕ) (position' time' : ℕ)
     (indexes' times : List ℕ) : Type 0 where

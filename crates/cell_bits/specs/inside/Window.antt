@@ -2,11 +2,11 @@
 use Rattle.std.specs.Prelude.{◌≡◌, ℕ, ◌+◌, ◌-◌, ◌<◌, Bool, true, false, ◌↔◌, List, get_or, nat_lt, if◌then◌else◌}
 use Rattle.cell_bits.specs.Word.{digit}
 
--- the 64 cells from a place on, with zeros behind the list's end
+-- the 64 cells from a place on, with zeros past the list's end
 abbrev pub IsWindow : List Bool → ℕ → ℕ → Type 0
 IsWindow cells place block = (k : ℕ) → k < 64 → digit block (63 - k) ≡ get_or cells (place + k) false
 
--- the cell k of two blocks, one behind the other
+-- the cell k of two blocks, one after the other
 abbrev pub cell_of_two : ℕ → ℕ → ℕ → Bool
 cell_of_two high low k = if nat_lt k 64 then digit high (63 - k) else digit low (127 - k)
 

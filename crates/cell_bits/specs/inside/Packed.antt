@@ -1,4 +1,4 @@
--- How a list of cells lies in memory: 64 cells a word, high bit first, and the cells behind the last whole word in a number of their own.
+-- How a list of cells lies in memory: 64 cells a word, high bit first, and the cells after the last whole word in a number of their own.
 use Rattle.std.specs.Prelude.{ℕ, ◌+◌, ◌-◌, ◌*◌, ◌^◌, ◌<◌, ◌≤◌, min, ◌++◌, flat_map, vec_len, vec_capacity}
 use Rattle.cell_bits.specs.State.{CellsState}
 use Rattle.cell_bits.specs.Word.{word_cells}

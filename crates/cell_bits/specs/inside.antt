@@ -1,0 +1,4 @@
+-- What the crate's own functions say to one another: no public contract cites it.
+pub mod Packed
+pub mod Spread
+pub mod Window
