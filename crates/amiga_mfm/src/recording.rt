@@ -2,6 +2,7 @@ ghost use Rattle.std.specs.Prelude.{◌≡◌, ℕ, length};
 ghost use Rattle.std.proofs.Common.{lit≤};
 ghost use Rattle.amiga_mfm.specs.Sectors.{FRAME_CELLS, HeaderStands, IsTrack, SectorStands};
 ghost use Rattle.amiga_mfm.specs.Layout.{place_of, ring_of};
+ghost use Rattle.amiga_mfm.specs.OwnLaws.{header_alone, header_own, no_header, sector_alone, sector_own};
 ghost use Rattle.amiga_mfm.specs.StandLaws.{one_header, one_content, header_number, content_size};
 ghost use Rattle.amiga_mfm.specs.RingLaws.{ring_length, ring_spaced, sector_stands, frame_whole};
 
@@ -130,4 +131,18 @@ impl Recording for AmigaMfm {
 
     ghost frame_whole = { λ r track bytes s known sectors number.
         frame_whole track bytes s number };
+
+    ghost frame_some = { λ r. lit≤ tt };
+
+    ghost header_alone = { λ r track cells s header. header_alone track cells s header };
+
+    ghost sector_alone = { λ r track cells s xs sector. sector_alone track cells s xs sector };
+
+    ghost header_own = { λ r track bytes s zeros from count behind place known sectors header.
+        header_own track bytes known sectors s zeros from count behind place header };
+
+    ghost sector_own = { λ r track bytes s zeros from count behind place xs known sectors sector.
+        (sector_own track bytes known sectors s zeros from count behind place xs sector).1 };
+
+    ghost no_header = { λ r track count s known header. no_header track count s header };
 }

@@ -2,6 +2,7 @@ ghost use Rattle.std.specs.Prelude.{◌≡◌, ℕ, length};
 ghost use Rattle.std.proofs.Common.{lit≤};
 ghost use Rattle.apple_gcr.specs.Sectors.{HeaderStands, IsTrack, SectorStands};
 ghost use Rattle.apple_gcr.specs.Layout.{FRAME_CELLS, place_of, ring_of};
+ghost use Rattle.apple_gcr.specs.OwnLaws.{header_alone, header_own, no_header, sector_alone, sector_own};
 ghost use Rattle.apple_gcr.specs.StandLaws.{one_header, one_content, header_number};
 ghost use Rattle.apple_gcr.specs.RingLaws.{ring_length, ring_spaced, sector_stands, frame_whole};
 
@@ -131,4 +132,18 @@ impl Recording for AppleGcr {
 
     ghost frame_whole = { λ r track bytes s known sectors number.
         frame_whole track bytes s known sectors number };
+
+    ghost frame_some = { λ r. lit≤ tt };
+
+    ghost header_alone = { λ r track cells s header. header_alone track cells s header };
+
+    ghost sector_alone = { λ r track cells s xs sector. sector_alone track cells s xs sector };
+
+    ghost header_own = { λ r track bytes s zeros from count behind place known sectors header.
+        header_own track bytes known sectors s zeros from count behind place header };
+
+    ghost sector_own = { λ r track bytes s zeros from count behind place xs known sectors sector.
+        (sector_own track bytes known sectors s zeros from count behind place xs sector).1 };
+
+    ghost no_header = { λ r track count s known header. no_header track count s header };
 }

@@ -3,6 +3,7 @@ ghost use Rattle.std.proofs.Common.{lit≤};
 ghost use Rattle.commodore_gcr.specs.Zones.{IsTrack, sectors_of};
 ghost use Rattle.commodore_gcr.specs.Sectors.{HeaderStands, SectorStands};
 ghost use Rattle.commodore_gcr.specs.Layout.{FRAME_CELLS, place_of, ring_cells_of, ring_of};
+ghost use Rattle.commodore_gcr.specs.OwnLaws.{header_alone, header_own, no_header, sector_alone, sector_own};
 ghost use Rattle.commodore_gcr.specs.StandLaws.{sync_leads, one_header, one_content, header_number, content_size};
 ghost use Rattle.commodore_gcr.specs.ZoneLaws.{sizes};
 ghost use Rattle.commodore_gcr.specs.RingLaws.{ring_length, ring_spaced, sector_stands, frame_whole};
@@ -142,4 +143,18 @@ impl Recording for CommodoreGcr {
 
     ghost frame_whole = { λ r track bytes s known sectors number.
         frame_whole r.id1 r.id2 track bytes s number };
+
+    ghost frame_some = { λ r. lit≤ tt };
+
+    ghost header_alone = { λ r track cells s header. header_alone track cells s header };
+
+    ghost sector_alone = { λ r track cells s xs sector. sector_alone track cells s xs sector };
+
+    ghost header_own = { λ r track bytes s zeros from count behind place known sectors header.
+        header_own r.id1 r.id2 track bytes known sectors s zeros from count behind place header };
+
+    ghost sector_own = { λ r track bytes s zeros from count behind place xs known sectors sector.
+        (sector_own r.id1 r.id2 track bytes known sectors s zeros from count behind place xs sector).1 };
+
+    ghost no_header = { λ r track count s known header. no_header track count s header };
 }

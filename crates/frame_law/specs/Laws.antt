@@ -1,9 +1,11 @@
 -- What the readings of a list of cells are: all that stands there from a place on, and nothing else.
-use Rattle.std.specs.Prelude.{◌≡◌, ℕ, ◌<◌, ◌≤◌, ◌↔◌, Bool, List, [], length, drop, map, All, Contains}
+use Rattle.std.specs.Prelude.{◌≡◌, ℕ, ◌+◌, ◌%◌, ◌<◌, ◌≤◌, ◌↔◌, Bool, false, List, [], length, drop, map, replicate, All, Contains}
 use Rattle.std.specs.List.Sorted.{IsStrictlyIncreasing}
 use Rattle.frame_law.specs.declared.reading.Reading.{Reading}
 use Rattle.frame_law.specs.declared.reading.Reading.TheVariants.{Nothing, Bad, Good}
 use Rattle.frame_law.specs.Readings.{AreReadings}
+use Rattle.track_rings.specs.OwnSectors.{IsAlone, IsOwnPlace, between_zeros}
+use Rattle.track_rings.specs.Rings.{stretch}
 
 -- a place, what is read there, and the bytes that go with it
 abbrev pub Found : Type 0
@@ -54,3 +56,28 @@ ReadingsAreAll header sector = (cells : List Bool) (from : ℕ) (found : List Fo
 abbrev pub ReadingsAreOne : (List Bool → ℕ → Type 0) → (List Bool → ℕ → List ℕ → Type 0) → Type 0
 ReadingsAreOne header sector = (cells : List Bool) (from : ℕ) (found other : List Found)
     → AreReadings header sector cells from found → AreReadings header sector cells from other → found ≡ other
+
+-- What stands in some cells depends on its own cells alone, and nothing stands in cells without a one.
+pub record StandsAlone (header : List Bool → ℕ → Type 0) (sector : List Bool → ℕ → List ℕ → Type 0) : Type 0 where
+  pub headers : (cells : List Bool) (s : ℕ) → header cells s → IsAlone (λ others. header others s) cells
+  pub sectors : (cells : List Bool) (s : ℕ) (bytes : List ℕ) → sector cells s bytes → IsAlone (λ others. sector others s bytes) cells
+  pub no_header : (count s : ℕ) → ¬ header (replicate count false) s
+  pub no_sector : (count s : ℕ) (bytes : List ℕ) → ¬ sector (replicate count false) s bytes
+
+module _ (header : List Bool → ℕ → Type 0) (sector : List Bool → ℕ → List ℕ → Type 0)
+    (ring : List Bool) (ring_cells : ℕ) (place_of : ℕ → ℕ) (content : ℕ → List ℕ) where
+  -- In any stretch of the repeated ring between zeros: a header that stands is the ring's own, and so is a sector, with its
+  -- bytes.
+  pub record HasOnlyOwnBetweenZeros (zeros from count behind : ℕ) : Type 0 where
+    pub headers : (place s : ℕ) → header (drop place (between_zeros ring zeros from count behind)) s
+        → IsOwnPlace ring_cells (place_of s) zeros from place
+    pub sectors : (place s : ℕ) (bytes : List ℕ) → sector (drop place (between_zeros ring zeros from count behind)) s bytes
+        → IsOwnPlace ring_cells (place_of s) zeros from place × (bytes ≡ content s)
+
+  -- In any stretch of it alone: a sector that stands is the ring's own, with its bytes; and a header that stands without a
+  -- sector is the ring's own, and the stretch ends within its frame.
+  pub record HasOnlyOwn (frame_cells from count : ℕ) : Type 0 where
+    pub sectors : (place s : ℕ) (bytes : List ℕ) → HasSector header sector (stretch ring from count) place s bytes
+        → ((from + place) % ring_cells ≡ place_of s) × (bytes ≡ content s)
+    pub headers : (place s : ℕ) → HasHeaderOnly header sector (stretch ring from count) place s
+        → ((from + place) % ring_cells ≡ place_of s) × (count < place + frame_cells)

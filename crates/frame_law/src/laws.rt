@@ -3,7 +3,7 @@
 ghost use Rattle.std.specs.Prelude.{◌≡◌, ◌≤◌, ℕ, ◌+◌, List, length, drop};
 ghost use Rattle.cell_bits.specs.Broken.{Unbroken};
 ghost use Rattle.flux_base.specs.declared.track.TrackId.{TrackId};
-ghost use Rattle.frame_law.specs.Laws.{ReadingsAreAll, ReadingsAreOne, SectorsAreTold};
+ghost use Rattle.frame_law.specs.Laws.{HasOnlyOwn, HasOnlyOwnBetweenZeros, ReadingsAreAll, ReadingsAreOne, SectorsAreTold, StandsAlone};
 ghost use Rattle.track_rings.specs.Rings.{AreSectors, IsSectorNumber, IsSpaced, LiesAt, bytes_of, stretch};
 
 use crate::Recording;
@@ -39,4 +39,22 @@ pub fn rings_hold_sectors<R: Recording>()
         → IsSectorNumber (R.first_sector r) (R.sectors r track) s
         → (R.sector_place r track s + R.frame_cells r ≤ R.ring_cells r track)
         × Unbroken (R.ring r track bytes) (R.sector_place r track s) (R.sector_place r track s + R.frame_cells r) }
+{}
+
+/// Nothing but a ring's own sectors stands in it: what stands depends on its own cells alone, in any stretch of the
+/// repeated ring between zeros it is one of the ring's sectors, and in a stretch alone a header has its sector where
+/// the frame is not cut.
+pub fn only_own<R: Recording>()
+    ensures alone { (r : R) (track : TrackId) → R.has_track r track
+        → StandsAlone (R.header_at r track) (R.sector_at r track) }
+    ensures between_zeros { (r : R) (track : TrackId) (bytes : List ℕ) (zeros from count behind : ℕ) → R.has_track r track
+        → AreSectors (R.sectors r track) (R.sector_size r) bytes
+        → HasOnlyOwnBetweenZeros (R.header_at r track) (R.sector_at r track) (R.ring r track bytes)
+        (R.ring_cells r track) (R.sector_place r track)
+        (bytes_of (R.first_sector r) (R.sector_size r) bytes) zeros from count behind }
+    ensures stretches { (r : R) (track : TrackId) (bytes : List ℕ) (from count : ℕ) → R.has_track r track
+        → AreSectors (R.sectors r track) (R.sector_size r) bytes
+        → HasOnlyOwn (R.header_at r track) (R.sector_at r track) (R.ring r track bytes)
+        (R.ring_cells r track) (R.sector_place r track)
+        (bytes_of (R.first_sector r) (R.sector_size r) bytes) (R.frame_cells r) from count }
 {}

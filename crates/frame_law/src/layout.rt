@@ -2,9 +2,10 @@ ghost use Rattle.std.specs.Prelude.{◌≡◌, ℕ, ◌+◌, ◌*◌, ◌^◌, �
 ghost use Rattle.cell_bits.specs.Bytes.{last_cell};
 ghost use Rattle.flux_base.specs.declared.track.TrackId.{TrackId};
 ghost use Rattle.frame_law.specs.Frames.{AreSizes, FrameStands, IsDataSync, IsWithinReach};
+ghost use Rattle.frame_law.specs.OwnFrames.{HasOwnSyncs, TellsEarly};
 ghost use Rattle.frame_law.specs.Writing.{AppendsCells};
-ghost use Rattle.track_rings.specs.Rings.{IsSectorNumber};
-ghost use Rattle.track_rings.specs.Rows.{IsContent, Rows, frame_size, last_of, ring_size, rows_cells, sector_rows};
+ghost use Rattle.track_rings.specs.Rings.{AreSectors, IsSectorNumber};
+ghost use Rattle.track_rings.specs.Rows.{IsContent, Rows, frame_size, last_of, place_of, ring_of, ring_size, rows_cells, sector_rows};
 ghost use Rattle.track_rings.specs.SectorParts.{AreBytes};
 ghost use Rattle.track_rings.specs.Spaced.{MayFollow};
 
@@ -205,4 +206,15 @@ pub trait Layout {
         AreBytes bytes → length bytes ≡ sector_bytes r →
         FrameStands SYNC SYNC_CELLS HEADER_CELLS (data_place r) (names_sector r track) (is_sync r) (hold r)
         (rows_cells asks (row_cells r track) before s bytes (rows r track).frame ++ rest) s bytes };
+
+    /// What a header names, and what data hold, is told by their own cells, and by all of these but the last seven.
+    ghost tells: { (r : Self) (track : TrackId) →
+        TellsEarly SYNC_CELLS HEADER_CELLS (data_cells r) (names_sector r track) (is_sync r) (hold r) };
+
+    /// The first cells of a header stand in a ring only where a header begins.
+    ghost own_syncs: { (r : Self) (track : TrackId) → has_track r track →
+        HasOwnSyncs SYNC SYNC_CELLS HEADER_CELLS (lowest_sector r) (sector_count r track) (names_sector r track)
+        (place_of (row_size r track) (lowest_sector r) (sector_bytes r) (rows r track))
+        (AreSectors (sector_count r track) (sector_bytes r))
+        (λ bytes. ring_of asks (row_cells r track) (lowest_sector r) (sector_count r track) (sector_bytes r) bytes (rows r track)) };
 }

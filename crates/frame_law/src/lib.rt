@@ -15,7 +15,7 @@ mod search;
 mod table_recording;
 
 pub use cells_from::CellsFrom;
-pub use laws::{readings_are_all, rings_hold_sectors, sectors_are_told};
+pub use laws::{only_own, readings_are_all, rings_hold_sectors, sectors_are_told};
 pub use layout::Layout;
 pub use reading::{Reading, SectorBuffer};
 pub use recording::Recording;

@@ -133,4 +133,16 @@ impl<A: Recording, B: Recording> Recording for Either<A, B> {
     ghost sector_stands = { elim [ Left r ↦ A.sector_stands r | Right r ↦ B.sector_stands r ] };
 
     ghost frame_whole = { elim [ Left r ↦ A.frame_whole r | Right r ↦ B.frame_whole r ] };
+
+    ghost frame_some = { elim [ Left r ↦ A.frame_some r | Right r ↦ B.frame_some r ] };
+
+    ghost header_alone = { elim [ Left r ↦ A.header_alone r | Right r ↦ B.header_alone r ] };
+
+    ghost sector_alone = { elim [ Left r ↦ A.sector_alone r | Right r ↦ B.sector_alone r ] };
+
+    ghost header_own = { elim [ Left r ↦ A.header_own r | Right r ↦ B.header_own r ] };
+
+    ghost sector_own = { elim [ Left r ↦ A.sector_own r | Right r ↦ B.sector_own r ] };
+
+    ghost no_header = { elim [ Left r ↦ A.no_header r | Right r ↦ B.no_header r ] };
 }

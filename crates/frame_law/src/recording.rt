@@ -1,9 +1,10 @@
-ghost use Rattle.std.specs.Prelude.{◌≡◌, ℕ, ◌+◌, ◌*◌, ◌^◌, ◌<◌, ◌≤◌, List, [], Bool, length, drop, OnOk, OnErr, IsOk};
+ghost use Rattle.std.specs.Prelude.{◌≡◌, ℕ, ◌+◌, ◌*◌, ◌^◌, ◌<◌, ◌≤◌, List, [], Bool, false, length, drop, replicate, OnOk, OnErr, IsOk};
 ghost use Rattle.cell_bits.specs.Broken.{Unbroken};
 ghost use Rattle.cell_bits.specs.State.{room};
 ghost use Rattle.cell_bits.specs.Word.{Stands};
 ghost use Rattle.flux_base.specs.declared.track.TrackId.{TrackId};
 ghost use Rattle.frame_law.specs.Readings.{Reads};
+ghost use Rattle.track_rings.specs.OwnSectors.{IsAlone, IsOwnPlace, between_zeros};
 ghost use Rattle.track_rings.specs.Rings.{AreSectors, IsSectorNumber, IsSpaced, LiesAt, bytes_of, stretch};
 
 use crate::{Reading, SectorBuffer};
@@ -181,4 +182,29 @@ pub trait Recording {
         let begin = sector_place r track s in
         let end = begin + frame_cells r in
         (end ≤ ring_cells r track) × Unbroken (ring r track bytes) begin end };
+
+    ghost frame_some: { (r : Self) → 1 ≤ frame_cells r };
+
+    /// What stands depends on its own cells alone.
+    ghost header_alone: { (r : Self) (track : TrackId) (cells : List Bool) (s : ℕ) →
+        header_at r track cells s → IsAlone (λ others. header_at r track others s) cells };
+
+    ghost sector_alone: { (r : Self) (track : TrackId) (cells : List Bool) (s : ℕ) (xs : List ℕ) →
+        sector_at r track cells s xs → IsAlone (λ others. sector_at r track others s xs) cells };
+
+    /// In a stretch of the repeated ring between zeros, what stands is one of the ring's own sectors: a header
+    /// stands where its sector does, and a sector has its bytes.
+    ghost header_own: { (r : Self) (track : TrackId) (bytes : List ℕ) (s zeros from count behind place : ℕ) →
+        has_track r track → AreSectors (sectors r track) (sector_size r) bytes →
+        header_at r track (drop place (between_zeros (ring r track bytes) zeros from count behind)) s →
+        IsOwnPlace (ring_cells r track) (sector_place r track s) zeros from place };
+
+    ghost sector_own: { (r : Self) (track : TrackId) (bytes : List ℕ) (s zeros from count behind place : ℕ) (xs : List ℕ) →
+        has_track r track → AreSectors (sectors r track) (sector_size r) bytes →
+        sector_at r track (drop place (between_zeros (ring r track bytes) zeros from count behind)) s xs →
+        xs ≡ bytes_of (first_sector r) (sector_size r) bytes s };
+
+    /// No header stands in cells without a one.
+    ghost no_header: { (r : Self) (track : TrackId) (count s : ℕ) →
+        has_track r track → ¬ header_at r track (replicate count false) s };
 }

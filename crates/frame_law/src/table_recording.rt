@@ -4,6 +4,8 @@ ghost use Rattle.std.specs.Prelude.{◌≡◌, ℕ, ◌+◌, ◌*◌, ◌<◌, �
 ghost use Rattle.std.proofs.Common.{arith, refl, subst};
 ghost use Rattle.frame_law.specs.Frames.{DataStand, HeaderStands, SectorStands};
 ghost use Rattle.frame_law.specs.FrameLaws.{frame_within, one_content, ring_length, ring_spaced, sector_stands};
+ghost use Rattle.frame_law.specs.OwnFrames.{header_alone, header_own, header_within, no_header, sector_alone, sector_own, some_cells, some_header};
+ghost use Rattle.track_rings.specs.Rings.{AreSectors, bytes_of};
 ghost use Rattle.track_rings.specs.Rows.{place_of, ring_of};
 
 use crate::frame_reading::read_frame;
@@ -161,4 +163,91 @@ impl<L: Layout> Recording for L {
         (λ n content row. L.row_follows r track n content row known)
         bytes s (L.track_cells r track) (L.data_place r + L.data_cells r) (L.counts r track known).0 given number
         (L.sums r track known).0 (L.sums r track known).1 };
+
+    ghost frame_some = { λ r. some_cells L.sizes (L.reach r) };
+
+    ghost header_alone = { λ r track cells s header.
+        header_alone L.HEADER_CELLS (L.data_cells r) (L.is_sync r) (L.hold r) L.SYNC L.SYNC_CELLS (L.data_place r)
+        (L.lowest_sector r) (L.sector_count r track) (L.names_sector r track) (L.tells r track)
+        cells s (some_header L.sizes) header };
+
+    ghost sector_alone = { λ r track cells s xs sector.
+        sector_alone L.HEADER_CELLS (L.data_cells r) (L.is_sync r) (L.hold r) L.SYNC L.SYNC_CELLS (L.data_place r)
+        (L.lowest_sector r) (L.sector_count r track) (L.names_sector r track) (L.tells r track)
+        cells s xs (some_header L.sizes) sector };
+
+    ghost header_own = { λ r track bytes s zeros from count behind place known given header.
+        header_own L.HEADER_CELLS (L.data_cells r) (L.is_sync r) (L.hold r) L.SYNC L.SYNC_CELLS (L.data_place r)
+        (L.lowest_sector r) (L.sector_count r track) (L.names_sector r track) (L.tells r track)
+        (place_of (L.row_size r track) (L.lowest_sector r) (L.sector_bytes r) (L.rows r track))
+        (AreSectors (L.sector_count r track) (L.sector_bytes r))
+        (λ content. ring_of L.asks (L.row_cells r track) (L.lowest_sector r) (L.sector_count r track) (L.sector_bytes r) content (L.rows r track))
+        (L.own_syncs r track known)
+        (L.track_cells r track) (L.data_place r + L.data_cells r) (bytes_of (L.lowest_sector r) (L.sector_bytes r)) bytes given
+        (ring_length L.asks (L.row_cells r track) (L.row_size r track) (L.row_length r track)
+        (L.lowest_sector r) (L.sector_count r track) (L.sector_bytes r) (L.rows r track) bytes (L.track_cells r track)
+        given.whole (L.sums r track known).1)
+        (some_cells L.sizes (L.reach r))
+        (λ n number.
+        (frame_within L.asks (L.row_cells r track) (L.row_size r track) (L.row_length r track)
+        (L.lowest_sector r) (L.sector_count r track) (L.sector_bytes r) (L.rows r track)
+        L.SHORTEST L.LONGEST L.last_zeros L.SYNC_CELLS L.HEADER_CELLS L.sizes
+        (λ m content row. L.row_follows r track m content row known)
+        bytes n (L.track_cells r track) (L.data_place r + L.data_cells r) (L.counts r track known).0 given number
+        (L.sums r track known).0 (L.sums r track known).1).0)
+        (header_within L.asks (L.row_cells r track) (L.row_size r track) (L.row_length r track)
+        (L.lowest_sector r) (L.sector_count r track) (L.sector_bytes r) (L.rows r track) bytes (L.track_cells r track)
+        (L.counts r track known).0 given (L.reach r) (L.sums r track known).0 (L.sums r track known).1)
+        (λ n n_from n_count n_place number lies.
+        sector_stands L.asks (L.row_cells r track) (L.row_size r track) (L.row_length r track)
+        (L.lowest_sector r) (L.sector_count r track) (L.sector_bytes r) (L.rows r track)
+        L.SHORTEST L.LONGEST L.last_zeros L.SYNC_CELLS L.HEADER_CELLS L.sizes
+        (λ m content row. L.row_follows r track m content row known)
+        (L.data_cells r) L.SYNC (L.data_place r) (L.is_sync r) (L.hold r) (L.names_sector r track)
+        bytes n n_from n_count n_place (L.track_cells r track) given number
+        (λ content before rest fit long. L.frame_stands r track n content before rest known number fit long)
+        (L.sums r track known).0 (L.sums r track known).1 (L.reach r) lies)
+        s zeros from count behind place header };
+
+    ghost sector_own = { λ r track bytes s zeros from count behind place xs known given sector.
+        sector_own L.HEADER_CELLS (L.data_cells r) (L.is_sync r) (L.hold r) L.SYNC L.SYNC_CELLS (L.data_place r)
+        (L.lowest_sector r) (L.sector_count r track) (L.names_sector r track) (L.tells r track)
+        (place_of (L.row_size r track) (L.lowest_sector r) (L.sector_bytes r) (L.rows r track))
+        (AreSectors (L.sector_count r track) (L.sector_bytes r))
+        (λ content. ring_of L.asks (L.row_cells r track) (L.lowest_sector r) (L.sector_count r track) (L.sector_bytes r) content (L.rows r track))
+        (L.own_syncs r track known)
+        (L.track_cells r track) (L.data_place r + L.data_cells r) (bytes_of (L.lowest_sector r) (L.sector_bytes r)) bytes given
+        (ring_length L.asks (L.row_cells r track) (L.row_size r track) (L.row_length r track)
+        (L.lowest_sector r) (L.sector_count r track) (L.sector_bytes r) (L.rows r track) bytes (L.track_cells r track)
+        given.whole (L.sums r track known).1)
+        (some_cells L.sizes (L.reach r))
+        (λ n number.
+        (frame_within L.asks (L.row_cells r track) (L.row_size r track) (L.row_length r track)
+        (L.lowest_sector r) (L.sector_count r track) (L.sector_bytes r) (L.rows r track)
+        L.SHORTEST L.LONGEST L.last_zeros L.SYNC_CELLS L.HEADER_CELLS L.sizes
+        (λ m content row. L.row_follows r track m content row known)
+        bytes n (L.track_cells r track) (L.data_place r + L.data_cells r) (L.counts r track known).0 given number
+        (L.sums r track known).0 (L.sums r track known).1).0)
+        (header_within L.asks (L.row_cells r track) (L.row_size r track) (L.row_length r track)
+        (L.lowest_sector r) (L.sector_count r track) (L.sector_bytes r) (L.rows r track) bytes (L.track_cells r track)
+        (L.counts r track known).0 given (L.reach r) (L.sums r track known).0 (L.sums r track known).1)
+        (λ n n_from n_count n_place number lies.
+        sector_stands L.asks (L.row_cells r track) (L.row_size r track) (L.row_length r track)
+        (L.lowest_sector r) (L.sector_count r track) (L.sector_bytes r) (L.rows r track)
+        L.SHORTEST L.LONGEST L.last_zeros L.SYNC_CELLS L.HEADER_CELLS L.sizes
+        (λ m content row. L.row_follows r track m content row known)
+        (L.data_cells r) L.SYNC (L.data_place r) (L.is_sync r) (L.hold r) (L.names_sector r track)
+        bytes n n_from n_count n_place (L.track_cells r track) given number
+        (λ content before rest fit long. L.frame_stands r track n content before rest known number fit long)
+        (L.sums r track known).0 (L.sums r track known).1 (L.reach r) lies)
+        s zeros from count behind place xs sector };
+
+    ghost no_header = { λ r track count s known header.
+        no_header L.HEADER_CELLS (L.data_cells r) (L.is_sync r) (L.hold r) L.SYNC L.SYNC_CELLS (L.data_place r)
+        (L.lowest_sector r) (L.sector_count r track) (L.names_sector r track) (L.tells r track)
+        (place_of (L.row_size r track) (L.lowest_sector r) (L.sector_bytes r) (L.rows r track))
+        (AreSectors (L.sector_count r track) (L.sector_bytes r))
+        (λ content. ring_of L.asks (L.row_cells r track) (L.lowest_sector r) (L.sector_count r track) (L.sector_bytes r) content (L.rows r track))
+        (L.own_syncs r track known)
+        count s header };
 }

@@ -1,21 +1,24 @@
 -- Where the ID mark stands in a ring: only where a sector's header begins.
-use Rattle.std.specs.Prelude.{◌≡◌, ℕ, ◌+◌, ◌<◌, ◌≤◌, Bool, true, false, List, [], ◌∷◌, ◌++◌, length, replicate, Option, Some, None, refl}
+use Rattle.std.specs.Prelude.{◌≡◌, ℕ, ◌+◌, Bool, true, false, List, [], ◌∷◌, ◌++◌, length, replicate, Option, Some, None, refl}
 use Rattle.std.specs.List.{flat_map, range_with_len}
-use Rattle.std.proofs.Common.{ap, sym, subst, ◌∙◌, arith, append_assoc}
+use Rattle.std.proofs.Common.{sym, subst, arith, append_assoc}
 use Rattle.flux_base.specs.declared.track.TrackId.{TrackId}
 use Rattle.cell_bits.specs.Bytes.{fm, fm_cells}
-use Rattle.cell_bits.specs.Word.{word_cells}
+use Rattle.cell_bits.specs.Word.{Stands, word_cells}
 use Rattle.cell_bits.specs.WordLaws.{length-word_cells}
-use Rattle.track_rings.specs.Owning.{IsSyncPlace, Leads}
-use Rattle.track_rings.specs.Rings.{bytes_of}
-use Rattle.track_rings.specs.Rows.{coded, rows_cells, sector_rows, total}
-use Rattle.track_rings.specs.TrackLaws.{flat-ring, length-bytes_of, length-rows_cells}
-use Rattle.track_rings.specs.Syncs.{Only, QuietPart, SyncPart, Syncs, all_known, clashes, clashes_at_all, fits, fits-front, fits-known, fits-word, nowhere-known, only-first, part-sectors, part-skip, part-then, quiet-all, quiet-append, quiet-none}
+use Rattle.track_rings.specs.Owning.{Leads}
+use Rattle.track_rings.specs.Rings.{AreSectors, bytes_of}
+use Rattle.track_rings.specs.RowSyncs.{syncs-in_ring}
+use Rattle.track_rings.specs.Rows.{Part, coded, part_cells, parts_of, place_of, ring_of as ring_of_rows, rows_cells, sector_parts, sector_rows, total, track_parts}
+use Rattle.track_rings.specs.Syncs.{QuietPart, SyncPart, Syncs, all_known, clashes, clashes_at_all, fits, fits-front, fits-known, fits-word, nowhere-known, only-first, part-skip, part-then, quiet-all, quiet-append, quiet-none}
+use Rattle.frame_law.specs.OwnFrames.{HasOwnSyncs}
 use Rattle.ibm_fields.specs.Fields.{high_first}
-use Rattle.ibm_fm.specs.Layout.{field_cells, fm_bytes, place_of, ring_of, row_cells, row_size, rows}
+use Rattle.ibm_fm.specs.declared.layout.Mark.TheVariants.{Index}
+use Rattle.ibm_fm.specs.declared.layout.Row.{Row}
+use Rattle.ibm_fm.specs.declared.layout.Row.TheVariants.{Run, Mark as AMark}
+use Rattle.ibm_fm.specs.Layout.{field_cells, fm_bytes, ring_of, row_cells, row_size, rows}
 use Rattle.ibm_fm.specs.RowLaws.{length-fm_bytes, row_length}
-use Rattle.ibm_fm.specs.StandLaws.{place-is}
-use Rattle.ibm_fm.specs.Sectors.{HeaderStands, address_of, check_of}
+use Rattle.ibm_fm.specs.Sectors.{NamesSector, address_of, check_of}
 
 -- the ID mark, without its first cell, which is a one
 unfoldable pub sync_rest : List (Option Bool)
@@ -28,9 +31,9 @@ pub length-sync_rest : length sync_rest ≡ 15
 unfolding sync_rest word_cells
 length-sync_rest = refl
 
-pub leads : (track : TrackId) (cells : List Bool) (s : ℕ) → HeaderStands track cells s → Leads 0 sync_rest cells
+leads : (cells : List Bool) → Stands cells 0xF57E 16 0 → Leads 0 sync_rest cells
 unfolding sync_rest word_cells
-leads track cells s header = fits-word (word_cells 16 0xF57E) cells 16 (length-word_cells 16 0xF57E) header.begins
+leads cells stands = fits-word (word_cells 16 0xF57E) cells 16 (length-word_cells 16 0xF57E) stands
 
 -- eight clock cells, each with a data cell after it
 unfoldable eight_clocks : List (Option Bool)
@@ -103,29 +106,8 @@ id_mark_first rest clocked = (
   tt,
 )
 
--- the rows before the first sector, those of a sector, and those after the last one
-lead_in_cells : TrackId → List Bool
-lead_in_cells track = rows_cells false (row_cells track) false 1 [] rows.lead_in
-
-sector_cells : TrackId → List ℕ → ℕ → List Bool
-sector_cells track bytes sector = rows_cells false (row_cells track) false sector (bytes_of 1 128 bytes sector) (sector_rows rows)
-
-lead_out_cells : TrackId → List Bool
-lead_out_cells track = rows_cells false (row_cells track) false 1 [] rows.lead_out
-
-length-lead_in : (track : TrackId) → length (lead_in_cells track) ≡ 1168
-unfolding total lead_in_cells
-length-lead_in track = length-rows_cells false (row_cells track) row_size (row_length track) false 1 [] rows.lead_in
-
-length-sector_cells : (track : TrackId) (bytes : List ℕ) (sector : ℕ) → length bytes ≡ 3328 → 1 ≤ sector → sector < 27
-    → length (sector_cells track bytes sector) ≡ 3008
-unfolding total sector_cells
-length-sector_cells track bytes sector whole least most =
-    length-rows_cells false (row_cells track) row_size (row_length track) false sector (bytes_of 1 128 bytes sector) (sector_rows rows)
-    ∙ ap (λ (n : ℕ). total (row_size n) (sector_rows rows)) (length-bytes_of 1 26 128 bytes sector whole (record { least = least; most = most }))
-
-lead_in_quiet : (track : TrackId) → QuietPart IdMark Clocked Clocked (lead_in_cells track)
-unfolding lead_in_cells rows_cells coded
+lead_in_quiet : (track : TrackId) → QuietPart IdMark Clocked Clocked (rows_cells false (row_cells track) false 1 [] rows.lead_in)
+unfolding rows_cells coded
 lead_in_quiet track =
     quiet-append IdMark Clocked Clocked Clocked (fm_bytes (replicate 40 0xFF))
     (fm_bytes (replicate 6 0x00) ++ (word_cells 16 0xF77A ++ (fm_bytes (replicate 26 0xFF) ++ []))) (bytes_quiet (replicate 40 0xFF))
@@ -133,21 +115,21 @@ lead_in_quiet track =
     (quiet-append IdMark Clocked Clocked Anything (word_cells 16 0xF77A) (fm_bytes (replicate 26 0xFF) ++ []) index_mark_quiet
     (quiet-append IdMark Clocked Clocked Clocked (fm_bytes (replicate 26 0xFF)) [] (bytes_quiet (replicate 26 0xFF)) (quiet-none IdMark Clocked))))
 
-lead_out_quiet : (track : TrackId) → QuietPart IdMark Clocked Clocked (lead_out_cells track)
-unfolding lead_out_cells rows_cells coded
-lead_out_quiet track =
+lead_out_quiet : (track : TrackId) (before : Bool) → QuietPart IdMark Clocked Clocked (rows_cells false (row_cells track) before 1 [] rows.lead_out)
+unfolding rows_cells coded
+lead_out_quiet track before =
     quiet-append IdMark Clocked Clocked Clocked (fm_bytes (replicate 247 0xFF)) [] (bytes_quiet (replicate 247 0xFF)) (quiet-none IdMark Clocked)
 
 -- what follows a sector's ID mark
-behind_mark : TrackId → List ℕ → ℕ → List Bool
-behind_mark track content sector =
+after_mark : TrackId → List ℕ → ℕ → List Bool
+after_mark track content sector =
     field_cells 0xFE (address_of track sector)
     ++ (fm_bytes (replicate 11 0xFF)
     ++ (fm_bytes (replicate 6 0x00) ++ (word_cells 16 0xF56F ++ (field_cells 0xFB content ++ (fm_bytes (replicate 27 0xFF) ++ [])))))
 
-behind_mark_quiet : (track : TrackId) (content : List ℕ) (sector : ℕ) → QuietPart IdMark Clocked Clocked (behind_mark track content sector)
-unfolding behind_mark
-behind_mark_quiet track content sector =
+after_mark_quiet : (track : TrackId) (content : List ℕ) (sector : ℕ) → QuietPart IdMark Clocked Clocked (after_mark track content sector)
+unfolding after_mark
+after_mark_quiet track content sector =
     let last = fm_bytes (replicate 27 0xFF) ++ [] in
     let filled = field_cells 0xFB content ++ last in
     let marked = word_cells 16 0xF56F ++ filled in
@@ -160,55 +142,45 @@ behind_mark_quiet track content sector =
     (quiet-append IdMark Clocked Clocked Clocked (field_cells 0xFB content) last (field_quiet 0xFB content)
     (quiet-append IdMark Clocked Clocked Clocked (fm_bytes (replicate 27 0xFF)) [] (bytes_quiet (replicate 27 0xFF)) (quiet-none IdMark Clocked))))))
 
-sector_part : (track : TrackId) (bytes : List ℕ) (sector : ℕ) → SyncPart IdMark (λ place. place ≡ 96) Clocked Clocked (sector_cells track bytes sector)
-unfolding sector_cells rows_cells coded behind_mark
-sector_part track bytes sector =
+sector_part : (track : TrackId) (before : Bool) (sector : ℕ) (content : List ℕ)
+    → SyncPart IdMark (λ place. place ≡ 96) Clocked Clocked (rows_cells false (row_cells track) before sector content (sector_rows rows))
+unfolding rows_cells coded after_mark
+sector_part track before sector content =
     let zeros = fm_bytes (replicate 6 0x00) in
-    let content = bytes_of 1 128 bytes sector in
-    let behind = behind_mark track content sector in
+    let after = after_mark track content sector in
     let size : length zeros ≡ 96 = length-fm_bytes (replicate 6 0x00) in
-    part-skip IdMark (λ place. place ≡ 96) Clocked Anything Clocked zeros (word_cells 16 0xF57E ++ behind) zeros_quiet
-    (part-then IdMark (λ place. length zeros + place ≡ 96) Clocked Clocked Anything (word_cells 16 0xF57E) behind
+    part-skip IdMark (λ place. place ≡ 96) Clocked Anything Clocked zeros (word_cells 16 0xF57E ++ after) zeros_quiet
+    (part-then IdMark (λ place. length zeros + place ≡ 96) Clocked Clocked Anything (word_cells 16 0xF57E) after
     (λ rest clocked. (let one = id_mark_first rest clocked in ((λ place within test. (let e = one.0 place within test in omega (arith, e, size))), one.1)))
-    (behind_mark_quiet track content sector))
+    (after_mark_quiet track content sector))
 
 -- a byte has clocks, whatever follows
 byte_clocked : (byte : ℕ) (rest : List Bool) → Clocked (fm byte ++ rest)
 unfolding Clocked eight_clocks fits fm fm_cells word_cells
 byte_clocked byte rest = refl
 
-ring_clocked : (track : TrackId) (rest : List Bool) → Clocked (lead_in_cells track ++ rest)
-unfolding lead_in_cells rows_cells coded
-ring_clocked track rest =
-    let more = fm_bytes (replicate 6 0x00) ++ (word_cells 16 0xF77A ++ (fm_bytes (replicate 26 0xFF) ++ [])) in
-    subst Clocked (sym (append_assoc (fm_bytes (replicate 40 0xFF)) more rest ∙ append_assoc (fm 0xFF) (fm_bytes (replicate 39 0xFF)) (more ++ rest)))
-    (byte_clocked 0xFF (fm_bytes (replicate 39 0xFF) ++ (more ++ rest)))
+lead_in_clocked : (track : TrackId) (parts : List (Part Row))
+    → Clocked (coded false (part_cells (row_cells track)) false (parts_of 1 [] rows.lead_in ++ parts))
+unfolding coded
+lead_in_clocked track parts =
+    let others = parts_of 1 [] (Run 6 0x00 ∷ AMark Index ∷ Run 26 0xFF ∷ []) ++ parts in
+    let rest = coded false (part_cells (row_cells track)) false others in
+    subst Clocked (sym (append_assoc (fm 0xFF) (fm_bytes (replicate 39 0xFF)) rest)) (byte_clocked 0xFF (fm_bytes (replicate 39 0xFF) ++ rest))
 
-parts : (track : TrackId) (bytes : List ℕ) → ring_of track bytes
-    ≡ lead_in_cells track ++ (flat_map (sector_cells track bytes) (range_with_len 1 26) ++ lead_out_cells track)
-unfolding lead_in_cells sector_cells lead_out_cells
-parts track bytes = flat-ring (row_cells track) 1 26 128 bytes rows
+ring_clocked : (track : TrackId) (bytes : List ℕ) → Clocked (ring_of track bytes)
+unfolding ring_of_rows track_parts
+ring_clocked track bytes = lead_in_clocked track (flat_map (sector_parts 1 128 bytes rows) (range_with_len 1 26) ++ parts_of 1 [] rows.lead_out)
 
 -- so in the ring it begins where headers do
-pub id_marks : (track : TrackId) (bytes : List ℕ) → length bytes ≡ 3328
-    → Only IdMark (IsSyncPlace place_of 1 26 0) (ring_of track bytes) (ring_of track bytes)
-id_marks track bytes whole =
-    let first = lead_in_cells track in
-    let all = flat_map (sector_cells track bytes) (range_with_len 1 26) in
-    let last = lead_out_cells track in
-    let size = length-lead_in track in
-    let sectors = part-sectors IdMark Clocked (sector_cells track bytes) 3008 96 1 26
-    (λ s least most. length-sector_cells track bytes s whole least most)
-    (λ s least most. sector_part track bytes s) in
-    let here : ℕ → Type 0 = IsSyncPlace place_of 1 26 0 in
-    let part = part-skip IdMark here Clocked Clocked Clocked first (all ++ last) (lead_in_quiet track)
-    (part-then IdMark (λ place. here (length first + place)) Clocked Clocked Clocked all last
-    (λ rest clocked.
-    let at = sectors rest clocked in (
-      λ place within test.
-          let k = at.0 place within test in
-          (k.0 + 1, record { least = omega arith; most = omega (arith, k.1) }, omega (arith, k.2, size, place-is (k.0 + 1))),
-      at.1,
-    ))
-    (lead_out_quiet track)) in
-    subst (λ (ring : List Bool). Only IdMark here ring ring) (sym (parts track bytes)) (part (first ++ (all ++ last)) (ring_clocked track (all ++ last))).0
+pub own_syncs : (track : TrackId) → HasOwnSyncs 0xF57E 16 112 1 26 (NamesSector track) (place_of row_size 1 128 rows) (AreSectors 26 128) (ring_of track)
+unfolding total
+own_syncs track = record {
+  lead = 0;
+  rest = sync_rest;
+  short = omega (arith, length-sync_rest);
+  leads = λ cells s stands named. leads cells stands;
+  only = λ bytes given.
+      syncs-in_ring false (row_cells track) row_size (row_length track) 1 26 128 rows bytes given.whole IdMark Clocked 0
+      (λ before s number. sector_part track before s (bytes_of 1 128 bytes s))
+      (lead_in_quiet track) (lead_out_quiet track) (ring_clocked track bytes);
+}

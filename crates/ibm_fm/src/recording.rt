@@ -2,9 +2,11 @@ ghost use Rattle.std.specs.Prelude.{◌≡◌, ℕ, ◌+◌, false, refl};
 ghost use Rattle.std.proofs.Common.{lit≤, sym, ◌∙◌};
 ghost use Rattle.ibm_fm.specs.FrameLaws.{frame_stands};
 ghost use Rattle.ibm_fm.specs.Layout.{row_cells, row_size, rows};
+ghost use Rattle.ibm_fm.specs.OwnLaws.{tells};
 ghost use Rattle.ibm_fm.specs.RowLaws.{row_follows, row_length};
 ghost use Rattle.ibm_fm.specs.Sectors.{Hold, IsSync, IsTrack, NamesSector};
 ghost use Rattle.ibm_fm.specs.StandLaws.{bytes_held, one_name, sizes, sums, within_reach};
+ghost use Rattle.ibm_fm.specs.Syncs.{own_syncs};
 
 use crate::data_field::{first_sync, read_field};
 use crate::header::named_sector;
@@ -152,4 +154,8 @@ impl Layout for IbmFm {
 
     ghost frame_stands = { λ r track s bytes before rest known number fit long.
         frame_stands track s bytes before rest known number fit long };
+
+    ghost tells = { λ r track. tells track };
+
+    ghost own_syncs = { λ r track known. own_syncs track };
 }

@@ -2,6 +2,7 @@ ghost use Rattle.std.specs.Prelude.{◌≡◌, ℕ, length};
 ghost use Rattle.std.proofs.Common.{lit≤};
 ghost use Rattle.ibm_mfm.specs.Sectors.{HeaderStands, IsTrack, SectorStands};
 ghost use Rattle.ibm_mfm.specs.Layout.{FRAME_CELLS, place_of, ring_cells_of, ring_of};
+ghost use Rattle.ibm_mfm.specs.OwnLaws.{header_alone, header_own, no_header, sector_alone, sector_own};
 ghost use Rattle.ibm_mfm.specs.StandLaws.{sync_leads, one_header, one_content, header_number, content_size, sizes};
 ghost use Rattle.ibm_mfm.specs.RingLaws.{ring_length, ring_spaced, sector_stands, frame_whole};
 
@@ -135,4 +136,18 @@ impl Recording for IbmMfm {
 
     ghost frame_whole = { λ r track bytes s known sectors number.
         frame_whole r.sectors track bytes s known sectors number };
+
+    ghost frame_some = { λ r. lit≤ tt };
+
+    ghost header_alone = { λ r track cells s header. header_alone r.sectors track cells s header };
+
+    ghost sector_alone = { λ r track cells s xs sector. sector_alone r.sectors track cells s xs sector };
+
+    ghost header_own = { λ r track bytes s zeros from count behind place known sectors header.
+        header_own r.sectors track bytes known sectors s zeros from count behind place header };
+
+    ghost sector_own = { λ r track bytes s zeros from count behind place xs known sectors sector.
+        (sector_own r.sectors track bytes known sectors s zeros from count behind place xs sector).1 };
+
+    ghost no_header = { λ r track count s known header. no_header r.sectors track count s header };
 }

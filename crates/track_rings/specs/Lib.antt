@@ -6,6 +6,7 @@ pub mod Owning
 pub mod Parts
 pub mod Rings
 pub mod RowLaws
+pub mod RowSyncs
 pub mod Rows
 pub mod SectorParts
 pub mod Spaced
