@@ -2,7 +2,7 @@
 use Rattle.std.specs.Prelude.{◌≡◌, ◌≤◌, ℕ, ◌+◌, List, length, drop}
 use Rattle.cell_bits.specs.Broken.{Unbroken}
 use Rattle.flux_base.specs.declared.track.TrackId.{TrackId}
-use Rattle.frame_law.specs.Laws.{ReadingsAreAll, ReadingsAreOne, SectorsAreTold}
+use Rattle.frame_law.specs.Laws.{HasOnlyOwn, HasOnlyOwnBetweenZeros, ReadingsAreAll, ReadingsAreOne, SectorsAreTold, StandsAlone}
 use Rattle.sector_images.specs.Formats.{row, zone}
 use Rattle.sector_images.specs.Places.{IsSector, IsTrack}
 use Rattle.sector_images.specs.declared.format.Format.{Format}
@@ -40,3 +40,23 @@ FramesAreWhole = (format : Format) (id : DiskId) (track : TrackId) (bytes : List
     → IsSector format track s
     → (place_in_ring format track s + frame_cells format ≤ (zone format track.cylinder).ring_cells)
     × Unbroken (ring_at format id track bytes) (place_in_ring format track s) (place_in_ring format track s + frame_cells format)
+
+-- what stands on a track depends on its own cells alone, and nothing stands in cells without a one
+abbrev pub StandAlone : Type 0
+StandAlone = (format : Format) (track : TrackId) → IsTrack format track → StandsAlone (header_at format track) (sector_at format track)
+
+-- in any stretch of the repeated ring between zeros, what stands is one of the ring's own sectors
+abbrev pub OnlyOwnStand : Type 0
+OnlyOwnStand = (format : Format) (id : DiskId) (track : TrackId) (bytes : List ℕ) (zeros from count behind : ℕ) → IsTrack format track
+    → AreTrackBytes format track bytes
+    → HasOnlyOwnBetweenZeros (header_at format track) (sector_at format track) (ring_at format id track bytes)
+    (zone format track.cylinder).ring_cells (place_in_ring format track)
+    (bytes_of (row format).first_sector (row format).sector_size bytes) zeros from count behind
+
+-- in any stretch of it alone, and a header has its sector where the frame is not cut
+abbrev pub StretchesHaveOnlyOwn : Type 0
+StretchesHaveOnlyOwn = (format : Format) (id : DiskId) (track : TrackId) (bytes : List ℕ) (from count : ℕ) → IsTrack format track
+    → AreTrackBytes format track bytes
+    → HasOnlyOwn (header_at format track) (sector_at format track) (ring_at format id track bytes)
+    (zone format track.cylinder).ring_cells (place_in_ring format track)
+    (bytes_of (row format).first_sector (row format).sector_size bytes) (frame_cells format) from count

@@ -1,9 +1,9 @@
 //! What the laws of the recordings come to for the formats: for all tracks, ids, bytes and cells.
 
-ghost use Rattle.disk_recordings.specs.Laws.{FramesAreWhole, RingsHaveCells, SectorsStand, TracksAreRead};
+ghost use Rattle.disk_recordings.specs.Laws.{FramesAreWhole, OnlyOwnStand, RingsHaveCells, SectorsStand, StandAlone, StretchesHaveOnlyOwn, TracksAreRead};
 
 use crate::recordings::DiskRecording;
-use frame_law::{readings_are_all, rings_hold_sectors, sectors_are_told};
+use frame_law::{only_own, readings_are_all, rings_hold_sectors, sectors_are_told};
 
 /// The cells of a format's track tell what stands in them, and repeated searches find all of it, as one list.
 pub fn tracks_are_read()
@@ -21,4 +21,13 @@ pub fn tracks_have_rings()
     ensures whole { FramesAreWhole }
 {
     rings_hold_sectors::<DiskRecording>()
+}
+
+/// Nothing but its own sectors stands in the ring of a format's track, also in a stretch of it that zeros cut.
+pub fn tracks_have_only_own()
+    ensures alone { StandAlone }
+    ensures between_zeros { OnlyOwnStand }
+    ensures stretches { StretchesHaveOnlyOwn }
+{
+    only_own::<DiskRecording>()
 }
