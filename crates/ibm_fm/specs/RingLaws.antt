@@ -1,9 +1,8 @@
 -- The laws of the ring, as those of any table.
-use Rattle.std.specs.Prelude.{◌≡◌, ℕ, false, List, length, drop, refl}
+use Rattle.std.specs.Prelude.{◌≡◌, ℕ, false, List, length, drop}
 use Rattle.flux_base.specs.declared.track.TrackId.{TrackId}
-use Rattle.std.proofs.Common.{lit≤}
-use Rattle.track_rings.specs.Rings.{AreSectors, IsSectorNumber, IsSpaced, LiesAt, bytes_of, stretch}
-use Rattle.frame_law.specs.FrameLaws.{ring_length as ring_length-of, ring_spaced as ring_spaced-of, sector_stands as sector_stands-of}
+use Rattle.track_rings.specs.Rings.{AreSectors, IsSectorNumber, LiesAt, bytes_of, stretch}
+use Rattle.frame_law.specs.FrameLaws.{ring_length as ring_length-of, sector_stands as sector_stands-of}
 use Rattle.ibm_fm.specs.FrameLaws.{frame_stands}
 use Rattle.ibm_fm.specs.Layout.{FRAME_CELLS, place_of, ring_of, row_cells, row_size, rows}
 use Rattle.ibm_fm.specs.RowLaws.{row_follows, row_length}
@@ -13,11 +12,6 @@ use Rattle.ibm_fm.specs.StandLaws.{sizes, sums, within_reach}
 pub ring_length : (track : TrackId) (bytes : List ℕ) → AreSectors 26 128 bytes → length (ring_of track bytes) ≡ 83328
 ring_length track bytes sectors =
     ring_length-of false (row_cells track) row_size (row_length track) 1 26 128 rows bytes 83328 sectors.whole sums.1
-
-pub ring_spaced : (track : TrackId) (bytes : List ℕ) → AreSectors 26 128 bytes → IsSpaced 1 2 (ring_of track bytes)
-ring_spaced track bytes sectors =
-    ring_spaced-of false (row_cells track) row_size (row_length track) 1 26 128 rows 1 2 1 16 112 sizes
-    (λ s content row known. row_follows track s content row) bytes 384 2096 (lit≤ tt) within_reach sectors sums.0 (λ before. refl)
 
 pub sector_stands : (track : TrackId) (bytes : List ℕ) (s from count place : ℕ) → IsTrack track → AreSectors 26 128 bytes → IsSectorNumber 1 26 s
     → LiesAt 83328 (place_of s) FRAME_CELLS from count place

@@ -2,12 +2,12 @@
 use Rattle.std.specs.Prelude.{◌≡◌, ℕ, ◌+◌, ◌-◌, ◌*◌, Bool, List, length, refl}
 use Rattle.std.proofs.Common.{ap, sym, ◌∙◌, arith, lit≤, lit<}
 use Rattle.flux_base.specs.declared.track.TrackId.{TrackId}
-use Rattle.frame_law.specs.FrameLaws.{one_content as one_content-of, one_sync as one_sync-of}
+use Rattle.frame_law.specs.FrameLaws.{one_sync as one_sync-of}
 use Rattle.frame_law.specs.Frames.{AreSizes, IsDataSync, IsWithinReach}
 use Rattle.ibm_fields.specs.FieldLaws.{length-bytes_at}
 use Rattle.track_rings.specs.Rows.{frame_size, ring_size, total}
 use Rattle.ibm_fm.specs.Layout.{place_of, row_size, rows}
-use Rattle.ibm_fm.specs.Sectors.{HeaderStands, Hold, IsSync, NamesSector, SectorStands, address_of}
+use Rattle.ibm_fm.specs.Sectors.{Hold, IsSync, NamesSector, address_of}
 
 pub sizes : AreSizes 1 2 16 112 1
 sizes = record {
@@ -41,16 +41,5 @@ one_name track cells s t first second =
 pub bytes_held : (cells : List Bool) (sync : ℕ) (xs : List ℕ) → Hold cells sync xs → length xs ≡ 128
 bytes_held cells sync xs held = sym (ap length held.content) ∙ length-bytes_at cells (sync + 16) 128
 
-pub one_header : (track : TrackId) (cells : List Bool) (s t : ℕ) → HeaderStands track cells s → HeaderStands track cells t → s ≡ t
-one_header track cells s t first second = one_name track cells s t first.named second.named
-
 pub one_sync : (cells : List Bool) (p q : ℕ) → IsDataSync 112 (IsSync cells) p → IsDataSync 112 (IsSync cells) q → p ≡ q
 one_sync cells p q first second = one_sync-of 112 (IsSync cells) p q first second
-
-pub one_content : (track : TrackId) (cells : List Bool) (s t : ℕ) (xs ys : List ℕ)
-    → SectorStands track cells s xs → SectorStands track cells t ys → xs ≡ ys
-one_content track cells s t xs ys first second =
-    one_content-of 112 2096 IsSync Hold cells xs ys (λ sync us vs one other. sym one.content ∙ other.content) first.content second.content
-
-pub content_size : (track : TrackId) (cells : List Bool) (s : ℕ) (xs : List ℕ) → SectorStands track cells s xs → length xs ≡ 128
-content_size track cells s xs sector = bytes_held cells sector.content.sync xs sector.content.held
