@@ -31,6 +31,12 @@ pub record HasFullBench (b : BenchState) : Type 0 where
   pub for_overflows : LIMIT ≤ length b.overflows + b.spare_overflows
   pub for_indexes : MOST_MARKS ≤ length b.indexes + b.spare_indexes
 
+-- what was noted stays as it was
+pub record KeepsNotes (old new : BenchState) : Type 0 where
+  pub ends : new.ends ≡ old.ends
+  pub overflows : new.overflows ≡ old.overflows
+  pub indexes : new.indexes ≡ old.indexes
+
 -- no room is lower than it was
 pub record KeepsBenchRoom (old new : BenchState) : Type 0 where
   pub for_ends : length old.ends + old.spare_ends ≤ length new.ends + new.spare_ends
