@@ -2,6 +2,7 @@ pub mod Protocol
 pub mod Blocks
 pub mod Pieces
 pub mod Stream
+pub mod Reads
 pub mod Held
 pub mod Tally
 pub mod Outcome
