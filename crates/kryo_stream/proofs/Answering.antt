@@ -20,7 +20,7 @@ use Rattle.kryo_stream.specs.Pieces.{Reading, piece_at}
 use Rattle.kryo_stream.specs.Stream.{total_bytes, ticks, marks, index_time, block_of_byte, is_in_stream, in_stream_bytes, block_ticks, pieces, is_end, turn_fault, indexes_of}
 use Rattle.kryo_stream.specs.Outcome.{Answer, Says, IsTruncated, IsCut, IsRead, IsReadOfInput, DoNotTell, input_of, HasFullRoom, IsSmall, IsNotMemory, TrackCause}
 use Rattle.kryo_stream.specs.Tally.{at_start, behind, new_times, IsWithin, MayFollow, IsTally}
-use Rattle.kryo_stream.specs.Reads.{Moment, Takes}
+use Rattle.kryo_stream.specs.Reads.{SourceMoment, Takes}
 use Rattle.kryo_stream.specs.Progress.{TakesOpenly, IsReading, Progress, IsBlockOpen, TakesBlock}
 use Rattle.kryo_stream.proofs.BenchLemmas.{marks-length, marks-samples}
 use Rattle.kryo_stream.proofs.Pieces.{piece_at-follows}
@@ -29,7 +29,7 @@ use Rattle.kryo_stream.proofs.Taking.{Takes-nothing, Takes-trans}
 use Rattle.kryo_stream.proofs.Tallies.{IsTally-push}
 use Rattle.kryo_stream.proofs.Turnings.{turn_fault-not}
 
-pub Progress-start : (m : Moment) (held : List ℕ) (bench : BenchState) → IsNoted [] bench
+pub Progress-start : (m : SourceMoment) (held : List ℕ) (bench : BenchState) → IsNoted [] bench
     → Progress m m held held 0 at_start [] bench
 Progress-start m held bench noted = record {
   taken = [];
@@ -38,7 +38,7 @@ Progress-start m held bench noted = record {
 }
 
 -- the bytes from the next block on, with those that were taken for it
-at_block : {old mid new : Moment} {held now : List ℕ} {n : ℕ} {b : Before} {ts : List ℕ} {bench : BenchState} (taken : List ℕ)
+at_block : {old mid new : SourceMoment} {held now : List ℕ} {n : ℕ} {b : Before} {ts : List ℕ} {bench : BenchState} (taken : List ℕ)
     → Progress old mid held now n b ts bench → Takes (IsBlockOpen b now) mid new taken → Progress old new held (now ++ taken) n b ts bench
 at_block {old} {mid} {new} {held} {now} {n} {b} {ts} {bench} taken p takes =
     let reading : (more : List ℕ) → IsReading (held ++ (p.taken ++ more)) n (now ++ more) b ts bench =
@@ -50,7 +50,7 @@ at_block {old} {mid} {new} {held} {now} {n} {b} {ts} {bench} taken p takes =
       reading = reading taken;
     }
 
-pub Progress-push : {old mid new : Moment} {held now next : List ℕ} {n : ℕ} {b : Before} {ts : List ℕ} {bench : BenchState} (p : Piece) (bench' : BenchState)
+pub Progress-push : {old mid new : SourceMoment} {held now next : List ℕ} {n : ℕ} {b : Before} {ts : List ℕ} {bench : BenchState} (p : Piece) (bench' : BenchState)
     → Progress old mid held now n b ts bench → TakesBlock mid new now next b (Ok (Ok p))
     → is_end p.block ≡ false → IsWithin (behind b p)
     → ((ps : List Piece) → IsNoted ps bench → length ps ≡ n → in_stream_bytes ps ≡ b.counted → IsNoted (ps ++ p ∷ []) bench')
@@ -68,13 +68,13 @@ Progress-push {old} {mid} {new} {held} {now} {next} {n} {b} {ts} {bench} p bench
     }
 
 -- the bytes at hand are few, since the blocks that were read are within the limit
-pub few_at_hand : {old new : Moment} {held rest : List ℕ} {n : ℕ} {b : Before} {ts : List ℕ} {bench : BenchState}
+pub few_at_hand : {old new : SourceMoment} {held rest : List ℕ} {n : ℕ} {b : Before} {ts : List ℕ} {bench : BenchState}
     → (p : Progress old new held rest n b ts bench) → b.offset + length rest ≤ 4198400 → length (held ++ p.taken) ≤ 0 + 4198400
 few_at_hand {held = held} {rest = rest} {b = b} p bound =
     let size : length rest ≡ length (held ++ p.taken) - b.offset = ap length p.reading.place ∙ length-drop b.offset (held ++ p.taken) in
     omega (arith, size, bound, p.reading.inside)
 
-pub read_refused : {old mid new : Moment} {held now next : List ℕ} {n : ℕ} {b : Before} {ts : List ℕ} {bench : BenchState} (flux : TrackState) (fault : StreamFault)
+pub read_refused : {old mid new : SourceMoment} {held now next : List ℕ} {n : ℕ} {b : Before} {ts : List ℕ} {bench : BenchState} (flux : TrackState) (fault : StreamFault)
     → Progress old mid held now n b ts bench → TakesBlock mid new now next b (Ok (Err fault))
     → IsRead old.left new.left false held next flux (Err (Refused n fault))
 read_refused {old} {mid} {new} {held} {now} {next} {n} {b} {ts} {bench} flux fault r t =
@@ -87,7 +87,7 @@ read_refused {old} {mid} {new} {held} {now} {next} {n} {b} {ts} {bench} flux fau
       cut = tt;
     }
 
-pub read_failed : {old mid new : Moment} {held now next : List ℕ} {n : ℕ} {b : Before} {ts : List ℕ} {bench : BenchState} (flux : TrackState) (failed : Failed)
+pub read_failed : {old mid new : SourceMoment} {held now next : List ℕ} {n : ℕ} {b : Before} {ts : List ℕ} {bench : BenchState} (flux : TrackState) (failed : Failed)
     → Progress old mid held now n b ts bench → TakesBlock mid new now next b (Err failed)
     → IsRead old.left new.left false held next flux (Err ReadFault)
 read_failed {old} {mid} {new} {held} {now} {next} {n} {b} {ts} {bench} flux failed r t =
@@ -100,7 +100,7 @@ read_failed {old} {mid} {new} {held} {now} {next} {n} {b} {ts} {bench} flux fail
       cut = (n, first_fault-here (held ++ here.taken) n (now ++ t.taken) b ts bench Truncated here.reading t.says);
     }
 
-pub read_memory : {old mid new : Moment} {held now next : List ℕ} {n : ℕ} {b : Before} {ts : List ℕ} {bench : BenchState} (flux : TrackState) (answer : Result Reading Failed)
+pub read_memory : {old mid new : SourceMoment} {held now next : List ℕ} {n : ℕ} {b : Before} {ts : List ℕ} {bench : BenchState} (flux : TrackState) (answer : Result Reading Failed)
     → Progress old mid held now n b ts bench → TakesBlock mid new now next b answer
     → IsRead old.left new.left false held next flux (Err Memory)
 read_memory {old} {mid} {new} {held} {now} {next} {n} {b} {ts} {bench} flux answer r t =
@@ -114,7 +114,7 @@ read_memory {old} {mid} {new} {held} {now} {next} {n} {b} {ts} {bench} flux answ
     }
 
 -- what was taken for a block was needed
-pub taken_for_block : {old mid new : Moment} {held now next : List ℕ} {n : ℕ} {b : Before} {ts : List ℕ} {bench : BenchState} {answer : Result Reading Failed}
+pub taken_for_block : {old mid new : SourceMoment} {held now next : List ℕ} {n : ℕ} {b : Before} {ts : List ℕ} {bench : BenchState} {answer : Result Reading Failed}
     → Progress old mid held now n b ts bench → TakesBlock mid new now next b answer → (taken : List ℕ) × TakesOpenly false held old new taken
 taken_for_block r t = let here = at_block t.taken r t.takes in (here.taken, here.takes)
 
@@ -128,7 +128,7 @@ end-within b p is within follows =
     }
 
 -- the End was read: all blocks are noted, and what is left stands behind it
-pub record AtEnd (old new : Moment) (held next : List ℕ) (n : ℕ) (b : Before) (ts : List ℕ) (bench bench' : BenchState) (p : Piece)
+pub record AtEnd (old new : SourceMoment) (held next : List ℕ) (n : ℕ) (b : Before) (ts : List ℕ) (bench bench' : BenchState) (p : Piece)
     (transitions : List ℕ) : Type 0 where
   pub rest : List ℕ
   pub progress : Progress old new held rest n b ts bench
@@ -141,7 +141,7 @@ pub record AtEnd (old new : Moment) (held next : List ℕ) (n : ℕ) (b : Before
   pub in_order : All (λ t. t ≤ 274877906944) transitions
   pub complete : IsComplete (pieces (held ++ progress.taken) n ++ p ∷ []) bench' transitions b.counted n
 
-pub at_end : {old mid new : Moment} {held now next : List ℕ} {n : ℕ} {b : Before} {ts : List ℕ} {bench bench' : BenchState} (p : Piece)
+pub at_end : {old mid new : SourceMoment} {held now next : List ℕ} {n : ℕ} {b : Before} {ts : List ℕ} {bench bench' : BenchState} (p : Piece)
     (transitions : List ℕ) → Progress old mid held now n b ts bench → TakesBlock mid new now next b (Ok (Ok p)) → p.block ≡ End
     → ((ps : List Piece) → IsNoted ps bench → length ps ≡ n → in_stream_bytes ps ≡ b.counted → IsNoted (ps ++ p ∷ []) bench')
     → transitions ≡ ts ++ new_times b.time p.block
@@ -175,7 +175,7 @@ at_end {old} {mid} {new} {held} {now} {next} {n} {b} {ts} {bench} {bench'} p tra
     }
 
 -- some blocks complete the bench
-pub complete : {old new : Moment} {held next : List ℕ} {n : ℕ} {b : Before} {ts : List ℕ} {bench bench' : BenchState} {p : Piece} {transitions : List ℕ}
+pub complete : {old new : SourceMoment} {held next : List ℕ} {n : ℕ} {b : Before} {ts : List ℕ} {bench bench' : BenchState} {p : Piece} {transitions : List ℕ}
     → AtEnd old new held next n b ts bench bench' p transitions → (ps : List Piece) × IsComplete ps bench' transitions b.counted n
 complete {held = held} {n = n} {p = p} e = (pieces (held ++ e.progress.taken) n ++ p ∷ [], e.complete)
 
@@ -218,7 +218,7 @@ end_cut ps (Err ReadFault) spare x err = absurd err
 end_cut ps (Err Memory) spare x err = tt
 end_cut ps (Err (Refused block fault)) spare x err = tt
 
-pub read_end : {old new : Moment} {held next : List ℕ} {n : ℕ} {b : Before} {ts : List ℕ} {bench bench' : BenchState} {p : Piece} {transitions : List ℕ}
+pub read_end : {old new : SourceMoment} {held next : List ℕ} {n : ℕ} {b : Before} {ts : List ℕ} {bench bench' : BenchState} {p : Piece} {transitions : List ℕ}
     (flux : TrackState) (answer : Answer) (spare : ℕ) → AtEnd old new held next n b ts bench bench' p transitions → p.block ≡ End
     → transitions ≡ ts ++ new_times b.time p.block → flux.times ≡ transitions
     → OnOk answer ((ps : List Piece) → IsComplete ps bench' transitions b.counted n → turn_fault ps ≡ None)
@@ -277,7 +277,7 @@ IsRead-told {left} {left'} {used} {held} {held'} flux answer bytes r told =
     told_after left' used held held' flux answer bytes r.taken (subst (λ l. Consumes l left' r.taken) told r.consumed) r.says r.ended
 
 -- where there is full room, a block finds room
-pub note_finds_room : {old mid new : Moment} {held now next : List ℕ} {n : ℕ} {b : Before} {p : Piece} (Q : Type 0) (flux flux' : TrackState) (bench bench' : BenchState)
+pub note_finds_room : {old mid new : SourceMoment} {held now next : List ℕ} {n : ℕ} {b : Before} {p : Piece} (Q : Type 0) (flux flux' : TrackState) (bench bench' : BenchState)
     → Progress old mid held now n b flux'.times bench' → TakesBlock mid new now next b (Ok (Ok p))
     → HasFullRoom flux → KeepsRoom flux flux' → HasFullBench bench → KeepsBenchRoom bench bench'
     → (0 < flux'.spare_times → HasFullBench bench' → (ps : List Piece) → IsNoted ps bench' → total_bytes ps + p.bytes ≤ 4194304 → Q) → Q
@@ -293,7 +293,7 @@ note_finds_room {held = held} {now = now} {n = n} {b = b} {p = p} Q flux flux' b
     (pieces (held ++ r.taken) n) r.reading.noted (omega (arith, r.reading.tally.offset, follows.0.room))
 
 -- where there is full room, the index times find room
-pub end_finds_room : {old new : Moment} {held next : List ℕ} {n : ℕ} {b : Before} {ts : List ℕ} {bench bench' : BenchState} {p : Piece} {transitions : List ℕ}
+pub end_finds_room : {old new : SourceMoment} {held next : List ℕ} {n : ℕ} {b : Before} {ts : List ℕ} {bench bench' : BenchState} {p : Piece} {transitions : List ℕ}
     (answer : Answer) (spare : ℕ) → AtEnd old new held next n b ts bench bench' p transitions → 262144 ≤ spare
     → IfErr answer (λ fault. (ps : List Piece) → IsComplete ps bench' transitions b.counted n → TurnCause ps spare fault) → IsNotMemory answer
 end_finds_room (Ok _) spare e room err = tt
@@ -306,7 +306,7 @@ end_finds_room {held = held} {n = n} {p = p} (Err Memory) spare e room err =
     absurd (omega (arith, many, few, room, e.complete.limit))
 
 -- no source is read for the turns
-pub end_cause : {old new : Moment} {held next : List ℕ} {n : ℕ} {b : Before} {ts : List ℕ} {bench bench' : BenchState} {p : Piece} {transitions : List ℕ}
+pub end_cause : {old new : SourceMoment} {held next : List ℕ} {n : ℕ} {b : Before} {ts : List ℕ} {bench bench' : BenchState} {p : Piece} {transitions : List ℕ}
     (before now : ℕ) (answer : Answer) (spare : ℕ) → AtEnd old new held next n b ts bench bench' p transitions
     → IfErr answer (λ fault. (ps : List Piece) → IsComplete ps bench' transitions b.counted n → TurnCause ps spare fault)
     → TrackCause before now answer
@@ -323,7 +323,7 @@ index_times-within ps sizes early = All-map (λ time. time < 2 ^ 39) (index_time
     (marks ps) (marks-samples ps sizes))
 
 -- the track is as small as the limit makes it
-pub end_small : {old new : Moment} {held next : List ℕ} {n : ℕ} {b : Before} {ts : List ℕ} {bench bench' : BenchState} {p : Piece} {transitions : List ℕ}
+pub end_small : {old new : SourceMoment} {held next : List ℕ} {n : ℕ} {b : Before} {ts : List ℕ} {bench bench' : BenchState} {p : Piece} {transitions : List ℕ}
     (flux : TrackState) (answer : Answer) → AtEnd old new held next n b ts bench bench' p transitions → flux.times ≡ transitions
     → OnOk answer ((ps : List Piece) → IsComplete ps bench' transitions b.counted n → flux.indexes ≡ indexes_of ps)
     → OnOk answer (IsSmall flux)

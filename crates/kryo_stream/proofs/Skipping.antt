@@ -11,12 +11,12 @@ use Rattle.kryo_stream.specs.declared.intake.More.TheVariants.{Taken, End}
 use Rattle.kryo_stream.specs.Held.{Took}
 use Rattle.kryo_stream.specs.Pieces.{Reading, piece, piece_at, IsText}
 use Rattle.kryo_stream.specs.Progress.{BlockSays, IsBlockOpen, TakesBlock, AreFew, IsPassing, IsSkipped}
-use Rattle.kryo_stream.specs.Reads.{Moment, Takes, IsNothing}
+use Rattle.kryo_stream.specs.Reads.{SourceMoment, Takes, IsNothing}
 use Rattle.kryo_stream.specs.Tally.{IsWithin}
 use Rattle.kryo_stream.proofs.Pieces.{piece_at-text_whole, piece_at-text_cut}
 use Rattle.kryo_stream.proofs.Taking.{Takes-nothing, Takes-trans, Takes-other}
 
-pub IsPassing-start : (m : Moment) (held : List ℕ) (count : ℕ) → IsPassing m m held held count 0
+pub IsPassing-start : (m : SourceMoment) (held : List ℕ) (count : ℕ) → IsPassing m m held held count 0
 IsPassing-start m held count = record {
   taken = [];
   takes = Takes-nothing (AreFew count held) m;
@@ -25,7 +25,7 @@ IsPassing-start m held count = record {
 }
 
 -- some of the held bytes are passed over
-pub IsPassing-pass : {old new : Moment} {held held' : List ℕ} {count gone : ℕ} (here next : ℕ) → IsPassing old new held held' count gone
+pub IsPassing-pass : {old new : SourceMoment} {held held' : List ℕ} {count gone : ℕ} (here next : ℕ) → IsPassing old new held held' count gone
     → here ≤ length held' → next ≡ gone + here → IsPassing old new held (drop here held') count next
 IsPassing-pass {held = held} {held' = held'} {gone = gone} here next p few is =
     let rest : length held' ≡ length (held ++ p.taken) - gone = ap length p.place ∙ length-drop gone (held ++ p.taken) in record {
@@ -36,14 +36,14 @@ IsPassing-pass {held = held} {held' = held'} {gone = gone} here next p few is =
     }
 
 -- all that is held was passed over
-length_gone : {old new : Moment} {held held' : List ℕ} {count gone : ℕ} → (p : IsPassing old new held held' count gone)
+length_gone : {old new : SourceMoment} {held held' : List ℕ} {count gone : ℕ} → (p : IsPassing old new held held' count gone)
     → length held' ≡ 0 → length (held ++ p.taken) ≡ gone
 length_gone {held = held} {held' = held'} {gone = gone} p nothing =
     let rest : length held' ≡ length (held ++ p.taken) - gone = ap length p.place ∙ length-drop gone (held ++ p.taken) in
     omega (arith, rest, nothing, p.inside)
 
 -- more bytes are taken, where those that were held are not enough
-pub IsPassing-took : {old mid new : Moment} {held now next : List ℕ} {count gone : ℕ} → IsPassing old mid held now count gone
+pub IsPassing-took : {old mid new : SourceMoment} {held now next : List ℕ} {count gone : ℕ} → IsPassing old mid held now count gone
     → Took IsNothing mid new now next → length now ≡ 0 → gone < count → IsPassing old new held next count gone
 IsPassing-took {held = held} {now = now} {count = count} {gone = gone} p t nothing short =
     let few : AreFew count held p.taken = omega (arith, length_gone p nothing, short) in record {
@@ -55,14 +55,14 @@ IsPassing-took {held = held} {now = now} {count = count} {gone = gone} p t nothi
     }
 
 -- all that is held is passed over, and more bytes are taken
-pub IsPassing-on : {old mid new : Moment} {held now between next : List ℕ} {count gone : ℕ} (here later : ℕ) → IsPassing old mid held now count gone
+pub IsPassing-on : {old mid new : SourceMoment} {held now between next : List ℕ} {count gone : ℕ} (here later : ℕ) → IsPassing old mid held now count gone
     → here ≡ length now → later ≡ gone + here → later < count → between ≡ drop here now → Took IsNothing mid new between next
     → IsPassing old new held next count later
 IsPassing-on {old} {mid} {new} {held} {now} {between} {next} {count} {gone} here later p all is short place t =
     IsPassing-took (subst (λ h. IsPassing old mid held h count later) (sym place) (IsPassing-pass here later p (omega (arith, all)) is)) t
     (omega (arith, ap length place, length-drop here now, all)) short
 
-pub skipped_all : {old new : Moment} {held held' : List ℕ} {count gone : ℕ} → IsPassing old new held held' count gone
+pub skipped_all : {old new : SourceMoment} {held held' : List ℕ} {count gone : ℕ} → IsPassing old new held held' count gone
     → gone ≡ count → IsSkipped old new held held' count (Ok Taken)
 skipped_all {held = held} p is = record {
   taken = p.taken;
@@ -70,7 +70,7 @@ skipped_all {held = held} p is = record {
   says = (omega (arith, p.inside, is), p.place ∙ ap (λ n. drop n (held ++ p.taken)) is);
 }
 
-pub skipped_to_end : {old new : Moment} {held held' : List ℕ} {count gone : ℕ} → IsPassing old new held held' count gone
+pub skipped_to_end : {old new : SourceMoment} {held held' : List ℕ} {count gone : ℕ} → IsPassing old new held held' count gone
     → length held' ≡ 0 → gone < count → IsAtEnd new.left → IsSkipped old new held held' count (Ok End)
 skipped_to_end p none short ended = record {
   taken = p.taken;
@@ -78,7 +78,7 @@ skipped_to_end p none short ended = record {
   says = (omega (arith, length_gone p none, short), ended);
 }
 
-pub skipped_to_failure : {old new : Moment} {held held' : List ℕ} {count gone : ℕ} (failed : Failed) → IsPassing old new held held' count gone
+pub skipped_to_failure : {old new : SourceMoment} {held held' : List ℕ} {count gone : ℕ} (failed : Failed) → IsPassing old new held held' count gone
     → length held' ≡ 0 → gone < count → IsSkipped old new held held' count (Err failed)
 skipped_to_failure failed p none short = record {
   taken = p.taken;
@@ -87,12 +87,12 @@ skipped_to_failure failed p none short = record {
 }
 
 -- a text of which bytes are to come is not told
-text_takes : {old new : Moment} {held taken : List ℕ} (b : Before) (size : ℕ) → IsText b.offset held size
+text_takes : {old new : SourceMoment} {held taken : List ℕ} (b : Before) (size : ℕ) → IsText b.offset held size
     → Takes (AreFew (4 + size) held) old new taken → Takes (IsBlockOpen b held) old new taken
 text_takes {held = held} b size text takes = Takes-other takes (λ t few. piece_at-text_cut b held t size text few)
 
 -- a text that was passed over is a block
-pub text_taken : {old new : Moment} {held held' : List ℕ} (b : Before) (size : ℕ) → IsText b.offset held size
+pub text_taken : {old new : SourceMoment} {held held' : List ℕ} (b : Before) (size : ℕ) → IsText b.offset held size
     → IsSkipped old new held held' (4 + size) (Ok Taken) → length held' ≤ 4096
     → TakesBlock old new held held' b (Ok (piece (Info size) (4 + size)))
 text_taken {held = held} {held' = held'} b size text s bound =
@@ -103,7 +103,7 @@ text_taken {held = held} {held' = held'} b size text s bound =
       says = (piece_at-text_whole b held s.taken size text s.says.0, s.says.1);
     }
 
-pub text_cut : {old new : Moment} {held held' : List ℕ} (b : Before) (size : ℕ) → IsText b.offset held size
+pub text_cut : {old new : SourceMoment} {held held' : List ℕ} (b : Before) (size : ℕ) → IsText b.offset held size
     → IsSkipped old new held held' (4 + size) (Ok End) → TakesBlock old new held held' b (Ok (Err Truncated))
 text_cut {held = held} b size text s = record {
   taken = s.taken;
@@ -112,7 +112,7 @@ text_cut {held = held} b size text s = record {
   says = (piece_at-text_cut b held s.taken size text s.says.0, λ _. s.says.1);
 }
 
-pub text_failed : {old new : Moment} {held held' : List ℕ} (b : Before) (size : ℕ) (failed : Failed) → IsText b.offset held size
+pub text_failed : {old new : SourceMoment} {held held' : List ℕ} (b : Before) (size : ℕ) (failed : Failed) → IsText b.offset held size
     → IsSkipped old new held held' (4 + size) (Err failed) → TakesBlock old new held held' b (Err failed)
 text_failed {held = held} b size failed text s = record {
   taken = s.taken;
@@ -122,7 +122,7 @@ text_failed {held = held} b size failed text s = record {
 }
 
 -- bytes that stand at hand without being passed over
-pub at_hand : {old new : Moment} {held now next : List ℕ} (b : Before) (answer : Result Reading Failed) → IsWithin b
+pub at_hand : {old new : SourceMoment} {held now next : List ℕ} (b : Before) (answer : Result Reading Failed) → IsWithin b
     → Took (IsBlockOpen b held) old new held now → length now ≤ 4096 → BlockSays b answer now next new.left → TakesBlock old new held next b answer
 at_hand {new = new} {next = next} b answer within t bound says = record {
   taken = t.taken;
@@ -132,7 +132,7 @@ at_hand {new = new} {next = next} b answer within t bound says = record {
 }
 
 -- then the bytes that are taken after it count too
-pub took_before : {old mid new : Moment} {held now next : List ℕ} (b : Before) (answer : Result Reading Failed)
+pub took_before : {old mid new : SourceMoment} {held now next : List ℕ} (b : Before) (answer : Result Reading Failed)
     → Took (IsBlockOpen b held) old mid held now → TakesBlock mid new now next b answer → TakesBlock old new held next b answer
 took_before {new = new} {held = held} {now = now} {next = next} b answer t k =
     let joined : (more : List ℕ) → now ++ more ≡ held ++ (t.taken ++ more) =
@@ -144,7 +144,7 @@ took_before {new = new} {held = held} {now = now} {next = next} b answer t k =
     }
 
 -- a block that is held whole needs no byte more
-pub takes_held : (m : Moment) (held held' : List ℕ) (b : Before) (p : Piece) → b.offset ≤ 4194304 → length held ≤ 4096
+pub takes_held : (m : SourceMoment) (held held' : List ℕ) (b : Before) (p : Piece) → b.offset ≤ 4194304 → length held ≤ 4096
     → piece_at b.offset b.counted b.ended held ≡ Ok p → held' ≡ drop p.bytes held → TakesBlock m m held held' b (Ok (Ok p))
 takes_held m held held' b p within bound reads place = record {
   taken = [];

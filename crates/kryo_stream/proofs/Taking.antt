@@ -7,7 +7,7 @@ use Rattle.std.specs.Io.KnownBytes.{Keeps, Consumes}
 use Rattle.flux_base.specs.Outside.{Gives}
 use Rattle.kryo_stream.specs.Held.{Took}
 use Rattle.kryo_stream.specs.Outcome.{DoNotTell, IsReadWhereNeeded}
-use Rattle.kryo_stream.specs.Reads.{Moment, AreNeeded, Takes, IsNothing}
+use Rattle.kryo_stream.specs.Reads.{SourceMoment, AreNeeded, Takes, IsNothing}
 
 Gives-nil : (given : Option (List (List ℕ))) → Gives given given []
 Gives-nil None = tt
@@ -53,7 +53,7 @@ both_none (p ∷ ps) qs none = absurd (some none)
     some : {x : List ℕ} {xs : List (List ℕ)} → x ∷ xs ≡ [] → ⊥
     some same = cc
 
-pub Takes-nothing : (IsOpen : List ℕ → Type 0) (m : Moment) → Takes IsOpen m m []
+pub Takes-nothing : (IsOpen : List ℕ → Type 0) (m : SourceMoment) → Takes IsOpen m m []
 Takes-nothing IsOpen m = record {
   consumed = Consumes-nil m.left;
   pieces = [];
@@ -63,7 +63,7 @@ Takes-nothing IsOpen m = record {
   still = λ _. refl;
 }
 
-pub Takes-trans : {P Q : List ℕ → Type 0} {old mid new : Moment} {a b : List ℕ} → Takes P old mid a → Takes Q mid new b
+pub Takes-trans : {P Q : List ℕ → Type 0} {old mid new : SourceMoment} {a b : List ℕ} → Takes P old mid a → Takes Q mid new b
     → ((t : List ℕ) → Q t → P (a ++ t)) → Takes P old new (a ++ b)
 Takes-trans {P} {Q} {old} {mid} {new} {a} {b} first second opens =
     let later : AreNeeded P (a ++ []) second.pieces = AreNeeded-after Q P a [] second.pieces opens second.needed in
@@ -76,7 +76,7 @@ Takes-trans {P} {Q} {old} {mid} {new} {a} {b} first second opens =
       still = λ none. let each = both_none first.pieces second.pieces none in second.still each.1 ∙ first.still each.0;
     }
 
-pub Takes-other : {P Q : List ℕ → Type 0} {old new : Moment} {a : List ℕ} → Takes P old new a → ((t : List ℕ) → P t → Q t) → Takes Q old new a
+pub Takes-other : {P Q : List ℕ → Type 0} {old new : SourceMoment} {a : List ℕ} → Takes P old new a → ((t : List ℕ) → P t → Q t) → Takes Q old new a
 Takes-other {P} {Q} t opens = record {
   consumed = t.consumed;
   pieces = t.pieces;
@@ -90,7 +90,7 @@ one_some : (piece : List ℕ) → piece ∷ [] ≡ [] → ⊥
 one_some piece same = cc
 
 -- one read that gave bytes, or none
-pub Takes-read : {old new : Moment} (bytes : List ℕ) → Consumes old.left new.left bytes → Gives old.given new.given (bytes ∷ [])
+pub Takes-read : {old new : SourceMoment} (bytes : List ℕ) → Consumes old.left new.left bytes → Gives old.given new.given (bytes ∷ [])
     → Takes IsNothing old new bytes
 Takes-read bytes consumed gave = record {
   consumed = consumed;
@@ -107,14 +107,14 @@ keeps-nothing (Some xs) None keeps = absurd keeps
 keeps-nothing (Some xs) (Some ys) keeps = sym keeps
 
 -- one read that failed
-pub Takes-failed : {old new : Moment} → Keeps old.left new.left → Gives old.given new.given ([] ∷ []) → Takes IsNothing old new []
+pub Takes-failed : {old new : SourceMoment} → Keeps old.left new.left → Gives old.given new.given ([] ∷ []) → Takes IsNothing old new []
 Takes-failed {old} {new} keeps gave = Takes-read [] (keeps-nothing old.left new.left keeps) gave
 
-pub Took-nothing : {IsOpen : List ℕ → Type 0} (m : Moment) (held : List ℕ) → Took IsOpen m m held held
+pub Took-nothing : {IsOpen : List ℕ → Type 0} (m : SourceMoment) (held : List ℕ) → Took IsOpen m m held held
 Took-nothing {IsOpen} m held = record { taken = []; takes = Takes-nothing IsOpen m; grown = sym (append-nil held) }
 
 -- one read more, where the question is still open
-pub Took-more : {IsOpen : List ℕ → Type 0} {old mid new : Moment} {held between held' : List ℕ}
+pub Took-more : {IsOpen : List ℕ → Type 0} {old mid new : SourceMoment} {held between held' : List ℕ}
     → (a : Took IsOpen old mid held between) → Took IsNothing mid new between held' → IsOpen a.taken → Took IsOpen old new held held'
 Took-more {IsOpen} {held = held} a b still_open = record {
   taken = a.taken ++ b.taken;
@@ -123,7 +123,7 @@ Took-more {IsOpen} {held = held} a b still_open = record {
 }
 
 -- what a call says of its reads
-pub reads_needed : {old new : Moment} {used : Bool} {held taken : List ℕ} → Takes (λ so_far. DoNotTell used (held ++ so_far)) old new taken
+pub reads_needed : {old new : SourceMoment} {used : Bool} {held taken : List ℕ} → Takes (λ so_far. DoNotTell used (held ++ so_far)) old new taken
     → IsReadWhereNeeded old new used held
 reads_needed {old} {new} {used} {held} {taken} t = record {
   pieces = t.pieces;

@@ -15,7 +15,7 @@ use Rattle.kryo_stream.specs.Held.{Took}
 use Rattle.kryo_stream.specs.Outcome.{Answer, Says, IsCut, IsRead, DoNotTell, IsReadWhereNeeded, input_of}
 use Rattle.kryo_stream.specs.Padding.{padding_of, unpadded, is_padding}
 use Rattle.kryo_stream.specs.Progress.{TakesOpenly, IsUnpadded}
-use Rattle.kryo_stream.specs.Reads.{Moment}
+use Rattle.kryo_stream.specs.Reads.{SourceMoment}
 use Rattle.kryo_stream.specs.Stream.{first_fault}
 use Rattle.kryo_stream.proofs.Taking.{Takes-nothing, Takes-trans, reads_needed}
 
@@ -28,7 +28,7 @@ padding_of-few : (x : List ℕ) → padding_of x ≤ 16
 padding_of-few x = omega (arith, length-take-within (prefix_len (is_padding x) (range_with_len 0 16)) (range_with_len 0 16), length-range_with_len 0 16)
 
 -- padding whose end is known
-pub padding_passed : {old new : Moment} {held now : List ℕ} (count : ℕ) → Took (λ so_far. DoNotTell true (held ++ so_far)) old new held now
+pub padding_passed : {old new : SourceMoment} {held now : List ℕ} (count : ℕ) → Took (λ so_far. DoNotTell true (held ++ so_far)) old new held now
     → ((later : List ℕ) → padding_of (now ++ later) ≡ count) → count ≤ length now
     → IsUnpadded old new true held (drop count now) (Ok Taken)
 padding_passed {now = now} count t settled within =
@@ -50,7 +50,7 @@ pub padding_open : (held taken now : List ℕ) → now ≡ held ++ taken → pad
 padding_open held taken now grown whole = (0, ap first_fault (padding_whole held taken now grown whole))
 
 -- nothing but padding
-pub padding_to_end : {old new : Moment} {held now : List ℕ} (rest : List ℕ) → Took (λ so_far. DoNotTell true (held ++ so_far)) old new held now
+pub padding_to_end : {old new : SourceMoment} {held now : List ℕ} (rest : List ℕ) → Took (λ so_far. DoNotTell true (held ++ so_far)) old new held now
     → padding_of now ≡ length now → length now ≤ 16 → IsAtEnd new.left → IsUnpadded old new true held rest (Ok End)
 padding_to_end {held = held} {now = now} rest t whole few ended = record {
   taken = t.taken;
@@ -58,7 +58,7 @@ padding_to_end {held = held} {now = now} rest t whole few ended = record {
   says = (padding_whole held t.taken now t.grown whole, omega (arith, few, ap length t.grown), ended);
 }
 
-pub padding_to_failure : {old new : Moment} {held now : List ℕ} (rest : List ℕ) (failed : Failed)
+pub padding_to_failure : {old new : SourceMoment} {held now : List ℕ} (rest : List ℕ) (failed : Failed)
     → Took (λ so_far. DoNotTell true (held ++ so_far)) old new held now
     → padding_of now ≡ length now → length now ≤ 16 → IsUnpadded old new true held rest (Err failed)
 padding_to_failure {held = held} {now = now} rest failed t whole few = record {
@@ -68,7 +68,7 @@ padding_to_failure {held = held} {now = now} rest failed t whole few = record {
 }
 
 -- through a fresh intake there is no padding
-pub no_padding : (m : Moment) (held : List ℕ) → IsUnpadded m m false held held (Ok Taken)
+pub no_padding : (m : SourceMoment) (held : List ℕ) → IsUnpadded m m false held held (Ok Taken)
 no_padding m held = record {
   taken = [];
   takes = Takes-nothing (λ so_far. DoNotTell false (held ++ so_far)) m;
@@ -76,7 +76,7 @@ no_padding m held = record {
 }
 
 -- the stream after the padding
-pub IsRead-behind : {old mid : Moment} {left' : Option (List ℕ)} {used : Bool} {held now next : List ℕ} (flux : TrackState) (answer : Answer)
+pub IsRead-behind : {old mid : SourceMoment} {left' : Option (List ℕ)} {used : Bool} {held now next : List ℕ} (flux : TrackState) (answer : Answer)
     → IsUnpadded old mid used held now (Ok Taken) → IsRead mid.left left' false now next flux answer → IsRead old.left left' used held next flux answer
 IsRead-behind {old} {mid} {left'} {used} {held} {now} {next} flux answer u r =
     let joined : (later : List ℕ) → input_of used ((held ++ (u.taken ++ r.taken)) ++ later) ≡ (now ++ r.taken) ++ later =
@@ -93,7 +93,7 @@ IsRead-behind {old} {mid} {left'} {used} {held} {now} {next} flux answer u r =
     }
 
 -- the same of what was taken
-pub taken_behind : {old mid new : Moment} {used : Bool} {held now taken : List ℕ} → IsUnpadded old mid used held now (Ok Taken)
+pub taken_behind : {old mid new : SourceMoment} {used : Bool} {held now taken : List ℕ} → IsUnpadded old mid used held now (Ok Taken)
     → TakesOpenly false now mid new taken → IsReadWhereNeeded old new used held
 taken_behind {used = used} {held = held} {now = now} u takes =
     let joined : (more : List ℕ) → now ++ more ≡ input_of used (held ++ (u.taken ++ more)) =
@@ -101,7 +101,7 @@ taken_behind {used = used} {held = held} {now = now} u takes =
     reads_needed (Takes-trans u.takes takes
     (λ more untold. (untold.0, subst (λ x. first_fault x ≡ Some (untold.0, Truncated)) (joined more) untold.1)))
 
-pub IsRead-padding : {old new : Moment} {used : Bool} {held now : List ℕ} (flux : TrackState)
+pub IsRead-padding : {old new : SourceMoment} {used : Bool} {held now : List ℕ} (flux : TrackState)
     → IsUnpadded old new used held now (Ok End) → IsRead old.left new.left used held now flux (Err (Refused 0 Truncated))
 IsRead-padding {used = used} {held = held} flux u = record {
   taken = u.taken;
@@ -113,7 +113,7 @@ IsRead-padding {used = used} {held = held} flux u = record {
   cut = tt;
 }
 
-pub IsRead-cut_padding : {old new : Moment} {used : Bool} {held now : List ℕ} (flux : TrackState) (failed : Failed)
+pub IsRead-cut_padding : {old new : SourceMoment} {used : Bool} {held now : List ℕ} (flux : TrackState) (failed : Failed)
     → IsUnpadded old new used held now (Err failed) → IsRead old.left new.left used held now flux (Err ReadFault)
 IsRead-cut_padding flux failed u = record {
   taken = u.taken;

@@ -10,5 +10,6 @@ pub mod Padding
 pub mod Spelling
 pub mod Bench
 pub mod Progress
+pub mod Room
 pub mod WellFormed
 pub mod Sequence

@@ -9,7 +9,7 @@ use Rattle.kryo_stream.specs.declared.fault.TrackFault.{TrackFault}
 use Rattle.kryo_stream.specs.declared.fault.TrackFault.TheVariants.{ReadFault, Memory, Refused}
 use Rattle.kryo_stream.specs.Protocol.{LIMIT, MOST_HELD, MOST_PADDING}
 use Rattle.kryo_stream.specs.Padding.{unpadded}
-use Rattle.kryo_stream.specs.Reads.{Moment}
+use Rattle.kryo_stream.specs.Reads.{SourceMoment}
 use Rattle.kryo_stream.specs.Stream.{first_fault, times, indexes, stream_length}
 
 abbrev pub Answer : Type 0
@@ -64,7 +64,7 @@ DoNotTell used bytes = (block : ℕ) × (first_fault (input_of used bytes) ≡ S
 
 -- each read of the source was made where the held bytes, with those that the reads before it gave, did not tell the answer;
 -- without a read the count of faults stays
-pub record IsReadWhereNeeded (old new : Moment) (used : Bool) (held : List ℕ) : Type 0 where
+pub record IsReadWhereNeeded (old new : SourceMoment) (used : Bool) (held : List ℕ) : Type 0 where
   pub pieces : List (List ℕ)
   pub gave : Gives old.given new.given pieces
   pub consumed : Consumes old.left new.left (concat pieces)

@@ -10,12 +10,12 @@ use Rattle.kryo_stream.specs.Bench.{BenchState, IsNoted}
 use Rattle.kryo_stream.specs.Outcome.{input_of, most_padding, DoNotTell}
 use Rattle.kryo_stream.specs.Protocol.{LIMIT, MOST_HELD}
 use Rattle.kryo_stream.specs.Pieces.{Reading, piece_at}
-use Rattle.kryo_stream.specs.Reads.{Moment, Takes}
+use Rattle.kryo_stream.specs.Reads.{SourceMoment, Takes}
 use Rattle.kryo_stream.specs.Stream.{pieces, stops_at}
 use Rattle.kryo_stream.specs.Tally.{IsTally}
 
 -- these bytes were taken from the source, each piece of them where the bytes at hand did not tell the answer
-abbrev pub TakesOpenly : Bool → List ℕ → Moment → Moment → List ℕ → Type 0
+abbrev pub TakesOpenly : Bool → List ℕ → SourceMoment → SourceMoment → List ℕ → Type 0
 TakesOpenly used held old new taken = Takes (λ so_far. DoNotTell used (held ++ so_far)) old new taken
 
 -- n blocks of x were read and noted, none of them an End, and these bytes are left
@@ -29,7 +29,7 @@ pub record IsReading (x : List ℕ) (n : ℕ) (rest : List ℕ) (b : Before) (ti
   pub noted : IsNoted (pieces x n) bench
 
 -- the same of the bytes that were held and taken
-pub record Progress (old new : Moment) (held held' : List ℕ) (n : ℕ) (b : Before) (times : List ℕ) (bench : BenchState)
+pub record Progress (old new : SourceMoment) (held held' : List ℕ) (n : ℕ) (b : Before) (times : List ℕ) (bench : BenchState)
     : Type 0 where
   pub taken : List ℕ
   pub takes : TakesOpenly false held old new taken
@@ -47,7 +47,7 @@ BlockSays b (Ok (Err fault)) bytes held' left' =
 BlockSays b (Err _) bytes held' left' = piece_at b.offset b.counted b.ended bytes ≡ Err Truncated
 
 -- the next block was read, with what had to be taken for it
-pub record TakesBlock (old new : Moment) (held held' : List ℕ) (b : Before) (answer : Result Reading Failed) : Type 0 where
+pub record TakesBlock (old new : SourceMoment) (held held' : List ℕ) (b : Before) (answer : Result Reading Failed) : Type 0 where
   pub taken : List ℕ
   pub takes : Takes (IsBlockOpen b held) old new taken
   pub few : b.offset + length (held ++ taken) ≤ LIMIT + MOST_HELD
@@ -58,7 +58,7 @@ abbrev pub AreFew : ℕ → List ℕ → List ℕ → Type 0
 AreFew count held taken = length (held ++ taken) < count
 
 -- the first bytes were passed over, so many of them
-pub record IsPassing (old new : Moment) (held held' : List ℕ) (count gone : ℕ) : Type 0 where
+pub record IsPassing (old new : SourceMoment) (held held' : List ℕ) (count gone : ℕ) : Type 0 where
   pub taken : List ℕ
   pub takes : Takes (AreFew count held) old new taken
   pub inside : gone ≤ length (held ++ taken)
@@ -70,7 +70,7 @@ SkipSays count (Ok Taken) bytes held' left' = (count ≤ length bytes) × (held'
 SkipSays count (Ok End) bytes held' left' = (length bytes < count) × IsAtEnd left'
 SkipSays count (Err _) bytes held' left' = length bytes < count
 
-pub record IsSkipped (old new : Moment) (held held' : List ℕ) (count : ℕ) (answer : Result More Failed) : Type 0 where
+pub record IsSkipped (old new : SourceMoment) (held held' : List ℕ) (count : ℕ) (answer : Result More Failed) : Type 0 where
   pub taken : List ℕ
   pub takes : Takes (AreFew count held) old new taken
   pub says : SkipSays count answer (held ++ taken) held' new.left
@@ -83,7 +83,7 @@ PaddingSays used (Ok End) bytes held' left' =
     (input_of used bytes ≡ []) × (length bytes ≤ most_padding used) × IsAtEnd left'
 PaddingSays used (Err _) bytes held' left' = (input_of used bytes ≡ []) × (length bytes ≤ most_padding used)
 
-pub record IsUnpadded (old new : Moment) (used : Bool) (held held' : List ℕ) (answer : Result More Failed) : Type 0 where
+pub record IsUnpadded (old new : SourceMoment) (used : Bool) (held held' : List ℕ) (answer : Result More Failed) : Type 0 where
   pub taken : List ℕ
   pub takes : TakesOpenly used held old new taken
   pub says : PaddingSays used answer (held ++ taken) held' new.left

@@ -42,7 +42,7 @@ impl Model for Intake {
 
 impl Intake {
     ghost use Rattle.kryo_stream.specs.Held.{Took, IsMore};
-    ghost use Rattle.kryo_stream.specs.Reads.{moment, IsNothing};
+    ghost use Rattle.kryo_stream.specs.Reads.{source_at, IsNothing};
 
     /// An intake that holds nothing and was not used.
     pub fn new(alloc: Global) -> Result<Intake, Memory>
@@ -91,7 +91,7 @@ impl Intake {
     /// Takes at least one more byte from the source, unless that has ended or fails.
     pub(crate) fn more<S: Source>(&mut self, source: &mut S) -> Result<More, Failed>
         requires { length self.old.held < 4096 }
-        ensures took { Took IsNothing (moment (S.left source.old) (S.given source.old) (S.faults source.old)) (moment (S.left source.new) (S.given source.new) (S.faults source.new)) self.old.held self.new.held }
+        ensures took { Took IsNothing (source_at S.left S.given S.faults source.old) (source_at S.left S.given S.faults source.new) self.old.held self.new.held }
         ensures more { IfOk result (λ more. IsMore more self.old.held self.new.held (S.left source.new)) }
         ensures kept { OnErr result (self.new.held ≡ self.old.held) }
         ensures bound { length self.new.held ≤ 4096 }
