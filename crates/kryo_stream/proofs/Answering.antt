@@ -127,7 +127,7 @@ end-within b p is within follows =
       time = omega (arith, time, within.time);
     }
 
--- the End was read: all blocks are noted, and what is left stands behind it
+-- the End was read: all blocks are noted, and what is left stands after it
 pub record AtEnd (old new : SourceMoment) (held next : List ℕ) (n : ℕ) (b : Before) (ts : List ℕ) (bench bench' : BenchState) (p : Piece)
     (transitions : List ℕ) : Type 0 where
   pub rest : List ℕ

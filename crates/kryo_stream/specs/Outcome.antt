@@ -15,7 +15,7 @@ use Rattle.kryo_stream.specs.Stream.{first_fault, times, indexes, stream_length}
 abbrev pub Answer : Type 0
 Answer = Result (Unit {0}) TrackFault
 
--- x begins with a stream, and these are its times, its index times and what stands behind it
+-- x begins with a stream, and these are its times, its index times and what stands after it
 pub record IsStream (x : List ℕ) (flux : TrackState) (stays : List ℕ) : Type 0 where
   pub no_fault : first_fault x ≡ None
   pub times : flux.times ≡ times x

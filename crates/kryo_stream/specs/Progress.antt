@@ -75,7 +75,7 @@ pub record IsSkipped (old new : SourceMoment) (held held' : List ℕ) (count : �
   pub takes : Takes (AreFew count held) old new taken
   pub says : SkipSays count answer (held ++ taken) held' new.left
 
--- what passing over the padding came to: a stream may stand behind it, or the input is padding alone
+-- what passing over the padding came to: a stream may stand after it, or the input is padding alone
 abbrev pub PaddingSays : Bool → Result More Failed → List ℕ → List ℕ → Option (List ℕ) → Type 0
 PaddingSays used (Ok Taken) bytes held' left' =
     ((later : List ℕ) → input_of used (bytes ++ later) ≡ held' ++ later) × (length bytes ≤ most_padding used + length held')

@@ -22,7 +22,7 @@ pub const MOST_INDEXES: usize = 262_144;
 const OVERFLOW_TICKS: u64 = 65536;
 
 /// What is kept of the blocks of a stream until its end, where the positions of its Index blocks are
-/// looked up. An Index may name any place of the stream, before or behind its own.
+/// looked up. An Index may name any place of the stream, before or after its own.
 ///
 /// It holds the stream positions of the transitions' ends and of the overflows, and no times: those of the
 /// transitions are in the track, and an overflow is 65536 ticks. With its full room that is 35 MiB.

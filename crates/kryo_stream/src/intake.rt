@@ -114,7 +114,7 @@ impl Intake {
     }
 }
 
-/// Moves the bytes from `start` to `end` to the front, and reads behind them.
+/// Moves the bytes from `start` to `end` to the front, and reads more after them.
 fn take_more<S: Source>(
     buffer: &mut [u8],
     start: usize,
