@@ -6,4 +6,3 @@ pub mod DisksWork
 pub mod ImagesWork
 pub mod Works
 pub mod Runs
-pub mod Rooms

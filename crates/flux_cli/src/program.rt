@@ -1,9 +1,9 @@
-ghost use Rattle.std.specs.Prelude.{◌≢◌, Some, IfOk};
+ghost use Rattle.std.specs.Prelude.{◌≢◌, Some};
 ghost use Rattle.flux_base.specs.Moments.{moment};
 ghost use Rattle.flux_base.specs.declared.status.Status.{Status};
-ghost use Rattle.flux_cli.specs.Rooms.{IsReady};
 ghost use Rattle.flux_cli.specs.Runs.{Does, Ran, outside};
 ghost use Rattle.flux_cli.specs.declared.command.Command.TheVariants.{Turns};
+ghost use Rattle.kryo_stream.specs.Room.{IsFresh};
 
 use crate::command::{Command, command_of};
 use crate::disks::{decode, report};
@@ -11,8 +11,7 @@ use crate::images::write;
 use crate::turns::write_turns;
 use flux_base::{Memory, Sink, Source, Status, Word, write_whole};
 use flux_engine::{DiskRoom, WriteRoom};
-use index_turns::TrackFlux;
-use kryo_stream::{Intake, MOST_INDEXES, MOST_TIMES, StreamBench, TrackFault, read_track};
+use kryo_stream::{RoomFault, StreamRoom};
 use sector_report::{refused_line, usage_line, write_line};
 use std::alloc::Global;
 
@@ -36,7 +35,7 @@ pub fn run<S: Source, W: Sink, N: Sink>(
             Ok(()) => Status::Usage,
             Err(_) => Status::NotesFault,
         },
-        Some(Command::Turns) => match TurnsRoom::reserve(alloc) {
+        Some(Command::Turns) => match StreamRoom::reserve(alloc) {
             Ok(mut room) => turns(&mut room, source, image, notes),
             Err(Memory) => Status::Memory,
         },
@@ -55,51 +54,26 @@ pub fn run<S: Source, W: Sink, N: Sink>(
     }
 }
 
-/// What reading one stream takes.
-#[derive(Drop)]
-struct TurnsRoom {
-    intake: Intake,
-    flux: TrackFlux,
-    bench: StreamBench,
-}
-
-impl TurnsRoom {
-    fn reserve(alloc: Global) -> Result<TurnsRoom, Memory>
-        ensures { IfOk result IsReady }
-    {
-        let mut flux = TrackFlux::new(alloc);
-        flux.reserve(MOST_TIMES, MOST_INDEXES)?;
-        let mut bench = StreamBench::new(alloc);
-        bench.reserve()?;
-        Ok(TurnsRoom {
-            intake: Intake::new(alloc)?,
-            flux,
-            bench,
-        })
-    }
-}
-
 /// Reads one stream, and prints its transitions and turns.
 fn turns<S: Source, W: Sink, N: Sink>(
-    room: &mut TurnsRoom,
+    room: &mut StreamRoom,
     source: &mut S,
     image: &mut W,
     notes: &mut N,
 ) -> Status
-    requires { IsReady room.old }
+    requires { IsFresh room.old }
     ensures does { Does (Some Turns) result
         (outside (moment S.left S.faults source.old) (moment W.written W.faults image.old) (moment N.written N.faults notes.old))
         (outside (moment S.left S.faults source.new) (moment W.written W.faults image.new) (moment N.written N.faults notes.new)) }
     ensures memory { result ≢ Status.Memory }
 {
-    match read_track(source, &mut room.intake, &mut room.flux, &mut room.bench) {
-        Ok(()) => match write_turns(&room.flux, image) {
+    match room.read(source) {
+        Ok(()) => match write_turns(room.flux(), image) {
             Ok(()) => Status::AllGood,
             Err(_) => Status::ImageFault,
         },
-        Err(TrackFault::ReadFault) => Status::ReadFault,
-        Err(TrackFault::Memory) => unreachable!(),
-        Err(TrackFault::Refused { block, fault }) => {
+        Err(RoomFault::ReadFault) => Status::ReadFault,
+        Err(RoomFault::Refused { block, fault }) => {
             match write_line(notes, &refused_line(0, block, &fault)) {
                 Ok(()) => Status::Refused,
                 Err(_) => Status::NotesFault,

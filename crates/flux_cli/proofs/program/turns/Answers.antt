@@ -6,8 +6,8 @@ use Rattle.flux_cli.proofs.program.turns.Goals as goal
 pub returns-in-Ok-write_turns-clause-does : goal.returns-in-Ok-write_turns-clause-does
 returns-in-Ok-write_turns-clause-does g c = record {
   answer = tt;
-  says = turns-finish _ _ c.read_track.new.intake.held c.read_track.new.flux c.in-Ok.field-0
-      (rw (c.requires.empty, c.requires.fresh) at c.in-Ok.ensures.read) c.in-Ok.ensures.bound c.in-Ok-write_turns.ensures.ok (Appends-nil _);
+  says = turns-finish _ _ c.read.new.self.held c.read.new.self.flux c.in-Ok.field-0
+      (rw (c.requires.held, c.requires.unused) at c.in-Ok.ensures.read) c.in-Ok.ensures.bound (rw c.flux.ensures at c.in-Ok-write_turns.ensures.ok) (Appends-nil _);
   counts = record { source = c.in-Ok.ensures.later; image = c.in-Ok-write_turns.ensures.later; notes = omega arith };
 }
 
@@ -15,8 +15,8 @@ pub returns-in-Err-clause-does : goal.returns-in-Err-clause-does
 returns-in-Err-clause-does g c = record {
   answer = tt;
   says = (
-    turns-cut-image _ _ c.read_track.new.intake.held c.read_track.new.flux c.in-Ok.field-0
-        (rw (c.requires.empty, c.requires.fresh) at c.in-Ok.ensures.read) c.in-Err.ensures.err (Appends-nil _),
+    turns-cut-image _ _ c.read.new.self.held c.read.new.self.flux c.in-Ok.field-0
+        (rw (c.requires.held, c.requires.unused) at c.in-Ok.ensures.read) (rw c.flux.ensures at c.in-Err.ensures.err) (Appends-nil _),
     c.in-Err.ensures.cause,
   );
   counts = record { source = c.in-Ok.ensures.later; image = c.in-Err.ensures.later; notes = omega arith };
@@ -26,8 +26,8 @@ pub returns-in-Err-ReadFault-clause-does : goal.returns-in-Err-ReadFault-clause-
 returns-in-Err-ReadFault-clause-does g c = record {
   answer = tt;
   says = (
-    turns-cut-read _ _ c.read_track.new.intake.held c.read_track.new.flux
-        (rw (c.in-Err-ReadFault.field-0-is, c.requires.empty, c.requires.fresh) at c.in-Err-ReadFault.ensures.read) (Keeps-refl _) (Keeps-refl _),
+    turns-cut-read _ _ c.read.new.self.held c.read.new.self.flux
+        (rw (c.in-Err-ReadFault.field-0-is, c.requires.held, c.requires.unused) at c.in-Err-ReadFault.ensures.read) (Keeps-refl _) (Keeps-refl _),
     (rw c.in-Err-ReadFault.field-0-is at c.in-Err-ReadFault.ensures.cause),
   );
   counts = record { source = c.in-Err-ReadFault.ensures.later; image = omega arith; notes = omega arith };
@@ -36,8 +36,8 @@ returns-in-Err-ReadFault-clause-does g c = record {
 pub returns-in-Ok-write_line-clause-does : goal.returns-in-Ok-write_line-clause-does
 returns-in-Ok-write_line-clause-does g c = record {
   answer = tt;
-  says = turns-refuse _ _ c.read_track.new.intake.held c.read_track.new.flux c.in-Err-Refused.block c.in-Err-Refused.fault
-      (rw (c.in-Err-Refused.field-0-is, c.requires.empty, c.requires.fresh) at c.in-Err-Refused.ensures.read) (Appends-nil _)
+  says = turns-refuse _ _ c.read.new.self.held c.read.new.self.flux c.in-Err-Refused.block c.in-Err-Refused.fault
+      (rw (c.in-Err-Refused.field-0-is, c.requires.held, c.requires.unused) at c.in-Err-Refused.ensures.read) (Appends-nil _)
       (rw c.refused_line.ensures at c.in-Ok-write_line.ensures.ok);
   counts = record { source = c.in-Err-Refused.ensures.later; image = omega arith; notes = c.in-Ok-write_line.ensures.later };
 }
@@ -46,8 +46,8 @@ pub returns-in-Err-write_line-clause-does : goal.returns-in-Err-write_line-claus
 returns-in-Err-write_line-clause-does g c = record {
   answer = tt;
   says = (
-    turns-cut-notes _ _ c.read_track.new.intake.held c.read_track.new.flux c.in-Err-Refused.block c.in-Err-Refused.fault
-        (rw (c.in-Err-Refused.field-0-is, c.requires.empty, c.requires.fresh) at c.in-Err-Refused.ensures.read) (Appends-nil _)
+    turns-cut-notes _ _ c.read.new.self.held c.read.new.self.flux c.in-Err-Refused.block c.in-Err-Refused.fault
+        (rw (c.in-Err-Refused.field-0-is, c.requires.held, c.requires.unused) at c.in-Err-Refused.ensures.read) (Appends-nil _)
         (rw c.refused_line.ensures at c.in-Err-write_line.ensures.err),
     c.in-Err-write_line.ensures.cause,
   );
