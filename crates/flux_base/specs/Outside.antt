@@ -1,6 +1,7 @@
 -- What a call may do to an object of the outside: the bytes that it tells, and its count of faults.
-use Rattle.std.specs.Prelude.{◌≡◌, ◌<◌, ◌≤◌, ℕ, ◌+◌, min, List, length, take, drop, Option}
+use Rattle.std.specs.Prelude.{◌≡◌, ◌<◌, ◌≤◌, ℕ, ◌+◌, ◌++◌, min, List, [], ◌∷◌, length, take, drop, Option, Some, None, Result, Ok, Err}
 use Rattle.std.specs.Io.KnownBytes.{Appends}
+use Rattle.flux_base.specs.declared.outside.Failed.{Failed}
 
 -- where a count of faults stops
 abbrev pub GREATEST_COUNT : ℕ
@@ -21,3 +22,15 @@ pub record Wrote (old new : Option (List ℕ)) (before now : ℕ) (piece rest : 
   pub remains : rest ≡ drop taken piece
   pub appended : Appends old new (take taken piece)
   pub later : before ≤ now
+
+-- told pieces grow by these, until the object tells them no more
+abbrev pub Gives : Option (List (List ℕ)) → Option (List (List ℕ)) → List (List ℕ) → Type 0
+Gives None None pieces = Unit {0}
+Gives None (Some given') pieces = ⊥
+Gives (Some given) None pieces = Unit {0}
+Gives (Some given) (Some given') pieces = given' ≡ given ++ pieces
+
+-- a read gave the buffer's first bytes, or nothing where it failed
+abbrev pub GivesPiece : Option (List (List ℕ)) → Option (List (List ℕ)) → Result ℕ Failed → List ℕ → Type 0
+GivesPiece old new (Ok count) buffer = Gives old new (take count buffer ∷ [])
+GivesPiece old new (Err _) buffer = Gives old new ([] ∷ [])

@@ -1,7 +1,7 @@
 ghost use Rattle.std.specs.Prelude.{◌≡◌, ℕ, ◌<◌, ◌≤◌, List, None, length, IfOk, OnOk, OnErr, Option};
 ghost use Rattle.std.specs.Io.{ReadsAtMost, WritesAtMost};
 ghost use Rattle.std.specs.Io.KnownBytes.{Appends, ReadConsumes, WriteAppends};
-ghost use Rattle.flux_base.specs.Outside.{Rose, AppendsPart};
+ghost use Rattle.flux_base.specs.Outside.{Rose, AppendsPart, GivesPiece};
 
 use std::alloc::{AllocError, AllocFailed};
 
@@ -33,6 +33,9 @@ pub trait Source {
     /// How often the object has failed.
     ghost faults: { Self → ℕ };
 
+    /// What each read so far gave, as long as the object tells it: nothing at the end, and after `Failed`.
+    ghost given: { Self → Option (List (List ℕ)) } = { λ _. None };
+
     /// Puts the next bytes at the buffer's front and says how many. 0 for a buffer that is not empty
     /// says that there are no more bytes.
     fn read(&mut self, buffer: &mut [u8]) -> Result<usize, Failed>
@@ -40,6 +43,7 @@ pub trait Source {
 
         // The bytes given are the first of those left. After `Failed` all are still left.
         ensures bytes { ReadConsumes (left self.old) (left self.new) result buffer.new }
+        ensures piece { GivesPiece (given self.old) (given self.new) result buffer.new }
         ensures later { faults self.old ≤ faults self.new }
         ensures cause { OnErr result (Rose (faults self.old) (faults self.new)) };
 }

@@ -2,10 +2,6 @@
 use Rattle.std.specs.Prelude.{◌≡◌, ◌≤◌, ℕ, Bool, false, List, []}
 use Rattle.cell_bits.specs.State.{CellsState, room}
 use Rattle.flux_base.specs.declared.track.TrackId.{TrackId}
-use Rattle.index_turns.specs.Track.{TrackState}
-use Rattle.kryo_stream.specs.Bench.{HasFullBench}
-use Rattle.kryo_stream.specs.Outcome.{HasFullRoom}
-use Rattle.kryo_stream.specs.declared.bench.StreamBench.{StreamBench}
 use Rattle.sector_images.specs.Formats.{row, zone}
 use Rattle.sector_images.specs.Places.{IsTrack}
 use Rattle.sector_images.specs.declared.format.Format.{Format}
@@ -30,9 +26,7 @@ pub record IsBookOf (format : Format) (book : Knowledge) : Type 0 where
   pub size : book.size ≡ (row format).sector_size
   pub most : (track : TrackId) → IsTrack format track → (zone format track.cylinder).sectors ≤ book.most
 
--- room for the longest stream, and for the most cells that its transitions can make
-pub record IsRoomy (format : Format) (flux : TrackState) (bench : StreamBench) (cells : CellsState) (book : Knowledge) : Type 0 where
-  pub for_flux : HasFullRoom flux
-  pub for_bench : HasFullBench bench
+-- room for the most cells that the transitions of a stream can make, and for the readings of any track
+pub record IsRoomy (format : Format) (cells : CellsState) (book : Knowledge) : Type 0 where
   pub for_cells : 134217728 ≤ room cells
   pub for_book : IsBookOf format book

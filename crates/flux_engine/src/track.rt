@@ -3,8 +3,8 @@ ghost use Rattle.flux_engine.specs.Answers.{DecodesTrack, EngineCause};
 ghost use Rattle.flux_engine.specs.Reading.{ReadsTrack, IsBounded, HasGathered};
 ghost use Rattle.flux_engine.specs.Recordings.{track_at, sectors_of as sectors_in};
 ghost use Rattle.flux_engine.specs.Room.{IsRoomy};
-ghost use Rattle.kryo_stream.specs.Bench.{HasFullBench};
-ghost use Rattle.kryo_stream.specs.Outcome.{HasFullRoom};
+ghost use Rattle.kryo_stream.specs.Outcome.{IsReadWhereNeeded};
+ghost use Rattle.kryo_stream.specs.Reads.{source_at};
 ghost use Rattle.sector_images.specs.Places.{IsTrack, tracks};
 ghost use Rattle.turn_merge.specs.Book.{StandsFor};
 
@@ -17,7 +17,7 @@ use crate::writing::{write_image, write_lines};
 use disk_recordings::{DiskId, recording_of};
 use flux_base::{Sink, Source, TrackId};
 use index_turns::TrackFlux;
-use kryo_stream::{Intake, StreamBench, TrackFault, read_track};
+use kryo_stream::{RoomFault, StreamRoom};
 use phase_loop::{LoopStart, recover};
 use sector_images::{Format, nominal, ring_cells, track_id};
 use sector_report::Totals;
@@ -41,6 +41,9 @@ pub fn decode_track<S: Source, W: Sink, N: Sink>(
     requires sound { room.old.failed ≡ false }
     ensures decoded { DecodesTrack room.old.format (track_at room.old.format number) number (S.left source.old) (S.left source.new) room.old.used room.old.held room.new.held (W.written image.old) (W.written image.new) (N.written notes.old) (N.written notes.new) result }
 
+    // The source is read only where the bytes at hand do not tell the answer.
+    ensures needed { IsReadWhereNeeded (source_at S.left S.given S.faults source.old) (source_at S.left S.given S.faults source.new) room.old.used room.old.held }
+
     // The room after the call.
     ensures format { room.new.format ≡ room.old.format }
     ensures held { length room.new.held ≤ 4096 }
@@ -56,18 +59,11 @@ pub fn decode_track<S: Source, W: Sink, N: Sink>(
 {
     let track = track_id(room.format, number);
     room.failed = true;
-    let tools = &mut room.tools;
-    match read_stream(
-        number,
-        source,
-        &mut room.intake,
-        &mut tools.flux,
-        &mut tools.bench,
-    ) {
+    match read_stream(number, source, &mut room.stream) {
         Ok(()) => {}
         Err(fault) => return Err(fault),
     }
-    let sectors = read_sectors(room.format, track, &mut room.tools);
+    let sectors = read_sectors(room.format, track, room.stream.flux(), &mut room.tools);
     match write_image(room.format, track, &room.tools.book, image) {
         Ok(()) => {}
         Err(_) => return Err(EngineFault::ImageFault),
@@ -86,59 +82,51 @@ pub fn decode_track<S: Source, W: Sink, N: Sink>(
 fn read_stream<S: Source>(
     number: u32,
     source: &mut S,
-    intake: &mut Intake,
-    flux: &mut TrackFlux,
-    bench: &mut StreamBench,
+    stream: &mut StreamRoom,
 ) -> Result<(), EngineFault>
-    requires flux { HasFullRoom flux.old }
-    requires bench { HasFullBench bench.old }
-    ensures read { ReadsTrack number (S.left source.old) (S.left source.new) intake.old.used intake.old.held intake.new.held flux.new result }
-    ensures bounded { OnOk result (IsBounded flux.new) }
-    ensures held { length intake.new.held ≤ 4096 }
-    ensures used { intake.new.used ≡ true }
-    ensures flux { HasFullRoom flux.new }
-    ensures bench { HasFullBench bench.new }
+    ensures read { ReadsTrack number (S.left source.old) (S.left source.new) stream.old.used stream.old.held stream.new.held stream.new.flux result }
+    ensures needed { IsReadWhereNeeded (source_at S.left S.given S.faults source.old) (source_at S.left S.given S.faults source.new) stream.old.used stream.old.held }
+    ensures bounded { OnOk result (IsBounded stream.new.flux) }
+    ensures held { length stream.new.held ≤ 4096 }
+    ensures used { stream.new.used ≡ true }
     ensures cause { EngineCause (S.faults source.old) (S.faults source.new) 0 0 0 0 result }
     ensures later { S.faults source.old ≤ S.faults source.new }
 {
-    match read_track(source, intake, flux, bench) {
+    match stream.read(source) {
         Ok(()) => Ok(()),
-        Err(TrackFault::Refused { block, fault }) => Err(EngineFault::Refused {
+        Err(RoomFault::Refused { block, fault }) => Err(EngineFault::Refused {
             track: number,
             block,
             fault,
         }),
-        Err(TrackFault::ReadFault) => Err(EngineFault::ReadFault),
-        // All room was reserved.
-        Err(TrackFault::Memory) => unreachable!(),
+        Err(RoomFault::ReadFault) => Err(EngineFault::ReadFault),
     }
 }
 
 /// Recovers the cells of a track and notes all readings of its sectors in the book.
-fn read_sectors(format: Format, track: TrackId, tools: &mut Tools) -> Sectors
+fn read_sectors(
+    format: Format,
+    track: TrackId,
+    flux: &TrackFlux,
+    tools: &mut Tools,
+) -> Sectors
     requires track { IsTrack format track }
-    requires bounded { IsBounded tools.old.flux }
-    requires roomy { IsRoomy format tools.old.flux tools.old.bench tools.old.cells tools.old.book }
+    requires bounded { IsBounded flux.now }
+    requires roomy { IsRoomy format tools.old.cells tools.old.book }
     ensures sectors { result ≡ sectors_in format track }
-    ensures gathered { HasGathered format track tools.old.flux.times tools.old.flux.indexes tools.new.book }
-    ensures roomy { IsRoomy format tools.new.flux tools.new.bench tools.new.cells tools.new.book }
+    ensures gathered { HasGathered format track flux.now.times flux.now.indexes tools.new.book }
+    ensures roomy { IsRoomy format tools.new.cells tools.new.book }
 {
     let sectors = sectors_of(format, track);
-    let turn = tools.flux.first_turn_ticks();
+    let turn = flux.first_turn_ticks();
     let start = LoopStart::for_turn(nominal(format, track), turn, ring_cells(format, track));
-    match recover(&tools.flux, start, &mut tools.clock, &mut tools.cells) {
+    match recover(flux, start, &mut tools.clock, &mut tools.cells) {
         Ok(()) => {}
         // There is room for 32 cells of each transition.
         Err(_) => unreachable!(),
     }
     tools.book.clear(sectors.count);
     let recording = recording_of(format, DiskId::ANY);
-    gather(
-        &recording,
-        track,
-        &tools.flux,
-        &tools.cells,
-        &mut tools.book,
-    );
+    gather(&recording, track, flux, &tools.cells, &mut tools.book);
     sectors
 }

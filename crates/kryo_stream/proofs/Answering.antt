@@ -4,7 +4,6 @@ use Rattle.std.proofs.lemmas.List.{length-map}
 use Rattle.std.proofs.lemmas.List.Elements.{All-map, All-weaker}
 use Rattle.std.proofs.lemmas.List.Sums.{sum_by-take-le}
 use Rattle.std.specs.Prelude.{All, ◌^◌}
-use Rattle.std.proofs.KnownBytes.{Consumes-trans, Consumes-nil}
 use Rattle.std.specs.Io.KnownBytes.{Consumes, IsAtEnd}
 use Rattle.flux_base.specs.declared.outside.Failed.{Failed}
 use Rattle.index_turns.specs.Track.{TrackState, KeepsRoom}
@@ -19,102 +18,105 @@ use Rattle.kryo_stream.specs.declared.fault.TrackFault.TheVariants.{ReadFault, M
 use Rattle.kryo_stream.specs.Bench.{BenchState, IsNoted, IsComplete, TurnCause, HasFullBench, KeepsBenchRoom, IsSized}
 use Rattle.kryo_stream.specs.Pieces.{Reading, piece_at}
 use Rattle.kryo_stream.specs.Stream.{total_bytes, ticks, marks, index_time, block_of_byte, is_in_stream, in_stream_bytes, block_ticks, pieces, is_end, turn_fault, indexes_of}
-use Rattle.kryo_stream.specs.Outcome.{Answer, Says, IsTruncated, IsCut, IsRead, IsReadOfInput, input_of, HasFullRoom, IsSmall, IsNotMemory, TrackCause}
+use Rattle.kryo_stream.specs.Outcome.{Answer, Says, IsTruncated, IsCut, IsRead, IsReadOfInput, DoNotTell, input_of, HasFullRoom, IsSmall, IsNotMemory, TrackCause}
 use Rattle.kryo_stream.specs.Tally.{at_start, behind, new_times, IsWithin, MayFollow, IsTally}
-use Rattle.kryo_stream.specs.Progress.{IsReading, Progress, TakesBlock}
+use Rattle.kryo_stream.specs.Reads.{SourceMoment, Takes}
+use Rattle.kryo_stream.specs.Progress.{TakesOpenly, IsReading, Progress, IsBlockOpen, TakesBlock}
 use Rattle.kryo_stream.proofs.BenchLemmas.{marks-length, marks-samples}
 use Rattle.kryo_stream.proofs.Pieces.{piece_at-follows}
 use Rattle.kryo_stream.proofs.Progressing.{IsReading-start, IsReading-more, IsReading-push, first_fault-here, first_fault-later, IsEnding, end-later}
+use Rattle.kryo_stream.proofs.Taking.{Takes-nothing, Takes-trans}
 use Rattle.kryo_stream.proofs.Tallies.{IsTally-push}
 use Rattle.kryo_stream.proofs.Turnings.{turn_fault-not}
 
-pub Progress-start : (left : Option (List ℕ)) (held : List ℕ) (bench : BenchState) → IsNoted [] bench
-    → Progress left left held held 0 at_start [] bench
-Progress-start left held bench noted = record {
+pub Progress-start : (m : SourceMoment) (held : List ℕ) (bench : BenchState) → IsNoted [] bench
+    → Progress m m held held 0 at_start [] bench
+Progress-start m held bench noted = record {
   taken = [];
-  consumed = Consumes-nil left;
+  takes = Takes-nothing (λ so_far. DoNotTell false (held ++ so_far)) m;
   reading = subst (λ x. IsReading x 0 held at_start [] bench) (sym (append-nil held)) (IsReading-start held bench noted);
 }
 
 -- the bytes from the next block on, with those that were taken for it
-at_block : {left mid new : Option (List ℕ)} {held now : List ℕ} {n : ℕ} {b : Before} {ts : List ℕ} {bench : BenchState} (taken : List ℕ)
-    → Progress left mid held now n b ts bench → Consumes mid new taken → Progress left new held (now ++ taken) n b ts bench
-at_block {left} {mid} {new} {held} {now} {n} {b} {ts} {bench} taken p consumed = record {
-  taken = p.taken ++ taken;
-  consumed = Consumes-trans left mid new p.taken taken p.consumed consumed;
-  reading = subst (λ x. IsReading x n (now ++ taken) b ts bench) (append_assoc held p.taken taken)
-      (IsReading-more (held ++ p.taken) taken n now b ts bench p.reading);
-}
+at_block : {old mid new : SourceMoment} {held now : List ℕ} {n : ℕ} {b : Before} {ts : List ℕ} {bench : BenchState} (taken : List ℕ)
+    → Progress old mid held now n b ts bench → Takes (IsBlockOpen b now) mid new taken → Progress old new held (now ++ taken) n b ts bench
+at_block {old} {mid} {new} {held} {now} {n} {b} {ts} {bench} taken p takes =
+    let reading : (more : List ℕ) → IsReading (held ++ (p.taken ++ more)) n (now ++ more) b ts bench =
+    λ more. subst (λ x. IsReading x n (now ++ more) b ts bench) (append_assoc held p.taken more)
+    (IsReading-more (held ++ p.taken) more n now b ts bench p.reading) in record {
+      taken = p.taken ++ taken;
+      takes = Takes-trans p.takes takes
+          (λ more untold. (n, first_fault-here (held ++ (p.taken ++ more)) n (now ++ more) b ts bench Truncated (reading more) untold));
+      reading = reading taken;
+    }
 
--- the blocks so far are the numbers that the reader keeps
-pub so_far : {left left' : Option (List ℕ)} {held held' : List ℕ} {n : ℕ} {b : Before} {ts : List ℕ} {bench : BenchState}
-    → Progress left left' held held' n b ts bench
-    → (ps : List Piece) × (IsNoted ps bench) × (length ps ≡ n) × (in_stream_bytes ps ≡ b.counted)
-so_far {held = held} {n = n} p =
-    (pieces (held ++ p.taken) n, p.reading.noted, p.reading.size, sym p.reading.tally.counted)
-
-pub Progress-push : {left mid new : Option (List ℕ)} {held now next : List ℕ} {n : ℕ} {b : Before} {ts : List ℕ} {bench : BenchState} (p : Piece) (bench' : BenchState)
-    → Progress left mid held now n b ts bench → TakesBlock mid new now next b (Ok (Ok p))
+pub Progress-push : {old mid new : SourceMoment} {held now next : List ℕ} {n : ℕ} {b : Before} {ts : List ℕ} {bench : BenchState} (p : Piece) (bench' : BenchState)
+    → Progress old mid held now n b ts bench → TakesBlock mid new now next b (Ok (Ok p))
     → is_end p.block ≡ false → IsWithin (behind b p)
     → ((ps : List Piece) → IsNoted ps bench → length ps ≡ n → in_stream_bytes ps ≡ b.counted → IsNoted (ps ++ p ∷ []) bench')
-    → Progress left new held next (n + 1) (behind b p) (ts ++ new_times b.time p.block) bench'
-Progress-push {left} {mid} {new} {held} {now} {next} {n} {b} {ts} {bench} p bench' r t going within noted =
+    → Progress old new held next (n + 1) (behind b p) (ts ++ new_times b.time p.block) bench'
+Progress-push {old} {mid} {new} {held} {now} {next} {n} {b} {ts} {bench} p bench' r t going within noted =
     let one : suc n ≡ n + 1 = omega arith in
-    let here : Progress left new held (now ++ t.taken) n b ts bench = at_block t.taken r t.consumed in
+    let here : Progress old new held (now ++ t.taken) n b ts bench = at_block t.taken r t.takes in
     let more : IsNoted (pieces (held ++ here.taken) n ++ p ∷ []) bench' =
     noted (pieces (held ++ here.taken) n) here.reading.noted here.reading.size (sym here.reading.tally.counted) in record {
       taken = here.taken;
-      consumed = here.consumed;
+      takes = here.takes;
       reading = subst (λ rest. IsReading (held ++ here.taken) (n + 1) rest (behind b p) (ts ++ new_times b.time p.block) bench') (sym t.says.1)
           (subst (λ k. IsReading (held ++ here.taken) k (drop p.bytes (now ++ t.taken)) (behind b p) (ts ++ new_times b.time p.block) bench')
           one (IsReading-push (held ++ here.taken) n (now ++ t.taken) b ts bench bench' p here.reading t.says.0 going within more));
     }
 
 -- the bytes at hand are few, since the blocks that were read are within the limit
-pub few_at_hand : {left left' : Option (List ℕ)} {held rest : List ℕ} {n : ℕ} {b : Before} {ts : List ℕ} {bench : BenchState}
-    → (p : Progress left left' held rest n b ts bench) → b.offset + length rest ≤ 4198400 → length (held ++ p.taken) ≤ 0 + 4198400
+pub few_at_hand : {old new : SourceMoment} {held rest : List ℕ} {n : ℕ} {b : Before} {ts : List ℕ} {bench : BenchState}
+    → (p : Progress old new held rest n b ts bench) → b.offset + length rest ≤ 4198400 → length (held ++ p.taken) ≤ 0 + 4198400
 few_at_hand {held = held} {rest = rest} {b = b} p bound =
     let size : length rest ≡ length (held ++ p.taken) - b.offset = ap length p.reading.place ∙ length-drop b.offset (held ++ p.taken) in
     omega (arith, size, bound, p.reading.inside)
 
-pub read_refused : {left mid new : Option (List ℕ)} {held now next : List ℕ} {n : ℕ} {b : Before} {ts : List ℕ} {bench : BenchState} (flux : TrackState) (fault : StreamFault)
-    → Progress left mid held now n b ts bench → TakesBlock mid new now next b (Ok (Err fault))
-    → IsRead left new false held next flux (Err (Refused n fault))
-read_refused {left} {mid} {new} {held} {now} {next} {n} {b} {ts} {bench} flux fault r t =
-    let here : Progress left new held (now ++ t.taken) n b ts bench = at_block t.taken r t.consumed in record {
+pub read_refused : {old mid new : SourceMoment} {held now next : List ℕ} {n : ℕ} {b : Before} {ts : List ℕ} {bench : BenchState} (flux : TrackState) (fault : StreamFault)
+    → Progress old mid held now n b ts bench → TakesBlock mid new now next b (Ok (Err fault))
+    → IsRead old.left new.left false held next flux (Err (Refused n fault))
+read_refused {old} {mid} {new} {held} {now} {next} {n} {b} {ts} {bench} flux fault r t =
+    let here : Progress old new held (now ++ t.taken) n b ts bench = at_block t.taken r t.takes in record {
       taken = here.taken;
-      consumed = here.consumed;
+      consumed = here.takes.consumed;
       few = few_at_hand here t.few;
       says = λ later none. first_fault-later (held ++ here.taken) later n (now ++ t.taken) b ts bench fault here.reading t.says.0 none;
       ended = t.says.1;
       cut = tt;
     }
 
-pub read_failed : {left mid new : Option (List ℕ)} {held now next : List ℕ} {n : ℕ} {b : Before} {ts : List ℕ} {bench : BenchState} (flux : TrackState) (failed : Failed)
-    → Progress left mid held now n b ts bench → TakesBlock mid new now next b (Err failed)
-    → IsRead left new false held next flux (Err ReadFault)
-read_failed {left} {mid} {new} {held} {now} {next} {n} {b} {ts} {bench} flux failed r t =
-    let here : Progress left new held (now ++ t.taken) n b ts bench = at_block t.taken r t.consumed in record {
+pub read_failed : {old mid new : SourceMoment} {held now next : List ℕ} {n : ℕ} {b : Before} {ts : List ℕ} {bench : BenchState} (flux : TrackState) (failed : Failed)
+    → Progress old mid held now n b ts bench → TakesBlock mid new now next b (Err failed)
+    → IsRead old.left new.left false held next flux (Err ReadFault)
+read_failed {old} {mid} {new} {held} {now} {next} {n} {b} {ts} {bench} flux failed r t =
+    let here : Progress old new held (now ++ t.taken) n b ts bench = at_block t.taken r t.takes in record {
       taken = here.taken;
-      consumed = here.consumed;
+      consumed = here.takes.consumed;
       few = few_at_hand here t.few;
       says = λ later none. tt;
       ended = λ never. absurd never;
       cut = (n, first_fault-here (held ++ here.taken) n (now ++ t.taken) b ts bench Truncated here.reading t.says);
     }
 
-pub read_memory : {left mid new : Option (List ℕ)} {held now next : List ℕ} {n : ℕ} {b : Before} {ts : List ℕ} {bench : BenchState} (flux : TrackState) (answer : Result Reading Failed)
-    → Progress left mid held now n b ts bench → TakesBlock mid new now next b answer
-    → IsRead left new false held next flux (Err Memory)
-read_memory {left} {mid} {new} {held} {now} {next} {n} {b} {ts} {bench} flux answer r t =
-    let here : Progress left new held (now ++ t.taken) n b ts bench = at_block t.taken r t.consumed in record {
+pub read_memory : {old mid new : SourceMoment} {held now next : List ℕ} {n : ℕ} {b : Before} {ts : List ℕ} {bench : BenchState} (flux : TrackState) (answer : Result Reading Failed)
+    → Progress old mid held now n b ts bench → TakesBlock mid new now next b answer
+    → IsRead old.left new.left false held next flux (Err Memory)
+read_memory {old} {mid} {new} {held} {now} {next} {n} {b} {ts} {bench} flux answer r t =
+    let here : Progress old new held (now ++ t.taken) n b ts bench = at_block t.taken r t.takes in record {
       taken = here.taken;
-      consumed = here.consumed;
+      consumed = here.takes.consumed;
       few = few_at_hand here t.few;
       says = λ later none. tt;
       ended = λ never. absurd never;
       cut = tt;
     }
+
+-- what was taken for a block was needed
+pub taken_for_block : {old mid new : SourceMoment} {held now next : List ℕ} {n : ℕ} {b : Before} {ts : List ℕ} {bench : BenchState} {answer : Result Reading Failed}
+    → Progress old mid held now n b ts bench → TakesBlock mid new now next b answer → (taken : List ℕ) × TakesOpenly false held old new taken
+taken_for_block r t = let here = at_block t.taken r t.takes in (here.taken, here.takes)
 
 end-within : (b : Before) (p : Piece) → p.block ≡ End → IsWithin b → MayFollow b p → IsWithin (behind b p)
 end-within b p is within follows =
@@ -125,11 +127,11 @@ end-within b p is within follows =
       time = omega (arith, time, within.time);
     }
 
--- the End was read: all blocks are noted, and what is left stands behind it
-pub record AtEnd (left new : Option (List ℕ)) (held next : List ℕ) (n : ℕ) (b : Before) (ts : List ℕ) (bench bench' : BenchState) (p : Piece)
+-- the End was read: all blocks are noted, and what is left stands after it
+pub record AtEnd (old new : SourceMoment) (held next : List ℕ) (n : ℕ) (b : Before) (ts : List ℕ) (bench bench' : BenchState) (p : Piece)
     (transitions : List ℕ) : Type 0 where
   pub rest : List ℕ
-  pub progress : Progress left new held rest n b ts bench
+  pub progress : Progress old new held rest n b ts bench
   pub few : b.offset + length rest ≤ 4198400
   pub reads : piece_at b.offset b.counted b.ended rest ≡ Ok p
   pub stays : next ≡ drop p.bytes rest
@@ -139,13 +141,13 @@ pub record AtEnd (left new : Option (List ℕ)) (held next : List ℕ) (n : ℕ)
   pub in_order : All (λ t. t ≤ 274877906944) transitions
   pub complete : IsComplete (pieces (held ++ progress.taken) n ++ p ∷ []) bench' transitions b.counted n
 
-pub at_end : {left mid new : Option (List ℕ)} {held now next : List ℕ} {n : ℕ} {b : Before} {ts : List ℕ} {bench bench' : BenchState} (p : Piece)
-    (transitions : List ℕ) → Progress left mid held now n b ts bench → TakesBlock mid new now next b (Ok (Ok p)) → p.block ≡ End
+pub at_end : {old mid new : SourceMoment} {held now next : List ℕ} {n : ℕ} {b : Before} {ts : List ℕ} {bench bench' : BenchState} (p : Piece)
+    (transitions : List ℕ) → Progress old mid held now n b ts bench → TakesBlock mid new now next b (Ok (Ok p)) → p.block ≡ End
     → ((ps : List Piece) → IsNoted ps bench → length ps ≡ n → in_stream_bytes ps ≡ b.counted → IsNoted (ps ++ p ∷ []) bench')
     → transitions ≡ ts ++ new_times b.time p.block
-    → AtEnd left new held next n b ts bench bench' p transitions
-at_end {left} {mid} {new} {held} {now} {next} {n} {b} {ts} {bench} {bench'} p transitions r t ends noted times =
-    let here : Progress left new held (now ++ t.taken) n b ts bench = at_block t.taken r t.consumed in
+    → AtEnd old new held next n b ts bench bench' p transitions
+at_end {old} {mid} {new} {held} {now} {next} {n} {b} {ts} {bench} {bench'} p transitions r t ends noted times =
+    let here : Progress old new held (now ++ t.taken) n b ts bench = at_block t.taken r t.takes in
     let ps : List Piece = pieces (held ++ here.taken) n in
     let follows = piece_at-follows b (now ++ t.taken) p t.says.0 in
     let within : IsWithin (behind b p) = end-within b p ends here.reading.tally.within follows.0 in
@@ -173,8 +175,8 @@ at_end {left} {mid} {new} {held} {now} {next} {n} {b} {ts} {bench} {bench'} p tr
     }
 
 -- some blocks complete the bench
-pub complete : {left new : Option (List ℕ)} {held next : List ℕ} {n : ℕ} {b : Before} {ts : List ℕ} {bench bench' : BenchState} {p : Piece} {transitions : List ℕ}
-    → AtEnd left new held next n b ts bench bench' p transitions → (ps : List Piece) × IsComplete ps bench' transitions b.counted n
+pub complete : {old new : SourceMoment} {held next : List ℕ} {n : ℕ} {b : Before} {ts : List ℕ} {bench bench' : BenchState} {p : Piece} {transitions : List ℕ}
+    → AtEnd old new held next n b ts bench bench' p transitions → (ps : List Piece) × IsComplete ps bench' transitions b.counted n
 complete {held = held} {n = n} {p = p} e = (pieces (held ++ e.progress.taken) n ++ p ∷ [], e.complete)
 
 on_ok_at : {bench' : BenchState} {transitions : List ℕ} {counted n : ℕ} (P : List Piece → Type 0) (answer : Answer) (ps : List Piece)
@@ -216,25 +218,25 @@ end_cut ps (Err ReadFault) spare x err = absurd err
 end_cut ps (Err Memory) spare x err = tt
 end_cut ps (Err (Refused block fault)) spare x err = tt
 
-pub read_end : {left new : Option (List ℕ)} {held next : List ℕ} {n : ℕ} {b : Before} {ts : List ℕ} {bench bench' : BenchState} {p : Piece} {transitions : List ℕ}
-    (flux : TrackState) (answer : Answer) (spare : ℕ) → AtEnd left new held next n b ts bench bench' p transitions → p.block ≡ End
+pub read_end : {old new : SourceMoment} {held next : List ℕ} {n : ℕ} {b : Before} {ts : List ℕ} {bench bench' : BenchState} {p : Piece} {transitions : List ℕ}
+    (flux : TrackState) (answer : Answer) (spare : ℕ) → AtEnd old new held next n b ts bench bench' p transitions → p.block ≡ End
     → transitions ≡ ts ++ new_times b.time p.block → flux.times ≡ transitions
     → OnOk answer ((ps : List Piece) → IsComplete ps bench' transitions b.counted n → turn_fault ps ≡ None)
     → OnOk answer ((ps : List Piece) → IsComplete ps bench' transitions b.counted n → flux.indexes ≡ indexes_of ps)
     → IfErr answer (λ fault. (ps : List Piece) → IsComplete ps bench' transitions b.counted n → TurnCause ps spare fault)
-    → IsRead left new false held next flux answer
-read_end {left} {new} {held} {next} {n} {b} {ts} {bench} {bench'} {p} {transitions} flux answer spare e ends times kept ok indexes err =
+    → IsRead old.left new.left false held next flux answer
+read_end {old} {new} {held} {next} {n} {b} {ts} {bench} {bench'} {p} {transitions} flux answer spare e ends times kept ok indexes err =
     let x : List ℕ = held ++ e.progress.taken in
     let ps : List Piece = pieces x n ++ p ∷ [] in
     let cause : IfErr answer (TurnCause ps spare) = if_err_at answer ps spare e.complete err in record {
       taken = e.progress.taken;
-      consumed = e.progress.consumed;
+      consumed = e.progress.takes.consumed;
       few = few_at_hand e.progress e.few;
       says = λ later none. subst (λ rest. Says answer (x ++ later) flux (rest ++ later)) (sym e.stays)
           (end_says ps (x ++ later) (drop p.bytes e.rest ++ later) (ts ++ new_times b.time p.block) flux answer spare
           (end-later x later n e.rest b ts bench p e.progress.reading e.reads (ap is_end ends) e.within)
           (kept ∙ times) (on_ok_at (λ qs. turn_fault qs ≡ None) answer ps e.complete ok) (on_ok_at (λ qs. flux.indexes ≡ indexes_of qs) answer ps e.complete indexes) cause);
-      ended = end_ended ps answer spare new cause;
+      ended = end_ended ps answer spare new.left cause;
       cut = end_cut ps answer spare x cause;
     }
 
@@ -275,12 +277,12 @@ IsRead-told {left} {left'} {used} {held} {held'} flux answer bytes r told =
     told_after left' used held held' flux answer bytes r.taken (subst (λ l. Consumes l left' r.taken) told r.consumed) r.says r.ended
 
 -- where there is full room, a block finds room
-pub note_finds_room : {left mid new : Option (List ℕ)} {held now next : List ℕ} {n : ℕ} {b : Before} {p : Piece} (Q : Type 0) (flux flux' : TrackState) (bench bench' : BenchState)
-    → Progress left mid held now n b flux'.times bench' → TakesBlock mid new now next b (Ok (Ok p))
+pub note_finds_room : {old mid new : SourceMoment} {held now next : List ℕ} {n : ℕ} {b : Before} {p : Piece} (Q : Type 0) (flux flux' : TrackState) (bench bench' : BenchState)
+    → Progress old mid held now n b flux'.times bench' → TakesBlock mid new now next b (Ok (Ok p))
     → HasFullRoom flux → KeepsRoom flux flux' → HasFullBench bench → KeepsBenchRoom bench bench'
     → (0 < flux'.spare_times → HasFullBench bench' → (ps : List Piece) → IsNoted ps bench' → total_bytes ps + p.bytes ≤ 4194304 → Q) → Q
 note_finds_room {held = held} {now = now} {n = n} {b = b} {p = p} Q flux flux' bench bench' r t full room full_bench bench_room finds =
-    let here = at_block t.taken r t.consumed in
+    let here = at_block t.taken r t.takes in
     let follows = piece_at-follows b (now ++ t.taken) p t.says.0 in
     finds (omega (arith, full.times, room.times, r.reading.tally.few_times, follows.0.some, follows.0.room))
     (record {
@@ -291,8 +293,8 @@ note_finds_room {held = held} {now = now} {n = n} {b = b} {p = p} Q flux flux' b
     (pieces (held ++ r.taken) n) r.reading.noted (omega (arith, r.reading.tally.offset, follows.0.room))
 
 -- where there is full room, the index times find room
-pub end_finds_room : {left new : Option (List ℕ)} {held next : List ℕ} {n : ℕ} {b : Before} {ts : List ℕ} {bench bench' : BenchState} {p : Piece} {transitions : List ℕ}
-    (answer : Answer) (spare : ℕ) → AtEnd left new held next n b ts bench bench' p transitions → 262144 ≤ spare
+pub end_finds_room : {old new : SourceMoment} {held next : List ℕ} {n : ℕ} {b : Before} {ts : List ℕ} {bench bench' : BenchState} {p : Piece} {transitions : List ℕ}
+    (answer : Answer) (spare : ℕ) → AtEnd old new held next n b ts bench bench' p transitions → 262144 ≤ spare
     → IfErr answer (λ fault. (ps : List Piece) → IsComplete ps bench' transitions b.counted n → TurnCause ps spare fault) → IsNotMemory answer
 end_finds_room (Ok _) spare e room err = tt
 end_finds_room (Err ReadFault) spare e room err = tt
@@ -304,8 +306,8 @@ end_finds_room {held = held} {n = n} {p = p} (Err Memory) spare e room err =
     absurd (omega (arith, many, few, room, e.complete.limit))
 
 -- no source is read for the turns
-pub end_cause : {left new : Option (List ℕ)} {held next : List ℕ} {n : ℕ} {b : Before} {ts : List ℕ} {bench bench' : BenchState} {p : Piece} {transitions : List ℕ}
-    (before now : ℕ) (answer : Answer) (spare : ℕ) → AtEnd left new held next n b ts bench bench' p transitions
+pub end_cause : {old new : SourceMoment} {held next : List ℕ} {n : ℕ} {b : Before} {ts : List ℕ} {bench bench' : BenchState} {p : Piece} {transitions : List ℕ}
+    (before now : ℕ) (answer : Answer) (spare : ℕ) → AtEnd old new held next n b ts bench bench' p transitions
     → IfErr answer (λ fault. (ps : List Piece) → IsComplete ps bench' transitions b.counted n → TurnCause ps spare fault)
     → TrackCause before now answer
 end_cause before now (Ok _) spare e err = tt
@@ -321,8 +323,8 @@ index_times-within ps sizes early = All-map (λ time. time < 2 ^ 39) (index_time
     (marks ps) (marks-samples ps sizes))
 
 -- the track is as small as the limit makes it
-pub end_small : {left new : Option (List ℕ)} {held next : List ℕ} {n : ℕ} {b : Before} {ts : List ℕ} {bench bench' : BenchState} {p : Piece} {transitions : List ℕ}
-    (flux : TrackState) (answer : Answer) → AtEnd left new held next n b ts bench bench' p transitions → flux.times ≡ transitions
+pub end_small : {old new : SourceMoment} {held next : List ℕ} {n : ℕ} {b : Before} {ts : List ℕ} {bench bench' : BenchState} {p : Piece} {transitions : List ℕ}
+    (flux : TrackState) (answer : Answer) → AtEnd old new held next n b ts bench bench' p transitions → flux.times ≡ transitions
     → OnOk answer ((ps : List Piece) → IsComplete ps bench' transitions b.counted n → flux.indexes ≡ indexes_of ps)
     → OnOk answer (IsSmall flux)
 end_small {held = held} {n = n} {p = p} flux (Ok _) e kept indexes =

@@ -20,7 +20,7 @@ written : (size : ℕ) (new old : List ℕ) → length new ≡ size → take siz
 written size new old same =
     take-append-le size new (drop (length new) old) (omega (arith, same)) ∙ take_all size new (omega (arith, same))
 
--- bytes that were read behind those at the front
+-- bytes that were read after those at the front
 pub grown : (size first count : ℕ) (new old front : List ℕ) → length new ≡ size → take first new ≡ front
     → take ((first + count) - 0) (take size (new ++ drop (length new) old)) ≡ front ++ take count (drop first new)
 grown size first count new old front same is =

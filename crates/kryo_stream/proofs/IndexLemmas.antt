@@ -102,7 +102,7 @@ last_end ps = get_or (0 ∷ flux_ends 0 ps) (length (flux_ends 0 ps)) 0
 abbrev pub last_time : List Piece → ℕ
 last_time ps = get_or (0 ∷ times_of ps) (length (flux_ends 0 ps)) 0
 
--- how many overflows stand behind the last Flux block among these
+-- how many overflows stand after the last Flux block among these
 abbrev pub overflows_since : List Piece → ℕ
 overflows_since ps = count_by (λ begin. nat_le (last_end ps) begin) (overflow_begins 0 ps)
 
@@ -519,7 +519,7 @@ base_time-from_counts ends overflows transitions position count end behind befor
     let between = count_by-between end position overflows order in
     (omega (arith, between, behind_is, before_is), omega (arith, between, behind_is, before_is, since, time_at_whole))
 
--- lists of numbers in order, one behind the other
+-- lists of numbers in order, one after the other
 IsNonDecreasing-cons : (x : ℕ) (xs : List ℕ) → All (λ y. x ≤ y) xs → IsNonDecreasing xs → IsNonDecreasing (x ∷ xs)
 IsNonDecreasing-cons x xs above order zero zero d low high = omega arith
 IsNonDecreasing-cons x xs above order zero (suc j) d low high = above j d (omega arith)

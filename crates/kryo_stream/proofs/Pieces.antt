@@ -1,4 +1,4 @@
--- The block at one place of a stream does not depend on the bytes behind it, and lies within the bytes and the limit.
+-- The block at one place of a stream does not depend on the bytes after it, and lies within the bytes and the limit.
 use Rattle.std.proofs.Common.{◌≡◌, ℕ, ◌+◌, ◌-◌, ◌==◌, ◌<◌, ◌≤◌, ◌++◌, Bool, true, false, List, length, drop, nat_le, refl, sym, ap, ◌∙◌, arith, length-append, length-drop, Ok, Err, inl, inr, subst}
 use Rattle.std.proofs.lemmas.List.{drop-append-le, get_or_append_left}
 use Rattle.std.proofs.lemmas.Bool.Decides.{nat_tests}

@@ -115,7 +115,7 @@ first_fault-later x later n rest b ts bench fault r reads none =
     first_fault-here (x ++ later) n (rest ++ later) b ts bench fault (IsReading-more x later n rest b ts bench r)
     (fault-later b rest later fault reads none)
 
--- a stream of these blocks, with these times and what is left behind it
+-- a stream of these blocks, with these times and what is left after it
 pub record IsEnding (x : List ℕ) (ps : List Piece) (rest : List ℕ) (ts : List ℕ) : Type 0 where
   pub fault : first_fault x ≡ turn_fault ps
   pub times : ts ≡ times x

@@ -202,7 +202,7 @@ header_is : (kind s0 s1 wanted w0 w1 : ℕ) (more : List ℕ) → kind ≡ wante
 header_is kind s0 s1 wanted w0 w1 more k a b =
     ap (λ x. 13 ∷ x ∷ s0 ∷ s1 ∷ more) k ∙ ap (λ x. 13 ∷ wanted ∷ x ∷ s1 ∷ more) a ∙ ap (λ x. 13 ∷ wanted ∷ w0 ∷ x ∷ more) b
 
--- two numbers behind a header
+-- two numbers after a header
 abbrev numbers_behind : ℕ → ℕ → ℕ → List ℕ → List ℕ
 numbers_behind kind s0 s1 more = 13 ∷ kind ∷ s0 ∷ s1 ∷ more
 

@@ -55,7 +55,7 @@ mark_time-is ps b transitions total end c m within =
     ∙ ap (λ l. base_time (flux_ends 0 ps) (overflow_begins 0 ps) l m.position + m.sample) c.times
     ∙ ap (λ n. n + m.sample) (base_time-is ps m.position noted.sizes (omega (arith, within, c.counted)))
 
--- an Index block that does not name a byte behind the stream, and is above the one before it
+-- an Index block that does not name a byte past the stream's end, and is above the one before it
 pub fault_none : (ps : List Piece) (k : ℕ) (m : Mark) → m.position ≤ in_stream_bytes ps
     → (0 < k → get_or (indexes_of ps) (k - 1) 0 < index_time ps m) → mark_fault ps k m ≡ None
 fault_none ps k m within rises =
@@ -203,7 +203,7 @@ Placing-start b transitions total spare placed empty = record {
   room = omega arith;
 }
 
--- the Index block behind those placed is at fault
+-- the Index block after those placed is at fault
 pub TurnCause-placing : (ps : List Piece) (b : BenchState) (transitions : List ℕ) (total end k before spare : ℕ)
     (placed : List ℕ) (m : Mark) (fault : TrackFault) → IsComplete ps b transitions total end
     → Placing b transitions total k before spare placed → k < length b.indexes → m ≡ get_or b.indexes k m

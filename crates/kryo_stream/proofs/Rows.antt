@@ -44,7 +44,7 @@ nothing = refl
 half_a_flux : first_fault (12 ∷ 1 ∷ []) ≡ Some (0, Truncated)
 half_a_flux = refl
 
--- three overflows before one transition, an index within them, and one at the end of all in-stream bytes, or behind it
+-- three overflows before one transition, an index within them, and one at the end of all in-stream bytes, or past it
 abbrev pub overflows : ℕ → List ℕ
 overflows last = index_block 0 0 0 ++ (11 ∷ 11 ∷ 11 ∷ 14 ∷ []) ++ index_block 2 100 0 ++ index_block last 0 0 ++ end_block
 
@@ -85,7 +85,7 @@ no_rise = refl
 inside_blocks : indexes (index_block 1 3 0 ++ (1 ∷ 0 ∷ 9 ∷ 7 ∷ 200 ∷ []) ++ index_block 4 1 0 ++ end_block) ≡ 3 ∷ 257 ∷ []
 inside_blocks = refl
 
--- a position where a block ends and the next begins, and one behind the last in-stream byte
+-- a position where a block ends and the next begins, and one past the last in-stream byte
 at_blocks : indexes (index_block 2 3 0 ++ (1 ∷ 0 ∷ 9 ∷ 7 ∷ 200 ∷ []) ++ index_block 5 1 0 ++ end_block) ≡ 259 ∷ 457 ∷ []
 at_blocks = refl
 

@@ -1,4 +1,4 @@
--- Blocks that are spelled one behind another are read as those blocks.
+-- Blocks that are spelled one after another are read as those blocks.
 use Rattle.std.proofs.Common.{◌≡◌, ◌≤◌, ◌<◌, ◌+◌, ◌-◌, ◌/◌, ◌%◌, ◌++◌, ◌&&◌, ◌↔◌, ℕ, zero, suc, Bool, true, false, List, [], ◌∷◌, All, length, map, take, drop, find, replicate, slice_get, unwrap_or, nat_lt, nat_le, Option, Some, None, refl, ap, sym, ◌∙◌, subst, arith, append-nil, length-append, if◌then◌else◌, inl, inr}
 use Rattle.std.specs.List.{range_with_len}
 use Rattle.std.specs.List.Sorted.{IsStrictlyIncreasing}
@@ -89,7 +89,7 @@ total_bytes-spelled [] = refl
 total_bytes-spelled (b ∷ bs) =
     omega (arith, sum_by-cons (λ p. p.bytes) (spelled b) (all_spelled bs), total_bytes-spelled bs, length-append (spelling b) (spellings bs))
 
--- a block that may stand behind some is the block behind them
+-- a block that may stand after some is the block after them
 block_behind : (before : List Block) (block : Block) (behind : List Block) → StandsBetween before block behind
     → IsBlockBehind (spellings (before ++ block ∷ behind)) (all_spelled before) (spelled block)
 block_behind before block behind stands =
@@ -107,7 +107,7 @@ block_behind before block behind stands =
       place = stands.place;
     })
 
--- piece number j is the spelled block behind j blocks
+-- piece number j is the spelled block after j blocks
 record IsPlace (blocks : List Block) (j : ℕ) (p : Piece) : Type 0 where
   before : List Block
   block : Block
@@ -172,7 +172,7 @@ none_is : (test : ℕ → Bool) (n : ℕ) (found : Option ℕ) → FindsFirst te
 none_is test n (Some k) first fails = absurd (true_false (sym first.passes ∙ fails k (omega (arith, first.to))))
 none_is test n None none fails = refl
 
--- no block before these holds a byte behind them
+-- no block before these holds a byte after them
 not_before : (before behind : List Piece) (position : ℕ) → in_stream_bytes before ≤ position → (i : ℕ) → i < length before
     → holds_byte (before ++ behind) position i ≡ false
 not_before before behind position from i inside =

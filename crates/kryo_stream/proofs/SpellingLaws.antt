@@ -230,7 +230,7 @@ read_three offset counted high low rest limit =
 abbrev Reads : ℕ → ℕ → Bool → Block → List ℕ → List ℕ → Type 0
 Reads offset counted ended block rest bytes = piece_at offset counted ended (bytes ++ rest) ≡ piece block (length bytes)
 
--- behind no StreamEnd
+-- after no StreamEnd
 in_stream : (offset counted : ℕ) (ended : Bool) (bytes : List ℕ) (reading : Reading) → ended ≡ false
     → piece_at offset counted false bytes ≡ reading → piece_at offset counted ended bytes ≡ reading
 in_stream offset counted ended bytes reading free is = ap (λ e. piece_at offset counted e bytes) free ∙ is

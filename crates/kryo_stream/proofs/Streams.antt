@@ -45,7 +45,7 @@ pieces-grow x z (suc n) going =
     piece_behind-grows x z (pieces x n) (pieces-inside x n) (not_last (piece_behind x (pieces x n)) (going n (omega arith))) in
     ap (more_pieces (x ++ z)) before ∙ ap (with_piece (pieces x n)) next
 
--- and the block behind them too, unless the bytes were too few
+-- and the block after them too, unless the bytes were too few
 pub next-grows : (x z : List ℕ) (n : ℕ) → ((k : ℕ) → k < n → stops_at x k ≡ false) → piece_behind x (pieces x n) ≢ Err Truncated
     → piece_behind (x ++ z) (pieces (x ++ z) n) ≡ piece_behind x (pieces x n)
 next-grows x z n going enough =

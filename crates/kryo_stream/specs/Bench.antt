@@ -15,7 +15,7 @@ use Rattle.kryo_stream.specs.Stream.{is_in_stream, in_stream_bytes, total_bytes,
 abbrev pub MOST_MARKS : ℕ
 MOST_MARKS = 262144
 
--- the stream positions behind the Flux blocks, the stream positions of the Overflow blocks, the Index blocks, and how
+-- the stream positions after the Flux blocks, the stream positions of the Overflow blocks, the Index blocks, and how
 -- many more of each fit without taking memory
 pub record BenchState : Type 0 where
   pub ends : List ℕ
@@ -31,6 +31,12 @@ pub record HasFullBench (b : BenchState) : Type 0 where
   pub for_overflows : LIMIT ≤ length b.overflows + b.spare_overflows
   pub for_indexes : MOST_MARKS ≤ length b.indexes + b.spare_indexes
 
+-- what was noted stays as it was
+pub record KeepsNotes (old new : BenchState) : Type 0 where
+  pub ends : new.ends ≡ old.ends
+  pub overflows : new.overflows ≡ old.overflows
+  pub indexes : new.indexes ≡ old.indexes
+
 -- no room is lower than it was
 pub record KeepsBenchRoom (old new : BenchState) : Type 0 where
   pub for_ends : length old.ends + old.spare_ends ≤ length new.ends + new.spare_ends
@@ -45,7 +51,7 @@ abbrev pub end_of : ℕ → Block → List ℕ
 end_of position (Flux _) = position ∷ []
 end_of _ _ = []
 
--- the stream positions behind the Flux blocks, where the first block stands at this position
+-- the stream positions after the Flux blocks, where the first block stands at this position
 abbrev pub flux_ends : ℕ → List Piece → List ℕ
 flux_ends position [] = []
 flux_ends position (p ∷ ps) = end_of (position + stream_step p) p.block ++ flux_ends (position + stream_step p) ps
@@ -114,7 +120,7 @@ pub record IsSearchable (b : BenchState) (transitions : List ℕ) : Type 0 where
 abbrev pub mark_time : BenchState → List ℕ → Mark → ℕ
 mark_time b transitions mark = base_time b.ends b.overflows transitions mark.position + mark.sample
 
--- the fault of an Index block behind these index times
+-- the fault of an Index block after these index times
 abbrev pub PlaceCause : BenchState → List ℕ → List ℕ → ℕ → Mark → ℕ → TrackFault → Type 0
 PlaceCause b transitions before total mark spare (Refused block fault) =
     (block ≡ mark.number) × (((fault ≡ IndexPosition) × (total < mark.position))

@@ -25,7 +25,7 @@ SpellsNop bytes count = (content : List ℕ) × (count < 4) × (length content +
 abbrev pub out_of_band : ℕ → ℕ → List ℕ
 out_of_band kind size = (OUT_OF_BAND ∷ kind ∷ []) ++ little_bytes 2 size
 
--- a text of this length behind its header
+-- a text of this length after its header
 abbrev pub SpellsInfo : List ℕ → ℕ → Type 0
 SpellsInfo bytes size = (content : List ℕ) × (length content ≡ size) × (bytes ≡ out_of_band INFO_TYPE size ++ content)
 

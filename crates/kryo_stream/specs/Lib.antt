@@ -2,6 +2,7 @@ pub mod Protocol
 pub mod Blocks
 pub mod Pieces
 pub mod Stream
+pub mod Reads
 pub mod Held
 pub mod Tally
 pub mod Outcome
@@ -9,5 +10,6 @@ pub mod Padding
 pub mod Spelling
 pub mod Bench
 pub mod Progress
+pub mod Room
 pub mod WellFormed
 pub mod Sequence

@@ -1,19 +1,21 @@
 -- What reading one track may answer, and what that says of the input.
-use Rattle.std.specs.Prelude.{◌≡◌, ◌≤◌, ◌<◌, ◌^◌, All, ◌+◌, ◌++◌, ℕ, Bool, if◌then◌else◌, List, [], length, drop, Option, Some, None, Result, Ok, Err}
+use Rattle.std.specs.Prelude.{◌≡◌, ◌≤◌, ◌<◌, ◌^◌, All, ◌+◌, ◌++◌, ℕ, Bool, if◌then◌else◌, List, [], length, take, drop, Option, Some, None, Result, Ok, Err}
+use Rattle.std.specs.List.{concat}
 use Rattle.std.specs.Io.KnownBytes.{Consumes, IsAtEnd}
-use Rattle.flux_base.specs.Outside.{Rose}
+use Rattle.flux_base.specs.Outside.{Gives, Rose}
 use Rattle.index_turns.specs.Track.{TrackState, room_of_times, room_of_indexes}
 use Rattle.kryo_stream.specs.declared.fault.StreamFault.TheVariants.{Truncated}
 use Rattle.kryo_stream.specs.declared.fault.TrackFault.{TrackFault}
 use Rattle.kryo_stream.specs.declared.fault.TrackFault.TheVariants.{ReadFault, Memory, Refused}
 use Rattle.kryo_stream.specs.Protocol.{LIMIT, MOST_HELD, MOST_PADDING}
 use Rattle.kryo_stream.specs.Padding.{unpadded}
+use Rattle.kryo_stream.specs.Reads.{SourceMoment}
 use Rattle.kryo_stream.specs.Stream.{first_fault, times, indexes, stream_length}
 
 abbrev pub Answer : Type 0
 Answer = Result (Unit {0}) TrackFault
 
--- x begins with a stream, and these are its times, its index times and what stands behind it
+-- x begins with a stream, and these are its times, its index times and what stands after it
 pub record IsStream (x : List ℕ) (flux : TrackState) (stays : List ℕ) : Type 0 where
   pub no_fault : first_fault x ≡ None
   pub times : flux.times ≡ times x
@@ -55,6 +57,19 @@ pub record IsRead (left left' : Option (List ℕ)) (used : Bool) (held held' : L
       → Says answer (input_of used ((held ++ taken) ++ later)) flux (held' ++ later)
   pub ended : IsTruncated answer → IsAtEnd left'
   pub cut : IsCut answer (input_of used (held ++ taken))
+
+-- the bytes at hand end inside a block, so that they do not tell the answer
+abbrev pub DoNotTell : Bool → List ℕ → Type 0
+DoNotTell used bytes = (block : ℕ) × (first_fault (input_of used bytes) ≡ Some (block, Truncated))
+
+-- each read of the source was made where the held bytes, with those that the reads before it gave, did not tell the answer;
+-- without a read the count of faults stays
+pub record IsReadWhereNeeded (old new : SourceMoment) (used : Bool) (held : List ℕ) : Type 0 where
+  pub pieces : List (List ℕ)
+  pub gave : Gives old.given new.given pieces
+  pub consumed : Consumes old.left new.left (concat pieces)
+  pub needed : (k : ℕ) → k < length pieces → DoNotTell used (held ++ concat (take k pieces))
+  pub still : pieces ≡ [] → new.faults ≡ old.faults
 
 -- the source tells what stays in it, and the answer is right for the whole input
 abbrev pub IsReadOfInput : List ℕ → Option (List ℕ) → List ℕ → TrackState → Answer → Type 0

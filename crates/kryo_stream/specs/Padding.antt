@@ -3,7 +3,7 @@ use Rattle.std.specs.Prelude.{◌≡◌, ◌≤◌, ◌<◌, ◌+◌, ◌==◌, 
 use Rattle.std.specs.List.{range_with_len}
 use Rattle.kryo_stream.specs.Protocol.{OUT_OF_BAND, MOST_PADDING}
 
--- byte i is 0D, and the byte behind it is 0D or does not exist, for which 0D stands too
+-- byte i is 0D, and the byte after it is 0D or does not exist, for which 0D stands too
 abbrev pub is_padding : List ℕ → ℕ → Bool
 is_padding x i = (get_or x i 0 == OUT_OF_BAND) && (get_or x (i + 1) OUT_OF_BAND == OUT_OF_BAND)
 
@@ -11,7 +11,7 @@ is_padding x i = (get_or x i 0 == OUT_OF_BAND) && (get_or x (i + 1) OUT_OF_BAND 
 abbrev pub padding_of : List ℕ → ℕ
 padding_of x = length (take_while (is_padding x) (range_with_len 0 MOST_PADDING))
 
--- what is left of x behind the padding
+-- what is left of x after the padding
 abbrev pub unpadded : List ℕ → List ℕ
 unpadded x = drop (padding_of x) x
 

@@ -25,7 +25,7 @@ INFO_TYPE = 4
 abbrev pub END_TYPE : ℕ
 END_TYPE = 13
 
--- the sizes behind the type; that of an Info is the length of its text, that of an End reads 0D0D
+-- the sizes after the type; that of an Info is the length of its text, that of an End reads 0D0D
 abbrev pub STREAM_INFO_SIZE : ℕ
 STREAM_INFO_SIZE = 8
 

@@ -1,4 +1,4 @@
--- A stream as a list of blocks that are spelled one behind another (KryoFlux stream protocol).
+-- A stream as a list of blocks that are spelled one after another (KryoFlux stream protocol).
 use Rattle.std.specs.Prelude.{◌≡◌, ◌≤◌, ◌<◌, ◌+◌, ◌++◌, ◌↔◌, ℕ, true, List, [], ◌∷◌, length, map, flat_map, None}
 use Rattle.std.specs.List.Sorted.{IsStrictlyIncreasing}
 use Rattle.kryo_stream.specs.declared.block.Block.{Block}
@@ -11,7 +11,7 @@ use Rattle.kryo_stream.specs.Stream.{in_stream_bytes, has_ended, block_ticks, ti
 use Rattle.kryo_stream.specs.Tally.{new_times}
 use Rattle.kryo_stream.specs.WellFormed.{MayStand}
 
--- the bytes of blocks, one behind another
+-- the bytes of blocks, one after another
 abbrev pub spellings : List Block → List ℕ
 spellings blocks = flat_map spelling blocks
 
@@ -23,7 +23,7 @@ abbrev pub all_spelled : List Block → List Piece
 all_spelled blocks = map spelled blocks
 
 -- a block may stand between these and those: its numbers fit its fields, the protocol lets it stand there, and it is an
--- End exactly where no block stands behind it
+-- End exactly where no block stands after it
 pub record StandsBetween (before : List Block) (block : Block) (behind : List Block) : Type 0 where
   pub numbers : IsWritable block
   pub place : MayStand (in_stream_bytes (all_spelled before)) (has_ended (all_spelled before)) block
@@ -34,14 +34,14 @@ abbrev pub transitions_from : ℕ → List Block → List ℕ
 transitions_from time [] = []
 transitions_from time (b ∷ bs) = new_times time b ++ transitions_from (time + block_ticks b) bs
 
--- a stream position lies before the end of the first block behind these, so that the in-stream byte there is that block's;
--- where no block is behind them, it is their own end
+-- a stream position lies before the end of the first block after these, so that the in-stream byte there is that block's;
+-- where no block follows them, it is their own end
 abbrev pub IsHeld : List Piece → List Piece → ℕ → Type 0
 IsHeld before [] position = position ≡ in_stream_bytes before
 IsHeld before (p ∷ ps) position = position < in_stream_bytes before + stream_step p
 
 -- an Index block of this position and sample counter is at this time: it counts from the time at which the block begins
--- that the in-stream byte at the position belongs to, and behind the last byte from the time behind all blocks
+-- that the in-stream byte at the position belongs to, and after the last byte from the time after all blocks
 pub record IsTurnAt (blocks : List Block) (position sample time : ℕ) : Type 0 where
   pub before : List Block
   pub behind : List Block
@@ -67,7 +67,7 @@ pub record AreInOrder (blocks : List Block) (turns : List ℕ) : Type 0 where
   pub enough : 2 ≤ length turns
   pub order : IsStrictlyIncreasing turns
 
--- the bytes are one stream without a fault, with these transitions and index times, and nothing stands behind it
+-- the bytes are one stream without a fault, with these transitions and index times, and nothing stands after it
 pub record IsStreamOf (bytes transitions turns : List ℕ) : Type 0 where
   pub no_fault : first_fault bytes ≡ None
   pub transitions_are : times bytes ≡ transitions

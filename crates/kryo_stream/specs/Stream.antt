@@ -26,7 +26,7 @@ is_in_stream (StreamEnd _ _) = false
 is_in_stream (Info _) = false
 is_in_stream End = false
 
--- the stream position behind so many blocks
+-- the stream position after so many blocks
 abbrev pub in_stream_bytes : List Piece → ℕ
 in_stream_bytes ps = sum_by (λ p. if is_in_stream p.block then p.bytes else 0) ps
 
@@ -76,7 +76,7 @@ abbrev pub holds_byte : List Piece → ℕ → ℕ → Bool
 holds_byte ps position j =
     nat_le (in_stream_bytes (take j ps)) position && nat_lt position (in_stream_bytes (take (j + 1) ps))
 
--- the number of the block that the byte belongs to, and behind the last byte the number of all blocks
+-- the number of the block that the byte belongs to, and after the last byte the number of all blocks
 abbrev pub block_of_byte : List Piece → ℕ → ℕ
 block_of_byte ps position = unwrap_or (find (holds_byte ps position) (range_with_len 0 (length ps))) (length ps)
 
@@ -88,7 +88,7 @@ index_time ps mark = ticks (take (block_of_byte ps mark.position) ps) + mark.sam
 abbrev pub indexes_of : List Piece → List ℕ
 indexes_of ps = map (index_time ps) (marks ps)
 
--- the fault of Index number k, which is this one: its position is behind the stream, or else its time is not above
+-- the fault of Index number k, which is this one: its position is past the stream's end, or else its time is not above
 -- that of the Index before it
 abbrev pub mark_fault : List Piece → ℕ → Mark → Option (ℕ × StreamFault)
 mark_fault ps k mark =
@@ -113,7 +113,7 @@ turn_fault ps = option_or (slice_get (mark_faults ps) 0)
 abbrev pub piece_after : List Piece → List ℕ → Reading
 piece_after ps bytes = piece_at (total_bytes ps) (in_stream_bytes ps) (has_ended ps) bytes
 
--- the block of x behind these blocks, or its fault
+-- the block of x after these blocks, or its fault
 abbrev pub piece_behind : List ℕ → List Piece → Reading
 piece_behind x ps = piece_after ps (drop (total_bytes ps) x)
 
@@ -159,7 +159,7 @@ first_fault x = fault_at x (last_block x) (piece_behind x (pieces x (last_block 
 abbrev pub stream : List ℕ → List Piece
 stream x = pieces x (last_block x + 1)
 
--- the times of its transitions, its index times, and what stands behind it
+-- the times of its transitions, its index times, and what stands after it
 abbrev pub times : List ℕ → List ℕ
 times x = times_of (stream x)
 

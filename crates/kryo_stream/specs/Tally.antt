@@ -11,7 +11,7 @@ use Rattle.kryo_stream.specs.Stream.{total_bytes, is_in_stream, in_stream_bytes,
 abbrev pub at_start : Before
 at_start = record { offset = 0; counted = 0; ended = false; time = 0 }
 
--- what stands before the block behind this one
+-- what stands before the block after this one
 abbrev pub behind : Before → Piece → Before
 behind b p = record {
   offset = b.offset + p.bytes;

@@ -9,7 +9,7 @@ use Rattle.kryo_stream.specs.Protocol.{LIMIT}
 use Rattle.kryo_stream.specs.Spelling.{IsWritable}
 use Rattle.kryo_stream.specs.Stream.{total_bytes, in_stream_bytes, has_ended, is_end, marks, indexes_of}
 
--- no in-stream block stands behind a StreamEnd, a position is the number of in-stream bytes so far, and a result code is 0
+-- no in-stream block stands after a StreamEnd, a position is the number of in-stream bytes so far, and a result code is 0
 abbrev pub MayStand : ℕ → Bool → Block → Type 0
 MayStand counted ended (Flux _) = ended ≡ false
 MayStand counted ended Overflow = ended ≡ false
@@ -27,7 +27,7 @@ pub record IsBlockOf (counted : ℕ) (ended : Bool) (bytes : List ℕ) (p : Piec
   pub numbers : IsWritable p.block
   pub place : MayStand counted ended p.block
 
--- the block of x behind these blocks
+-- the block of x after these blocks
 abbrev pub IsBlockBehind : List ℕ → List Piece → Piece → Type 0
 IsBlockBehind x before p = IsBlockOf (in_stream_bytes before) (has_ended before) (drop (total_bytes before) x) p
 

@@ -3,7 +3,7 @@ ghost use Rattle.std.specs.List.Sorted.{IsNonDecreasing};
 ghost use Rattle.kryo_stream.specs.Protocol.{LIMIT};
 ghost use Rattle.kryo_stream.specs.Stream.{in_stream_bytes, total_bytes, turn_fault, indexes_of};
 ghost use Rattle.index_turns.specs.Track.{KeepsRoom};
-ghost use Rattle.kryo_stream.specs.Bench.{HasFullBench, KeepsBenchRoom, IsNoted, IsSized, IsComplete, IsSearchable, TurnCause, PlaceCause, base_time, mark_time};
+ghost use Rattle.kryo_stream.specs.Bench.{HasFullBench, KeepsBenchRoom, KeepsNotes, IsNoted, IsSized, IsComplete, IsSearchable, TurnCause, PlaceCause, base_time, mark_time};
 
 use crate::block::{Block, Mark, Piece};
 use crate::fault::{StreamFault, TrackFault};
@@ -22,7 +22,7 @@ pub const MOST_INDEXES: usize = 262_144;
 const OVERFLOW_TICKS: u64 = 65536;
 
 /// What is kept of the blocks of a stream until its end, where the positions of its Index blocks are
-/// looked up. An Index may name any place of the stream, before or behind its own.
+/// looked up. An Index may name any place of the stream, before or after its own.
 ///
 /// It holds the stream positions of the transitions' ends and of the overflows, and no times: those of the
 /// transitions are in the track, and an overflow is 65536 ticks. With its full room that is 35 MiB.
@@ -62,15 +62,19 @@ impl StreamBench {
         }
     }
 
-    /// Makes room for the longest stream, so that no later call takes memory.
+    /// Makes room for the longest stream, so that no later call takes memory. What was noted stays, also
+    /// after `Memory`, when only some of the room may have grown.
     pub fn reserve(&mut self) -> Result<(), Memory>
         ensures full { OnOk result (HasFullBench self.new) }
+        ensures kept { KeepsNotes self.old self.new }
         ensures room { KeepsBenchRoom self.old self.new }
     {
-        self.clear();
-        self.ends.try_reserve(MOST_TIMES)?;
-        self.overflows.try_reserve(MOST_TIMES)?;
-        self.indexes.try_reserve(MOST_INDEXES)?;
+        self.ends
+            .try_reserve(MOST_TIMES.saturating_sub(self.ends.len()))?;
+        self.overflows
+            .try_reserve(MOST_TIMES.saturating_sub(self.overflows.len()))?;
+        self.indexes
+            .try_reserve(MOST_INDEXES.saturating_sub(self.indexes.len()))?;
         Ok(())
     }
 

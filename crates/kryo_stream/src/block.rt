@@ -1,7 +1,7 @@
 /// A block of a stream (KryoFlux stream protocol).
 #[derive(Clone, Copy, Debug, PartialEq, Eq)]
 pub enum Block {
-    /// A transition, so many ticks behind the one before, or behind the overflows since then.
+    /// A transition, so many ticks after the one before, or after the overflows since then.
     Flux {
         ticks: u16,
     },

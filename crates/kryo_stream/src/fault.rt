@@ -48,3 +48,14 @@ pub enum TrackFault {
     #[error("block {block}: {fault}")]
     Refused { block: u32, fault: StreamFault },
 }
+
+/// Why a track was not read in a room that was reserved for it.
+#[derive(Clone, Copy, Debug, PartialEq, Eq, Error)]
+pub enum RoomFault {
+    /// The source failed.
+    #[error("the source failed")]
+    ReadFault,
+    /// The input does not begin with a stream: the fault and its block's number from 0.
+    #[error("block {block}: {fault}")]
+    Refused { block: u32, fault: StreamFault },
+}

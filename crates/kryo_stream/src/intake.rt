@@ -1,6 +1,6 @@
 ghost use Rattle.std.specs.Prelude.{◌≡◌, ℕ, ◌+◌, ◌-◌, ◌≤◌, ◌<◌, [], length, take, drop, false, true, IfOk, OnErr};
 ghost use Rattle.std.specs.Io.KnownBytes.{ReadConsumes};
-ghost use Rattle.flux_base.specs.Outside.{Rose};
+ghost use Rattle.flux_base.specs.Outside.{GivesPiece, Rose};
 
 use flux_base::{Failed, Memory, Source};
 use std::alloc::Global;
@@ -42,6 +42,7 @@ impl Model for Intake {
 
 impl Intake {
     ghost use Rattle.kryo_stream.specs.Held.{Took, IsMore};
+    ghost use Rattle.kryo_stream.specs.Reads.{source_at, IsNothing};
 
     /// An intake that holds nothing and was not used.
     pub fn new(alloc: Global) -> Result<Intake, Memory>
@@ -90,7 +91,7 @@ impl Intake {
     /// Takes at least one more byte from the source, unless that has ended or fails.
     pub(crate) fn more<S: Source>(&mut self, source: &mut S) -> Result<More, Failed>
         requires { length self.old.held < 4096 }
-        ensures took { Took (S.left source.old) (S.left source.new) self.old.held self.new.held }
+        ensures took { Took IsNothing (source_at S.left S.given S.faults source.old) (source_at S.left S.given S.faults source.new) self.old.held self.new.held }
         ensures more { IfOk result (λ more. IsMore more self.old.held self.new.held (S.left source.new)) }
         ensures kept { OnErr result (self.new.held ≡ self.old.held) }
         ensures bound { length self.new.held ≤ 4096 }
@@ -113,7 +114,7 @@ impl Intake {
     }
 }
 
-/// Moves the bytes from `start` to `end` to the front, and reads behind them.
+/// Moves the bytes from `start` to `end` to the front, and reads more after them.
 fn take_more<S: Source>(
     buffer: &mut [u8],
     start: usize,
@@ -125,6 +126,7 @@ fn take_more<S: Source>(
     ensures bound { IfOk result (λ count. end - start + count ≤ length buffer.old) }
     ensures front { take (end - start) buffer.new ≡ take (end - start) (drop start buffer.old) }
     ensures bytes { ReadConsumes (S.left source.old) (S.left source.new) result (drop (end - start) buffer.new) }
+    ensures piece { GivesPiece (S.given source.old) (S.given source.new) result (drop (end - start) buffer.new) }
     ensures later { S.faults source.old ≤ S.faults source.new }
     ensures cause { OnErr result (Rose (S.faults source.old) (S.faults source.new)) }
 {

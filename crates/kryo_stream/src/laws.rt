@@ -26,8 +26,8 @@ pub fn spelling_law()
         → spelling a ++ later ≡ spelling b → spelling a ≡ spelling b }
 {}
 
-/// Blocks in the protocol's order, spelled one behind another, are one stream without a fault: with the
-/// transitions of the blocks, with their index times, and with nothing behind it.
+/// Blocks in the protocol's order, spelled one after another, are one stream without a fault: with the
+/// transitions of the blocks, with their index times, and with nothing after it.
 pub fn blocks_law()
     ensures { (blocks : List Block) (turns : List ℕ) → AreInOrder blocks turns
         → IsStreamOf (spellings blocks) (transitions_from 0 blocks) turns }

@@ -10,14 +10,16 @@ mod intake;
 mod laws;
 mod padding;
 mod reading;
+mod room;
 mod writing;
 
 pub use bench::{MOST_INDEXES, MOST_TIMES, StreamBench};
 pub use block::{Block, Mark, Piece};
-pub use fault::{StreamFault, TrackFault};
+pub use fault::{RoomFault, StreamFault, TrackFault};
 pub use intake::Intake;
 pub use laws::{blocks_law, padding_law, spelling_law, stream_law};
 pub use reading::read_track;
+pub use room::StreamRoom;
 pub use writing::{index_spelling, write_block};
 
 #[cfg(test)]
@@ -80,6 +82,25 @@ mod tests {
                 assert_eq!(rt; second, answer, "in chunks of {chunk}");
             }
         }
+        Ok(())
+    }
+
+    // The second stream is held when the first was read, and a source of single bytes is left at its End.
+    #[test]
+    fn reads_only_where_the_bytes_at_hand_do_not_tell(rt: HostRuntime) -> Result<(), Fail> {
+        let alloc = rt.alloc();
+        let mut input = ONE_TURN.to_vec(alloc)?;
+        input.extend_from_slice(ONE_TURN)?;
+        let mut room = StreamRoom::reserve(alloc)?;
+        let mut source = MemorySource::new(input.clone()?, 4096, Vec::new(alloc));
+        assert_eq!(rt; room.read(&mut source), Ok(()));
+        assert_eq!(rt; room.read(&mut source), Ok(()));
+        assert_eq!(rt; source.calls(), 1);
+        assert_eq!(rt; room.flux().indexes(), [0, 197].as_slice());
+        let mut room = StreamRoom::reserve(alloc)?;
+        let mut source = MemorySource::new(input, 1, Vec::new(alloc));
+        assert_eq!(rt; room.read(&mut source), Ok(()));
+        assert_eq!(rt; source.calls() as usize, ONE_TURN.len());
         Ok(())
     }
 

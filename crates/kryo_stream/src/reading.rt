@@ -5,9 +5,10 @@ ghost use Rattle.index_turns.specs.Track.{KeepsRoom};
 ghost use Rattle.kryo_stream.specs.declared.fault.StreamFault.TheVariants.{Truncated};
 ghost use Rattle.kryo_stream.specs.Bench.{HasFullBench, KeepsBenchRoom, IsNoted, IsSized};
 ghost use Rattle.kryo_stream.specs.Held.{Took};
-ghost use Rattle.kryo_stream.specs.Outcome.{IsRead, IsReadOfInput, IsNotMemory, TrackCause, HasFullRoom, IsSmall, input_of};
+ghost use Rattle.kryo_stream.specs.Outcome.{IsRead, IsReadOfInput, IsReadWhereNeeded, IsNotMemory, TrackCause, HasFullRoom, IsSmall, input_of};
 ghost use Rattle.kryo_stream.specs.Pieces.{piece_at, IsText};
-ghost use Rattle.kryo_stream.specs.Progress.{TakesBlock, IsSkipped, IsUnpadded};
+ghost use Rattle.kryo_stream.specs.Progress.{TakesOpenly, IsBlockOpen, TakesBlock, IsSkipped, IsUnpadded};
+ghost use Rattle.kryo_stream.specs.Reads.{source_at};
 ghost use Rattle.kryo_stream.specs.Stream.{in_stream_bytes, total_bytes};
 ghost use Rattle.kryo_stream.specs.Tally.{IsWithin, MayFollow, new_times};
 
@@ -26,7 +27,7 @@ use index_turns::TrackFlux;
 ///
 /// `Ok` means that the input begins with a stream. `flux` then holds the times of its transitions and its
 /// index times, in ticks, and what follows its End block stays. `Refused` names the first fault of the
-/// input and its block. The source is read only where the bytes at hand do not hold the rest of the stream.
+/// input and its block. The source is read only where the bytes at hand do not tell the answer.
 /// After each `Err` the intake may not be used again for reading.
 pub fn read_track<S: Source>(
     source: &mut S,
@@ -39,6 +40,9 @@ pub fn read_track<S: Source>(
     ensures told { (bytes : List ℕ) → S.left source.old ≡ Some bytes → IsReadOfInput (input_of intake.old.used (intake.old.held ++ bytes)) (S.left source.new) intake.new.held flux.new result }
     ensures used { intake.new.used ≡ true }
     ensures bound { length intake.new.held ≤ 4096 }
+
+    // The source is read only where the bytes at hand do not tell the answer.
+    ensures needed { IsReadWhereNeeded (source_at S.left S.given S.faults source.old) (source_at S.left S.given S.faults source.new) intake.old.used intake.old.held }
 
     // The track is as small as the limit of a stream makes it.
     ensures few_times { length flux.new.times ≤ 4194304 }
@@ -79,7 +83,7 @@ pub fn read_track<S: Source>(
 /// Notes that a stream is read through the intake, and passes over the padding in front of it. `End` says
 /// that the input is nothing but padding.
 fn begin<S: Source>(source: &mut S, intake: &mut Intake) -> Result<More, Failed>
-    ensures unpadded { IsUnpadded (S.left source.old) (S.left source.new) intake.old.used intake.old.held intake.new.held result }
+    ensures unpadded { IsUnpadded (source_at S.left S.given S.faults source.old) (source_at S.left S.given S.faults source.new) intake.old.used intake.old.held intake.new.held result }
     ensures used { intake.new.used ≡ true }
     ensures bound { length intake.new.held ≤ 4096 }
     ensures later { S.faults source.old ≤ S.faults source.new }
@@ -94,7 +98,7 @@ fn begin<S: Source>(source: &mut S, intake: &mut Intake) -> Result<More, Failed>
 
 /// Passes over the padding at the front of the input.
 fn pass_padding<S: Source>(source: &mut S, intake: &mut Intake) -> Result<More, Failed>
-    ensures unpadded { IsUnpadded (S.left source.old) (S.left source.new) true intake.old.held intake.new.held result }
+    ensures unpadded { IsUnpadded (source_at S.left S.given S.faults source.old) (source_at S.left S.given S.faults source.new) true intake.old.held intake.new.held result }
     ensures used { intake.new.used ≡ intake.old.used }
     ensures bound { length intake.new.held ≤ 4096 }
     ensures later { S.faults source.old ≤ S.faults source.new }
@@ -126,6 +130,7 @@ fn read_stream<S: Source>(
     requires times { flux.old.times ≡ [] }
     requires indexes { flux.old.indexes ≡ [] }
     ensures small { OnOk result (IsSmall flux.new) }
+    ensures takes { (taken : List ℕ) × TakesOpenly false intake.old.held (source_at S.left S.given S.faults source.old) (source_at S.left S.given S.faults source.new) taken }
     ensures read { IsRead (S.left source.old) (S.left source.new) false intake.old.held intake.new.held flux.new result }
     ensures bound { length intake.new.held ≤ 4096 }
     ensures used { intake.new.used ≡ intake.old.used }
@@ -184,7 +189,7 @@ fn take_block<S: Source>(
     before: &Before,
 ) -> Result<Result<Piece, StreamFault>, Failed>
     requires within { IsWithin before.now }
-    ensures takes { TakesBlock (S.left source.old) (S.left source.new) intake.old.held intake.new.held before.now result }
+    ensures takes { TakesBlock (source_at S.left S.given S.faults source.old) (source_at S.left S.given S.faults source.new) intake.old.held intake.new.held before.now result }
     ensures sized { IfOk result (λ reading. IfOk reading IsSized) }
     ensures bound { length intake.new.held ≤ 4096 }
     ensures used { intake.new.used ≡ intake.old.used }
@@ -216,7 +221,7 @@ fn take_text<S: Source>(
     requires bound { length intake.old.held ≤ 4096 }
     requires truncated { piece_at before.now.offset before.now.counted before.now.ended intake.old.held ≡ Err Truncated }
     requires ended { ((size : ℕ) → IsText before.now.offset intake.old.held size → ⊥) → IsAtEnd (S.left source.old) }
-    ensures takes { TakesBlock (S.left source.old) (S.left source.new) intake.old.held intake.new.held before.now result }
+    ensures takes { TakesBlock (source_at S.left S.given S.faults source.old) (source_at S.left S.given S.faults source.new) intake.old.held intake.new.held before.now result }
     ensures sized { IfOk result (λ reading. IfOk reading IsSized) }
     ensures bound { length intake.new.held ≤ 4096 }
     ensures used { intake.new.used ≡ intake.old.used }
@@ -241,7 +246,7 @@ fn take_text<S: Source>(
 /// Passes over so many bytes of the input, which may be more than an intake holds.
 fn skip<S: Source>(source: &mut S, intake: &mut Intake, count: usize) -> Result<More, Failed>
     requires count { count < 2 ^ 32 }
-    ensures skipped { IsSkipped (S.left source.old) (S.left source.new) intake.old.held intake.new.held count result }
+    ensures skipped { IsSkipped (source_at S.left S.given S.faults source.old) (source_at S.left S.given S.faults source.new) intake.old.held intake.new.held count result }
     ensures bound { length intake.new.held ≤ 4096 }
     ensures used { intake.new.used ≡ intake.old.used }
     ensures later { S.faults source.old ≤ S.faults source.new }
@@ -272,7 +277,7 @@ fn next_block<S: Source>(
     before: &Before,
 ) -> Result<Result<Piece, StreamFault>, Failed>
     requires within { IsWithin before.now }
-    ensures took { Took (S.left source.old) (S.left source.new) intake.old.held intake.new.held }
+    ensures took { Took (IsBlockOpen before.now intake.old.held) (source_at S.left S.given S.faults source.old) (source_at S.left S.given S.faults source.new) intake.old.held intake.new.held }
     ensures bound { length intake.new.held ≤ 4096 }
     ensures reading { IfOk result (λ reading. reading ≡ piece_at before.now.offset before.now.counted before.now.ended intake.new.held) }
     ensures sized { IfOk result (λ reading. IfOk reading IsSized) }

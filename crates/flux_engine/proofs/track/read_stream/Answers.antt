@@ -14,4 +14,4 @@ returns-in-Ok-clause-read g c = read_whole _ _ _ _ _ _ _ _ c.in-Ok.ensures.read
 
 pub returns-in-Ok-clause-bounded : goal.returns-in-Ok-clause-bounded
 returns-in-Ok-clause-bounded g c =
-    read_bounded c.args.number _ _ _ _ _ _ _ c.in-Ok.ensures.read c.in-Ok.ensures.few_times c.in-Ok.ensures.few_indexes c.in-Ok.ensures.times_within c.in-Ok.ensures.indexes_within
+    read_bounded c.args.number _ _ _ _ _ _ _ c.in-Ok.ensures.read c.in-Ok.ensures.small.few_times c.in-Ok.ensures.small.few_indexes c.in-Ok.ensures.small.times_within c.in-Ok.ensures.small.indexes_within

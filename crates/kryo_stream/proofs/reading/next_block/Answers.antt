@@ -1,7 +1,9 @@
-use Rattle.std.proofs.Common.{◌≡◌, ◌<◌, ◌∙◌, ap, sym, subst, arith, length}
-use Rattle.kryo_stream.specs.Pieces.{IsText}
+use Rattle.std.proofs.Common.{◌≡◌, ◌<◌, ◌∙◌, ap, sym, subst, arith, length, List, ℕ, Err}
+use Rattle.kryo_stream.specs.declared.fault.StreamFault.TheVariants.{Truncated}
+use Rattle.kryo_stream.specs.Pieces.{IsText, piece_at}
+use Rattle.kryo_stream.specs.Progress.{IsBlockOpen}
 use Rattle.kryo_stream.proofs.Pieces.{piece_at-short}
-use Rattle.kryo_stream.proofs.Taking.{Took-trans}
+use Rattle.kryo_stream.proofs.Taking.{Took-more}
 use Rattle.kryo_stream.proofs.reading.next_block.Goals as goal
 
 pub more-requires : goal.more-requires
@@ -24,14 +26,29 @@ loop-reading-smaller g c =
     omega (arith, short, same, more)
 
 pub loop-reading-preserved : goal.loop-reading-preserved
-loop-reading-preserved g c = record {
-  took = Took-trans c.loop-reading.invariant.took c.more.ensures.took;
-  used = c.more.ensures.used ∙ c.loop-reading.invariant.used;
-  later = omega (arith, c.loop-reading.invariant.later, c.more.ensures.later);
-}
+loop-reading-preserved g c =
+    let is = rw c.in-Err-Truncated.field-0-is at c.in-Err-Truncated.ensures.value in
+    let b = c.args.before.now in
+    let untold : IsBlockOpen b c.args.intake.now.held c.loop-reading.invariant.took.taken =
+    subst (λ (y : List ℕ). piece_at b.offset b.counted b.ended y ≡ Err Truncated) (c.bytes.ensures.value ∙ c.loop-reading.invariant.took.grown) (sym is) in
+    record {
+      took = Took-more c.loop-reading.invariant.took c.more.ensures.took untold;
+      used = c.more.ensures.used ∙ c.loop-reading.invariant.used;
+      later = omega (arith, c.loop-reading.invariant.later, c.more.ensures.later);
+    }
 
 pub returns-in-Ok-End-clause-took : goal.returns-in-Ok-End-clause-took
-returns-in-Ok-End-clause-took g c = Took-trans c.loop-reading.invariant.took c.more.ensures.took
+returns-in-Ok-End-clause-took g c =
+    let is = rw c.in-Err-Truncated.field-0-is at c.in-Err-Truncated.ensures.value in
+    let b = c.args.before.now in
+    let untold : IsBlockOpen b c.args.intake.now.held c.loop-reading.invariant.took.taken =
+    subst (λ (y : List ℕ). piece_at b.offset b.counted b.ended y ≡ Err Truncated) (c.bytes.ensures.value ∙ c.loop-reading.invariant.took.grown) (sym is) in
+    Took-more c.loop-reading.invariant.took c.more.ensures.took untold
 
 pub returns-in-Err-clause-took : goal.returns-in-Err-clause-took
-returns-in-Err-clause-took g c = Took-trans c.loop-reading.invariant.took c.more.ensures.took
+returns-in-Err-clause-took g c =
+    let is = rw c.in-Err-Truncated.field-0-is at c.in-Err-Truncated.ensures.value in
+    let b = c.args.before.now in
+    let untold : IsBlockOpen b c.args.intake.now.held c.loop-reading.invariant.took.taken =
+    subst (λ (y : List ℕ). piece_at b.offset b.counted b.ended y ≡ Err Truncated) (c.bytes.ensures.value ∙ c.loop-reading.invariant.took.grown) (sym is) in
+    Took-more c.loop-reading.invariant.took c.more.ensures.took untold

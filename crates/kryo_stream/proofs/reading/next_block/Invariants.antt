@@ -1,10 +1,13 @@
 use Rattle.std.proofs.Common.{◌≡◌, ◌≤◌, ◌-◌, length}
 use Rattle.kryo_stream.specs.Held.{Took}
+use Rattle.kryo_stream.specs.Progress.{IsBlockOpen}
+use Rattle.kryo_stream.specs.Reads.{source_at}
 use Rattle.kryo_stream.proofs.reading.next_block.Given as goal
 
 abbrev pub invariant-loop-reading : goal.invariant-loop-reading
 invariant-loop-reading g l = record {
-  took : Took (g.S.Source.left l.initial.source) (g.S.Source.left l.source) l.initial.intake.held l.intake.held;
+  took : Took (IsBlockOpen l.before l.initial.intake.held) (source_at g.S.Source.left g.S.Source.given g.S.Source.faults l.initial.source)
+      (source_at g.S.Source.left g.S.Source.given g.S.Source.faults l.source) l.initial.intake.held l.intake.held;
   used : l.intake.used ≡ l.initial.intake.used;
   later : g.S.Source.faults l.initial.source ≤ g.S.Source.faults l.source;
 }

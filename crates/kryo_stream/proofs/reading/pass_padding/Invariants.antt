@@ -1,10 +1,13 @@
-use Rattle.std.proofs.Common.{◌≡◌, ◌≤◌, ◌-◌, length}
+use Rattle.std.proofs.Common.{◌≡◌, ◌≤◌, ◌-◌, ◌++◌, true, length}
 use Rattle.kryo_stream.specs.Held.{Took}
+use Rattle.kryo_stream.specs.Outcome.{DoNotTell}
+use Rattle.kryo_stream.specs.Reads.{source_at}
 use Rattle.kryo_stream.proofs.reading.pass_padding.Given as goal
 
 abbrev pub invariant-loop-count : goal.invariant-loop-count
 invariant-loop-count g l = record {
-  took : Took (g.S.Source.left l.initial.source) (g.S.Source.left l.source) l.initial.intake.held l.intake.held;
+  took : Took (λ so_far. DoNotTell true (l.initial.intake.held ++ so_far)) (source_at g.S.Source.left g.S.Source.given g.S.Source.faults l.initial.source)
+      (source_at g.S.Source.left g.S.Source.given g.S.Source.faults l.source) l.initial.intake.held l.intake.held;
   used : l.intake.used ≡ l.initial.intake.used;
   later : g.S.Source.faults l.initial.source ≤ g.S.Source.faults l.source;
 }

@@ -1,9 +1,10 @@
 use Rattle.std.proofs.Common.{◌≡◌, ◌∙◌, ◌++◌, ℕ, ap, arith, refl, false, true, Ok, length}
 use Rattle.kryo_stream.proofs.Pieces.{piece_at-follows}
-use Rattle.kryo_stream.proofs.Answering.{Progress-start, Progress-push, read_refused, read_failed, read_memory, at_end, complete, read_end, not_end, note_finds_room, end_finds_room, end_cause, end_small}
+use Rattle.kryo_stream.proofs.Answering.{Progress-start, Progress-push, taken_for_block, read_refused, read_failed, read_memory, at_end, complete, read_end, not_end, note_finds_room, end_finds_room, end_cause, end_small}
 use Rattle.kryo_stream.specs.declared.block.Piece.{Piece}
 use Rattle.kryo_stream.specs.declared.block.Block.TheVariants.{Flux}
 use Rattle.kryo_stream.specs.Held.{IntakeState}
+use Rattle.kryo_stream.specs.Reads.{source_at}
 use Rattle.kryo_stream.proofs.Skipping.{takes_held}
 use Rattle.kryo_stream.proofs.reading.read_stream.Goals as goal
 
@@ -119,14 +120,14 @@ behind-before-requires g c = record {
 
 pub returns-in-Err-clause-read : goal.returns-in-Err-clause-read
 returns-in-Err-clause-read g c =
-    let takes = takes_held (g.S.Source.left c.loop-number.source) c.loop-number.intake.held c.pass.new.self.held c.loop-number.before (short c.in-Some.ticks)
+    let takes = takes_held (source_at g.S.Source.left g.S.Source.given g.S.Source.faults c.loop-number.source) c.loop-number.intake.held c.pass.new.self.held c.loop-number.before (short c.in-Some.ticks)
     c.loop-number.invariant.progress.reading.tally.within.offset (rw (← c.bytes.ensures.value) c.bytes.ensures.bound) (rw (← c.bytes.ensures.value) c.in-Some.ensures.reading)
     (ap (λ (s : IntakeState). s.held) c.pass.ensures) in
     read_memory c.note.new.flux (Ok (Ok (short c.in-Some.ticks))) c.loop-number.invariant.progress takes
 
 pub returns-in-Err-clause-memory : goal.returns-in-Err-clause-memory
 returns-in-Err-clause-memory g c = λ full full_bench.
-    let takes = takes_held (g.S.Source.left c.loop-number.source) c.loop-number.intake.held c.pass.new.self.held c.loop-number.before (short c.in-Some.ticks)
+    let takes = takes_held (source_at g.S.Source.left g.S.Source.given g.S.Source.faults c.loop-number.source) c.loop-number.intake.held c.pass.new.self.held c.loop-number.before (short c.in-Some.ticks)
     c.loop-number.invariant.progress.reading.tally.within.offset (rw (← c.bytes.ensures.value) c.bytes.ensures.bound) (rw (← c.bytes.ensures.value) c.in-Some.ensures.reading)
     (ap (λ (s : IntakeState). s.held) c.pass.ensures) in
     let bad : false ≡ true = note_finds_room (false ≡ true) c.args.flux.now c.loop-number.flux c.args.bench.now c.loop-number.bench c.loop-number.invariant.progress takes
@@ -134,7 +135,7 @@ returns-in-Err-clause-memory g c = λ full full_bench.
 
 pub loop-number-preserved-in-Some : goal.loop-number-preserved-in-Some
 loop-number-preserved-in-Some g c =
-    let takes = takes_held (g.S.Source.left c.loop-number.source) c.loop-number.intake.held c.pass.new.self.held c.loop-number.before (short c.in-Some.ticks)
+    let takes = takes_held (source_at g.S.Source.left g.S.Source.given g.S.Source.faults c.loop-number.source) c.loop-number.intake.held c.pass.new.self.held c.loop-number.before (short c.in-Some.ticks)
     c.loop-number.invariant.progress.reading.tally.within.offset (rw (← c.bytes.ensures.value) c.bytes.ensures.bound) (rw (← c.bytes.ensures.value) c.in-Some.ensures.reading)
     (ap (λ (s : IntakeState). s.held) c.pass.ensures) in record {
       progress = rw (c.behind-before.ensures.value, c.in-Ok.ensures.times)
@@ -152,3 +153,15 @@ loop-number-preserved-in-Some g c =
       };
       later = c.loop-number.invariant.later;
     }
+
+pub returns-in-Ok-Err-clause-takes : goal.returns-in-Ok-Err-clause-takes
+returns-in-Ok-Err-clause-takes g c = taken_for_block c.loop-number.invariant.progress c.in-Ok-Err.ensures.takes
+
+pub returns-in-Err-take_block-clause-takes : goal.returns-in-Err-take_block-clause-takes
+returns-in-Err-take_block-clause-takes g c = taken_for_block c.loop-number.invariant.progress c.in-Err-take_block.ensures.takes
+
+pub returns-in-Err-note-clause-takes : goal.returns-in-Err-note-clause-takes
+returns-in-Err-note-clause-takes g c = taken_for_block c.loop-number.invariant.progress c.take_block.ensures.takes
+
+pub returns-in-End-clause-takes : goal.returns-in-End-clause-takes
+returns-in-End-clause-takes g c = taken_for_block c.loop-number.invariant.progress c.take_block.ensures.takes

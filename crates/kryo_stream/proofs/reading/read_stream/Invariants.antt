@@ -2,12 +2,13 @@ use Rattle.std.proofs.Common.{◌≡◌, ◌≤◌, []}
 use Rattle.index_turns.specs.Track.{KeepsRoom}
 use Rattle.kryo_stream.specs.Bench.{KeepsBenchRoom}
 use Rattle.kryo_stream.specs.Progress.{Progress}
+use Rattle.kryo_stream.specs.Reads.{source_at}
 use Rattle.kryo_stream.proofs.reading.read_stream.Given as goal
 
 abbrev pub invariant-loop-number : goal.invariant-loop-number
 invariant-loop-number g l = record {
-  progress : Progress (g.S.Source.left l.initial.source) (g.S.Source.left l.source) l.initial.intake.held l.intake.held l.number
-      l.before l.flux.times l.bench;
+  progress : Progress (source_at g.S.Source.left g.S.Source.given g.S.Source.faults l.initial.source)
+      (source_at g.S.Source.left g.S.Source.given g.S.Source.faults l.source) l.initial.intake.held l.intake.held l.number l.before l.flux.times l.bench;
   indexes : l.flux.indexes ≡ [];
   used : l.intake.used ≡ l.initial.intake.used;
   room : KeepsRoom l.initial.flux l.flux;

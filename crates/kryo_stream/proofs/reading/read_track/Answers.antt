@@ -2,7 +2,8 @@ use Rattle.std.proofs.Common.{Ok, Err}
 use Rattle.kryo_stream.specs.declared.fault.StreamFault.TheVariants.{Truncated}
 use Rattle.kryo_stream.specs.declared.fault.TrackFault.TheVariants.{Refused}
 use Rattle.kryo_stream.proofs.Answering.{IsRead-told, IsRead-fault}
-use Rattle.kryo_stream.proofs.Unpadding.{IsRead-behind, IsRead-padding, IsRead-cut_padding}
+use Rattle.kryo_stream.proofs.Taking.{reads_needed}
+use Rattle.kryo_stream.proofs.Unpadding.{taken_behind, IsRead-behind, IsRead-padding, IsRead-cut_padding}
 use Rattle.kryo_stream.proofs.reading.read_track.Goals as goal
 
 pub returns-in-Ok-End-clause-read : goal.returns-in-Ok-End-clause-read
@@ -40,3 +41,19 @@ returns-in-Err-read_stream-clause-told g c = λ bytes told.
     IsRead-told c.clear-in-Err-read_stream.new.self (Err c.in-Err-read_stream.fault) bytes
     (IsRead-fault c.read_stream.new.flux c.clear-in-Err-read_stream.new.self c.in-Err-read_stream.fault
     (IsRead-behind c.read_stream.new.flux (Err c.in-Err-read_stream.fault) unpadded c.in-Err-read_stream.ensures.read)) told
+
+pub returns-in-Ok-End-clause-needed : goal.returns-in-Ok-End-clause-needed
+returns-in-Ok-End-clause-needed g c = reads_needed c.in-Ok-End.ensures.unpadded.takes
+
+pub returns-in-Err-clause-needed : goal.returns-in-Err-clause-needed
+returns-in-Err-clause-needed g c = reads_needed c.in-Err.ensures.unpadded.takes
+
+pub returns-in-Ok-clause-needed : goal.returns-in-Ok-clause-needed
+returns-in-Ok-clause-needed g c =
+    let unpadded = rw c.in-Ok-Taken.field-0-is at c.in-Ok-Taken.ensures.unpadded in
+    taken_behind unpadded c.read_stream.ensures.takes.1
+
+pub returns-in-Err-read_stream-clause-needed : goal.returns-in-Err-read_stream-clause-needed
+returns-in-Err-read_stream-clause-needed g c =
+    let unpadded = rw c.in-Ok-Taken.field-0-is at c.in-Ok-Taken.ensures.unpadded in
+    taken_behind unpadded c.read_stream.ensures.takes.1

@@ -1,10 +1,12 @@
 use Rattle.std.proofs.Common.{◌≡◌, ◌≤◌, ◌+◌, ◌*◌, ◌-◌, length}
 use Rattle.kryo_stream.specs.Progress.{IsPassing}
+use Rattle.kryo_stream.specs.Reads.{source_at}
 use Rattle.kryo_stream.proofs.reading.skip.Given as goal
 
 abbrev pub invariant-loop-rest : goal.invariant-loop-rest
 invariant-loop-rest g l = record {
-  passing : IsPassing (g.S.Source.left l.initial.source) (g.S.Source.left l.source) l.initial.intake.held l.intake.held (l.count - l.rest);
+  passing : IsPassing (source_at g.S.Source.left g.S.Source.given g.S.Source.faults l.initial.source)
+      (source_at g.S.Source.left g.S.Source.given g.S.Source.faults l.source) l.initial.intake.held l.intake.held l.count (l.count - l.rest);
   within : l.rest ≤ l.count;
   used : l.intake.used ≡ l.initial.intake.used;
   later : g.S.Source.faults l.initial.source ≤ g.S.Source.faults l.source;

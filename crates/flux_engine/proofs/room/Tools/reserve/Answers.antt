@@ -13,9 +13,7 @@ returns c =
     c.sectors_of-sectors.ensures ∙ ap (sectors_of c.args.format) first_track in
     let shape = c.in_ok-book.ensures.shape in
     record {
-      for_flux = record { times = omega (arith, c.in_ok-reserve.ensures.spare_times); indexes = omega (arith, c.in_ok-reserve.ensures.spare_indexes) };
-      for_bench = c.in_ok-reserve-2.ensures.full;
-      for_cells = omega (arith, c.in_ok-reserve-3.ensures.spare);
+      for_cells = omega (arith, c.in_ok-reserve.ensures.spare);
       for_book = record {
         first = shape.first_is ∙ ap (λ (s : Sectors). s.first) sectors;
         size = shape.size_is ∙ ap (λ (s : Sectors). s.size) sectors;

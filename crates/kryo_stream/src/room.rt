@@ -1,0 +1,85 @@
+ghost use Rattle.std.specs.Prelude.{◌≡◌, ◌≤◌, ◌++◌, ℕ, List, [], length, Some, true, IfOk, OnErr};
+ghost use Rattle.kryo_stream.specs.Outcome.{IsRead, IsReadOfInput, IsReadWhereNeeded, IsSmall, TrackCause, input_of};
+ghost use Rattle.kryo_stream.specs.Reads.{source_at};
+
+use crate::bench::{MOST_INDEXES, MOST_TIMES, StreamBench};
+use crate::fault::{RoomFault, TrackFault};
+use crate::intake::Intake;
+use crate::reading::read_track;
+use flux_base::{Memory, Source};
+use index_turns::TrackFlux;
+use std::alloc::Global;
+use std::marker::Model;
+
+/// All that reading streams one after another takes, 70 MiB: no call on it takes memory.
+///
+/// Contracts see the bytes that were taken from the source and not used yet, whether a stream was read, and
+/// the transitions and index times of the stream that was read last.
+#[derive(Drop)]
+pub struct StreamRoom {
+    intake: Intake,
+    flux: TrackFlux,
+    bench: StreamBench,
+}
+
+impl Model for StreamRoom {
+    ghost use Rattle.kryo_stream.specs.Room.{StreamRoomState};
+
+    ghost Value = { StreamRoomState };
+
+    ghost use Rattle.kryo_stream.specs.Bench.{HasFullBench};
+    ghost use Rattle.kryo_stream.specs.Outcome.{HasFullRoom};
+
+    ghost view = { λ r. record { held = r.intake.held; used = r.intake.used; flux = r.flux } };
+
+    ghost invariant = { λ r. HasFullRoom r.flux × HasFullBench r.bench };
+}
+
+impl StreamRoom {
+    ghost use Rattle.kryo_stream.specs.Room.{IsFresh, track_answer};
+
+    /// Takes all memory that reading the longest stream needs.
+    pub fn reserve(alloc: Global) -> Result<StreamRoom, Memory>
+        ensures { IfOk result IsFresh }
+    {
+        let mut flux = TrackFlux::new(alloc);
+        flux.reserve(MOST_TIMES, MOST_INDEXES)?;
+        let mut bench = StreamBench::new(alloc);
+        bench.reserve()?;
+        Ok(StreamRoom {
+            intake: Intake::new(alloc)?,
+            flux,
+            bench,
+        })
+    }
+
+    /// Reads one stream, as `read_track` does. After each `Err` the track is empty, and the room may not be
+    /// used again for reading.
+    pub fn read<S: Source>(&mut self, source: &mut S) -> Result<(), RoomFault>
+        ensures read { IsRead (S.left source.old) (S.left source.new) self.old.used self.old.held self.new.held self.new.flux (track_answer result) }
+        ensures told { (bytes : List ℕ) → S.left source.old ≡ Some bytes → IsReadOfInput (input_of self.old.used (self.old.held ++ bytes)) (S.left source.new) self.new.held self.new.flux (track_answer result) }
+        ensures needed { IsReadWhereNeeded (source_at S.left S.given S.faults source.old) (source_at S.left S.given S.faults source.new) self.old.used self.old.held }
+        ensures used { self.new.used ≡ true }
+        ensures bound { length self.new.held ≤ 4096 }
+        ensures small { IsSmall self.new.flux }
+        ensures no_times { OnErr result (self.new.flux.times ≡ []) }
+        ensures no_indexes { OnErr result (self.new.flux.indexes ≡ []) }
+        ensures later { S.faults source.old ≤ S.faults source.new }
+        ensures cause { TrackCause (S.faults source.old) (S.faults source.new) (track_answer result) }
+    {
+        match read_track(source, &mut self.intake, &mut self.flux, &mut self.bench) {
+            Ok(()) => Ok(()),
+            Err(TrackFault::ReadFault) => Err(RoomFault::ReadFault),
+            Err(TrackFault::Refused { block, fault }) => Err(RoomFault::Refused { block, fault }),
+            // All room was reserved.
+            Err(TrackFault::Memory) => unreachable!(),
+        }
+    }
+
+    /// The transitions and index times of the stream that was read last.
+    pub fn flux(&self) -> &TrackFlux
+        ensures { result.now ≡ self.now.flux }
+    {
+        &self.flux
+    }
+}
