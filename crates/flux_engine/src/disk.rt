@@ -10,7 +10,7 @@ use crate::room::DiskRoom;
 use crate::track::decode_track;
 use crate::writing::no_totals;
 use flux_base::{Sink, Source};
-use sector_images::track_count;
+use sector_images::{sectors_lie_in_images, track_count, tracks_keep_bounds};
 use sector_report::{Totals, total_line, write_line};
 
 /// Decodes all tracks of a disk in order, as `decode_track` does each, and then writes the total line to
@@ -31,23 +31,6 @@ pub fn decode_disk<S: Source, W: Sink, N: Sink>(
 
     // Over a source and sinks that do not fail there is no other answer.
     ensures complete { Stayed (S.faults source.old) (S.faults source.new) → Stayed (W.faults image.old) (W.faults image.new) → Stayed (N.faults notes.old) (N.faults notes.new) → IsWholeOrRefused result }
-    ensures source_later { S.faults source.old ≤ S.faults source.new }
-    ensures image_later { W.faults image.old ≤ W.faults image.new }
-    ensures notes_later { N.faults notes.old ≤ N.faults notes.new }
-{
-    decode_and_total(room, source, image, notes)
-}
-
-/// Decodes all tracks of a disk in order, and writes the total line.
-fn decode_and_total<S: Source, W: Sink, N: Sink>(
-    room: &mut DiskRoom,
-    source: &mut S,
-    image: &mut W,
-    notes: &mut N,
-) -> Result<Totals, EngineFault>
-    requires { room.old ≡ fresh room.old.format }
-    ensures decoded { DecodesDisk room.old.format (S.left source.old) (S.left source.new) (W.written image.old) (W.written image.new) (N.written notes.old) (N.written notes.new) result }
-    ensures cause { EngineCause (S.faults source.old) (S.faults source.new) (W.faults image.old) (W.faults image.new) (N.faults notes.old) (N.faults notes.new) result }
     ensures source_later { S.faults source.old ≤ S.faults source.new }
     ensures image_later { W.faults image.old ≤ W.faults image.new }
     ensures notes_later { N.faults notes.old ≤ N.faults notes.new }
@@ -77,6 +60,8 @@ fn decode_tracks<S: Source, W: Sink, N: Sink>(
     ensures image_later { W.faults image.old ≤ W.faults image.new }
     ensures notes_later { N.faults notes.old ≤ N.faults notes.new }
 {
+    tracks_keep_bounds();
+    sectors_lie_in_images();
     let mut totals = no_totals();
     for number in 0..track_count(room.format) {
         match decode_track(room, number, source, image, notes) {

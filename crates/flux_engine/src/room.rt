@@ -5,7 +5,7 @@ use cell_bits::Cells;
 use flux_base::Memory;
 use kryo_stream::{MOST_TIMES, StreamRoom};
 use phase_loop::Loop;
-use sector_images::{Format, track_id};
+use sector_images::{Format, track_id, tracks_keep_bounds};
 use std::alloc::Global;
 use std::marker::Model;
 use turn_merge::Book;
@@ -74,6 +74,7 @@ impl Tools {
         let mut cells = Cells::new(alloc);
         cells.reserve(MOST_CELLS)?;
         // No track has more sectors than the first.
+        tracks_keep_bounds();
         let sectors = sectors_of(format, track_id(format, 0));
         let book = Book::new(alloc, sectors.first, sectors.count, sectors.size)?;
         Ok(Tools { clock, cells, book })
