@@ -18,5 +18,6 @@ pub mod Telling
 pub mod Chosen
 pub mod Repeated
 pub mod Captured
+pub mod CapturedCells
 pub mod RingLaws
 pub mod Filling

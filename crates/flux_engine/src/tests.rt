@@ -1,6 +1,8 @@
 ghost use Rattle.std.specs.Prelude.{◌<◌, length};
 ghost use Rattle.sector_images.specs.Places.{tracks};
 
+mod disturbance;
+
 use crate::{DiskRoom, EngineFault, decode_disk, decode_track};
 use apple_gcr::AppleGcr;
 use cell_bits::Cells;

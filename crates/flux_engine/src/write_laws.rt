@@ -1,9 +1,10 @@
-//! What the written streams come to.
+//! What the streams of a track come to, those that are written and those that a drive gives.
 
-ghost use Rattle.flux_engine.specs.Captures.{WritesCaptures};
+ghost use Rattle.flux_engine.specs.Captures.{CapturesAreErasedCaptures, CapturesAreRecovered, ErasedCapturesAreRecovered, WrittenRingsAreRecovered, WritesCaptures};
 
 use disk_recordings::tracks_have_rings;
 use flux_writer::track_law;
+use phase_loop::disturbed_rings_are_recovered;
 use sector_images::{sectors_lie_in_images, tracks_keep_bounds};
 
 /// The stream of each track of an image is one stream without a fault that captures the track's ring: its
@@ -15,4 +16,19 @@ pub fn streams_are_captures()
     tracks_keep_bounds();
     track_law();
     sectors_lie_in_images()
+}
+
+/// From a capture of a track's ring the ring's cells are recovered, from the first place to the last, over two turns or
+/// more. Where parts of the track are erased, the cells are those of the pieces, with 31 zeros between two. So the ring's
+/// cells are recovered from each stream that is written of an image.
+pub fn captures_are_recovered()
+    ensures captures { CapturesAreRecovered }
+    ensures erased { ErasedCapturesAreRecovered }
+    ensures alike { CapturesAreErasedCaptures }
+    ensures written { WrittenRingsAreRecovered }
+{
+    disturbed_rings_are_recovered();
+    tracks_have_rings();
+    sectors_lie_in_images();
+    streams_are_captures()
 }
