@@ -3,13 +3,8 @@ use Rattle.std.specs.Prelude.{◌≡◌, ℕ, zero, suc, ◌+◌, ◌<◌, ◌�
 use Rattle.std.proofs.Common.{ap, ◌∙◌, arith, append_assoc}
 use Rattle.std.proofs.lemmas.List.Sums.{sum_by-cons}
 use Rattle.std.proofs.Math.Seq.{drop-append-add}
-use Rattle.track_rings.specs.Rings.{stretch}
+use Rattle.track_rings.specs.Cuts.{length-stretch}
 use Rattle.decoded_rings.specs.Pieces.{ERASED_ZEROS, RingPiece, begin_of_piece, cells_of_ring_pieces, piece_cells}
-
-pub length-stretch : (ring : List Bool) (from count : ℕ) → length (stretch ring from count) ≡ count
-unfolding stretch
-length-stretch ring from zero = refl
-length-stretch ring from (suc count) = let more = length-stretch ring (from + 1) count in omega (arith, more)
 
 -- the cells behind those of the first piece
 pub behind_first : (ring : List Bool) (first next : RingPiece) (more : List RingPiece)

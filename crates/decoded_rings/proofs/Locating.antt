@@ -6,10 +6,11 @@ use Rattle.std.proofs.lemmas.List.{drop-append-le, length-replicate, take-append
 use Rattle.std.proofs.Math.Seq.{drop-append-add}
 use Rattle.std.proofs.Common.{length-drop}
 use Rattle.cell_bits.specs.Broken.{Unbroken}
+use Rattle.track_rings.specs.Cuts.{length-stretch}
 use Rattle.track_rings.specs.Rings.{stretch}
 use Rattle.decoded_rings.specs.Pieces.{RingPiece, begin_of_piece, cells_of_ring_pieces, piece_cells}
-use Rattle.decoded_rings.specs.Written.{between_zeros}
-use Rattle.decoded_rings.proofs.Cells.{begin-suc, behind_first, length-stretch}
+use Rattle.track_rings.specs.OwnSectors.{between_zeros}
+use Rattle.decoded_rings.proofs.Cells.{begin-suc, behind_first}
 
 -- the cells of pieces behind so many zeros
 abbrev pub behind_zeros : List Bool → ℕ → RingPiece → List RingPiece → List Bool

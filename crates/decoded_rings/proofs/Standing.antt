@@ -6,8 +6,10 @@ use Rattle.std.proofs.lemmas.List.{drop-append-le, drop-drop, take-append-drop, 
 use Rattle.cell_bits.specs.Broken.{Unbroken}
 use Rattle.decoded_rings.specs.Pieces.{IsCellOf, RingPiece, begin_of_piece, cells_of_ring_pieces, piece_cells}
 use Rattle.decoded_rings.specs.Verdicts.{LiesInPiece, StandsAsWritten, StandsInOnePiece}
-use Rattle.decoded_rings.specs.Written.{HasSector, IsReadBy, IsAlone, WrittenTrack, between_zeros}
-use Rattle.decoded_rings.proofs.Cells.{begins-after, length-stretch, piece-there}
+use Rattle.track_rings.specs.Cuts.{length-stretch}
+use Rattle.track_rings.specs.OwnSectors.{IsAlone, between_zeros}
+use Rattle.decoded_rings.specs.Written.{HasSector, IsReadBy, WrittenTrack}
+use Rattle.decoded_rings.proofs.Cells.{begins-after, piece-there}
 use Rattle.decoded_rings.proofs.Locating.{Located, locate}
 
 -- unbroken cells behind a place, counted from the front

@@ -1,11 +1,12 @@
 -- What the readings of a written track come to, where its cells were recovered in pieces.
 use Rattle.std.specs.Prelude.{◌≡◌, ℕ, ◌+◌, ◌*◌, ◌<◌, ◌≤◌, Bool, Contains, List, [], ◌∷◌, drop, length, Option, Some, None, slice_get}
+use Rattle.track_rings.specs.OwnSectors.{IsAlone}
 use Rattle.track_rings.specs.Rings.{LiesAt}
 use Rattle.turn_merge.specs.Readings.{Reading, agreed, verdict}
 use Rattle.turn_merge.specs.declared.verdict.Verdict.{Verdict}
 use Rattle.turn_merge.specs.declared.verdict.Verdict.TheVariants.{Good, Contradictory, Bad, Missing}
 use Rattle.decoded_rings.specs.Pieces.{IsCellOf, RingPiece, begin_of_piece, cells_of_ring_pieces}
-use Rattle.decoded_rings.specs.Written.{HasSector, IsAlone, WrittenTrack}
+use Rattle.decoded_rings.specs.Written.{HasSector, WrittenTrack}
 
 -- The readings are those of the cells: each good one is of a sector that stands at its place with its bytes, and each sector
 -- that stands at a place has a good reading.
