@@ -115,8 +115,8 @@ good_or_lost bytes (first ∷ more) bads same =
     not_lost (length (first ∷ more)) (length bads) first.place (first_other (bytes_of first) more) (agreed_of (first ∷ more)) bytes
     (some_good bytes first more bads same)
 
-module _ (header : List Bool → ℕ → Type 0) (sector : List Bool → ℕ → List ℕ → Type 0) (track : WrittenTrack)
-    (first : RingPiece) (later : List RingPiece) (stands : StandsAsWritten header sector track first later)
+module _ (sector : List Bool → ℕ → List ℕ → Type 0) (track : WrittenTrack)
+    (first : RingPiece) (later : List RingPiece) (stands : StandsAsWritten sector track first later)
     (readings : List Reading) (are : AreReadingsOf sector (cells_of_ring_pieces track.ring first later) readings) where
   abbrev is_good_of : ℕ → Reading → Bool
   is_good_of s r = nat_eq r.sector s && is_some r.bytes
@@ -142,7 +142,7 @@ module _ (header : List Bool → ℕ → Type 0) (sector : List Bool → ℕ →
       good_of (track.bytes_of s) (good_ones readings s) (bad_ones readings s) found.0
       (keeps (is_good_of s) readings found.0 found.1 (both_and (nat_eq (found.0).sector s) (is_some (found.0).bytes) named some)) (own s)
 
-  pub verdicts_are_right : VerdictsAreRight header sector track first later readings
+  pub verdicts_are_right : VerdictsAreRight sector track first later readings
   verdicts_are_right = record {
     whole = whole;
     each = λ s known. each s;

@@ -61,12 +61,12 @@ module _ (track : WrittenTrack) (first : RingPiece) (later : List RingPiece) whe
     pub in_one : StandsInOnePiece Here (first ∷ later) cells place
     in_one = record { alone = alone; index = of_piece.index; only = one_piece of_piece }
 
-  module _ (header : List Bool → ℕ → Type 0) (sector : List Bool → ℕ → List ℕ → Type 0) (read : IsReadBy header sector track) where
+  module _ (sector : List Bool → ℕ → List ℕ → Type 0) (read : IsReadBy sector track) where
     own : (place s : ℕ) (bytes : List ℕ) → sector (drop place cells) s bytes → bytes ≡ track.bytes_of s
     own place s bytes here =
-        let alone = read.sector_alone (drop place cells) s bytes here in
+        let alone = read.alone (drop place cells) s bytes here in
         let found = of_piece (λ (others : List Bool). sector others s bytes) place alone in
-        read.sector_own s bytes found.zeros found.piece.from found.piece.count found.after found.offset
+        read.own s bytes found.zeros found.piece.from found.piece.count found.after found.offset
         (in_piece (λ (others : List Bool). sector others s bytes) place alone found)
 
     whole : (s index place : ℕ) → HasSector track s → LiesInPiece track (first ∷ later) s index place
@@ -74,19 +74,18 @@ module _ (track : WrittenTrack) (first : RingPiece) (later : List RingPiece) whe
     whole s index place known lies =
         let here : List Bool = piece_cells track.ring lies.piece in
         let there = piece-there track.ring first later index lies.piece lies.there in
-        let stands = read.sector_stands s lies.piece.from lies.piece.count place known lies.lies in
-        let alone = read.sector_alone (drop place here) s (track.bytes_of s) stands in
+        let stands = read.stands s lies.piece.from lies.piece.count place known lies.lies in
+        let alone = read.alone (drop place here) s (track.bytes_of s) stands in
         let size : length here ≡ lies.piece.count = length-stretch track.ring lies.piece.from lies.piece.count in
         let cut : drop (begin_of_piece (first ∷ later) index + place) cells ≡ drop place here ++ there.0 =
         sym (drop-drop place (begin_of_piece (first ∷ later) index) cells) ∙ ap (drop place) there.1
         ∙ drop-append-le place here there.0 (omega (arith, size, lies.lies.whole)) in
         stands_too (λ (others : List Bool). sector others s (track.bytes_of s)) (drop place here) _ alone (ap (take alone.end) cut ∙ take-append-le alone.end (drop place here) there.0 alone.within)
 
-    pub stands_as_written : StandsAsWritten header sector track first later
+    pub stands_as_written : StandsAsWritten sector track first later
     stands_as_written = record {
-      header_of_one = λ place s here. in_one (λ (others : List Bool). header others s) place (read.header_alone (drop place cells) s here);
       sector_of_one = λ place s bytes here.
-          in_one (λ (others : List Bool). sector others s bytes) place (read.sector_alone (drop place cells) s bytes here);
+          in_one (λ (others : List Bool). sector others s bytes) place (read.alone (drop place cells) s bytes here);
       own_bytes = own;
       whole_stands = whole;
     }

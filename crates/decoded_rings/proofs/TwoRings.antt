@@ -27,15 +27,15 @@ place_of size from begin low =
           )
     ]
 
-module _ (header : List Bool → ℕ → Type 0) (sector : List Bool → ℕ → List ℕ → Type 0) (track : WrittenTrack) (read : IsReadBy header sector track) where
+module _ (sector : List Bool → ℕ → List ℕ → Type 0) (track : WrittenTrack) (read : IsReadBy sector track) where
   lies : (piece : RingPiece) → 2 * length track.ring ≤ piece.count → (s : ℕ) → HasSector track s → LiesInOnePiece track (piece ∷ []) s
   lies piece long s known =
-      let whole = read.frame_whole s known in
-      let some = read.frame_some in
+      let whole = read.whole s known in
+      let some = read.some in
       let at = place_of (length track.ring) piece.from (track.begin_of s) (omega (arith, whole, some)) in
       (0, at.0, record { piece = piece; there = refl; lies = record { same = at.2; whole = omega (arith, long, whole, at.1) } })
 
-  pub two_rings_are_good : TwoRingsAreGood header sector track
+  pub two_rings_are_good : TwoRingsAreGood sector track
   two_rings_are_good piece readings long are s known =
-      let right = verdicts_are_right header sector track piece [] (stands_as_written track piece [] header sector read) readings are in
+      let right = verdicts_are_right sector track piece [] (stands_as_written track piece [] sector read) readings are in
       right.whole s known (lies piece long s known)

@@ -45,11 +45,9 @@ pub record StandsInOnePiece (Here : List Bool → Type 0) (pieces : List RingPie
   pub index : ℕ
   pub only : (other at : ℕ) → place ≤ at → at < place + alone.end → IsCellOf pieces other at → other ≡ index
 
-module _ (header : List Bool → ℕ → Type 0) (sector : List Bool → ℕ → List ℕ → Type 0) (track : WrittenTrack) where
-  -- what stands at a place of the cells of pieces stands by cells of one piece, and a sector that stands has its own bytes
+module _ (sector : List Bool → ℕ → List ℕ → Type 0) (track : WrittenTrack) where
+  -- a sector that stands at a place of the cells of pieces stands by cells of one piece, and has its own bytes
   pub record StandsAsWritten (first : RingPiece) (later : List RingPiece) : Type 0 where
-    pub header_of_one : (place s : ℕ) → header (drop place (cells_of_ring_pieces track.ring first later)) s
-        → StandsInOnePiece (λ cells. header cells s) (first ∷ later) (cells_of_ring_pieces track.ring first later) place
     pub sector_of_one : (place s : ℕ) (bytes : List ℕ) → sector (drop place (cells_of_ring_pieces track.ring first later)) s bytes
         → StandsInOnePiece (λ cells. sector cells s bytes) (first ∷ later) (cells_of_ring_pieces track.ring first later) place
     pub own_bytes : (place s : ℕ) (bytes : List ℕ) → sector (drop place (cells_of_ring_pieces track.ring first later)) s bytes
@@ -64,8 +62,8 @@ module _ (header : List Bool → ℕ → Type 0) (sector : List Bool → ℕ →
     pub each : (s : ℕ) → HasSector track s → IsGoodWithOrLost (verdict readings s) (agreed readings s) (track.bytes_of s)
 
   -- A track that was recovered in pieces: a sector of which one place, with its whole frame, lies in one piece is good with
-  -- its bytes; every other one is good with its bytes, bad or missing; none is contradictory, and what stands anywhere
-  -- stands by cells of one piece.
+  -- its bytes; every other one is good with its bytes, bad or missing; none is contradictory, and no sector that stands has
+  -- cells of two pieces.
   abbrev pub PiecesAreRight : Type 0
   PiecesAreRight = (first : RingPiece) (later : List RingPiece) → StandsAsWritten first later
       × ((readings : List Reading) → AreReadingsOf sector (cells_of_ring_pieces track.ring first later) readings

@@ -17,17 +17,15 @@ pub record WrittenTrack : Type 0 where
 abbrev pub HasSector : WrittenTrack → ℕ → Type 0
 HasSector track sector = IsSectorNumber track.first track.sectors sector
 
--- What is known of how a written track is read, by the relations "this sector's header stands at the front of the cells"
--- and "this sector stands there with these bytes": what stands depends on its own cells alone, a sector that stands in a
--- stretch of the ring between zeros has its own bytes, and it stands where its frame lies whole.
-pub record IsReadBy (header : List Bool → ℕ → Type 0) (sector : List Bool → ℕ → List ℕ → Type 0) (track : WrittenTrack) : Type 0 where
-  pub header_alone : (cells : List Bool) (s : ℕ) → header cells s → IsAlone (λ others. header others s) cells
-  pub sector_alone : (cells : List Bool) (s : ℕ) (bytes : List ℕ) → sector cells s bytes
-      → IsAlone (λ others. sector others s bytes) cells
-  pub sector_own : (s : ℕ) (bytes : List ℕ) (zeros from count after place : ℕ)
+-- What is known of how a written track is read, by the relation "this sector stands at the front of the cells with these
+-- bytes": what stands depends on its own cells alone, a sector that stands in a stretch of the ring between zeros has its own
+-- bytes, and it stands wherever its frame lies whole.
+pub record IsReadBy (sector : List Bool → ℕ → List ℕ → Type 0) (track : WrittenTrack) : Type 0 where
+  pub alone : (cells : List Bool) (s : ℕ) (bytes : List ℕ) → sector cells s bytes → IsAlone (λ others. sector others s bytes) cells
+  pub own : (s : ℕ) (bytes : List ℕ) (zeros from count after place : ℕ)
       → sector (drop place (between_zeros track.ring zeros from count after)) s bytes → bytes ≡ track.bytes_of s
-  pub sector_stands : (s from count place : ℕ) → HasSector track s
+  pub stands : (s from count place : ℕ) → HasSector track s
       → LiesAt (length track.ring) (track.begin_of s) track.frame_cells from count place
       → sector (drop place (stretch track.ring from count)) s (track.bytes_of s)
-  pub frame_whole : (s : ℕ) → HasSector track s → track.begin_of s + track.frame_cells ≤ length track.ring
-  pub frame_some : 1 ≤ track.frame_cells
+  pub whole : (s : ℕ) → HasSector track s → track.begin_of s + track.frame_cells ≤ length track.ring
+  pub some : 1 ≤ track.frame_cells

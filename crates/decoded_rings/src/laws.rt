@@ -13,9 +13,9 @@ use frame_law::Recording;
 /// more, every sector is good with its bytes.
 pub fn own_sectors_are_right<R: Recording>()
     ensures pieces { (r : R) (track : TrackId) (written : WrittenTrack) →
-        IsReadBy (R.header_at r track) (R.sector_at r track) written →
-        PiecesAreRight (R.header_at r track) (R.sector_at r track) written }
+        IsReadBy (R.sector_at r track) written →
+        PiecesAreRight (R.sector_at r track) written }
     ensures two_rings { (r : R) (track : TrackId) (written : WrittenTrack) →
-        IsReadBy (R.header_at r track) (R.sector_at r track) written →
-        TwoRingsAreGood (R.header_at r track) (R.sector_at r track) written }
+        IsReadBy (R.sector_at r track) written →
+        TwoRingsAreGood (R.sector_at r track) written }
 {}

@@ -6,11 +6,10 @@ use Rattle.decoded_rings.proofs.laws.own_sectors_are_right.Goals as goal
 pub returns-clause-pieces : goal.returns-clause-pieces
 returns-clause-pieces g c =
     λ r track written read first later.
-    let header = g.R.Recording.header_at r track in
     let sector = g.R.Recording.sector_at r track in
-    let stands = stands_as_written written first later header sector read in
-    (stands, λ readings are. verdicts_are_right header sector written first later stands readings are)
+    let stands = stands_as_written written first later sector read in
+    (stands, λ readings are. verdicts_are_right sector written first later stands readings are)
 
 pub returns-clause-two_rings : goal.returns-clause-two_rings
 returns-clause-two_rings g c =
-    λ r track written read. two_rings_are_good (g.R.Recording.header_at r track) (g.R.Recording.sector_at r track) written read
+    λ r track written read. two_rings_are_good (g.R.Recording.sector_at r track) written read
