@@ -1,0 +1,4 @@
+pub mod Pieces
+pub mod Inputs
+pub mod Frames
+pub mod Headline
