@@ -11,14 +11,14 @@ use Rattle.sector_images.specs.declared.format.Format.{Format}
 use Rattle.sector_images.specs.declared.format.Format.TheVariants.{Ibm3740, Ibm360, Ibm720, Ibm1440, Amiga, C1541, C1541Forty, AppleDo, ApplePo}
 use Rattle.decoded_rings.specs.Pieces.{ERASED_ZEROS, RingPiece, cells_of_ring_pieces, piece_cells}
 use Rattle.flux_engine.specs.Captures.{Capture, mean_cell}
-use Rattle.flux_engine.specs.Carried.{FINE_PER_TICK}
+use Rattle.phase_loop.specs.Start.{FINE_PER_TICK}
 use Rattle.flux_engine.specs.DiskLaws.{cells_at}
 use Rattle.flux_engine.specs.Recordings.{cells_of, track_at}
 use Rattle.flux_engine.specs.Rings.{IsRing, nominal_of, ring_cells_of, ring_of}
 use Rattle.flux_engine.specs.Streams.{stream_at}
 use Rattle.captured_disks.specs.Frames.{ring_piece}
 use Rattle.captured_disks.specs.Inputs.{ErasedCapture}
-use Rattle.captured_disks.specs.Pieces.{CarryPieces, IsPiece, Piece, RecoversPiecesOfTurns, cells_of_piece, cells_of_pieces}
+use Rattle.phase_loop.specs.Pieces.{CarryPieces, IsPiece, Piece, RecoversPiecesOfTurns, cells_of_piece, cells_of_pieces}
 use Rattle.captured_disks.proofs.Streams.{IsStreamNumber}
 
 later_same : (ring : List Bool) (later : List Piece)
@@ -60,7 +60,7 @@ is_nominal C1541Forty cylinder = commodore_nominal cylinder
 is_nominal AppleDo cylinder = record { shortest = lit≤ tt; longest = lit≤ tt }
 is_nominal ApplePo cylinder = record { shortest = lit≤ tt; longest = lit≤ tt }
 
-some_place : (times places : List ℕ) (ring : List Bool) → length places ≡ length times → 0 < length ring
+pub some_place : (times places : List ℕ) (ring : List Bool) → length places ≡ length times → 0 < length ring
     → slice_index places 0 + 2 * length ring ≤ slice_index places (length places - 1) → 0 < length times
 some_place [] [] ring each some turns = absurd (omega (arith, some, turns))
 some_place [] (place ∷ places) ring each some turns = absurd (omega (arith, each))
@@ -71,7 +71,7 @@ module _ (x : List ℕ) (ring : List Bool) (nominal : ℕ) (capture : Capture x 
   abbrev pub whole_piece : Piece
   whole_piece = record { times = times x; places = capture.places; periods = capture.periods }
 
-  pub erased_capture : ErasedCapture x ring nominal
+  abbrev pub erased_capture : ErasedCapture x ring nominal
   erased_capture = record {
     no_fault = capture.no_fault;
     whole = capture.whole;
@@ -93,8 +93,8 @@ pub cells_are : RecoversPiecesOfTurns → (format : Format) (image x : List ℕ)
 cells_are recovers format image x k bytes ring is capture =
     ap (λ (ts : List ℕ). cells_of format (track_at format k) ts (indexes (stream_at x k))) is.times_are
     ∙ ap (cells_of format (track_at format k) (times bytes)) is.indexes_are
-    ∙ recovers (nominal_of format k) (turn_length (indexes bytes) 1) (ring_cells_of format k) (ring_of format image k) (times bytes) capture.piece capture.later
-    (is_nominal format (track_at format k).cylinder) ring.spaced
+    ∙ recovers (nominal_of format k) (turn_length (indexes bytes) 1) (ring_cells_of format k) (times bytes) (is_nominal format (track_at format k).cylinder)
+    (ring_of format image k) capture.piece capture.later ring.spaced
     (subst (λ (cells : ℕ). CarryPieces (nominal_of format k) (FINE_PER_TICK * turn_length (indexes bytes) 1 / cells) (ring_of format image k) (times bytes) capture.piece capture.later)
     ring.cells_are capture.carried)
     ∙ cells-same (ring_of format image k) capture.piece capture.later

@@ -15,7 +15,8 @@ use Rattle.decoded_rings.specs.Verdicts.{AreReadingsOf, IsGoodWith, IsGoodWithOr
 use Rattle.decoded_rings.specs.Written.{HasSector}
 use Rattle.flux_engine.specs.DiskLaws.{EachHasOneVerdict, GoodIsRightOnDisks, HasVerdict, IsDecodedSector, LinesNameVerdicts, OthersAreZeros, bytes_at, cells_at}
 use Rattle.flux_engine.specs.Disks.{Decoded, IsDecoded, decoded_count}
-use Rattle.flux_engine.specs.Recordings.{header_at, sector_at, track_at}
+use Rattle.disk_recordings.specs.Members.{header_at, sector_at}
+use Rattle.flux_engine.specs.Recordings.{track_at}
 use Rattle.flux_engine.specs.Rings.{ring_of, sector_bytes}
 use Rattle.flux_engine.specs.Streams.{stream_at}
 use Rattle.flux_engine.specs.Tracks.{readings_of}

@@ -11,7 +11,8 @@ use Rattle.decoded_rings.specs.Pieces.{RingPiece}
 use Rattle.decoded_rings.specs.Verdicts.{LiesInOnePiece, StandsInOnePiece}
 use Rattle.flux_engine.specs.DiskLaws.{HasLine, bytes_at, cells_at, line_number}
 use Rattle.flux_engine.specs.Disks.{Decoded, IsDecoded}
-use Rattle.flux_engine.specs.Recordings.{sector_at, track_at}
+use Rattle.disk_recordings.specs.Members.{sector_at}
+use Rattle.flux_engine.specs.Recordings.{track_at}
 use Rattle.flux_engine.specs.Rings.{IsImage, sector_bytes}
 use Rattle.captured_disks.specs.Frames.{ring_piece, written_track}
 use Rattle.captured_disks.specs.Inputs.{IsCapturedDisk, IsErasedDisk}

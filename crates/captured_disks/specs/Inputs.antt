@@ -8,7 +8,7 @@ use Rattle.sector_images.specs.Places.{tracks}
 use Rattle.sector_images.specs.declared.format.Format.{Format}
 use Rattle.flux_engine.specs.Captures.{Capture, mean_cell}
 use Rattle.flux_engine.specs.Rings.{nominal_of, ring_of}
-use Rattle.captured_disks.specs.Pieces.{CarryPieces, Piece}
+use Rattle.phase_loop.specs.Pieces.{CarryPieces, Piece}
 
 -- The input is so many streams, one after another, and then any bytes. Before each stream but the first, padding may stand.
 pub record AreJoined (count : ℕ) (stream : ℕ → List ℕ) (x : List ℕ) : Type 0 where
