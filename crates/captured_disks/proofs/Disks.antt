@@ -9,14 +9,14 @@ use Rattle.kryo_stream.specs.Joined.{PaddingIsPassed, StreamsStay}
 use Rattle.kryo_stream.specs.Stream.{first_fault, indexes, stream_length, times}
 use Rattle.phase_loop.specs.Pieces.{RecoversPiecesOfTurns}
 use Rattle.sector_images.specs.Formats.{row}
-use Rattle.sector_images.specs.Places.{IsTrack, NumbersNameTracks, SectorsLieInImages, TracksFillImages, TracksJoin, tracks}
+use Rattle.sector_images.specs.Places.{IsSector, IsTrack, NumbersNameTracks, SectorsLieInImages, TracksFillImages, TracksJoin, tracks}
 use Rattle.sector_images.specs.declared.format.Format.{Format}
 use Rattle.track_rings.specs.Rings.{last_in}
 use Rattle.turn_merge.specs.Readings.{Reading, agreed, verdict}
 use Rattle.turn_merge.specs.declared.verdict.Verdict.{Verdict}
 use Rattle.turn_merge.specs.declared.verdict.Verdict.TheVariants.{Good, Contradictory, Bad, Missing}
 use Rattle.decoded_rings.specs.Pieces.{RingPiece, cells_of_ring_pieces}
-use Rattle.decoded_rings.specs.Verdicts.{AreReadingsOf, IsGoodWith, LiesInOnePiece, PiecesAreRight, TwoRingsAreGood}
+use Rattle.decoded_rings.specs.Verdicts.{AreReadingsOf, IsGoodWith, LiesInOnePiece, PiecesAreRight, TwoRingsHaveSectors}
 use Rattle.decoded_rings.specs.Written.{HasSector}
 use Rattle.flux_engine.specs.Captures.{Capture}
 use Rattle.flux_engine.specs.DiskLaws.{WholeDisksFillImages, bytes_at, cells_at}
@@ -35,7 +35,7 @@ use Rattle.captured_disks.proofs.Sectors.{DisksAreRight, either, kept, of_one}
 use Rattle.captured_disks.proofs.Stops.{no_stop}
 use Rattle.captured_disks.proofs.Streams.{IsStreamNumber, is_stream_number}
 use Rattle.captured_disks.proofs.Totals.{all_counted, totals_good}
-use Rattle.captured_disks.proofs.TrackBytes.{are_sectors}
+use Rattle.captured_disks.proofs.TrackBytes.{are_sectors, own_bytes}
 
 -- what the crates below promise
 pub record Laws : Type 0 where
@@ -53,10 +53,7 @@ pub record Laws : Type 0 where
   pub pieces : (format : Format) (image : List ℕ) (k : ℕ) → IsImage format image → k < length (tracks format)
       → PiecesAreRight (sector_at format (track_at format k)) (written_track format image k)
   pub two_rings : (format : Format) (image : List ℕ) (k : ℕ) → IsImage format image → k < length (tracks format)
-      → TwoRingsAreGood (sector_at format (track_at format k)) (written_track format image k)
-  pub lie_in_two : (format : Format) (image : List ℕ) (k : ℕ) → IsImage format image → k < length (tracks format)
-      → (piece : RingPiece) → 2 * length (ring_of format image k) ≤ piece.count → (s : ℕ) → HasSector (written_track format image k) s
-      → LiesInOnePiece (written_track format image k) (piece ∷ []) s
+      → TwoRingsHaveSectors (sector_at format (track_at format k)) (written_track format image k)
 
 good_with : (outcome : Verdict) (held : Option (List ℕ)) (bytes : List ℕ) → IsGoodWith outcome held bytes → is_good outcome ≡ true
 good_with (Good g b place) held bytes is = refl
@@ -75,6 +72,10 @@ module _ (laws : Laws) (format : Format) (image x : List ℕ) (o : Decoded) (is 
       let track = known_track n known in
       let ring = laws.rings format _ (track_at format n) _ track (are_sectors laws.lie format (track_at format n) image is track) in
       record { cells_are = ring.0; spaced = ring.1 }
+
+  content : (n : ℕ) → n < length (tracks format) → (sector : ℕ) → IsSector format (track_at format n) sector
+      → (written_track format image n).bytes_of sector ≡ sector_bytes format (track_at format n) image sector
+  content n known sector one = own_bytes laws.lie format (track_at format n) image is (known_track n known) sector one
 
   -- some cells lie before any number of them that is below their number
   ring_some : (n : ℕ) → n < length (tracks format) → 0 < length (ring_of format image n)
@@ -104,7 +105,7 @@ module _ (laws : Laws) (format : Format) (image x : List ℕ) (o : Decoded) (is 
       kept_at : (sector : ℕ) → IsSectorOf format n sector → LiesInOnePiece (written_track format image n) (first ∷ later) sector → IsKept format image o n sector
       kept_at sector one =
           kept format image x o laws.disks decoded stop n (laws.read.all format (track_at format n)) first later (laws.pieces format image n is known)
-          (cells n known) sector one
+          (cells n known) (content n known) sector one
 
     pub decodes_rest : DecodesRest format image x o erased
     decodes_rest = record {
@@ -112,10 +113,10 @@ module _ (laws : Laws) (format : Format) (image x : List ℕ) (o : Decoded) (is 
       in_one_piece = λ n sector one. kept_at n one.track sector one;
       each = λ n sector one.
           either format image x o laws.disks decoded stop n (laws.read.all format (track_at format n)) (first n one.track) (later n one.track)
-          (laws.pieces format image n is one.track) (cells n one.track) sector one;
+          (laws.pieces format image n is one.track) (cells n one.track) (content n one.track) sector one;
       of_one_piece = λ n sector one.
           of_one format image x o laws.disks decoded stop n (laws.read.all format (track_at format n)) (first n one.track) (later n one.track)
-          (laws.pieces format image n is one.track) (cells n one.track) sector one;
+          (laws.pieces format image n is one.track) (cells n one.track) (content n one.track) sector one;
     }
 
   module _ (captured : IsCapturedDisk format image x) where
@@ -139,7 +140,7 @@ module _ (laws : Laws) (format : Format) (image x : List ℕ) (o : Decoded) (is 
     all_kept : (n sector : ℕ) → IsSectorOf format n sector → IsKept format image o n sector
     all_kept n sector one =
         kept_at erased n one.track sector one
-        (laws.lie_in_two format image n is one.track (piece n one.track) (long n one.track) sector (record { least = one.known.0; most = one.known.1 }))
+        (laws.two_rings format image n is one.track (piece n one.track) sector (long n one.track) (record { least = one.known.0; most = one.known.1 }))
 
     image_is : o.image ≡ image
     image_is =
@@ -157,8 +158,10 @@ module _ (laws : Laws) (format : Format) (image x : List ℕ) (o : Decoded) (is 
         (times (stream_at x n)) (indexes (stream_at x n)) (cells_at format x n) comes.found comes.all) in
         let count = all_counted (verdict readings) (sectors_of format (track_at format n)).first (sectors_of format (track_at format n)).count
         (λ s least most.
-        good_with (verdict readings s) (agreed readings s) (sector_bytes format (track_at format n) image s)
-        (laws.two_rings format image n is known (piece n known) readings (long n known) are s (record { least = least; most = most }))) in
+        let one : HasSector (written_track format image n) s = record { least = least; most = most } in
+        let lies = laws.two_rings format image n is known (piece n known) s (long n known) one in
+        good_with (verdict readings s) (agreed readings s) ((written_track format image n).bytes_of s)
+        (((laws.pieces format image n is known (piece n known) []).1 readings are).whole s one lies)) in
         ap (λ (p : Part). p.totals.good) comes.is ∙ count ∙ sym (ap (λ (p : Part). p.totals.sectors) comes.is)
 
     many : length decoded.parts ≡ length (tracks format)

@@ -34,7 +34,12 @@ pub record DisksAreRight : Type 0 where
 module _ (format : Format) (image x : List ℕ) (o : Decoded) (disks : DisksAreRight) (decoded : IsDecoded format x o) (stop : o.stop ≡ None)
     (n : ℕ) (all : ReadingsAreAll (header_at format (track_at format n)) (sector_at format (track_at format n)))
     (first : RingPiece) (later : List RingPiece) (right : PiecesAreRight (sector_at format (track_at format n)) (written_track format image n))
-    (cells : cells_at format x n ≡ cells_of_ring_pieces (ring_of format image n) first later) where
+    (cells : cells_at format x n ≡ cells_of_ring_pieces (ring_of format image n) first later)
+    (content : (sector : ℕ) → IsSector format (track_at format n) sector
+    → (written_track format image n).bytes_of sector ≡ sector_bytes format (track_at format n) image sector) where
+  abbrev mine : ℕ → List ℕ
+  mine sector = (written_track format image n).bytes_of sector
+
   abbrev sector_there : List Bool → ℕ → List ℕ → Type 0
   sector_there = sector_at format (track_at format n)
 
@@ -59,27 +64,27 @@ module _ (format : Format) (image x : List ℕ) (o : Decoded) (disks : DisksAreR
           (are_readings_of (header_at format (track_at format n)) sector_there all (times (stream_at x n)) (indexes (stream_at x n)) (cells_at format x n)
           has.found has.all)
 
-      verdict-kept : (IsGoodWith outcome (agreed readings sector) (sector_bytes format (track_at format n) image sector)) → IsKept format image o n sector
+      verdict-kept : (IsGoodWith outcome (agreed readings sector) (mine sector)) → IsKept format image o n sector
       verdict-kept good = by outcome has good
         where
-          by : (v : Verdict) → HasVerdict format x n sector v → IsGoodWith v (agreed readings sector) (sector_bytes format (track_at format n) image sector)
+          by : (v : Verdict) → HasVerdict format x n sector v → IsGoodWith v (agreed readings sector) (mine sector)
               → IsKept format image o n sector
           by (Good g b place) h data_is =
               let rightly = disks.good format x o n sector decoded_sector g b place h in
               let there : sector_there (drop place.cell (cells_of_ring_pieces (ring_of format image n) first later)) sector rightly.bytes =
               subst (λ (cs : List Bool). sector_there (drop place.cell cs) sector rightly.bytes) cells rightly.stands in
               let own = (right first later).0.own_bytes place.cell sector rightly.bytes there in
-              (record { good = g; bad = b; first = place; line = disks.lines format x o n sector decoded_sector (Good g b place) h }, rightly.in_image ∙ own)
+              (record { good = g; bad = b; first = place; line = disks.lines format x o n sector decoded_sector (Good g b place) h }, rightly.in_image ∙ own ∙ content sector is.known)
           by (Contradictory g b place other) h data_is = absurd data_is
           by (Bad b place) h data_is = absurd data_is
           by Missing h data_is = absurd data_is
 
-      verdict-either : IsGoodWithOrLost outcome (agreed readings sector) (sector_bytes format (track_at format n) image sector)
+      verdict-either : IsGoodWithOrLost outcome (agreed readings sector) (mine sector)
           → IsKept format image o n sector ⊎ IsLost format o n sector
       verdict-either either = by outcome has either verdict-kept
         where
-          by : (v : Verdict) → HasVerdict format x n sector v → IsGoodWithOrLost v (agreed readings sector) (sector_bytes format (track_at format n) image sector)
-              → (IsGoodWith v (agreed readings sector) (sector_bytes format (track_at format n) image sector) → IsKept format image o n sector)
+          by : (v : Verdict) → HasVerdict format x n sector v → IsGoodWithOrLost v (agreed readings sector) (mine sector)
+              → (IsGoodWith v (agreed readings sector) (mine sector) → IsKept format image o n sector)
               → IsKept format image o n sector ⊎ IsLost format o n sector
           by (Good g b place) h data_is kept = inl (kept data_is)
           by (Contradictory g b place other) h data_is kept = absurd data_is
@@ -93,12 +98,12 @@ module _ (format : Format) (image x : List ℕ) (o : Decoded) (disks : DisksAreR
       kept-here : LiesInOnePiece (written_track format image n) (first ∷ later) sector → IsKept format image o n sector
       kept-here lies =
           let one = ((right first later).1 readings are).whole sector has_sector lies in
-          verdict-kept (subst (λ (v : Verdict). IsGoodWith v (agreed readings sector) (sector_bytes format (track_at format n) image sector)) has.is one)
+          verdict-kept (subst (λ (v : Verdict). IsGoodWith v (agreed readings sector) (mine sector)) has.is one)
 
       either-here : IsKept format image o n sector ⊎ IsLost format o n sector
       either-here =
           let one = ((right first later).1 readings are).each sector has_sector in
-          verdict-either (subst (λ (v : Verdict). IsGoodWithOrLost v (agreed readings sector) (sector_bytes format (track_at format n) image sector)) has.is one)
+          verdict-either (subst (λ (v : Verdict). IsGoodWithOrLost v (agreed readings sector) (mine sector)) has.is one)
 
     -- a sector whose frame lies whole in a piece is kept
     pub kept : LiesInOnePiece (written_track format image n) (first ∷ later) sector → IsKept format image o n sector

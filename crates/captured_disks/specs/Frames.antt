@@ -3,11 +3,12 @@ use Rattle.std.specs.Prelude.{ℕ, ◌+◌, ◌-◌, ◌<◌, List, length, slic
 use Rattle.decoded_rings.specs.Pieces.{RingPiece}
 use Rattle.disk_recordings.specs.Members.{frame_cells, place_in_ring, sector_at}
 use Rattle.decoded_rings.specs.Written.{IsReadBy, WrittenTrack}
-use Rattle.track_rings.specs.Rings.{last_in}
+use Rattle.track_rings.specs.Rings.{bytes_of, last_in}
+use Rattle.sector_images.specs.Formats.{row}
 use Rattle.sector_images.specs.Places.{tracks}
 use Rattle.sector_images.specs.declared.format.Format.{Format}
 use Rattle.flux_engine.specs.Recordings.{sectors_of, track_at}
-use Rattle.flux_engine.specs.Rings.{IsImage, ring_of, sector_bytes}
+use Rattle.flux_engine.specs.Rings.{IsImage, ring_of, track_bytes}
 use Rattle.phase_loop.specs.Pieces.{Piece}
 
 -- track number k as it is written of an image
@@ -18,7 +19,7 @@ written_track format image k = record {
   frame_cells = frame_cells format;
   first = (sectors_of format (track_at format k)).first;
   sectors = (sectors_of format (track_at format k)).count;
-  bytes_of = sector_bytes format (track_at format k) image;
+  bytes_of = bytes_of (row format).first_sector (row format).sector_size (track_bytes format (track_at format k) image);
 }
 
 -- the part of the repeated ring that a piece's transitions carry, from its first place to its last

@@ -1,13 +1,10 @@
 -- Two rings of a track have each sector's frame whole.
-use Rattle.std.specs.Prelude.{◌≡◌, ℕ, ◌+◌, ◌-◌, ◌*◌, ◌%◌, ◌<◌, ◌≤◌, Bool, List, [], ◌∷◌, length, refl}
+use Rattle.std.specs.Prelude.{◌≡◌, ℕ, ◌+◌, ◌-◌, ◌%◌, ◌<◌, Bool, List, length, refl}
 use Rattle.std.proofs.Common.{ap, sym, ◌∙◌, arith, inl, inr}
 use Rattle.std.proofs.lemmas.Bool.{cases_lt}
 use Rattle.std.proofs.Math.Nat.{add-mod_right, mod-add-mod, mod-eq_of_lt, mod-lt}
-use Rattle.decoded_rings.specs.Pieces.{RingPiece}
-use Rattle.decoded_rings.specs.Verdicts.{LiesInOnePiece, TwoRingsAreGood}
-use Rattle.decoded_rings.specs.Written.{HasSector, IsReadBy, WrittenTrack}
-use Rattle.decoded_rings.proofs.Agreeing.{verdicts_are_right}
-use Rattle.decoded_rings.proofs.Standing.{stands_as_written}
+use Rattle.decoded_rings.specs.Verdicts.{TwoRingsHaveSectors}
+use Rattle.decoded_rings.specs.Written.{IsReadBy, WrittenTrack}
 
 -- a place less than a ring on from which a place of the ring comes next
 place_of : (size from begin : ℕ) → begin < size → (place : ℕ) × (place < size) × ((from + place) % size ≡ begin)
@@ -28,14 +25,9 @@ place_of size from begin low =
     ]
 
 module _ (sector : List Bool → ℕ → List ℕ → Type 0) (track : WrittenTrack) (read : IsReadBy sector track) where
-  lies : (piece : RingPiece) → 2 * length track.ring ≤ piece.count → (s : ℕ) → HasSector track s → LiesInOnePiece track (piece ∷ []) s
-  lies piece long s known =
+  pub two_rings_have_sectors : TwoRingsHaveSectors sector track
+  two_rings_have_sectors piece s long known =
       let whole = read.whole s known in
       let some = read.some in
       let at = place_of (length track.ring) piece.from (track.begin_of s) (omega (arith, whole, some)) in
       (0, at.0, record { piece = piece; there = refl; lies = record { same = at.2; whole = omega (arith, long, whole, at.1) } })
-
-  pub two_rings_are_good : TwoRingsAreGood sector track
-  two_rings_are_good piece readings long are s known =
-      let right = verdicts_are_right sector track piece [] (stands_as_written track piece [] sector read) readings are in
-      right.whole s known (lies piece long s known)

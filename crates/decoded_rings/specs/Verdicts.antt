@@ -69,8 +69,7 @@ module _ (sector : List Bool → ℕ → List ℕ → Type 0) (track : WrittenTr
       × ((readings : List Reading) → AreReadingsOf sector (cells_of_ring_pieces track.ring first later) readings
       → VerdictsAreRight first later readings)
 
-  -- A track that was recovered in one piece of at least two rings: every sector is good with its bytes.
-  abbrev pub TwoRingsAreGood : Type 0
-  TwoRingsAreGood = (piece : RingPiece) (readings : List Reading) → 2 * length track.ring ≤ piece.count
-      → AreReadingsOf sector (cells_of_ring_pieces track.ring piece []) readings
-      → (s : ℕ) → HasSector track s → IsGoodWith (verdict readings s) (agreed readings s) (track.bytes_of s)
+  -- one piece of at least two rings has each sector's frame whole
+  abbrev pub TwoRingsHaveSectors : Type 0
+  TwoRingsHaveSectors = (piece : RingPiece) (s : ℕ) → 2 * length track.ring ≤ piece.count → HasSector track s
+      → LiesInOnePiece track (piece ∷ []) s

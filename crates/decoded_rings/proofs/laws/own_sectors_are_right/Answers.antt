@@ -1,6 +1,6 @@
 use Rattle.decoded_rings.proofs.Agreeing.{verdicts_are_right}
 use Rattle.decoded_rings.proofs.Standing.{stands_as_written}
-use Rattle.decoded_rings.proofs.TwoRings.{two_rings_are_good}
+use Rattle.decoded_rings.proofs.TwoRings.{two_rings_have_sectors}
 use Rattle.decoded_rings.proofs.laws.own_sectors_are_right.Goals as goal
 
 pub returns-clause-pieces : goal.returns-clause-pieces
@@ -12,4 +12,4 @@ returns-clause-pieces g c =
 
 pub returns-clause-two_rings : goal.returns-clause-two_rings
 returns-clause-two_rings g c =
-    λ r track written read. two_rings_are_good (g.R.Recording.sector_at r track) written read
+    λ r track written read. two_rings_have_sectors (g.R.Recording.sector_at r track) written read
