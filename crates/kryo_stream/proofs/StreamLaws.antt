@@ -191,7 +191,7 @@ enough_marks n fault is = elim (cases_lt n 2) [
     some_none : Some fault ≡ None → ⊥
     some_none e = cc
 
-Turns-from_fault : (ps : List Piece) → turn_fault ps ≡ None → Turns ps
+pub Turns-from_fault : (ps : List Piece) → turn_fault ps ≡ None → Turns ps
 Turns-from_fault ps is =
     let both = no_first (mark_faults ps) (if nat_lt (length (marks ps)) 2 then Some (length ps - 1, NoTurn) else None) is in
     let none : (k : ℕ) → k < length (marks ps) → mark_fault ps k (get_or (marks ps) k blank) ≡ None = λ k below.

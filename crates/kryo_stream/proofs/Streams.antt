@@ -12,7 +12,7 @@ use Rattle.kryo_stream.proofs.Pieces.{piece_at-grows, piece_at-lies}
 use Rattle.kryo_stream.proofs.Readings.{Grows, Lies}
 
 -- a block that was read lies within the bytes and the limit
-piece_behind-lies : (x : List ℕ) (ps : List Piece) → Lies (total_bytes ps) (drop (total_bytes ps) x) (piece_behind x ps)
+pub piece_behind-lies : (x : List ℕ) (ps : List Piece) → Lies (total_bytes ps) (drop (total_bytes ps) x) (piece_behind x ps)
 piece_behind-lies x ps = piece_at-lies (total_bytes ps) (in_stream_bytes ps) (has_ended ps) (drop (total_bytes ps) x)
 
 with_piece-inside : (x : List ℕ) (ps : List Piece) (r : Reading) → Lies (total_bytes ps) (drop (total_bytes ps) x) r

@@ -13,3 +13,4 @@ pub mod Progress
 pub mod Room
 pub mod WellFormed
 pub mod Sequence
+pub mod Joined

@@ -2,6 +2,7 @@ ghost use Rattle.std.specs.Prelude.{◌≡◌, ◌<◌, ◌++◌, ℕ, List, All
 ghost use Rattle.kryo_stream.specs.declared.block.Block.{Block};
 ghost use Rattle.kryo_stream.specs.declared.block.Piece.{Piece};
 ghost use Rattle.kryo_stream.specs.Blocks.{Spells};
+ghost use Rattle.kryo_stream.specs.Joined.{PaddingIsPassed, StreamsStay};
 ghost use Rattle.kryo_stream.specs.Padding.{IsPadding, padding_of};
 ghost use Rattle.kryo_stream.specs.Sequence.{AreInOrder, IsStreamOf, spellings, transitions_from};
 ghost use Rattle.kryo_stream.specs.Spelling.{IsWritable, spelling};
@@ -36,4 +37,11 @@ pub fn blocks_law()
 /// The padding before a stream is the greatest number of bytes, at most 16, of which each is padding.
 pub fn padding_law()
     ensures { (x : List ℕ) → IsPadding x (padding_of x) }
+{}
+
+/// A stream is the same whatever follows it, and padding that may stand before it is passed over and nothing of
+/// the stream is: so streams that stand one after another in an input are read one after another.
+pub fn joined_law()
+    ensures stay { StreamsStay }
+    ensures passed { PaddingIsPassed }
 {}

@@ -1,0 +1,26 @@
+-- Where no stream has a fault, decoding does not stop.
+use Rattle.std.specs.Prelude.{◌≡◌, ◌≤◌, ◌<◌, ℕ, zero, suc, ◌+◌, Bool, true, false, cond, List, find, length, Option, Some, None, is_some, refl}
+use Rattle.std.specs.List.{range_with_len}
+use Rattle.std.specs.Option.{option_and_then}
+use Rattle.std.proofs.Common.{ap, sym, ◌∙◌, arith}
+use Rattle.kryo_stream.specs.Stream.{first_fault}
+use Rattle.sector_images.specs.Places.{tracks}
+use Rattle.sector_images.specs.declared.format.Format.{Format}
+use Rattle.flux_engine.specs.Disks.{Decoded, IsDecoded, Stop, stop_at, stop_of}
+use Rattle.flux_engine.specs.Streams.{has_fault, stream_at}
+
+find-none : (p : ℕ → Bool) (a n : ℕ) → ((k : ℕ) → a ≤ k → k < a + n → p k ≡ false) → find p (range_with_len a n) ≡ None
+find-none p a zero fails = refl
+find-none p a (suc n) fails =
+    ap (λ (b : Bool). cond b (Some a) (find p (range_with_len (a + 1) n))) (fails a (omega arith) (omega arith))
+    ∙ find-none p (a + 1) n (λ k above below. fails k (omega (arith, above)) (omega (arith, below)))
+
+stop-none : (format : Format) (x : List ℕ) → ((k : ℕ) → k < length (tracks format) → first_fault (stream_at x k) ≡ None) → stop_of format x ≡ None
+unfolding stop_of
+stop-none format x sound =
+    ap (option_and_then (stop_at x))
+    (find-none (has_fault x) 0 (length (tracks format)) (λ k above below. ap is_some (sound k (omega (arith, below)))))
+
+pub no_stop : (format : Format) (x : List ℕ) (o : Decoded) → IsDecoded format x o → ((k : ℕ) → k < length (tracks format) → first_fault (stream_at x k) ≡ None)
+    → o.stop ≡ None
+no_stop format x o decoded sound = ap (λ (d : Decoded). d.stop) decoded.is ∙ stop-none format x sound

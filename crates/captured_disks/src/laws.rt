@@ -1,0 +1,30 @@
+//! What captured disks decode to.
+
+ghost use Rattle.captured_disks.specs.Headline.{CapturedDisksDecode, ErasedDisksDecode};
+
+use decoded_rings::own_sectors_are_right;
+use disk_recordings::{DiskRecording, tracks_are_read, tracks_have_only_own, tracks_have_rings};
+use flux_engine::{good_is_right_on_disks, parts_fill_images};
+use kryo_stream::joined_law;
+use phase_loop::disturbed_rings_are_recovered;
+use sector_images::{sectors_lie_in_images, tracks_fill_images};
+
+/// From any streams that carry an image's written tracks, with transitions and speed disturbed within the bounds, decoding
+/// gives exactly that image, and every sector's line says good. Where stretches of the tracks are erased, a sector of which
+/// one place lies whole between them is kept; every other one is kept or lost, with zeros in its place, and none is
+/// contradictory.
+pub fn captured_disks_decode()
+    ensures whole { CapturedDisksDecode }
+    ensures erased { ErasedDisksDecode }
+{
+    own_sectors_are_right::<DiskRecording>();
+    tracks_are_read();
+    tracks_have_rings();
+    tracks_have_only_own();
+    joined_law();
+    disturbed_rings_are_recovered();
+    sectors_lie_in_images();
+    tracks_fill_images();
+    good_is_right_on_disks();
+    parts_fill_images()
+}
