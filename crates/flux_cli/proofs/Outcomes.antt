@@ -7,7 +7,9 @@ use Rattle.sector_images.specs.declared.format.Format.{Format}
 use Rattle.sector_images.specs.declared.format.Format.TheVariants.{Ibm3740, Ibm360, Ibm720, Ibm1440, Amiga, C1541, C1541Forty, AppleDo, ApplePo}
 use Rattle.sector_images.specs.Formats.{row}
 use Rattle.flux_cli.specs.Commands.{AskFor, words_of}
-use Rattle.flux_cli.specs.Outcome.{Outcome, OutcomeOf, IsOutcome, decode_outcome, report_outcome}
+use Rattle.flux_cli.specs.DisksWork.{decode_outcome, report_outcome}
+use Rattle.flux_cli.specs.Work.{Outcome}
+use Rattle.flux_cli.specs.Works.{IsOutcome, work_of}
 use Rattle.flux_cli.specs.declared.command.Command.{Command}
 use Rattle.flux_cli.specs.declared.command.Command.TheVariants.{Turns, Decode, Report, Write}
 
@@ -79,7 +81,7 @@ one_asked words (Some a) None first second = absurd (second a first)
 one_asked words (Some a) (Some b) first second = ap Some (one_command a b (sym first ∙ second))
 
 module _ (one : OneOutcome) where
-  one_of : (asked : Option Command) (x : List ℕ) (a b : Outcome) → OutcomeOf asked x a → OutcomeOf asked x b → a ≡ b
+  one_of : (asked : Option Command) (x : List ℕ) (a b : Outcome) → (work_of asked).gives x a → (work_of asked).gives x b → a ≡ b
   one_of None x a b first second = first ∙ sym second
   one_of (Some Turns) x a b first second = first ∙ sym second
   one_of (Some (Decode format)) x a b first second =
@@ -91,4 +93,4 @@ module _ (one : OneOutcome) where
   pub one_outcome : (words : List (List ℕ)) (x : List ℕ) (a b : Outcome) → IsOutcome words x a → IsOutcome words x b → a ≡ b
   one_outcome words x a b first second =
       let same = one_asked words first.0 second.0 first.1 second.1 in
-      one_of second.0 x a b (subst (λ asked. OutcomeOf asked x a) same first.2) second.2
+      one_of second.0 x a b (subst (λ asked. (work_of asked).gives x a) same first.2) second.2

@@ -1,24 +1,35 @@
 -- What a run does that reads nothing.
-use Rattle.std.proofs.Common.{ℕ, List, [], Option, Some, None, refl}
-use Rattle.std.proofs.KnownBytes.{Appends-nil}
-use Rattle.std.specs.Io.KnownBytes.{Appends}
-use Rattle.flux_base.specs.declared.status.Status.TheVariants.{Usage, Memory}
+use Rattle.std.proofs.Common.{List, [], refl}
+use Rattle.std.specs.Io.KnownBytes.{Consumes}
+use Rattle.flux_base.specs.declared.status.Status.TheVariants.{Usage, NotesFault}
 use Rattle.sector_report.specs.Lines.{usage_text}
-use Rattle.flux_cli.specs.Commands.{AskFor}
-use Rattle.flux_cli.specs.Outcome.{Outcome, IsOutcome}
-use Rattle.flux_cli.specs.Runs.{Gives}
-use Rattle.flux_cli.specs.Takes.{TakesAs, TakesOf}
-use Rattle.flux_cli.specs.declared.command.Command.{Command}
+use Rattle.flux_cli.specs.Runs.{Finished, IsCut, Outside, growth}
+use Rattle.flux_cli.specs.Work.{Got, GotNothing, GotPart}
+use Rattle.flux_cli.specs.Works.{usage_work}
+use Rattle.flux_cli.proofs.Inputs.{rest}
 
--- there was no memory
-pub takes-nothing : (x : List ℕ) (asked : Option Command) → TakesOf asked Memory x x → TakesAs asked Memory x (Some x)
-takes-nothing x asked few = record { taken = []; later = x; left_is = refl; front = refl; few = few }
+module _ {S W N : Type 0} (before after : Outside S W N) (unread : Consumes before.source.bytes after.source.bytes []) where
+  -- the usage
+  pub usage-finish : Got (growth before.image after.image) [] → Got (growth before.notes after.notes) usage_text → Finished usage_work Usage before after
+  usage-finish image notes =
+      let r = rest before.source after.source [] unread in record {
+        taken = [];
+        later = r.later;
+        input = r.input;
+        outcome = record { status = Usage; image = []; notes = usage_text };
+        gives = refl;
+        status_is = refl;
+        image_got = image;
+        notes_got = notes;
+        leaves = refl;
+      }
 
--- words that are no command
-pub usage-gives : (words : List (List ℕ)) (x : List ℕ) (image notes notes' : Option (List ℕ)) → AskFor words None → Appends notes notes' usage_text
-    → (o : Outcome) × IsOutcome words x o × Gives o Usage image image notes notes'
-usage-gives words x image notes notes' asks all = (
-  record { status = Usage; image = []; notes = usage_text },
-  (None, asks, refl),
-  record { is = refl; image_bytes = Appends-nil image; notes_bytes = all },
-)
+  -- a part of it
+  pub usage-cut : GotNothing (growth before.image after.image) → GotPart (growth before.notes after.notes) usage_text → IsCut usage_work NotesFault before after
+  usage-cut image notes =
+      let r = rest before.source after.source [] unread in record {
+        taken = [];
+        later = r.later;
+        input = r.input;
+        place = (refl, image, notes);
+      }

@@ -1,7 +1,9 @@
 pub mod Commands
 pub mod Turns
-pub mod Outcome
+pub mod Work
+pub mod TurnsWork
+pub mod DisksWork
+pub mod ImagesWork
+pub mod Works
 pub mod Runs
-pub mod Takes
-pub mod Stops
 pub mod Rooms

@@ -1,57 +1,83 @@
--- What a run did, beside its outcome: by its status.
-use Rattle.std.specs.Prelude.{◌≡◌, ℕ, List, Option}
-use Rattle.std.specs.Io.KnownBytes.{Appends, Keeps}
+-- What a run did. It finished, and gave all that its input comes to. Or a fault of one object, which that object counted, cut it.
+-- Or there was no memory to begin, and nothing was touched.
+use Rattle.std.specs.Prelude.{◌≡◌, ◌≤◌, ℕ, ◌++◌, List, Option, Some, None, IsSome}
+use Rattle.flux_base.specs.Moments.{Moment}
 use Rattle.flux_base.specs.Outside.{Rose}
 use Rattle.flux_base.specs.declared.status.Status.{Status}
 use Rattle.flux_base.specs.declared.status.Status.TheVariants.{AllGood, NotAllGood, Refused, Usage, ReadFault, ImageFault, NotesFault, Memory}
+use Rattle.flux_cli.specs.Commands.{AskFor}
+use Rattle.flux_cli.specs.Work.{Outcome, Growth, Got, Work}
+use Rattle.flux_cli.specs.Works.{work_of}
 use Rattle.flux_cli.specs.declared.command.Command.{Command}
-use Rattle.flux_cli.specs.Outcome.{Outcome, OutcomeOf}
 
--- the work ended, or was refused
-abbrev pub IsFinished : Status → Type 0
-IsFinished AllGood = Unit {0}
-IsFinished NotAllGood = Unit {0}
-IsFinished Refused = Unit {0}
-IsFinished Usage = Unit {0}
-IsFinished ReadFault = ⊥
-IsFinished ImageFault = ⊥
-IsFinished NotesFault = ⊥
-IsFinished Memory = ⊥
+-- the outside at a moment
+pub record Outside (S W N : Type 0) : Type 0 where
+  pub source : Moment S
+  pub image : Moment W
+  pub notes : Moment N
 
--- the run gave the whole outcome: its status, and its bytes to both sinks
-pub record Gives (o : Outcome) (status : Status) (image image' notes notes' : Option (List ℕ)) : Type 0 where
-  pub is : status ≡ o.status
-  pub image_bytes : Appends image image' o.image
-  pub notes_bytes : Appends notes notes' o.notes
+abbrev pub outside : {S W N : Type 0} → Moment S → Moment W → Moment N → Outside S W N
+outside source image notes = record { source = source; image = image; notes = notes }
 
--- the run gave the whole outcome of a command over the input x
-abbrev pub GivesAs : Option Command → List ℕ → Status → (image image' notes notes' : Option (List ℕ)) → Type 0
-GivesAs asked x status image image' notes notes' = (o : Outcome) × OutcomeOf asked x o × Gives o status image image' notes notes'
+abbrev pub growth : {A : Type 0} → Moment A → Moment A → Growth
+growth before after = record { before = before.bytes; after = after.bytes }
 
--- a fault is told only of an object whose count of faults rose in the run
-abbrev pub HasCause : Status → (source source' image image' notes notes' : ℕ) → Type 0
-HasCause AllGood _ _ _ _ _ _ = Unit {0}
-HasCause NotAllGood _ _ _ _ _ _ = Unit {0}
-HasCause Refused _ _ _ _ _ _ = Unit {0}
-HasCause Usage _ _ _ _ _ _ = Unit {0}
-HasCause ReadFault source source' _ _ _ _ = Rose source source'
-HasCause ImageFault _ _ image image' _ _ = Rose image image'
-HasCause NotesFault _ _ _ _ notes notes' = Rose notes notes'
-HasCause Memory _ _ _ _ _ _ = Unit {0}
+-- The input is what was taken of it and what is left, where the source tells its bytes; else it is some list of bytes.
+abbrev pub IsInput : {A : Type 0} → (before after : Moment A) → (taken later : List ℕ) → Type 0
+IsInput before after taken later = (x : List ℕ) → before.bytes ≡ Some x → (x ≡ taken ++ later) × (after.bytes ≡ Some later)
 
--- a fault or want of memory ended the run
-abbrev pub IsStopped : Status → Type 0
-IsStopped AllGood = ⊥
-IsStopped NotAllGood = ⊥
-IsStopped Refused = ⊥
-IsStopped Usage = ⊥
-IsStopped ReadFault = Unit {0}
-IsStopped ImageFault = Unit {0}
-IsStopped NotesFault = Unit {0}
-IsStopped Memory = Unit {0}
+-- the work is done: both sinks got all that the input comes to, and the status is the outcome's
+pub record Finished {S W N : Type 0} (work : Work) (status : Status) (before after : Outside S W N) : Type 0 where
+  pub taken : List ℕ
+  pub later : List ℕ
+  pub input : IsInput before.source after.source taken later
+  pub outcome : Outcome
+  pub gives : work.gives (taken ++ later) outcome
+  pub status_is : status ≡ outcome.status
+  pub image_got : Got (growth before.image after.image) outcome.image
+  pub notes_got : Got (growth before.notes after.notes) outcome.notes
+  pub leaves : work.leaves status (taken ++ later) later
 
--- there was no memory to begin: nothing was read and nothing written
-pub record Untouched (left left' image image' notes notes' : Option (List ℕ)) : Type 0 where
-  pub left_kept : Keeps left left'
-  pub image_kept : Keeps image image'
-  pub notes_kept : Keeps notes notes'
+-- a fault cut the work at a place that the command's row states
+pub record IsCut {S W N : Type 0} (work : Work) (status : Status) (before after : Outside S W N) : Type 0 where
+  pub taken : List ℕ
+  pub later : List ℕ
+  pub input : IsInput before.source after.source taken later
+  pub place : work.cut status taken later (growth before.image after.image) (growth before.notes after.notes)
+
+-- what the status says
+abbrev pub Says : {S W N : Type 0} → Option Command → Status → (before after : Outside S W N) → Type 0
+Says asked AllGood before after = Finished (work_of asked) AllGood before after
+Says asked NotAllGood before after = Finished (work_of asked) NotAllGood before after
+Says asked Refused before after = Finished (work_of asked) Refused before after
+Says asked Usage before after = Finished (work_of asked) Usage before after
+Says asked ReadFault before after = IsCut (work_of asked) ReadFault before after × Rose before.source.faults after.source.faults
+Says asked ImageFault before after = IsCut (work_of asked) ImageFault before after × Rose before.image.faults after.image.faults
+Says asked NotesFault before after = IsCut (work_of asked) NotesFault before after × Rose before.notes.faults after.notes.faults
+Says asked Memory before after = IsSome asked × (after ≡ before)
+
+-- no object's count of faults is lower than it was
+pub record NoCountFell {S W N : Type 0} (before after : Outside S W N) : Type 0 where
+  pub source : before.source.faults ≤ after.source.faults
+  pub image : before.image.faults ≤ after.image.faults
+  pub notes : before.notes.faults ≤ after.notes.faults
+
+-- words that ask for nothing get the usage, or a fault of the sink that it was to go to; words that ask for a command do not
+abbrev pub IsAnswer : Option Command → Status → Type 0
+IsAnswer None Usage = Unit {0}
+IsAnswer None NotesFault = Unit {0}
+IsAnswer None _ = ⊥
+IsAnswer (Some command) Usage = ⊥
+IsAnswer (Some command) _ = Unit {0}
+
+-- what was done that was asked
+pub record Does {S W N : Type 0} (asked : Option Command) (status : Status) (before after : Outside S W N) : Type 0 where
+  pub answer : IsAnswer asked status
+  pub says : Says asked status before after
+  pub counts : NoCountFell before after
+
+-- what a run with these words did
+pub record Ran {S W N : Type 0} (words : List (List ℕ)) (status : Status) (before after : Outside S W N) : Type 0 where
+  pub asked : Option Command
+  pub asks : AskFor words asked
+  pub does : Does asked status before after

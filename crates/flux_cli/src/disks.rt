@@ -1,9 +1,8 @@
-ghost use Rattle.std.specs.Prelude.{◌≡◌, ◌≢◌, ℕ, ◌≤◌, List, None, Some};
+ghost use Rattle.std.specs.Prelude.{◌≡◌, ◌≢◌, None, Some};
+ghost use Rattle.flux_base.specs.Moments.{moment};
 ghost use Rattle.flux_base.specs.declared.status.Status.{Status};
-ghost use Rattle.flux_cli.specs.Outcome.{status_of};
-ghost use Rattle.flux_cli.specs.Runs.{GivesAs, HasCause, IsFinished, IsStopped};
-ghost use Rattle.flux_cli.specs.Stops.{StopsAs};
-ghost use Rattle.flux_cli.specs.Takes.{TakesAs};
+ghost use Rattle.flux_cli.specs.DisksWork.{status_of};
+ghost use Rattle.flux_cli.specs.Runs.{Does, outside};
 ghost use Rattle.flux_cli.specs.declared.command.Command.TheVariants.{Decode, Report};
 ghost use Rattle.flux_engine.specs.Room.{fresh};
 
@@ -19,13 +18,10 @@ pub fn decode<S: Source, W: Sink, N: Sink>(
     notes: &mut N,
 ) -> Status
     requires { room.old ≡ fresh room.old.format }
-    ensures finished { (x : List ℕ) → S.left source.old ≡ Some x → IsFinished result
-        → GivesAs (Some (Decode room.old.format)) x result (W.written image.old) (W.written image.new) (N.written notes.old) (N.written notes.new) }
-    ensures stopped { (x : List ℕ) → S.left source.old ≡ Some x → IsStopped result
-        → StopsAs (Some (Decode room.old.format)) result x (S.left source.new) (W.written image.old) (W.written image.new) (N.written notes.old) (N.written notes.new) }
+    ensures does { Does (Some (Decode room.old.format)) result
+        (outside (moment S.left S.faults source.old) (moment W.written W.faults image.old) (moment N.written N.faults notes.old))
+        (outside (moment S.left S.faults source.new) (moment W.written W.faults image.new) (moment N.written N.faults notes.new)) }
     ensures memory { result ≢ Status.Memory }
-    ensures taken { (x : List ℕ) → S.left source.old ≡ Some x → TakesAs (Some (Decode room.old.format)) result x (S.left source.new) }
-    ensures cause { HasCause result (S.faults source.old) (S.faults source.new) (W.faults image.old) (W.faults image.new) (N.faults notes.old) (N.faults notes.new) }
 {
     match decode_disk(room, source, image, notes) {
         Ok(totals) => status_of(&totals),
@@ -53,13 +49,10 @@ pub fn report<S: Source, W: Sink, N: Sink>(
     notes: &mut N,
 ) -> Status
     requires { room.old ≡ fresh room.old.format }
-    ensures finished { (x : List ℕ) → S.left source.old ≡ Some x → IsFinished result
-        → GivesAs (Some (Report room.old.format)) x result (W.written image.old) (W.written image.new) (N.written notes.old) (N.written notes.new) }
-    ensures stopped { (x : List ℕ) → S.left source.old ≡ Some x → IsStopped result
-        → StopsAs (Some (Report room.old.format)) result x (S.left source.new) (W.written image.old) (W.written image.new) (N.written notes.old) (N.written notes.new) }
+    ensures does { Does (Some (Report room.old.format)) result
+        (outside (moment S.left S.faults source.old) (moment W.written W.faults image.old) (moment N.written N.faults notes.old))
+        (outside (moment S.left S.faults source.new) (moment W.written W.faults image.new) (moment N.written N.faults notes.new)) }
     ensures memory { result ≢ Status.Memory }
-    ensures taken { (x : List ℕ) → S.left source.old ≡ Some x → TakesAs (Some (Report room.old.format)) result x (S.left source.new) }
-    ensures cause { HasCause result (S.faults source.old) (S.faults source.new) (W.faults image.old) (W.faults image.new) (N.faults notes.old) (N.faults notes.new) }
 {
     match decode_disk(room, source, &mut CountingSink::new(), image) {
         Ok(totals) => status_of(&totals),

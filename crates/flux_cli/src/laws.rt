@@ -1,7 +1,8 @@
 //! What the definition of an outcome comes to.
 
 ghost use Rattle.std.specs.Prelude.{◌≡◌, ℕ, List};
-ghost use Rattle.flux_cli.specs.Outcome.{Outcome, IsOutcome};
+ghost use Rattle.flux_cli.specs.Work.{Outcome};
+ghost use Rattle.flux_cli.specs.Works.{IsOutcome};
 
 /// The words and the input decide the outcome: there is one at most.
 pub fn outcomes_are_one()

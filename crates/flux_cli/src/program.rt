@@ -1,12 +1,8 @@
-ghost use Rattle.std.specs.Prelude.{◌≡◌, ◌≢◌, ℕ, ◌≤◌, List, Some, IfOk};
+ghost use Rattle.std.specs.Prelude.{◌≢◌, Some, IfOk};
+ghost use Rattle.flux_base.specs.Moments.{moment};
 ghost use Rattle.flux_base.specs.declared.status.Status.{Status};
-ghost use Rattle.flux_cli.specs.Commands.{AskFor};
-ghost use Rattle.flux_cli.specs.Outcome.{Outcome, IsOutcome};
 ghost use Rattle.flux_cli.specs.Rooms.{IsReady};
-ghost use Rattle.flux_cli.specs.Runs.{IsFinished, Gives, GivesAs, HasCause, IsStopped, Untouched};
-ghost use Rattle.flux_cli.specs.Stops.{Stops, StopsAs};
-ghost use Rattle.flux_cli.specs.Takes.{Takes, TakesAs};
-ghost use Rattle.flux_cli.specs.declared.command.Command.{Command};
+ghost use Rattle.flux_cli.specs.Runs.{Does, Ran, outside};
 ghost use Rattle.flux_cli.specs.declared.command.Command.TheVariants.{Turns};
 
 use crate::command::{Command, command_of};
@@ -29,21 +25,11 @@ pub fn run<S: Source, W: Sink, N: Sink>(
     image: &mut W,
     notes: &mut N,
 ) -> Status
-    // The status and all bytes are those of the outcome, which the words and the input alone decide.
-    ensures finished { (x : List ℕ) → S.left source.old ≡ Some x → IsFinished result
-        → (o : Outcome) × IsOutcome words.now x o
-        × Gives o result (W.written image.old) (W.written image.new) (N.written notes.old) (N.written notes.new) }
-
-    // After a fault each sink has grown by a front of what it was to get, which its command and the fault tell.
-    ensures stopped { (x : List ℕ) → S.left source.old ≡ Some x → IsStopped result
-        → Stops words.now result x (S.left source.new) (W.written image.old) (W.written image.new) (N.written notes.old) (N.written notes.new) }
-    ensures memory { result ≡ Status.Memory
-        → Untouched (S.left source.old) (S.left source.new) (W.written image.old) (W.written image.new) (N.written notes.old) (N.written notes.new) }
-    ensures memory_of_command { result ≡ Status.Memory → (command : Command) × AskFor words.now (Some command) }
-    ensures taken { (x : List ℕ) → S.left source.old ≡ Some x → Takes words.now result x (S.left source.new) }
-
-    // A fault is told only where the count of that object rose, also of objects that do not tell their bytes.
-    ensures cause { HasCause result (S.faults source.old) (S.faults source.new) (W.faults image.old) (W.faults image.new) (N.faults notes.old) (N.faults notes.new) }
+    // It finished, and gave all that the input comes to; or a counted fault of one object cut it at a place that the
+    // command's row states; or there was no memory to begin, and source, image and notes are as they were.
+    ensures { Ran words.now result
+        (outside (moment S.left S.faults source.old) (moment W.written W.faults image.old) (moment N.written N.faults notes.old))
+        (outside (moment S.left S.faults source.new) (moment W.written W.faults image.new) (moment N.written N.faults notes.new)) }
 {
     match command_of(words) {
         None => match write_whole(notes, usage_line().as_bytes()) {
@@ -101,13 +87,10 @@ fn turns<S: Source, W: Sink, N: Sink>(
     notes: &mut N,
 ) -> Status
     requires { IsReady room.old }
-    ensures finished { (x : List ℕ) → S.left source.old ≡ Some x → IsFinished result
-        → GivesAs (Some Turns) x result (W.written image.old) (W.written image.new) (N.written notes.old) (N.written notes.new) }
-    ensures stopped { (x : List ℕ) → S.left source.old ≡ Some x → IsStopped result
-        → StopsAs (Some Turns) result x (S.left source.new) (W.written image.old) (W.written image.new) (N.written notes.old) (N.written notes.new) }
+    ensures does { Does (Some Turns) result
+        (outside (moment S.left S.faults source.old) (moment W.written W.faults image.old) (moment N.written N.faults notes.old))
+        (outside (moment S.left S.faults source.new) (moment W.written W.faults image.new) (moment N.written N.faults notes.new)) }
     ensures memory { result ≢ Status.Memory }
-    ensures taken { (x : List ℕ) → S.left source.old ≡ Some x → TakesAs (Some Turns) result x (S.left source.new) }
-    ensures cause { HasCause result (S.faults source.old) (S.faults source.new) (W.faults image.old) (W.faults image.new) (N.faults notes.old) (N.faults notes.new) }
 {
     match read_track(source, &mut room.intake, &mut room.flux, &mut room.bench) {
         Ok(()) => match write_turns(&room.flux, image) {

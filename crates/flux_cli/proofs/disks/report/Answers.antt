@@ -1,42 +1,58 @@
-use Rattle.std.proofs.KnownBytes.{Keeps-refl}
-use Rattle.flux_cli.proofs.DisksRun.{told-ok, told-notes, told-refused, report-all, report-refused, takes-all, takes-refused, stops-reading, stops-report, stops-behind-report}
+use Rattle.std.proofs.Common.{◌==◌, arith}
+use Rattle.std.proofs.KnownBytes.{Appends-nil, Keeps-refl}
+use Rattle.flux_cli.proofs.DisksRun.{told-ok, told-notes, told-refused, report-does, report-finish, report-refuse, report-cut-read, report-cut-image, report-cut-refusal}
 use Rattle.flux_cli.proofs.disks.report.Goals as goal
 
-pub returns-in-Ok-clause-finished : goal.returns-in-Ok-clause-finished
-returns-in-Ok-clause-finished g c = λ x told _.
-    let d = rw told at c.in-Ok.ensures.decoded in
-    rw c.status_of.ensures (report-all c.args.room.now.format x _ _ _ _ _ _ c.in-Ok.totals (told-ok c.args.room.now.format x _ _ _ _ _ c.in-Ok.totals d))
+pub returns-in-Ok-clause-does : goal.returns-in-Ok-clause-does
+returns-in-Ok-clause-does g c =
+    let format = c.args.room.now.format in
+    let totals = c.in-Ok.totals in
+    rw c.status_of.ensures (report-does format _ _ (totals.good == totals.sectors)
+    (report-finish format _ _ _ totals (told-ok format _ _ _ _ totals c.in-Ok.ensures.decoded) (Appends-nil _))
+    (record { source = c.in-Ok.ensures.source_later; image = c.in-Ok.ensures.notes_later; notes = omega arith }))
 
-pub returns-in-Ok-clause-taken : goal.returns-in-Ok-clause-taken
-returns-in-Ok-clause-taken g c = λ x told.
-    let d = rw told at c.in-Ok.ensures.decoded in
-    rw c.status_of.ensures ((takes-all c.args.room.now.format x _ _ _ _ _ c.in-Ok.totals (told-ok c.args.room.now.format x _ _ _ _ _ c.in-Ok.totals d)).1)
+pub returns-in-Err-ReadFault-clause-does : goal.returns-in-Err-ReadFault-clause-does
+returns-in-Err-ReadFault-clause-does g c = record {
+  answer = tt;
+  says = (
+    report-cut-read c.args.room.now.format _ _ (rw c.in-Err-ReadFault.field-0-is at c.in-Err-ReadFault.ensures.decoded) (Keeps-refl _),
+    (rw c.in-Err-ReadFault.field-0-is at c.in-Err-ReadFault.ensures.cause),
+  );
+  counts = record { source = c.in-Err-ReadFault.ensures.source_later; image = c.in-Err-ReadFault.ensures.notes_later; notes = omega arith };
+}
 
-pub returns-in-Err-ReadFault-clause-stopped : goal.returns-in-Err-ReadFault-clause-stopped
-returns-in-Err-ReadFault-clause-stopped g c = λ x told _.
-    (stops-reading c.args.room.now.format x _ _ _ _ _ (rw (c.in-Err-ReadFault.field-0-is, told) at c.in-Err-ReadFault.ensures.decoded), Keeps-refl _)
+pub returns-in-Err-NotesFault-clause-does : goal.returns-in-Err-NotesFault-clause-does
+returns-in-Err-NotesFault-clause-does g c = record {
+  answer = tt;
+  says = (
+    report-cut-image c.args.room.now.format _ _
+        (told-notes c.args.room.now.format _ _ _ _ (rw c.in-Err-NotesFault.field-0-is at c.in-Err-NotesFault.ensures.decoded)) (Keeps-refl _),
+    (rw c.in-Err-NotesFault.field-0-is at c.in-Err-NotesFault.ensures.cause),
+  );
+  counts = record { source = c.in-Err-NotesFault.ensures.source_later; image = c.in-Err-NotesFault.ensures.notes_later; notes = omega arith };
+}
 
-pub returns-in-Err-NotesFault-clause-stopped : goal.returns-in-Err-NotesFault-clause-stopped
-returns-in-Err-NotesFault-clause-stopped g c = λ x told _.
-    let d = rw (c.in-Err-NotesFault.field-0-is, told) at c.in-Err-NotesFault.ensures.decoded in
-    stops-report c.args.room.now.format x _ _ _ _ (told-notes c.args.room.now.format x _ _ _ _ _ d)
+pub returns-in-Ok-write_line-clause-does : goal.returns-in-Ok-write_line-clause-does
+returns-in-Ok-write_line-clause-does g c =
+    let format = c.args.room.now.format in
+    let e = c.in-Err-Refused in record {
+      answer = tt;
+      says = report-refuse format _ _ _ e.track e.block e.fault
+          (told-refused format _ _ _ _ e.track e.block e.fault (rw e.field-0-is at e.ensures.decoded))
+          (rw c.refused_line.ensures at c.in-Ok-write_line.ensures.ok);
+      counts = record { source = e.ensures.source_later; image = e.ensures.notes_later; notes = c.in-Ok-write_line.ensures.later };
+    }
 
-pub returns-in-Ok-write_line-clause-finished : goal.returns-in-Ok-write_line-clause-finished
-returns-in-Ok-write_line-clause-finished g c = λ x told _.
-    let d = rw (c.in-Err-Refused.field-0-is, told) at c.in-Err-Refused.ensures.decoded in
-    report-refused c.args.room.now.format x _ _ _ _ _ _ _ c.in-Err-Refused.track c.in-Err-Refused.block c.in-Err-Refused.fault
-    (told-refused c.args.room.now.format x _ _ _ _ _ c.in-Err-Refused.track c.in-Err-Refused.block c.in-Err-Refused.fault d)
-    (rw c.refused_line.ensures at c.in-Ok-write_line.ensures.ok)
-
-pub returns-in-Ok-write_line-clause-taken : goal.returns-in-Ok-write_line-clause-taken
-returns-in-Ok-write_line-clause-taken g c = λ x told.
-    let d = rw (c.in-Err-Refused.field-0-is, told) at c.in-Err-Refused.ensures.decoded in
-    (takes-refused c.args.room.now.format x _ _ _ _ _ c.in-Err-Refused.track c.in-Err-Refused.block c.in-Err-Refused.fault
-    (told-refused c.args.room.now.format x _ _ _ _ _ c.in-Err-Refused.track c.in-Err-Refused.block c.in-Err-Refused.fault d)).1
-
-pub returns-in-Err-clause-stopped : goal.returns-in-Err-clause-stopped
-returns-in-Err-clause-stopped g c = λ x told _.
-    let d = rw (c.in-Err-Refused.field-0-is, told) at c.in-Err-Refused.ensures.decoded in
-    stops-behind-report c.args.room.now.format x _ _ _ _ _ _ _ c.in-Err-Refused.track c.in-Err-Refused.block c.in-Err-Refused.fault
-    (told-refused c.args.room.now.format x _ _ _ _ _ c.in-Err-Refused.track c.in-Err-Refused.block c.in-Err-Refused.fault d)
-    (rw c.refused_line.ensures at c.in-Err.ensures.err)
+pub returns-in-Err-clause-does : goal.returns-in-Err-clause-does
+returns-in-Err-clause-does g c =
+    let format = c.args.room.now.format in
+    let e = c.in-Err-Refused in record {
+      answer = tt;
+      says = (
+        report-cut-refusal format _ _ _ e.track e.block e.fault
+            (told-refused format _ _ _ _ e.track e.block e.fault (rw e.field-0-is at e.ensures.decoded))
+            (rw c.refused_line.ensures at c.in-Err.ensures.err),
+        c.in-Err.ensures.cause,
+      );
+      counts = record { source = e.ensures.source_later; image = e.ensures.notes_later; notes = c.in-Err.ensures.later };
+    }

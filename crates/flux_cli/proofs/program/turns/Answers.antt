@@ -1,52 +1,55 @@
-use Rattle.flux_cli.proofs.TurnsRun.{takes-stream, takes-front, gives-turns, gives-refusal, part-of-turns, part-of-refusal, stops-stream}
+use Rattle.std.proofs.Common.{arith}
+use Rattle.std.proofs.KnownBytes.{Appends-nil, Keeps-refl}
+use Rattle.flux_cli.proofs.TurnsRun.{turns-finish, turns-refuse, turns-cut-read, turns-cut-image, turns-cut-notes}
 use Rattle.flux_cli.proofs.program.turns.Goals as goal
 
-pub returns-in-Ok-write_turns-clause-finished : goal.returns-in-Ok-write_turns-clause-finished
-returns-in-Ok-write_turns-clause-finished g c = λ x told _.
-    let says = rw (c.requires.empty, c.requires.fresh) at c.in-Ok.ensures.told x told in
-    gives-turns x c.read_track.new.flux _ _ _ _ says.2 c.in-Ok-write_turns.ensures.ok
+pub returns-in-Ok-write_turns-clause-does : goal.returns-in-Ok-write_turns-clause-does
+returns-in-Ok-write_turns-clause-does g c = record {
+  answer = tt;
+  says = turns-finish _ _ c.read_track.new.intake.held c.read_track.new.flux c.in-Ok.field-0
+      (rw (c.requires.empty, c.requires.fresh) at c.in-Ok.ensures.read) c.in-Ok.ensures.bound c.in-Ok-write_turns.ensures.ok (Appends-nil _);
+  counts = record { source = c.in-Ok.ensures.later; image = c.in-Ok-write_turns.ensures.later; notes = omega arith };
+}
 
-pub returns-in-Ok-write_turns-clause-taken : goal.returns-in-Ok-write_turns-clause-taken
-returns-in-Ok-write_turns-clause-taken g c = λ x told.
-    takes-stream x _ c.read_track.new.intake.held c.read_track.new.flux c.in-Ok.field-0
-    (rw (c.requires.empty, c.requires.fresh, told) at c.in-Ok.ensures.read) c.in-Ok.ensures.bound
+pub returns-in-Err-clause-does : goal.returns-in-Err-clause-does
+returns-in-Err-clause-does g c = record {
+  answer = tt;
+  says = (
+    turns-cut-image _ _ c.read_track.new.intake.held c.read_track.new.flux c.in-Ok.field-0
+        (rw (c.requires.empty, c.requires.fresh) at c.in-Ok.ensures.read) c.in-Err.ensures.err (Appends-nil _),
+    c.in-Err.ensures.cause,
+  );
+  counts = record { source = c.in-Ok.ensures.later; image = c.in-Err.ensures.later; notes = omega arith };
+}
 
-pub returns-in-Err-clause-stopped : goal.returns-in-Err-clause-stopped
-returns-in-Err-clause-stopped g c = λ x told _.
-    let says = rw (c.requires.empty, c.requires.fresh) at c.in-Ok.ensures.told x told in
-    part-of-turns x c.read_track.new.flux _ _ _ _ says.2 c.in-Err.ensures.err
+pub returns-in-Err-ReadFault-clause-does : goal.returns-in-Err-ReadFault-clause-does
+returns-in-Err-ReadFault-clause-does g c = record {
+  answer = tt;
+  says = (
+    turns-cut-read _ _ c.read_track.new.intake.held c.read_track.new.flux
+        (rw (c.in-Err-ReadFault.field-0-is, c.requires.empty, c.requires.fresh) at c.in-Err-ReadFault.ensures.read) (Keeps-refl _) (Keeps-refl _),
+    (rw c.in-Err-ReadFault.field-0-is at c.in-Err-ReadFault.ensures.cause),
+  );
+  counts = record { source = c.in-Err-ReadFault.ensures.later; image = omega arith; notes = omega arith };
+}
 
-pub returns-in-Err-clause-taken : goal.returns-in-Err-clause-taken
-returns-in-Err-clause-taken g c = λ x told.
-    takes-front x _ c.read_track.new.intake.held c.read_track.new.flux _ _
-    (rw (c.requires.empty, c.requires.fresh, told) at c.in-Ok.ensures.read) (λ later few. few)
+pub returns-in-Ok-write_line-clause-does : goal.returns-in-Ok-write_line-clause-does
+returns-in-Ok-write_line-clause-does g c = record {
+  answer = tt;
+  says = turns-refuse _ _ c.read_track.new.intake.held c.read_track.new.flux c.in-Err-Refused.block c.in-Err-Refused.fault
+      (rw (c.in-Err-Refused.field-0-is, c.requires.empty, c.requires.fresh) at c.in-Err-Refused.ensures.read) (Appends-nil _)
+      (rw c.refused_line.ensures at c.in-Ok-write_line.ensures.ok);
+  counts = record { source = c.in-Err-Refused.ensures.later; image = omega arith; notes = c.in-Ok-write_line.ensures.later };
+}
 
-pub returns-in-Err-ReadFault-clause-stopped : goal.returns-in-Err-ReadFault-clause-stopped
-returns-in-Err-ReadFault-clause-stopped g c = λ x told _.
-    stops-stream x _ c.read_track.new.intake.held c.read_track.new.flux _ _
-    (rw (c.in-Err-ReadFault.field-0-is, c.requires.empty, c.requires.fresh, told) at c.in-Err-ReadFault.ensures.read)
-
-pub returns-in-Err-ReadFault-clause-taken : goal.returns-in-Err-ReadFault-clause-taken
-returns-in-Err-ReadFault-clause-taken g c = λ x told.
-    takes-front x _ c.read_track.new.intake.held c.read_track.new.flux _ _
-    (rw (c.requires.empty, c.requires.fresh, told) at c.in-Err-ReadFault.ensures.read) (λ later few. few)
-
-pub returns-in-Ok-write_line-clause-finished : goal.returns-in-Ok-write_line-clause-finished
-returns-in-Ok-write_line-clause-finished g c = λ x told _.
-    let says = rw (c.in-Err-Refused.field-0-is, c.requires.empty, c.requires.fresh) at c.in-Err-Refused.ensures.told x told in
-    gives-refusal x c.in-Err-Refused.block c.in-Err-Refused.fault _ _ _ says.2 (rw c.refused_line.ensures at c.in-Ok-write_line.ensures.ok)
-
-pub returns-in-Ok-write_line-clause-taken : goal.returns-in-Ok-write_line-clause-taken
-returns-in-Ok-write_line-clause-taken g c = λ x told.
-    takes-front x _ c.read_track.new.intake.held c.read_track.new.flux _ _
-    (rw (c.requires.empty, c.requires.fresh, told) at c.in-Err-Refused.ensures.read) (λ later few. few)
-
-pub returns-in-Err-write_line-clause-stopped : goal.returns-in-Err-write_line-clause-stopped
-returns-in-Err-write_line-clause-stopped g c = λ x told _.
-    let says = rw (c.in-Err-Refused.field-0-is, c.requires.empty, c.requires.fresh) at c.in-Err-Refused.ensures.told x told in
-    part-of-refusal x c.in-Err-Refused.block c.in-Err-Refused.fault _ _ _ says.2 (rw c.refused_line.ensures at c.in-Err-write_line.ensures.err)
-
-pub returns-in-Err-write_line-clause-taken : goal.returns-in-Err-write_line-clause-taken
-returns-in-Err-write_line-clause-taken g c = λ x told.
-    takes-front x _ c.read_track.new.intake.held c.read_track.new.flux _ _
-    (rw (c.requires.empty, c.requires.fresh, told) at c.in-Err-Refused.ensures.read) (λ later few. few)
+pub returns-in-Err-write_line-clause-does : goal.returns-in-Err-write_line-clause-does
+returns-in-Err-write_line-clause-does g c = record {
+  answer = tt;
+  says = (
+    turns-cut-notes _ _ c.read_track.new.intake.held c.read_track.new.flux c.in-Err-Refused.block c.in-Err-Refused.fault
+        (rw (c.in-Err-Refused.field-0-is, c.requires.empty, c.requires.fresh) at c.in-Err-Refused.ensures.read) (Appends-nil _)
+        (rw c.refused_line.ensures at c.in-Err-write_line.ensures.err),
+    c.in-Err-write_line.ensures.cause,
+  );
+  counts = record { source = c.in-Err-Refused.ensures.later; image = omega arith; notes = c.in-Err-write_line.ensures.later };
+}

@@ -1,0 +1,47 @@
+-- What there is to do for a command: what its input comes to, how much of the input it takes, and where a fault may cut it.
+use Rattle.std.specs.Prelude.{ℕ, List, take, Option}
+use Rattle.std.specs.Io.KnownBytes.{Appends, Keeps}
+use Rattle.flux_base.specs.Outside.{AppendsPart}
+use Rattle.flux_base.specs.declared.status.Status.{Status}
+
+-- a status, the bytes for the image and the bytes for the notes
+pub record Outcome : Type 0 where
+  pub status : Status
+  pub image : List ℕ
+  pub notes : List ℕ
+
+-- the bytes that a sink told before a call and after it, if it tells them
+pub record Growth : Type 0 where
+  pub before : Option (List ℕ)
+  pub after : Option (List ℕ)
+
+-- the sink got these bytes
+abbrev pub Got : Growth → List ℕ → Type 0
+Got sink bytes = Appends sink.before sink.after bytes
+
+-- the sink got nothing
+abbrev pub GotNothing : Growth → Type 0
+GotNothing sink = Keeps sink.before sink.after
+
+-- the sink got a front of these bytes, or all
+abbrev pub GotFront : Growth → List ℕ → Type 0
+GotFront sink bytes = (n : ℕ) × Appends sink.before sink.after (take n bytes)
+
+-- the sink got a front of these bytes that is shorter than they are
+abbrev pub GotPart : Growth → List ℕ → Type 0
+GotPart sink bytes = AppendsPart sink.before sink.after bytes
+
+-- each sink got a front of its bytes of an outcome, or all
+pub record GivesFront (o : Outcome) (image notes : Growth) : Type 0 where
+  pub image_front : GotFront image o.image
+  pub notes_front : GotFront notes o.notes
+
+-- The row of one command.
+pub record Work : Type 1 where
+  -- what the input x comes to
+  pub gives : (x : List ℕ) → Outcome → Type 0
+  -- what is left of the input x where all was given, by the status
+  pub leaves : Status → (x later : List ℕ) → Type 0
+  -- where a fault may cut the work, by the status, which says whose fault it is: what was taken of the input and what is left,
+  -- and what both sinks got
+  pub cut : Status → (taken later : List ℕ) → (image notes : Growth) → Type 0

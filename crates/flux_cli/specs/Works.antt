@@ -1,0 +1,39 @@
+-- What there is to do for the words: a row for each command, and one for words that are none.
+use Rattle.std.specs.Prelude.{◌≡◌, ℕ, List, [], Option, Some, None}
+use Rattle.flux_base.specs.declared.status.Status.{Status}
+use Rattle.flux_base.specs.declared.status.Status.TheVariants.{Usage, NotesFault}
+use Rattle.sector_report.specs.Lines.{usage_text}
+use Rattle.flux_cli.specs.Commands.{AskFor}
+use Rattle.flux_cli.specs.DisksWork.{decode_work, report_work}
+use Rattle.flux_cli.specs.ImagesWork.{write_work}
+use Rattle.flux_cli.specs.TurnsWork.{turns_work}
+use Rattle.flux_cli.specs.Work.{Outcome, Growth, GotNothing, GotPart, Work}
+use Rattle.flux_cli.specs.declared.command.Command.{Command}
+use Rattle.flux_cli.specs.declared.command.Command.TheVariants.{Turns, Decode, Report, Write}
+
+-- nothing is read, and the notes get the usage
+abbrev pub usage_leaves : Status → (x later : List ℕ) → Type 0
+usage_leaves Usage x later = later ≡ x
+usage_leaves _ x later = ⊥
+
+abbrev pub usage_cut : Status → (taken later : List ℕ) → (image notes : Growth) → Type 0
+usage_cut NotesFault taken later image notes = (taken ≡ []) × GotNothing image × GotPart notes usage_text
+usage_cut _ taken later image notes = ⊥
+
+abbrev pub usage_work : Work
+usage_work = record {
+  gives = λ x o. o ≡ record { status = Usage; image = []; notes = usage_text };
+  leaves = usage_leaves;
+  cut = usage_cut;
+}
+
+abbrev pub work_of : Option Command → Work
+work_of None = usage_work
+work_of (Some Turns) = turns_work
+work_of (Some (Decode format)) = decode_work format
+work_of (Some (Report format)) = report_work format
+work_of (Some (Write format)) = write_work format
+
+-- this is the outcome of the words over the input
+abbrev pub IsOutcome : List (List ℕ) → List ℕ → Outcome → Type 0
+IsOutcome words x o = (asked : Option Command) × AskFor words asked × (work_of asked).gives x o
