@@ -5,7 +5,8 @@ use Rattle.std.proofs.Common.{ap, sym, subst, ◌∙◌, arith, inl, inr}
 use Rattle.flux_base.specs.declared.track.TrackId.{TrackId}
 use Rattle.disk_recordings.specs.Laws.{RingsHaveCells, TracksAreRead}
 use Rattle.disk_recordings.specs.Members.{header_at, sector_at}
-use Rattle.kryo_stream.specs.Joined.{PaddingIsPassed, StreamsStay}
+use Rattle.kryo_stream.specs.Growth.{StreamsStay}
+use Rattle.kryo_stream.specs.Joined.{PaddingIsPassed}
 use Rattle.kryo_stream.specs.Stream.{first_fault, indexes, stream_length, times}
 use Rattle.phase_loop.specs.Pieces.{RecoversPiecesOfTurns}
 use Rattle.sector_images.specs.Formats.{row}

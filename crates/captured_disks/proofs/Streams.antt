@@ -4,7 +4,8 @@ use Rattle.std.specs.List.{range_with_len}
 use Rattle.std.proofs.Common.{ap, sym, subst, ◌∙◌, arith, append_assoc}
 use Rattle.std.proofs.lemmas.Bool.{lt-ltb}
 use Rattle.std.proofs.Math.Seq.{drop-append_seam}
-use Rattle.kryo_stream.specs.Joined.{PaddingIsPassed, StreamsStay}
+use Rattle.kryo_stream.specs.Growth.{StreamsStay}
+use Rattle.kryo_stream.specs.Joined.{PaddingIsPassed}
 use Rattle.kryo_stream.specs.Outcome.{input_of}
 use Rattle.kryo_stream.specs.Stream.{first_fault, indexes, indexes_of, stream_length, times, times_of, total_bytes}
 use Rattle.kryo_stream.specs.declared.block.Piece.{Piece}
@@ -45,7 +46,7 @@ module _ (stay : StreamsStay) (passed : PaddingIsPassed) (count : ℕ) (bytes : 
   after k rest known is =
       let same = stay (bytes k) (from (k + 1) rest) (sound k known).0 in
       ap behind_stream is
-      ∙ ap (λ (ps : List Piece). drop (total_bytes ps) (bytes k ++ from (k + 1) rest)) same.1
+      ∙ ap (λ (ps : List Piece). drop (total_bytes ps) (bytes k ++ from (k + 1) rest)) same.blocks
       ∙ ap (λ (n : ℕ). drop n (bytes k ++ from (k + 1) rest)) (sound k known).1
       ∙ drop-append_seam (bytes k) (from (k + 1) rest)
 
@@ -64,7 +65,7 @@ module _ (stay : StreamsStay) (passed : PaddingIsPassed) (count : ℕ) (bytes : 
       let here : stream_at x k ≡ bytes k ++ from (k + 1) rest = without_padding k rest known (behind-is k (suc rest) (omega arith)) in
       let same = stay (bytes k) (from (k + 1) rest) (sound k known).0 in
       record {
-        no_fault = ap first_fault here ∙ same.0;
-        times_are = ap times here ∙ ap times_of same.1;
-        indexes_are = ap indexes here ∙ ap indexes_of same.1;
+        no_fault = ap first_fault here ∙ same.no_fault;
+        times_are = ap times here ∙ ap times_of same.blocks;
+        indexes_are = ap indexes here ∙ ap indexes_of same.blocks;
       }

@@ -5,7 +5,7 @@ ghost use Rattle.captured_disks.specs.Headline.{CapturedDisksDecode, ErasedDisks
 use decoded_rings::own_sectors_are_right;
 use disk_recordings::{DiskRecording, tracks_are_read, tracks_have_only_own, tracks_have_rings};
 use flux_engine::{good_is_right_on_disks, parts_fill_images};
-use kryo_stream::joined_law;
+use kryo_stream::{growth_law, joined_law};
 use phase_loop::disturbed_rings_are_recovered;
 use sector_images::{sectors_lie_in_images, tracks_fill_images};
 
@@ -21,6 +21,7 @@ pub fn captured_disks_decode()
     tracks_are_read();
     tracks_have_rings();
     tracks_have_only_own();
+    growth_law();
     joined_law();
     disturbed_rings_are_recovered();
     sectors_lie_in_images();

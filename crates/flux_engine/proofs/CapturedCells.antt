@@ -8,24 +8,24 @@ use Rattle.index_turns.specs.Track.{turn_length}
 use Rattle.kryo_stream.specs.Stream.{indexes, times}
 use Rattle.phase_loop.specs.Pieces.{CarryPieces, IsPiece, Piece, RecoversPiecesOfTurns, cells_of_piece}
 use Rattle.sector_images.specs.Formats.{zone}
-use Rattle.sector_images.specs.Places.{NumbersNameTracks, SectorsLieInImages}
+use Rattle.sector_images.specs.Places.{NumbersNameTracks, SectorsLieInImages, TracksKeepBounds}
 use Rattle.track_rings.specs.Rings.{last_in}
 use Rattle.flux_engine.specs.Captures.{CapturesAreErasedCaptures, CapturesAreRecovered, ErasedCapturesAreRecovered, WrittenRingsAreRecovered, WritesCaptures, mean_cell}
 use Rattle.flux_engine.specs.Recordings.{track_at}
 use Rattle.flux_engine.specs.Rings.{IsRing, ring_cells_of, ring_of}
-use Rattle.flux_engine.proofs.RingLaws.{are_sectors, is_ring, is_writable, track_known}
+use Rattle.flux_engine.proofs.RingLaws.{are_sectors, is_ring, track_known}
 
 -- what reaches over a ring with cells is no empty list
 some_place : (places : List ℕ) (cells : ℕ) → 0 < cells → slice_index places 0 + 2 * cells ≤ last_in places → 0 < length places
 some_place [] cells some far = absurd (omega arith)
 some_place (place ∷ places) cells some far = omega arith
 
-pub erased_are_recovered : RecoversPiecesOfTurns → ErasedCapturesAreRecovered
-erased_are_recovered law format track x ring is capture =
-    let bounds = is_writable format track in
+pub erased_are_recovered : RecoversPiecesOfTurns → TracksKeepBounds → ErasedCapturesAreRecovered
+erased_are_recovered law keep format track x ring known is capture =
+    let bounds = keep format track known in
     let turn : ℕ = turn_length (indexes x) 1 in
     law (zone format track.cylinder).nominal turn (zone format track.cylinder).ring_cells (times x)
-    (record { shortest = bounds.least; longest = bounds.most }) ring capture.first capture.later is.spaced
+    (record { shortest = bounds.shortest_cell; longest = bounds.longest_cell }) ring capture.first capture.later is.spaced
     (subst (λ (n : ℕ). CarryPieces (zone format track.cylinder).nominal (1024 * turn / n) ring (times x) capture.first capture.later) is.cells_are capture.carried)
 
 pub captures_are_erased : CapturesAreErasedCaptures
@@ -46,16 +46,16 @@ captures_are_erased x ring nominal spaced capture =
       refl,
     )
 
-pub captures_recovered : RecoversPiecesOfTurns → CapturesAreRecovered
+pub captures_recovered : RecoversPiecesOfTurns → TracksKeepBounds → CapturesAreRecovered
 unfolding captures_are_erased
-captures_recovered law format track x ring is capture =
+captures_recovered law keep format track x ring known is capture =
     let nominal : ℕ = (zone format track.cylinder).nominal in
     let piece : Piece = record { times = times x; places = capture.places; periods = capture.periods } in
     let erased = captures_are_erased x ring nominal is.spaced capture in
-    erased_are_recovered law format track x ring is erased.0 ∙ append-nil (cells_of_piece ring piece)
+    erased_are_recovered law keep format track x ring known is erased.0 ∙ append-nil (cells_of_piece ring piece)
 
-pub written_are_recovered : RecoversPiecesOfTurns → RingsHaveCells → NumbersNameTracks → SectorsLieInImages → WritesCaptures → WrittenRingsAreRecovered
-written_are_recovered law have names lie writes format image k is below =
+pub written_are_recovered : RecoversPiecesOfTurns → TracksKeepBounds → RingsHaveCells → NumbersNameTracks → SectorsLieInImages → WritesCaptures → WrittenRingsAreRecovered
+written_are_recovered law keep have names lie writes format image k is below =
     let track = track_at format k in
     let ring : IsRing (ring_cells_of format k) (ring_of format image k) =
     is_ring have format track image (track_known names format k below) (are_sectors lie format track image is (track_known names format k below)) in
@@ -63,4 +63,4 @@ written_are_recovered law have names lie writes format image k is below =
     let first : ℕ = slice_index capture.places 0 in
     let way = capture.two_turns in
     let size = ring.cells_are in
-    (first, last_in capture.places - first + 1, omega (arith, way, size), captures_recovered law format track _ (ring_of format image k) ring capture)
+    (first, last_in capture.places - first + 1, omega (arith, way, size), captures_recovered law keep format track _ (ring_of format image k) (track_known names format k below) ring capture)

@@ -7,7 +7,7 @@ use Rattle.phase_loop.specs.Carried.{AreClose, Carried, OFF_START}
 use Rattle.phase_loop.specs.Pieces.{CarryPieces, Piece, cells_between, cells_of_pieces}
 use Rattle.phase_loop.specs.Start.{FINE_PER_TICK}
 use Rattle.sector_images.specs.Formats.{zone}
-use Rattle.sector_images.specs.Places.{tracks}
+use Rattle.sector_images.specs.Places.{IsTrack, tracks}
 use Rattle.sector_images.specs.declared.format.Format.{Format}
 use Rattle.track_rings.specs.Rings.{IsSpaced, last_in, stretch}
 use Rattle.flux_engine.specs.Recordings.{cells_of, track_at}
@@ -44,13 +44,13 @@ cells_of_stream format track x = cells_of format track (times x) (indexes x)
 -- The cells that are recovered from a capture of a track's ring, whatever ring it is: the ring's from the first place to the
 -- last.
 abbrev pub CapturesAreRecovered : Type 0
-CapturesAreRecovered = (format : Format) (track : TrackId) (x : List ℕ) (ring : List Bool) → IsRing (zone format track.cylinder).ring_cells ring
+CapturesAreRecovered = (format : Format) (track : TrackId) (x : List ℕ) (ring : List Bool) → IsTrack format track → IsRing (zone format track.cylinder).ring_cells ring
     → (capture : Capture x ring (zone format track.cylinder).nominal)
     → cells_of_stream format track x ≡ cells_between ring (slice_index capture.places 0) (last_in capture.places)
 
 -- and from a capture of a ring that is erased in parts: those of the pieces, with zeros between two
 abbrev pub ErasedCapturesAreRecovered : Type 0
-ErasedCapturesAreRecovered = (format : Format) (track : TrackId) (x : List ℕ) (ring : List Bool) → IsRing (zone format track.cylinder).ring_cells ring
+ErasedCapturesAreRecovered = (format : Format) (track : TrackId) (x : List ℕ) (ring : List Bool) → IsTrack format track → IsRing (zone format track.cylinder).ring_cells ring
     → (capture : ErasedCapture x ring (zone format track.cylinder).nominal)
     → cells_of_stream format track x ≡ cells_of_pieces ring capture.first capture.later
 

@@ -8,7 +8,7 @@ use phase_loop::disturbed_rings_are_recovered;
 use sector_images::{sectors_lie_in_images, tracks_keep_bounds};
 
 /// The stream of each track of an image is one stream without a fault that captures the track's ring: its
-/// transitions are the ring's ones, within the bounds of disturbance, over more than two turns.
+/// transitions are the ring's ones, within the bounds of disturbance, over two turns or more.
 pub fn streams_are_captures()
     ensures { WritesCaptures }
 {
@@ -29,6 +29,7 @@ pub fn captures_are_recovered()
 {
     disturbed_rings_are_recovered();
     tracks_have_rings();
+    tracks_keep_bounds();
     sectors_lie_in_images();
     streams_are_captures()
 }

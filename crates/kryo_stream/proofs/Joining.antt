@@ -1,5 +1,5 @@
 -- A stream with other bytes behind it, and with padding before it.
-use Rattle.std.proofs.Common.{◌≡◌, ◌≢◌, ◌≤◌, ◌<◌, ◌+◌, ◌++◌, ◌==◌, ℕ, zero, suc, Bool, true, false, List, [], ◌∷◌, length, drop, find, get_or, unwrap_or, refl, ap, sym, ◌∙◌, arith, length-append, Option, Some, None, Ok, Err, if◌then◌else◌, inl, inr}
+use Rattle.std.proofs.Common.{◌≡◌, ◌≢◌, ◌≤◌, ◌<◌, ◌+◌, ◌++◌, ◌==◌, ℕ, zero, suc, Bool, true, false, List, [], ◌∷◌, length, drop, find, get_or, unwrap_or, refl, ap, sym, ◌∙◌, arith, Option, Some, None, Ok, Err, if◌then◌else◌, inl, inr}
 use Rattle.std.specs.List.{cons_option, range_with_len}
 use Rattle.std.specs.Prelude.{Result, slice_index}
 use Rattle.std.proofs.lemmas.Bool.{cases_eq, cases_lt, eqb-true, eq-eqb}
@@ -12,7 +12,7 @@ use Rattle.kryo_stream.specs.declared.block.Mark.{Mark}
 use Rattle.kryo_stream.specs.declared.block.Piece.{Piece}
 use Rattle.kryo_stream.specs.declared.fault.StreamFault.{StreamFault}
 use Rattle.kryo_stream.specs.declared.fault.StreamFault.TheVariants.{BadSize, Truncated}
-use Rattle.kryo_stream.specs.Joined.{MayStandBefore, PaddingIsPassed, StreamsStay}
+use Rattle.kryo_stream.specs.Joined.{MayStandBefore, PaddingIsPassed}
 use Rattle.kryo_stream.specs.Padding.{is_padding, padding_of, unpadded}
 use Rattle.kryo_stream.specs.Pieces.{Reading, has, needs, of_size, out_of_band_piece, piece_at, unless_fault}
 use Rattle.kryo_stream.specs.Protocol.{END_SIZE, LIMIT, OUT_OF_BAND}
@@ -22,7 +22,7 @@ use Rattle.kryo_stream.proofs.Lists.{sum_by-push}
 use Rattle.kryo_stream.proofs.PaddingLemmas.{is_padding-behind, is_padding-here, is_padding-true, padding_of-is}
 use Rattle.kryo_stream.proofs.Readings.{Lies, has-long, has-short}
 use Rattle.kryo_stream.proofs.StreamLaws.{Turns-from_fault}
-use Rattle.kryo_stream.proofs.Streams.{goes_on-grow, last_block-is, next-grows, piece_behind-lies, pieces-grow, pieces-inside}
+use Rattle.kryo_stream.proofs.Streams.{last_block-is, piece_behind-lies, pieces-inside}
 
 -- each block that does not stop the reading has a byte
 with_piece-more : (x : List ℕ) (ps : List Piece) (n : ℕ) (r : Reading) → Lies (total_bytes ps) (drop (total_bytes ps) x) r → is_last r ≡ false
@@ -53,30 +53,6 @@ read_end x n (Err fault) none = absurd (cc)
 
 ok_not_truncated : (r : Reading) (p : Piece) → r ≡ Ok p → r ≢ Err Truncated
 ok_not_truncated r p is same = cc
-
-pub streams_stay : StreamsStay
-streams_stay x later none =
-    let n = last_block x in
-    let first = last-first x in
-    let going : (k : ℕ) → k < n → stops_at x k ≡ false = λ k low. first.before k (omega arith) low in
-    let read = read_end x n (piece_behind x (pieces x n)) none in
-    let before : pieces (x ++ later) n ≡ pieces x n = pieces-grow x later n going in
-    let next : piece_behind (x ++ later) (pieces (x ++ later) n) ≡ piece_behind x (pieces x n) =
-    next-grows x later n going (ok_not_truncated (piece_behind x (pieces x n)) read.0 read.1) in
-    let stops : stops_at (x ++ later) n ≡ true = ap is_last next ∙ first.passes in
-    let last : last_block (x ++ later) ≡ n =
-    last_block-is (x ++ later) n (omega (arith, first.to, length-append x later)) (goes_on-grow x later n going) stops in
-    let one : n + 1 ≡ suc n = omega arith in
-    let same : pieces (x ++ later) (n + 1) ≡ pieces x (n + 1) =
-    ap (pieces (x ++ later)) one ∙ ap (λ (ps : List Piece). with_piece ps (piece_behind (x ++ later) (pieces (x ++ later) n))) before
-    ∙ ap (with_piece (pieces x n)) next ∙ ap (pieces x) (sym one) in (
-      ap (λ (k : ℕ). fault_at (x ++ later) k (piece_behind (x ++ later) (pieces (x ++ later) k))) last
-          ∙ ap (fault_at (x ++ later) n) (next ∙ read.1)
-          ∙ ap turn_fault same
-          ∙ ap (fault_at x n) (sym read.1)
-          ∙ none,
-      ap (λ (k : ℕ). pieces (x ++ later) (k + 1)) last ∙ same,
-    )
 
 -- An End or a fault: a stream that begins with it has a fault.
 abbrev EndsAtOnce : Reading → Type 0

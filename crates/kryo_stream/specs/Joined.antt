@@ -2,7 +2,7 @@
 use Rattle.std.specs.Prelude.{◌≡◌, ◌≢◌, ◌≤◌, ◌++◌, ℕ, All, List, [], length, slice_index, None}
 use Rattle.kryo_stream.specs.Protocol.{OUT_OF_BAND, MOST_PADDING}
 use Rattle.kryo_stream.specs.Padding.{unpadded}
-use Rattle.kryo_stream.specs.Stream.{first_fault, stream}
+use Rattle.kryo_stream.specs.Stream.{first_fault}
 
 -- These bytes may stand as padding before a stream: at most 16 bytes 0D, and none before a stream that begins with an
 -- in-stream block, since the last of them would be read as the stream's first byte.
@@ -10,11 +10,6 @@ pub record MayStandBefore (padding stream : List ℕ) : Type 0 where
   pub each : All (λ byte. byte ≡ OUT_OF_BAND) padding
   pub few : length padding ≤ MOST_PADDING
   pub none_in_stream : slice_index stream 0 ≢ OUT_OF_BAND → padding ≡ []
-
--- a stream that x begins with is the same whatever follows x
-abbrev pub StreamsStay : Type 0
-StreamsStay = (x later : List ℕ) → first_fault x ≡ None
-    → (first_fault (x ++ later) ≡ None) × (stream (x ++ later) ≡ stream x)
 
 -- padding before a stream is passed over, and no byte of the stream is
 abbrev pub PaddingIsPassed : Type 0

@@ -2,7 +2,8 @@ ghost use Rattle.std.specs.Prelude.{◌≡◌, ◌<◌, ◌++◌, ℕ, List, All
 ghost use Rattle.kryo_stream.specs.declared.block.Block.{Block};
 ghost use Rattle.kryo_stream.specs.declared.block.Piece.{Piece};
 ghost use Rattle.kryo_stream.specs.Blocks.{Spells};
-ghost use Rattle.kryo_stream.specs.Joined.{PaddingIsPassed, StreamsStay};
+ghost use Rattle.kryo_stream.specs.Growth.{PaddingStays, StreamsAreShort, StreamsStay};
+ghost use Rattle.kryo_stream.specs.Joined.{PaddingIsPassed};
 ghost use Rattle.kryo_stream.specs.Padding.{IsPadding, padding_of};
 ghost use Rattle.kryo_stream.specs.Sequence.{AreInOrder, IsStreamOf, spellings, transitions_from};
 ghost use Rattle.kryo_stream.specs.Spelling.{IsWritable, spelling};
@@ -39,9 +40,16 @@ pub fn padding_law()
     ensures { (x : List ℕ) → IsPadding x (padding_of x) }
 {}
 
-/// A stream is the same whatever follows it, and padding that may stand before it is passed over and nothing of
-/// the stream is: so streams that stand one after another in an input are read one after another.
+/// Padding that may stand before a stream is passed over, and nothing of the stream is: so streams that stand one
+/// after another in an input are read one after another.
 pub fn joined_law()
-    ensures stay { StreamsStay }
-    ensures passed { PaddingIsPassed }
+    ensures { PaddingIsPassed }
+{}
+
+/// A stream without a fault stays the one that is read when more bytes follow, and so does the padding before it.
+/// It has no more transitions, and no more index times, than it may have bytes.
+pub fn growth_law()
+    ensures streams { StreamsStay }
+    ensures padding { PaddingStays }
+    ensures short { StreamsAreShort }
 {}

@@ -1,8 +1,5 @@
-use Rattle.kryo_stream.proofs.Joining.{padding_is_passed, streams_stay}
+use Rattle.kryo_stream.proofs.Joining.{padding_is_passed}
 use Rattle.kryo_stream.proofs.laws.joined_law.Goals as goal
 
-pub returns-clause-stay : goal.returns-clause-stay
-returns-clause-stay c = streams_stay
-
-pub returns-clause-passed : goal.returns-clause-passed
-returns-clause-passed c = padding_is_passed
+pub returns : goal.returns
+returns c = padding_is_passed
