@@ -3,7 +3,7 @@ use Rattle.std.specs.Prelude.{ℕ, ◌+◌, ◌*◌, Bool, false, List, [], ◌�
 use Rattle.flux_base.specs.declared.track.TrackId.{TrackId}
 use Rattle.cell_bits.specs.Bytes.{fm}
 use Rattle.cell_bits.specs.Word.{word_cells}
-use Rattle.track_rings.specs.Rows.{Rows, place_of as place_in, ring_of as ring_of_rows}
+use Rattle.track_rings.specs.Rows.{Rows, ring_of as ring_of_rows}
 use Rattle.ibm_fields.specs.Fields.{DATA_BYTE, ID_BYTE, high_first}
 use Rattle.ibm_fm.specs.declared.layout.Mark.{Mark}
 use Rattle.ibm_fm.specs.declared.layout.Mark.TheVariants.{Index, Id, Data}
@@ -53,11 +53,3 @@ row_size count Content = 16 * (count + 2)
 -- the ring
 abbrev pub ring_of : TrackId → List ℕ → List Bool
 ring_of track bytes = ring_of_rows false (row_cells track) 1 SECTORS SECTOR_SIZE bytes rows
-
--- the place of a sector's header in the ring
-abbrev pub place_of : ℕ → ℕ
-place_of sector = place_in row_size 1 SECTOR_SIZE rows sector
-
--- the cells of a sector's frame: header, 17 bytes of gap, data
-abbrev pub FRAME_CELLS : ℕ
-FRAME_CELLS = 2480

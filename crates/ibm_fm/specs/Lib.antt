@@ -2,7 +2,6 @@ pub mod FrameLaws
 pub mod Layout
 pub mod OwnLaws
 pub mod ReadLaws
-pub mod RingLaws
 pub mod RowLaws
 pub mod Sectors
 pub mod StandLaws
