@@ -1,12 +1,12 @@
 -- The parts of an input are parts of every longer one.
-use Rattle.std.specs.Prelude.{◌≡◌, ◌≤◌, ◌<◌, ℕ, zero, suc, Bool, true, false, List, [], ◌++◌, drop, length, nat_lt, Option, Some, None, refl}
+use Rattle.std.specs.Prelude.{◌≡◌, ◌<◌, ℕ, zero, suc, Bool, true, false, List, ◌++◌, drop, nat_lt, Some, None, refl}
 use Rattle.std.proofs.Common.{ap, sym, subst, ◌∙◌, arith, append-nil}
 use Rattle.std.proofs.lemmas.List.{drop-append-le}
 use Rattle.disk_recordings.specs.Laws.{TracksAreRead}
 use Rattle.kryo_stream.specs.Growth.{PaddingStays, StreamsStay}
 use Rattle.kryo_stream.specs.Outcome.{input_of}
 use Rattle.kryo_stream.specs.Stream.{first_fault, indexes, indexes_of, stream_length, times, times_of, total_bytes}
-use Rattle.flux_engine.specs.Disks.{AreParts, Decoded, last_line, lines, part_at, stop_of, totals_over}
+use Rattle.flux_engine.specs.Disks.{Decoded, last_line, lines, part_at, stop_of, totals_over}
 use Rattle.flux_engine.specs.Laws.{BeginsWith, CutInputsLead, PartsStay}
 use Rattle.flux_engine.specs.Recordings.{track_at}
 use Rattle.flux_engine.specs.Streams.{behind, behind_stream, stream_at}

@@ -1,5 +1,5 @@
 -- The lines of a decoded disk's report: one for each sector and the total line, and what each tells.
-use Rattle.std.specs.Prelude.{◌≡◌, ◌≢◌, ◌==◌, ◌≤◌, ◌<◌, ◌⊎◌, ℕ, zero, suc, ◌+◌, ◌-◌, List, [], ◌∷◌, ◌++◌, codes, decimal, length, slice_get, sum_by, take, unwrap_or, Option, Some, None, refl}
+use Rattle.std.specs.Prelude.{◌≡◌, ◌≢◌, ◌≤◌, ◌<◌, ◌⊎◌, ℕ, zero, suc, ◌+◌, ◌-◌, List, [], ◌∷◌, ◌++◌, codes, decimal, length, slice_get, unwrap_or, Option, Some, None, refl}
 use Rattle.std.proofs.Common.{ap, sym, subst, ◌∙◌, arith, inl, inr, append-nil, length-append}
 use Rattle.std.proofs.Math.Seq.{take-length}
 use Rattle.std.proofs.lemmas.Bool.{cases_lt}
@@ -9,7 +9,7 @@ use Rattle.kryo_stream.specs.Growth.{StreamsAreShort}
 use Rattle.kryo_stream.specs.Stream.{indexes, times}
 use Rattle.phase_loop.specs.Sizes.{CellsAreFew}
 use Rattle.sector_images.specs.Formats.{row, zone}
-use Rattle.sector_images.specs.Places.{IsSector, IsTrack, NumbersNameTracks, tracks}
+use Rattle.sector_images.specs.Places.{IsSector, IsTrack, NumbersNameTracks, TracksKeepBounds, tracks}
 use Rattle.sector_images.specs.declared.format.Format.{Format}
 use Rattle.sector_images.specs.declared.format.Format.TheVariants.{Ibm3740, Ibm360, Ibm720, Ibm1440, Amiga, C1541, C1541Forty, AppleDo, ApplePo}
 use Rattle.sector_report.specs.LineLaws.{IsOneLine, LineFits, SectorLinesTell, SectorsHaveOneLine, TotalsAreNoSectors, TotalsHaveOneLine, VerdictFits, line_ends}
@@ -21,7 +21,6 @@ use Rattle.flux_engine.specs.Disks.{Decoded, IsDecoded, Stop, decoded_count, las
 use Rattle.flux_engine.specs.Recordings.{track_at}
 use Rattle.flux_engine.specs.Streams.{stream_at}
 use Rattle.flux_engine.specs.Tracks.{Part}
-use Rattle.flux_engine.proofs.ByFormat.{few_sectors}
 use Rattle.flux_engine.proofs.DiskParts.{few_parts, first_track, stop_is}
 use Rattle.flux_engine.proofs.DiskSectors.{each_has_one_verdict, lines_name_verdicts}
 use Rattle.flux_engine.proofs.LineNumbers.{Skips, ends-append, ends-line, line-first, sectors-more, skips-tracks}
@@ -131,7 +130,7 @@ module _ (one : SectorsHaveOneLine) (total_one : TotalsHaveOneLine) (format : Fo
       ∙ ap (λ (n : ℕ). n + line_ends (last_line totals o.stop)) skips_all.ends
       ∙ ap (λ (n : ℕ). sectors_before format (decoded_count format o.stop) + n) (last-ends o.stop)
 
-  module _ (read : TracksAreRead) (names : NumbersNameTracks) (cells_few : CellsAreFew) (short : StreamsAreShort) (tell : SectorLinesTell) (no_sector : TotalsAreNoSectors)
+  module _ (read : TracksAreRead) (names : NumbersNameTracks) (keep : TracksKeepBounds) (cells_few : CellsAreFew) (short : StreamsAreShort) (tell : SectorLinesTell) (no_sector : TotalsAreNoSectors)
       (track : TrackId) (sector : ℕ) (outcome : Verdict) (number : ℕ) (fits : LineFits track sector outcome) (h : HasLine o.notes (sector_text track sector outcome) number) where
     -- the line of a sector of the disk
     of_sector : (p : Numbered format (decoded_count format o.stop) number) → IsTold format x o track sector outcome number
@@ -160,7 +159,8 @@ module _ (one : SectorsHaveOneLine) (total_one : TotalsHaveOneLine) (format : Fo
             let track_few = subst (λ (t : TrackId). (t.cylinder < 100) × (t.head < 2)) (sym track_is) (track_fits format named.0 named.2) in
             let none = (is.each n (omega (arith, below, count_is))).no_fault in
             let few = short (stream_at x n) none in
-            let below_100 : (row format).first_sector + (zone format (track_at format n).cylinder).sectors ≤ 100 = (few_sectors format (track_at format n)).below in
+            let below_100 : (row format).first_sector + (zone format (track_at format n).cylinder).sectors ≤ 100 =
+            (keep format (track_at format n) (subst (IsTrack format) (sym track_is) named.2)).sectors in
             record {
               cylinder_fits = track_few.0;
               head_fits = omega (arith, track_few.1);
@@ -188,7 +188,7 @@ module _ (one : SectorsHaveOneLine) (total_one : TotalsHaveOneLine) (format : Fo
 pub reports_have_no_other_lines : SectorsHaveOneLine → TotalsHaveOneLine → ReportsHaveNoOtherLines
 reports_have_no_other_lines one total_one format x o is = line_count one total_one format x o is
 
-pub lines_tell_verdicts : SectorsHaveOneLine → TotalsHaveOneLine → TracksAreRead → NumbersNameTracks → CellsAreFew → StreamsAreShort → SectorLinesTell → TotalsAreNoSectors
+pub lines_tell_verdicts : SectorsHaveOneLine → TotalsHaveOneLine → TracksAreRead → NumbersNameTracks → TracksKeepBounds → CellsAreFew → StreamsAreShort → SectorLinesTell → TotalsAreNoSectors
     → LinesTellVerdicts
-lines_tell_verdicts one total_one read names cells_few short tell no_sector format x o is track sector outcome number fits h =
-    told one total_one format x o is read names cells_few short tell no_sector track sector outcome number fits h
+lines_tell_verdicts one total_one read names keep cells_few short tell no_sector format x o is track sector outcome number fits h =
+    told one total_one format x o is read names keep cells_few short tell no_sector track sector outcome number fits h

@@ -1,7 +1,7 @@
 -- The numbers of a verdict over all readings of a track fit in 64 bits.
-use Rattle.std.specs.Prelude.{◌≡◌, ◌≤◌, ◌<◌, ℕ, ◌+◌, ◌-◌, ◌*◌, ◌^◌, Bool, true, false, cond, List, [], ◌∷◌, ◌++◌, count_by, drop, filter, find, flat_map, is_none, is_some, length, nat_eq, nat_le, not, ◌&&◌, Option, Some, None, refl}
+use Rattle.std.specs.Prelude.{◌≡◌, ◌≤◌, ◌<◌, ℕ, ◌+◌, ◌-◌, ◌*◌, ◌^◌, Bool, true, false, cond, List, [], ◌∷◌, count_by, filter, find, is_none, is_some, length, nat_eq, nat_le, not, ◌&&◌, Option, Some, None, refl}
 use Rattle.std.specs.Str.{bytes_eq}
-use Rattle.std.proofs.Common.{ap, sym, subst, ◌∙◌, arith, length-append, length-drop, lit<}
+use Rattle.std.proofs.Common.{subst, arith, length-append, lit<}
 use Rattle.std.proofs.lemmas.List.Elements.{All-head}
 use Rattle.std.proofs.lemmas.List.Sums.{length-filter, sum_by-cons}
 use Rattle.frame_law.specs.Readings.{AreReadings}

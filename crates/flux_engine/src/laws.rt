@@ -6,7 +6,9 @@ ghost use Rattle.flux_engine.specs.Laws.{CutInputsLead, FirstTracksLead, GoodIsR
 use disk_recordings::tracks_are_read;
 use kryo_stream::growth_law;
 use phase_loop::cells_are_few;
-use sector_images::{sectors_fill_tracks, sectors_lie_in_images, tracks_fill_images};
+use sector_images::{
+    sectors_fill_tracks, sectors_lie_in_images, tracks_fill_images, tracks_keep_bounds,
+};
 use sector_report::{sector_lines_tell, sectors_have_one_line, totals_have_one_line};
 
 /// An input comes to one outcome, and what its first tracks come to is what the outcome begins with.
@@ -78,5 +80,6 @@ pub fn lines_tell_verdicts()
     sector_lines_tell();
     growth_law();
     cells_are_few();
+    tracks_keep_bounds();
     sectors_lie_in_images()
 }

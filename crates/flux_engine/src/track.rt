@@ -105,12 +105,7 @@ fn read_stream<S: Source>(
 }
 
 /// Recovers the cells of a track and notes all readings of its sectors in the book.
-fn read_sectors(
-    format: Format,
-    track: TrackId,
-    flux: &TrackFlux,
-    tools: &mut Tools,
-) -> Sectors
+fn read_sectors(format: Format, track: TrackId, flux: &TrackFlux, tools: &mut Tools) -> Sectors
     requires track { IsTrack format track }
     requires bounded { IsBounded flux.now }
     requires roomy { IsRoomy format tools.old.cells tools.old.book }
