@@ -4,6 +4,7 @@ use Rattle.std.proofs.Common.{ap, arith}
 use Rattle.std.proofs.lemmas.List.FromFn.{length-map-range_with_len}
 use Rattle.std.proofs.lemmas.List.Sums.{sum_by-cons}
 use Rattle.flux_base.specs.declared.track.TrackId.{TrackId}
+use Rattle.sector_images.specs.Places.{IsTrack, TracksKeepBounds}
 use Rattle.sector_images.specs.declared.format.Format.{Format}
 use Rattle.turn_merge.specs.Readings.{verdict}
 use Rattle.turn_merge.specs.declared.verdict.Verdict.{Verdict}
@@ -11,7 +12,6 @@ use Rattle.turn_merge.specs.declared.verdict.Verdict.TheVariants.{Good, Contradi
 use Rattle.flux_engine.specs.Recordings.{sectors_of, cells_of}
 use Rattle.flux_engine.specs.Tracks.{is_good, is_bad, is_missing, is_contradictory, totals_of, numbers, readings_of, Part, IsPart}
 use Rattle.flux_engine.specs.Writing.{IsSum}
-use Rattle.flux_engine.proofs.ByFormat.{few_sectors}
 
 count-cons : (p : Verdict → Bool) (v : Verdict) (vs : List Verdict) → count_by p (v ∷ vs) ≡ (if p v then 1 else 0) + count_by p vs
 count-cons p v vs = sum_by-cons (λ (x : Verdict). if p x then 1 else 0) v vs
@@ -36,9 +36,9 @@ part_sum format track times indexes part is =
     let totals : part.totals ≡ totals_of (map (verdict readings) (numbers (sectors_of format track))) = ap (λ (p : Part). p.totals) is.is in
     rw totals (sum_of_totals (map (verdict readings) (numbers (sectors_of format track))))
 
-pub part_few : (format : Format) (track : TrackId) (times indexes : List ℕ) (part : Part) → IsPart format track times indexes part → part.totals.sectors ≤ 100
-part_few format track times indexes part is =
+pub part_few : TracksKeepBounds → (format : Format) (track : TrackId) → IsTrack format track → (times indexes : List ℕ) (part : Part) → IsPart format track times indexes part → part.totals.sectors ≤ 100
+part_few keep format track known times indexes part is =
     let readings = readings_of times indexes (cells_of format track times indexes) is.found in
     let sectors : part.totals.sectors ≡ length (map (verdict readings) (numbers (sectors_of format track))) = ap (λ (p : Part). p.totals.sectors) is.is in
     let many = length-map-range_with_len (verdict readings) (sectors_of format track).first (sectors_of format track).count in
-    omega (arith, sectors, many, (few_sectors format track).below)
+    omega (arith, sectors, many, (keep format track known).sectors)

@@ -2,7 +2,6 @@ pub mod Walks
 pub mod Zeros
 pub mod Pieces
 pub mod ImagePieces
-pub mod ByFormat
 pub mod RecoveredCells
 pub mod Streams
 pub mod Decoding

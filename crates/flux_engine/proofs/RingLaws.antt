@@ -1,7 +1,7 @@
 -- The ring of each format's tracks, and the bytes in its sectors.
-use Rattle.std.specs.Prelude.{◌≡◌, ◌<◌, ◌≤◌, ℕ, zero, suc, ◌+◌, ◌-◌, ◌*◌, All, Bool, List, [], ◌++◌, length, take, drop, flat_map, get_or, map, slice_get, nat_lt, if◌then◌else◌, true, false, ◌∷◌, unwrap_or, Option, Some, Result, Ok, Err, OnOk, refl}
+use Rattle.std.specs.Prelude.{◌≡◌, ◌<◌, ◌≤◌, ℕ, zero, suc, ◌+◌, ◌-◌, ◌*◌, All, Bool, List, [], ◌++◌, length, take, drop, flat_map, get_or, map, slice_get, ◌∷◌, unwrap_or, Option, Some, Result, Ok, Err, OnOk, refl}
 use Rattle.std.specs.List.{range_with_len}
-use Rattle.std.proofs.Common.{arith, lit≤, ap, sym, subst, ◌∙◌, inl, inr, length-append, length-drop}
+use Rattle.std.proofs.Common.{arith, ap, sym, subst, ◌∙◌, inl, inr, length-append, length-drop}
 use Rattle.std.proofs.lemmas.Bool.{cases_lt}
 use Rattle.std.proofs.lemmas.List.{length-take-le}
 use Rattle.std.proofs.lemmas.List.Elements.{All-append, All-drop, All-get_or, All-take}
@@ -16,10 +16,9 @@ use Rattle.flux_base.specs.declared.track.TrackId.{TrackId}
 use Rattle.flux_writer.specs.Reading.{MOST_RING_CELLS, HasEarlyOne, IsStreamOf}
 use Rattle.flux_writer.specs.Written.{cell_time, ones_of, stream_of, track_cells, track_turns}
 use Rattle.track_rings.specs.Rings.{AreSectors}
-use Rattle.sector_images.specs.Formats.{Zone, commodore_zone, row, zone}
-use Rattle.sector_images.specs.Places.{IsTrack, NumbersNameTracks, SectorsLieInImages, sector_place, tracks}
+use Rattle.sector_images.specs.Formats.{row, zone}
+use Rattle.sector_images.specs.Places.{IsTrack, NumbersNameTracks, SectorsLieInImages, TracksKeepBounds, sector_place, tracks}
 use Rattle.sector_images.specs.declared.format.Format.{Format}
-use Rattle.sector_images.specs.declared.format.Format.TheVariants.{Ibm3740, Ibm360, Ibm720, Ibm1440, Amiga, C1541, C1541Forty, AppleDo, ApplePo}
 use Rattle.flux_engine.specs.Captures.{WritesCaptures}
 use Rattle.flux_engine.specs.Recordings.{sectors_of, track_at}
 use Rattle.flux_engine.specs.Rings.{IsImage, IsRing, disk_id, nominal_of, ring_cells_of, ring_of, ring_with, HasRoomForRings, track_stream, sector_bytes, track_bytes}
@@ -109,48 +108,18 @@ are_sectors lie format track image is known = record {
   fit = sectors_fit format track image is.fit;
 }
 
--- cells and rings are such that they can be written, and that times in ticks are near enough
-pub record IsWritable (zone : Zone) : Type 0 where
-  pub least : 16384 ≤ zone.nominal
-  pub most : zone.nominal ≤ 131072
-  pub many : 1024 ≤ zone.ring_cells
-  pub few : zone.ring_cells ≤ 262144
-
-module _ (P : Zone → Type 0) where
-  zone_by : (a b c : Bool) (w x y z : Zone) → P w → P x → P y → P z → P (if a then w else if b then x else if c then y else z)
-  zone_by true b c w x y z first second third fourth = first
-  zone_by false true c w x y z first second third fourth = second
-  zone_by false false true w x y z first second third fourth = third
-  zone_by false false false w x y z first second third fourth = fourth
-
-commodore_writable : (cylinder : ℕ) → IsWritable (commodore_zone cylinder)
-commodore_writable cylinder =
-    zone_by IsWritable (nat_lt (cylinder + 1) 18) (nat_lt (cylinder + 1) 25) (nat_lt (cylinder + 1) 31) _ _ _ _
-    (record { least = lit≤ tt; most = lit≤ tt; many = lit≤ tt; few = lit≤ tt })
-    (record { least = lit≤ tt; most = lit≤ tt; many = lit≤ tt; few = lit≤ tt })
-    (record { least = lit≤ tt; most = lit≤ tt; many = lit≤ tt; few = lit≤ tt })
-    (record { least = lit≤ tt; most = lit≤ tt; many = lit≤ tt; few = lit≤ tt })
-
-pub is_writable : (format : Format) (track : TrackId) → IsWritable (zone format track.cylinder)
-is_writable Ibm3740 track = record { least = lit≤ tt; most = lit≤ tt; many = lit≤ tt; few = lit≤ tt }
-is_writable Ibm360 track = record { least = lit≤ tt; most = lit≤ tt; many = lit≤ tt; few = lit≤ tt }
-is_writable Ibm720 track = record { least = lit≤ tt; most = lit≤ tt; many = lit≤ tt; few = lit≤ tt }
-is_writable Ibm1440 track = record { least = lit≤ tt; most = lit≤ tt; many = lit≤ tt; few = lit≤ tt }
-is_writable Amiga track = record { least = lit≤ tt; most = lit≤ tt; many = lit≤ tt; few = lit≤ tt }
-is_writable C1541 track = commodore_writable track.cylinder
-is_writable C1541Forty track = commodore_writable track.cylinder
-is_writable AppleDo track = record { least = lit≤ tt; most = lit≤ tt; many = lit≤ tt; few = lit≤ tt }
-is_writable ApplePo track = record { least = lit≤ tt; most = lit≤ tt; many = lit≤ tt; few = lit≤ tt }
-
 -- a ring of a track has a one in its first quarter
-pub is_early : (format : Format) (track : TrackId) (ring : List Bool) → IsRing (zone format track.cylinder).ring_cells ring → HasEarlyOne ring
-is_early format track ring is =
-    let bounds = is_writable format track in
-    early_one ring is.spaced (omega (arith, is.cells_are, bounds.many))
+pub is_early : TracksKeepBounds → (format : Format) (track : TrackId) → IsTrack format track → (ring : List Bool) → IsRing (zone format track.cylinder).ring_cells ring → HasEarlyOne ring
+is_early keep format track known ring is =
+    let bounds = keep format track known in
+    early_one ring is.spaced (omega (arith, is.cells_are, bounds.shortest_ring))
 
 -- the track of a number
 pub is_track_at : (format : Format) (number : ℕ) (track : TrackId) → slice_get (tracks format) number ≡ Some track → track_at format number ≡ track
 is_track_at format number track at = ap (λ (o : Option TrackId). unwrap_or o (record { cylinder = 0; head = 0 })) at
+
+pub is_known_at : (format : Format) (number : ℕ) (track : TrackId) → slice_get (tracks format) number ≡ Some track → IsTrack format track → IsTrack format (track_at format number)
+is_known_at format number track at known = subst (IsTrack format) (sym (is_track_at format number track at)) known
 
 -- room for each ring is room for that of a number
 pub room_for : (format : Format) (number : ℕ) (track : TrackId) (old now : CellsState) → slice_get (tracks format) number ≡ Some track → IsTrack format track
@@ -205,14 +174,14 @@ track_known names format k below =
     let named = names format k below in
     subst (IsTrack format) (sym (is_track_at format k named.0 named.1)) named.2
 
-pub writes_captures : RingsHaveCells → NumbersNameTracks → SectorsLieInImages → RingsAreRead → WritesCaptures
-writes_captures have names lie reads format image k is below =
+pub writes_captures : RingsHaveCells → TracksKeepBounds → NumbersNameTracks → SectorsLieInImages → RingsAreRead → WritesCaptures
+writes_captures have keep names lie reads format image k is below =
     let track : TrackId = track_at format k in
     let known : IsTrack format track = track_known names format k below in
     let ring : IsRing (zone format track.cylinder).ring_cells (ring_with format track image) =
     is_ring have format track image known (are_sectors lie format track image is known) in
-    let bounds : IsWritable (zone format track.cylinder) = is_writable format track in
-    let early : HasEarlyOne (ring_with format track image) = is_early format track (ring_with format track image) ring in
-    captures (ring_with format track image) (nominal_of format k) early (omega (arith, ring.cells_are, bounds.many)) bounds.least
-    (reads (ring_with format track image) (nominal_of format k) (omega (arith, bounds.least)) bounds.most
-    (omega (arith, ring.cells_are, bounds.few)) early)
+    let bounds = keep format track known in
+    let early : HasEarlyOne (ring_with format track image) = is_early keep format track known (ring_with format track image) ring in
+    captures (ring_with format track image) (nominal_of format k) early (omega (arith, ring.cells_are, bounds.shortest_ring)) bounds.shortest_cell
+    (reads (ring_with format track image) (nominal_of format k) (omega (arith, bounds.shortest_cell)) bounds.longest_cell
+    (omega (arith, ring.cells_are, bounds.longest_ring)) early)

@@ -10,7 +10,7 @@ use crate::room::DiskRoom;
 use crate::track::decode_track;
 use crate::writing::no_totals;
 use flux_base::{Sink, Source};
-use sector_images::track_count;
+use sector_images::{sectors_lie_in_images, track_count, tracks_keep_bounds};
 use sector_report::{Totals, total_line, write_line};
 
 /// Decodes all tracks of a disk in order, as `decode_track` does each, and then writes the total line to
@@ -77,6 +77,8 @@ fn decode_tracks<S: Source, W: Sink, N: Sink>(
     ensures image_later { W.faults image.old ≤ W.faults image.new }
     ensures notes_later { N.faults notes.old ≤ N.faults notes.new }
 {
+    tracks_keep_bounds();
+    sectors_lie_in_images();
     let mut totals = no_totals();
     for number in 0..track_count(room.format) {
         match decode_track(room, number, source, image, notes) {

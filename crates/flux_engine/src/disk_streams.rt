@@ -15,7 +15,7 @@ use crate::write_room::WriteRoom;
 use cell_bits::Cells;
 use flux_base::{Failed, Sink, Source};
 use flux_writer::write_track;
-use sector_images::{Format, image_size, nominal, track_count, track_id};
+use sector_images::{Format, image_size, nominal, track_count, track_id, tracks_keep_bounds};
 
 /// Reads an image to its end, or to one byte more than an image of the format has, and writes the streams of
 /// its tracks in order, one behind another. It takes no memory.
@@ -92,6 +92,7 @@ fn write_tracks<W: Sink>(
     ensures later { W.faults sink.old ≤ W.faults sink.new }
     ensures cause { OnErr result (Rose (W.faults sink.old) (W.faults sink.new)) }
 {
+    tracks_keep_bounds();
     for number in 0..track_count(format) {
         let cell = nominal(format, track_id(format, number));
         match track_ring(format, number, image, ring) {

@@ -6,7 +6,7 @@ use flux_base::Memory;
 use index_turns::TrackFlux;
 use kryo_stream::{Intake, MOST_INDEXES, MOST_TIMES, StreamBench};
 use phase_loop::Loop;
-use sector_images::{Format, track_id};
+use sector_images::{Format, track_id, tracks_keep_bounds};
 use std::alloc::Global;
 use std::marker::Model;
 use turn_merge::Book;
@@ -81,6 +81,7 @@ impl Tools {
         let mut cells = Cells::new(alloc);
         cells.reserve(MOST_CELLS)?;
         // No track has more sectors than the first.
+        tracks_keep_bounds();
         let sectors = sectors_of(format, track_id(format, 0));
         let book = Book::new(alloc, sectors.first, sectors.count, sectors.size)?;
         Ok(Tools {

@@ -19,7 +19,7 @@ use flux_base::{Sink, Source, TrackId};
 use index_turns::TrackFlux;
 use kryo_stream::{Intake, StreamBench, TrackFault, read_track};
 use phase_loop::{LoopStart, recover};
-use sector_images::{Format, nominal, ring_cells, track_id};
+use sector_images::{Format, nominal, ring_cells, track_id, tracks_keep_bounds};
 use sector_report::Totals;
 
 /// Decodes the next track of a disk: reads its stream, writes its part of the image, a piece for each
@@ -54,6 +54,7 @@ pub fn decode_track<S: Source, W: Sink, N: Sink>(
     ensures image_later { W.faults image.old ≤ W.faults image.new }
     ensures notes_later { N.faults notes.old ≤ N.faults notes.new }
 {
+    tracks_keep_bounds();
     let track = track_id(room.format, number);
     room.failed = true;
     let tools = &mut room.tools;

@@ -4,7 +4,7 @@ ghost use Rattle.flux_engine.specs.Captures.{WritesCaptures};
 
 use disk_recordings::tracks_have_rings;
 use flux_writer::track_law;
-use sector_images::sectors_lie_in_images;
+use sector_images::{sectors_lie_in_images, tracks_keep_bounds};
 
 /// The stream of each track of an image is one stream without a fault that captures the track's ring: its
 /// transitions are the ring's ones, within the bounds of disturbance, over more than two turns.
@@ -12,6 +12,7 @@ pub fn streams_are_captures()
     ensures { WritesCaptures }
 {
     tracks_have_rings();
+    tracks_keep_bounds();
     track_law();
     sectors_lie_in_images()
 }

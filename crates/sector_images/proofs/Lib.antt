@@ -1,3 +1,4 @@
+pub mod EachFormat
 pub mod Computed
 pub mod Slots
 pub mod Inside

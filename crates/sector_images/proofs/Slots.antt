@@ -1,13 +1,12 @@
 -- Where the sectors of a track stand in the image.
-use Rattle.std.specs.Prelude.{◌≡◌, List, get_or, map, nat_lt, ◌≤◌, ◌<◌, ℕ, zero, suc, ◌+◌, ◌-◌, Bool, true, false, cond, find, nat_eq, Option, Some, None, unwrap_or, refl}
-use Rattle.std.specs.List.{range_with_len}
-use Rattle.std.proofs.Common.{ap, sym, subst, ◌∙◌, arith}
-use Rattle.std.proofs.lemmas.Bool.{eq-eqb, ltb-true, ne_eqb}
+use Rattle.std.specs.Prelude.{◌≡◌, ◌&&◌, option_map, List, get_or, map, nat_lt, ◌≤◌, ◌<◌, ℕ, zero, suc, ◌+◌, ◌-◌, Bool, true, false, cond, find, nat_eq, Option, Some, None, unwrap_or, refl}
+use Rattle.std.specs.List.{list_all, range_with_len}
+use Rattle.std.proofs.Common.{ap, sym, ◌∙◌, arith}
+use Rattle.std.proofs.lemmas.Bool.{eq-eqb, eqb-true, ltb-true, ne_eqb}
 use Rattle.flux_base.specs.declared.track.TrackId.{TrackId}
 use Rattle.sector_images.specs.declared.format.Format.{Format}
-use Rattle.sector_images.specs.declared.format.Format.TheVariants.{Ibm3740, Ibm360, Ibm720, Ibm1440, Amiga, C1541, C1541Forty, AppleDo, ApplePo}
-use Rattle.sector_images.specs.Formats.{commodore_zone, dos_order, prodos_order, row, slot, slot_by, zone}
-use Rattle.sector_images.proofs.Computed.{same_at}
+use Rattle.sector_images.specs.Formats.{formats, row, slot, slot_by, zone}
+use Rattle.sector_images.proofs.EachFormat.{each_below, each_format}
 use Rattle.sector_images.specs.Places.{IsSector, SectorsFillTracks, sector_in}
 
 -- the first number of a range that passes a test
@@ -35,40 +34,70 @@ by_number first count sector least below =
     (eq-eqb ((first + n) - first) n (omega arith)))
     ∙ at
 
--- where sectors stand in an order of sixteen
-by_order : (format : Format) (track : TrackId) (sector : ℕ) → sector < 16
-    → map (λ s. nat_lt (slot format s) 16) (range_with_len 0 16) ≡ map (λ s. true) (range_with_len 0 16)
-    → map (λ s. sector_in format track (slot format s)) (range_with_len 0 16) ≡ map (λ s. s) (range_with_len 0 16)
-    → (slot format sector < 16) × (sector_in format track (slot format sector) ≡ sector)
-by_order format track sector below within found = (
-  ltb-true (slot format sector) 16 (same_at (λ s. nat_lt (slot format s) 16) (λ s. true) 16 sector below within),
-  same_at (λ s. sector_in format track (slot format s)) (λ s. s) 16 sector below found,
-)
+-- an order is of sixteen sectors from 0 on: each stands at a number below 16, and each such number is that of one
+abbrev in_order : List ℕ → ℕ → ℕ
+in_order order number = unwrap_or (find (λ s. nat_eq (get_or order s 0) number) (range_with_len 0 16)) 0
+
+abbrev orders_pass : (List ℕ → ℕ → Bool) → Format → Bool
+orders_pass test f = unwrap_or (option_map (λ order. list_all (λ b. b) (map (test order) (range_with_len 0 16))) (row f).order) true
+
+each_order : (test : List ℕ → ℕ → Bool) → list_all (orders_pass test) formats ≡ true
+    → (f : Format) (order : List ℕ) → (row f).order ≡ Some order → (n : ℕ) → n < 16 → test order n ≡ true
+each_order test all f order is n below =
+    let passes : list_all (λ b. b) (map (test order) (range_with_len 0 16)) ≡ true =
+    sym (ap (λ (o : Option (List ℕ)). unwrap_or (option_map (λ (xs : List ℕ). list_all (λ b. b) (map (test xs) (range_with_len 0 16))) o) true) is)
+    ∙ each_format (orders_pass test) all f in
+    each_below (test order) 16 passes n below
+
+below_test : list_all (orders_pass (λ order s. nat_lt (get_or order s 0) 16)) formats ≡ true
+below_test = refl
+
+found_test : list_all (orders_pass (λ order s. nat_eq (in_order order (get_or order s 0)) s)) formats ≡ true
+found_test = refl
+
+holder_test : list_all (orders_pass (λ order n. nat_lt (in_order order n) 16)) formats ≡ true
+holder_test = refl
+
+holds_test : list_all (orders_pass (λ order n. nat_eq (get_or order (in_order order n) 0) n)) formats ≡ true
+holds_test = refl
+
+-- a format with an order has sixteen sectors from 0 on
+abbrev sixteen : ℕ → Format → Bool
+sixteen cylinder f = unwrap_or (option_map (λ order. nat_eq (row f).first_sector 0 && nat_eq (zone f cylinder).sectors 16) (row f).order) true
+
+sixteen_test : (cylinder : ℕ) → list_all (sixteen cylinder) formats ≡ true
+sixteen_test cylinder = refl
+
+and_both : (a b : Bool) → (a && b) ≡ true → (a ≡ true) × (b ≡ true)
+and_both true b is = (refl, is)
+and_both false b is = absurd (cc)
+
+are_sixteen : (f : Format) (order : List ℕ) (cylinder : ℕ) → (row f).order ≡ Some order → ((row f).first_sector ≡ 0) × ((zone f cylinder).sectors ≡ 16)
+are_sixteen f order cylinder is =
+    let test : (nat_eq (row f).first_sector 0 && nat_eq (zone f cylinder).sectors 16) ≡ true =
+    sym (ap (λ (o : Option (List ℕ)). unwrap_or (option_map (λ (xs : List ℕ). nat_eq (row f).first_sector 0 && nat_eq (zone f cylinder).sectors 16) o) true) is)
+    ∙ each_format (sixteen cylinder) (sixteen_test cylinder) f in
+    let both = and_both (nat_eq (row f).first_sector 0) (nat_eq (zone f cylinder).sectors 16) test in
+    (eqb-true _ _ both.0, eqb-true _ _ both.1)
+
+-- where the sectors of a format stand, by its order or else by their numbers
+fill_by : (format : Format) (track : TrackId) (sector : ℕ) (order : Option (List ℕ)) → (row format).order ≡ order → IsSector format track sector
+    → (slot_by order (row format).first_sector sector < (zone format track.cylinder).sectors)
+    × (unwrap_or (find (λ s. nat_eq (slot_by order (row format).first_sector s) (slot_by order (row format).first_sector sector))
+    (range_with_len (row format).first_sector (zone format track.cylinder).sectors)) 0 ≡ sector)
+fill_by format track sector None is known =
+    (omega (arith, known.0, known.1), by_number (row format).first_sector (zone format track.cylinder).sectors sector known.0 known.1)
+fill_by format track sector (Some order) is known =
+    let size = are_sixteen format order track.cylinder is in
+    let below : sector < 16 = omega (arith, known.1, size.0, size.1) in
+    rw (size.0, size.1) (
+      ltb-true _ _ (each_order (λ xs s. nat_lt (get_or xs s 0) 16) below_test format order is sector below),
+      eqb-true _ _ (each_order (λ xs s. nat_eq (in_order xs (get_or xs s 0)) s) found_test format order is sector below),
+    )
 
 pub sectors_fill_tracks : SectorsFillTracks
 unfolding sector_in
-sectors_fill_tracks Ibm3740 track sector known = (omega (arith, known.0, known.1), by_number 1 26 sector known.0 known.1)
-sectors_fill_tracks Ibm360 track sector known = (omega (arith, known.0, known.1), by_number 1 9 sector known.0 known.1)
-sectors_fill_tracks Ibm720 track sector known = (omega (arith, known.0, known.1), by_number 1 9 sector known.0 known.1)
-sectors_fill_tracks Ibm1440 track sector known = (omega (arith, known.0, known.1), by_number 1 18 sector known.0 known.1)
-sectors_fill_tracks Amiga track sector known = (omega (arith, known.0, known.1), by_number 0 11 sector known.0 known.1)
-sectors_fill_tracks C1541 track sector known =
-    (omega (arith, known.0, known.1), by_number 0 (commodore_zone track.cylinder).sectors sector known.0 known.1)
-sectors_fill_tracks C1541Forty track sector known =
-    (omega (arith, known.0, known.1), by_number 0 (commodore_zone track.cylinder).sectors sector known.0 known.1)
-sectors_fill_tracks AppleDo track sector known = by_order AppleDo track sector (omega (arith, known.1)) refl refl
-sectors_fill_tracks ApplePo track sector known = by_order ApplePo track sector (omega (arith, known.1)) refl refl
-
--- in an order of sixteen each number stands
-holder_of : (format : Format) (track : TrackId) (number : ℕ) → number < 16
-    → map (λ n. nat_lt (sector_in format track n) 16) (range_with_len 0 16) ≡ map (λ n. true) (range_with_len 0 16)
-    → map (λ n. slot format (sector_in format track n)) (range_with_len 0 16) ≡ map (λ n. n) (range_with_len 0 16)
-    → (sector : ℕ) × (sector < 16) × (slot format sector ≡ number)
-holder_of format track number below within stands = (
-  sector_in format track number,
-  ltb-true (sector_in format track number) 16 (same_at (λ n. nat_lt (sector_in format track n) 16) (λ n. true) 16 number below within),
-  same_at (λ n. slot format (sector_in format track n)) (λ n. n) 16 number below stands,
-)
+sectors_fill_tracks format track sector known = fill_by format track sector (row format).order refl known
 
 -- a format with an order has sixteen sectors from 0 on, and each number stands in the order
 pub record IsOrder (format : Format) (order : List ℕ) (track : TrackId) : Type 0 where
@@ -77,22 +106,17 @@ pub record IsOrder (format : Format) (order : List ℕ) (track : TrackId) : Type
   pub holder : (number : ℕ) → number < 16 → (sector : ℕ) × (sector < 16) × (get_or order sector 0 ≡ number)
 
 pub is_order : (format : Format) (order : List ℕ) (track : TrackId) → (row format).order ≡ Some order → IsOrder format order track
-unfolding sector_in
-is_order Ibm3740 order track is = absurd (cc)
-is_order Ibm360 order track is = absurd (cc)
-is_order Ibm720 order track is = absurd (cc)
-is_order Ibm1440 order track is = absurd (cc)
-is_order Amiga order track is = absurd (cc)
-is_order C1541 order track is = absurd (cc)
-is_order C1541Forty order track is = absurd (cc)
-is_order AppleDo order track is =
-    let same : dos_order ≡ order = cc in
-    subst (λ (o : List ℕ). IsOrder AppleDo o track) same
-    (record { first = refl; count = refl; holder = λ number below. holder_of AppleDo track number below refl refl })
-is_order ApplePo order track is =
-    let same : prodos_order ≡ order = cc in
-    subst (λ (o : List ℕ). IsOrder ApplePo o track) same
-    (record { first = refl; count = refl; holder = λ number below. holder_of ApplePo track number below refl refl })
+is_order format order track is =
+    let size = are_sixteen format order track.cylinder is in
+    record {
+      first = size.0;
+      count = size.1;
+      holder = λ number below. (
+        in_order order number,
+        ltb-true _ _ (each_order (λ xs n. nat_lt (in_order xs n) 16) holder_test format order is number below),
+        eqb-true _ _ (each_order (λ xs n. nat_eq (get_or xs (in_order xs n) 0) n) holds_test format order is number below),
+      );
+    }
 
 pub slot_in_order : (format : Format) (order : List ℕ) (sector : ℕ) → (row format).order ≡ Some order → slot format sector ≡ get_or order sector 0
 slot_in_order format order sector is = ap (λ (o : Option (List ℕ)). slot_by o (row format).first_sector sector) is

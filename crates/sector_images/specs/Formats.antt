@@ -1,7 +1,24 @@
 -- The formats of sector images, a row for each.
-use Rattle.std.specs.Prelude.{ℕ, ◌+◌, ◌-◌, ◌*◌, ◌/◌, List, [], ◌∷◌, codes, get_or, nat_lt, if◌then◌else◌, Option, Some, None}
+use Rattle.std.specs.Prelude.{ℕ, ◌+◌, ◌-◌, ◌*◌, ◌/◌, List, [], ◌∷◌, codes, Contains, get_or, refl, nat_lt, if◌then◌else◌, Option, Some, None}
+use Rattle.std.proofs.Common.{arith}
 use Rattle.sector_images.specs.declared.format.Format.{Format}
 use Rattle.sector_images.specs.declared.format.Format.TheVariants.{Ibm3740, Ibm360, Ibm720, Ibm1440, Amiga, C1541, C1541Forty, AppleDo, ApplePo}
+
+-- all formats
+abbrev pub formats : List Format
+formats = Ibm3740 ∷ Ibm360 ∷ Ibm720 ∷ Ibm1440 ∷ Amiga ∷ C1541 ∷ C1541Forty ∷ AppleDo ∷ ApplePo ∷ []
+
+-- each is among them
+pub is_listed : (f : Format) → Contains formats f
+is_listed Ibm3740 = (0, omega arith, refl)
+is_listed Ibm360 = (1, omega arith, refl)
+is_listed Ibm720 = (2, omega arith, refl)
+is_listed Ibm1440 = (3, omega arith, refl)
+is_listed Amiga = (4, omega arith, refl)
+is_listed C1541 = (5, omega arith, refl)
+is_listed C1541Forty = (6, omega arith, refl)
+is_listed AppleDo = (7, omega arith, refl)
+is_listed ApplePo = (8, omega arith, refl)
 
 -- a cell of so many quarters of a microsecond, in fine units, which are 1/1024 of a period of the capture's clock of
 -- 168192000/7 Hz

@@ -64,3 +64,22 @@ TracksFillImages = (format : Format) → sum_by (bytes_of format) (tracks format
 abbrev pub SectorsLieInImages : Type 0
 SectorsLieInImages = (format : Format) (track : TrackId) (sector : ℕ) → IsTrack format track → IsSector format track sector
     → sector_place format track sector + (row format).sector_size ≤ (row format).image_size
+
+-- What all tracks of all formats keep to: cylinders and sectors are numbered by two digits, a sector has at most 512 bytes, no
+-- track has more sectors than its format's first, and cells and rings are neither very short nor very long.
+pub record KeepsBounds (format : Format) (track : TrackId) : Type 0 where
+  pub cylinder : track.cylinder < 100
+  pub sectors : (row format).first_sector + (zone format track.cylinder).sectors ≤ 100
+  pub size : (row format).sector_size ≤ 512
+  pub most : (first : TrackId) → slice_get (tracks format) 0 ≡ Some first → (zone format track.cylinder).sectors ≤ (zone format first.cylinder).sectors
+  pub shortest_cell : 16384 ≤ (zone format track.cylinder).nominal
+  pub longest_cell : (zone format track.cylinder).nominal ≤ 131072
+  pub shortest_ring : 1024 ≤ (zone format track.cylinder).ring_cells
+  pub longest_ring : (zone format track.cylinder).ring_cells ≤ 262144
+
+abbrev pub TracksKeepBounds : Type 0
+TracksKeepBounds = (format : Format) (track : TrackId) → IsTrack format track → KeepsBounds format track
+
+-- no format has more tracks than a thousand
+abbrev pub TracksAreFew : Type 0
+TracksAreFew = (format : Format) → length (tracks format) ≤ 1000

@@ -1,4 +1,5 @@
-ghost use Rattle.std.specs.Prelude.{◌≡◌, ◌≢◌, MatchOption};
+ghost use Rattle.std.specs.Prelude.{◌≡◌, ◌≢◌, ◌<◌, ◌≤◌, MatchOption, option_map};
+ghost use Rattle.sector_images.specs.Formats.{begin_of, commodore_begin, commodore_zone, row, zone};
 
 /// A format of sector images.
 #[derive(Clone, Copy, Debug, PartialEq, Eq)]
@@ -24,8 +25,6 @@ pub enum Format {
 }
 
 impl Format {
-    ghost use Rattle.sector_images.specs.Formats.{row};
-
     /// The format of this word of the command line.
     pub fn of_word(word: &[u8]) -> Option<Format>
         ensures { MatchOption result ((f : Format) → (row f).word ≢ word.now) (λ f. (row f).word ≡ word.now) }
@@ -59,5 +58,222 @@ impl Format {
             Format::AppleDo => "apple-do",
             Format::ApplePo => "apple-po",
         }
+    }
+}
+
+/// What holds of all tracks of a format.
+#[derive(Clone, Copy, Debug)]
+pub(crate) struct Geometry {
+    pub cylinders: u8,
+    pub heads: u8,
+    pub first_sector: u8,
+    /// In bytes.
+    pub sector_size: u16,
+    /// In bytes.
+    pub image_size: u32,
+    /// Where each sector, from 0 on, stands among those of its track in the image, where that is not the order
+    /// of their numbers.
+    pub order: Option<&'static [u8; 16]>,
+}
+
+/// The order of DOS 3.3: the logical sector that each physical one holds.
+const DOS_ORDER: [u8; 16] = [
+    0x0, 0x7, 0xE, 0x6, 0xD, 0x5, 0xC, 0x4, 0xB, 0x3, 0xA, 0x2, 0x9, 0x1, 0x8, 0xF,
+];
+
+/// The order of ProDOS: the half block that each physical sector holds.
+const PRODOS_ORDER: [u8; 16] = [
+    0x0, 0x8, 0x1, 0x9, 0x2, 0xA, 0x3, 0xB, 0x4, 0xC, 0x5, 0xD, 0x6, 0xE, 0x7, 0xF,
+];
+
+/// What holds of the tracks of neighbouring cylinders.
+#[derive(Clone, Copy, Debug)]
+pub(crate) struct Zone {
+    /// The first of these cylinders.
+    pub first_cylinder: u8,
+    /// The place in the image where that cylinder begins.
+    pub place: u32,
+    /// Sectors of a track.
+    pub sectors: u8,
+    /// The nominal cell in fine units.
+    pub nominal: u32,
+    /// Cells of a whole written track.
+    pub ring_cells: u32,
+}
+
+impl Format {
+    pub(crate) fn geometry(self) -> Geometry
+        ensures cylinders { result.cylinders ≡ (row self).cylinders }
+        ensures heads { result.heads ≡ (row self).heads }
+        ensures first_sector { result.first_sector ≡ (row self).first_sector }
+        ensures sector_size { result.sector_size ≡ (row self).sector_size }
+        ensures image_size { result.image_size ≡ (row self).image_size }
+        ensures order { option_map (λ order. order.now) result.order ≡ (row self).order }
+    {
+        match self {
+            Format::Ibm3740 => Geometry {
+                cylinders: 77,
+                heads: 1,
+                first_sector: 1,
+                sector_size: 128,
+                image_size: 256256,
+                order: None,
+            },
+            Format::Ibm360 => Geometry {
+                cylinders: 40,
+                heads: 2,
+                first_sector: 1,
+                sector_size: 512,
+                image_size: 368640,
+                order: None,
+            },
+            Format::Ibm720 => Geometry {
+                cylinders: 80,
+                heads: 2,
+                first_sector: 1,
+                sector_size: 512,
+                image_size: 737280,
+                order: None,
+            },
+            Format::Ibm1440 => Geometry {
+                cylinders: 80,
+                heads: 2,
+                first_sector: 1,
+                sector_size: 512,
+                image_size: 1474560,
+                order: None,
+            },
+            Format::Amiga => Geometry {
+                cylinders: 80,
+                heads: 2,
+                first_sector: 0,
+                sector_size: 512,
+                image_size: 901120,
+                order: None,
+            },
+            Format::C1541 => Geometry {
+                cylinders: 35,
+                heads: 1,
+                first_sector: 0,
+                sector_size: 256,
+                image_size: 174848,
+                order: None,
+            },
+            Format::C1541Forty => Geometry {
+                cylinders: 40,
+                heads: 1,
+                first_sector: 0,
+                sector_size: 256,
+                image_size: 196608,
+                order: None,
+            },
+            Format::AppleDo => Geometry {
+                cylinders: 35,
+                heads: 1,
+                first_sector: 0,
+                sector_size: 256,
+                image_size: 143360,
+                order: Some(&DOS_ORDER),
+            },
+            Format::ApplePo => Geometry {
+                cylinders: 35,
+                heads: 1,
+                first_sector: 0,
+                sector_size: 256,
+                image_size: 143360,
+                order: Some(&PRODOS_ORDER),
+            },
+        }
+    }
+
+    /// The zone of one of the format's cylinders.
+    pub(crate) fn zone(self, cylinder: u8) -> Zone
+        requires { cylinder < (row self).cylinders }
+        ensures before { result.first_cylinder ≤ cylinder }
+        ensures first_cylinder { result.first_cylinder ≡ (begin_of self cylinder).first_cylinder }
+        ensures place { result.place ≡ (begin_of self cylinder).place }
+        ensures sectors { result.sectors ≡ (zone self cylinder).sectors }
+        ensures nominal { result.nominal ≡ (zone self cylinder).nominal }
+        ensures ring_cells { result.ring_cells ≡ (zone self cylinder).ring_cells }
+    {
+        match self {
+            Format::Ibm3740 => Zone {
+                first_cylinder: 0,
+                place: 0,
+                sectors: 26,
+                nominal: 49208,
+                ring_cells: 83328,
+            },
+            Format::Ibm360 | Format::Ibm720 => Zone {
+                first_cylinder: 0,
+                place: 0,
+                sectors: 9,
+                nominal: 49208,
+                ring_cells: 100000,
+            },
+            Format::Ibm1440 => Zone {
+                first_cylinder: 0,
+                place: 0,
+                sectors: 18,
+                nominal: 24604,
+                ring_cells: 200000,
+            },
+            Format::Amiga => Zone {
+                first_cylinder: 0,
+                place: 0,
+                sectors: 11,
+                nominal: 49208,
+                ring_cells: 100000,
+            },
+            Format::C1541 | Format::C1541Forty => commodore_zone(cylinder),
+            Format::AppleDo | Format::ApplePo => Zone {
+                first_cylinder: 0,
+                place: 0,
+                sectors: 16,
+                nominal: 98416,
+                ring_cells: 49994,
+            },
+        }
+    }
+}
+
+/// The zones of a Commodore 1541 disk. Cylinder 0 is track 1.
+fn commodore_zone(cylinder: u8) -> Zone
+    ensures before { result.first_cylinder ≤ cylinder }
+    ensures first_cylinder { result.first_cylinder ≡ (commodore_begin cylinder).first_cylinder }
+    ensures place { result.place ≡ (commodore_begin cylinder).place }
+    ensures sectors { result.sectors ≡ (commodore_zone cylinder).sectors }
+    ensures nominal { result.nominal ≡ (commodore_zone cylinder).nominal }
+    ensures ring_cells { result.ring_cells ≡ (commodore_zone cylinder).ring_cells }
+{
+    match cylinder {
+        0..=16 => Zone {
+            first_cylinder: 0,
+            place: 0,
+            sectors: 21,
+            nominal: 79963,
+            ring_cells: 61488,
+        },
+        17..=23 => Zone {
+            first_cylinder: 17,
+            place: 91392,
+            sectors: 19,
+            nominal: 86114,
+            ring_cells: 57000,
+        },
+        24..=29 => Zone {
+            first_cylinder: 24,
+            place: 125440,
+            sectors: 18,
+            nominal: 92265,
+            ring_cells: 53280,
+        },
+        _ => Zone {
+            first_cylinder: 30,
+            place: 153088,
+            sectors: 17,
+            nominal: 98416,
+            ring_cells: 49912,
+        },
     }
 }

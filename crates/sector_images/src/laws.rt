@@ -1,6 +1,6 @@
 //! What the places of sectors come to.
 
-ghost use Rattle.sector_images.specs.Places.{NumbersNameTracks, SectorsFillTracks, SectorsLieInImages, TracksFillImages, TracksJoin};
+ghost use Rattle.sector_images.specs.Places.{NumbersNameTracks, SectorsFillTracks, SectorsLieInImages, TracksAreFew, TracksFillImages, TracksJoin, TracksKeepBounds};
 
 /// Each sector of a track stands at one number among those of its track in the image, and is the one that
 /// stands there.
@@ -19,4 +19,10 @@ pub fn sectors_lie_in_images()
 pub fn tracks_fill_images()
     ensures joined { TracksJoin }
     ensures filled { TracksFillImages }
+{}
+
+/// All formats keep to bounds that their reports, their rings and their streams need.
+pub fn tracks_keep_bounds()
+    ensures few { TracksAreFew }
+    ensures bounds { TracksKeepBounds }
 {}

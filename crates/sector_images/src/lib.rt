@@ -5,10 +5,11 @@
 mod format;
 mod laws;
 mod places;
-mod table;
 
 pub use format::Format;
-pub use laws::{sectors_fill_tracks, sectors_lie_in_images, tracks_fill_images};
+pub use laws::{
+    sectors_fill_tracks, sectors_lie_in_images, tracks_fill_images, tracks_keep_bounds,
+};
 pub use places::{
     image_place, image_sector, image_size, nominal, ring_cells, track_bytes, track_count, track_id,
     track_place,

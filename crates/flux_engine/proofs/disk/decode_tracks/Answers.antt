@@ -5,8 +5,8 @@ use Rattle.sector_report.specs.declared.totals.Totals.{Totals}
 use Rattle.flux_engine.specs.Answers.{DecodesTrack}
 use Rattle.flux_engine.specs.Recordings.{track_at}
 use Rattle.flux_engine.specs.Room.{RoomState}
-use Rattle.flux_engine.proofs.ByFormat.{few_tracks}
 use Rattle.flux_engine.proofs.Counting.{part_few, part_sum}
+use Rattle.flux_engine.proofs.RingLaws.{track_known}
 use Rattle.flux_engine.proofs.Disks.{decoded_start, decoded_more, decoded_fault}
 use Rattle.flux_engine.proofs.disk.decode_tracks.Goals as goal
 
@@ -30,11 +30,13 @@ pub add-requires-clause-few : goal.add-requires-clause-few
 add-requires-clause-few g c =
     let d = c.in-Ok.ensures.decoded in
     let format = c.loop-number.room.format in
-    let few = part_few format (track_at format c.loop-number.number) d.times d.indexes d.wrote.0 d.wrote.1 in
     let same : c.in-Ok.more.sectors ≡ d.wrote.0.totals.sectors = ap (λ (t : Totals). t.sectors) d.wrote.4 in
     let count : c.track_count-number-end.result ≡ length (tracks c.args.room.now.format) =
     c.track_count-number-end.ensures ∙ ap (λ (r : RoomState). length (tracks r.format)) c.room.view_is in
-    omega (arith, few, same, count, c.loop-number.invariant.few, few_tracks c.args.room.now.format)
+    let all : length (tracks format) ≡ length (tracks c.args.room.now.format) = ap (λ (f : Format). length (tracks f)) c.loop-number.invariant.decoded.format_is in
+    let known = track_known c.sectors_lie_in_images.ensures.numbers format c.loop-number.number (omega (arith, count, all)) in
+    let few = part_few c.tracks_keep_bounds.ensures.bounds format (track_at format c.loop-number.number) known d.times d.indexes d.wrote.0 d.wrote.1 in
+    omega (arith, few, same, count, c.loop-number.invariant.few, c.tracks_keep_bounds.ensures.few c.args.room.now.format)
 
 pub returns-in-Err-clause-err : goal.returns-in-Err-clause-err
 returns-in-Err-clause-err g c =
@@ -69,7 +71,11 @@ loop-number-preserved g c =
     let room' = c.decode_track.new.room in
     let here = c.in-Ok.ensures.decoded in
     let d = subst (λ (f : Format). DecodesTrack f (track_at f n) n mid left' room.used room.held room'.held imid image' nmid notes' (Ok c.in-Ok.more)) h.format_is here in
-    let few = part_few room.format (track_at room.format n) here.times here.indexes here.wrote.0 here.wrote.1 in
+    let count : c.track_count-number-end.result ≡ length (tracks c.args.room.now.format) =
+    c.track_count-number-end.ensures ∙ ap (λ (r : RoomState). length (tracks r.format)) c.room.view_is in
+    let all : length (tracks room.format) ≡ length (tracks c.args.room.now.format) = ap (λ (f : Format). length (tracks f)) h.format_is in
+    let known = track_known c.sectors_lie_in_images.ensures.numbers room.format n (omega (arith, count, all)) in
+    let few = part_few c.tracks_keep_bounds.ensures.bounds room.format (track_at room.format n) known here.times here.indexes here.wrote.0 here.wrote.1 in
     let same : c.in-Ok.more.sectors ≡ here.wrote.0.totals.sectors = ap (λ (t : Totals). t.sectors) here.wrote.4 in
     let sum : c.add.new.totals.sectors ≡ c.loop-number.totals.sectors + c.in-Ok.more.sectors = ap (λ (t : Totals). t.sectors) c.add.ensures.value in
     record {

@@ -5,7 +5,7 @@ use Rattle.flux_engine.specs.Recordings.{track_at}
 use Rattle.flux_engine.specs.Rings.{streams_of, track_stream}
 use Rattle.sector_images.specs.Places.{tracks}
 use Rattle.flux_engine.proofs.Pieces.{pieces_next, pieces_stop}
-use Rattle.flux_engine.proofs.RingLaws.{is_early, is_stream, room_for}
+use Rattle.flux_engine.proofs.RingLaws.{is_early, is_known_at, is_stream, room_for}
 use Rattle.flux_engine.proofs.disk_streams.write_tracks.Goals as goal
 
 pub unreachable-requires : goal.unreachable-requires
@@ -16,7 +16,8 @@ unreachable-requires g c =
 
 pub write_track-requires-clause-one : goal.write_track-requires-clause-one
 write_track-requires-clause-one g c =
-    is_early c.args.format (track_at c.args.format c.loop-number.number) c.track_ring.new.cells.cells c.in-Ok.ensures.ring
+    is_early c.tracks_keep_bounds.ensures.bounds c.args.format (track_at c.args.format c.loop-number.number)
+    (is_known_at c.args.format c.loop-number.number c.track_id.result c.track_id.ensures.at c.track_id.ensures.track) c.track_ring.new.cells.cells c.in-Ok.ensures.ring
 
 pub returns-in-Err-write_track-clause-err : goal.returns-in-Err-write_track-clause-err
 unfolding streams_of

@@ -1,0 +1,8 @@
+use Rattle.sector_images.proofs.Computed.{few_tracks, keep_bounds}
+use Rattle.sector_images.proofs.laws.tracks_keep_bounds.Goals as goal
+
+pub returns-clause-few : goal.returns-clause-few
+returns-clause-few c = few_tracks
+
+pub returns-clause-bounds : goal.returns-clause-bounds
+returns-clause-bounds c = keep_bounds
