@@ -35,23 +35,6 @@ pub fn decode_disk<S: Source, W: Sink, N: Sink>(
     ensures image_later { W.faults image.old ≤ W.faults image.new }
     ensures notes_later { N.faults notes.old ≤ N.faults notes.new }
 {
-    decode_and_total(room, source, image, notes)
-}
-
-/// Decodes all tracks of a disk in order, and writes the total line.
-fn decode_and_total<S: Source, W: Sink, N: Sink>(
-    room: &mut DiskRoom,
-    source: &mut S,
-    image: &mut W,
-    notes: &mut N,
-) -> Result<Totals, EngineFault>
-    requires { room.old ≡ fresh room.old.format }
-    ensures decoded { DecodesDisk room.old.format (S.left source.old) (S.left source.new) (W.written image.old) (W.written image.new) (N.written notes.old) (N.written notes.new) result }
-    ensures cause { EngineCause (S.faults source.old) (S.faults source.new) (W.faults image.old) (W.faults image.new) (N.faults notes.old) (N.faults notes.new) result }
-    ensures source_later { S.faults source.old ≤ S.faults source.new }
-    ensures image_later { W.faults image.old ≤ W.faults image.new }
-    ensures notes_later { N.faults notes.old ≤ N.faults notes.new }
-{
     let totals = match decode_tracks(room, source, image, notes) {
         Ok(totals) => totals,
         Err(fault) => return Err(fault),

@@ -1,5 +1,5 @@
 -- The formats of sector images, a row for each.
-use Rattle.std.specs.Prelude.{ℕ, ◌+◌, ◌-◌, ◌*◌, ◌/◌, List, [], ◌∷◌, codes, Contains, get_or, refl, nat_lt, if◌then◌else◌, Option, Some, None}
+use Rattle.std.specs.Prelude.{◌≡◌, ℕ, ◌+◌, ◌-◌, ◌*◌, ◌/◌, List, [], ◌∷◌, codes, Contains, get_or, refl, nat_lt, if◌then◌else◌, Option, Some, None}
 use Rattle.std.proofs.Common.{arith}
 use Rattle.sector_images.specs.declared.format.Format.{Format}
 use Rattle.sector_images.specs.declared.format.Format.TheVariants.{Ibm3740, Ibm360, Ibm720, Ibm1440, Amiga, C1541, C1541Forty, AppleDo, ApplePo}
@@ -9,7 +9,7 @@ abbrev pub formats : List Format
 formats = Ibm3740 ∷ Ibm360 ∷ Ibm720 ∷ Ibm1440 ∷ Amiga ∷ C1541 ∷ C1541Forty ∷ AppleDo ∷ ApplePo ∷ []
 
 -- each is among them
-pub is_listed : (f : Format) → Contains formats f
+unfoldable pub is_listed : (f : Format) → Contains formats f
 is_listed Ibm3740 = (0, omega arith, refl)
 is_listed Ibm360 = (1, omega arith, refl)
 is_listed Ibm720 = (2, omega arith, refl)
@@ -180,3 +180,7 @@ slot_by (Some order) first sector = get_or order sector 0
 -- where a sector stands among those of its track in the image, counted from 0
 abbrev pub slot : Format → ℕ → ℕ
 slot format sector = slot_by (row format).order (row format).first_sector sector
+
+-- no two formats have one word
+abbrev pub WordsNameFormats : Type 0
+WordsNameFormats = (f g : Format) → (row f).word ≡ (row g).word → f ≡ g

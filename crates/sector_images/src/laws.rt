@@ -1,5 +1,6 @@
 //! What the places of sectors come to.
 
+ghost use Rattle.sector_images.specs.Formats.{WordsNameFormats};
 ghost use Rattle.sector_images.specs.Places.{NumbersNameTracks, SectorsFillTracks, SectorsLieInImages, TracksAreFew, TracksFillImages, TracksJoin, TracksKeepBounds};
 
 /// Each sector of a track stands at one number among those of its track in the image, and is the one that
@@ -25,4 +26,9 @@ pub fn tracks_fill_images()
 pub fn tracks_keep_bounds()
     ensures few { TracksAreFew }
     ensures bounds { TracksKeepBounds }
+{}
+
+/// No two formats have one word.
+pub fn words_name_formats()
+    ensures { WordsNameFormats }
 {}
