@@ -1,4 +1,3 @@
 pub mod Zones
 pub mod Agree
 pub mod Recorded
-pub mod Stands

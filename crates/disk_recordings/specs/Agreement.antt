@@ -1,5 +1,5 @@
 -- That a recording is one for a format: it has the format's geometry, and what stands is the same for all ids.
-use Rattle.std.specs.Prelude.{◌≡◌, ℕ, Bool, List}
+use Rattle.std.specs.Prelude.{◌≡◌, ◌↔◌, ℕ, Bool, List}
 use Rattle.flux_base.specs.declared.track.TrackId.{TrackId}
 use Rattle.sector_images.specs.Formats.{row, zone}
 use Rattle.sector_images.specs.Places.{IsTrack}
@@ -19,8 +19,8 @@ pub record Agrees (format : Format) (recording : DiskRecording) : Type 0 where
   pub ring_cells : (track : TrackId) → IsTrack format track → ghosts.ring_cells recording track ≡ (zone format track.cylinder).ring_cells
   pub place : (track : TrackId) (sector : ℕ) → ghosts.sector_place recording track sector ≡ place_in_ring format track sector
   pub frame : ghosts.frame_cells recording ≡ frame_cells format
-  pub header : (track : TrackId) (cells : List Bool) (s : ℕ) → ghosts.header_at recording track cells s → header_at format track cells s
-  pub sector : (track : TrackId) (cells : List Bool) (s : ℕ) (bytes : List ℕ) → ghosts.sector_at recording track cells s bytes → sector_at format track cells s bytes
+  pub header : (track : TrackId) (cells : List Bool) (s : ℕ) → ghosts.header_at recording track cells s ↔ header_at format track cells s
+  pub sector : (track : TrackId) (cells : List Bool) (s : ℕ) (bytes : List ℕ) → ghosts.sector_at recording track cells s bytes ↔ sector_at format track cells s bytes
 
 -- the track of a Commodore 1541's disk whose sector 0 has the disk's id: track 18, counted from 1
 abbrev pub directory_track : TrackId

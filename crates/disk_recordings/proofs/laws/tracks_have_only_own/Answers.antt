@@ -1,7 +1,6 @@
 use Rattle.disk_recordings.specs.Recordings.{ANY_ID, recording_of}
 use Rattle.disk_recordings.proofs.Agree.{agrees}
 use Rattle.disk_recordings.proofs.Recorded.{are_sectors, has_track}
-use Rattle.disk_recordings.proofs.Stands.{header_of, sector_of}
 use Rattle.disk_recordings.proofs.laws.tracks_have_only_own.Goals as goal
 
 pub returns-clause-alone : goal.returns-clause-alone
@@ -13,10 +12,10 @@ returns-clause-between_zeros c = λ format id track bytes zeros from count behin
     (are_sectors format id track known bytes are) in
     record {
       headers = λ place s header.
-          let at = here.headers place s (header_of format id track _ s header) in
+          let at = here.headers place s (((agrees format id).header track _ s).1 header) in
           rw ((agrees format id).ring_cells track known, (agrees format id).place track s) at at;
       sectors = λ place s content sector.
-          let at = here.sectors place s content (sector_of format id track _ s content sector) in
+          let at = here.sectors place s content (((agrees format id).sector track _ s content).1 sector) in
           rw ((agrees format id).ring_cells track known, (agrees format id).place track s, (agrees format id).first, (agrees format id).size) at at;
     }
 
@@ -26,12 +25,12 @@ returns-clause-stretches c = λ format id track bytes from count known are.
     (are_sectors format id track known bytes are) in
     record {
       sectors = λ place s content sector.
-          let at = here.sectors place s content (sector_of format id track _ s content sector) in
+          let at = here.sectors place s content (((agrees format id).sector track _ s content).1 sector) in
           rw ((agrees format id).ring_cells track known, (agrees format id).place track s, (agrees format id).first, (agrees format id).size) at at;
       headers = λ place s only.
           let at = here.headers place s (
-            header_of format id track _ s only.0,
-            λ t content sector. only.1 t content ((agrees format id).sector track _ t content sector),
+            ((agrees format id).header track _ s).1 only.0,
+            λ t content sector. only.1 t content (((agrees format id).sector track _ t content).0 sector),
           ) in
           rw ((agrees format id).ring_cells track known, (agrees format id).place track s, (agrees format id).frame) at at;
     }

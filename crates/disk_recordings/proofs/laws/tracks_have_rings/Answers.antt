@@ -17,7 +17,7 @@ pub returns-clause-stand : goal.returns-clause-stand
 returns-clause-stand c = λ format id track bytes s from count place known are sector at.
     let here = c.rings_hold_sectors.ensures.stand (recording_of format id) track bytes s from count place (has_track format id track known)
     (are_sectors format id track known bytes are) (is_number format id track known s sector) (lies format id track known s from count place at) in
-    (agrees format id).sector track _ s _ (rw ((agrees format id).first, (agrees format id).size) at here)
+    ((agrees format id).sector track _ s _).0 (rw ((agrees format id).first, (agrees format id).size) at here)
 
 pub returns-clause-whole : goal.returns-clause-whole
 returns-clause-whole c = λ format id track bytes s known are sector.
