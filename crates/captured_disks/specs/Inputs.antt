@@ -1,6 +1,6 @@
 -- The inputs that a decoder answers for: the streams of a disk's tracks, as a drive captures them that keeps within the bounds
 -- of disturbance.
-use Rattle.std.specs.Prelude.{◌≡◌, ◌≤◌, ◌<◌, ℕ, Bool, List, [], ◌++◌, flat_map, length, None}
+use Rattle.std.specs.Prelude.{◌≡◌, ◌<◌, ℕ, Bool, List, [], ◌++◌, flat_map, length, None}
 use Rattle.std.specs.List.{range_with_len}
 use Rattle.kryo_stream.specs.Joined.{MayStandBefore}
 use Rattle.kryo_stream.specs.Stream.{first_fault, indexes, stream_length, times}
