@@ -1,8 +1,7 @@
 -- The recovered cells of a captured track are those of its pieces of the ring.
-use Rattle.std.specs.Prelude.{◌≡◌, ◌≤◌, ◌<◌, ℕ, zero, suc, ◌+◌, ◌-◌, ◌*◌, ◌/◌, All, Bool, false, List, [], ◌∷◌, ◌++◌, flat_map, length, map, nat_lt, replicate, slice_index, if◌then◌else◌, true, refl}
+use Rattle.std.specs.Prelude.{◌≡◌, ◌≤◌, ◌<◌, ℕ, ◌+◌, ◌-◌, ◌*◌, ◌/◌, Bool, false, List, [], ◌∷◌, ◌++◌, flat_map, length, map, nat_lt, replicate, slice_index, if◌then◌else◌, true, refl}
 use Rattle.std.proofs.Common.{ap, sym, subst, ◌∙◌, arith, append-nil, lit≤}
 use Rattle.std.proofs.lemmas.List.Elements.{All-cons, All-nil}
-use Rattle.flux_base.specs.declared.track.TrackId.{TrackId}
 use Rattle.index_turns.specs.Track.{turn_length}
 use Rattle.kryo_stream.specs.Stream.{indexes, times}
 use Rattle.phase_loop.specs.Start.{IsNominal}

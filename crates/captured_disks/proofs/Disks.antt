@@ -1,18 +1,15 @@
 -- Captured disks decode.
-use Rattle.std.specs.Prelude.{◌≡◌, ◌≤◌, ◌<◌, ◌⊎◌, ℕ, ◌+◌, ◌-◌, ◌*◌, Bool, true, All, List, [], ◌∷◌, length, map, slice_index, unwrap_or, Option, Some, None, refl}
-use Rattle.std.specs.List.{range_with_len}
-use Rattle.std.proofs.Common.{ap, sym, subst, ◌∙◌, arith, inl, inr}
+use Rattle.std.specs.Prelude.{◌≡◌, ◌≤◌, ◌<◌, ℕ, ◌*◌, Bool, true, List, [], ◌∷◌, length, map, unwrap_or, Option, None, refl}
+use Rattle.std.proofs.Common.{ap, sym, subst, ◌∙◌, arith}
 use Rattle.flux_base.specs.declared.track.TrackId.{TrackId}
 use Rattle.disk_recordings.specs.Laws.{RingsHaveCells, TracksAreRead}
 use Rattle.disk_recordings.specs.Members.{header_at, sector_at}
 use Rattle.kryo_stream.specs.Growth.{StreamsStay}
 use Rattle.kryo_stream.specs.Joined.{PaddingIsPassed}
-use Rattle.kryo_stream.specs.Stream.{first_fault, indexes, stream_length, times}
+use Rattle.kryo_stream.specs.Stream.{indexes, times}
 use Rattle.phase_loop.specs.Pieces.{RecoversPiecesOfTurns}
-use Rattle.sector_images.specs.Formats.{row}
 use Rattle.sector_images.specs.Places.{IsSector, IsTrack, NumbersNameTracks, SectorsLieInImages, TracksFillImages, TracksJoin, tracks}
 use Rattle.sector_images.specs.declared.format.Format.{Format}
-use Rattle.track_rings.specs.Rings.{last_in}
 use Rattle.turn_merge.specs.Readings.{Reading, agreed, verdict}
 use Rattle.turn_merge.specs.declared.verdict.Verdict.{Verdict}
 use Rattle.turn_merge.specs.declared.verdict.Verdict.TheVariants.{Good, Contradictory, Bad, Missing}
@@ -20,15 +17,15 @@ use Rattle.decoded_rings.specs.Pieces.{RingPiece, cells_of_ring_pieces}
 use Rattle.decoded_rings.specs.Verdicts.{AreReadingsOf, IsGoodWith, LiesInOnePiece, PiecesAreRight, TwoRingsHaveSectors}
 use Rattle.decoded_rings.specs.Written.{HasSector}
 use Rattle.flux_engine.specs.Captures.{Capture}
-use Rattle.flux_engine.specs.DiskLaws.{WholeDisksFillImages, bytes_at, cells_at}
-use Rattle.flux_engine.specs.Disks.{Decoded, IsDecoded, IsPartAt, decoded_count, part_at, stop_of}
+use Rattle.flux_engine.specs.DiskLaws.{WholeDisksFillImages, cells_at}
+use Rattle.flux_engine.specs.Disks.{Decoded, IsDecoded, IsPartAt, decoded_count, part_at}
 use Rattle.flux_engine.specs.Recordings.{sectors_of, track_at}
 use Rattle.flux_engine.specs.Rings.{IsImage, IsRing, nominal_of, ring_cells_of, ring_of, sector_bytes}
 use Rattle.flux_engine.specs.Streams.{stream_at}
 use Rattle.flux_engine.specs.Tracks.{Part, is_good, readings_of}
 use Rattle.captured_disks.specs.Frames.{ring_piece, written_track}
-use Rattle.captured_disks.specs.Headline.{CapturedDisksDecode, DecodesRest, DecodesWhole, ErasedDisksDecode, IsKept, IsSectorOf, SaysGood, pieces_of}
-use Rattle.captured_disks.specs.Inputs.{AreJoined, ErasedCapture, IsCapturedDisk, IsErasedDisk}
+use Rattle.captured_disks.specs.Headline.{CapturedDisksDecode, DecodesRest, DecodesWhole, ErasedDisksDecode, IsKept, IsSectorOf}
+use Rattle.captured_disks.specs.Inputs.{IsCapturedDisk, IsErasedDisk}
 use Rattle.captured_disks.proofs.Cells.{cells_are, erased_capture}
 use Rattle.captured_disks.proofs.Images.{images-same}
 use Rattle.captured_disks.proofs.Readings.{are_readings_of}

@@ -1,7 +1,7 @@
 -- Two images that have the same bytes at the place of each sector are the same.
-use Rattle.std.specs.Prelude.{◌≡◌, ◌≤◌, ◌<◌, ℕ, zero, suc, ◌+◌, ◌-◌, ◌*◌, Bool, true, List, [], ◌∷◌, ◌++◌, drop, get_or, length, map, nat_lt, slice_get, sum_by, take, unwrap_or, Option, Some, refl}
+use Rattle.std.specs.Prelude.{◌≡◌, ◌≤◌, ◌<◌, ℕ, zero, suc, ◌+◌, ◌-◌, ◌*◌, true, List, [], ◌∷◌, ◌++◌, drop, get_or, length, map, nat_lt, slice_get, sum_by, take, unwrap_or, Option, Some, refl}
 use Rattle.std.specs.List.{range_with_len}
-use Rattle.std.proofs.Common.{ap, sym, subst, ◌∙◌, arith, length-drop}
+use Rattle.std.proofs.Common.{ap, sym, ◌∙◌, arith}
 use borrow.Author.Tests.{ltb-true}
 use Rattle.std.proofs.lemmas.List.{drop-drop, drop_all, take-append-drop, take_all}
 use Rattle.std.proofs.lemmas.List.FromFn.{get_or-map-range_with_len}
@@ -10,7 +10,7 @@ use Rattle.std.proofs.lemmas.Option.{get_or_from_slice_get}
 use Rattle.std.proofs.Math.Seq.{take-add, take-suc}
 use Rattle.flux_base.specs.declared.track.TrackId.{TrackId}
 use Rattle.sector_images.specs.Formats.{dos_order, prodos_order, row, slot, zone}
-use Rattle.sector_images.specs.Places.{IsSector, NumbersNameTracks, TracksFillImages, TracksJoin, bytes_of, place_of, sector_place, tracks}
+use Rattle.sector_images.specs.Places.{NumbersNameTracks, TracksFillImages, TracksJoin, bytes_of, place_of, sector_place, tracks}
 use Rattle.sector_images.specs.declared.format.Format.{Format}
 use Rattle.sector_images.specs.declared.format.Format.TheVariants.{Ibm3740, Ibm360, Ibm720, Ibm1440, Amiga, C1541, C1541Forty, AppleDo, ApplePo}
 use Rattle.flux_engine.specs.Recordings.{track_at}

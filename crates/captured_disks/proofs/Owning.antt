@@ -1,16 +1,16 @@
 -- Each track that is written of an image is read as its own.
-use Rattle.std.specs.Prelude.{◌≡◌, ◌≤◌, ◌<◌, ℕ, ◌+◌, List, length, unwrap_or, Option}
+use Rattle.std.specs.Prelude.{◌≡◌, ◌≤◌, ℕ, List, length, unwrap_or, Option}
 use Rattle.std.proofs.Common.{ap, sym, subst, arith, lit≤}
 use Rattle.flux_base.specs.declared.track.TrackId.{TrackId}
 use Rattle.disk_recordings.specs.Laws.{AreTrackBytes, FramesAreWhole, OnlyOwnStand, RingsHaveCells, SectorsStand, StandAlone}
 use Rattle.disk_recordings.specs.Members.{frame_cells, place_in_ring}
 use Rattle.sector_images.specs.Formats.{zone}
-use Rattle.sector_images.specs.Places.{IsTrack, NumbersNameTracks, SectorsLieInImages, tracks}
+use Rattle.sector_images.specs.Places.{IsTrack, NumbersNameTracks, SectorsLieInImages}
 use Rattle.sector_images.specs.declared.format.Format.{Format}
 use Rattle.sector_images.specs.declared.format.Format.TheVariants.{Ibm3740, Ibm360, Ibm720, Ibm1440, Amiga, C1541, C1541Forty, AppleDo, ApplePo}
 use Rattle.track_rings.specs.Rings.{LiesAt}
 use Rattle.flux_engine.specs.Recordings.{track_at}
-use Rattle.flux_engine.specs.Rings.{IsImage, disk_id, ring_of, track_bytes}
+use Rattle.flux_engine.specs.Rings.{disk_id, ring_of, track_bytes}
 use Rattle.captured_disks.specs.Frames.{TracksAreOwn}
 use Rattle.captured_disks.proofs.TrackBytes.{are_sectors}
 

@@ -1,5 +1,5 @@
 -- The readings of a track's cells are those of the sectors that stand there.
-use Rattle.std.specs.Prelude.{◌≡◌, ◌≤◌, ◌<◌, ℕ, zero, suc, ◌+◌, ◌-◌, Bool, Contains, List, [], ◌∷◌, ◌++◌, drop, flat_map, length, Option, Some, None, refl}
+use Rattle.std.specs.Prelude.{◌≡◌, ℕ, zero, suc, Bool, Contains, List, [], ◌∷◌, drop, flat_map, Some, None, refl}
 use Rattle.std.proofs.Common.{ap, sym, subst, ◌∙◌, arith, inl, inr, ◌⊎◌}
 use Rattle.std.proofs.lemmas.List.Elements.{Contains-append_cases, Contains-append_left, Contains-append_right}
 use Rattle.frame_law.specs.Laws.{AreAllFrom, ReadingsAreAll}

@@ -1,19 +1,17 @@
 -- What a decoded disk says of one sector, where the cells of its track are those of pieces of the ring.
-use Rattle.std.specs.Prelude.{◌≡◌, ◌≤◌, ◌<◌, ◌⊎◌, ℕ, ◌+◌, Bool, false, List, [], ◌∷◌, drop, length, replicate, Option, Some, None, refl}
-use Rattle.std.proofs.Common.{ap, sym, subst, ◌∙◌, arith, inl, inr}
+use Rattle.std.specs.Prelude.{◌≡◌, ◌<◌, ◌⊎◌, ℕ, Bool, List, ◌∷◌, drop, Option, None, refl}
+use Rattle.std.proofs.Common.{sym, subst, ◌∙◌, inl, inr}
 use Rattle.frame_law.specs.Laws.{ReadingsAreAll}
 use Rattle.kryo_stream.specs.Stream.{indexes, times}
-use Rattle.sector_images.specs.Formats.{row}
-use Rattle.sector_images.specs.Places.{IsSector, tracks}
+use Rattle.sector_images.specs.Places.{IsSector}
 use Rattle.sector_images.specs.declared.format.Format.{Format}
-use Rattle.turn_merge.specs.Readings.{Reading, agreed, verdict}
-use Rattle.turn_merge.specs.declared.verdict.Place.{Place}
+use Rattle.turn_merge.specs.Readings.{Reading, agreed}
 use Rattle.turn_merge.specs.declared.verdict.Verdict.{Verdict}
 use Rattle.turn_merge.specs.declared.verdict.Verdict.TheVariants.{Good, Contradictory, Bad, Missing}
 use Rattle.decoded_rings.specs.Pieces.{RingPiece, cells_of_ring_pieces}
 use Rattle.decoded_rings.specs.Verdicts.{AreReadingsOf, IsGoodWith, IsGoodWithOrLost, LiesInOnePiece, PiecesAreRight, StandsInOnePiece}
 use Rattle.decoded_rings.specs.Written.{HasSector}
-use Rattle.flux_engine.specs.DiskLaws.{EachHasOneVerdict, GoodIsRightOnDisks, HasVerdict, IsDecodedSector, LinesNameVerdicts, OthersAreZeros, bytes_at, cells_at}
+use Rattle.flux_engine.specs.DiskLaws.{EachHasOneVerdict, GoodIsRightOnDisks, HasVerdict, IsDecodedSector, LinesNameVerdicts, OthersAreZeros, cells_at}
 use Rattle.flux_engine.specs.Disks.{Decoded, IsDecoded, decoded_count}
 use Rattle.disk_recordings.specs.Members.{header_at, sector_at}
 use Rattle.flux_engine.specs.Recordings.{track_at}
@@ -21,7 +19,7 @@ use Rattle.flux_engine.specs.Rings.{ring_of, sector_bytes}
 use Rattle.flux_engine.specs.Streams.{stream_at}
 use Rattle.flux_engine.specs.Tracks.{readings_of}
 use Rattle.captured_disks.specs.Frames.{written_track}
-use Rattle.captured_disks.specs.Headline.{IsKept, IsLost, IsSectorOf, Says}
+use Rattle.captured_disks.specs.Headline.{IsKept, IsLost, IsSectorOf}
 use Rattle.captured_disks.proofs.Readings.{are_readings_of}
 
 -- what the engine says of the sectors of a decoded disk
@@ -89,11 +87,15 @@ module _ (format : Format) (image x : List ℕ) (o : Decoded) (disks : DisksAreR
           by (Good g b place) h data_is kept = inl (kept data_is)
           by (Contradictory g b place other) h data_is kept = absurd data_is
           by (Bad b place) h data_is kept =
-              inr (record { outcome = Bad b place; lost = tt; line = disks.lines format x o n sector decoded_sector (Bad b place) h },
-              disks.others format x o n sector decoded_sector (Bad b place) h refl)
+              inr (
+                record { outcome = Bad b place; lost = tt; line = disks.lines format x o n sector decoded_sector (Bad b place) h },
+                disks.others format x o n sector decoded_sector (Bad b place) h refl,
+              )
           by Missing h data_is kept =
-              inr (record { outcome = Missing; lost = tt; line = disks.lines format x o n sector decoded_sector Missing h },
-              disks.others format x o n sector decoded_sector Missing h refl)
+              inr (
+                record { outcome = Missing; lost = tt; line = disks.lines format x o n sector decoded_sector Missing h },
+                disks.others format x o n sector decoded_sector Missing h refl,
+              )
 
       kept-here : LiesInOnePiece (written_track format image n) (first ∷ later) sector → IsKept format image o n sector
       kept-here lies =

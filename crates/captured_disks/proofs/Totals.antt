@@ -1,10 +1,9 @@
 -- The totals of a disk whose sectors are all good.
-use Rattle.std.specs.Prelude.{◌≡◌, ◌≤◌, ◌<◌, ℕ, zero, suc, ◌+◌, Bool, true, false, cond, List, [], ◌∷◌, count_by, get_or, length, map, sum_by, refl}
+use Rattle.std.specs.Prelude.{◌≡◌, ◌≤◌, ◌<◌, ℕ, zero, suc, ◌+◌, Bool, true, cond, List, [], ◌∷◌, count_by, length, map, sum_by, refl}
 use Rattle.std.specs.List.{range_with_len}
-use Rattle.std.proofs.Common.{ap, sym, ◌∙◌, arith}
+use Rattle.std.proofs.Common.{ap, arith}
 use Rattle.std.proofs.lemmas.List.Sums.{sum_by-cons}
 use Rattle.turn_merge.specs.declared.verdict.Verdict.{Verdict}
-use Rattle.sector_report.specs.declared.totals.Totals.{Totals}
 use Rattle.flux_engine.specs.Disks.{part_at, totals_over}
 use Rattle.flux_engine.specs.Tracks.{Part, is_good, totals_of}
 

@@ -1,5 +1,5 @@
 -- What a captured disk decodes to.
-use Rattle.std.specs.Prelude.{◌≡◌, ◌≤◌, ◌<◌, ◌⊎◌, ℕ, List, ◌∷◌, length, drop, map, replicate, None}
+use Rattle.std.specs.Prelude.{◌≡◌, ◌<◌, ◌⊎◌, ℕ, List, ◌∷◌, length, drop, map, replicate, None}
 use Rattle.sector_images.specs.Formats.{row}
 use Rattle.sector_images.specs.Places.{IsSector, tracks}
 use Rattle.sector_images.specs.declared.format.Format.{Format}

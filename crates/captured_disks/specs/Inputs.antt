@@ -1,13 +1,13 @@
 -- The inputs that a decoder answers for: the streams of a disk's tracks, as a drive captures them that keeps within the bounds
 -- of disturbance.
-use Rattle.std.specs.Prelude.{◌≡◌, ◌≤◌, ◌<◌, ℕ, Bool, List, [], ◌++◌, flat_map, length, None}
+use Rattle.std.specs.Prelude.{◌≡◌, ◌<◌, ℕ, Bool, List, [], ◌++◌, flat_map, length, None}
 use Rattle.std.specs.List.{range_with_len}
 use Rattle.kryo_stream.specs.Joined.{MayStandBefore}
 use Rattle.kryo_stream.specs.Stream.{first_fault, indexes, stream_length, times}
 use Rattle.sector_images.specs.Places.{tracks}
 use Rattle.sector_images.specs.declared.format.Format.{Format}
 use Rattle.flux_engine.specs.Captures.{Capture, mean_cell}
-use Rattle.flux_engine.specs.Rings.{nominal_of, ring_of}
+use Rattle.flux_engine.specs.Rings.{IsImage, nominal_of, ring_of, streams_of}
 use Rattle.phase_loop.specs.Pieces.{CarryPieces, Piece}
 
 -- The input is so many streams, one after another, and then any bytes. Before each stream but the first, padding may stand.
@@ -39,3 +39,7 @@ pub record IsErasedDisk (format : Format) (image x : List ℕ) : Type 0 where
   pub stream : ℕ → List ℕ
   pub joined : AreJoined (length (tracks format)) stream x
   pub captured : (k : ℕ) → k < length (tracks format) → ErasedCapture (stream k) (ring_of format image k) (nominal_of format k)
+
+-- what is written of an image is a captured disk of it
+abbrev pub WritesCapturedDisks : Type 0
+WritesCapturedDisks = (format : Format) (image : List ℕ) → IsImage format image → IsCapturedDisk format image (streams_of format image)

@@ -1,10 +1,11 @@
 //! What captured disks decode to.
 
 ghost use Rattle.captured_disks.specs.Headline.{CapturedDisksDecode, ErasedDisksDecode};
+ghost use Rattle.captured_disks.specs.Inputs.{WritesCapturedDisks};
 
 use decoded_rings::own_sectors_are_right;
 use disk_recordings::{DiskRecording, tracks_are_read, tracks_have_only_own, tracks_have_rings};
-use flux_engine::{good_is_right_on_disks, parts_fill_images};
+use flux_engine::{good_is_right_on_disks, parts_fill_images, streams_are_captures};
 use kryo_stream::{growth_law, joined_law};
 use phase_loop::disturbed_rings_are_recovered;
 use sector_images::{sectors_lie_in_images, tracks_fill_images};
@@ -28,4 +29,12 @@ pub fn captured_disks_decode()
     tracks_fill_images();
     good_is_right_on_disks();
     parts_fill_images()
+}
+
+/// What is written of an image is a captured disk of that image, without padding and with nothing after it: so decoding it
+/// gives the image.
+pub fn written_disks_are_captured()
+    ensures { WritesCapturedDisks }
+{
+    streams_are_captures()
 }
