@@ -21,3 +21,4 @@ pub mod SpellingLaws
 pub mod ReadingLaws
 pub mod StreamLaws
 pub mod Sequences
+pub mod Growing

@@ -32,10 +32,10 @@ padding_of-is x k within each ends =
     (λ i below. subst (λ j. is_padding x j ≡ true) (omega arith) (each i below))
     (λ below. subst (λ j. is_padding x j ≡ false) (omega arith) (ends below))
 
-is_padding-true : (x : List ℕ) (i : ℕ) → get_or x i 0 ≡ 13 → get_or x (i + 1) 13 ≡ 13 → is_padding x i ≡ true
+pub is_padding-true : (x : List ℕ) (i : ℕ) → get_or x i 0 ≡ 13 → get_or x (i + 1) 13 ≡ 13 → is_padding x i ≡ true
 is_padding-true x i here behind = rw (here, behind)
 
-is_padding-here : (x : List ℕ) (i : ℕ) → get_or x i 0 ≢ 13 → is_padding x i ≡ false
+pub is_padding-here : (x : List ℕ) (i : ℕ) → get_or x i 0 ≢ 13 → is_padding x i ≡ false
 is_padding-here x i here = grind (arith, nat_tests, here)
 
 is_padding-behind : (x : List ℕ) (i : ℕ) → get_or x (i + 1) 13 ≢ 13 → is_padding x i ≡ false

@@ -11,3 +11,4 @@ pub mod Bench
 pub mod Progress
 pub mod WellFormed
 pub mod Sequence
+pub mod Growth

@@ -51,7 +51,7 @@ impl Model for StreamBench {
 }
 
 impl StreamBench {
-    /// A bench with no room yet. It takes no memory.
+    /// A bench with no room yet.
     pub fn new(alloc: Global) -> StreamBench
         ensures { IsNoted [] result }
     {
@@ -62,7 +62,7 @@ impl StreamBench {
         }
     }
 
-    /// Makes room for the longest stream, so that no later call takes memory.
+    /// Makes room for the longest stream, so that reading one never answers want of memory.
     pub fn reserve(&mut self) -> Result<(), Memory>
         ensures full { OnOk result (HasFullBench self.new) }
         ensures room { KeepsBenchRoom self.old self.new }

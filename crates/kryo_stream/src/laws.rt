@@ -2,6 +2,7 @@ ghost use Rattle.std.specs.Prelude.{◌≡◌, ◌<◌, ◌++◌, ℕ, List, All
 ghost use Rattle.kryo_stream.specs.declared.block.Block.{Block};
 ghost use Rattle.kryo_stream.specs.declared.block.Piece.{Piece};
 ghost use Rattle.kryo_stream.specs.Blocks.{Spells};
+ghost use Rattle.kryo_stream.specs.Growth.{PaddingStays, StreamsAreShort, StreamsStay};
 ghost use Rattle.kryo_stream.specs.Padding.{IsPadding, padding_of};
 ghost use Rattle.kryo_stream.specs.Sequence.{AreInOrder, IsStreamOf, spellings, transitions_from};
 ghost use Rattle.kryo_stream.specs.Spelling.{IsWritable, spelling};
@@ -36,4 +37,12 @@ pub fn blocks_law()
 /// The padding before a stream is the greatest number of bytes, at most 16, of which each is padding.
 pub fn padding_law()
     ensures { (x : List ℕ) → IsPadding x (padding_of x) }
+{}
+
+/// A stream without a fault stays the one that is read when more bytes follow, and so does the padding before it.
+/// It has no more transitions, and no more index times, than it may have bytes.
+pub fn growth_law()
+    ensures streams { StreamsStay }
+    ensures padding { PaddingStays }
+    ensures short { StreamsAreShort }
 {}

@@ -16,7 +16,7 @@ pub use bench::{MOST_INDEXES, MOST_TIMES, StreamBench};
 pub use block::{Block, Mark, Piece};
 pub use fault::{StreamFault, TrackFault};
 pub use intake::Intake;
-pub use laws::{blocks_law, padding_law, spelling_law, stream_law};
+pub use laws::{blocks_law, growth_law, padding_law, spelling_law, stream_law};
 pub use reading::read_track;
 pub use writing::{index_spelling, write_block};
 

@@ -1,0 +1,11 @@
+use Rattle.kryo_stream.proofs.Growing.{padding_stays, streams_are_short, streams_stay}
+use Rattle.kryo_stream.proofs.laws.growth_law.Goals as goal
+
+pub returns-clause-streams : goal.returns-clause-streams
+returns-clause-streams c = streams_stay
+
+pub returns-clause-padding : goal.returns-clause-padding
+returns-clause-padding c = padding_stays
+
+pub returns-clause-short : goal.returns-clause-short
+returns-clause-short c = streams_are_short
