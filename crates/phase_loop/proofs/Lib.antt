@@ -12,3 +12,4 @@ pub mod Clock
 pub mod Tracking
 pub mod Carrying
 pub mod PieceCells
+pub mod CellCounts

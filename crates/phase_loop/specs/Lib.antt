@@ -9,3 +9,4 @@ pub mod Appended
 pub mod Stretch
 pub mod Carried
 pub mod Pieces
+pub mod Sizes

@@ -5,12 +5,14 @@ mod laws;
 mod phase;
 mod reciprocals;
 mod recovery;
+mod sizes;
 mod start;
 mod window;
 
 pub use laws::disturbed_rings_are_recovered;
 pub use phase::Loop;
 pub use recovery::recover;
+pub use sizes::cells_are_few;
 pub use start::LoopStart;
 
 #[cfg(test)]
