@@ -8,8 +8,8 @@ use Rattle.flux_base.specs.declared.track.TrackId.{TrackId}
 use Rattle.turn_merge.specs.declared.verdict.Place.{Place}
 use Rattle.turn_merge.specs.declared.verdict.Verdict.{Verdict}
 use Rattle.turn_merge.specs.declared.verdict.Verdict.TheVariants.{Good, Contradictory, Bad, Missing}
-use Rattle.sector_report.specs.LineLaws.{SectorsHaveOneLine, line_ends}
-use Rattle.sector_report.specs.Lines.{place_text, sector_name, sector_text, two_digits, verdict_text}
+use Rattle.sector_report.specs.LineLaws.{SectorsHaveOneLine, TotalsHaveOneLine, line_ends}
+use Rattle.sector_report.specs.Lines.{place_text, sector_name, sector_text, total_text, two_digits, verdict_text}
 
 -- the text has no line end
 record HasNone (text : List ℕ) : Type 0 where
@@ -80,4 +80,23 @@ sectors_have_one_line track sector verdict = record {
   front = sector_name track sector ++ verdict_text verdict;
   ends = refl;
   once = (none-append (none-name track sector) (none-verdict verdict)).none;
+}
+
+none-number : (before : List ℕ) (text : List ℕ) (n : ℕ) → HasNone before → line_ends text ≡ 0 → HasNone ((before ++ text) ++ decimal n)
+none-number before text n none name = none-append (none-append none (none-codes text name)) (none-decimal n)
+
+pub totals_have_one_line : TotalsHaveOneLine
+unfolding total_text
+totals_have_one_line totals = record {
+  front = codes "total " ++ decimal totals.sectors ++ codes " good " ++ decimal totals.good ++ codes " bad " ++ decimal totals.bad
+      ++ codes " missing " ++ decimal totals.missing ++ codes " contradictory " ++ decimal totals.contradictory;
+  ends = refl;
+  once =
+      (none-number (codes "total " ++ decimal totals.sectors ++ codes " good " ++ decimal totals.good ++ codes " bad " ++ decimal totals.bad
+      ++ codes " missing " ++ decimal totals.missing) (codes " contradictory ") totals.contradictory
+      (none-number (codes "total " ++ decimal totals.sectors ++ codes " good " ++ decimal totals.good ++ codes " bad " ++ decimal totals.bad)
+      (codes " missing ") totals.missing
+      (none-number (codes "total " ++ decimal totals.sectors ++ codes " good " ++ decimal totals.good) (codes " bad ") totals.bad
+      (none-number (codes "total " ++ decimal totals.sectors) (codes " good ") totals.good
+      (none-append (none-codes (codes "total ") refl) (none-decimal totals.sectors)) refl) refl) refl) refl).none;
 }

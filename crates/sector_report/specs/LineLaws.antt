@@ -1,8 +1,11 @@
--- A sector's line as one line of a text.
-use Rattle.std.specs.Prelude.{◌≡◌, ◌==◌, ℕ, ◌++◌, List, [], ◌∷◌, count_by}
+-- A sector's line and the total line as lines of a text, and what a sector's line tells.
+use Rattle.std.specs.Prelude.{◌≡◌, ◌≢◌, ◌==◌, ◌<◌, ◌^◌, ℕ, ◌++◌, List, [], ◌∷◌, count_by}
 use Rattle.flux_base.specs.declared.track.TrackId.{TrackId}
+use Rattle.turn_merge.specs.declared.verdict.Place.{Place}
 use Rattle.turn_merge.specs.declared.verdict.Verdict.{Verdict}
-use Rattle.sector_report.specs.Lines.{sector_text}
+use Rattle.turn_merge.specs.declared.verdict.Verdict.TheVariants.{Good, Contradictory, Bad, Missing}
+use Rattle.sector_report.specs.Lines.{sector_text, total_text}
+use Rattle.sector_report.specs.declared.totals.Totals.{Totals}
 
 -- how many line ends, bytes 0A, a text has
 abbrev pub line_ends : List ℕ → ℕ
@@ -17,3 +20,35 @@ pub record IsOneLine (text : List ℕ) : Type 0 where
 -- each sector has one line, whatever its verdict
 abbrev pub SectorsHaveOneLine : Type 0
 SectorsHaveOneLine = (track : TrackId) (sector : ℕ) (verdict : Verdict) → IsOneLine (sector_text track sector verdict)
+
+-- so has the total line
+abbrev pub TotalsHaveOneLine : Type 0
+TotalsHaveOneLine = (totals : Totals) → IsOneLine (total_text totals)
+
+-- the numbers of a place and of a verdict fit in 64 bits
+abbrev pub PlaceFits : Place → Type 0
+PlaceFits place = (place.turn < 2 ^ 64) × (place.cell < 2 ^ 64)
+
+abbrev pub VerdictFits : Verdict → Type 0
+VerdictFits (Good good bad first) = (good < 2 ^ 64) × (bad < 2 ^ 64) × PlaceFits first
+VerdictFits (Contradictory good bad first other) = (good < 2 ^ 64) × (bad < 2 ^ 64) × PlaceFits first × PlaceFits other
+VerdictFits (Bad bad first) = (bad < 2 ^ 64) × PlaceFits first
+VerdictFits Missing = Unit {0}
+
+-- the cylinder and the sector have two digits at most, and all other numbers of a sector's line fit in 64 bits
+pub record LineFits (track : TrackId) (sector : ℕ) (verdict : Verdict) : Type 0 where
+  pub cylinder_fits : track.cylinder < 100
+  pub head_fits : track.head < 2 ^ 64
+  pub sector_fits : sector < 100
+  pub verdict_fits : VerdictFits verdict
+
+-- a sector's line tells its track, its sector and its verdict: no two have the same line
+abbrev pub SectorLinesTell : Type 0
+SectorLinesTell = (track track' : TrackId) (sector sector' : ℕ) (verdict verdict' : Verdict)
+    → LineFits track sector verdict → LineFits track' sector' verdict' → sector_text track sector verdict ≡ sector_text track' sector' verdict'
+    → (track ≡ track') × (sector ≡ sector') × (verdict ≡ verdict')
+
+-- no sector's line is a total line
+abbrev pub TotalsAreNoSectors : Type 0
+TotalsAreNoSectors = (totals : Totals) (track : TrackId) (sector : ℕ) (verdict : Verdict) → LineFits track sector verdict
+    → sector_text track sector verdict ≢ total_text totals

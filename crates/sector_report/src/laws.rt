@@ -1,8 +1,20 @@
 //! What the lines come to.
 
-ghost use Rattle.sector_report.specs.LineLaws.{SectorsHaveOneLine};
+ghost use Rattle.sector_report.specs.LineLaws.{SectorLinesTell, SectorsHaveOneLine, TotalsAreNoSectors, TotalsHaveOneLine};
 
 /// The line of a sector is one line of a text: its last byte is a line end, and it has no other.
 pub fn sectors_have_one_line()
     ensures { SectorsHaveOneLine }
+{}
+
+/// So is the total line.
+pub fn totals_have_one_line()
+    ensures { TotalsHaveOneLine }
+{}
+
+/// A sector's line tells its track, its sector and its verdict, where their numbers fit: no two have the same
+/// line, and none has a total line.
+pub fn sector_lines_tell()
+    ensures sectors { SectorLinesTell }
+    ensures totals { TotalsAreNoSectors }
 {}

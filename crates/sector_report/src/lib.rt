@@ -9,7 +9,7 @@ mod stream_lines;
 mod totals;
 mod usage;
 
-pub use laws::sectors_have_one_line;
+pub use laws::{sector_lines_tell, sectors_have_one_line, totals_have_one_line};
 pub use line::{Line, write_line};
 pub use refused::{image_line, refused_line};
 pub use sector_lines::{sector_line, total_line};

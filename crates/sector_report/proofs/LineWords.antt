@@ -1,0 +1,264 @@
+-- The words of a line: what stands between its blanks, its point and its end. They determine the line's numbers.
+use Rattle.std.specs.Prelude.{◌≡◌, ◌≢◌, ◌==◌, ◌||◌, ◌<◌, ◌^◌, ℕ, zero, suc, ◌+◌, ◌*◌, ◌/◌, ◌%◌, All, Bool, true, false, cond, List, [], ◌∷◌, ◌++◌, codes, count_by, decimal, get_or, length, nat_eq, nat_lt, if◌then◌else◌, refl}
+use Rattle.std.specs.Fmt.{digits, digits_onto, digit_glyph}
+use Rattle.std.specs.List.{slice_split}
+use Rattle.std.proofs.Common.{ap, sym, ◌∙◌, arith, append_assoc, drop, eq-eqb, lit<}
+use Rattle.std.proofs.Math.Nat.{div-add-mod, div-lt_iff_lt-mul, mod-lt}
+use Rattle.std.proofs.lemmas.Bool.{ne_eqb}
+use Rattle.std.proofs.lemmas.Fmt.{decimal_digit, decimal_injective}
+use Rattle.std.proofs.lemmas.List.Elements.{All-append, All-cons, All-nil}
+use Rattle.std.proofs.lemmas.List.Splits.{slice_split_at}
+use Rattle.std.proofs.lemmas.List.Sums.{sum_by-cons}
+use Rattle.flux_base.specs.declared.track.TrackId.{TrackId}
+use Rattle.turn_merge.specs.declared.verdict.Place.{Place}
+use Rattle.turn_merge.specs.declared.verdict.Verdict.{Verdict}
+use Rattle.turn_merge.specs.declared.verdict.Verdict.TheVariants.{Good, Contradictory, Bad, Missing}
+use Rattle.sector_report.specs.LineLaws.{LineFits, PlaceFits, SectorLinesTell, TotalsAreNoSectors, VerdictFits}
+use Rattle.sector_report.specs.Lines.{place_text, sector_name, sector_text, total_text, two_digits, verdict_text}
+use Rattle.sector_report.specs.declared.totals.Totals.{Totals}
+
+-- a blank, a point or a line end
+abbrev is_gap : ℕ → Bool
+is_gap byte = (byte == 32) || ((byte == 46) || (byte == 10))
+
+abbrev words : List ℕ → List (List ℕ)
+words text = slice_split is_gap text
+
+-- the text has no gap
+abbrev IsWord : List ℕ → Type 0
+IsWord text = All (λ (byte : ℕ). is_gap byte ≡ false) text
+
+-- the bytes above the point are no gaps
+no_gap : (byte : ℕ) → 46 < byte → is_gap byte ≡ false
+no_gap byte high =
+    rw (ne_eqb byte 32 (λ same. omega (arith, same, high)), ne_eqb byte 46 (λ same. omega (arith, same, high)), ne_eqb byte 10 (λ same. omega (arith, same, high))) refl
+
+digit_no_gap : (b : Bool) (m : ℕ) → is_gap (if b then 48 + m else 87 + m) ≡ false
+digit_no_gap true m = no_gap (48 + m) (omega arith)
+digit_no_gap false m = no_gap (87 + m) (omega arith)
+
+word-if : (b : Bool) (xs ys : List ℕ) → IsWord xs → IsWord ys → IsWord (if b then xs else ys)
+word-if true xs ys first second = first
+word-if false xs ys first second = second
+
+word-digits : (k n : ℕ) (acc : List ℕ) → IsWord acc → IsWord (digits_onto k 10 false n acc)
+word-digits zero n acc is = is
+word-digits (suc k) n acc is =
+    let glyph : ℕ = digit_glyph false (n % 10) in
+    let here : IsWord (glyph ∷ acc) = All-cons (λ (byte : ℕ). is_gap byte ≡ false) glyph acc (digit_no_gap (nat_lt (n % 10) 10) (n % 10)) is in
+    word-if (n / 10 == 0) (glyph ∷ acc) (digits_onto k 10 false (n / 10) (glyph ∷ acc)) here (word-digits k (n / 10) (glyph ∷ acc) here)
+
+word-decimal : (n : ℕ) → IsWord (decimal n)
+unfolding digits
+word-decimal n = word-digits 64 n [] (All-nil (λ (byte : ℕ). is_gap byte ≡ false))
+
+none_step : (byte : ℕ) (rest : List ℕ) (b : Bool) → is_gap byte ≡ b → cond b 1 0 + count_by is_gap rest ≡ 0 → (b ≡ false) × (count_by is_gap rest ≡ 0)
+none_step byte rest true is none = absurd (omega (arith, none))
+none_step byte rest false is none = (refl, omega (arith, none))
+
+-- a text that is written out
+word-codes : (text : List ℕ) → count_by is_gap text ≡ 0 → IsWord text
+word-codes [] none = All-nil (λ (byte : ℕ). is_gap byte ≡ false)
+word-codes (byte ∷ rest) none =
+    let step = none_step byte rest (is_gap byte) refl (sym (sum_by-cons (λ (b : ℕ). cond (is_gap b) 1 0) byte rest) ∙ none) in
+    All-cons (λ (b : ℕ). is_gap b ≡ false) byte rest step.0 (word-codes rest step.1)
+
+word-two : (n : ℕ) → IsWord (two_digits n)
+unfolding two_digits
+word-two n = All-append (λ (byte : ℕ). is_gap byte ≡ false) (decimal (n / 10)) (decimal (n % 10)) (word-decimal (n / 10)) (word-decimal (n % 10))
+
+-- a word stands in front of a gap
+next : (word rest : List ℕ) (gap : ℕ) → IsWord word → is_gap gap ≡ true → words (word ++ gap ∷ rest) ≡ word ∷ words rest
+next word rest gap is ends = slice_split_at is_gap word gap rest is ends
+
+-- the words of the parts of a line
+name_shape : (c h s rest : List ℕ) → (c ++ codes "." ++ h ++ codes " " ++ s ++ codes " ") ++ rest ≡ c ++ 46 ∷ (h ++ 32 ∷ (s ++ 32 ∷ rest))
+name_shape c h s rest = simp append_assoc
+
+name_words : (track : TrackId) (sector : ℕ) (rest : List ℕ)
+    → words (sector_name track sector ++ rest) ≡ two_digits track.cylinder ∷ decimal track.head ∷ two_digits sector ∷ words rest
+unfolding sector_name
+name_words track sector rest =
+    let c : List ℕ = two_digits track.cylinder in
+    let h : List ℕ = decimal track.head in
+    let s : List ℕ = two_digits sector in
+    ap words (name_shape c h s rest)
+    ∙ next c (h ++ 32 ∷ (s ++ 32 ∷ rest)) 46 (word-two track.cylinder) refl
+    ∙ ap (λ ws. c ∷ ws) (next h (s ++ 32 ∷ rest) 32 (word-decimal track.head) refl)
+    ∙ ap (λ ws. c ∷ h ∷ ws) (next s rest 32 (word-two sector) refl)
+
+place_shape : (t p rest : List ℕ) → (codes " " ++ t ++ codes " " ++ p) ++ rest ≡ 32 ∷ (t ++ 32 ∷ (p ++ rest))
+place_shape t p rest = simp append_assoc
+
+-- a number, and the place that follows it
+number_place_words : (n : ℕ) (place : Place) (gap : ℕ) (rest : List ℕ) → is_gap gap ≡ true
+    → words (decimal n ++ (place_text place ++ gap ∷ rest)) ≡ decimal n ∷ decimal place.turn ∷ decimal place.cell ∷ words rest
+unfolding place_text
+number_place_words n place gap rest ends =
+    let t : List ℕ = decimal place.turn in
+    let p : List ℕ = decimal place.cell in
+    ap (λ more. words (decimal n ++ more)) (place_shape t p (gap ∷ rest))
+    ∙ next (decimal n) (t ++ 32 ∷ (p ++ gap ∷ rest)) 32 (word-decimal n) refl
+    ∙ ap (λ ws. decimal n ∷ ws) (next t (p ++ gap ∷ rest) 32 (word-decimal place.turn) refl)
+    ∙ ap (λ ws. decimal n ∷ t ∷ ws) (next p rest gap (word-decimal place.cell) ends)
+
+-- two places that follow a number
+two_places_words : (n : ℕ) (first other : Place) (rest : List ℕ)
+    → words (decimal n ++ (place_text first ++ (place_text other ++ 10 ∷ rest)))
+    ≡ decimal n ∷ decimal first.turn ∷ decimal first.cell ∷ decimal other.turn ∷ decimal other.cell ∷ words rest
+unfolding place_text
+two_places_words n first other rest =
+    let t : List ℕ = decimal other.turn in
+    let p : List ℕ = decimal other.cell in
+    ap (λ more. words (decimal n ++ (place_text first ++ more))) (place_shape t p (10 ∷ rest))
+    ∙ number_place_words n first 32 (t ++ 32 ∷ (p ++ 10 ∷ rest)) refl
+    ∙ ap (λ ws. decimal n ∷ decimal first.turn ∷ decimal first.cell ∷ ws)
+    (next t (p ++ 10 ∷ rest) 32 (word-decimal other.turn) refl ∙ ap (λ ws. t ∷ ws) (next p rest 10 (word-decimal other.cell) refl))
+
+abbrev verdict_words : Verdict → List (List ℕ)
+verdict_words (Good good bad first) = codes "good" ∷ decimal good ∷ decimal bad ∷ decimal first.turn ∷ decimal first.cell ∷ [] ∷ []
+verdict_words (Contradictory good bad first other) =
+    codes "contradictory" ∷ decimal good ∷ decimal bad ∷ decimal first.turn ∷ decimal first.cell ∷ decimal other.turn ∷ decimal other.cell ∷ [] ∷ []
+verdict_words (Bad bad first) = codes "bad" ∷ codes "0" ∷ decimal bad ∷ decimal first.turn ∷ decimal first.cell ∷ [] ∷ []
+verdict_words Missing = codes "missing" ∷ codes "0" ∷ codes "0" ∷ [] ∷ []
+
+good_shape : (g b place : List ℕ) → (codes "good " ++ g ++ codes " " ++ b ++ place) ++ codes "\n" ≡ codes "good" ++ 32 ∷ (g ++ 32 ∷ (b ++ (place ++ 10 ∷ [])))
+good_shape g b place = simp append_assoc
+
+contradictory_shape : (g b first other : List ℕ) → (codes "contradictory " ++ g ++ codes " " ++ b ++ first ++ other) ++ codes "\n"
+    ≡ codes "contradictory" ++ 32 ∷ (g ++ 32 ∷ (b ++ (first ++ (other ++ 10 ∷ []))))
+contradictory_shape g b first other = simp append_assoc
+
+bad_shape : (b place : List ℕ) → (codes "bad 0 " ++ b ++ place) ++ codes "\n" ≡ codes "bad" ++ 32 ∷ (codes "0" ++ 32 ∷ (b ++ (place ++ 10 ∷ [])))
+bad_shape b place = simp append_assoc
+
+verdict_words-are : (verdict : Verdict) → words (verdict_text verdict ++ codes "\n") ≡ verdict_words verdict
+unfolding verdict_text
+verdict_words-are (Good good bad first) =
+    let g : List ℕ = decimal good in
+    let more : List ℕ = decimal bad ++ (place_text first ++ 10 ∷ []) in
+    ap words (good_shape g (decimal bad) (place_text first))
+    ∙ next (codes "good") (g ++ 32 ∷ more) 32 (word-codes (codes "good") refl) refl
+    ∙ ap (λ ws. codes "good" ∷ ws) (next g more 32 (word-decimal good) refl)
+    ∙ ap (λ ws. codes "good" ∷ g ∷ ws) (number_place_words bad first 10 [] refl)
+verdict_words-are (Contradictory good bad first other) =
+    let g : List ℕ = decimal good in
+    let more : List ℕ = decimal bad ++ (place_text first ++ (place_text other ++ 10 ∷ [])) in
+    ap words (contradictory_shape g (decimal bad) (place_text first) (place_text other))
+    ∙ next (codes "contradictory") (g ++ 32 ∷ more) 32 (word-codes (codes "contradictory") refl) refl
+    ∙ ap (λ ws. codes "contradictory" ∷ ws) (next g more 32 (word-decimal good) refl)
+    ∙ ap (λ ws. codes "contradictory" ∷ g ∷ ws) (two_places_words bad first other [])
+verdict_words-are (Bad bad first) =
+    let more : List ℕ = decimal bad ++ (place_text first ++ 10 ∷ []) in
+    ap words (bad_shape (decimal bad) (place_text first))
+    ∙ next (codes "bad") (codes "0" ++ 32 ∷ more) 32 (word-codes (codes "bad") refl) refl
+    ∙ ap (λ ws. codes "bad" ∷ ws) (next (codes "0") more 32 (word-codes (codes "0") refl) refl)
+    ∙ ap (λ ws. codes "bad" ∷ codes "0" ∷ ws) (number_place_words bad first 10 [] refl)
+verdict_words-are Missing = refl
+
+sector_words : (track : TrackId) (sector : ℕ) (verdict : Verdict)
+    → words (sector_text track sector verdict) ≡ two_digits track.cylinder ∷ decimal track.head ∷ two_digits sector ∷ verdict_words verdict
+unfolding sector_text
+sector_words track sector verdict =
+    ap words (append_assoc (sector_name track sector) (verdict_text verdict) (codes "\n"))
+    ∙ name_words track sector (verdict_text verdict ++ codes "\n")
+    ∙ ap (λ ws. two_digits track.cylinder ∷ decimal track.head ∷ two_digits sector ∷ ws) (verdict_words-are verdict)
+
+-- the words of two lines that are the same, one by one
+abbrev word_at : List (List ℕ) → ℕ → List ℕ
+word_at ws n = get_or ws n []
+
+-- two digits determine their number
+two-is : (n : ℕ) → n < 100 → two_digits n ≡ (48 + n / 10) ∷ (48 + n % 10) ∷ []
+unfolding two_digits
+two-is n low =
+    let tens : n / 10 < 10 = (div-lt_iff_lt-mul (lit< tt)).1 low in
+    ap (λ d. d ++ decimal (n % 10)) (decimal_digit (n / 10) tens) ∙ ap (λ d. (48 + n / 10) ∷ d) (decimal_digit (n % 10) (mod-lt n (lit< tt)))
+
+two-same : (m n : ℕ) → m < 100 → n < 100 → two_digits m ≡ two_digits n → m ≡ n
+two-same m n low low' same =
+    let both = sym (two-is m low) ∙ same ∙ two-is n low' in
+    let tens : 48 + m / 10 ≡ 48 + n / 10 = ap (λ ds. get_or ds 0 0) both in
+    let ones : 48 + m % 10 ≡ 48 + n % 10 = ap (λ ds. get_or ds 1 0) both in
+    let is-m = div-add-mod m 10 in
+    let is-n = div-add-mod n 10 in
+    omega (arith, tens, ones, is-m, is-n)
+
+place-same : (a b : Place) → PlaceFits a → PlaceFits b → decimal a.turn ≡ decimal b.turn → decimal a.cell ≡ decimal b.cell → a ≡ b
+place-same a b fits fits' turn cell =
+    let of_numbers : ℕ → ℕ → Place = λ t c. record { turn = t; cell = c } in
+    ap (λ t. of_numbers t a.cell) (decimal_injective a.turn b.turn fits.0 fits'.0 turn) ∙ ap (of_numbers b.turn) (decimal_injective a.cell b.cell fits.1 fits'.1 cell)
+
+-- the names of the verdicts have different lengths
+names : (a b : List (List ℕ)) (m n : ℕ) → length (word_at a 0) ≡ m → length (word_at b 0) ≡ n → m ≢ n → a ≢ b
+names a b m n long long' other same = other (sym long ∙ ap (λ ws. length (word_at ws 0)) same ∙ long')
+
+other-lengths : (m n : ℕ) → nat_eq m n ≡ false → m ≢ n
+other-lengths m n test same = not_both (nat_eq m n) (eq-eqb m n same) test
+  where
+    not_both : (b : Bool) → b ≡ true → b ≡ false → ⊥
+    not_both b is is_not = cc
+
+verdict-same : (a b : Verdict) → VerdictFits a → VerdictFits b → verdict_words a ≡ verdict_words b → a ≡ b
+verdict-same (Good g b f) (Good g' b' f') fits fits' same =
+    ap (λ n. Good n b f) (decimal_injective g g' fits.0 fits'.0 (ap (λ ws. word_at ws 1) same))
+    ∙ ap (λ n. Good g' n f) (decimal_injective b b' fits.1 fits'.1 (ap (λ ws. word_at ws 2) same))
+    ∙ ap (Good g' b') (place-same f f' fits.2 fits'.2 (ap (λ ws. word_at ws 3) same) (ap (λ ws. word_at ws 4) same))
+verdict-same (Contradictory g b f o) (Contradictory g' b' f' o') fits fits' same =
+    ap (λ n. Contradictory n b f o) (decimal_injective g g' fits.0 fits'.0 (ap (λ ws. word_at ws 1) same))
+    ∙ ap (λ n. Contradictory g' n f o) (decimal_injective b b' fits.1 fits'.1 (ap (λ ws. word_at ws 2) same))
+    ∙ ap (λ p. Contradictory g' b' p o) (place-same f f' fits.2 fits'.2 (ap (λ ws. word_at ws 3) same) (ap (λ ws. word_at ws 4) same))
+    ∙ ap (Contradictory g' b' f') (place-same o o' fits.3 fits'.3 (ap (λ ws. word_at ws 5) same) (ap (λ ws. word_at ws 6) same))
+verdict-same (Bad b f) (Bad b' f') fits fits' same =
+    ap (λ n. Bad n f) (decimal_injective b b' fits.0 fits'.0 (ap (λ ws. word_at ws 2) same))
+    ∙ ap (Bad b') (place-same f f' fits.1 fits'.1 (ap (λ ws. word_at ws 3) same) (ap (λ ws. word_at ws 4) same))
+verdict-same Missing Missing fits fits' same = refl
+verdict-same (Good g b f) (Contradictory g' b' f' o') fits fits' same = absurd (names _ _ 4 13 refl refl (other-lengths 4 13 refl) same)
+verdict-same (Good g b f) (Bad b' f') fits fits' same = absurd (names _ _ 4 3 refl refl (other-lengths 4 3 refl) same)
+verdict-same (Good g b f) Missing fits fits' same = absurd (names _ _ 4 7 refl refl (other-lengths 4 7 refl) same)
+verdict-same (Contradictory g b f o) (Good g' b' f') fits fits' same = absurd (names _ _ 13 4 refl refl (other-lengths 13 4 refl) same)
+verdict-same (Contradictory g b f o) (Bad b' f') fits fits' same = absurd (names _ _ 13 3 refl refl (other-lengths 13 3 refl) same)
+verdict-same (Contradictory g b f o) Missing fits fits' same = absurd (names _ _ 13 7 refl refl (other-lengths 13 7 refl) same)
+verdict-same (Bad b f) (Good g' b' f') fits fits' same = absurd (names _ _ 3 4 refl refl (other-lengths 3 4 refl) same)
+verdict-same (Bad b f) (Contradictory g' b' f' o') fits fits' same = absurd (names _ _ 3 13 refl refl (other-lengths 3 13 refl) same)
+verdict-same (Bad b f) Missing fits fits' same = absurd (names _ _ 3 7 refl refl (other-lengths 3 7 refl) same)
+verdict-same Missing (Good g' b' f') fits fits' same = absurd (names _ _ 7 4 refl refl (other-lengths 7 4 refl) same)
+verdict-same Missing (Contradictory g' b' f' o') fits fits' same = absurd (names _ _ 7 13 refl refl (other-lengths 7 13 refl) same)
+verdict-same Missing (Bad b' f') fits fits' same = absurd (names _ _ 7 3 refl refl (other-lengths 7 3 refl) same)
+
+abbrev behind_name : List (List ℕ) → List (List ℕ)
+behind_name ws = drop 3 ws
+
+pub sector_lines_tell : SectorLinesTell
+sector_lines_tell track track' sector sector' verdict verdict' fits fits' same =
+    let all = sym (sector_words track sector verdict) ∙ ap words same ∙ sector_words track' sector' verdict' in
+    let of_numbers : ℕ → ℕ → TrackId = λ c h. record { cylinder = c; head = h } in (
+      ap (λ c. of_numbers c track.head) (two-same track.cylinder track'.cylinder fits.cylinder_fits fits'.cylinder_fits (ap (λ ws. word_at ws 0) all))
+          ∙ ap (of_numbers track'.cylinder) (decimal_injective track.head track'.head fits.head_fits fits'.head_fits (ap (λ ws. word_at ws 1) all)),
+      two-same sector sector' fits.sector_fits fits'.sector_fits (ap (λ ws. word_at ws 2) all),
+      verdict-same verdict verdict' fits.verdict_fits fits'.verdict_fits (ap behind_name all),
+    )
+
+-- a total line begins with a letter
+total_first : (totals : Totals) → get_or (total_text totals) 0 0 ≡ 116
+unfolding total_text
+total_first totals = total_shape (decimal totals.sectors) (decimal totals.good) (decimal totals.bad) (decimal totals.missing) (decimal totals.contradictory)
+  where
+    total_shape : (s g b m c : List ℕ) → get_or (codes "total " ++ s ++ codes " good " ++ g ++ codes " bad " ++ b ++ codes " missing " ++ m ++ codes " contradictory " ++ c ++ codes "\n") 0 0 ≡ 116
+    total_shape s g b m c = refl
+
+-- a sector's line begins with a digit
+sector_first : (track : TrackId) (sector : ℕ) (verdict : Verdict) → track.cylinder < 100 → get_or (sector_text track sector verdict) 0 0 ≡ 48 + track.cylinder / 10
+unfolding sector_text sector_name
+sector_first track sector verdict low =
+    sector_shape (two_digits track.cylinder) (48 + track.cylinder / 10) (48 + track.cylinder % 10) (decimal track.head) (two_digits sector) (verdict_text verdict) (two-is track.cylinder low)
+  where
+    sector_shape : (two : List ℕ) (a b : ℕ) (h s v : List ℕ) → two ≡ a ∷ b ∷ []
+        → get_or ((two ++ codes "." ++ h ++ codes " " ++ s ++ codes " ") ++ v ++ codes "\n") 0 0 ≡ a
+    sector_shape two a b h s v is = ap (λ d. get_or ((d ++ codes "." ++ h ++ codes " " ++ s ++ codes " ") ++ v ++ codes "\n") 0 0) is
+
+pub totals_are_no_sectors : TotalsAreNoSectors
+totals_are_no_sectors totals track sector verdict fits same =
+    let tens : track.cylinder / 10 < 10 = (div-lt_iff_lt-mul (lit< tt)).1 fits.cylinder_fits in
+    let both = sym (sector_first track sector verdict fits.cylinder_fits) ∙ ap (λ text. get_or text 0 0) same ∙ total_first totals in
+    omega (arith, both, tens)
