@@ -59,7 +59,7 @@ part_size read format track times' indexes' part is =
 abbrev pub no_part : Part
 no_part = record { image = []; lines = []; totals = no_totals }
 
-abbrev first_track : TrackId
+abbrev pub first_track : TrackId
 first_track = record { cylinder = 0; head = 0 }
 
 -- a list of parts up to one, that one and the others

@@ -21,3 +21,6 @@ pub mod Repeated
 pub mod Captured
 pub mod RingLaws
 pub mod Filling
+pub mod Growing
+pub mod VerdictBounds
+pub mod ReportLines

@@ -22,15 +22,26 @@ use Rattle.flux_engine.specs.Streams.{stream_at}
 use Rattle.flux_engine.specs.Tracks.{IsPart, Part, line_of, lines_of, readings_of}
 use Rattle.flux_engine.proofs.DiskParts.{no_part}
 
--- so many lines stand in front of whatever follows the text
+-- so many lines stand in front of whatever follows the text, which has as many line ends
 pub record Skips (text : List ℕ) (n : ℕ) : Type 0 where
+  pub ends : line_ends text ≡ n
   pub skips : (rest : List ℕ) (m : ℕ) → slice_get (lines_in (text ++ rest)) (n + m) ≡ slice_get (lines_in rest) m
 
 skips-nil : Skips [] 0
-skips-nil = record { skips = λ rest m. (let same : 0 + m ≡ m = omega arith in ap (slice_get (lines_in rest)) same) }
+skips-nil = record { ends = refl; skips = λ rest m. (let same : 0 + m ≡ m = omega arith in ap (slice_get (lines_in rest)) same) }
+
+pub ends-append : (a b : List ℕ) → line_ends (a ++ b) ≡ line_ends a + line_ends b
+ends-append a b = sum_by-append (λ (byte : ℕ). cond (byte == 10) 1 0) a b
+
+pub ends-line : (line : List ℕ) → IsOneLine line → line_ends line ≡ 1
+ends-line line one =
+    let both = ends-append one.front (10 ∷ []) in
+    let last : line_ends (10 ∷ []) ≡ 1 = refl in
+    ap line_ends one.ends ∙ omega (arith, both, last, one.once)
 
 pub skips-append : (a b : List ℕ) (i j : ℕ) → Skips a i → Skips b j → Skips (a ++ b) (i + j)
 skips-append a b i j first second = record {
+  ends = omega (arith, ends-append a b, first.ends, second.ends);
   skips = λ rest m.
       (let same : (i + j) + m ≡ i + (j + m) = omega arith in
       ap (slice_get (lines_in ((a ++ b) ++ rest))) same
@@ -58,6 +69,7 @@ line-first line rest one =
 
 skips-line : (line : List ℕ) → IsOneLine line → Skips line 1
 skips-line line one = record {
+  ends = ends-line line one;
   skips = λ rest m.
       (let same : 1 + m ≡ suc m = omega arith in
       ap (slice_get (lines_in (line ++ rest))) same ∙ ap (λ (ls : List (List ℕ)). slice_get ls (suc m)) (line-first line rest one));
@@ -77,6 +89,17 @@ sectors_on format track = (zone format track.cylinder).sectors
 abbrev first_track : TrackId
 first_track = record { cylinder = 0; head = 0 }
 
+-- the sectors of one track more
+pub sectors-more : (format : Format) (n : ℕ) → n < length (tracks format)
+    → sum_by (sectors_on format) (take (suc n) (tracks format)) ≡ sum_by (sectors_on format) (take n (tracks format)) + sectors_on format (track_at format n)
+sectors-more format n low =
+    let ts : List TrackId = tracks format in
+    let here : get_or ts n first_track ≡ track_at format n = sym (unwrap_or-slice_get ts n first_track) in
+    let one_track : sum_by (sectors_on format) (get_or ts n first_track ∷ []) ≡ sectors_on format (get_or ts n first_track) = omega arith in
+    ap (sum_by (sectors_on format)) (take-suc ts n first_track low)
+    ∙ sum_by-append (sectors_on format) (take n ts) (get_or ts n first_track ∷ [])
+    ∙ ap (λ (m : ℕ). sum_by (sectors_on format) (take n ts) + m) (one_track ∙ ap (sectors_on format) here)
+
 module _ (one : SectorsHaveOneLine) where
   -- a track has a line for each of its sectors
   skips-track : (format : Format) (track : TrackId) (times' indexes' : List ℕ) (part : Part) → IsPart format track times' indexes' part
@@ -94,12 +117,8 @@ module _ (one : SectorsHaveOneLine) where
   skips-tracks format x ps are few (suc n) low =
       let ts : List TrackId = tracks format in
       let within : n < length ps = omega (arith, low) in
-      let here : get_or ts n first_track ≡ track_at format n = sym (unwrap_or-slice_get ts n first_track) in
-      let one_track : sum_by (sectors_on format) (get_or ts n first_track ∷ []) ≡ sectors_on format (get_or ts n first_track) = omega arith in
       let count : sum_by (sectors_on format) (take n ts) + sectors_on format (track_at format n) ≡ sum_by (sectors_on format) (take (suc n) ts) =
-      sym (ap (sum_by (sectors_on format)) (take-suc ts n first_track (omega (arith, within, few)))
-      ∙ sum_by-append (sectors_on format) (take n ts) (get_or ts n first_track ∷ [])
-      ∙ ap (λ (m : ℕ). sum_by (sectors_on format) (take n ts) + m) (one_track ∙ ap (sectors_on format) here)) in
+      sym (sectors-more format n (omega (arith, within, few))) in
       let text : lines (take n ps) ++ (part_at ps n).lines ≡ lines (take (suc n) ps) =
       sym (ap lines (take-suc ps n no_part within)
       ∙ flat_map-append (λ (p : Part). p.lines) (take n ps) (part_at ps n ∷ [])

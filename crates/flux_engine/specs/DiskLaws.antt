@@ -1,5 +1,5 @@
 -- What a decoded disk says of each of its sectors, in its image and in its lines.
-use Rattle.std.specs.Prelude.{◌≡◌, ◌==◌, ◌<◌, ℕ, ◌+◌, ◌-◌, ◌++◌, Bool, false, List, [], ◌∷◌, length, take, drop, replicate, slice_get, sum_by, None, Some}
+use Rattle.std.specs.Prelude.{◌≡◌, ◌==◌, ◌<◌, ℕ, ◌+◌, ◌-◌, ◌++◌, Bool, false, List, [], ◌∷◌, length, take, drop, replicate, slice_get, sum_by, Option, None, Some}
 use Rattle.std.specs.List.{slice_split}
 use Rattle.flux_base.specs.declared.track.TrackId.{TrackId}
 use Rattle.frame_law.specs.Readings.{AreReadings}
@@ -7,12 +7,13 @@ use Rattle.kryo_stream.specs.Stream.{times, indexes}
 use Rattle.sector_images.specs.Formats.{row, zone}
 use Rattle.sector_images.specs.Places.{IsSector, bytes_of, place_of, sector_place, tracks}
 use Rattle.sector_images.specs.declared.format.Format.{Format}
+use Rattle.sector_report.specs.LineLaws.{LineFits, line_ends}
 use Rattle.sector_report.specs.Lines.{sector_text}
 use Rattle.turn_merge.specs.Readings.{verdict}
 use Rattle.turn_merge.specs.declared.verdict.Place.{Place}
 use Rattle.turn_merge.specs.declared.verdict.Verdict.{Verdict}
 use Rattle.turn_merge.specs.declared.verdict.Verdict.TheVariants.{Good}
-use Rattle.flux_engine.specs.Disks.{Decoded, IsDecoded, decoded_count, part_at}
+use Rattle.flux_engine.specs.Disks.{Decoded, IsDecoded, Stop, decoded_count, part_at}
 use Rattle.disk_recordings.specs.Members.{header_at, sector_at}
 use Rattle.flux_engine.specs.Recordings.{track_at, cells_of}
 use Rattle.flux_engine.specs.Streams.{stream_at}
@@ -72,16 +73,44 @@ pub record HasLine (text line : List ℕ) (number : ℕ) : Type 0 where
   pub ends : line ≡ front ++ 10 ∷ []
   pub there : slice_get (lines_in text) number ≡ Some front
 
+-- the sectors of the tracks before one
+abbrev pub sectors_before : Format → ℕ → ℕ
+sectors_before format n = sum_by (λ track. (zone format track.cylinder).sectors) (take n (tracks format))
+
 -- the lines before that of a sector of track number n: those of all sectors of the tracks before it, and of the sectors of
 -- smaller numbers
 abbrev pub line_number : Format → ℕ → ℕ → ℕ
-line_number format n sector = sum_by (λ track. (zone format track.cylinder).sectors) (take n (tracks format)) + (sector - (row format).first_sector)
+line_number format n sector = sectors_before format n + (sector - (row format).first_sector)
 
 -- the report's line of each sector names the sector and its verdict
 abbrev pub LinesNameVerdicts : Type 0
 LinesNameVerdicts = (format : Format) (x : List ℕ) (o : Decoded) (n sector : ℕ) → IsDecodedSector format x o n sector
     → (outcome : Verdict) → HasVerdict format x n sector outcome
     → HasLine o.notes (sector_text (track_at format n) sector outcome) (line_number format n sector)
+
+-- the total line, where the disk was decoded to its end
+abbrev pub total_lines : Option Stop → ℕ
+total_lines None = 1
+total_lines (Some stop) = 0
+
+-- the report has a line for each sector of the decoded tracks, and the total line; it has no other
+abbrev pub ReportsHaveNoOtherLines : Type 0
+ReportsHaveNoOtherLines = (format : Format) (x : List ℕ) (o : Decoded) → IsDecoded format x o
+    → line_ends o.notes ≡ sectors_before format (decoded_count format o.stop) + total_lines o.stop
+
+-- Where a sector's line, of whatever numbers that fit in it, is a line of the report, it is the line of that sector of a
+-- decoded track, and its verdict is the one that the line names.
+pub record IsTold (format : Format) (x : List ℕ) (o : Decoded) (track : TrackId) (sector : ℕ) (outcome : Verdict) (number : ℕ) : Type 0 where
+  pub n : ℕ
+  pub track_is : track ≡ track_at format n
+  pub decoded : IsDecodedSector format x o n sector
+  pub has : HasVerdict format x n sector outcome
+  pub number_is : number ≡ line_number format n sector
+
+abbrev pub LinesTellVerdicts : Type 0
+LinesTellVerdicts = (format : Format) (x : List ℕ) (o : Decoded) → IsDecoded format x o
+    → (track : TrackId) (sector : ℕ) (outcome : Verdict) (number : ℕ) → LineFits track sector outcome
+    → HasLine o.notes (sector_text track sector outcome) number → IsTold format x o track sector outcome number
 
 -- the bytes at a sector's place in a disk's image
 abbrev pub bytes_at : Format → List ℕ → TrackId → ℕ → List ℕ

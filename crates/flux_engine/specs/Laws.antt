@@ -1,5 +1,5 @@
 -- What the definitions of a decoded track and disk come to, in plain words.
-use Rattle.std.specs.Prelude.{◌≡◌, ◌≤◌, ℕ, ◌-◌, ◌++◌, List, length, take, drop}
+use Rattle.std.specs.Prelude.{◌≡◌, ◌≤◌, ℕ, ◌-◌, ◌++◌, List, length, take, drop, Some}
 use Rattle.flux_base.specs.declared.track.TrackId.{TrackId}
 use Rattle.sector_images.specs.Formats.{row}
 use Rattle.sector_images.specs.Places.{IsSector, place_of, sector_place, tracks}
@@ -7,7 +7,7 @@ use Rattle.sector_images.specs.declared.format.Format.{Format}
 use Rattle.turn_merge.specs.Readings.{verdict}
 use Rattle.turn_merge.specs.declared.verdict.Place.{Place}
 use Rattle.turn_merge.specs.declared.verdict.Verdict.TheVariants.{Good}
-use Rattle.flux_engine.specs.Disks.{AreParts, images, lines, Decoded, IsDecoded}
+use Rattle.flux_engine.specs.Disks.{AreParts, images, lines, Decoded, IsDecoded, Stop}
 use Rattle.disk_recordings.specs.Members.{sector_at}
 use Rattle.flux_engine.specs.Recordings.{cells_of}
 use Rattle.flux_engine.specs.Tracks.{Part, IsPart, place_at, readings_of}
@@ -24,6 +24,15 @@ BeginsWith whole part = (rest : List ℕ) × (whole ≡ part ++ rest)
 abbrev pub FirstTracksLead : Type 0
 FirstTracksLead = (format : Format) (x : List ℕ) (parts : List Part) (o : Decoded) → AreParts format x parts → length parts ≤ length (tracks format)
     → IsDecoded format x o → BeginsWith o.image (images parts) × BeginsWith o.notes (lines parts)
+
+-- what the first tracks of an input come to is what they come to in every longer input
+abbrev pub PartsStay : Type 0
+PartsStay = (format : Format) (x later : List ℕ) (parts : List Part) → AreParts format x parts → AreParts format (x ++ later) parts
+
+-- what an input comes to that ends before all its tracks do is what the outcome of every longer input begins with
+abbrev pub CutInputsLead : Type 0
+CutInputsLead = (format : Format) (x later : List ℕ) (d o : Decoded) (stop : Stop) → IsDecoded format x d → d.stop ≡ Some stop
+    → IsDecoded format (x ++ later) o → BeginsWith o.image d.image × BeginsWith o.notes d.notes
 
 -- A sector of a track is good with its first good reading at this place: there the recovered cells of the track hold the
 -- sector, with its header, data and check values, in the turn that the place names; its bytes are those at its place in the

@@ -1,11 +1,13 @@
 //! What the definitions behind `decode_track` and `decode_disk` come to.
 
-ghost use Rattle.flux_engine.specs.DiskLaws.{EachHasOneVerdict, GoodIsRightOnDisks, LinesNameVerdicts, OthersAreZeros, PartsStandAtTheirPlaces, WholeDisksFillImages};
-ghost use Rattle.flux_engine.specs.Laws.{OneOutcome, FirstTracksLead, GoodIsRight};
+ghost use Rattle.flux_engine.specs.DiskLaws.{EachHasOneVerdict, GoodIsRightOnDisks, LinesNameVerdicts, LinesTellVerdicts, OthersAreZeros, PartsStandAtTheirPlaces, ReportsHaveNoOtherLines, WholeDisksFillImages};
+ghost use Rattle.flux_engine.specs.Laws.{CutInputsLead, FirstTracksLead, GoodIsRight, OneOutcome, PartsStay};
 
 use disk_recordings::tracks_are_read;
-use sector_images::{sectors_fill_tracks, tracks_fill_images};
-use sector_report::sectors_have_one_line;
+use kryo_stream::growth_law;
+use phase_loop::cells_are_few;
+use sector_images::{sectors_fill_tracks, sectors_lie_in_images, tracks_fill_images};
+use sector_report::{sector_lines_tell, sectors_have_one_line, totals_have_one_line};
 
 /// An input comes to one outcome, and what its first tracks come to is what the outcome begins with.
 pub fn outcomes_are_one()
@@ -13,6 +15,16 @@ pub fn outcomes_are_one()
     ensures first { FirstTracksLead }
 {
     tracks_are_read()
+}
+
+/// What the first tracks of an input come to is what they come to in every longer one; so what is written of an
+/// input that is cut, in its image and in its report, is what those of the whole input begin with.
+pub fn parts_stay()
+    ensures parts { PartsStay }
+    ensures cut { CutInputsLead }
+{
+    tracks_are_read();
+    growth_law()
 }
 
 /// A sector is called good only where the place that is named has cells that hold it, in the turn that is
@@ -51,4 +63,20 @@ pub fn good_is_right_on_disks()
     sectors_fill_tracks();
     sectors_have_one_line();
     tracks_fill_images()
+}
+
+/// The report of a decoded disk has one line for each sector of its decoded tracks, and the total line where all
+/// tracks were decoded. It has no other line, and where a sector's line is among them, that sector has the
+/// verdict that the line names.
+pub fn lines_tell_verdicts()
+    ensures count { ReportsHaveNoOtherLines }
+    ensures told { LinesTellVerdicts }
+{
+    tracks_are_read();
+    sectors_have_one_line();
+    totals_have_one_line();
+    sector_lines_tell();
+    growth_law();
+    cells_are_few();
+    sectors_lie_in_images()
 }

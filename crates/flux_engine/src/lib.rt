@@ -28,7 +28,10 @@ mod writing;
 pub use disk::decode_disk;
 pub use disk_streams::write_disk;
 pub use fault::EngineFault;
-pub use laws::{good_is_right, good_is_right_on_disks, outcomes_are_one, parts_fill_images};
+pub use laws::{
+    good_is_right, good_is_right_on_disks, lines_tell_verdicts, outcomes_are_one,
+    parts_fill_images, parts_stay,
+};
 pub use ring_making::track_ring;
 pub use room::DiskRoom;
 pub use track::decode_track;
