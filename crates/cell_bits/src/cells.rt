@@ -38,7 +38,7 @@ impl Model for Cells {
 }
 
 impl Cells {
-    /// The empty list, which takes no memory.
+    /// The empty list.
     pub fn new(alloc: Global) -> Cells
         ensures { result.cells ≡ [] }
     {

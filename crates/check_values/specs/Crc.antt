@@ -1,5 +1,6 @@
--- The cyclic redundancy check of the IBM 3740 and System 34 formats: the message's bits, high bit first, are a
--- polynomial over the bits, and the check value is its remainder by x^16 + x^12 + x^5 + 1.
+-- The cyclic redundancy check of the IBM 3740 and System 34 formats: the message's bits, high bit first, are a polynomial
+-- over the bits. The check value is the remainder by x^16 + x^12 + x^5 + 1 of the message times x^16, to whose highest 16
+-- powers the start is added.
 use Rattle.std.specs.Prelude.{ℕ, ◌*◌, ◌%◌, ◌^◌, List, [], ◌∷◌, fold, if◌then◌else◌, nat_eq, bit_xor}
 use Rattle.std.specs.Int.{bit_at}
 use Rattle.std.specs.List.{flat_map}

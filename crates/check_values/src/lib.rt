@@ -1,5 +1,5 @@
 //! The check values of recorded sectors: the cyclic redundancy check of the IBM formats, and the
-//! exclusive or of the Commodore, Apple and Amiga formats. No call takes memory.
+//! exclusive or of the Commodore, Apple and Amiga formats. No answer is for want of memory.
 #![tactic(auto)]
 
 mod message;

@@ -14,7 +14,7 @@ use sector_images::track_count;
 use sector_report::{Totals, total_line, write_line};
 
 /// Decodes all tracks of a disk in order, as `decode_track` does each, and then writes the total line to
-/// `notes`. It takes no memory.
+/// `notes`. No answer is for want of memory.
 ///
 /// What stands behind the last stream is not looked at. After a fault nothing more is read or written, and
 /// the tracks before are written whole.

@@ -24,7 +24,7 @@ pub(crate) struct Tools {
     pub book: Book,
 }
 
-/// All that decoding a disk of one format needs, less than 128 MiB: no call on it takes memory.
+/// All that decoding a disk of one format needs, less than 128 MiB: no answer of a call on it is for want of memory.
 ///
 /// Contracts see the format, the bytes that were taken from the source and not used yet, whether a stream was
 /// read, the number of the next track, and whether a call answered a fault.

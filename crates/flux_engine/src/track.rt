@@ -24,7 +24,7 @@ use sector_report::Totals;
 
 /// Decodes the next track of a disk: reads its stream, writes its part of the image, a piece for each
 /// sector, in the order of their places there, and then its lines by the sectors' numbers, each in one
-/// piece, and gives its totals. It takes no memory.
+/// piece, and gives its totals. No answer is for want of memory.
 ///
 /// The tracks come in order from number 0, and a room is not used again after a fault. `Refused` names the
 /// first fault of the stream; then, and after `ReadFault`, nothing was written. After `ImageFault` the notes

@@ -7,7 +7,7 @@ use flux_writer::track_law;
 use sector_images::sectors_lie_in_images;
 
 /// The stream of each track of an image is one stream without a fault that captures the track's ring: its
-/// transitions are the ring's ones, within the bounds of disturbance, over more than two turns.
+/// transitions are the ring's ones, within the bounds of disturbance, over two turns or more.
 pub fn streams_are_captures()
     ensures { WritesCaptures }
 {

@@ -6,7 +6,7 @@ use sector_images::{Format, image_size, ring_cells, track_id};
 use std::alloc::Global;
 use std::marker::Model;
 
-/// All that writing the streams of an image of one format needs: no call on it takes memory.
+/// All that writing the streams of an image of one format needs: no answer of a call on it is for want of memory.
 ///
 /// Contracts see the format.
 #[derive(Drop)]

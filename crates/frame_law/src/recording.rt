@@ -97,7 +97,7 @@ pub trait Recording {
         ensures room { room cells.old ≤ room cells.new };
 
     /// What is read at the place: a good sector where one stands whole, and a bad one where only its header
-    /// does. Then `buffer` has a good sector's bytes, and is else empty. It takes no memory.
+    /// does. Then `buffer` has a good sector's bytes, and is else empty.
     fn read_at(
         &self,
         cells: &Cells,

@@ -7,7 +7,7 @@ use flux_base::TrackId;
 
 /// The first reading at a place that is at least `from`: the least such place at which a header of the track
 /// stands, and what is read there. None exactly where there is none. The buffer then has a good sector's
-/// bytes, and is else empty. It takes no memory.
+/// bytes, and is else empty.
 pub fn next_reading<R: Recording>(
     recording: &R,
     cells: &Cells,

@@ -35,7 +35,7 @@ impl Model for TrackFlux {
 }
 
 impl TrackFlux {
-    /// A track without transitions and without turns. It takes no memory.
+    /// A track without transitions and without turns.
     pub fn new(alloc: Global) -> TrackFlux
         ensures times { result.times ≡ [] }
         ensures indexes { result.indexes ≡ [] }

@@ -1,5 +1,5 @@
 //! The formats of sector images: which there are, where a track and a sector lie in the image, and how
-//! tracks are recorded. No call takes memory.
+//! tracks are recorded. No answer is for want of memory.
 #![tactic(auto)]
 
 mod format;

@@ -10,7 +10,7 @@ use std::alloc::Global;
 use std::marker::Model;
 
 /// What is known of each sector of a track. Contracts see what it stands for: a list of readings, in the
-/// order in which they were noted. Only `new` takes memory.
+/// order in which they were noted. Only `new` may answer want of memory.
 #[derive(Debug, Drop)]
 pub struct Book {
     first_sector: u8,
