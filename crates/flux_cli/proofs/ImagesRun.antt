@@ -1,5 +1,5 @@
 -- What `write` does by what the writing of the disk says.
-use Rattle.std.proofs.Common.{◌≡◌, ◌≢◌, ◌==◌, ◌≤◌, ◌<◌, ℕ, ◌+◌, Bool, if◌then◌else◌, inl, inr, List, [], ◌++◌, length, drop, take, min, Option, Ok, Err, refl, sym, ap, ◌∙◌, subst, arith, append-nil, length-append, eq-eqb}
+use Rattle.std.proofs.Common.{◌≡◌, ◌≢◌, ◌≤◌, ℕ, Bool, if◌then◌else◌, inl, inr, List, [], ◌++◌, length, drop, take, min, Option, Ok, Err, refl, sym, ap, ◌∙◌, subst, arith, append-nil, length-append, eq-eqb}
 use Rattle.std.proofs.KnownBytes.{Appends-nil, Keeps-refl}
 use Rattle.std.proofs.lemmas.Bool.{cases_lt, ne_eqb}
 use Rattle.std.proofs.lemmas.List.{drop_all}

@@ -1,5 +1,5 @@
 -- What a run does that reads nothing.
-use Rattle.std.proofs.Common.{List, [], refl}
+use Rattle.std.proofs.Common.{[], refl}
 use Rattle.std.specs.Io.KnownBytes.{Consumes}
 use Rattle.flux_base.specs.declared.status.Status.TheVariants.{Usage, NotesFault}
 use Rattle.sector_report.specs.Lines.{usage_text}

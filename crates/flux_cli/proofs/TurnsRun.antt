@@ -1,7 +1,5 @@
 -- What `turns` does by what the reading of its stream says.
-use Rattle.std.proofs.Common.{◌≡◌, ℕ, ◌+◌, ◌≤◌, false, List, [], ◌++◌, length, drop, take, Option, Some, None, Ok, Err, refl, sym, ap, ◌∙◌, subst, arith, length-append}
-use Rattle.std.specs.Io.KnownBytes.{Appends}
-use Rattle.flux_base.specs.Outside.{AppendsPart}
+use Rattle.std.proofs.Common.{◌≡◌, ℕ, ◌+◌, ◌≤◌, false, List, [], ◌++◌, length, drop, take, Some, None, Ok, Err, refl, sym, ap, ◌∙◌, subst, arith, length-append}
 use Rattle.flux_base.specs.declared.status.Status.TheVariants.{AllGood, Refused as RefusedStatus, ReadFault as ReadFaultStatus, ImageFault, NotesFault}
 use Rattle.flux_engine.specs.Answers.{IsTakenBehind}
 use Rattle.flux_engine.specs.Streams.{behind}

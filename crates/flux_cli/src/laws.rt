@@ -4,9 +4,12 @@ ghost use Rattle.std.specs.Prelude.{◌≡◌, ℕ, List};
 ghost use Rattle.flux_cli.specs.Work.{Outcome};
 ghost use Rattle.flux_cli.specs.Works.{IsOutcome};
 
+use sector_images::words_name_formats;
+
 /// The words and the input decide the outcome: there is one at most.
 pub fn outcomes_are_one()
     ensures { (words : List (List ℕ)) (x : List ℕ) (a b : Outcome) → IsOutcome words x a → IsOutcome words x b → a ≡ b }
 {
+    words_name_formats();
     flux_engine::outcomes_are_one()
 }

@@ -9,6 +9,7 @@ mod places;
 pub use format::Format;
 pub use laws::{
     sectors_fill_tracks, sectors_lie_in_images, tracks_fill_images, tracks_keep_bounds,
+    words_name_formats,
 };
 pub use places::{
     image_place, image_sector, image_size, nominal, ring_cells, track_bytes, track_count, track_id,
