@@ -6,3 +6,4 @@ pub mod ImagesRun
 pub mod TurnsRun
 pub mod Runs
 pub mod Outcomes
+pub mod Captured

@@ -29,7 +29,7 @@ d_is_w same = omega (arith, same)
 r_is_w : ◌≡◌ {A = ℕ} 114 119 → ⊥
 r_is_w same = omega (arith, same)
 
-one_command : WordsNameFormats → (a b : Command) → words_of a ≡ words_of b → a ≡ b
+pub one_command : WordsNameFormats → (a b : Command) → words_of a ≡ words_of b → a ≡ b
 one_command names Turns Turns same = refl
 one_command names Turns (Decode g) same = absurd (cc)
 one_command names Turns (Report g) same = absurd (cc)

@@ -6,3 +6,4 @@ pub mod DisksWork
 pub mod ImagesWork
 pub mod Works
 pub mod Runs
+pub mod Captured

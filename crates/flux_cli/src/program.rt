@@ -1,6 +1,7 @@
 ghost use Rattle.std.specs.Prelude.{◌≢◌, Some};
 ghost use Rattle.flux_base.specs.Moments.{moment};
 ghost use Rattle.flux_base.specs.declared.status.Status.{Status};
+ghost use Rattle.flux_cli.specs.Captured.{RunsCaptured, RunsErased};
 ghost use Rattle.flux_cli.specs.Runs.{Does, Ran, outside};
 ghost use Rattle.flux_cli.specs.declared.command.Command.TheVariants.{Turns};
 ghost use Rattle.kryo_stream.specs.Room.{IsFresh};
@@ -9,9 +10,11 @@ use crate::command::{Command, command_of};
 use crate::disks::{decode, report};
 use crate::images::write;
 use crate::turns::write_turns;
+use captured_disks::captured_disks_decode;
 use flux_base::{Memory, Sink, Source, Status, Word, write_whole};
 use flux_engine::{DiskRoom, WriteRoom};
 use kryo_stream::{RoomFault, StreamRoom};
+use sector_images::words_name_formats;
 use sector_report::{refused_line, usage_line, write_line};
 use std::alloc::Global;
 
@@ -26,6 +29,35 @@ pub fn run<S: Source, W: Sink, N: Sink>(
 ) -> Status
     // It finished, and gave all that the input comes to; or a counted fault of one object cut it at a place that the
     // command's row states; or there was no memory to begin, and source, image and notes are as they were.
+    ensures ran { Ran words.now result
+        (outside (moment S.left S.faults source.old) (moment W.written W.faults image.old) (moment N.written N.faults notes.old))
+        (outside (moment S.left S.faults source.new) (moment W.written W.faults image.new) (moment N.written N.faults notes.new)) }
+
+    // From any streams that carry an image's written tracks, disturbed within the bounds, `decode` writes exactly that
+    // image, every sector good; or a counted fault cut it, or there was no memory to begin.
+    ensures captured { RunsCaptured words.now result
+        (outside (moment S.left S.faults source.old) (moment W.written W.faults image.old) (moment N.written N.faults notes.old))
+        (outside (moment S.left S.faults source.new) (moment W.written W.faults image.new) (moment N.written N.faults notes.new)) }
+
+    // Beside erased stretches it keeps each sector of which one place lies whole between them, and calls no sector
+    // contradictory.
+    ensures erased { RunsErased words.now result
+        (outside (moment S.left S.faults source.old) (moment W.written W.faults image.old) (moment N.written N.faults notes.old))
+        (outside (moment S.left S.faults source.new) (moment W.written W.faults image.new) (moment N.written N.faults notes.new)) }
+{
+    words_name_formats();
+    captured_disks_decode();
+    run_words(alloc, words, source, image, notes)
+}
+
+/// Does what the words ask for.
+fn run_words<S: Source, W: Sink, N: Sink>(
+    alloc: Global,
+    words: &[Word],
+    source: &mut S,
+    image: &mut W,
+    notes: &mut N,
+) -> Status
     ensures { Ran words.now result
         (outside (moment S.left S.faults source.old) (moment W.written W.faults image.old) (moment N.written N.faults notes.old))
         (outside (moment S.left S.faults source.new) (moment W.written W.faults image.new) (moment N.written N.faults notes.new)) }

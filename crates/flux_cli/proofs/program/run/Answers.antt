@@ -1,29 +1,8 @@
-use Rattle.std.proofs.Common.{None, arith}
-use Rattle.std.proofs.KnownBytes.{Appends-nil, Consumes-nil, Keeps-refl}
-use Rattle.flux_cli.proofs.Runs.{usage-cut, usage-finish}
+use Rattle.flux_cli.proofs.Captured.{runs_captured, runs_erased}
 use Rattle.flux_cli.proofs.program.run.Goals as goal
 
-pub returns-in-Ok : goal.returns-in-Ok
-returns-in-Ok g c = record {
-  asked = None;
-  asks = c.in-None.ensures;
-  does = record {
-    answer = tt;
-    says = usage-finish _ _ (Consumes-nil _) (Appends-nil _) (rw (c.as_bytes.ensures.value, c.usage_line.ensures) at c.in-Ok.ensures.ok);
-    counts = record { source = omega arith; image = omega arith; notes = c.in-Ok.ensures.later };
-  };
-}
+pub returns-clause-captured : goal.returns-clause-captured
+returns-clause-captured g c = runs_captured c.words_name_formats.ensures c.captured_disks_decode.ensures.whole _ _ _ _ c.run_words.ensures
 
-pub returns-in-Err : goal.returns-in-Err
-returns-in-Err g c = record {
-  asked = None;
-  asks = c.in-None.ensures;
-  does = record {
-    answer = tt;
-    says = (
-      usage-cut _ _ (Consumes-nil _) (Keeps-refl _) (rw (c.as_bytes.ensures.value, c.usage_line.ensures) at c.in-Err.ensures.err),
-      c.in-Err.ensures.cause,
-    );
-    counts = record { source = omega arith; image = omega arith; notes = c.in-Err.ensures.later };
-  };
-}
+pub returns-clause-erased : goal.returns-clause-erased
+returns-clause-erased g c = runs_erased c.words_name_formats.ensures c.captured_disks_decode.ensures.erased _ _ _ _ c.run_words.ensures

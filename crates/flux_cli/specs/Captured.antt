@@ -1,0 +1,50 @@
+-- What a run of `decode` does with the streams of a captured disk.
+use Rattle.std.specs.Prelude.{◌≡◌, ℕ, List, Some}
+use Rattle.flux_base.specs.Outside.{Rose}
+use Rattle.flux_base.specs.declared.status.Status.{Status}
+use Rattle.flux_base.specs.declared.status.Status.TheVariants.{AllGood, NotAllGood, Refused, Usage, ReadFault, ImageFault, NotesFault, Memory}
+use Rattle.sector_images.specs.declared.format.Format.{Format}
+use Rattle.captured_disks.specs.Headline.{DecodesRest, DecodesWhole}
+use Rattle.captured_disks.specs.Inputs.{IsCapturedDisk, IsErasedDisk}
+use Rattle.flux_engine.specs.Disks.{Decoded}
+use Rattle.flux_engine.specs.Rings.{IsImage}
+use Rattle.flux_cli.specs.Commands.{words_of}
+use Rattle.flux_cli.specs.Runs.{Outside, growth}
+use Rattle.flux_cli.specs.Work.{Got}
+use Rattle.flux_cli.specs.declared.command.Command.TheVariants.{Decode}
+
+-- the sinks got the image and the report of a decoded disk, of which this holds
+pub record Wrote {S W N : Type 0} (Holds : Decoded → Type 0) (before after : Outside S W N) : Type 0 where
+  pub decoded : Decoded
+  pub image_got : Got (growth before.image after.image) decoded.image
+  pub notes_got : Got (growth before.notes after.notes) decoded.notes
+  pub holds : Holds decoded
+
+-- all was written; or a fault of one object, which that object counted, cut the run; or there was no memory to begin
+abbrev pub WroteOrCut : {S W N : Type 0} → (Done : Status → Type 0) → Status → (before after : Outside S W N) → Type 0
+WroteOrCut Done AllGood before after = Done AllGood
+WroteOrCut Done NotAllGood before after = Done NotAllGood
+WroteOrCut Done Refused before after = ⊥
+WroteOrCut Done Usage before after = ⊥
+WroteOrCut Done ReadFault before after = Rose before.source.faults after.source.faults
+WroteOrCut Done ImageFault before after = Rose before.image.faults after.image.faults
+WroteOrCut Done NotesFault before after = Rose before.notes.faults after.notes.faults
+WroteOrCut Done Memory before after = after ≡ before
+
+-- The words ask to decode a disk of this format, and the source tells this input.
+pub record Decodes {S W N : Type 0} (words : List (List ℕ)) (before : Outside S W N) (format : Format) (x : List ℕ) : Type 0 where
+  pub words_are : words ≡ words_of (Decode format)
+  pub input : before.source.bytes ≡ Some x
+
+-- The headline. From any streams that carry an image's written tracks, disturbed within the bounds, the run writes exactly that
+-- image, every sector good, save for a counted fault or want of memory.
+abbrev pub RunsCaptured : {S W N : Type 0} → (words : List (List ℕ)) → Status → (before after : Outside S W N) → Type 0
+RunsCaptured words status before after = (format : Format) (image x : List ℕ) → Decodes words before format x → IsImage format image
+    → IsCapturedDisk format image x
+    → WroteOrCut (λ done. (done ≡ AllGood) × Wrote (DecodesWhole format image) before after) status before after
+
+-- Beside erased stretches it keeps every sector of which one place lies whole between them.
+abbrev pub RunsErased : {S W N : Type 0} → (words : List (List ℕ)) → Status → (before after : Outside S W N) → Type 0
+RunsErased words status before after = (format : Format) (image x : List ℕ) → Decodes words before format x → IsImage format image
+    → (disk : IsErasedDisk format image x)
+    → WroteOrCut (λ done. Wrote (λ o. DecodesRest format image x o disk) before after) status before after
