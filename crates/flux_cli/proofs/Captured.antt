@@ -1,5 +1,5 @@
 -- From what a run did to what it does with a captured disk.
-use Rattle.std.specs.Prelude.{◌≡◌, ◌==◌, ℕ, ◌++◌, Bool, true, false, List, [], if◌then◌else◌, Option, Some, None, refl}
+use Rattle.std.specs.Prelude.{◌≡◌, ◌==◌, ℕ, ◌++◌, Bool, true, false, List, if◌then◌else◌, Option, Some, None, refl}
 use Rattle.std.proofs.Common.{ap, sym, subst, ◌∙◌, append-nil}
 use Rattle.std.proofs.lemmas.Bool.{eq-eqb}
 use Rattle.flux_base.specs.declared.status.Status.{Status}
@@ -8,15 +8,13 @@ use Rattle.sector_images.specs.Formats.{WordsNameFormats}
 use Rattle.sector_images.specs.declared.format.Format.{Format}
 use Rattle.sector_report.specs.declared.totals.Totals.{Totals}
 use Rattle.captured_disks.specs.Headline.{CapturedDisksDecode, DecodesRest, DecodesWhole, ErasedDisksDecode}
-use Rattle.captured_disks.specs.Inputs.{IsCapturedDisk, IsErasedDisk}
+use Rattle.captured_disks.specs.Inputs.{IsErasedDisk}
 use Rattle.flux_engine.specs.Disks.{Decoded, IsDecoded, Stop}
-use Rattle.flux_engine.specs.Rings.{IsImage}
 use Rattle.flux_cli.specs.Captured.{Decodes, RunsCaptured, RunsErased, Wrote, WroteOrCut}
 use Rattle.flux_cli.specs.Commands.{AskFor, words_of}
-use Rattle.flux_cli.specs.DisksWork.{decode_outcome, decode_work, refusal_of, status_of}
-use Rattle.flux_cli.specs.Runs.{Does, Finished, Outside, Ran, Says, growth}
+use Rattle.flux_cli.specs.DisksWork.{decode_work, refusal_of, status_of}
+use Rattle.flux_cli.specs.Runs.{Finished, Outside, Ran, Says, growth}
 use Rattle.flux_cli.specs.Work.{Got, Outcome}
-use Rattle.flux_cli.specs.Works.{work_of}
 use Rattle.flux_cli.specs.declared.command.Command.{Command}
 use Rattle.flux_cli.specs.declared.command.Command.TheVariants.{Decode}
 use Rattle.flux_cli.proofs.Outcomes.{one_command}
