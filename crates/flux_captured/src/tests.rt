@@ -1,0 +1,7 @@
+mod bounds;
+mod disturbed;
+mod drive;
+mod erased;
+mod pc_disk;
+mod streams;
+mod tracks;
