@@ -9,14 +9,13 @@ use Rattle.sector_images.specs.Formats.{Zone, commodore_zone, zone}
 use Rattle.sector_images.specs.declared.format.Format.{Format}
 use Rattle.sector_images.specs.declared.format.Format.TheVariants.{Ibm3740, Ibm360, Ibm720, Ibm1440, Amiga, C1541, C1541Forty, AppleDo, ApplePo}
 use Rattle.decoded_rings.specs.Pieces.{ERASED_ZEROS, RingPiece, cells_of_ring_pieces, piece_cells}
-use Rattle.flux_engine.specs.Captures.{Capture, mean_cell}
+use Rattle.flux_engine.specs.Captures.{Capture, ErasedCapture, mean_cell}
 use Rattle.phase_loop.specs.Start.{FINE_PER_TICK}
 use Rattle.flux_engine.specs.DiskLaws.{cells_at}
 use Rattle.flux_engine.specs.Recordings.{cells_of, track_at}
 use Rattle.flux_engine.specs.Rings.{IsRing, nominal_of, ring_cells_of, ring_of}
 use Rattle.flux_engine.specs.Streams.{stream_at}
 use Rattle.captured_disks.specs.Frames.{ring_piece}
-use Rattle.captured_disks.specs.Inputs.{ErasedCapture}
 use Rattle.phase_loop.specs.Pieces.{CarryPieces, IsPiece, Piece, RecoversPiecesOfTurns, cells_of_piece, cells_of_pieces}
 use Rattle.captured_disks.proofs.Streams.{IsStreamNumber}
 
@@ -74,7 +73,7 @@ module _ (x : List ℕ) (ring : List Bool) (nominal : ℕ) (capture : Capture x 
   erased_capture = record {
     no_fault = capture.no_fault;
     whole = capture.whole;
-    piece = whole_piece;
+    first = whole_piece;
     later = [];
     carried = record {
       cut = sym (append-nil (times x));
@@ -88,12 +87,12 @@ module _ (x : List ℕ) (ring : List Bool) (nominal : ℕ) (capture : Capture x 
 -- the recovered cells of stream number k
 pub cells_are : RecoversPiecesOfTurns → (format : Format) (image x : List ℕ) (k : ℕ) (bytes : List ℕ) → IsRing (ring_cells_of format k) (ring_of format image k)
     → IsStreamNumber x k bytes → (capture : ErasedCapture bytes (ring_of format image k) (nominal_of format k))
-    → cells_at format x k ≡ cells_of_ring_pieces (ring_of format image k) (ring_piece capture.piece) (map ring_piece capture.later)
+    → cells_at format x k ≡ cells_of_ring_pieces (ring_of format image k) (ring_piece capture.first) (map ring_piece capture.later)
 cells_are recovers format image x k bytes ring is capture =
     ap (λ (ts : List ℕ). cells_of format (track_at format k) ts (indexes (stream_at x k))) is.times_are
     ∙ ap (cells_of format (track_at format k) (times bytes)) is.indexes_are
     ∙ recovers (nominal_of format k) (turn_length (indexes bytes) 1) (ring_cells_of format k) (times bytes) (is_nominal format (track_at format k).cylinder)
-    (ring_of format image k) capture.piece capture.later ring.spaced
-    (subst (λ (cells : ℕ). CarryPieces (nominal_of format k) (FINE_PER_TICK * turn_length (indexes bytes) 1 / cells) (ring_of format image k) (times bytes) capture.piece capture.later)
+    (ring_of format image k) capture.first capture.later ring.spaced
+    (subst (λ (cells : ℕ). CarryPieces (nominal_of format k) (FINE_PER_TICK * turn_length (indexes bytes) 1 / cells) (ring_of format image k) (times bytes) capture.first capture.later)
     ring.cells_are capture.carried)
-    ∙ cells-same (ring_of format image k) capture.piece capture.later
+    ∙ cells-same (ring_of format image k) capture.first capture.later

@@ -90,12 +90,12 @@ module _ (laws : Laws) (format : Format) (image x : List ℕ) (o : Decoded) (is 
 
     cells : (n : ℕ) (known : n < length (tracks format))
         → cells_at format x n
-        ≡ cells_of_ring_pieces (ring_of format image n) (ring_piece (erased.captured n known).piece) (map ring_piece (erased.captured n known).later)
+        ≡ cells_of_ring_pieces (ring_of format image n) (ring_piece (erased.captured n known).first) (map ring_piece (erased.captured n known).later)
     cells n known = cells_are laws.recovers format image x n (erased.stream n) (is_ring n known) (stream n known) (erased.captured n known)
 
     module _ (n : ℕ) (known : n < length (tracks format)) where
       abbrev first : RingPiece
-      first = ring_piece (erased.captured n known).piece
+      first = ring_piece (erased.captured n known).first
 
       abbrev later : List RingPiece
       later = map ring_piece (erased.captured n known).later

@@ -74,7 +74,7 @@ IsLost format o n sector =
 -- the pieces of track number n
 abbrev pub pieces_of : (format : Format) (image x : List ℕ) → IsErasedDisk format image x → (n : ℕ) → n < length (tracks format) → List RingPiece
 pieces_of format image x disk n known =
-    ring_piece (disk.captured n known).piece ∷ map ring_piece (disk.captured n known).later
+    ring_piece (disk.captured n known).first ∷ map ring_piece (disk.captured n known).later
 
 -- All tracks are decoded. A sector of which one place, with its whole frame, lies in one piece of its track is kept; every
 -- other one is kept or lost, so that no line says contradictory; and no place at which a sector stands whole, as at each good

@@ -1,14 +1,12 @@
 -- The inputs that a decoder answers for: the streams of a disk's tracks, as a drive captures them that keeps within the bounds
 -- of disturbance.
-use Rattle.std.specs.Prelude.{◌≡◌, ◌<◌, ℕ, Bool, List, [], ◌++◌, flat_map, length, None}
+use Rattle.std.specs.Prelude.{◌≡◌, ◌<◌, ℕ, List, [], ◌++◌, flat_map, length}
 use Rattle.std.specs.List.{range_with_len}
 use Rattle.kryo_stream.specs.Joined.{MayStandBefore}
-use Rattle.kryo_stream.specs.Stream.{first_fault, indexes, stream_length, times}
 use Rattle.sector_images.specs.Places.{tracks}
 use Rattle.sector_images.specs.declared.format.Format.{Format}
-use Rattle.flux_engine.specs.Captures.{Capture, mean_cell}
+use Rattle.flux_engine.specs.Captures.{Capture, ErasedCapture}
 use Rattle.flux_engine.specs.Rings.{IsImage, nominal_of, ring_of, streams_of}
-use Rattle.phase_loop.specs.Pieces.{CarryPieces, Piece}
 
 -- The input is so many streams, one after another, and then any bytes. Before each stream but the first, padding may stand.
 pub record AreJoined (count : ℕ) (stream : ℕ → List ℕ) (x : List ℕ) : Type 0 where
@@ -24,15 +22,6 @@ pub record IsCapturedDisk (format : Format) (image x : List ℕ) : Type 0 where
   pub stream : ℕ → List ℕ
   pub joined : AreJoined (length (tracks format)) stream x
   pub captured : (k : ℕ) → k < length (tracks format) → Capture (stream k) (ring_of format image k) (nominal_of format k)
-
--- The bytes are one stream without a fault. Its transitions carry the ring in pieces, and between two of them a stretch of the
--- disk is erased. The first turn tells how fast each piece begins.
-pub record ErasedCapture (x : List ℕ) (ring : List Bool) (nominal : ℕ) : Type 0 where
-  pub no_fault : first_fault x ≡ None
-  pub whole : stream_length x ≡ length x
-  pub piece : Piece
-  pub later : List Piece
-  pub carried : CarryPieces nominal (mean_cell (indexes x) (length ring)) ring (times x) piece later
 
 -- A captured disk with erased stretches on any of its tracks.
 pub record IsErasedDisk (format : Format) (image x : List ℕ) : Type 0 where
