@@ -165,3 +165,16 @@ fn the_bounds_are_looked_at(rt: HostRuntime) -> Result<(), Fail> {
     assert!(rt; !is_erased_capture(&ring, 49208, &capture));
     Ok(())
 }
+
+// Transitions of less than two turns may be a piece of the ring, and are no capture of it all.
+#[test]
+fn two_turns_are_asked_for(rt: HostRuntime) -> Result<(), Fail> {
+    let alloc = rt.alloc();
+    let ring = single_density(&rt, alloc)?.ring;
+    let mut capture = captured(alloc, &ring, steady(49208))?;
+    assert!(rt; is_capture(&ring, 49208, &capture));
+    capture.transitions.truncate(1000);
+    assert!(rt; !is_capture(&ring, 49208, &capture));
+    assert!(rt; is_erased_capture(&ring, 49208, &capture));
+    Ok(())
+}
