@@ -13,7 +13,7 @@ use Rattle.flux_engine.specs.DiskLaws.{HasLine, bytes_at, cells_at, line_number}
 use Rattle.flux_engine.specs.Disks.{Decoded, IsDecoded}
 use Rattle.disk_recordings.specs.Members.{sector_at}
 use Rattle.flux_engine.specs.Recordings.{track_at}
-use Rattle.flux_engine.specs.Rings.{IsImage, sector_bytes}
+use Rattle.flux_engine.specs.Rings.{IsImage, sector_bytes, streams_of}
 use Rattle.captured_disks.specs.Frames.{ring_piece, written_track}
 use Rattle.captured_disks.specs.Inputs.{IsCapturedDisk, IsErasedDisk}
 
@@ -58,6 +58,11 @@ pub record DecodesWhole (format : Format) (image : List ℕ) (o : Decoded) : Typ
 abbrev pub CapturedDisksDecode : Type 0
 CapturedDisksDecode = (format : Format) (image x : List ℕ) (o : Decoded) → IsImage format image → IsCapturedDisk format image x
     → IsDecoded format x o → DecodesWhole format image o
+
+-- So what is written of an image decodes to it.
+abbrev pub WrittenDisksDecode : Type 0
+WrittenDisksDecode = (format : Format) (image : List ℕ) (o : Decoded) → IsImage format image
+    → IsDecoded format (streams_of format image) o → DecodesWhole format image o
 
 -- the sector's line says good, and the decoded image has its bytes
 abbrev pub IsKept : Format → List ℕ → Decoded → (n sector : ℕ) → Type 0

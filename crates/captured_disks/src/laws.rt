@@ -1,6 +1,6 @@
 //! What captured disks decode to.
 
-ghost use Rattle.captured_disks.specs.Headline.{CapturedDisksDecode, ErasedDisksDecode};
+ghost use Rattle.captured_disks.specs.Headline.{CapturedDisksDecode, ErasedDisksDecode, WrittenDisksDecode};
 ghost use Rattle.captured_disks.specs.Inputs.{WritesCapturedDisks};
 
 use decoded_rings::own_sectors_are_right;
@@ -31,10 +31,17 @@ pub fn captured_disks_decode()
     parts_fill_images()
 }
 
-/// What is written of an image is a captured disk of that image, without padding and with nothing after it: so decoding it
-/// gives the image.
+/// What is written of an image is a captured disk of that image, without padding and with nothing after it.
 pub fn written_disks_are_captured()
     ensures { WritesCapturedDisks }
 {
     streams_are_captures()
+}
+
+/// So decoding what is written of an image gives the image, and every sector's line says good.
+pub fn written_disks_decode()
+    ensures { WrittenDisksDecode }
+{
+    captured_disks_decode();
+    written_disks_are_captured()
 }

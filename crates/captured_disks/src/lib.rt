@@ -5,4 +5,4 @@
 
 mod laws;
 
-pub use laws::{captured_disks_decode, written_disks_are_captured};
+pub use laws::{captured_disks_decode, written_disks_are_captured, written_disks_decode};
