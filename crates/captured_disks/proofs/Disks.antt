@@ -1,5 +1,5 @@
 -- Captured disks decode.
-use Rattle.std.specs.Prelude.{◌≡◌, ◌≤◌, ◌<◌, ℕ, ◌*◌, Bool, true, List, [], ◌∷◌, length, map, unwrap_or, Option, None, refl}
+use Rattle.std.specs.Prelude.{◌≡◌, ◌≤◌, ◌<◌, ℕ, ◌+◌, ◌-◌, ◌*◌, Bool, true, List, [], ◌∷◌, length, map, slice_index, unwrap_or, Option, None, refl}
 use Rattle.std.proofs.Common.{ap, sym, subst, ◌∙◌, arith}
 use Rattle.flux_base.specs.declared.track.TrackId.{TrackId}
 use Rattle.disk_recordings.specs.Laws.{RingsHaveCells, TracksAreRead}
@@ -7,16 +7,16 @@ use Rattle.disk_recordings.specs.Members.{header_at, sector_at}
 use Rattle.kryo_stream.specs.Growth.{StreamsStay}
 use Rattle.kryo_stream.specs.Joined.{PaddingIsPassed}
 use Rattle.kryo_stream.specs.Stream.{indexes, times}
-use Rattle.phase_loop.specs.Pieces.{RecoversPiecesOfTurns}
-use Rattle.sector_images.specs.Places.{IsSector, IsTrack, NumbersNameTracks, SectorsLieInImages, TracksFillImages, TracksJoin, tracks}
+use Rattle.sector_images.specs.Places.{IsSector, IsTrack, NumbersHoldSectors, NumbersNameTracks, SectorsLieInImages, TracksFillImages, TracksJoin, tracks}
 use Rattle.sector_images.specs.declared.format.Format.{Format}
+use Rattle.track_rings.specs.Rings.{last_in}
 use Rattle.turn_merge.specs.Readings.{Reading, agreed, verdict}
 use Rattle.turn_merge.specs.declared.verdict.Verdict.{Verdict}
 use Rattle.turn_merge.specs.declared.verdict.Verdict.TheVariants.{Good, Contradictory, Bad, Missing}
 use Rattle.decoded_rings.specs.Pieces.{RingPiece, cells_of_ring_pieces}
 use Rattle.decoded_rings.specs.Verdicts.{AreReadingsOf, IsGoodWith, LiesInOnePiece, PiecesAreRight, TwoRingsHaveSectors}
 use Rattle.decoded_rings.specs.Written.{HasSector}
-use Rattle.flux_engine.specs.Captures.{Capture}
+use Rattle.flux_engine.specs.Captures.{Capture, CapturesAreErasedCaptures, ErasedCapture, ErasedCapturesAreRecovered}
 use Rattle.flux_engine.specs.DiskLaws.{WholeDisksFillImages, cells_at}
 use Rattle.flux_engine.specs.Disks.{Decoded, IsDecoded, IsPartAt, decoded_count, part_at}
 use Rattle.flux_engine.specs.Recordings.{sectors_of, track_at}
@@ -26,7 +26,7 @@ use Rattle.flux_engine.specs.Tracks.{Part, is_good, readings_of}
 use Rattle.captured_disks.specs.Frames.{ring_piece, written_track}
 use Rattle.captured_disks.specs.Headline.{CapturedDisksDecode, DecodesRest, DecodesWhole, ErasedDisksDecode, IsKept, IsSectorOf}
 use Rattle.captured_disks.specs.Inputs.{IsCapturedDisk, IsErasedDisk}
-use Rattle.captured_disks.proofs.Cells.{cells_are, erased_capture}
+use Rattle.captured_disks.proofs.Cells.{cells_are}
 use Rattle.captured_disks.proofs.Images.{images-same}
 use Rattle.captured_disks.proofs.Readings.{are_readings_of}
 use Rattle.captured_disks.proofs.Sectors.{DisksAreRight, either, kept, of_one}
@@ -39,10 +39,12 @@ use Rattle.captured_disks.proofs.TrackBytes.{are_sectors, own_bytes}
 pub record Laws : Type 0 where
   pub stay : StreamsStay
   pub passed : PaddingIsPassed
-  pub recovers : RecoversPiecesOfTurns
+  pub recovered : ErasedCapturesAreRecovered
+  pub alike : CapturesAreErasedCaptures
   pub read : TracksAreRead
   pub rings : RingsHaveCells
   pub names : NumbersNameTracks
+  pub hold : NumbersHoldSectors
   pub lie : SectorsLieInImages
   pub joined : TracksJoin
   pub filled : TracksFillImages
@@ -75,10 +77,6 @@ module _ (laws : Laws) (format : Format) (image x : List ℕ) (o : Decoded) (is 
       → (written_track format image n).bytes_of sector ≡ sector_bytes format (track_at format n) image sector
   content n known sector one = own_bytes laws.lie format (track_at format n) image is (known_track n known) sector one
 
-  -- some cells lie before any number of them that is below their number
-  ring_some : (n : ℕ) → n < length (tracks format) → 0 < length (ring_of format image n)
-  ring_some n known = let one = (is_ring n known).spaced.has_one in omega (arith, one.1)
-
   module _ (erased : IsErasedDisk format image x) where
     stream : (n : ℕ) → n < length (tracks format) → IsStreamNumber x n (erased.stream n)
     stream n known =
@@ -91,7 +89,7 @@ module _ (laws : Laws) (format : Format) (image x : List ℕ) (o : Decoded) (is 
     cells : (n : ℕ) (known : n < length (tracks format))
         → cells_at format x n
         ≡ cells_of_ring_pieces (ring_of format image n) (ring_piece (erased.captured n known).first) (map ring_piece (erased.captured n known).later)
-    cells n known = cells_are laws.recovers format image x n (erased.stream n) (is_ring n known) (stream n known) (erased.captured n known)
+    cells n known = cells_are laws.recovered format image x n (erased.stream n) (known_track n known) (is_ring n known) (stream n known) (erased.captured n known)
 
     module _ (n : ℕ) (known : n < length (tracks format)) where
       abbrev first : RingPiece
@@ -118,31 +116,40 @@ module _ (laws : Laws) (format : Format) (image x : List ℕ) (o : Decoded) (is 
     }
 
   module _ (captured : IsCapturedDisk format image x) where
-    abbrev erased : IsErasedDisk format image x
-    erased = record {
-      stream = captured.stream;
-      joined = captured.joined;
-      captured = λ k known. erased_capture (captured.stream k) (ring_of format image k) (nominal_of format k) (captured.captured k known) (ring_some k known);
-    }
-
     module _ (n : ℕ) (known : n < length (tracks format)) where
       abbrev capture : Capture (captured.stream n) (ring_of format image n) (nominal_of format n)
       capture = captured.captured n known
 
+      -- it is of one piece
+      one_piece : (whole : ErasedCapture (captured.stream n) (ring_of format image n) (nominal_of format n))
+          × (whole.later ≡ []) × (whole.first.places ≡ capture.places)
+      one_piece = laws.alike (captured.stream n) (ring_of format image n) (nominal_of format n) (is_ring n known).spaced capture
+
+    abbrev erased : IsErasedDisk format image x
+    erased = record { stream = captured.stream; joined = captured.joined; captured = λ k known. (one_piece k known).0 }
+
+    module _ (n : ℕ) (known : n < length (tracks format)) where
       abbrev piece : RingPiece
       piece = first erased n known
 
+      no_later : later erased n known ≡ []
+      no_later = ap (map ring_piece) (one_piece n known).1
+
       long : 2 * length (ring_of format image n) ≤ piece.count
-      long = let turns = capture.two_turns in omega (arith, turns)
+      long =
+          let turns = (capture n known).two_turns in
+          subst (λ (places : List ℕ). 2 * length (ring_of format image n) ≤ last_in places - slice_index places 0 + 1) (sym (one_piece n known).2)
+          (omega (arith, turns))
 
     all_kept : (n sector : ℕ) → IsSectorOf format n sector → IsKept format image o n sector
     all_kept n sector one =
         kept_at erased n one.track sector one
-        (laws.two_rings format image n is one.track (piece n one.track) sector (long n one.track) (record { least = one.known.0; most = one.known.1 }))
+        (subst (λ (ps : List RingPiece). LiesInOnePiece (written_track format image n) (piece n one.track ∷ ps) sector) (sym (no_later n one.track))
+        (laws.two_rings format image n is one.track (piece n one.track) sector (long n one.track) (record { least = one.known.0; most = one.known.1 })))
 
     image_is : o.image ≡ image
     image_is =
-        images-same laws.names laws.joined laws.filled format o.image image
+        images-same laws.names laws.hold laws.joined laws.filled format o.image image
         (laws.whole format x o decoded (stop erased)) is.size
         (λ n sector one. (all_kept n sector one).1)
 
@@ -151,7 +158,8 @@ module _ (laws : Laws) (format : Format) (image x : List ℕ) (o : Decoded) (is 
         let comes = at.comes in
         let readings : List Reading = readings_of (times (stream_at x n)) (indexes (stream_at x n)) (cells_at format x n) comes.found in
         let are : AreReadingsOf (sector_at format (track_at format n)) (cells_of_ring_pieces (ring_of format image n) (piece n known) []) readings =
-        subst (λ (cs : List Bool). AreReadingsOf (sector_at format (track_at format n)) cs readings) (cells erased n known)
+        subst (λ (cs : List Bool). AreReadingsOf (sector_at format (track_at format n)) cs readings)
+        (cells erased n known ∙ ap (cells_of_ring_pieces (ring_of format image n) (piece n known)) (no_later n known))
         (are_readings_of (header_at format (track_at format n)) (sector_at format (track_at format n)) (laws.read.all format (track_at format n))
         (times (stream_at x n)) (indexes (stream_at x n)) (cells_at format x n) comes.found comes.all) in
         let count = all_counted (verdict readings) (sectors_of format (track_at format n)).first (sectors_of format (track_at format n)).count

@@ -1,86 +1,17 @@
 -- Two images that have the same bytes at the place of each sector are the same.
-use Rattle.std.specs.Prelude.{◌≡◌, ◌≤◌, ◌<◌, ℕ, zero, suc, ◌+◌, ◌-◌, ◌*◌, true, List, [], ◌∷◌, ◌++◌, drop, get_or, length, map, nat_lt, slice_get, sum_by, take, unwrap_or, Option, Some, refl}
-use Rattle.std.specs.List.{range_with_len}
+use Rattle.std.specs.Prelude.{◌≡◌, ◌<◌, ℕ, zero, suc, ◌+◌, ◌*◌, List, [], ◌∷◌, ◌++◌, drop, length, slice_get, sum_by, take, unwrap_or, Option, Some}
 use Rattle.std.proofs.Common.{ap, sym, ◌∙◌, arith}
-use borrow.Author.Tests.{ltb-true}
 use Rattle.std.proofs.lemmas.List.{drop-drop, drop_all, take-append-drop, take_all}
-use Rattle.std.proofs.lemmas.List.FromFn.{get_or-map-range_with_len}
 use Rattle.std.proofs.lemmas.List.Sums.{sum_by-append, sum_by-cons}
 use Rattle.std.proofs.lemmas.Option.{get_or_from_slice_get}
 use Rattle.std.proofs.Math.Seq.{take-add, take-suc}
 use Rattle.flux_base.specs.declared.track.TrackId.{TrackId}
-use Rattle.sector_images.specs.Formats.{dos_order, prodos_order, row, slot, zone}
-use Rattle.sector_images.specs.Places.{NumbersNameTracks, TracksFillImages, TracksJoin, bytes_of, place_of, sector_place, tracks}
+use Rattle.sector_images.specs.Formats.{row, zone}
+use Rattle.sector_images.specs.Places.{NumbersHoldSectors, NumbersNameTracks, TracksFillImages, TracksJoin, bytes_of, place_of, sector_in, sector_place, tracks}
 use Rattle.sector_images.specs.declared.format.Format.{Format}
-use Rattle.sector_images.specs.declared.format.Format.TheVariants.{Ibm3740, Ibm360, Ibm720, Ibm1440, Amiga, C1541, C1541Forty, AppleDo, ApplePo}
 use Rattle.flux_engine.specs.Recordings.{track_at}
 use Rattle.flux_engine.specs.Rings.{sector_bytes}
 use Rattle.captured_disks.specs.Headline.{IsSectorOf}
-
--- a sector stands at each number of a track
-record StandsAt (format : Format) (cylinder number : ℕ) : Type 0 where
-  sector : ℕ
-  least : (row format).first_sector ≤ sector
-  most : sector < (row format).first_sector + (zone format cylinder).sectors
-  there : slot format sector ≡ number
-
-in_order : (format : Format) (cylinder number : ℕ) → number < (zone format cylinder).sectors
-    → slot format ((row format).first_sector + number) ≡ (row format).first_sector + number - (row format).first_sector → StandsAt format cylinder number
-in_order format cylinder number below is = record {
-  sector = (row format).first_sector + number;
-  least = omega arith;
-  most = omega (arith, below);
-  there = is ∙ omega arith;
-}
-
-by_table : {X : Type 0} (f g : ℕ → X) (d : X) (n : ℕ) → n < 16 → map f (range_with_len 0 16) ≡ map g (range_with_len 0 16) → f n ≡ g n
-by_table f g d n below same =
-    sym (get_or-map-range_with_len f 0 16 n n d below (omega arith)) ∙ ap (λ (xs : List _). get_or xs n d) same
-    ∙ get_or-map-range_with_len g 0 16 n n d below (omega arith)
-
--- which sector holds each part of an Apple track
-dos_sectors : List ℕ
-dos_sectors = 0x0 ∷ 0xD ∷ 0xB ∷ 0x9 ∷ 0x7 ∷ 0x5 ∷ 0x3 ∷ 0x1 ∷ 0xE ∷ 0xC ∷ 0xA ∷ 0x8 ∷ 0x6 ∷ 0x4 ∷ 0x2 ∷ 0xF ∷ []
-
-prodos_sectors : List ℕ
-prodos_sectors = 0x0 ∷ 0x2 ∷ 0x4 ∷ 0x6 ∷ 0x8 ∷ 0xA ∷ 0xC ∷ 0xE ∷ 0x1 ∷ 0x3 ∷ 0x5 ∷ 0x7 ∷ 0x9 ∷ 0xB ∷ 0xD ∷ 0xF ∷ []
-
-dos_there : map (λ n. get_or dos_order (get_or dos_sectors n 0) 0) (range_with_len 0 16) ≡ map (λ n. n) (range_with_len 0 16)
-unfolding dos_sectors
-dos_there = refl
-
-dos_low : map (λ n. nat_lt (get_or dos_sectors n 0) 16) (range_with_len 0 16) ≡ map (λ n. true) (range_with_len 0 16)
-unfolding dos_sectors
-dos_low = refl
-
-prodos_there : map (λ n. get_or prodos_order (get_or prodos_sectors n 0) 0) (range_with_len 0 16) ≡ map (λ n. n) (range_with_len 0 16)
-unfolding prodos_sectors
-prodos_there = refl
-
-prodos_low : map (λ n. nat_lt (get_or prodos_sectors n 0) 16) (range_with_len 0 16) ≡ map (λ n. true) (range_with_len 0 16)
-unfolding prodos_sectors
-prodos_low = refl
-
-stands_at : (format : Format) (cylinder number : ℕ) → number < (zone format cylinder).sectors → StandsAt format cylinder number
-stands_at Ibm3740 cylinder number below = in_order Ibm3740 cylinder number below refl
-stands_at Ibm360 cylinder number below = in_order Ibm360 cylinder number below refl
-stands_at Ibm720 cylinder number below = in_order Ibm720 cylinder number below refl
-stands_at Ibm1440 cylinder number below = in_order Ibm1440 cylinder number below refl
-stands_at Amiga cylinder number below = in_order Amiga cylinder number below refl
-stands_at C1541 cylinder number below = in_order C1541 cylinder number below refl
-stands_at C1541Forty cylinder number below = in_order C1541Forty cylinder number below refl
-stands_at AppleDo cylinder number below = record {
-  sector = get_or dos_sectors number 0;
-  least = omega arith;
-  most = ltb-true (get_or dos_sectors number 0) 16 (by_table (λ n. nat_lt (get_or dos_sectors n 0) 16) (λ n. true) true number below dos_low);
-  there = by_table (λ n. get_or dos_order (get_or dos_sectors n 0) 0) (λ n. n) 0 number below dos_there;
-}
-stands_at ApplePo cylinder number below = record {
-  sector = get_or prodos_sectors number 0;
-  least = omega arith;
-  most = ltb-true (get_or prodos_sectors number 0) 16 (by_table (λ n. nat_lt (get_or prodos_sectors n 0) 16) (λ n. true) true number below prodos_low);
-  there = by_table (λ n. get_or prodos_order (get_or prodos_sectors n 0) 0) (λ n. n) 0 number below prodos_there;
-}
 
 -- parts of the same size, one after another
 parts_same : (size count : ℕ) (xs ys : List ℕ) → ((j : ℕ) → j < count → take size (drop (size * j) xs) ≡ take size (drop (size * j) ys))
@@ -105,7 +36,7 @@ parts_same size (suc count) xs ys each =
     ∙ ap (λ (zs : List ℕ). take size ys ++ zs) rest
     ∙ sym (ap (λ (n : ℕ). take n ys) e ∙ take-add size (count * size) ys)
 
-module _ (names : NumbersNameTracks) (joined : TracksJoin) (filled : TracksFillImages) (format : Format) (a b : List ℕ)
+module _ (names : NumbersNameTracks) (hold : NumbersHoldSectors) (joined : TracksJoin) (filled : TracksFillImages) (format : Format) (a b : List ℕ)
     (size_a : length a ≡ (row format).image_size) (size_b : length b ≡ (row format).image_size)
     (same : (n sector : ℕ) → IsSectorOf format n sector → sector_bytes format (track_at format n) a sector ≡ sector_bytes format (track_at format n) b sector) where
   -- the bytes of so many tracks
@@ -137,11 +68,12 @@ module _ (names : NumbersNameTracks) (joined : TracksJoin) (filled : TracksFillI
       let size = (row format).sector_size in
       parts_same size (zone format track.cylinder).sectors (drop (before n) a) (drop (before n) b)
       (λ j below.
-      let at = stands_at format track.cylinder j below in
-      let e : before n + size * j ≡ sector_place format track at.sector =
-      ap (λ (p : ℕ). p + size * j) (sym (place n known)) ∙ ap (λ (k : ℕ). place_of format track + size * k) (sym at.there) in
+      let at = hold format track j below in
+      let sector : ℕ = sector_in format track j in
+      let e : before n + size * j ≡ sector_place format track sector =
+      ap (λ (p : ℕ). p + size * j) (sym (place n known)) ∙ ap (λ (k : ℕ). place_of format track + size * k) (sym at.1) in
       ap (take size) (drop-drop (size * j) (before n) a ∙ ap (λ (p : ℕ). drop p a) e)
-      ∙ same n at.sector (record { track = known; known = (at.least, at.most) })
+      ∙ same n sector (record { track = known; known = at.0 })
       ∙ sym (ap (take size) (drop-drop (size * j) (before n) b ∙ ap (λ (p : ℕ). drop p b) e)))
 
   tracks-before : before (length (tracks format)) ≡ (row format).image_size

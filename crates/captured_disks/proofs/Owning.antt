@@ -1,32 +1,19 @@
 -- Each track that is written of an image is read as its own.
-use Rattle.std.specs.Prelude.{◌≡◌, ◌≤◌, ℕ, List, length, unwrap_or, Option}
-use Rattle.std.proofs.Common.{ap, sym, subst, arith, lit≤}
+use Rattle.std.specs.Prelude.{◌≡◌, ℕ, List, length, unwrap_or, Option}
+use Rattle.std.proofs.Common.{ap, sym, subst, arith}
 use Rattle.flux_base.specs.declared.track.TrackId.{TrackId}
-use Rattle.disk_recordings.specs.Laws.{AreTrackBytes, FramesAreWhole, OnlyOwnStand, RingsHaveCells, SectorsStand, StandAlone}
+use Rattle.disk_recordings.specs.Laws.{AreTrackBytes, FramesAreWhole, FramesHaveCells, OnlyOwnStand, RingsHaveCells, SectorsStand, StandAlone}
 use Rattle.disk_recordings.specs.Members.{frame_cells, place_in_ring}
 use Rattle.sector_images.specs.Formats.{zone}
 use Rattle.sector_images.specs.Places.{IsTrack, NumbersNameTracks, SectorsLieInImages}
-use Rattle.sector_images.specs.declared.format.Format.{Format}
-use Rattle.sector_images.specs.declared.format.Format.TheVariants.{Ibm3740, Ibm360, Ibm720, Ibm1440, Amiga, C1541, C1541Forty, AppleDo, ApplePo}
 use Rattle.track_rings.specs.Rings.{LiesAt}
 use Rattle.flux_engine.specs.Recordings.{track_at}
 use Rattle.flux_engine.specs.Rings.{disk_id, ring_of, track_bytes}
 use Rattle.captured_disks.specs.Frames.{TracksAreOwn}
 use Rattle.captured_disks.proofs.TrackBytes.{are_sectors}
 
-frame_some : (format : Format) → 1 ≤ frame_cells format
-frame_some Ibm3740 = lit≤ tt
-frame_some Ibm360 = lit≤ tt
-frame_some Ibm720 = lit≤ tt
-frame_some Ibm1440 = lit≤ tt
-frame_some Amiga = lit≤ tt
-frame_some C1541 = lit≤ tt
-frame_some C1541Forty = lit≤ tt
-frame_some AppleDo = lit≤ tt
-frame_some ApplePo = lit≤ tt
-
-pub tracks_are_own : NumbersNameTracks → SectorsLieInImages → StandAlone → OnlyOwnStand → SectorsStand → FramesAreWhole → RingsHaveCells → TracksAreOwn
-tracks_are_own names lie alone only stand whole rings format image k is below =
+pub tracks_are_own : NumbersNameTracks → SectorsLieInImages → StandAlone → OnlyOwnStand → SectorsStand → FramesAreWhole → FramesHaveCells → RingsHaveCells → TracksAreOwn
+tracks_are_own names lie alone only stand whole cells rings format image k is below =
     let track : TrackId = track_at format k in
     let named = names format k below in
     let known : IsTrack format track =
@@ -43,5 +30,5 @@ tracks_are_own names lie alone only stand whole rings format image k is below =
           (subst (λ (n : ℕ). LiesAt n (place_in_ring format track s) (frame_cells format) from count place) size lies);
       whole = λ s one.
           (let fits = (whole format (disk_id format image) track bytes s known are (one.least, one.most)).0 in omega (arith, fits, size));
-      some = frame_some format;
+      some = cells format;
     }

@@ -5,10 +5,11 @@ ghost use Rattle.captured_disks.specs.Inputs.{WritesCapturedDisks};
 
 use decoded_rings::own_sectors_are_right;
 use disk_recordings::{DiskRecording, tracks_are_read, tracks_have_only_own, tracks_have_rings};
-use flux_engine::{good_is_right_on_disks, parts_fill_images, streams_are_captures};
+use flux_engine::{
+    captures_are_recovered, good_is_right_on_disks, parts_fill_images, streams_are_captures,
+};
 use kryo_stream::{growth_law, joined_law};
-use phase_loop::disturbed_rings_are_recovered;
-use sector_images::{sectors_lie_in_images, tracks_fill_images};
+use sector_images::{sectors_fill_tracks, sectors_lie_in_images, tracks_fill_images};
 
 /// From any streams that carry an image's written tracks, with transitions and speed disturbed within the bounds, decoding
 /// gives exactly that image, and every sector's line says good. Where stretches of the tracks are erased, a sector of which
@@ -24,8 +25,9 @@ pub fn captured_disks_decode()
     tracks_have_only_own();
     growth_law();
     joined_law();
-    disturbed_rings_are_recovered();
+    captures_are_recovered();
     sectors_lie_in_images();
+    sectors_fill_tracks();
     tracks_fill_images();
     good_is_right_on_disks();
     parts_fill_images()

@@ -41,6 +41,10 @@ FramesAreWhole = (format : Format) (id : DiskId) (track : TrackId) (bytes : List
     → (place_in_ring format track s + frame_cells format ≤ (zone format track.cylinder).ring_cells)
     × Unbroken (ring_at format id track bytes) (place_in_ring format track s) (place_in_ring format track s + frame_cells format)
 
+-- and has a cell at least
+abbrev pub FramesHaveCells : Type 0
+FramesHaveCells = (format : Format) → 1 ≤ frame_cells format
+
 -- what stands on a track depends on its own cells alone, and nothing stands in cells without a one
 abbrev pub StandAlone : Type 0
 StandAlone = (format : Format) (track : TrackId) → IsTrack format track → StandsAlone (header_at format track) (sector_at format track)

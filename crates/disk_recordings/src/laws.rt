@@ -1,6 +1,6 @@
 //! What the laws of the recordings come to for the formats: for all tracks, ids, bytes and cells.
 
-ghost use Rattle.disk_recordings.specs.Laws.{FramesAreWhole, OnlyOwnStand, RingsHaveCells, SectorsStand, StandAlone, StretchesHaveOnlyOwn, TracksAreRead};
+ghost use Rattle.disk_recordings.specs.Laws.{FramesAreWhole, FramesHaveCells, OnlyOwnStand, RingsHaveCells, SectorsStand, StandAlone, StretchesHaveOnlyOwn, TracksAreRead};
 
 use crate::recordings::DiskRecording;
 use frame_law::{only_own, readings_are_all, rings_hold_sectors, sectors_are_told};
@@ -19,6 +19,7 @@ pub fn tracks_have_rings()
     ensures cells { RingsHaveCells }
     ensures stand { SectorsStand }
     ensures whole { FramesAreWhole }
+    ensures some { FramesHaveCells }
 {
     rings_hold_sectors::<DiskRecording>()
 }

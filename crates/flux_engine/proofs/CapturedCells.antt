@@ -44,6 +44,7 @@ captures_are_erased x ring nominal spaced capture =
         carried = record { cut = sym (append-nil (times x)); pieces = All-cons P piece [] is (All-nil P); apart = tt };
       },
       refl,
+      refl,
     )
 
 pub captures_recovered : RecoversPiecesOfTurns → TracksKeepBounds → CapturesAreRecovered

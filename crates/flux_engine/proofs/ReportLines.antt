@@ -11,7 +11,6 @@ use Rattle.phase_loop.specs.Sizes.{CellsAreFew}
 use Rattle.sector_images.specs.Formats.{row, zone}
 use Rattle.sector_images.specs.Places.{IsSector, IsTrack, NumbersNameTracks, TracksKeepBounds, tracks}
 use Rattle.sector_images.specs.declared.format.Format.{Format}
-use Rattle.sector_images.specs.declared.format.Format.TheVariants.{Ibm3740, Ibm360, Ibm720, Ibm1440, Amiga, C1541, C1541Forty, AppleDo, ApplePo}
 use Rattle.sector_report.specs.LineLaws.{IsOneLine, LineFits, SectorLinesTell, SectorsHaveOneLine, TotalsAreNoSectors, TotalsHaveOneLine, VerdictFits, line_ends}
 use Rattle.sector_report.specs.Lines.{sector_name, sector_text, total_text, two_digits, verdict_text}
 use Rattle.sector_report.specs.declared.totals.Totals.{Totals}
@@ -92,18 +91,6 @@ not_empty track sector verdict front ends none =
     let name = name_length track sector in
     omega (arith, alone, all, both, name)
 
--- cylinders, heads and sectors are few
-track_fits : (format : Format) (track : TrackId) → IsTrack format track → (track.cylinder < 100) × (track.head < 2)
-track_fits Ibm3740 track is = (omega (arith, is.0), omega (arith, is.1))
-track_fits Ibm360 track is = (omega (arith, is.0), omega (arith, is.1))
-track_fits Ibm720 track is = (omega (arith, is.0), omega (arith, is.1))
-track_fits Ibm1440 track is = (omega (arith, is.0), omega (arith, is.1))
-track_fits Amiga track is = (omega (arith, is.0), omega (arith, is.1))
-track_fits C1541 track is = (omega (arith, is.0), omega (arith, is.1))
-track_fits C1541Forty track is = (omega (arith, is.0), omega (arith, is.1))
-track_fits AppleDo track is = (omega (arith, is.0), omega (arith, is.1))
-track_fits ApplePo track is = (omega (arith, is.0), omega (arith, is.1))
-
 module _ (one : SectorsHaveOneLine) (total_one : TotalsHaveOneLine) (format : Format) (x : List ℕ) (o : Decoded) (is : IsDecoded format x o) where
   abbrev totals : Totals
   totals = totals_over is.parts
@@ -156,15 +143,13 @@ module _ (one : SectorsHaveOneLine) (total_one : TotalsHaveOneLine) (format : Fo
         own-fits n s v below known has =
             let named = names format n (omega (arith, below, sym count_is, few_parts format x o is)) in
             let track_is : track_at format n ≡ named.0 = ap (λ (found : Option TrackId). unwrap_or found first_track) named.1 in
-            let track_few = subst (λ (t : TrackId). (t.cylinder < 100) × (t.head < 2)) (sym track_is) (track_fits format named.0 named.2) in
             let none = (is.each n (omega (arith, below, count_is))).no_fault in
             let few = short (stream_at x n) none in
-            let below_100 : (row format).first_sector + (zone format (track_at format n).cylinder).sectors ≤ 100 =
-            (keep format (track_at format n) (subst (IsTrack format) (sym track_is) named.2)).sectors in
+            let bounds = keep format (track_at format n) (subst (IsTrack format) (sym track_is) named.2) in
             record {
-              cylinder_fits = track_few.0;
-              head_fits = omega (arith, track_few.1);
-              sector_fits = omega (arith, known.1, below_100);
+              cylinder_fits = bounds.cylinder;
+              head_fits = omega (arith, bounds.head);
+              sector_fits = omega (arith, known.1, bounds.sectors);
               verdict_fits = subst VerdictFits has.is (verdict_fits read cells_few format (track_at format n) (times (stream_at x n)) (indexes (stream_at x n)) has.found s few.0 few.1 has.all);
             }
 

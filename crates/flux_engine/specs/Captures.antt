@@ -54,10 +54,10 @@ ErasedCapturesAreRecovered = (format : Format) (track : TrackId) (x : List ℕ) 
     → (capture : ErasedCapture x ring (zone format track.cylinder).nominal)
     → cells_of_stream format track x ≡ cells_of_pieces ring capture.first capture.later
 
--- a capture is one of a ring of which nothing is erased: one piece carries it
+-- a capture is one of a ring of which nothing is erased: one piece carries it, at the same places
 abbrev pub CapturesAreErasedCaptures : Type 0
-CapturesAreErasedCaptures = (x : List ℕ) (ring : List Bool) (nominal : ℕ) → IsSpaced 1 4 ring → Capture x ring nominal
-    → (erased : ErasedCapture x ring nominal) × (erased.later ≡ [])
+CapturesAreErasedCaptures = (x : List ℕ) (ring : List Bool) (nominal : ℕ) → IsSpaced 1 4 ring
+    → (capture : Capture x ring nominal) → (erased : ErasedCapture x ring nominal) × (erased.later ≡ []) × (erased.first.places ≡ capture.places)
 
 -- The cells that are recovered from what is written of a track of an image: the track's ring, over two turns or more.
 abbrev pub WrittenRingsAreRecovered : Type 0

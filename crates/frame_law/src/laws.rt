@@ -39,6 +39,7 @@ pub fn rings_hold_sectors<R: Recording>()
         → IsSectorNumber (R.first_sector r) (R.sectors r track) s
         → (R.sector_place r track s + R.frame_cells r ≤ R.ring_cells r track)
         × Unbroken (R.ring r track bytes) (R.sector_place r track s) (R.sector_place r track s + R.frame_cells r) }
+    ensures some { (r : R) → 1 ≤ R.frame_cells r }
 {}
 
 /// Nothing but a ring's own sectors stands in it: what stands depends on its own cells alone, in any stretch of the

@@ -169,6 +169,7 @@ bounds test all f t known =
 pub keep_bounds : TracksKeepBounds
 keep_bounds f t known = record {
   cylinder = ltb-true _ _ (bounds (λ g c. nat_lt c 100) refl f t known);
+  head = (let two = some_heads f in omega (arith, two.1, known.1));
   sectors =
       (let least : (row f).first_sector + (zone f t.cylinder).sectors < 101 = ltb-true _ _ (bounds (λ g c. nat_lt ((row g).first_sector + (zone g c).sectors) 101) refl f t known) in
       omega (arith, least));

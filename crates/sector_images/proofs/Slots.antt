@@ -1,13 +1,13 @@
 -- Where the sectors of a track stand in the image.
 use Rattle.std.specs.Prelude.{◌≡◌, ◌&&◌, option_map, List, get_or, map, nat_lt, ◌≤◌, ◌<◌, ℕ, zero, suc, ◌+◌, ◌-◌, Bool, true, false, cond, find, nat_eq, Option, Some, None, unwrap_or, refl}
 use Rattle.std.specs.List.{list_all, range_with_len}
-use Rattle.std.proofs.Common.{ap, sym, ◌∙◌, arith}
+use Rattle.std.proofs.Common.{ap, sym, subst, ◌∙◌, arith}
 use Rattle.std.proofs.lemmas.Bool.{eq-eqb, eqb-true, ltb-true, ne_eqb}
 use Rattle.flux_base.specs.declared.track.TrackId.{TrackId}
 use Rattle.sector_images.specs.declared.format.Format.{Format}
 use Rattle.sector_images.specs.Formats.{formats, row, slot, slot_by, zone}
 use Rattle.sector_images.proofs.EachFormat.{each_below, each_format}
-use Rattle.sector_images.specs.Places.{IsSector, SectorsFillTracks, sector_in}
+use Rattle.sector_images.specs.Places.{IsSector, NumbersHoldSectors, SectorsFillTracks, sector_in}
 
 -- the first number of a range that passes a test
 find-first : (f : ℕ → Bool) (a n m : ℕ) → n < m → ((k : ℕ) → a ≤ k → k < a + n → f k ≡ false) → f (a + n) ≡ true
@@ -131,3 +131,31 @@ pub found_there : (format : Format) (track : TrackId) (sector number : ℕ) → 
     → sector ≡ sector_in format track number
 found_there format track sector number known same =
     sym (sectors_fill_tracks format track sector known).1 ∙ ap (sector_in format track) same
+
+-- at each number stands a sector, by the format's order or else by its number
+record Holder (format : Format) (track : TrackId) (number : ℕ) : Type 0 where
+  sector : ℕ
+  known : IsSector format track sector
+  there : slot format sector ≡ number
+
+holder_by : (format : Format) (track : TrackId) (number : ℕ) (order : Option (List ℕ)) → (row format).order ≡ order
+    → number < (zone format track.cylinder).sectors → Holder format track number
+holder_by format track number None is below = record {
+  sector = (row format).first_sector + number;
+  known = (omega arith, omega (arith, below));
+  there = slot_by_number format number is;
+}
+holder_by format track number (Some order) is below =
+    let all = is_order format order track is in
+    let held = all.holder number (omega (arith, below, all.count)) in
+    record {
+      sector = held.0;
+      known = (omega (arith, all.first), omega (arith, held.1, all.first, all.count));
+      there = slot_in_order format order held.0 is ∙ held.2;
+    }
+
+pub numbers_hold_sectors : NumbersHoldSectors
+numbers_hold_sectors format track number below =
+    let held = holder_by format track number (row format).order refl below in
+    let found : held.sector ≡ sector_in format track number = found_there format track held.sector number held.known held.there in
+    subst (λ (s : ℕ). IsSector format track s × (slot format s ≡ number)) found (held.known, held.there)

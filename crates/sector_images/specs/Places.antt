@@ -46,6 +46,11 @@ abbrev pub SectorsFillTracks : Type 0
 SectorsFillTracks = (format : Format) (track : TrackId) (sector : ℕ) → IsSector format track sector
     → (slot format sector < (zone format track.cylinder).sectors) × (sector_in format track (slot format sector) ≡ sector)
 
+-- and no number there is left over: the sector that stands at it is one of the track's
+abbrev pub NumbersHoldSectors : Type 0
+NumbersHoldSectors = (format : Format) (track : TrackId) (number : ℕ) → number < (zone format track.cylinder).sectors
+    → IsSector format track (sector_in format track number) × (slot format (sector_in format track number) ≡ number)
+
 -- each number of a track is that of one of the format's tracks
 abbrev pub NumbersNameTracks : Type 0
 NumbersNameTracks = (format : Format) (number : ℕ) → number < length (tracks format)
@@ -65,10 +70,11 @@ abbrev pub SectorsLieInImages : Type 0
 SectorsLieInImages = (format : Format) (track : TrackId) (sector : ℕ) → IsTrack format track → IsSector format track sector
     → sector_place format track sector + (row format).sector_size ≤ (row format).image_size
 
--- What all tracks of all formats keep to: cylinders and sectors are numbered by two digits, a sector has at most 512 bytes, no
--- track has more sectors than its format's first, and cells and rings are neither very short nor very long.
+-- What all tracks of all formats keep to: cylinders and sectors are numbered by two digits, heads by 0 and 1, a sector has at
+-- most 512 bytes, no track has more sectors than its format's first, and cells and rings are neither very short nor very long.
 pub record KeepsBounds (format : Format) (track : TrackId) : Type 0 where
   pub cylinder : track.cylinder < 100
+  pub head : track.head < 2
   pub sectors : (row format).first_sector + (zone format track.cylinder).sectors ≤ 100
   pub size : (row format).sector_size ≤ 512
   pub most : (first : TrackId) → slice_get (tracks format) 0 ≡ Some first → (zone format track.cylinder).sectors ≤ (zone format first.cylinder).sectors

@@ -1,12 +1,13 @@
 //! What the places of sectors come to.
 
 ghost use Rattle.sector_images.specs.Formats.{WordsNameFormats};
-ghost use Rattle.sector_images.specs.Places.{NumbersNameTracks, SectorsFillTracks, SectorsLieInImages, TracksAreFew, TracksFillImages, TracksJoin, TracksKeepBounds};
+ghost use Rattle.sector_images.specs.Places.{NumbersHoldSectors, NumbersNameTracks, SectorsFillTracks, SectorsLieInImages, TracksAreFew, TracksFillImages, TracksJoin, TracksKeepBounds};
 
 /// Each sector of a track stands at one number among those of its track in the image, and is the one that
-/// stands there.
+/// stands there; and at each of these numbers one stands.
 pub fn sectors_fill_tracks()
-    ensures { SectorsFillTracks }
+    ensures sectors { SectorsFillTracks }
+    ensures numbers { NumbersHoldSectors }
 {}
 
 /// The numbers below the number of tracks are those of tracks, and each sector of a track lies whole in the

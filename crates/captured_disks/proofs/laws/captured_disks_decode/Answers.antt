@@ -9,16 +9,18 @@ own : (c : goal.After-parts_fill_images) → TracksAreOwn
 own c =
     tracks_are_own c.sectors_lie_in_images.ensures.numbers c.sectors_lie_in_images.ensures.sectors
     c.tracks_have_only_own.ensures.alone c.tracks_have_only_own.ensures.between_zeros
-    c.tracks_have_rings.ensures.stand c.tracks_have_rings.ensures.whole c.tracks_have_rings.ensures.cells
+    c.tracks_have_rings.ensures.stand c.tracks_have_rings.ensures.whole c.tracks_have_rings.ensures.some c.tracks_have_rings.ensures.cells
 
 laws : (c : goal.After-parts_fill_images) → Laws
 laws c = record {
   stay = c.growth_law.ensures.streams;
   passed = c.joined_law.ensures;
-  recovers = c.disturbed_rings_are_recovered.ensures.turns;
+  recovered = c.captures_are_recovered.ensures.erased;
+  alike = c.captures_are_recovered.ensures.alike;
   read = c.tracks_are_read.ensures;
   rings = c.tracks_have_rings.ensures.cells;
   names = c.sectors_lie_in_images.ensures.numbers;
+  hold = c.sectors_fill_tracks.ensures.numbers;
   lie = c.sectors_lie_in_images.ensures.sectors;
   joined = c.tracks_fill_images.ensures.joined;
   filled = c.tracks_fill_images.ensures.filled;

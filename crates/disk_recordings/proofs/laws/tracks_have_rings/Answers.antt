@@ -1,5 +1,5 @@
 use Rattle.std.proofs.Common.{◌∙◌}
-use Rattle.disk_recordings.specs.Recordings.{recording_of}
+use Rattle.disk_recordings.specs.Recordings.{ANY_ID, recording_of}
 use Rattle.disk_recordings.proofs.Agree.{agrees}
 use Rattle.disk_recordings.proofs.Recorded.{are_sectors, has_track, is_number, lies}
 use Rattle.disk_recordings.proofs.laws.tracks_have_rings.Goals as goal
@@ -24,3 +24,6 @@ returns-clause-whole c = λ format id track bytes s known are sector.
     let here = c.rings_hold_sectors.ensures.whole (recording_of format id) track bytes s (has_track format id track known)
     (are_sectors format id track known bytes are) (is_number format id track known s sector) in
     rw ((agrees format id).ring_cells track known, (agrees format id).place track s, (agrees format id).frame) at here
+
+pub returns-clause-some : goal.returns-clause-some
+returns-clause-some c = λ format. c.rings_hold_sectors.ensures.some (recording_of format ANY_ID)

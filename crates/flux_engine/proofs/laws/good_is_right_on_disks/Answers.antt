@@ -8,7 +8,7 @@ pub returns-clause-lines : goal.returns-clause-lines
 returns-clause-lines c = lines_name_verdicts c.tracks_are_read.ensures c.sectors_have_one_line.ensures
 
 pub returns-clause-good : goal.returns-clause-good
-returns-clause-good c = good_is_right_on_disks c.tracks_are_read.ensures c.sectors_fill_tracks.ensures c.tracks_fill_images.ensures.joined
+returns-clause-good c = good_is_right_on_disks c.tracks_are_read.ensures c.sectors_fill_tracks.ensures.sectors c.tracks_fill_images.ensures.joined
 
 pub returns-clause-others : goal.returns-clause-others
-returns-clause-others c = others_are_zeros c.tracks_are_read.ensures c.sectors_fill_tracks.ensures c.tracks_fill_images.ensures.joined
+returns-clause-others c = others_are_zeros c.tracks_are_read.ensures c.sectors_fill_tracks.ensures.sectors c.tracks_fill_images.ensures.joined
