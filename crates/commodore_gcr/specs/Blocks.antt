@@ -29,6 +29,6 @@ header_block id1 id2 track sector = header_bytes id1 id2 track sector ++ 0x0F �
 abbrev pub data_bytes : List ℕ → List ℕ
 data_bytes bytes = DATA_BYTE ∷ (bytes ++ xor bytes ∷ [])
 
--- with the two bytes that fill the block up
-abbrev pub data_block : List ℕ → List ℕ
-data_block bytes = data_bytes bytes ++ 0x00 ∷ 0x00 ∷ []
+-- the two bytes that fill the block up
+abbrev pub DATA_FILL : List ℕ
+DATA_FILL = 0x00 ∷ 0x00 ∷ []
