@@ -3,10 +3,9 @@ use Rattle.std.proofs.Common.{◌≡◌, ℕ, zero, suc, ◌+◌, ◌<◌, ◌�
 use Rattle.cell_bits.specs.Word.{word, word_cells}
 use Rattle.frame_law.specs.WordRows.{word_cells-word}
 use Rattle.flux_base.specs.declared.track.TrackId.{TrackId}
-use Rattle.commodore_gcr.specs.Blocks.{header_bytes}
 use Rattle.commodore_gcr.specs.Coding.{ByteAt, BytesAt, gcr}
 use Rattle.commodore_gcr.specs.CodingLaws.{one_list_at}
-use Rattle.commodore_gcr.specs.Sectors.{NamesSector}
+use Rattle.commodore_gcr.specs.Sectors.{NamesSector, header_bytes}
 
 pub byte_at-some : (cells : List Bool) (place number : ℕ) (result : Option ℕ) → place + 10 ≤ length cells → number ≡ word cells place 10
     → IfSome result (λ byte. byte < 256) → IfSome result (λ byte. gcr byte ≡ word_cells 10 number)

@@ -62,11 +62,9 @@ BytesAt-agree total cells others place bytes same within stand =
     row-agree 10 ByteAt total cells others place bytes within (λ here byte. ByteAt-agree total cells others here byte same) stand
 
 -- bytes in group code stand where they are written
-ByteAt-first : (byte : ℕ) (rest : List Bool) → byte < 256 → ByteAt (gcr byte ++ rest) 0 byte
-ByteAt-first byte rest fits = (fits, take-first (gcr byte) rest 10 (length-gcr byte))
-
 pub BytesAt-front : (bytes : List ℕ) (rest : List Bool) → AreBytes bytes → BytesAt (gcr_bytes bytes ++ rest) 0 bytes
-BytesAt-front bytes rest fit = row-front 10 ByteAt gcr length-gcr ByteAt-first ByteAt-past bytes rest fit
+BytesAt-front bytes rest fit =
+    row-front 10 ByteAt gcr length-gcr (λ byte more fits. (fits, take-first (gcr byte) more 10 (length-gcr byte))) ByteAt-past bytes rest fit
 
 pub length-gcr_bytes : (bytes : List ℕ) → length (gcr_bytes bytes) ≡ 10 * length bytes
 length-gcr_bytes bytes = length-row 10 gcr length-gcr bytes

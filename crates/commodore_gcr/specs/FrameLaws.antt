@@ -17,11 +17,10 @@ use Rattle.track_rings.specs.Rows.{coded, rows_cells}
 use Rattle.track_rings.specs.SectorParts.{AreBytes}
 use Rattle.frame_law.specs.Frames.{FrameStands}
 use Rattle.commodore_gcr.specs.declared.recording.CommodoreGcr.{CommodoreGcr}
-use Rattle.commodore_gcr.specs.Blocks.{address_of, data_bytes, header_bytes}
 use Rattle.commodore_gcr.specs.Coding.{ByteAt, BytesAt, code_of, gcr, gcr_bytes}
 use Rattle.commodore_gcr.specs.CodingLaws.{BytesAt-front, BytesAt-past, gcr-mod, length-gcr_bytes}
 use Rattle.commodore_gcr.specs.Layout.{gap_cells, row_cells, rows}
-use Rattle.commodore_gcr.specs.Sectors.{Hold, IsSync, NamesSector}
+use Rattle.commodore_gcr.specs.Sectors.{Hold, IsSync, NamesSector, address_of, data_bytes, header_bytes}
 use Rattle.commodore_gcr.specs.ZoneLaws.{counts}
 use Rattle.commodore_gcr.specs.Zones.{IsTrack, sectors_of, track_number}
 
@@ -71,14 +70,6 @@ AreBytes-data : (bytes : List ℕ) → AreBytes bytes → AreBytes (data_bytes b
 unfolding AreBytes
 AreBytes-data bytes fit = (lit< tt, AreBytes-append bytes (xor bytes ∷ []) fit (xor-lt bytes 0 (lit< tt) fit, tt))
 
-AreBytes-header : (id1 id2 : ℕ) (track : TrackId) (sector : ℕ) → IsTrack track → sector < 256 → id1 < 256 → id2 < 256
-    → AreBytes (header_bytes id1 id2 track sector)
-unfolding AreBytes
-AreBytes-header id1 id2 track sector known low first second =
-    let number : track_number track < 256 = omega (arith, known.cylinder) in
-    let address : AreBytes (address_of id1 id2 track sector) = (low, (number, (second, (first, tt)))) in
-    (lit< tt, (xor-lt (address_of id1 id2 track sector) 0 (lit< tt) address, address))
-
 -- of the ids no more than their low eight bits are written
 address-mod : (id1 id2 : ℕ) (track : TrackId) (sector : ℕ) → IsTrack track → sector < 256
     → xor (address_of id1 id2 track sector) % 256 ≡ xor (address_of (id1 % 256) (id2 % 256) track sector)
@@ -105,29 +96,27 @@ header_cells-mod id1 id2 track sector known low =
     ∙ ap (λ (some : List Bool). header (gcr low_check) some (gcr id1)) (gcr-mod id2)
     ∙ ap (λ (some : List Bool). header (gcr low_check) (gcr (id2 % 256)) some) (gcr-mod id1)
 
--- before the data no sync stands, and with the data block's first cell the last ten ones are one
-sync_free : (bytes : List ℕ) (rest : List Bool) → free_of (word_cells 11 0x7FE) 122 (between ++ (gcr_bytes (data_bytes bytes) ++ rest)) ≡ true
-unfolding free_of begins between gcr code_of word_cells
-sync_free bytes rest = refl
-
-sync_there : (bytes : List ℕ) (rest : List Bool) → take 11 (drop 122 (between ++ (gcr_bytes (data_bytes bytes) ++ rest))) ≡ word_cells 11 0x7FE
-unfolding between gcr code_of word_cells
-sync_there bytes rest = refl
-
-header_begins : (id1 id2 : ℕ) (track : TrackId) (sector : ℕ) (rest : List Bool) → take 11 (header_cells id1 id2 track sector ++ rest) ≡ word_cells 11 0x7FE
-unfolding header_cells gcr code_of word_cells
-header_begins id1 id2 track sector rest = refl
+-- the sync of the header; before the data none stands, and then theirs
+syncs : (id1 id2 : ℕ) (track : TrackId) (sector : ℕ) (bytes : List ℕ) (rest : List Bool)
+    → let gap = between ++ (gcr_bytes (data_bytes bytes) ++ rest) in
+    (take 11 (header_cells id1 id2 track sector ++ gap) ≡ word_cells 11 0x7FE) × (free_of (word_cells 11 0x7FE) 122 gap ≡ true)
+    × (take 11 (drop 122 gap) ≡ word_cells 11 0x7FE)
+unfolding free_of begins header_cells between gcr code_of word_cells
+syncs id1 id2 track sector bytes rest = (refl, refl, refl)
 
 names-sector : (id1 id2 : ℕ) (track : TrackId) (sector : ℕ) (rest : List Bool) → IsTrack track → sector < 256 → id1 < 256 → id2 < 256
     → NamesSector track (header_cells id1 id2 track sector ++ rest) sector
-unfolding header_cells
+unfolding header_cells AreBytes
 names-sector id1 id2 track sector rest known low first second =
-    let bytes = header_bytes id1 id2 track sector in record {
+    let bytes = header_bytes id1 id2 track sector in
+    let number : track_number track < 256 = omega (arith, known.cylinder) in
+    let address : AreBytes (address_of id1 id2 track sector) = (low, (number, (second, (first, tt)))) in
+    let fit : AreBytes bytes = (lit< tt, (xor-lt (address_of id1 id2 track sector) 0 (lit< tt) address, address)) in record {
       id1 = id1;
       id2 = id2;
       bytes = subst (λ (cells : List Bool). BytesAt cells 10 bytes) (sym (append_assoc (replicate 10 true) (gcr_bytes bytes) rest))
           (BytesAt-past (replicate 10 true) (gcr_bytes bytes ++ rest) 10 0 bytes refl
-          (BytesAt-front bytes rest (AreBytes-header id1 id2 track sector known low first second)));
+          (BytesAt-front bytes rest fit));
     }
 
 -- the bytes of a data block, one part after another
@@ -158,14 +147,15 @@ frame_stands disk track sector bytes before rest known number fit size =
     let stored = gcr_bytes (data_bytes bytes) ++ rest in
     let gap = between ++ stored in
     let header_size = length-header_cells id1 id2 track sector in
+    let there = syncs id1 id2 track sector bytes rest in
     let cells_are = frame-cells disk track sector bytes before rest
     ∙ ap (λ (cells : List Bool). cells ++ gap) (header_cells-mod disk.id1 disk.id2 track sector known low) in
     subst (λ (cells : List Bool). FrameStands 0x7FE 11 70 192 (NamesSector track) IsSync Hold cells sector bytes) (sym cells_are)
     (record {
-      begins = header_begins id1 id2 track sector gap;
+      begins = there.0;
       named = names-sector id1 id2 track sector gap known low (mod-lt disk.id1 (lit< tt)) (mod-lt disk.id2 (lit< tt));
-      opens = ap (take 11) (drop-past header gap 70 122 header_size) ∙ sync_there bytes rest;
-      first = λ place above below. gap-free 0x7FE 11 122 header gap 70 place (lit≤ tt) (sync_free bytes rest) header_size above below;
+      opens = ap (take 11) (drop-past header gap 70 122 header_size) ∙ there.2;
+      first = λ place above below. gap-free 0x7FE 11 122 header gap 70 place (lit≤ tt) there.1 header_size above below;
       held = holds (header ++ gap) bytes size
           (BytesAt-past header gap 70 132 (data_bytes bytes) header_size
           (BytesAt-past between stored 132 0 (data_bytes bytes) length-between (BytesAt-front (data_bytes bytes) rest (AreBytes-data bytes fit))));

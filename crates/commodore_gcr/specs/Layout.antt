@@ -6,9 +6,8 @@ use Rattle.commodore_gcr.specs.declared.layout.Row.{Row}
 use Rattle.commodore_gcr.specs.declared.layout.Row.TheVariants.{SyncLead, SyncOnes, HeaderBlock, HeaderGap, DataBytes, DataFill, ZoneGap}
 use Rattle.commodore_gcr.specs.declared.recording.CommodoreGcr.{CommodoreGcr}
 use Rattle.commodore_gcr.specs.declared.zones.Zone.{Zone}
-use Rattle.commodore_gcr.specs.Blocks.{DATA_FILL, data_bytes, header_block}
 use Rattle.commodore_gcr.specs.Coding.{gcr_bytes, raw_bytes}
-use Rattle.commodore_gcr.specs.Sectors.{SECTOR_SIZE}
+use Rattle.commodore_gcr.specs.Sectors.{DATA_FILL, SECTOR_SIZE, data_bytes, header_block}
 use Rattle.commodore_gcr.specs.Zones.{sectors_of, zone_of}
 
 -- A sector: a sync mark of 40 ones, header block, gap, sync mark, data block, and the zone's gap. Its frame begins with the last

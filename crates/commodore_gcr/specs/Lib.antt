@@ -1,12 +1,10 @@
 pub mod Coding
 pub mod CodingLaws
 pub mod Zones
-pub mod Blocks
 pub mod Sectors
 pub mod Layout
 pub mod ZoneLaws
 pub mod RowLaws
-pub mod StandLaws
 pub mod FrameLaws
 pub mod OwnLaws
 pub mod Syncs

@@ -15,7 +15,7 @@ use Rattle.track_rings.specs.SpacedLaws.{cells-append, cells-each}
 use Rattle.commodore_gcr.specs.declared.layout.Row.{Row}
 use Rattle.commodore_gcr.specs.declared.layout.Row.TheVariants.{SyncLead, SyncOnes, HeaderBlock, HeaderGap, DataBytes, DataFill, ZoneGap}
 use Rattle.commodore_gcr.specs.declared.recording.CommodoreGcr.{CommodoreGcr}
-use Rattle.commodore_gcr.specs.Blocks.{DATA_FILL, data_bytes, header_block}
+use Rattle.commodore_gcr.specs.Sectors.{DATA_FILL, data_bytes, header_block}
 use Rattle.commodore_gcr.specs.Coding.{code_of, gcr, gcr_bytes}
 use Rattle.commodore_gcr.specs.CodingLaws.{length-gcr_bytes}
 use Rattle.commodore_gcr.specs.Layout.{gap_cells, row_cells, row_size}
@@ -75,26 +75,20 @@ byte-follows byte =
 bytes-follow : (bytes : List ℕ) → MayFollow 1 3 1 false (λ before. gcr_bytes bytes)
 bytes-follow bytes = cells-each 1 3 1 gcr byte-follows bytes
 
-ones-follow : MayFollow 1 3 1 false (λ before. replicate 10 true)
-unfolding follows is_spaced zeros_after
-ones-follow = follows-may (replicate 10 true) refl
-
-lead-follows : MayFollow 1 3 1 false (λ before. replicate 30 true)
-unfolding follows is_spaced zeros_after
-lead-follows = follows-may (replicate 30 true) refl
-
-gap_byte-follows : MayFollow 1 3 1 false (λ before. word_cells 8 0x55)
+-- ones, and a byte of a gap
+others-follow : MayFollow 1 3 1 false (λ before. replicate 10 true) × MayFollow 1 3 1 false (λ before. replicate 30 true)
+    × MayFollow 1 3 1 false (λ before. word_cells 8 0x55)
 unfolding follows is_spaced zeros_after word_cells
-gap_byte-follows = follows-may (word_cells 8 0x55) refl
+others-follow = (follows-may (replicate 10 true) refl, follows-may (replicate 30 true) refl, follows-may (word_cells 8 0x55) refl)
 
 gap-follows : (count : ℕ) → MayFollow 1 3 1 false (λ before. gap_cells count)
 gap-follows zero = cells-each 1 3 1 gcr byte-follows []
-gap-follows (suc count) = cells-append 1 3 1 (word_cells 8 0x55) (gap_cells count) gap_byte-follows (gap-follows count)
+gap-follows (suc count) = cells-append 1 3 1 (word_cells 8 0x55) (gap_cells count) others-follow.2 (gap-follows count)
 
 pub row_follows : (disk : CommodoreGcr) (track : TrackId) (sector : ℕ) (bytes : List ℕ) (row : Row)
     → MayFollow 1 3 1 false (λ before. row_cells disk track before sector bytes row)
-row_follows disk track sector bytes SyncLead = lead-follows
-row_follows disk track sector bytes SyncOnes = ones-follow
+row_follows disk track sector bytes SyncLead = others-follow.1
+row_follows disk track sector bytes SyncOnes = others-follow.0
 row_follows disk track sector bytes HeaderBlock = bytes-follow (header_block disk.id1 disk.id2 track sector)
 row_follows disk track sector bytes HeaderGap = gap-follows 9
 row_follows disk track sector bytes DataBytes = bytes-follow (data_bytes bytes)

@@ -1,16 +1,44 @@
--- The sectors of the Commodore 1541's disks (group code): what a header names and what data hold.
-use Rattle.std.specs.Prelude.{◌≡◌, ℕ, ◌+◌, Bool, List, length}
+-- The sectors of the Commodore 1541's disks (group code): the bytes of their two blocks, what a header names and what data hold.
+use Rattle.std.specs.Prelude.{◌≡◌, ℕ, ◌+◌, Bool, List, [], ◌∷◌, ◌++◌, length}
 use Rattle.flux_base.specs.declared.track.TrackId.{TrackId}
 use Rattle.cell_bits.specs.Word.{Stands}
 use Rattle.check_values.specs.Sums.{xor}
 use Rattle.frame_law.specs.Frames.{DataStand, HeaderStands as Header, SectorStands as Sector}
-use Rattle.commodore_gcr.specs.Blocks.{DATA_BYTE, header_bytes}
 use Rattle.commodore_gcr.specs.Coding.{ByteAt, BytesAt}
-use Rattle.commodore_gcr.specs.Zones.{sectors_of}
+use Rattle.commodore_gcr.specs.Zones.{sectors_of, track_number}
 
 -- the bytes of a sector
 abbrev pub SECTOR_SIZE : ℕ
 SECTOR_SIZE = 256
+
+-- the first bytes of a header block and of a data block
+abbrev pub HEADER_BYTE : ℕ
+HEADER_BYTE = 0x08
+
+abbrev pub DATA_BYTE : ℕ
+DATA_BYTE = 0x07
+
+-- the address of a sector, with the two bytes of the disk's id
+abbrev pub address_of : ℕ → ℕ → TrackId → ℕ → List ℕ
+address_of id1 id2 track sector = sector ∷ track_number track ∷ id2 ∷ id1 ∷ []
+
+-- a header: its first byte, the address's check value, and the address
+abbrev pub header_bytes : ℕ → ℕ → TrackId → ℕ → List ℕ
+header_bytes id1 id2 track sector =
+    let address = address_of id1 id2 track sector in
+    HEADER_BYTE ∷ xor address ∷ address
+
+-- with the two bytes that fill the block up
+abbrev pub header_block : ℕ → ℕ → TrackId → ℕ → List ℕ
+header_block id1 id2 track sector = header_bytes id1 id2 track sector ++ 0x0F ∷ 0x0F ∷ []
+
+-- data: their first byte, a sector's bytes, and their check value
+abbrev pub data_bytes : List ℕ → List ℕ
+data_bytes bytes = DATA_BYTE ∷ (bytes ++ xor bytes ∷ [])
+
+-- the two bytes that fill the block up
+abbrev pub DATA_FILL : List ℕ
+DATA_FILL = 0x00 ∷ 0x00 ∷ []
 
 -- the sync: ten ones, however many stand before them, and the zero with which a block begins
 abbrev pub SYNC : ℕ

@@ -1,11 +1,11 @@
 -- Where a header's sync, with the header's first byte, stands in a ring: only where a sector's header begins.
-use Rattle.std.specs.Prelude.{◌≡◌, ℕ, zero, suc, ◌+◌, ◌-◌, ◌/◌, ◌%◌, ◌<◌, ◌≤◌, ◌⊎◌, Bool, true, false, List, [], ◌∷◌, ◌++◌, length, take, drop, get_or, replicate, Option, Some, None, nat_lt, refl}
+use Rattle.std.specs.Prelude.{◌≡◌, ℕ, zero, suc, ◌+◌, ◌-◌, ◌/◌, ◌%◌, ◌<◌, ◌≤◌, ◌⊎◌, Bool, true, false, List, [], ◌∷◌, ◌++◌, length, take, drop, get_or, replicate, Option, Some, nat_lt, refl}
 use Rattle.std.specs.List.{flat_map, range_with_len}
 use Rattle.std.proofs.Common.{ap, sym, subst, ◌∙◌, arith, inl, inr, lit<, lit≤}
 use Rattle.std.proofs.Math.Seq.{take-add}
-use Rattle.std.proofs.lemmas.Bool.{agree_below, agree_below_at, cases_lt}
+use Rattle.std.proofs.lemmas.Bool.{agree_below, agree_below_at}
 use Rattle.std.proofs.lemmas.Bool.Decides.{nat_tests}
-use Rattle.std.proofs.lemmas.List.{get_or-append-add, get_or-drop, get_or-replicate, take-take}
+use Rattle.std.proofs.lemmas.List.{get_or-append-add, get_or-drop, get_or-replicate, get_or-take, take-take}
 use Rattle.std.proofs.Math.ListN.{get_or-append}
 use Rattle.flux_base.specs.declared.track.TrackId.{TrackId}
 use Rattle.cell_bits.specs.Word.{Stands, word_cells}
@@ -17,11 +17,10 @@ use Rattle.track_rings.specs.Rows.{coded, part_cells, place_of, ring_of as ring_
 use Rattle.track_rings.specs.Syncs.{Nowhere, QuietPart, SyncPart, Syncs, all_known, fits, fits-word, part-skip, part-then, quiet-all, quiet-append, quiet-none}
 use Rattle.frame_law.specs.OwnFrames.{HasOwnSyncs}
 use Rattle.commodore_gcr.specs.declared.recording.CommodoreGcr.{CommodoreGcr}
-use Rattle.commodore_gcr.specs.Blocks.{DATA_FILL, data_bytes, header_block}
 use Rattle.commodore_gcr.specs.Coding.{code_of, gcr, gcr_bytes}
 use Rattle.commodore_gcr.specs.Layout.{gap_cells, ring_of, row_cells, row_size, rows}
 use Rattle.commodore_gcr.specs.RowLaws.{nibble-lt, row_length}
-use Rattle.commodore_gcr.specs.Sectors.{NamesSector}
+use Rattle.commodore_gcr.specs.Sectors.{DATA_FILL, NamesSector, data_bytes, header_block}
 use Rattle.commodore_gcr.specs.ZoneLaws.{counts}
 use Rattle.commodore_gcr.specs.Zones.{sectors_of, zone_of}
 
@@ -45,55 +44,58 @@ leads track cells s stands names =
     (take-add 10 10 cells ∙ ap (λ (first : List Bool). first ++ take 10 (drop 10 cells)) ones
     ∙ ap (λ (last : List Bool). replicate 10 true ++ last) code)
 
--- what is known of a cell
-fits-at : (pattern : List (Option Bool)) (cells : List Bool) (k : ℕ) (cell : Bool) → fits pattern cells ≡ true → get_or pattern k None ≡ Some cell
-    → get_or cells k false ≡ cell
+-- its cells
+known-take : (word cells : List Bool) → fits (all_known word) cells ≡ true → take (length word) cells ≡ word
 unfolding fits
-fits-at [] cells k cell fit known = absurd (cc)
-fits-at (first ∷ pattern) [] k cell fit known = absurd (cc)
-fits-at (None ∷ pattern) (one ∷ cells) zero cell fit known = absurd (cc)
-fits-at (Some true ∷ pattern) (false ∷ cells) k cell fit known = absurd (cc)
-fits-at (Some false ∷ pattern) (true ∷ cells) k cell fit known = absurd (cc)
-fits-at (Some true ∷ pattern) (true ∷ cells) zero cell fit known = cc
-fits-at (Some false ∷ pattern) (false ∷ cells) zero cell fit known = cc
-fits-at (None ∷ pattern) (one ∷ cells) (suc k) cell fit known = fits-at pattern cells k cell fit known
-fits-at (Some true ∷ pattern) (true ∷ cells) (suc k) cell fit known = fits-at pattern cells k cell fit known
-fits-at (Some false ∷ pattern) (false ∷ cells) (suc k) cell fit known = fits-at pattern cells k cell fit known
+known-take [] cells fit = refl
+known-take (cell ∷ word) [] fit = absurd (cc)
+known-take (true ∷ word) (true ∷ cells) fit = ap (λ (rest : List Bool). true ∷ rest) (known-take word cells fit)
+known-take (true ∷ word) (false ∷ cells) fit = absurd (cc)
+known-take (false ∷ word) (true ∷ cells) fit = absurd (cc)
+known-take (false ∷ word) (false ∷ cells) fit = ap (λ (rest : List Bool). false ∷ rest) (known-take word cells fit)
 
--- the sync has ten ones, and then a zero; the sixth cell of the code of 08 is a zero too
-sync-ones : (cells : List Bool) (k : ℕ) → HeaderSync cells → k < 10 → get_or cells k false ≡ true
-unfolding sync_rest
-sync-ones cells k test low =
-    fits-at (Some true ∷ sync_rest) cells k true test
-    (get_or-append (replicate 10 (Some true)) (all_known (gcr 0x08)) None k low ∙ get_or-replicate 10 k (Some true) None low)
-
-sync-zero : (cells : List Bool) → HeaderSync cells → get_or cells 10 false ≡ false
-unfolding sync_rest gcr code_of word_cells
-sync-zero cells test = fits-at (Some true ∷ sync_rest) cells 10 false test refl
-
-sync-code : (cells : List Bool) → HeaderSync cells → get_or cells 15 false ≡ false
-unfolding sync_rest gcr code_of word_cells
-sync-code cells test = fits-at (Some true ∷ sync_rest) cells 15 false test refl
+sync-cell : (cells : List Bool) (k : ℕ) → HeaderSync cells → k < 20 → get_or cells k false ≡ get_or (replicate 10 true ++ gcr 0x08) k false
+unfolding sync_rest gcr word_cells
+sync-cell cells k test low =
+    sym (get_or-take 20 cells k false low) ∙ ap (λ (word : List Bool). get_or word k false) (known-take (replicate 10 true ++ gcr 0x08) cells test)
 
 -- so it begins neither less than ten cells before a zero nor ten cells before a one
 zero-clash : (cells : List Bool) (place zero_place : ℕ) → place ≤ zero_place → zero_place < place + 10 → get_or cells zero_place false ≡ false
     → ¬ HeaderSync (drop place cells)
 zero-clash cells place zero_place above below is_zero test =
     let e : place + (zero_place - place) ≡ zero_place = omega arith in
-    let one = sync-ones (drop place cells) (zero_place - place) test (omega arith) in
+    let k = zero_place - place in
+    let low : k < 10 = omega arith in
+    let one = sync-cell (drop place cells) k test (omega (arith, low)) ∙ get_or-append (replicate 10 true) (gcr 0x08) false k low
+    ∙ get_or-replicate 10 k true false low in
     let there = get_or-drop place cells (zero_place - place) false ∙ ap (λ (n : ℕ). get_or cells n false) e in
     cc
 
 one-clash : (cells : List Bool) (place : ℕ) → get_or cells (place + 10) false ≡ true → ¬ HeaderSync (drop place cells)
+unfolding gcr code_of word_cells
 one-clash cells place is_one test =
-    let last = sync-zero (drop place cells) test in
+    let last : get_or (drop place cells) 10 false ≡ false = sync-cell (drop place cells) 10 test (lit< tt) in
     let there = get_or-drop place cells 10 false in
     cc
 
--- what may follow a code: a zero among the first five cells, or ten ones
-TenOnes : List Bool → Type 0
-TenOnes cells = (k : ℕ) → k < 10 → get_or cells k false ≡ true
+-- so many ones stand first
+Ones : ℕ → List Bool → Type 0
+Ones count cells = (k : ℕ) → k < count → get_or cells k false ≡ true
 
+ones-before : (more count : ℕ) (rest : List Bool) → Ones count rest → Ones (more + count) (replicate more true ++ rest)
+unfolding Ones
+ones-before zero count rest ones k low = ones k (omega arith)
+ones-before (suc more) count rest ones zero low = refl
+ones-before (suc more) count rest ones (suc k) low = ones-before more count rest ones k (omega arith)
+
+TenOnes : List Bool → Type 0
+TenOnes cells = Ones 10 cells
+
+ten_ones : (more : ℕ) (rest : List Bool) → 10 ≤ more → TenOnes (replicate more true ++ rest)
+unfolding TenOnes Ones
+ten_ones more rest enough k low = ones-before more 0 rest (λ i none. absurd (omega arith)) k (omega arith)
+
+-- what may follow a code: a zero among the first five cells, or ten ones
 Follows : List Bool → Type 0
 Follows cells = ((k : ℕ) × (k < 5) × (get_or cells k false ≡ false)) ⊎ TenOnes cells
 
@@ -111,7 +113,7 @@ zero_of-is (false ∷ cells) = refl
 
 -- a few cells with a zero
 short_nowhere : (xs rest : List Bool) → length xs ≤ 5 → Follows rest → Nowhere HeaderSync xs rest
-unfolding Follows TenOnes
+unfolding Follows TenOnes Ones
 short_nowhere xs rest short (inl has) place within test =
     zero-clash (xs ++ rest) place (length xs + has.0) (omega arith) (omega (arith, has.1)) (get_or-append-add xs rest has.0 false ∙ has.2) test
 short_nowhere xs rest short (inr ones) place within test =
@@ -163,36 +165,21 @@ gap_quiet (suc count) =
     quiet-append HeaderSync Follows Follows Follows (word_cells 8 0x55) (gap_cells count) gap_byte_quiet (gap_quiet count)
 
 -- the first ones of a sync mark, before ten ones
-lead_one : (rest : List Bool) (k : ℕ) → TenOnes rest → k < 40 → get_or (replicate 30 true ++ rest) k false ≡ true
-unfolding TenOnes
-lead_one rest k ones within =
-    elim (cases_lt k 30) [
-      | inl low ↦ get_or-append (replicate 30 true) rest false k low ∙ get_or-replicate 30 k true false low
-      | inr high ↦
-          let e : k ≡ 30 + (k - 30) = omega arith in
-          ap (λ (n : ℕ). get_or (replicate 30 true ++ rest) n false) e ∙ get_or-append-add (replicate 30 true) rest (k - 30) false
-          ∙ ones (k - 30) (omega arith)
-    ]
-
 lead_quiet : QuietPart HeaderSync TenOnes Follows (replicate 30 true)
-unfolding Follows TenOnes
+unfolding Follows TenOnes Ones
 lead_quiet rest ones = (
-  λ place within test. one-clash (replicate 30 true ++ rest) place (lead_one rest (place + 10) ones (omega (arith, within))) test,
-  inr (λ k low. lead_one rest k ones (omega arith)),
+  λ place within test. one-clash (replicate 30 true ++ rest) place (ones-before 30 10 rest ones (place + 10) (omega (arith, within))) test,
+  inr (ten_ones 30 rest (lit≤ tt)),
 )
 
 -- the last ten ones, before a block: the zero with which it begins
 Opens : List Bool → Type 0
 Opens cells = get_or cells 0 false ≡ false
 
-ten_ones : (rest : List Bool) → TenOnes (replicate 10 true ++ rest)
-unfolding TenOnes
-ten_ones rest k low = get_or-append (replicate 10 true) rest false k low ∙ get_or-replicate 10 k true false low
-
 -- before a header's the sync begins at the first of them
 header_ones : SyncPart HeaderSync (λ place. place ≡ 0) Opens TenOnes (replicate 10 true)
 unfolding Opens
-header_ones rest opens = (first, ten_ones rest)
+header_ones rest opens = (first, ten_ones 10 rest (lit≤ tt))
   where
     first : (place : ℕ) → place < 10 → HeaderSync (drop place (replicate 10 true ++ rest)) → place ≡ 0
     first zero within test = refl
@@ -204,13 +191,14 @@ OpensData : List Bool → Type 0
 OpensData cells = Opens cells × (get_or cells 5 false ≡ true)
 
 data_ones : QuietPart HeaderSync OpensData TenOnes (replicate 10 true)
-unfolding OpensData
-data_ones rest opens = (none, ten_ones rest)
+unfolding OpensData gcr code_of word_cells
+data_ones rest opens = (none, ten_ones 10 rest (lit≤ tt))
   where
     none : (place : ℕ) → place < 10 → ¬ HeaderSync (drop place (replicate 10 true ++ rest))
     none place within test =
         let e = (header_ones rest opens.0).0 place within test in
-        let code = sync-code (replicate 10 true ++ rest) (subst (λ (n : ℕ). HeaderSync (drop n (replicate 10 true ++ rest))) e test) in
+        let first = subst (λ (n : ℕ). HeaderSync (drop n (replicate 10 true ++ rest))) e test in
+        let code : get_or (replicate 10 true ++ rest) 15 false ≡ false = sync-cell (replicate 10 true ++ rest) 15 first (lit< tt) in
         let one = opens.1 in
         cc
 
@@ -245,15 +233,11 @@ sector_part disk track before s bytes =
     (quiet-none HeaderSync Follows)))))))))
 
 -- a ring begins with ones
-ones_first : (rest : List Bool) → Follows (replicate 30 true ++ rest)
-unfolding Follows TenOnes
-ones_first rest = inr (λ k low. get_or-append (replicate 30 true) rest false k (omega arith) ∙ get_or-replicate 30 k true false (omega arith))
-
 sectors_follow : (disk : CommodoreGcr) (track : TrackId) (bytes : List ℕ) (count : ℕ) → 1 ≤ count
     → Follows (coded false (part_cells (row_cells disk track)) false (flat_map (sector_parts 0 256 bytes rows) (range_with_len 0 count) ++ []))
-unfolding coded sector_parts
+unfolding coded sector_parts Follows
 sectors_follow disk track bytes zero some = absurd (omega arith)
-sectors_follow disk track bytes (suc count) some = ones_first _
+sectors_follow disk track bytes (suc count) some = inr (ten_ones 30 _ (lit≤ tt))
 
 ring_follows : (disk : CommodoreGcr) (track : TrackId) (bytes : List ℕ) → Follows (ring_of disk track bytes)
 unfolding ring_of_rows track_parts

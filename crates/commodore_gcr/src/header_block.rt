@@ -1,7 +1,6 @@
 ghost use Rattle.std.specs.Prelude.{◌≡◌, ℕ, ◌≤◌, List, length, IfNone, IfSome};
-ghost use Rattle.commodore_gcr.specs.Blocks.{header_block as block_of_header};
 ghost use Rattle.commodore_gcr.specs.Coding.{BytesAt};
-ghost use Rattle.commodore_gcr.specs.Sectors.{NamesSector};
+ghost use Rattle.commodore_gcr.specs.Sectors.{NamesSector, header_block as block_of_header};
 ghost use Rattle.commodore_gcr.specs.Zones.{IsTrack};
 
 use crate::fields::byte_at;

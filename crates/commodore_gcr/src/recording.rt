@@ -1,10 +1,9 @@
 ghost use Rattle.std.specs.Prelude.{◌≡◌, ℕ, ◌+◌, false, refl};
 ghost use Rattle.commodore_gcr.specs.FrameLaws.{frame_stands};
 ghost use Rattle.commodore_gcr.specs.Layout.{ring_cells_of, row_cells, row_size, rows};
-ghost use Rattle.commodore_gcr.specs.OwnLaws.{tells};
+ghost use Rattle.commodore_gcr.specs.OwnLaws.{one_content, one_name, sizes, tells, within_reach};
 ghost use Rattle.commodore_gcr.specs.RowLaws.{row_follows, row_length};
 ghost use Rattle.commodore_gcr.specs.Sectors.{Hold, IsSync, NamesSector};
-ghost use Rattle.commodore_gcr.specs.StandLaws.{one_content, one_name, sizes, within_reach};
 ghost use Rattle.commodore_gcr.specs.Syncs.{own_syncs};
 ghost use Rattle.commodore_gcr.specs.ZoneLaws.{counts, sums};
 ghost use Rattle.commodore_gcr.specs.Zones.{IsTrack, sectors_of, zone_of};

@@ -1,7 +1,7 @@
 ghost use Rattle.std.specs.Prelude.{◌≡◌, ◌≤◌, ℕ, false, replicate};
 ghost use Rattle.frame_law.specs.Writing.{AppendsCells};
 ghost use Rattle.cell_bits.specs.Word.{word_cells};
-ghost use Rattle.commodore_gcr.specs.Blocks.{data_bytes};
+ghost use Rattle.commodore_gcr.specs.Sectors.{data_bytes};
 ghost use Rattle.commodore_gcr.specs.Coding.{gcr, gcr_bytes};
 ghost use Rattle.commodore_gcr.specs.Layout.{gap_cells, row_cells};
 ghost use Rattle.commodore_gcr.specs.Zones.{IsTrack};

@@ -1,6 +1,6 @@
 use Rattle.std.proofs.Common.{◌≡◌, ℕ, ◌∷◌, [], List, get_or, refl, ap, arith, sym, subst, ◌∙◌}
 use Rattle.check_values.specs.Sums.{xor}
-use Rattle.commodore_gcr.specs.Blocks.{address_of, header_bytes}
+use Rattle.commodore_gcr.specs.Sectors.{address_of, header_bytes}
 use Rattle.commodore_gcr.specs.Coding.{ByteAt}
 use Rattle.commodore_gcr.specs.Zones.{track_number}
 use Rattle.commodore_gcr.proofs.Bytes.{header_is, in_any_case, six_bytes}
