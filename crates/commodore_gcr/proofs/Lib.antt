@@ -1,4 +1,2 @@
-pub mod Blocks
 pub mod Bytes
 pub mod Tables
-pub mod Writes

@@ -1,13 +1,61 @@
 -- The code's tables against the list of codes.
-use Rattle.std.proofs.Common.{◌≡◌, ℕ, ◌+◌, ◌*◌, ◌/◌, ◌%◌, ◌<◌, Bool, false, if◌then◌else◌, nat_eq, get_or, map, refl, ap, sym, ◌∙◌, arith, lit<}
+use Rattle.std.proofs.Common.{◌≡◌, ℕ, ◌+◌, ◌*◌, ◌/◌, ◌%◌, ◌<◌, Bool, false, if◌then◌else◌, nat_eq, List, get_or, map, refl, ap, sym, ◌∙◌, arith, lit<}
 use Rattle.std.specs.List.{range_with_len}
 use Rattle.std.proofs.lemmas.Bool.Decides.{nat_tests}
+use Rattle.std.proofs.lemmas.List.FromFn.{get_or-map-range_with_len}
 use Rattle.std.proofs.Math.Nat.{mod-eq_of_lt, mod-lt}
 use Rattle.cell_bits.specs.Word.{word_cells, number_of}
-use Rattle.cell_bits.specs.WordLaws.{number_of-word_cells}
+use Rattle.cell_bits.specs.WordLaws.{number_of-word_cells, word_cells-append}
 use Rattle.commodore_gcr.specs.Coding.{code_of, gcr}
-use Rattle.commodore_gcr.specs.CodingLaws.{agree_at, codes_of_number, gcr-cells, gcr_number, nibble_of_code, number_of-gcr}
+use Rattle.commodore_gcr.specs.RowLaws.{nibble-lt}
 use Rattle.commodore_gcr.specs.declared.coding.TheConstants.{CODES, NIBBLES}
+
+-- two functions that agree in a list of their values agree at each number of it
+agree_at : (f g : ℕ → ℕ) (count x : ℕ) → x < count → map f (range_with_len 0 count) ≡ map g (range_with_len 0 count) → f x ≡ g x
+agree_at f g count x within same =
+    sym (get_or-map-range_with_len f 0 count x x 0 within (omega arith))
+    ∙ ap (λ (values : List ℕ). get_or values x 0) same
+    ∙ get_or-map-range_with_len g 0 count x x 0 within (omega arith)
+
+-- the table of nibbles has each nibble at its code
+nibble_table : map (λ n. get_or NIBBLES (code_of n) 0) (range_with_len 0 16) ≡ map (λ n. n) (range_with_len 0 16)
+unfolding code_of
+nibble_table = refl
+
+nibble_of_code : (nibble : ℕ) → nibble < 16 → get_or NIBBLES (code_of nibble) 0 ≡ nibble
+nibble_of_code nibble low = agree_at (λ n. get_or NIBBLES (code_of n) 0) (λ n. n) 16 nibble low nibble_table
+
+-- codes have five bits
+five_bits : map (λ n. code_of n % 32) (range_with_len 0 16) ≡ map code_of (range_with_len 0 16)
+unfolding code_of
+five_bits = refl
+
+code-lt : (nibble : ℕ) → nibble < 16 → code_of nibble < 32
+code-lt nibble low =
+    let same : code_of nibble % 32 ≡ code_of nibble = agree_at (λ n. code_of n % 32) code_of 16 nibble low five_bits in
+    omega (arith, same, mod-lt (code_of nibble) (let some : 0 < 32 = lit< tt in some))
+
+-- the ten cells of a byte as a number
+abbrev pub gcr_number : ℕ → ℕ
+gcr_number byte = code_of (byte / 16 % 16) * 32 + code_of (byte % 16)
+
+pub gcr-cells : (byte : ℕ) → gcr byte ≡ word_cells 10 (gcr_number byte)
+unfolding gcr
+gcr-cells byte = sym (word_cells-append 5 5 (code_of (byte / 16 % 16)) (code_of (byte % 16)) (code-lt (byte % 16) (nibble-lt byte)))
+
+gcr_number-lt : (byte : ℕ) → gcr_number byte < 1024
+gcr_number-lt byte = omega (arith, code-lt (byte / 16 % 16) (nibble-lt (byte / 16)), code-lt (byte % 16) (nibble-lt byte))
+
+number_of-gcr : (byte : ℕ) → number_of (gcr byte) ≡ gcr_number byte
+number_of-gcr byte =
+    ap number_of (gcr-cells byte) ∙ number_of-word_cells 10 (gcr_number byte) ∙ mod-eq_of_lt (gcr_number-lt byte)
+
+-- two codes, as a number, tell the codes
+codes_of_number : (byte high low : ℕ) → low < 32 → gcr_number byte ≡ high * 32 + low
+    → (code_of (byte / 16 % 16) ≡ high) × (code_of (byte % 16) ≡ low)
+codes_of_number byte high low short same =
+    let second = code-lt (byte % 16) (nibble-lt byte) in
+    (omega (arith, same, second), omega (arith, same, second))
 
 pub code_in_table : (nibble : ℕ) → get_or CODES nibble 0 ≡ code_of nibble
 unfolding code_of
@@ -28,8 +76,8 @@ code_of_nibble code short filled =
     ap (λ (no : Bool). if no then code else code_of (get_or NIBBLES code 0)) (sym known)
     ∙ agree_at (λ c. if nat_eq (get_or NIBBLES c 0) 255 then c else code_of (get_or NIBBLES c 0)) (λ c. c) 32 code short codes_again
 
-pub nibble-lt : (code : ℕ) → code < 32 → ¬ (get_or NIBBLES code 0 ≡ 255) → get_or NIBBLES code 0 < 16
-nibble-lt code short filled =
+pub nibble_fits : (code : ℕ) → code < 32 → ¬ (get_or NIBBLES code 0 ≡ 255) → get_or NIBBLES code 0 < 16
+nibble_fits code short filled =
     let nibble = get_or NIBBLES code 0 in
     let known : nat_eq nibble 255 ≡ false = grind (arith, nat_tests) in
     let same : nibble % 16 ≡ nibble =

@@ -1,6 +1,7 @@
 -- Group code of the Commodore 1541: each nibble is written as a code of five cells, each byte as ten cells.
-use Rattle.std.specs.Prelude.{◌≡◌, ℕ, ◌+◌, ◌/◌, ◌%◌, ◌<◌, Bool, List, [], ◌∷◌, ◌++◌, take, drop, get_or, flat_map}
+use Rattle.std.specs.Prelude.{◌≡◌, ℕ, ◌/◌, ◌%◌, ◌<◌, Bool, List, [], ◌∷◌, ◌++◌, take, drop, get_or, flat_map}
 use Rattle.cell_bits.specs.Word.{word_cells}
+use Rattle.frame_law.specs.WordRows.{ListStands}
 
 -- the codes of the nibbles 0 to F as numbers of five bits: 01010, 01011, 10010, 10011, 01110, 01111, 10110, 10111, 01001, 11001,
 -- 11010, 11011, 01101, 11101, 11110, 10101
@@ -28,7 +29,6 @@ raw_bytes bytes = flat_map (word_cells 8) bytes
 abbrev pub ByteAt : List Bool → ℕ → ℕ → Type 0
 ByteAt cells place byte = (byte < 256) × (take 10 (drop place cells) ≡ gcr byte)
 
--- the codes of bytes stand one behind another from a place on
-unfoldable pub BytesAt : List Bool → ℕ → List ℕ → Type 0
-BytesAt cells place [] = Unit {0}
-BytesAt cells place (byte ∷ bytes) = ByteAt cells place byte × BytesAt cells (place + 10) bytes
+-- the codes of bytes stand one after another from a place on
+abbrev pub BytesAt : List Bool → ℕ → List ℕ → Type 0
+BytesAt cells place bytes = ListStands 10 ByteAt cells place bytes

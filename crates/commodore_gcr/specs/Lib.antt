@@ -1,15 +1,10 @@
 pub mod Coding
 pub mod CodingLaws
-pub mod Spacing
 pub mod Zones
-pub mod Blocks
 pub mod Sectors
-pub mod Fields
 pub mod Layout
 pub mod ZoneLaws
-pub mod Lengths
-pub mod StandLaws
+pub mod RowLaws
 pub mod FrameLaws
-pub mod RingLaws
-pub mod Syncs
 pub mod OwnLaws
+pub mod Syncs

@@ -1,17 +1,44 @@
--- The sectors of the Commodore 1541's disks (group code): when a header and when a sector stands at the front of a list of
--- cells.
-use Rattle.std.specs.Prelude.{◌≡◌, ℕ, ◌+◌, ◌<◌, ◌≤◌, Bool, List, length, Some}
+-- The sectors of the Commodore 1541's disks (group code): the bytes of their two blocks, what a header names and what data hold.
+use Rattle.std.specs.Prelude.{◌≡◌, ℕ, ◌+◌, Bool, List, [], ◌∷◌, ◌++◌, length}
 use Rattle.flux_base.specs.declared.track.TrackId.{TrackId}
-use Rattle.cell_bits.specs.Broken.{Unbroken}
-use Rattle.cell_bits.specs.Search.{IsFirstWord}
 use Rattle.cell_bits.specs.Word.{Stands}
-use Rattle.commodore_gcr.specs.Blocks.{data_bytes, header_bytes}
-use Rattle.commodore_gcr.specs.Coding.{BytesAt}
-use Rattle.commodore_gcr.specs.Zones.{sectors_of}
+use Rattle.check_values.specs.Sums.{xor}
+use Rattle.frame_law.specs.Frames.{DataStand, HeaderStands as Header, SectorStands as Sector}
+use Rattle.commodore_gcr.specs.Coding.{ByteAt, BytesAt}
+use Rattle.commodore_gcr.specs.Zones.{sectors_of, track_number}
 
 -- the bytes of a sector
 abbrev pub SECTOR_SIZE : ℕ
 SECTOR_SIZE = 256
+
+-- the first bytes of a header block and of a data block
+abbrev pub HEADER_BYTE : ℕ
+HEADER_BYTE = 0x08
+
+abbrev pub DATA_BYTE : ℕ
+DATA_BYTE = 0x07
+
+-- the address of a sector, with the two bytes of the disk's id
+abbrev pub address_of : ℕ → ℕ → TrackId → ℕ → List ℕ
+address_of id1 id2 track sector = sector ∷ track_number track ∷ id2 ∷ id1 ∷ []
+
+-- a header: its first byte, the address's check value, and the address
+abbrev pub header_bytes : ℕ → ℕ → TrackId → ℕ → List ℕ
+header_bytes id1 id2 track sector =
+    let address = address_of id1 id2 track sector in
+    HEADER_BYTE ∷ xor address ∷ address
+
+-- with the two bytes that fill the block up
+abbrev pub header_block : ℕ → ℕ → TrackId → ℕ → List ℕ
+header_block id1 id2 track sector = header_bytes id1 id2 track sector ++ 0x0F ∷ 0x0F ∷ []
+
+-- data: their first byte, a sector's bytes, and their check value
+abbrev pub data_bytes : List ℕ → List ℕ
+data_bytes bytes = DATA_BYTE ∷ (bytes ++ xor bytes ∷ [])
+
+-- the two bytes that fill the block up
+abbrev pub DATA_FILL : List ℕ
+DATA_FILL = 0x00 ∷ 0x00 ∷ []
 
 -- the sync: ten ones, however many stand before them, and the zero with which a block begins
 abbrev pub SYNC : ℕ
@@ -20,7 +47,7 @@ SYNC = 0x7FE
 abbrev pub SYNC_CELLS : ℕ
 SYNC_CELLS = 11
 
--- the ones of a sync: its block begins so many cells behind its place
+-- the ones of a sync: its block begins so many cells after its place
 abbrev pub SYNC_ONES : ℕ
 SYNC_ONES = 10
 
@@ -28,39 +55,38 @@ SYNC_ONES = 10
 abbrev pub HEADER_CELLS : ℕ
 HEADER_CELLS = 70
 
--- a header: a sync, and behind it the header's bytes of this sector of this track, for some id
-pub record HeaderStands (track : TrackId) (cells : List Bool) (sector : ℕ) : Type 0 where
-  pub sync : Stands cells SYNC SYNC_CELLS 0
-  pub whole : HEADER_CELLS ≤ length cells
+-- a header names a sector: the header's bytes of this sector of this track stand in it, for some id
+pub record NamesSector (track : TrackId) (cells : List Bool) (sector : ℕ) : Type 0 where
   pub id1 : ℕ
   pub id2 : ℕ
   pub bytes : BytesAt cells SYNC_ONES (header_bytes id1 id2 track sector)
-  pub known : sector < sectors_of track
-  pub unbroken : Unbroken cells 0 HEADER_CELLS
 
--- the data's sync begins less than this number of cells behind the header
-abbrev pub DATA_REACH : ℕ
-DATA_REACH = 1024
-
--- the first sync behind the header, within reach
-abbrev pub IsDataSync : List Bool → ℕ → Type 0
-IsDataSync cells sync = IsFirstWord cells SYNC SYNC_CELLS HEADER_CELLS (HEADER_CELLS + DATA_REACH) (Some sync)
+-- after a header any sync is one for data
+abbrev pub IsSync : List Bool → ℕ → Type 0
+IsSync cells place = Stands cells SYNC SYNC_CELLS place
 
 -- the cells of the data: the sync's ones, a first byte, a sector's bytes and their check value
 abbrev pub DATA_CELLS : ℕ
 DATA_CELLS = 2590
 
--- the data: their sync, which is the first one behind the header, and behind it the data's bytes, with all cells from the
--- header's begin on unbroken
-pub record DataStands (cells : List Bool) (bytes : List ℕ) : Type 0 where
-  pub sync : ℕ
-  pub first_sync : IsDataSync cells sync
-  pub whole : sync + DATA_CELLS ≤ length cells
-  pub size : length bytes ≡ SECTOR_SIZE
-  pub content : BytesAt cells (sync + SYNC_ONES) (data_bytes bytes)
-  pub unbroken : Unbroken cells 0 (sync + DATA_CELLS)
+-- where the bytes and their check value begin, in cells from the data's sync
+abbrev pub CONTENT_PLACE : ℕ
+CONTENT_PLACE = 20
 
--- a sector: its header and its data
-pub record SectorStands (track : TrackId) (cells : List Bool) (sector : ℕ) (bytes : List ℕ) : Type 0 where
-  pub header : HeaderStands track cells sector
-  pub content : DataStands cells bytes
+abbrev pub CONTENT_CHECK_PLACE : ℕ
+CONTENT_CHECK_PLACE = 2580
+
+-- data hold a sector's bytes: the first byte of data, these bytes, and their check value
+pub record Hold (cells : List Bool) (sync : ℕ) (bytes : List ℕ) : Type 0 where
+  pub opens : ByteAt cells (sync + SYNC_ONES) DATA_BYTE
+  pub size : length bytes ≡ SECTOR_SIZE
+  pub content : BytesAt cells (sync + CONTENT_PLACE) bytes
+  pub check : ByteAt cells (sync + CONTENT_CHECK_PLACE) (xor bytes)
+
+-- a header and a sector stand, as on any track
+abbrev pub HeaderStands : TrackId → List Bool → ℕ → Type 0
+HeaderStands track cells sector = Header SYNC SYNC_CELLS HEADER_CELLS 0 (sectors_of track) (NamesSector track) cells sector
+
+abbrev pub SectorStands : TrackId → List Bool → ℕ → List ℕ → Type 0
+SectorStands track cells sector bytes =
+    Sector (HeaderStands track cells sector) (DataStand HEADER_CELLS DATA_CELLS IsSync Hold cells bytes)

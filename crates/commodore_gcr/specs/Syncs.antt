@@ -1,23 +1,27 @@
--- Where a header's sync stands in a ring: only where a sector's header begins.
-use Rattle.std.specs.Prelude.{◌≡◌, ℕ, zero, suc, ◌*◌, ◌/◌, ◌%◌, ◌<◌, ◌⊎◌, Bool, true, false, cond, List, [], ◌∷◌, ◌++◌, length, take, drop, map, replicate, Option, Some, None, refl}
-use Rattle.std.specs.List.{range_with_len}
-use Rattle.std.proofs.Common.{ap, sym, subst, ◌∙◌, arith, inl, inr, append_assoc}
+-- Where a header's sync, with the header's first byte, stands in a ring: only where a sector's header begins.
+use Rattle.std.specs.Prelude.{◌≡◌, ℕ, zero, suc, ◌+◌, ◌-◌, ◌/◌, ◌%◌, ◌<◌, ◌≤◌, ◌⊎◌, Bool, true, false, List, [], ◌∷◌, ◌++◌, length, take, drop, get_or, replicate, Option, Some, nat_lt, refl}
+use Rattle.std.specs.List.{flat_map, range_with_len}
+use Rattle.std.proofs.Common.{ap, sym, subst, ◌∙◌, arith, inl, inr, lit<, lit≤}
 use Rattle.std.proofs.Math.Seq.{take-add}
-use Rattle.std.proofs.lemmas.List.{take-take}
+use Rattle.std.proofs.lemmas.Bool.{agree_below, agree_below_at}
+use Rattle.std.proofs.lemmas.Bool.Decides.{nat_tests}
+use Rattle.std.proofs.lemmas.List.{get_or-append-add, get_or-drop, get_or-replicate, get_or-take, take-take}
+use Rattle.std.proofs.Math.ListN.{get_or-append}
 use Rattle.flux_base.specs.declared.track.TrackId.{TrackId}
 use Rattle.cell_bits.specs.Word.{Stands, word_cells}
-use Rattle.track_rings.specs.Owning.{IsSyncPlace, Leads}
-use Rattle.track_rings.specs.Rings.{bytes_of}
-use Rattle.track_rings.specs.Syncs.{Nowhere, Only, QuietPart, SyncPart, Syncs, all_known, clashes, clashes_at_all, fits, fits-append, fits-known, fits-word, nowhere-known, only-append, only-first, part-sectors, part-then, quiet-all, quiet-append, quiet-none}
-use Rattle.check_values.specs.Sums.{xor}
-use Rattle.commodore_gcr.specs.Blocks.{address_of, data_block, header_block}
-use Rattle.commodore_gcr.specs.Coding.{BytesAt, code_of, gcr, gcr_bytes, raw_bytes}
-use Rattle.commodore_gcr.specs.CodingLaws.{agree_at, nibble-lt}
-use Rattle.commodore_gcr.specs.Layout.{pieces_cells, pitch_of, place_of, ring_of, sector_cells}
-use Rattle.commodore_gcr.specs.Lengths.{length-sector_cells}
-use Rattle.commodore_gcr.specs.RingLaws.{before_frame, before_in_ring, ring_parts, sectors_before}
-use Rattle.commodore_gcr.specs.Sectors.{HeaderStands}
-use Rattle.commodore_gcr.specs.ZoneLaws.{some_sectors}
+use Rattle.cell_bits.specs.WordLaws.{length-word_cells}
+use Rattle.track_rings.specs.Owning.{Leads}
+use Rattle.track_rings.specs.Rings.{AreSectors, bytes_of}
+use Rattle.track_rings.specs.RowSyncs.{syncs-in_ring}
+use Rattle.track_rings.specs.Rows.{coded, part_cells, place_of, ring_of as ring_of_rows, rows_cells, sector_parts, sector_rows, total, track_parts}
+use Rattle.track_rings.specs.Syncs.{Nowhere, QuietPart, SyncPart, Syncs, all_known, fits, fits-word, part-skip, part-then, quiet-all, quiet-append, quiet-none}
+use Rattle.frame_law.specs.OwnFrames.{HasOwnSyncs}
+use Rattle.commodore_gcr.specs.declared.recording.CommodoreGcr.{CommodoreGcr}
+use Rattle.commodore_gcr.specs.Coding.{code_of, gcr, gcr_bytes}
+use Rattle.commodore_gcr.specs.Layout.{gap_cells, ring_of, row_cells, row_size, rows}
+use Rattle.commodore_gcr.specs.RowLaws.{nibble-lt, row_length}
+use Rattle.commodore_gcr.specs.Sectors.{DATA_FILL, NamesSector, data_bytes, header_block}
+use Rattle.commodore_gcr.specs.ZoneLaws.{counts}
 use Rattle.commodore_gcr.specs.Zones.{sectors_of, zone_of}
 
 -- a header's sync without its first one: nine ones more, and the code of 08
@@ -27,248 +31,230 @@ sync_rest = all_known (replicate 9 true ++ gcr 0x08)
 abbrev pub HeaderSync : List Bool → Type 0
 HeaderSync cells = Syncs (Some true ∷ sync_rest) cells
 
-pub length-sync_rest : length sync_rest ≡ 19
-unfolding sync_rest gcr code_of word_cells
+length-sync_rest : length sync_rest ≡ 19
+unfolding sync_rest gcr word_cells
 length-sync_rest = refl
 
-ten_ones-first : (cells : List Bool) → Stands cells 0x7FE 11 0 → take 10 cells ≡ replicate 10 true
-unfolding word_cells
-ten_ones-first cells stands = sym (take-take 10 11 cells (omega arith)) ∙ ap (take 10) stands
-
-pub leads : (track : TrackId) (cells : List Bool) (s : ℕ) → HeaderStands track cells s → Leads 0 sync_rest cells
-unfolding sync_rest gcr code_of word_cells BytesAt
-leads track cells s header =
-    let ones = ten_ones-first cells header.sync in
-    let code : take 10 (drop 10 cells) ≡ gcr 0x08 = header.bytes.0.1 in
+leads : (track : TrackId) (cells : List Bool) (s : ℕ) → Stands cells 0x7FE 11 0 → NamesSector track cells s → Leads 0 sync_rest cells
+unfolding sync_rest gcr code_of word_cells
+leads track cells s stands names =
+    let ones : take 10 cells ≡ replicate 10 true = sym (take-take 10 11 cells (omega arith)) ∙ ap (take 10) stands in
+    let code : take 10 (drop 10 cells) ≡ gcr 0x08 = (names.bytes 0 (lit< tt)).1 in
     fits-word (replicate 10 true ++ gcr 0x08) cells 20 refl
     (take-add 10 10 cells ∙ ap (λ (first : List Bool). first ++ take 10 (drop 10 cells)) ones
     ∙ ap (λ (last : List Bool). replicate 10 true ++ last) code)
 
--- one of so many first cells is a zero
-unfoldable zero_in : ℕ → List Bool → Bool
-zero_in zero cells = false
-zero_in (suc count) [] = false
-zero_in (suc count) (true ∷ cells) = zero_in count cells
-zero_in (suc count) (false ∷ cells) = true
+-- its cells
+known-take : (word cells : List Bool) → fits (all_known word) cells ≡ true → take (length word) cells ≡ word
+unfolding fits
+known-take [] cells fit = refl
+known-take (cell ∷ word) [] fit = absurd (cc)
+known-take (true ∷ word) (true ∷ cells) fit = ap (λ (rest : List Bool). true ∷ rest) (known-take word cells fit)
+known-take (true ∷ word) (false ∷ cells) fit = absurd (cc)
+known-take (false ∷ word) (true ∷ cells) fit = absurd (cc)
+known-take (false ∷ word) (false ∷ cells) fit = ap (λ (rest : List Bool). false ∷ rest) (known-take word cells fit)
 
-ManyOnes : List Bool → Type 0
-ManyOnes cells = fits (all_known (replicate 20 true)) cells ≡ true
+sync-cell : (cells : List Bool) (k : ℕ) → HeaderSync cells → k < 20 → get_or cells k false ≡ get_or (replicate 10 true ++ gcr 0x08) k false
+unfolding sync_rest gcr word_cells
+sync-cell cells k test low =
+    sym (get_or-take 20 cells k false low) ∙ ap (λ (word : List Bool). get_or word k false) (known-take (replicate 10 true ++ gcr 0x08) cells test)
 
--- what may follow a code: a zero among the first five cells, or many ones
+-- so it begins neither less than ten cells before a zero nor ten cells before a one
+zero-clash : (cells : List Bool) (place zero_place : ℕ) → place ≤ zero_place → zero_place < place + 10 → get_or cells zero_place false ≡ false
+    → ¬ HeaderSync (drop place cells)
+zero-clash cells place zero_place above below is_zero test =
+    let e : place + (zero_place - place) ≡ zero_place = omega arith in
+    let k = zero_place - place in
+    let low : k < 10 = omega arith in
+    let one = sync-cell (drop place cells) k test (omega (arith, low)) ∙ get_or-append (replicate 10 true) (gcr 0x08) false k low
+    ∙ get_or-replicate 10 k true false low in
+    let there = get_or-drop place cells (zero_place - place) false ∙ ap (λ (n : ℕ). get_or cells n false) e in
+    cc
+
+one-clash : (cells : List Bool) (place : ℕ) → get_or cells (place + 10) false ≡ true → ¬ HeaderSync (drop place cells)
+unfolding gcr code_of word_cells
+one-clash cells place is_one test =
+    let last : get_or (drop place cells) 10 false ≡ false = sync-cell (drop place cells) 10 test (lit< tt) in
+    let there = get_or-drop place cells 10 false in
+    cc
+
+-- so many ones stand first
+Ones : ℕ → List Bool → Type 0
+Ones count cells = (k : ℕ) → k < count → get_or cells k false ≡ true
+
+ones-before : (more count : ℕ) (rest : List Bool) → Ones count rest → Ones (more + count) (replicate more true ++ rest)
+unfolding Ones
+ones-before zero count rest ones k low = ones k (omega arith)
+ones-before (suc more) count rest ones zero low = refl
+ones-before (suc more) count rest ones (suc k) low = ones-before more count rest ones k (omega arith)
+
+TenOnes : List Bool → Type 0
+TenOnes cells = Ones 10 cells
+
+ten_ones : (more : ℕ) (rest : List Bool) → 10 ≤ more → TenOnes (replicate more true ++ rest)
+unfolding TenOnes Ones
+ten_ones more rest enough k low = ones-before more 0 rest (λ i none. absurd (omega arith)) k (omega arith)
+
+-- what may follow a code: a zero among the first five cells, or ten ones
 Follows : List Bool → Type 0
-Follows cells = (zero_in 5 cells ≡ true) ⊎ ManyOnes cells
+Follows cells = ((k : ℕ) × (k < 5) × (get_or cells k false ≡ false)) ⊎ TenOnes cells
 
-zero_in-append : (count : ℕ) (xs ys : List Bool) → zero_in count xs ≡ true → zero_in count (xs ++ ys) ≡ true
-unfolding zero_in
-zero_in-append zero xs ys has = absurd (cc)
-zero_in-append (suc count) [] ys has = absurd (cc)
-zero_in-append (suc count) (true ∷ xs) ys has = zero_in-append count xs ys has
-zero_in-append (suc count) (false ∷ xs) ys has = refl
+-- the first zero of cells
+zero_of : List Bool → ℕ
+zero_of [] = 0
+zero_of (true ∷ cells) = suc (zero_of cells)
+zero_of (false ∷ cells) = 0
 
--- it is the first cell, or one of those after it
-zero_at : (count : ℕ) (cells : List Bool) → zero_in count cells ≡ true
-    → (k : ℕ) × (k < count) × (fits (replicate k None ++ Some false ∷ []) cells ≡ true)
-unfolding zero_in fits
-zero_at zero cells has = absurd (cc)
-zero_at (suc count) [] has = absurd (cc)
-zero_at (suc count) (false ∷ cells) has = (0, omega arith, refl)
-zero_at (suc count) (true ∷ cells) has =
-    let rest = zero_at count cells has in
-    (suc rest.0, omega (arith, rest.1), rest.2)
+zero_of-is : (cells : List Bool) → get_or cells (zero_of cells) false ≡ false
+unfolding zero_of
+zero_of-is [] = refl
+zero_of-is (true ∷ cells) = zero_of-is cells
+zero_of-is (false ∷ cells) = refl
 
--- each code has a zero
-zero_count : ℕ → ℕ
-zero_count nibble = cond (zero_in 5 (word_cells 5 (code_of nibble))) 1 0
+-- a few cells with a zero
+short_nowhere : (xs rest : List Bool) → length xs ≤ 5 → Follows rest → Nowhere HeaderSync xs rest
+unfolding Follows TenOnes Ones
+short_nowhere xs rest short (inl has) place within test =
+    zero-clash (xs ++ rest) place (length xs + has.0) (omega arith) (omega (arith, has.1)) (get_or-append-add xs rest has.0 false ∙ has.2) test
+short_nowhere xs rest short (inr ones) place within test =
+    let k = place + 10 - length xs in
+    let e : place + 10 ≡ length xs + k = omega arith in
+    one-clash (xs ++ rest) place (ap (λ (n : ℕ). get_or (xs ++ rest) n false) e ∙ get_or-append-add xs rest k false ∙ ones k (omega arith)) test
 
-one_each : ℕ → ℕ
-one_each nibble = 1
+short_quiet : (xs : List Bool) → length xs ≤ 5 → zero_of xs < length xs → QuietPart HeaderSync Follows Follows xs
+unfolding Follows
+short_quiet xs short has rest follows = (
+  short_nowhere xs rest short follows,
+  inl (zero_of xs, omega arith, get_or-append xs rest false (zero_of xs) has ∙ zero_of-is xs),
+)
 
-codes_have_zeros : map zero_count (range_with_len 0 16) ≡ map one_each (range_with_len 0 16)
-unfolding zero_count one_each zero_in word_cells code_of
+codes_have_zeros : agree_below (λ n. nat_lt (zero_of (word_cells 5 (code_of n))) 5) (λ n. true) 16 ≡ true
+unfolding zero_of code_of word_cells
 codes_have_zeros = refl
 
-is_one : (b : Bool) (n : ℕ) → n ≡ 1 → cond b 1 0 ≡ n → b ≡ true
-is_one true n one same = refl
-is_one false n one same = absurd (omega (arith, one, same))
+lt-of : (a b : ℕ) → nat_lt a b ≡ true → a < b
+lt-of a b test = grind (arith, nat_tests)
 
-code_zero : (nibble : ℕ) → nibble < 16 → zero_in 5 (word_cells 5 (code_of nibble)) ≡ true
-unfolding zero_count one_each
-code_zero nibble low =
-    is_one (zero_in 5 (word_cells 5 (code_of nibble))) (one_each nibble) refl (agree_at zero_count one_each 16 nibble low codes_have_zeros)
-
--- five cells of which nothing is known, and then a zero near enough, or many ones
-five_free : (code : ℕ) → fits (None ∷ None ∷ None ∷ None ∷ None ∷ []) (word_cells 5 code) ≡ true
-unfolding fits word_cells
-five_free code = refl
-
-five_quiet : (code : ℕ) (rest : List Bool) (known : List (Option Bool)) → fits known rest ≡ true
-    → clashes_at_all (Some true ∷ sync_rest) 5 (None ∷ None ∷ None ∷ None ∷ None ∷ known) ≡ true
-    → Nowhere HeaderSync (word_cells 5 code) rest
-unfolding word_cells
-five_quiet code rest known fit clash =
-    nowhere-known (Some true ∷ sync_rest) (None ∷ None ∷ None ∷ None ∷ None ∷ known) (word_cells 5 code) rest 5 refl clash
-    (fits-append (None ∷ None ∷ None ∷ None ∷ None ∷ []) known (word_cells 5 code) rest refl (five_free code) fit)
-
-code_before_zero : (code : ℕ) (rest : List Bool) (k : ℕ) → k < 5 → fits (replicate k None ++ Some false ∷ []) rest ≡ true
-    → Nowhere HeaderSync (word_cells 5 code) rest
-unfolding sync_rest gcr code_of word_cells clashes_at_all clashes
-code_before_zero code rest zero low fit = five_quiet code rest (Some false ∷ []) fit refl
-code_before_zero code rest (suc zero) low fit = five_quiet code rest (None ∷ Some false ∷ []) fit refl
-code_before_zero code rest (suc (suc zero)) low fit = five_quiet code rest (None ∷ None ∷ Some false ∷ []) fit refl
-code_before_zero code rest (suc (suc (suc zero))) low fit = five_quiet code rest (None ∷ None ∷ None ∷ Some false ∷ []) fit refl
-code_before_zero code rest (suc (suc (suc (suc zero)))) low fit = five_quiet code rest (None ∷ None ∷ None ∷ None ∷ Some false ∷ []) fit refl
-code_before_zero code rest (suc (suc (suc (suc (suc k))))) low fit = absurd (omega arith)
-
-code_nowhere : (code : ℕ) (rest : List Bool) → Follows rest → Nowhere HeaderSync (word_cells 5 code) rest
-unfolding Follows ManyOnes sync_rest gcr code_of word_cells clashes_at_all clashes
-code_nowhere code rest (inl has) = (let at = zero_at 5 rest has in code_before_zero code rest at.0 at.1 at.2)
-code_nowhere code rest (inr ones) = five_quiet code rest (all_known (replicate 20 true)) ones refl
-
-code_quiet : (nibble : ℕ) → nibble < 16 → QuietPart HeaderSync Follows Follows (word_cells 5 (code_of nibble))
-unfolding Follows
-code_quiet nibble low rest follows = (
-  code_nowhere (code_of nibble) rest follows,
-  inl (zero_in-append 5 (word_cells 5 (code_of nibble)) rest (code_zero nibble low)),
-)
+code_quiet : (number : ℕ) → QuietPart HeaderSync Follows Follows (word_cells 5 (code_of (number % 16)))
+code_quiet number =
+    let code = word_cells 5 (code_of (number % 16)) in
+    let long : length code ≡ 5 = length-word_cells 5 (code_of (number % 16)) in
+    let has = lt-of (zero_of code) 5
+    (agree_below_at (λ n. nat_lt (zero_of (word_cells 5 (code_of n))) 5) (λ n. true) 16 (number % 16) codes_have_zeros (nibble-lt number)) in
+    short_quiet code (omega (arith, long)) (omega (arith, long, has))
 
 byte_quiet : (byte : ℕ) → QuietPart HeaderSync Follows Follows (gcr byte)
 unfolding gcr
 byte_quiet byte =
     quiet-append HeaderSync Follows Follows Follows (word_cells 5 (code_of (byte / 16 % 16))) (word_cells 5 (code_of (byte % 16)))
-    (code_quiet (byte / 16 % 16) (nibble-lt (byte / 16))) (code_quiet (byte % 16) (nibble-lt byte))
+    (code_quiet (byte / 16)) (code_quiet byte)
 
 bytes_quiet : (bytes : List ℕ) → QuietPart HeaderSync Follows Follows (gcr_bytes bytes)
 bytes_quiet bytes = quiet-all HeaderSync Follows gcr byte_quiet bytes
 
--- a block that opens with this byte
-Opens : ℕ → List Bool → Type 0
-Opens byte cells = fits (all_known (gcr byte)) cells ≡ true
-
-block_quiet : (byte : ℕ) (bytes : List ℕ) → QuietPart HeaderSync Follows (Opens byte) (gcr_bytes (byte ∷ bytes))
-unfolding Opens
-block_quiet byte bytes rest follows = (
-  (bytes_quiet (byte ∷ bytes) rest follows).0,
-  subst (λ (cells : List Bool). fits (all_known (gcr byte)) cells ≡ true) (sym (append_assoc (gcr byte) (gcr_bytes bytes) rest))
-      (fits-known (gcr byte) (gcr_bytes bytes ++ rest)),
-)
-
--- a byte of a gap
-gap_before : (rest : List Bool) (known : List (Option Bool)) → fits known rest ≡ true
-    → clashes_at_all (Some true ∷ sync_rest) 8 (all_known (word_cells 8 0x55) ++ known) ≡ true
-    → Nowhere HeaderSync (word_cells 8 0x55) rest
-unfolding word_cells fits
-gap_before rest known fit clash =
-    nowhere-known (Some true ∷ sync_rest) (all_known (word_cells 8 0x55) ++ known) (word_cells 8 0x55) rest 8 refl clash
-    (fits-append (all_known (word_cells 8 0x55)) known (word_cells 8 0x55) rest refl refl fit)
-
-gap_before_zero : (rest : List Bool) (k : ℕ) → k < 5 → fits (replicate k None ++ Some false ∷ []) rest ≡ true
-    → Nowhere HeaderSync (word_cells 8 0x55) rest
-unfolding sync_rest gcr code_of word_cells clashes_at_all clashes
-gap_before_zero rest zero low fit = gap_before rest (Some false ∷ []) fit refl
-gap_before_zero rest (suc zero) low fit = gap_before rest (None ∷ Some false ∷ []) fit refl
-gap_before_zero rest (suc (suc zero)) low fit = gap_before rest (None ∷ None ∷ Some false ∷ []) fit refl
-gap_before_zero rest (suc (suc (suc zero))) low fit = gap_before rest (None ∷ None ∷ None ∷ Some false ∷ []) fit refl
-gap_before_zero rest (suc (suc (suc (suc zero)))) low fit = gap_before rest (None ∷ None ∷ None ∷ None ∷ Some false ∷ []) fit refl
-gap_before_zero rest (suc (suc (suc (suc (suc k))))) low fit = absurd (omega arith)
-
-gap_nowhere : (rest : List Bool) → Follows rest → Nowhere HeaderSync (word_cells 8 0x55) rest
-unfolding Follows ManyOnes sync_rest gcr code_of word_cells clashes_at_all clashes
-gap_nowhere rest (inl has) = (let at = zero_at 5 rest has in gap_before_zero rest at.0 at.1 at.2)
-gap_nowhere rest (inr ones) = gap_before rest (all_known (replicate 20 true)) ones refl
-
+-- a byte of a gap, in two halves
 gap_byte_quiet : QuietPart HeaderSync Follows Follows (word_cells 8 0x55)
-unfolding Follows zero_in word_cells
-gap_byte_quiet rest follows = (gap_nowhere rest follows, inl refl)
+unfolding zero_of word_cells
+gap_byte_quiet =
+    quiet-append HeaderSync Follows Follows Follows (word_cells 4 0x5) (word_cells 4 0x5)
+    (short_quiet (word_cells 4 0x5) (lit≤ tt) (lit< tt)) (short_quiet (word_cells 4 0x5) (lit≤ tt) (lit< tt))
 
-gap_quiet : (count : ℕ) → QuietPart HeaderSync Follows Follows (raw_bytes (replicate count 0x55))
+gap_quiet : (count : ℕ) → QuietPart HeaderSync Follows Follows (gap_cells count)
 gap_quiet zero = quiet-none HeaderSync Follows
 gap_quiet (suc count) =
-    quiet-append HeaderSync Follows Follows Follows (word_cells 8 0x55) (raw_bytes (replicate count 0x55)) gap_byte_quiet (gap_quiet count)
+    quiet-append HeaderSync Follows Follows Follows (word_cells 8 0x55) (gap_cells count) gap_byte_quiet (gap_quiet count)
 
--- forty ones: before a header the sync begins at the last ten of them, and before data nowhere
-forty : List Bool
-forty = replicate 40 true
+-- the first ones of a sync mark, before ten ones
+lead_quiet : QuietPart HeaderSync TenOnes Follows (replicate 30 true)
+unfolding Follows TenOnes Ones
+lead_quiet rest ones = (
+  λ place within test. one-clash (replicate 30 true ++ rest) place (ones-before 30 10 rest ones (place + 10) (omega (arith, within))) test,
+  inr (ten_ones 30 rest (lit≤ tt)),
+)
 
-forty_are : raw_bytes (replicate 5 0xFF) ≡ forty
-unfolding forty word_cells
-forty_are = refl
+-- the last ten ones, before a block: the zero with which it begins
+Opens : List Bool → Type 0
+Opens cells = get_or cells 0 false ≡ false
 
-ones_follow : (rest : List Bool) → Follows (forty ++ rest)
-unfolding Follows ManyOnes forty fits
-ones_follow rest = inr refl
-
-ones_before : (count : ℕ) (byte : ℕ) (rest : List Bool) → Opens byte rest
-    → clashes_at_all (Some true ∷ sync_rest) count (all_known (replicate count true) ++ all_known (gcr byte)) ≡ true
-    → fits (all_known (replicate count true)) (replicate count true) ≡ true
-    → length (all_known (replicate count true)) ≡ length (replicate count true) → length (replicate count true) ≡ count
-    → Nowhere HeaderSync (replicate count true) rest
+-- before a header's the sync begins at the first of them
+header_ones : SyncPart HeaderSync (λ place. place ≡ 0) Opens TenOnes (replicate 10 true)
 unfolding Opens
-ones_before count byte rest opens clash fit same size =
-    nowhere-known (Some true ∷ sync_rest) (all_known (replicate count true) ++ all_known (gcr byte)) (replicate count true) rest count size clash
-    (fits-append (all_known (replicate count true)) (all_known (gcr byte)) (replicate count true) rest same fit opens)
+header_ones rest opens = (first, ten_ones 10 rest (lit≤ tt))
+  where
+    first : (place : ℕ) → place < 10 → HeaderSync (drop place (replicate 10 true ++ rest)) → place ≡ 0
+    first zero within test = refl
+    first (suc place) within test =
+        absurd (zero-clash (replicate 10 true ++ rest) (suc place) 10 (omega arith) (omega arith) opens test)
 
-data_ones_quiet : QuietPart HeaderSync (Opens 0x07) Follows (raw_bytes (replicate 5 0xFF))
-unfolding forty sync_rest gcr code_of word_cells clashes_at_all clashes fits
-data_ones_quiet =
-    subst (QuietPart HeaderSync (Opens 0x07) Follows) (sym forty_are)
-    (λ rest opens. (ones_before 40 0x07 rest opens refl refl refl refl, ones_follow rest))
+-- and before data nowhere: the sixth cell of their block is a one
+OpensData : List Bool → Type 0
+OpensData cells = Opens cells × (get_or cells 5 false ≡ true)
 
-first_ones : (rest : List Bool) → Nowhere HeaderSync (replicate 30 true) (replicate 10 true ++ rest)
-unfolding sync_rest gcr code_of word_cells clashes_at_all clashes fits
-first_ones rest =
-    nowhere-known (Some true ∷ sync_rest) (all_known (replicate 40 true)) (replicate 30 true) (replicate 10 true ++ rest) 30 refl refl refl
+data_ones : QuietPart HeaderSync OpensData TenOnes (replicate 10 true)
+unfolding OpensData gcr code_of word_cells
+data_ones rest opens = (none, ten_ones 10 rest (lit≤ tt))
+  where
+    none : (place : ℕ) → place < 10 → ¬ HeaderSync (drop place (replicate 10 true ++ rest))
+    none place within test =
+        let e = (header_ones rest opens.0).0 place within test in
+        let first = subst (λ (n : ℕ). HeaderSync (drop n (replicate 10 true ++ rest))) e test in
+        let code : get_or (replicate 10 true ++ rest) 15 false ≡ false = sync-cell (replicate 10 true ++ rest) 15 first (lit< tt) in
+        let one = opens.1 in
+        cc
 
-last_ones : (rest : List Bool) → Opens 0x08 rest → Only HeaderSync (λ place. place ≡ 0) (replicate 10 true) rest
-unfolding sync_rest gcr code_of word_cells clashes_at_all clashes fits
-last_ones rest opens = only-first HeaderSync true (replicate 9 true) rest (ones_before 9 0x08 rest opens refl refl refl refl)
+header_quiet : (disk : CommodoreGcr) (track : TrackId) (s : ℕ) → QuietPart HeaderSync Follows Opens (gcr_bytes (header_block disk.id1 disk.id2 track s))
+unfolding Opens gcr code_of word_cells
+header_quiet disk track s rest follows = ((bytes_quiet (header_block disk.id1 disk.id2 track s) rest follows).0, refl)
 
-header_ones : SyncPart HeaderSync (λ place. place ≡ 30) (Opens 0x08) Follows (raw_bytes (replicate 5 0xFF))
-unfolding forty
-header_ones =
-    subst (SyncPart HeaderSync (λ place. place ≡ 30) (Opens 0x08) Follows) (sym forty_are)
-    (λ rest opens. (
-      only-append HeaderSync (λ place. place ≡ 30) (replicate 30 true) (replicate 10 true) rest
-          (λ place within test. absurd (first_ones rest place within test))
-          (λ place within test. (let e = last_ones rest opens place within test in omega (arith, e))),
-      ones_follow rest,
-    ))
+data_quiet : (bytes : List ℕ) → QuietPart HeaderSync Follows OpensData (gcr_bytes (data_bytes bytes))
+unfolding OpensData Opens gcr code_of word_cells
+data_quiet bytes rest follows = ((bytes_quiet (data_bytes bytes) rest follows).0, (refl, refl))
 
--- a sector, and the ring
-sector_part : (id1 id2 : ℕ) (track : TrackId) (bytes : List ℕ) (s : ℕ)
-    → SyncPart HeaderSync (λ place. place ≡ 30) Follows Follows (sector_cells id1 id2 track bytes s)
-unfolding sector_cells pieces_cells
-sector_part id1 id2 track bytes s =
-    let header = header_block id1 id2 track s in
-    let stored = bytes_of 0 256 bytes s in
-    let content = data_block stored in
-    let gap = (zone_of track).gap in
-    let last = raw_bytes (replicate gap 0x55) ++ [] in
-    let fourth = gcr_bytes content ++ last in
-    let third = raw_bytes (replicate 5 0xFF) ++ fourth in
-    let second = raw_bytes (replicate 9 0x55) ++ third in
-    part-then HeaderSync (λ place. place ≡ 30) Follows (Opens 0x08) Follows (raw_bytes (replicate 5 0xFF)) (gcr_bytes header ++ second) header_ones
-    (quiet-append HeaderSync Follows Follows (Opens 0x08) (gcr_bytes header) second (block_quiet 0x08 (xor (address_of id1 id2 track s) ∷ (address_of id1 id2 track s ++ 0x0F ∷ 0x0F ∷ [])))
-    (quiet-append HeaderSync Follows Follows Follows (raw_bytes (replicate 9 0x55)) third (gap_quiet 9)
-    (quiet-append HeaderSync Follows (Opens 0x07) Follows (raw_bytes (replicate 5 0xFF)) fourth data_ones_quiet
-    (quiet-append HeaderSync Follows Follows (Opens 0x07) (gcr_bytes content) last (block_quiet 0x07 ((stored ++ xor stored ∷ []) ++ 0x00 ∷ 0x00 ∷ []))
-    (quiet-append HeaderSync Follows Follows Follows (raw_bytes (replicate gap 0x55)) [] (gap_quiet gap) (quiet-none HeaderSync Follows))))))
+sector_part : (disk : CommodoreGcr) (track : TrackId) (before : Bool) (s : ℕ) (bytes : List ℕ)
+    → SyncPart HeaderSync (λ place. place ≡ 30) Follows Follows (rows_cells false (row_cells disk track) before s bytes (sector_rows rows))
+unfolding rows_cells coded
+sector_part disk track before s bytes =
+    let last = gcr_bytes DATA_FILL ++ (gap_cells (zone_of track).gap ++ []) in
+    let stored = gcr_bytes (data_bytes bytes) ++ last in
+    let data_sync = replicate 10 true ++ stored in
+    let lead = replicate 30 true ++ data_sync in
+    let gap = gap_cells 9 ++ lead in
+    let block = gcr_bytes (header_block disk.id1 disk.id2 track s) in
+    part-skip HeaderSync (λ place. place ≡ 30) Follows TenOnes Follows (replicate 30 true) (replicate 10 true ++ (block ++ gap)) lead_quiet
+    (part-then HeaderSync (λ place. 30 + place ≡ 30) Follows Opens TenOnes (replicate 10 true) (block ++ gap)
+    (λ rest opens. (let at = header_ones rest opens in ((λ place within test. (let e = at.0 place within test in omega (arith, e))), at.1)))
+    (quiet-append HeaderSync Follows Follows Opens block gap (header_quiet disk track s)
+    (quiet-append HeaderSync Follows Follows Follows (gap_cells 9) lead (gap_quiet 9)
+    (quiet-append HeaderSync Follows TenOnes Follows (replicate 30 true) data_sync lead_quiet
+    (quiet-append HeaderSync Follows OpensData TenOnes (replicate 10 true) stored data_ones
+    (quiet-append HeaderSync Follows Follows OpensData (gcr_bytes (data_bytes bytes)) last (data_quiet bytes)
+    (quiet-append HeaderSync Follows Follows Follows (gcr_bytes DATA_FILL) (gap_cells (zone_of track).gap ++ []) (bytes_quiet DATA_FILL)
+    (quiet-append HeaderSync Follows Follows Follows (gap_cells (zone_of track).gap) [] (gap_quiet (zone_of track).gap)
+    (quiet-none HeaderSync Follows)))))))))
 
 -- a ring begins with ones
-ring_follows : (id1 id2 : ℕ) (track : TrackId) (bytes : List ℕ) → Follows (ring_of id1 id2 track bytes)
-unfolding Follows ManyOnes before_in_ring sectors_before before_frame fits
-ring_follows id1 id2 track bytes =
-    subst Follows (sym (ring_parts id1 id2 track bytes 0 (omega (arith, some_sectors track)))) (inr refl)
+sectors_follow : (disk : CommodoreGcr) (track : TrackId) (bytes : List ℕ) (count : ℕ) → 1 ≤ count
+    → Follows (coded false (part_cells (row_cells disk track)) false (flat_map (sector_parts 0 256 bytes rows) (range_with_len 0 count) ++ []))
+unfolding coded sector_parts Follows
+sectors_follow disk track bytes zero some = absurd (omega arith)
+sectors_follow disk track bytes (suc count) some = inr (ten_ones 30 _ (lit≤ tt))
+
+ring_follows : (disk : CommodoreGcr) (track : TrackId) (bytes : List ℕ) → Follows (ring_of disk track bytes)
+unfolding ring_of_rows track_parts
+ring_follows disk track bytes = sectors_follow disk track bytes (sectors_of track) (counts track).0
 
 -- so in the ring it begins where headers do
-pub header_syncs : (id1 id2 : ℕ) (track : TrackId) (bytes : List ℕ) → length bytes ≡ sectors_of track * 256
-    → Only HeaderSync (IsSyncPlace (place_of track) 0 (sectors_of track) 0) (ring_of id1 id2 track bytes) (ring_of id1 id2 track bytes)
-unfolding ring_of
-header_syncs id1 id2 track bytes whole =
-    let ring = ring_of id1 id2 track bytes in
-    let sectors = part-sectors HeaderSync Follows (sector_cells id1 id2 track bytes) (pitch_of track) 30 0 (sectors_of track)
-    (λ s least most. length-sector_cells id1 id2 track bytes s whole (omega (arith, most)))
-    (λ s least most. sector_part id1 id2 track bytes s) in
-    let all = sectors ring (ring_follows id1 id2 track bytes) in
-    λ place within test.
-    let k = all.0 place within test in
-    (k.0, record { least = omega arith; most = omega (arith, k.1) }, omega (arith, k.2))
+pub own_syncs : (disk : CommodoreGcr) (track : TrackId)
+    → HasOwnSyncs 0x7FE 11 70 0 (sectors_of track) (NamesSector track) (place_of (row_size (zone_of track)) 0 256 rows)
+    (AreSectors (sectors_of track) 256) (ring_of disk track)
+unfolding total rows_cells coded
+own_syncs disk track = record {
+  lead = 0;
+  rest = sync_rest;
+  short = omega (arith, length-sync_rest);
+  leads = leads track;
+  only = λ bytes given.
+      syncs-in_ring false (row_cells disk track) (row_size (zone_of track)) (row_length disk track) 0 (sectors_of track) 256 rows bytes given.whole HeaderSync Follows 0
+      (λ before s number. sector_part disk track before s (bytes_of 0 256 bytes s))
+      (quiet-none HeaderSync Follows) (λ before. quiet-none HeaderSync Follows) (ring_follows disk track bytes);
+}

@@ -1,55 +1,39 @@
 -- What the four zones have in common.
-use Rattle.std.specs.Prelude.{◌≡◌, ℕ, ◌+◌, ◌*◌, ◌<◌, ◌≤◌, ◌^◌, Bool, true, false, refl, nat_lt, if◌then◌else◌}
-use Rattle.std.proofs.Common.{arith, lit≤}
+use Rattle.std.specs.Prelude.{◌≡◌, ◌+◌, ◌≤◌, ◌^◌, Bool, true, false, refl, nat_lt, if◌then◌else◌}
+use Rattle.std.proofs.Common.{lit≤}
 use Rattle.flux_base.specs.declared.track.TrackId.{TrackId}
+use Rattle.track_rings.specs.Rows.{frame_size, ring_size, total}
 use Rattle.commodore_gcr.specs.declared.zones.Zone.{Zone}
-use Rattle.commodore_gcr.specs.Layout.{FRAME_CELLS, pitch_of, place_of, ring_cells_of}
+use Rattle.commodore_gcr.specs.Layout.{row_size, rows}
 use Rattle.commodore_gcr.specs.Zones.{sectors_of, track_number, zone_of}
 
 -- what holds of each of the four zones holds of a track's
-by_zone : (Claim : Zone → Type 0) (first second third fourth : Zone) (a b c : Bool) → Claim first → Claim second → Claim third → Claim fourth
-    → Claim (if a then first else if b then second else if c then third else fourth)
-by_zone Claim first second third fourth true b c p q r s = p
-by_zone Claim first second third fourth false true c p q r s = q
-by_zone Claim first second third fourth false false true p q r s = r
-by_zone Claim first second third fourth false false false p q r s = s
-
--- a ring is its sectors
-pub ring_is_sectors : (track : TrackId) → sectors_of track * pitch_of track ≡ ring_cells_of track
+by_zone : (Claim : Zone → Type 0) (track : TrackId) → Claim (record { sectors = 21; gap = 12; ring_cells = 61488 })
+    → Claim (record { sectors = 19; gap = 21; ring_cells = 57000 }) → Claim (record { sectors = 18; gap = 16; ring_cells = 53280 })
+    → Claim (record { sectors = 17; gap = 13; ring_cells = 49912 }) → Claim (zone_of track)
 unfolding zone_of
-ring_is_sectors track =
-    let number = track_number track in
-    by_zone (λ (zone : Zone). zone.sectors * (8 * (354 + zone.gap)) ≡ zone.ring_cells)
-    (record { sectors = 21; gap = 12; ring_cells = 61488 }) (record { sectors = 19; gap = 21; ring_cells = 57000 })
-    (record { sectors = 18; gap = 16; ring_cells = 53280 }) (record { sectors = 17; gap = 13; ring_cells = 49912 })
-    (nat_lt number 18) (nat_lt number 25) (nat_lt number 31) refl refl refl refl
+by_zone Claim track first second third fourth =
+    one_of (nat_lt (track_number track) 18) (nat_lt (track_number track) 25) (nat_lt (track_number track) 31)
+  where
+    one_of : (a b c : Bool)
+        → Claim (if a then record { sectors = 21; gap = 12; ring_cells = 61488 } else if b then record { sectors = 19; gap = 21; ring_cells = 57000 }
+        else if c then record { sectors = 18; gap = 16; ring_cells = 53280 } else record { sectors = 17; gap = 13; ring_cells = 49912 })
+    one_of true b c = first
+    one_of false true c = second
+    one_of false false true = third
+    one_of false false false = fourth
 
--- a sector's frame lies in the ring
-pub frame_ends : (track : TrackId) (sector : ℕ) → sector < sectors_of track → place_of track sector + FRAME_CELLS ≤ ring_cells_of track
-unfolding zone_of
-frame_ends track sector =
-    let number = track_number track in
-    by_zone (λ (zone : Zone). sector < zone.sectors → 30 + sector * (8 * (354 + zone.gap)) + 2782 ≤ zone.ring_cells)
-    (record { sectors = 21; gap = 12; ring_cells = 61488 }) (record { sectors = 19; gap = 21; ring_cells = 57000 })
-    (record { sectors = 18; gap = 16; ring_cells = 53280 }) (record { sectors = 17; gap = 13; ring_cells = 49912 })
-    (nat_lt number 18) (nat_lt number 25) (nat_lt number 31)
-    (λ within. omega arith) (λ within. omega arith) (λ within. omega arith) (λ within. omega arith)
+-- the rows of a frame, and those of a track
+pub sums : (track : TrackId)
+    → (frame_size (row_size (zone_of track)) 256 rows ≡ 2782)
+    × (ring_size (row_size (zone_of track)) (sectors_of track) 256 rows ≡ (zone_of track).ring_cells)
+    × ((zone_of track).ring_cells ≤ 2 ^ 18)
+unfolding total
+sums track =
+    by_zone (λ zone. (frame_size (row_size zone) 256 rows ≡ 2782) × (ring_size (row_size zone) zone.sectors 256 rows ≡ zone.ring_cells)
+    × (zone.ring_cells ≤ 2 ^ 18)) track (refl, refl, lit≤ tt) (refl, refl, lit≤ tt) (refl, refl, lit≤ tt) (refl, refl, lit≤ tt)
 
-pub sizes : (track : TrackId) → (0 + sectors_of track ≤ 256) × (256 ≤ 512) × (ring_cells_of track ≤ 2 ^ 18)
-unfolding zone_of
-sizes track =
-    let number = track_number track in
-    by_zone (λ (zone : Zone). (0 + zone.sectors ≤ 256) × (256 ≤ 512) × (zone.ring_cells ≤ 2 ^ 18))
-    (record { sectors = 21; gap = 12; ring_cells = 61488 }) (record { sectors = 19; gap = 21; ring_cells = 57000 })
-    (record { sectors = 18; gap = 16; ring_cells = 53280 }) (record { sectors = 17; gap = 13; ring_cells = 49912 })
-    (nat_lt number 18) (nat_lt number 25) (nat_lt number 31)
+pub counts : (track : TrackId) → (1 ≤ sectors_of track) × (0 + sectors_of track ≤ 256) × (256 ≤ 512)
+counts track =
+    by_zone (λ zone. (1 ≤ zone.sectors) × (0 + zone.sectors ≤ 256) × (256 ≤ 512)) track
     (lit≤ tt, lit≤ tt, lit≤ tt) (lit≤ tt, lit≤ tt, lit≤ tt) (lit≤ tt, lit≤ tt, lit≤ tt) (lit≤ tt, lit≤ tt, lit≤ tt)
-
-pub some_sectors : (track : TrackId) → 1 ≤ sectors_of track
-unfolding zone_of
-some_sectors track =
-    let number = track_number track in
-    by_zone (λ (zone : Zone). 1 ≤ zone.sectors)
-    (record { sectors = 21; gap = 12; ring_cells = 61488 }) (record { sectors = 19; gap = 21; ring_cells = 57000 })
-    (record { sectors = 18; gap = 16; ring_cells = 53280 }) (record { sectors = 17; gap = 13; ring_cells = 49912 })
-    (nat_lt number 18) (nat_lt number 25) (nat_lt number 31) (lit≤ tt) (lit≤ tt) (lit≤ tt) (lit≤ tt)

@@ -1,39 +1,38 @@
-ghost use Rattle.std.specs.Prelude.{◌≡◌, ℕ, [], List, false, IfNone, IfSome, IsTrue};
-ghost use Rattle.commodore_gcr.specs.Sectors.{DataStands, IsDataSync};
+ghost use Rattle.std.specs.Prelude.{◌≡◌, ℕ, ◌+◌, ◌^◌, ◌<◌, ◌≤◌, [], List, false, length, IfNone, IfSome, IsTrue};
+ghost use Rattle.frame_law.specs.Frames.{IsDataSync};
+ghost use Rattle.commodore_gcr.specs.Sectors.{Hold, IsSync};
 
 use crate::fields::{stands_at, take_bytes};
-use crate::layout::{DATA_BYTE, DATA_CELLS, DATA_REACH, HEADER_CELLS, SYNC, SYNC_CELLS};
+use crate::layout::{
+    CONTENT_CHECK_PLACE, CONTENT_PLACE, DATA_BYTE, DATA_REACH, HEADER_CELLS, SYNC, SYNC_CELLS,
+    SYNC_ONES,
+};
 use check_values::xor_bytes;
 use frame_law::{CellsFrom, SectorBuffer};
 
-/// Whether data stand behind the header at the front of the cells. Then the buffer, which was empty, has them.
-pub(crate) fn read_data(frame: &CellsFrom, buffer: &mut SectorBuffer) -> bool
-    requires { buffer.old.items ≡ [] }
-    ensures good { IsTrue result → DataStands frame.now buffer.new.items }
-    ensures bad { result ≡ false → (bytes : List ℕ) → ¬ DataStands frame.now bytes }
-{
-    let Some(sync) = data_sync(frame) else {
-        return false;
-    };
-    if frame.len() < sync + DATA_CELLS {
-        return false;
-    }
-    if !frame.unbroken_to(sync + DATA_CELLS) {
-        return false;
-    }
-    if !stands_at(frame, sync + 10, DATA_BYTE) {
-        return false;
-    }
-    if !take_bytes(frame, sync + 20, buffer) {
-        return false;
-    }
-    stands_at(frame, sync + 2580, xor_bytes(buffer.as_slice()))
-}
-
-/// The first sync behind the header.
-fn data_sync(frame: &CellsFrom) -> Option<usize>
-    ensures stands { IfSome result (λ sync. IsDataSync frame.now sync) }
-    ensures none { IfNone result ((sync : ℕ) → ¬ IsDataSync frame.now sync) }
+/// The first sync after the header, within reach.
+pub(crate) fn first_sync(frame: &CellsFrom) -> Option<usize>
+    ensures first { IfSome result (λ sync. IsDataSync 70 (IsSync frame.now) sync) }
+    ensures none { IfNone result ((sync : ℕ) → ¬ IsDataSync 70 (IsSync frame.now) sync) }
 {
     frame.find_word(HEADER_CELLS, HEADER_CELLS + DATA_REACH, SYNC, SYNC_CELLS)
+}
+
+/// Whether the block after the sync at the place is one of data. Then the buffer, which was empty, has their
+/// bytes.
+pub(crate) fn read_block(frame: &CellsFrom, sync: usize, buffer: &mut SectorBuffer) -> bool
+    requires near { sync < 2 ^ 31 }
+    requires whole { sync + 2590 ≤ length frame.now }
+    requires empty { buffer.old.items ≡ [] }
+    ensures good { IsTrue result → Hold frame.now sync buffer.new.items }
+    ensures bad { result ≡ false → (bytes : List ℕ) → ¬ Hold frame.now sync bytes }
+{
+    if !stands_at(frame, sync + SYNC_ONES, DATA_BYTE) {
+        return false;
+    }
+    if !take_bytes(frame, sync + CONTENT_PLACE, buffer) {
+        return false;
+    }
+    let check = xor_bytes(buffer.as_slice());
+    stands_at(frame, sync + CONTENT_CHECK_PLACE, check)
 }

@@ -1,43 +1,54 @@
-ghost use Rattle.std.specs.Prelude.{◌≡◌};
-ghost use Rattle.commodore_gcr.specs.Layout.{sector_layout};
-
-use crate::zones::Zone;
-
-/// A part of a track's ring.
+/// A row of a track.
 #[derive(Clone, Copy)]
-pub(crate) enum Piece {
-    /// So many times the same byte, whose bits are cells as they are.
-    Raw(u8, u8),
+pub enum Row {
+    /// The first 30 ones of a sync mark.
+    SyncLead,
+    /// Its last ten ones, with which a header and data begin.
+    SyncOnes,
     /// A sector's header block.
     HeaderBlock,
-    /// A sector's data block.
-    DataBlock,
+    /// The gap after it.
+    HeaderGap,
+    /// What a data block holds: its first byte, a sector's bytes, and their check value.
+    DataBytes,
+    /// The two bytes that fill the data block up.
+    DataFill,
+    /// The gap after a sector, as long as its zone has it.
+    ZoneGap,
 }
 
-/// A sector: sync, header block, gap, sync, data block, gap.
-pub(crate) fn sector_pieces(zone: Zone) -> [Piece; 6]
-    ensures { result ≡ sector_layout zone }
-{
-    [
-        Piece::Raw(5, SYNC_BYTE),
-        Piece::HeaderBlock,
-        Piece::Raw(9, GAP_BYTE),
-        Piece::Raw(5, SYNC_BYTE),
-        Piece::DataBlock,
-        Piece::Raw(zone.gap, GAP_BYTE),
-    ]
-}
+/// Before the first sector: nothing.
+pub(crate) const LEAD_IN: [Row; 0] = [];
 
-/// The byte of a sync mark: five of them are 40 ones.
-const SYNC_BYTE: u8 = 0xFF;
+/// A sector: sync mark, header block, gap, sync mark, data block, gap.
+pub(crate) const SECTOR: [Row; 9] = [
+    Row::SyncLead,
+    Row::SyncOnes,
+    Row::HeaderBlock,
+    Row::HeaderGap,
+    Row::SyncLead,
+    Row::SyncOnes,
+    Row::DataBytes,
+    Row::DataFill,
+    Row::ZoneGap,
+];
 
-/// The byte of the gaps.
-const GAP_BYTE: u8 = 0x55;
+/// After the last sector: nothing.
+pub(crate) const LEAD_OUT: [Row; 0] = [];
+
+/// The bytes of the gap after a header block.
+pub(crate) const HEADER_GAP: u8 = 9;
+
+/// The byte of the gaps, whose bits are cells as they are.
+pub(crate) const GAP_BYTE: u8 = 0x55;
 
 /// The end of a sync mark: ten ones, and the zero with which each block begins.
 pub(crate) const SYNC: u32 = 0b111_1111_1110;
 
 pub(crate) const SYNC_CELLS: u8 = 11;
+
+/// The ones of it: the block begins so many cells after its place.
+pub(crate) const SYNC_ONES: usize = 10;
 
 /// The cells of a byte in group code.
 pub(crate) const BYTE_CELLS: u8 = 10;
@@ -54,11 +65,19 @@ pub(crate) const HEADER_FILL: u8 = 0x0F;
 /// The ten ones before a header block, and its first six bytes.
 pub(crate) const HEADER_CELLS: usize = 70;
 
-/// The sync of the data begins less than this number of cells behind the header.
+/// The sync of the data begins less than this number of cells after the header.
 pub(crate) const DATA_REACH: usize = 1024;
 
 /// The first byte of a data block.
 pub(crate) const DATA_BYTE: u8 = 0x07;
 
+/// The byte with which a data block is filled up.
+pub(crate) const DATA_FILL: u8 = 0x00;
+
 /// The ten ones before a data block, its first byte, 256 bytes and their check value.
 pub(crate) const DATA_CELLS: usize = 2590;
+
+/// Where the bytes and their check value begin, in cells from the data's sync.
+pub(crate) const CONTENT_PLACE: usize = 20;
+
+pub(crate) const CONTENT_CHECK_PLACE: usize = 2580;

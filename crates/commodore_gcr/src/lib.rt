@@ -7,9 +7,8 @@ mod data_block;
 mod fields;
 mod header_block;
 mod layout;
-mod pieces;
 mod recording;
-mod track;
+mod rows;
 mod zones;
 
 pub use recording::CommodoreGcr;

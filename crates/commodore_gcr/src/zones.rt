@@ -9,7 +9,7 @@ use flux_base::TrackId;
 pub(crate) struct Zone {
     /// The sectors of a track.
     pub(crate) sectors: u8,
-    /// The bytes of the gap behind each sector.
+    /// The bytes of the gap after each sector.
     pub(crate) gap: u8,
     /// The cells of a track's ring.
     pub(crate) ring_cells: u32,

@@ -5,4 +5,5 @@ pub mod OwnFrames
 pub mod Readings
 pub mod RowWriting
 pub mod Spacing
+pub mod WordRows
 pub mod Writing

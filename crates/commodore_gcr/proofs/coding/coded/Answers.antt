@@ -1,8 +1,7 @@
 use Rattle.std.proofs.Common.{◌≡◌, ◌*◌, ◌+◌, ◌/◌, ◌%◌, ap, sym, ◌∙◌, arith}
 use Rattle.cell_bits.specs.Word.{word_cells}
 use Rattle.commodore_gcr.specs.Coding.{code_of}
-use Rattle.commodore_gcr.specs.CodingLaws.{gcr-cells, gcr_number}
-use Rattle.commodore_gcr.proofs.Tables.{code_in_table}
+use Rattle.commodore_gcr.proofs.Tables.{code_in_table, gcr-cells, gcr_number}
 use Rattle.commodore_gcr.proofs.coding.coded.Goals as goal
 
 pub returns : goal.returns

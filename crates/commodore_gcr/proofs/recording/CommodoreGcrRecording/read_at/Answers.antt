@@ -1,4 +1,0 @@
-use Rattle.commodore_gcr.proofs.recording.CommodoreGcrRecording.read_at.Goals as goal
-
-pub returns-in_default : goal.returns-in_default
-returns-in_default c = (c.clear.ensures, rw c.new-frame.ensures at c.in_default.ensures.none)

@@ -1,0 +1,13 @@
+use Rattle.frame_law.specs.Writing.{AppendsCells-next, AppendsCells-short}
+use Rattle.commodore_gcr.specs.Coding.{gcr}
+use Rattle.commodore_gcr.proofs.rows.push_bytes.Goals as goal
+
+pub returns-in_err-push_byte : goal.returns-in_err-push_byte
+returns-in_err-push_byte c =
+    AppendsCells-short gcr c.args.bytes.now c.args.cells.now c.loop-byte.cells c.push_byte.new.cells c.loop-byte.byte-index 0 _
+    c.from_residual.result c.from_residual.ensures.0 c.loop-byte-test.true c.loop-byte.invariant c.in_err-push_byte.ensures
+
+pub loop-byte-preserved : goal.loop-byte-preserved
+loop-byte-preserved c =
+    AppendsCells-next gcr c.args.bytes.now c.args.cells.now c.loop-byte.cells c.push_byte.new.cells c.loop-byte.byte-index 0
+    c.loop-byte-test.true c.loop-byte.invariant c.in_ok-push_byte.ensures
