@@ -1,16 +1,34 @@
--- What stands is one thing: the cells determine the sector's number and its bytes.
-use Rattle.std.specs.Prelude.{◌≡◌, ℕ, ◌+◌, ◌*◌, ◌%◌, Bool, List, bit_and, bit_or}
-use Rattle.std.proofs.Common.{ap, sym, subst, ◌∙◌, arith}
+-- What cells name and hold is one thing, and the numbers of the recording.
+use Rattle.std.specs.Prelude.{◌≡◌, ℕ, ◌+◌, ◌*◌, ◌%◌, Bool, List, bit_and, bit_or, refl}
+use Rattle.std.proofs.Common.{ap, sym, ◌∙◌, arith, lit<, lit≤}
 use Rattle.flux_base.specs.declared.track.TrackId.{TrackId}
-use Rattle.track_rings.specs.Gaps.{one-first}
-use Rattle.track_rings.specs.Rings.{IsSectorNumber}
-use Rattle.cell_bits.specs.Word.{Stands}
+use Rattle.frame_law.specs.Frames.{AreSizes, IsWithinReach}
+use Rattle.track_rings.specs.Rows.{frame_size, ring_size, total}
 use Rattle.apple_gcr.specs.FourAndFour.{FourAndFourAt}
+use Rattle.apple_gcr.specs.Layout.{row_size, rows}
 use Rattle.apple_gcr.specs.NibbleLaws.{halves-read}
 use Rattle.apple_gcr.specs.Nibbles.{disk_byte}
-use Rattle.apple_gcr.specs.Sectors.{DATA_SYNC, HeaderStands, IsDataSync, SectorStands}
-use Rattle.apple_gcr.specs.SixAndTwo.{AreCoded, Carries}
+use Rattle.apple_gcr.specs.Sectors.{Hold, NamesSector}
 use Rattle.apple_gcr.specs.ValueLaws.{one_carried, one_list}
+
+pub sizes : AreSizes 1 3 24 88 2
+sizes = record {
+  some_cells = lit≤ tt;
+  word = lit≤ tt;
+  apart = lit≤ tt;
+  order = lit≤ tt;
+  near = lit≤ tt;
+  header = lit≤ tt;
+  last = lit≤ tt;
+}
+
+pub within_reach : IsWithinReach 88 172 2768
+within_reach = record { after = lit≤ tt; near = lit< tt; few = lit≤ tt }
+
+-- the rows of a frame, and those of a track
+pub sums : (frame_size row_size 256 rows ≡ 2940) × (ring_size row_size 16 256 rows ≡ 49994)
+unfolding total
+sums = (refl, refl)
 
 -- the byte that stands in 4-and-4, from its halves
 pub byte_read : (cells : List Bool) (place byte : ℕ) → FourAndFourAt cells place byte
@@ -22,23 +40,13 @@ byte_read cells place byte stands =
 pub one_byte : (cells : List Bool) (place x y : ℕ) → FourAndFourAt cells place x → FourAndFourAt cells place y → x ≡ y
 one_byte cells place x y first second = sym (byte_read cells place x first) ∙ byte_read cells place y second
 
-pub one_header : (track : TrackId) (cells : List Bool) (s t : ℕ) → HeaderStands track cells s → HeaderStands track cells t → s ≡ t
-one_header track cells s t first second = one_byte cells 56 s t first.has_sector second.has_sector
+pub one_name : (track : TrackId) (cells : List Bool) (s t : ℕ) → NamesSector track cells s → NamesSector track cells t → s ≡ t
+one_name track cells s t first second = one_byte cells 56 s t first.has_sector second.has_sector
 
-pub header_number : (track : TrackId) (cells : List Bool) (s : ℕ) → HeaderStands track cells s → IsSectorNumber 0 16 s
-header_number track cells s header = record { least = omega arith; most = header.known }
-
--- the sync of the data is one place
-pub one_sync : (cells : List Bool) (p q : ℕ) → IsDataSync cells p → IsDataSync cells q → p ≡ q
-one_sync cells p q first second =
-    one-first (λ (place : ℕ). Stands cells DATA_SYNC 16 place) 88 p q first.behind first.stands first.none_before second.behind second.stands second.none_before
-
-pub one_content : (track : TrackId) (cells : List Bool) (s t : ℕ) (xs ys : List ℕ)
-    → SectorStands track cells s xs → SectorStands track cells t ys → xs ≡ ys
-one_content track cells s t xs ys first second =
-    let a = first.content in
-    let b = second.content in
-    let same : a.sync ≡ b.sync = one_sync cells a.sync b.sync a.first_sync b.first_sync in
-    let values : a.values ≡ b.values =
-    one_list cells (b.sync + 24) a.values b.values (subst (λ (n : ℕ). AreCoded cells (n + 24) a.values) same a.coded) b.coded in
-    one_carried b.values xs ys (subst (λ (v : List ℕ). Carries v xs) values a.carried) b.carried
+pub one_content : (cells : List Bool) (sync : ℕ) (xs ys : List ℕ) → Hold cells sync xs → Hold cells sync ys → xs ≡ ys
+one_content cells sync xs ys first second =
+    let a = first.coded in
+    let b = second.coded in
+    one_carried first.values second.values xs ys
+    (one_list cells (sync + 24) first.values second.values a.count b.count a.fit b.fit (λ k within. a.stand k (omega arith)) (λ k within. b.stand k (omega arith)))
+    first.carried second.carried
