@@ -105,8 +105,10 @@ module _ (size : ℕ) (At : List Bool → ℕ → ℕ → Type 0) where
         (subst (λ (cells : List Bool). At cells (size + (0 + size * k)) (get_or bytes k 0)) (sym apart)
         (past (code byte) (flat_map code bytes ++ rest) size (0 + size * k) (get_or bytes k 0) (sized byte) more))
 
-    pub length-row : (bytes : List ℕ) → length (flat_map code bytes) ≡ size * length bytes
-    length-row [] = sym (mul-zero size)
-    length-row (byte ∷ bytes) =
-        let e = mul-suc size (length bytes) in
-        omega (arith, length-append (code byte) (flat_map code bytes), sized byte, length-row bytes, e)
+-- how many cells they take
+pub length-row : (size : ℕ) (code : ℕ → List Bool) → ((item : ℕ) → length (code item) ≡ size) → (items : List ℕ)
+    → length (flat_map code items) ≡ size * length items
+length-row size code sized [] = sym (mul-zero size)
+length-row size code sized (item ∷ items) =
+    let e = mul-suc size (length items) in
+    omega (arith, length-append (code item) (flat_map code items), sized item, length-row size code sized items, e)
