@@ -9,7 +9,7 @@ use Rattle.std.specs.Int.Bits.{bit_xor, xor_zero_l}
 use Rattle.std.specs.List.{range_with_len}
 use Rattle.std.proofs.Math.Nat.{mod-lt}
 use Rattle.apple_gcr.specs.declared.nibbles.TheConstants.{VALUES_BY_BYTE}
-use Rattle.apple_gcr.specs.NibbleLaws.{agree-below, one_value}
+use Rattle.apple_gcr.specs.FieldLaws.{agree-below, one_value}
 use Rattle.apple_gcr.specs.Nibbles.{disk_byte, nibble}
 use Rattle.apple_gcr.specs.SixAndTwo.{AreCoded, code_at}
 use Rattle.apple_gcr.specs.ValueLaws.{AreSixBits, FirstStand, code-fits, same_value, xor-undo}

@@ -2,9 +2,7 @@ pub mod FieldLaws
 pub mod FourAndFour
 pub mod FrameLaws
 pub mod Layout
-pub mod NibbleLaws
 pub mod Nibbles
-pub mod OwnLaws
 pub mod RowLaws
 pub mod Sectors
 pub mod SixAndTwo

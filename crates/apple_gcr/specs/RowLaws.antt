@@ -1,21 +1,24 @@
 -- The cells of a row: how many they are, and how far their ones are apart.
-use Rattle.std.specs.Prelude.{◌≡◌, ℕ, zero, suc, ◌*◌, ◌<◌, ◌≤◌, Bool, true, false, List, [], ◌∷◌, length, replicate, refl}
-use Rattle.std.proofs.Common.{ap, sym, subst, ◌∙◌, arith, lit<, lit≤}
+use Rattle.std.specs.Prelude.{◌≡◌, ℕ, zero, suc, ◌*◌, ◌<◌, Bool, true, false, List, [], ◌∷◌, length, replicate, refl, nat_le, nat_lt, ◌+◌}
+use Rattle.std.proofs.Common.{ap, sym, subst, ◌∙◌, arith, lit<}
+use Rattle.std.proofs.lemmas.Bool.Decides.{nat_tests}
 use Rattle.std.proofs.lemmas.List.{length-replicate}
 use Rattle.std.proofs.lemmas.Nat.{xor_of_8}
 use Rattle.std.specs.Int.Bits.{bit_xor}
 use Rattle.flux_base.specs.declared.track.TrackId.{TrackId}
 use Rattle.cell_bits.specs.Word.{word_cells}
 use Rattle.cell_bits.specs.WordLaws.{length-word_cells}
+use Rattle.frame_law.specs.WordRows.{length-row}
 use Rattle.track_rings.specs.Rows.{IsContent}
 use Rattle.track_rings.specs.SectorParts.{AreBytes}
 use Rattle.track_rings.specs.Spaced.{MayFollow, is_spaced, zeros_after}
 use Rattle.track_rings.specs.SpacedLaws.{cells-append, cells-none}
+use Rattle.track_rings.specs.Syncs.{both_true}
 use Rattle.apple_gcr.specs.declared.layout.Mark.{Mark}
 use Rattle.apple_gcr.specs.declared.layout.Mark.TheVariants.{AddressField, DataField, Epilogue}
 use Rattle.apple_gcr.specs.declared.layout.Row.{Row}
 use Rattle.apple_gcr.specs.declared.layout.Row.TheVariants.{SelfSyncs, Mark as AMark, Address, Content}
-use Rattle.apple_gcr.specs.FieldLaws.{AreFieldBytes, AreFieldBytes-halves, address_cells, in_halves, length-bytes_cells, length-each}
+use Rattle.apple_gcr.specs.FieldLaws.{AreFieldBytes, AreFieldBytes-halves, address_cells, in_halves, length-bytes_cells}
 use Rattle.apple_gcr.specs.FourAndFour.{four_and_four}
 use Rattle.apple_gcr.specs.Layout.{SELF_SYNC, VOLUME, address_of, row_cells, row_size, self_syncs, word_of}
 use Rattle.apple_gcr.specs.Nibbles.{bytes_cells}
@@ -30,9 +33,9 @@ length-four_and_four byte = refl
 pub row_length : (track : TrackId) (before : Bool) (sector : ℕ) (bytes : List ℕ) (row : Row)
     → length (row_cells track before sector bytes row) ≡ row_size (length bytes) row
 row_length track before sector bytes (SelfSyncs count) =
-    length-each 10 (word_cells 10) (length-word_cells 10) (replicate count SELF_SYNC) ∙ ap (λ (n : ℕ). 10 * n) (length-replicate count SELF_SYNC)
+    length-row 10 (word_cells 10) (length-word_cells 10) (replicate count SELF_SYNC) ∙ ap (λ (n : ℕ). 10 * n) (length-replicate count SELF_SYNC)
 row_length track before sector bytes (AMark mark) = length-word_cells 24 (word_of mark)
-row_length track before sector bytes Address = length-each 16 four_and_four length-four_and_four (address_of track sector)
+row_length track before sector bytes Address = length-row 16 four_and_four length-four_and_four (address_of track sector)
 row_length track before sector bytes Content =
     length-bytes_cells (data_nibbles bytes) ∙ ap (λ (n : ℕ). 8 * n) (length-data_nibbles bytes)
 
@@ -47,29 +50,23 @@ address-fits track sector known few =
     (lit< tt, (cylinder, (number, (check, tt))))
 
 -- No three zeros come in a row. After two of them cells begin with a one, and so they do after any.
-spaced-any : (seen : ℕ) (cells : List Bool) → seen ≤ 2 → is_spaced 1 3 2 cells ≡ true → is_spaced 1 3 seen cells ≡ true
+spaced-any : (seen : ℕ) (cells : List Bool) → is_spaced 1 3 2 cells ≡ true → is_spaced 1 3 seen cells ≡ true
 unfolding is_spaced
-spaced-any zero [] low spaced = refl
-spaced-any (suc seen) [] low spaced = refl
-spaced-any seen (false ∷ cells) low spaced = absurd (cc)
-spaced-any zero (true ∷ cells) low spaced = spaced
-spaced-any (suc zero) (true ∷ cells) low spaced = spaced
-spaced-any (suc (suc zero)) (true ∷ cells) low spaced = spaced
-spaced-any (suc (suc (suc seen))) (true ∷ cells) low spaced = absurd (omega arith)
+spaced-any seen [] spaced = refl
+spaced-any seen (false ∷ cells) spaced = absurd (cc)
+spaced-any seen (true ∷ cells) spaced = let near : nat_le 1 (seen + 1) ≡ true = grind (arith, nat_tests) in rw near spaced
 
-few-last : (seen : ℕ) (cells : List Bool) → seen ≤ 2 → is_spaced 1 3 seen cells ≡ true → zeros_after seen cells ≤ 2
+few-last : (seen : ℕ) (cells : List Bool) → seen < 3 → is_spaced 1 3 seen cells ≡ true → zeros_after seen cells < 3
 unfolding is_spaced zeros_after
 few-last seen [] low spaced = low
-few-last zero (true ∷ cells) low spaced = few-last 0 cells (lit≤ tt) spaced
-few-last (suc zero) (true ∷ cells) low spaced = few-last 0 cells (lit≤ tt) spaced
-few-last (suc (suc zero)) (true ∷ cells) low spaced = few-last 0 cells (lit≤ tt) spaced
-few-last zero (false ∷ cells) low spaced = few-last 1 cells (lit≤ tt) spaced
-few-last (suc zero) (false ∷ cells) low spaced = few-last 2 cells (lit≤ tt) spaced
-few-last (suc (suc zero)) (false ∷ cells) low spaced = absurd (cc)
-few-last (suc (suc (suc seen))) (cell ∷ cells) low spaced = absurd (omega arith)
+few-last seen (true ∷ cells) low spaced = few-last 0 cells (lit< tt) (both_true (nat_le 1 (seen + 1)) _ spaced).1
+few-last seen (false ∷ cells) low spaced =
+    let both = both_true (nat_lt (seen + 1) 3) _ spaced in
+    few-last (seen + 1) cells (let few : nat_lt (seen + 1) 3 ≡ true = both.0 in grind (arith, nat_tests)) both.1
 
 follows : (cells : List Bool) → is_spaced 1 3 2 cells ≡ true → MayFollow 1 3 2 false (λ before. cells)
-follows cells spaced seen low = let any = spaced-any seen cells low spaced in (any, few-last seen cells low any)
+follows cells spaced seen low =
+    let any = spaced-any seen cells spaced in (any, (let few = few-last seen cells (omega (arith, low)) any in omega (arith, few)))
 
 bytes-follow : (bytes : List ℕ) → AreFieldBytes bytes → MayFollow 1 3 2 false (λ before. bytes_cells bytes)
 bytes-follow [] all = cells-none 1 3 2

@@ -14,9 +14,8 @@ use Rattle.frame_law.specs.OwnFrames.{HasOwnSyncs}
 use Rattle.apple_gcr.specs.declared.layout.Mark.TheVariants.{AddressField, DataField, Epilogue}
 use Rattle.apple_gcr.specs.declared.layout.Row.{Row}
 use Rattle.apple_gcr.specs.declared.layout.Row.TheVariants.{SelfSyncs, Mark as AMark, Address, Content}
-use Rattle.apple_gcr.specs.FieldLaws.{AreFieldBytes, AreFieldBytes-halves, address_cells, in_halves}
+use Rattle.apple_gcr.specs.FieldLaws.{AreFieldBytes, AreFieldBytes-halves, address_cells, in_halves, IsFieldByte, one_byte, sync_rest}
 use Rattle.apple_gcr.specs.Layout.{EPILOGUE, SELF_SYNC, address_of, ring_of, row_cells, row_size, rows, self_syncs}
-use Rattle.apple_gcr.specs.NibbleLaws.{IsFieldByte, one_byte, sync_rest}
 use Rattle.apple_gcr.specs.Nibbles.{bytes_cells}
 use Rattle.apple_gcr.specs.RowLaws.{address-fits, row_length}
 use Rattle.apple_gcr.specs.Sectors.{ADDRESS_MARK, DATA_MARK, IsTrack, NamesSector}

@@ -11,8 +11,7 @@ use Rattle.std.specs.Int.Bits.{xor_assoc, xor_self, xor_zero_r}
 use Rattle.std.specs.List.{range_with_len}
 use Rattle.frame_law.specs.WordRows.{StandInRow}
 use Rattle.track_rings.specs.SectorParts.{AreBytes}
-use Rattle.apple_gcr.specs.FieldLaws.{AreFieldBytes, AreFieldBytes-map}
-use Rattle.apple_gcr.specs.NibbleLaws.{IsFieldByte-nibble, one_value}
+use Rattle.apple_gcr.specs.FieldLaws.{AreFieldBytes, AreFieldBytes-map, IsFieldByte-nibble, one_value}
 use Rattle.apple_gcr.specs.Nibbles.{disk_byte, nibble}
 use Rattle.apple_gcr.specs.SixAndTwo.{Carries, code_at, data_nibbles, swapped, value_at, values_of}
 

@@ -3,7 +3,7 @@ use Rattle.std.proofs.lemmas.List.{length-replicate}
 use Rattle.cell_bits.specs.Word.{word_cells}
 use Rattle.cell_bits.specs.WordLaws.{length-word_cells}
 use Rattle.frame_law.specs.Writing.{AppendsCells-stop}
-use Rattle.apple_gcr.specs.FieldLaws.{length-each}
+use Rattle.frame_law.specs.WordRows.{length-row}
 use Rattle.apple_gcr.specs.Layout.{SELF_SYNC, self_syncs}
 use Rattle.apple_gcr.proofs.rows.push_self_syncs.Goals as goal
 
@@ -18,8 +18,8 @@ returns-in_err-push_cells c =
       arith,
       length-append (self_syncs c.loop.counter) one,
       length-word_cells 10 SELF_SYNC,
-      length-each 10 (word_cells 10) (length-word_cells 10) part,
-      length-each 10 (word_cells 10) (length-word_cells 10) whole,
+      length-row 10 (word_cells 10) (length-word_cells 10) part,
+      length-row 10 (word_cells 10) (length-word_cells 10) whole,
       length-replicate c.loop.counter SELF_SYNC,
       length-replicate c.args.count SELF_SYNC,
     ))
