@@ -66,17 +66,12 @@ names-sector track sector rest known few =
     }
 
 -- in the gap no sync stands, and after it the data's does, with AD after it
-gap_free : (rest : List Bool) → free_of (word_cells 16 DATA_SYNC) 84 (gap_and_mark ++ rest) ≡ true
-unfolding free_of begins gap_and_mark word_cells
-gap_free rest = refl
-
-gap_sync : (rest : List Bool) → take 16 (drop 84 (gap_and_mark ++ rest)) ≡ word_cells 16 DATA_SYNC
-unfolding gap_and_mark word_cells
-gap_sync rest = refl
-
-gap_opens : (rest : List Bool) → disk_byte (gap_and_mark ++ rest) 100 ≡ 0xAD
-unfolding gap_and_mark word_cells disk_byte word number_of
-gap_opens rest = refl
+gap : (rest : List Bool)
+    → (free_of (word_cells 16 DATA_SYNC) 84 (gap_and_mark ++ rest) ≡ true)
+    × (take 16 (drop 84 (gap_and_mark ++ rest)) ≡ word_cells 16 DATA_SYNC)
+    × (disk_byte (gap_and_mark ++ rest) 100 ≡ 0xAD)
+unfolding free_of begins gap_and_mark word_cells disk_byte word number_of
+gap rest = (refl, refl, refl)
 
 -- data hold their bytes
 holds : (header : List Bool) (bytes : List ℕ) (rest : List Bool) → length header ≡ 88 → AreBytes bytes → length bytes ≡ 256
@@ -86,7 +81,7 @@ holds header bytes rest header_size fit size =
     let front = header ++ gap_and_mark in
     let front_size : length front ≡ 196 = omega (arith, length-append header gap_and_mark, header_size, length-gap_and_mark) in
     record {
-      opens = disk_byte-past header (gap_and_mark ++ last) 88 100 header_size ∙ gap_opens last;
+      opens = disk_byte-past header (gap_and_mark ++ last) 88 100 header_size ∙ (gap last).2;
       values = values_of bytes;
       coded = record {
         count = length-values_of bytes;
@@ -117,9 +112,9 @@ frame_stands track sector bytes before rest known number fit size =
       begins = take-first mark (field ++ (gap_and_mark ++ behind)) 24 (length-word_cells 24 ADDRESS_MARK);
       named = names-sector track sector (gap_and_mark ++ behind) known (omega (arith, number.most));
       opens = subst (λ (cells : List Bool). IsSync cells 172) (sym grouped)
-          (ap (take 16) (drop-past header (gap_and_mark ++ behind) 88 84 header_size) ∙ gap_sync behind);
+          (ap (take 16) (drop-past header (gap_and_mark ++ behind) 88 84 header_size) ∙ (gap behind).1);
       first = λ place above below.
           subst (λ (cells : List Bool). ¬ IsSync cells place) (sym grouped)
-          (gap-free DATA_SYNC 16 84 header (gap_and_mark ++ behind) 88 place (lit≤ tt) (gap_free behind) header_size above below);
+          (gap-free DATA_SYNC 16 84 header (gap_and_mark ++ behind) 88 place (lit≤ tt) (gap behind).0 header_size above below);
       held = subst (λ (cells : List Bool). Hold cells 172 bytes) (sym grouped) (holds header bytes rest header_size fit size);
     })

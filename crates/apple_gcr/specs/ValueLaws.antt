@@ -31,7 +31,7 @@ unfolding values_of
 get_or-values_of bytes k within = get_or-map-range_with_len (value_at bytes) 0 342 k k 0 within (omega arith)
 
 value-low : (bytes : List ℕ) (k : ℕ) → k < 86
-    → value_at bytes k ≡ swapped (get_or bytes k 0) + 4 * swapped (get_or bytes (k + 86) 0) + 16 * swapped (get_or bytes (k + 172) 0)
+    → value_at bytes k ≡ swapped (get_or bytes k 0) + 4 * swapped (get_or bytes (86 + k) 0) + 16 * swapped (get_or bytes (172 + k) 0)
 value-low bytes k low = grind (arith, nat_tests)
 
 value-high : (bytes : List ℕ) (k : ℕ) → value_at bytes (86 + k) ≡ get_or bytes k 0 / 4
@@ -41,13 +41,7 @@ value-high bytes k =
     grind (arith, nat_tests)
 
 value-fits : (bytes : List ℕ) (k : ℕ) → AreBytes bytes → value_at bytes k < 64
-value-fits bytes k fit =
-    elim (cases_lt k 86) [
-      | inl low ↦ omega (arith, value-low bytes k low)
-      | inr high ↦
-          let e : 86 + (k - 86) ≡ k = omega arith in
-          subst (λ (n : ℕ). value_at bytes n < 64) e (omega (arith, value-high bytes (k - 86), each-byte bytes fit (k - 86)))
-    ]
+value-fits bytes k fit = let byte = each-byte bytes fit (k - 86) in grind (arith, nat_tests)
 
 pub values_of-fit : (bytes : List ℕ) (k : ℕ) → AreBytes bytes → get_or (values_of bytes) k 0 < 64
 values_of-fit bytes k fit =
@@ -63,18 +57,14 @@ pub values_of-carry : (bytes : List ℕ) → length bytes ≡ 256 → Carries (v
 values_of-carry bytes size =
     let low : (k : ℕ) → k < 86
     → get_or (values_of bytes) k 0
-    ≡ swapped (get_or bytes k 0) + 4 * swapped (get_or bytes (k + 86) 0) + 16 * swapped (get_or bytes (k + 172) 0) =
+    ≡ swapped (get_or bytes k 0) + 4 * swapped (get_or bytes (86 + k) 0) + 16 * swapped (get_or bytes (172 + k) 0) =
     λ k within. get_or-values_of bytes k (omega arith) ∙ value-low bytes k within in
     record {
       size = size;
       high = λ k within. sym (get_or-values_of bytes (86 + k) (omega arith) ∙ value-high bytes k);
       first = λ k within. omega (arith, low k within);
-      second = λ k within.
-          let e : 86 + k ≡ k + 86 = omega arith in
-          ap (λ (n : ℕ). swapped (get_or bytes n 0)) e ∙ (omega (arith, low k within));
-      third = λ k within.
-          let e : 172 + k ≡ k + 172 = omega arith in
-          ap (λ (n : ℕ). swapped (get_or bytes n 0)) e ∙ (omega (arith, low k (omega arith)));
+      second = λ k within. omega (arith, low k within);
+      third = λ k within. omega (arith, low k (omega arith));
     }
 
 -- six bits
