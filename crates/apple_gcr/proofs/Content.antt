@@ -54,7 +54,6 @@ pub short-written : (old mid new : CellsState) (bytes : List ℕ) (count last va
     → count < 342 → IsWritten old mid bytes count last → value ≡ value_at bytes count → IsErr result
     → AppendsCells mid new (word_cells 8 (nibble (bit_xor value last))) (Err why)
     → AppendsCells old new (bytes_cells (data_nibbles bytes)) result
-unfolding bytes_cells
 short-written old mid new bytes count last value why result within before is failed appends =
     AppendsCells-short (word_cells 8) (data_nibbles bytes) old mid new count 0 why result failed
     (omega (arith, length-data_nibbles bytes, within)) before.written
@@ -62,7 +61,6 @@ short-written old mid new bytes count last value why result within before is fai
 
 pub all-written : (old mid new : CellsState) (bytes : List ℕ) (last : ℕ) (result : Result (Unit {0}) Memory) → IsWritten old mid bytes 342 last
     → AppendsCells mid new (word_cells 8 (nibble last)) result → AppendsCells old new (bytes_cells (data_nibbles bytes)) result
-unfolding bytes_cells
 all-written old mid new bytes last result before appends =
     let nibbles = data_nibbles bytes in
     let within : 342 < length nibbles = omega (arith, length-data_nibbles bytes) in

@@ -1,4 +1,3 @@
 pub mod Bytes
 pub mod Content
 pub mod Values
-pub mod Writes

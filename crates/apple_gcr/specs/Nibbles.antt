@@ -12,7 +12,7 @@ unfoldable pub disk_byte : List Bool → ℕ → ℕ
 disk_byte cells place = word cells place BYTE_CELLS
 
 -- the cells of bytes
-unfoldable pub bytes_cells : List ℕ → List Bool
+abbrev pub bytes_cells : List ℕ → List Bool
 bytes_cells bytes = flat_map (word_cells BYTE_CELLS) bytes
 
 -- whether two bits side by side are ones

@@ -1,8 +1,6 @@
--- The sectors of Apple's disks (DOS 3.3): when a header and when a sector stands at the front of a list of cells.
-use Rattle.std.specs.Prelude.{◌≡◌, ℕ, ◌+◌, ◌<◌, ◌≤◌, Bool, List, [], ◌∷◌, length}
+-- The sectors of Apple's disks (DOS 3.3): what a header names and what data hold.
+use Rattle.std.specs.Prelude.{◌≡◌, ℕ, ◌+◌, ◌<◌, Bool, List, [], ◌∷◌}
 use Rattle.flux_base.specs.declared.track.TrackId.{TrackId}
-use Rattle.cell_bits.specs.Broken.{Unbroken}
-use Rattle.cell_bits.specs.Search.{StandsNowhere}
 use Rattle.cell_bits.specs.Word.{Stands}
 use Rattle.check_values.specs.Sums.{xor}
 use Rattle.apple_gcr.specs.FourAndFour.{FourAndFourAt}
@@ -43,11 +41,7 @@ DATA_SYNC_CELLS = 16
 abbrev pub check_of : ℕ → ℕ → ℕ → ℕ
 check_of volume cylinder sector = xor (volume ∷ cylinder ∷ sector ∷ [])
 
--- the cells of a header: three bytes of mark, and four bytes in 4-and-4
-abbrev pub HEADER_CELLS : ℕ
-HEADER_CELLS = 88
-
--- where its fields begin, in cells from its begin
+-- where the fields of a header, four bytes in 4-and-4, begin, in cells from its begin
 abbrev pub VOLUME_PLACE : ℕ
 VOLUME_PLACE = 24
 
@@ -60,34 +54,19 @@ SECTOR_PLACE = 56
 abbrev pub CHECK_PLACE : ℕ
 CHECK_PLACE = 72
 
--- a header: the mark, any volume, this track, this sector, and their check value
-pub record HeaderStands (track : TrackId) (cells : List Bool) (sector : ℕ) : Type 0 where
-  pub whole : HEADER_CELLS ≤ length cells
-  pub mark : Stands cells ADDRESS_MARK MARK_CELLS 0
+-- a header names a sector: any volume, this track, this sector, and their check value
+pub record NamesSector (track : TrackId) (cells : List Bool) (sector : ℕ) : Type 0 where
   pub volume : ℕ
   pub has_volume : FourAndFourAt cells VOLUME_PLACE volume
   pub has_track : FourAndFourAt cells TRACK_PLACE track.cylinder
   pub has_sector : FourAndFourAt cells SECTOR_PLACE sector
   pub has_check : FourAndFourAt cells CHECK_PLACE (check_of volume track.cylinder sector)
-  pub known : sector < SECTORS
-  pub unbroken : Unbroken cells 0 HEADER_CELLS
 
--- the data's sync begins less than this number of cells behind the header
-abbrev pub DATA_REACH : ℕ
-DATA_REACH = 1024
+-- after a header D5 AA is a sync, whatever comes after it
+abbrev pub IsSync : List Bool → ℕ → Type 0
+IsSync cells place = Stands cells DATA_SYNC DATA_SYNC_CELLS place
 
--- the first sync behind the header, within reach
-pub record IsDataSync (cells : List Bool) (sync : ℕ) : Type 0 where
-  pub behind : HEADER_CELLS ≤ sync
-  pub near : sync < HEADER_CELLS + DATA_REACH
-  pub stands : Stands cells DATA_SYNC DATA_SYNC_CELLS sync
-  pub none_before : StandsNowhere cells DATA_SYNC DATA_SYNC_CELLS HEADER_CELLS sync
-
--- the cells of the data: three bytes of mark, and 343 nibbles
-abbrev pub DATA_CELLS : ℕ
-DATA_CELLS = 2768
-
--- the byte behind their sync, and where it and the nibbles begin, in cells from the sync
+-- the byte after their sync, and where it and the nibbles begin, in cells from the sync
 abbrev pub DATA_BYTE : ℕ
 DATA_BYTE = 0xAD
 
@@ -97,19 +76,9 @@ DATA_BYTE_PLACE = 16
 abbrev pub NIBBLES_PLACE : ℕ
 NIBBLES_PLACE = 24
 
--- the data: their sync, which is the first one behind the header and has AD behind it, and the nibbles of values that carry the
--- bytes, with all cells from the header's begin on unbroken
-pub record DataStands (cells : List Bool) (bytes : List ℕ) : Type 0 where
-  pub sync : ℕ
-  pub first_sync : IsDataSync cells sync
-  pub whole : sync + DATA_CELLS ≤ length cells
+-- data hold bytes: AD comes after their sync, and then the nibbles of values that carry the bytes
+pub record Hold (cells : List Bool) (sync : ℕ) (bytes : List ℕ) : Type 0 where
   pub opens : disk_byte cells (sync + DATA_BYTE_PLACE) ≡ DATA_BYTE
   pub values : List ℕ
   pub coded : AreCoded cells (sync + NIBBLES_PLACE) values
   pub carried : Carries values bytes
-  pub unbroken : Unbroken cells 0 (sync + DATA_CELLS)
-
--- a sector: its header and its data
-pub record SectorStands (track : TrackId) (cells : List Bool) (sector : ℕ) (bytes : List ℕ) : Type 0 where
-  pub header : HeaderStands track cells sector
-  pub content : DataStands cells bytes

@@ -35,7 +35,7 @@ low_pair values k =
 abbrev pub value_at : List ℕ → ℕ → ℕ
 value_at bytes k =
     if nat_lt k 86
-    then swapped (get_or bytes k 0) + 4 * swapped (get_or bytes (k + 86) 0) + 16 * swapped (get_or bytes (k + 172) 0)
+    then swapped (get_or bytes k 0) + 4 * swapped (get_or bytes (86 + k) 0) + 16 * swapped (get_or bytes (172 + k) 0)
     else get_or bytes (k - 86) 0 / 4
 
 unfoldable pub values_of : List ℕ → List ℕ

@@ -1,6 +1,6 @@
 -- The values of 6-and-2: those that are written carry the bytes, and nibbles that stand have one list of values, which carries
 -- one list of bytes.
-use Rattle.std.specs.Prelude.{◌≡◌, ℕ, zero, suc, ◌+◌, ◌-◌, ◌*◌, ◌/◌, ◌<◌, ◌≤◌, Bool, List, length, get_or, bit_xor}
+use Rattle.std.specs.Prelude.{◌≡◌, ℕ, zero, suc, ◌+◌, ◌-◌, ◌*◌, ◌/◌, ◌<◌, ◌≤◌, Bool, List, [], ◌∷◌, length, get_or, bit_xor}
 use Rattle.std.proofs.Common.{ap, sym, subst, ◌∙◌, arith, inl, inr, lit<}
 use Rattle.std.proofs.lemmas.Bool.{cases_lt}
 use Rattle.std.proofs.lemmas.Bool.Decides.{nat_tests}
@@ -9,14 +9,18 @@ use Rattle.std.proofs.lemmas.List.FromFn.{get_or-map-range_with_len, length-rang
 use Rattle.std.proofs.lemmas.Nat.{xor_lt}
 use Rattle.std.specs.Int.Bits.{xor_assoc, xor_self, xor_zero_r}
 use Rattle.std.specs.List.{range_with_len}
-use Rattle.apple_gcr.specs.NibbleLaws.{IsDiskByte-nibble, one_value}
+use Rattle.frame_law.specs.WordRows.{StandInRow}
+use Rattle.track_rings.specs.SectorParts.{AreBytes}
+use Rattle.apple_gcr.specs.FieldLaws.{AreFieldBytes, AreFieldBytes-map, IsFieldByte-nibble, one_value}
 use Rattle.apple_gcr.specs.Nibbles.{disk_byte, nibble}
-use Rattle.apple_gcr.specs.ReadLaws.{AreDiskBytes, AreDiskBytes-map}
-use Rattle.apple_gcr.specs.SixAndTwo.{AreCoded, Carries, code_at, data_nibbles, swapped, value_at, values_of}
+use Rattle.apple_gcr.specs.SixAndTwo.{Carries, code_at, data_nibbles, swapped, value_at, values_of}
 
--- a list of bytes
-abbrev pub AreBytes : List ℕ → Type 0
-AreBytes bytes = (k : ℕ) → get_or bytes k 0 < 256
+-- each of a list of bytes
+each-byte : (bytes : List ℕ) → AreBytes bytes → (k : ℕ) → get_or bytes k 0 < 256
+unfolding AreBytes
+each-byte [] fit k = lit< tt
+each-byte (byte ∷ bytes) fit zero = fit.0
+each-byte (byte ∷ bytes) fit (suc k) = each-byte bytes fit.1 k
 
 pub length-values_of : (bytes : List ℕ) → length (values_of bytes) ≡ 342
 unfolding values_of
@@ -27,7 +31,7 @@ unfolding values_of
 get_or-values_of bytes k within = get_or-map-range_with_len (value_at bytes) 0 342 k k 0 within (omega arith)
 
 value-low : (bytes : List ℕ) (k : ℕ) → k < 86
-    → value_at bytes k ≡ swapped (get_or bytes k 0) + 4 * swapped (get_or bytes (k + 86) 0) + 16 * swapped (get_or bytes (k + 172) 0)
+    → value_at bytes k ≡ swapped (get_or bytes k 0) + 4 * swapped (get_or bytes (86 + k) 0) + 16 * swapped (get_or bytes (172 + k) 0)
 value-low bytes k low = grind (arith, nat_tests)
 
 value-high : (bytes : List ℕ) (k : ℕ) → value_at bytes (86 + k) ≡ get_or bytes k 0 / 4
@@ -37,13 +41,7 @@ value-high bytes k =
     grind (arith, nat_tests)
 
 value-fits : (bytes : List ℕ) (k : ℕ) → AreBytes bytes → value_at bytes k < 64
-value-fits bytes k fit =
-    elim (cases_lt k 86) [
-      | inl low ↦ omega (arith, value-low bytes k low)
-      | inr high ↦
-          let e : 86 + (k - 86) ≡ k = omega arith in
-          subst (λ (n : ℕ). value_at bytes n < 64) e (omega (arith, value-high bytes (k - 86), fit (k - 86)))
-    ]
+value-fits bytes k fit = let byte = each-byte bytes fit (k - 86) in grind (arith, nat_tests)
 
 pub values_of-fit : (bytes : List ℕ) (k : ℕ) → AreBytes bytes → get_or (values_of bytes) k 0 < 64
 values_of-fit bytes k fit =
@@ -59,18 +57,14 @@ pub values_of-carry : (bytes : List ℕ) → length bytes ≡ 256 → Carries (v
 values_of-carry bytes size =
     let low : (k : ℕ) → k < 86
     → get_or (values_of bytes) k 0
-    ≡ swapped (get_or bytes k 0) + 4 * swapped (get_or bytes (k + 86) 0) + 16 * swapped (get_or bytes (k + 172) 0) =
+    ≡ swapped (get_or bytes k 0) + 4 * swapped (get_or bytes (86 + k) 0) + 16 * swapped (get_or bytes (172 + k) 0) =
     λ k within. get_or-values_of bytes k (omega arith) ∙ value-low bytes k within in
     record {
       size = size;
       high = λ k within. sym (get_or-values_of bytes (86 + k) (omega arith) ∙ value-high bytes k);
       first = λ k within. omega (arith, low k within);
-      second = λ k within.
-          let e : 86 + k ≡ k + 86 = omega arith in
-          ap (λ (n : ℕ). swapped (get_or bytes n 0)) e ∙ (omega (arith, low k within));
-      third = λ k within.
-          let e : 172 + k ≡ k + 172 = omega arith in
-          ap (λ (n : ℕ). swapped (get_or bytes n 0)) e ∙ (omega (arith, low k (omega arith)));
+      second = λ k within. omega (arith, low k within);
+      third = λ k within. omega (arith, low k (omega arith));
     }
 
 -- six bits
@@ -78,11 +72,11 @@ pub code-fits : (values : List ℕ) (k : ℕ) → ((k : ℕ) → get_or values k
 code-fits values zero fit = subst (λ (n : ℕ). n < 64) (sym (xor_zero_r (get_or values 0 0))) (fit 0)
 code-fits values (suc k) fit = xor_lt 6 (get_or values (suc k) 0) (get_or values k 0) (fit (suc k)) (fit k)
 
-pub data_nibbles-are : (bytes : List ℕ) → AreBytes bytes → AreDiskBytes (data_nibbles bytes)
+pub data_nibbles-are : (bytes : List ℕ) → AreBytes bytes → AreFieldBytes (data_nibbles bytes)
 unfolding data_nibbles
 data_nibbles-are bytes fit =
-    AreDiskBytes-map (λ k. nibble (code_at (values_of bytes) k)) (range_with_len 0 343)
-    (λ k. IsDiskByte-nibble (code_at (values_of bytes) k) (code-fits (values_of bytes) k (λ i. values_of-fit bytes i fit)))
+    AreFieldBytes-map (λ k. nibble (code_at (values_of bytes) k))
+    (λ k. IsFieldByte-nibble (code_at (values_of bytes) k) (code-fits (values_of bytes) k (λ i. values_of-fit bytes i fit))) (range_with_len 0 343)
 
 pub length-data_nibbles : (bytes : List ℕ) → length (data_nibbles bytes) ≡ 343
 unfolding data_nibbles
@@ -100,7 +94,7 @@ xor-undo a b = xor_assoc a b b ∙ ap (bit_xor a) (xor_self b) ∙ xor_zero_r a
 
 -- the first nibbles, so many, stand at the place
 abbrev pub FirstStand : List Bool → ℕ → List ℕ → ℕ → Type 0
-FirstStand cells place values count = (k : ℕ) → k < count → disk_byte cells (place + 8 * k) ≡ nibble (code_at values k)
+FirstStand cells place values count = StandInRow 8 (λ some here byte. disk_byte some here ≡ byte) cells place count (λ k. nibble (code_at values k))
 
 abbrev pub AreSixBits : List ℕ → Type 0
 AreSixBits values = (k : ℕ) → get_or values k 0 < 64
@@ -121,17 +115,17 @@ module _ (cells : List Bool) (place : ℕ) (xs ys : List ℕ) (count : ℕ) (fit
       ∙ ap (bit_xor (bit_xor (get_or ys (suc k) 0) (get_or ys k 0))) before
       ∙ xor-undo (get_or ys (suc k) 0) (get_or ys k 0)
 
--- one list of values
-pub one_list : (cells : List Bool) (place : ℕ) (xs ys : List ℕ) → AreCoded cells place xs → AreCoded cells place ys → xs ≡ ys
-one_list cells place xs ys first second =
-    ext_get_or 0 xs ys (first.count ∙ sym second.count)
-    (λ k within. same_value cells place xs ys 343 first.fit second.fit first.stand second.stand k (omega (arith, first.count, within)))
+-- one list of values, which all nibbles but that of the check value tell
+pub one_list : (cells : List Bool) (place : ℕ) (xs ys : List ℕ) → length xs ≡ 342 → length ys ≡ 342 → AreSixBits xs → AreSixBits ys
+    → FirstStand cells place xs 342 → FirstStand cells place ys 342 → xs ≡ ys
+one_list cells place xs ys size same fit also first second =
+    ext_get_or 0 xs ys (size ∙ sym same) (λ k within. same_value cells place xs ys 342 fit also first second k (omega (arith, size, within)))
 
 same_byte : (x y : ℕ) → x / 4 ≡ y / 4 → swapped x ≡ swapped y → x ≡ y
 same_byte x y high low = omega arith
 
-one_byte : (values xs ys : List ℕ) (k : ℕ) → Carries values xs → Carries values ys → k < 256 → swapped (get_or xs k 0) ≡ swapped (get_or ys k 0)
-one_byte values xs ys k first second within =
+low_bits : (values xs ys : List ℕ) (k : ℕ) → Carries values xs → Carries values ys → k < 256 → swapped (get_or xs k 0) ≡ swapped (get_or ys k 0)
+low_bits values xs ys k first second within =
     elim (cases_lt k 86) [
       | inl low ↦ first.first k low ∙ sym (second.first k low)
       | inr more ↦ elim (cases_lt k 172) [
@@ -147,10 +141,11 @@ one_byte values xs ys k first second within =
     ]
 
 -- one list of bytes
-pub one_carried : (values xs ys : List ℕ) → Carries values xs → Carries values ys → xs ≡ ys
-one_carried values xs ys first second =
+pub one_carried : (values others xs ys : List ℕ) → values ≡ others → Carries values xs → Carries others ys → xs ≡ ys
+one_carried values others xs ys same carried second =
+    let first = subst (λ (some : List ℕ). Carries some xs) same carried in
     ext_get_or 0 xs ys (first.size ∙ sym second.size)
     (λ k below.
     let within : k < 256 = omega (arith, first.size, below) in
     same_byte (get_or xs k 0) (get_or ys k 0) (first.high k within ∙ sym (second.high k within))
-    (one_byte values xs ys k first second within))
+    (low_bits others xs ys k first second within))

@@ -1,14 +1,40 @@
-/// A part of a track's ring.
+ghost use Rattle.std.specs.Prelude.{◌≡◌};
+ghost use Rattle.apple_gcr.specs.Layout.{word_of};
+
+/// A row of a track.
 #[derive(Clone, Copy)]
-pub(crate) enum Piece {
+pub enum Row {
     /// So many self-syncs.
     SelfSyncs(u8),
-    /// Three bytes that stand before a field or behind it, by their cells.
-    Mark(u32),
+    Mark(Mark),
     /// Volume, track, sector and their check value.
     Address,
     /// A sector's bytes and their check value.
     Content,
+}
+
+/// Three bytes before a field or after it.
+#[derive(Clone, Copy)]
+pub enum Mark {
+    /// Opens an address field.
+    AddressField,
+    /// Opens a data field.
+    DataField,
+    /// Closes both.
+    Epilogue,
+}
+
+impl Mark {
+    /// The mark by its cells.
+    pub(crate) fn word(self) -> u32
+        ensures { result ≡ word_of self }
+    {
+        match self {
+            Mark::AddressField => ADDRESS_MARK,
+            Mark::DataField => DATA_MARK,
+            Mark::Epilogue => EPILOGUE,
+        }
+    }
 }
 
 /// D5 AA 96, which opens an address field.
@@ -21,21 +47,27 @@ const DATA_MARK: u32 = 0xD5_AAAD;
 const EPILOGUE: u32 = 0xDE_AAEB;
 
 /// Before the first sector.
-pub(crate) const LEAD_IN: [Piece; 1] = [Piece::SelfSyncs(33)];
+pub(crate) const LEAD_IN: [Row; 1] = [Row::SelfSyncs(33)];
 
 /// A sector: address field, gap, data field, gap.
-pub(crate) const SECTOR: [Piece; 8] = [
-    Piece::Mark(ADDRESS_MARK),
-    Piece::Address,
-    Piece::Mark(EPILOGUE),
-    Piece::SelfSyncs(6),
-    Piece::Mark(DATA_MARK),
-    Piece::Content,
-    Piece::Mark(EPILOGUE),
-    Piece::SelfSyncs(14),
+pub(crate) const SECTOR: [Row; 8] = [
+    Row::Mark(Mark::AddressField),
+    Row::Address,
+    Row::Mark(Mark::Epilogue),
+    Row::SelfSyncs(6),
+    Row::Mark(Mark::DataField),
+    Row::Content,
+    Row::Mark(Mark::Epilogue),
+    Row::SelfSyncs(14),
 ];
 
-/// The sectors of a track, numbered from 0 in the order in which they pass.
+/// After the last sector: nothing.
+pub(crate) const LEAD_OUT: [Row; 0] = [];
+
+/// Sectors are numbered from 0 in the order in which they pass.
+pub(crate) const FIRST_SECTOR: u8 = 0;
+
+/// The sectors of a track.
 pub(crate) const SECTORS: u8 = 16;
 
 /// The bytes of a sector.
@@ -85,7 +117,7 @@ pub(crate) const DATA_BYTE_PLACE: usize = 16;
 /// Where the nibbles begin, in cells from the data sync.
 pub(crate) const NIBBLES_PLACE: usize = 24;
 
-/// The data sync begins less than this number of cells behind the header.
+/// The data sync begins less than this number of cells after the header.
 pub(crate) const DATA_REACH: usize = 1024;
 
 /// The mark and 343 nibbles.

@@ -6,10 +6,9 @@ mod four_and_four;
 mod header;
 mod layout;
 mod nibbles;
-mod pieces;
 mod recording;
+mod rows;
 mod six_and_two;
-mod track;
 
 pub use recording::AppleGcr;
 

@@ -24,8 +24,8 @@ pub(crate) fn value_at(bytes: &[u8], index: usize) -> u8
         return byte_or_zero(bytes, index - LOW_VALUES) / 4;
     }
     let first = swapped(byte_or_zero(bytes, index));
-    let second = swapped(byte_or_zero(bytes, index + LOW_VALUES));
-    let third = swapped(byte_or_zero(bytes, index + 2 * LOW_VALUES));
+    let second = swapped(byte_or_zero(bytes, LOW_VALUES + index));
+    let third = swapped(byte_or_zero(bytes, 2 * LOW_VALUES + index));
     first + 4 * second + 16 * third
 }
 

@@ -1,7 +1,7 @@
 use Rattle.std.proofs.Common.{◌≡◌, ℕ, arith, subst}
 use Rattle.std.proofs.lemmas.Nat.{xor_lt}
 use Rattle.apple_gcr.proofs.Content.{IsWritten, all-written, more-written, short-written}
-use Rattle.apple_gcr.proofs.pieces.push_content.Goals as goal
+use Rattle.apple_gcr.proofs.rows.push_content.Goals as goal
 
 pub nibble_of-requires : goal.nibble_of-requires
 nibble_of-requires c = xor_lt 6 c.value_at-value.result c.loop-index.before c.value_at-value.ensures.fits c.loop-index.invariant.fits

@@ -1,6 +1,6 @@
 use Rattle.frame_law.specs.Writing.{AppendsCells-none, AppendsCells-next, AppendsCells-short}
 use Rattle.apple_gcr.specs.FourAndFour.{four_and_four}
-use Rattle.apple_gcr.proofs.pieces.push_fields.Goals as goal
+use Rattle.apple_gcr.proofs.rows.push_fields.Goals as goal
 
 pub loop-byte-init : goal.loop-byte-init
 loop-byte-init c = AppendsCells-none c.args.cells.now

@@ -2,11 +2,10 @@ use Rattle.std.proofs.Common.{◌++◌, [], arith, append-nil, length-append}
 use Rattle.cell_bits.specs.Word.{word_cells}
 use Rattle.frame_law.specs.Writing.{AppendsCells-none, AppendsCells-more, AppendsCells-stop}
 use Rattle.apple_gcr.specs.FourAndFour.{four_and_four, second_half}
-use Rattle.apple_gcr.specs.Nibbles.{bytes_cells}
-use Rattle.apple_gcr.proofs.pieces.push_four_and_four.Goals as goal
+use Rattle.apple_gcr.proofs.rows.push_four_and_four.Goals as goal
 
 pub returns-in_err-push_byte : goal.returns-in_err-push_byte
-unfolding four_and_four bytes_cells
+unfolding four_and_four
 returns-in_err-push_byte c =
     let first = word_cells 8 c.halves-first.result.0 in
     let second = word_cells 8 (second_half c.args.byte) in
@@ -16,7 +15,7 @@ returns-in_err-push_byte c =
     (omega (arith, length-append first (second ++ []))))
 
 pub returns : goal.returns
-unfolding four_and_four bytes_cells
+unfolding four_and_four
 returns c =
     let first = word_cells 8 c.halves-first.result.0 in
     let second = word_cells 8 c.halves-first.result.1 in

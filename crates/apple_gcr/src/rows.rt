@@ -1,49 +1,34 @@
-ghost use Rattle.std.specs.Prelude.{◌≡◌, ℕ, length, replicate, flat_map, ◌≤◌};
+ghost use Rattle.std.specs.Prelude.{◌≡◌, ℕ, false, flat_map, ◌≤◌};
 ghost use Rattle.frame_law.specs.Writing.{AppendsCells};
 ghost use Rattle.cell_bits.specs.Word.{word_cells};
 ghost use Rattle.apple_gcr.specs.FourAndFour.{four_and_four};
-ghost use Rattle.apple_gcr.specs.Layout.{address_of, piece_cells, pieces_cells, self_syncs};
+ghost use Rattle.apple_gcr.specs.Layout.{address_of, row_cells, self_syncs, word_of};
 ghost use Rattle.apple_gcr.specs.Nibbles.{bytes_cells};
 ghost use Rattle.apple_gcr.specs.SixAndTwo.{data_nibbles};
 
 use crate::four_and_four::halves;
-use crate::layout::{BYTE_CELLS, MARK_CELLS, Piece, SELF_SYNC, SELF_SYNC_CELLS, VOLUME};
+use crate::layout::{BYTE_CELLS, MARK_CELLS, Mark, Row, SELF_SYNC, SELF_SYNC_CELLS, VOLUME};
 use crate::nibbles::nibble_of;
 use crate::six_and_two::{VALUES, value_at};
 use cell_bits::Cells;
 use check_values::xor_bytes;
 use flux_base::{Memory, TrackId};
 
-/// Appends a part of the ring, each piece for this sector with these bytes.
-pub(crate) fn push_pieces(
+/// Appends a row for this sector with these bytes.
+pub(crate) fn push_row(
     cells: &mut Cells,
-    pieces: &[Piece],
+    row: Row,
     track: TrackId,
     sector: u8,
     bytes: &[u8],
 ) -> Result<(), Memory>
-    ensures { AppendsCells cells.old cells.new (pieces_cells track sector bytes.now pieces.now) result }
+    ensures { AppendsCells cells.old cells.new (row_cells track false sector bytes.now row) result }
 {
-    for piece in pieces {
-        push_piece(cells, *piece, track, sector, bytes)?;
-    }
-    Ok(())
-}
-
-fn push_piece(
-    cells: &mut Cells,
-    piece: Piece,
-    track: TrackId,
-    sector: u8,
-    bytes: &[u8],
-) -> Result<(), Memory>
-    ensures { AppendsCells cells.old cells.new (piece_cells track sector bytes.now piece) result }
-{
-    match piece {
-        Piece::SelfSyncs(count) => push_self_syncs(cells, count),
-        Piece::Mark(mark) => push_cells(cells, mark, MARK_CELLS),
-        Piece::Address => push_address(cells, track, sector),
-        Piece::Content => push_content(cells, bytes),
+    match row {
+        Row::SelfSyncs(count) => push_self_syncs(cells, count),
+        Row::Mark(mark) => push_mark(cells, mark),
+        Row::Address => push_address(cells, track, sector),
+        Row::Content => push_content(cells, bytes),
     }
 }
 
@@ -54,6 +39,12 @@ fn push_self_syncs(cells: &mut Cells, count: u8) -> Result<(), Memory>
         push_cells(cells, SELF_SYNC, SELF_SYNC_CELLS)?;
     }
     Ok(())
+}
+
+fn push_mark(cells: &mut Cells, mark: Mark) -> Result<(), Memory>
+    ensures { AppendsCells cells.old cells.new (word_cells 24 (word_of mark)) result }
+{
+    push_cells(cells, mark.word(), MARK_CELLS)
 }
 
 /// Appends volume, track, sector and their check value.
