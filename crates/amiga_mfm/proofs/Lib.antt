@@ -1,4 +1,3 @@
+pub mod InRow
 pub mod Nibbles
 pub mod Pushes
-pub mod Rows
-pub mod Sectors

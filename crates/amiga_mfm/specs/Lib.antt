@@ -1,11 +1,9 @@
 pub mod FrameLaws
 pub mod Layout
-pub mod Lengths
 pub mod LongLaws
 pub mod Longs
 pub mod Masks
 pub mod OwnLaws
-pub mod RingLaws
+pub mod RowLaws
 pub mod Syncs
 pub mod Sectors
-pub mod StandLaws

@@ -3,6 +3,7 @@
 use Rattle.std.specs.Prelude.{ℕ, zero, suc, ◌+◌, ◌*◌, ◌/◌, Bool, List, [], ◌∷◌, ◌++◌, bit_and, map}
 use Rattle.std.specs.Int.{from_be_bytes, to_be_bytes, w32}
 use Rattle.std.specs.List.{flat_map}
+use Rattle.std.specs.Simd.Lanes.{zip2}
 use Rattle.cell_bits.specs.Bytes.{data_byte}
 use Rattle.cell_bits.specs.Word.{word, word_cells}
 use Rattle.amiga_mfm.specs.declared.half.Half.{Half}
@@ -46,10 +47,9 @@ long_of_halves odd even = 2 * without_clocks odd + without_clocks even
 abbrev pub long_at : List Bool → ℕ → ℕ → ℕ
 long_at cells place further = long_of_halves (word cells place HALF_CELLS) (word cells (place + further) HALF_CELLS)
 
--- so many longs whose odd halves stand in a row from a place on, each even half so many cells further
-unfoldable pub longs_at : List Bool → ℕ → ℕ → ℕ → List ℕ
-longs_at cells place further zero = []
-longs_at cells place further (suc count) = long_at cells place further ∷ longs_at cells (place + HALF_CELLS) further count
+-- so many longs whose odd halves stand in a row from a place on, and whose even halves stand in a row so many cells further
+abbrev pub longs_at : List Bool → ℕ → ℕ → ℕ → List ℕ
+longs_at cells place further count = zip2 long_of_halves (raw_longs cells place count) (raw_longs cells (place + further) count)
 
 -- their bytes, the high byte of each long first
 abbrev pub bytes_at : List Bool → ℕ → ℕ → ℕ → List ℕ

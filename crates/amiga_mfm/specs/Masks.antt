@@ -1,155 +1,101 @@
 -- Numbers of cells without their clock cells.
-use Rattle.std.specs.Prelude.{◌≡◌, ℕ, zero, suc, ◌+◌, ◌*◌, ◌/◌, ◌%◌, ◌^◌, ◌<◌, ◌≤◌, Bool, true, false, cond, List, [], ◌∷◌, length, refl, bit_and, bit_xor, fold, map}
-use Rattle.std.specs.Int.Bits.{and_block, and_mask, and_self, and_shr, and_mod, xor_shr, xor_mod, xor_zero_l, and_zero_l}
-use Rattle.std.proofs.lemmas.Nat.{and_assoc}
-use Rattle.std.proofs.Common.{ap, sym, subst, ◌∙◌, arith, lit<, pow-suc}
+use Rattle.std.specs.Prelude.{◌≡◌, ℕ, zero, suc, ◌+◌, ◌*◌, ◌/◌, ◌%◌, ◌^◌, ◌<◌, Bool, true, false, cond, ◌&&◌, List, [], ◌∷◌, length, min, refl, replicate, bit_and, bit_xor, fold, map}
+use Rattle.std.specs.Int.{bit_at}
+use Rattle.std.specs.Int.Bits.{and_block, and_self, and_step}
+use Rattle.std.specs.Simd.Lanes.{zip2}
+use Rattle.std.proofs.Common.{ap, sym, subst, ◌∙◌, arith, lit<, mod-eq_of_lt}
+use Rattle.std.proofs.Math.Nat.{min-eq_left, min-zero, zero-min}
+use Rattle.std.proofs.lemmas.Nat.{and-not, and_assoc, and_comm, and_le_r, and_mod}
+use Rattle.std.proofs.lemmas.Nat.Bits.{bit_at-lt, bit_at_and, bit_at_xor, same_from_bits}
 use Rattle.check_values.specs.Sums.{data_xor, xor}
-use Rattle.cell_bits.specs.Bytes.{data_cells}
 use Rattle.cell_bits.specs.Word.{number_of}
 use Rattle.cell_bits.specs.WordLaws.{number_of-lt}
 use Rattle.amiga_mfm.specs.Longs.{DATA_CELLS, without_clocks, half_of}
 use Rattle.amiga_mfm.specs.declared.half.Half.TheVariants.{Odd, Even}
 
--- ones in the second cell of each of so many pairs
-mask : ℕ → ℕ
-mask zero = 0
-mask (suc pairs) = 1 * 2 ^ (2 * pairs) + mask pairs
+masked_digit : (cell mask : Bool) → bit_and (cond cell 1 0) (cond mask 1 0) ≡ cond (mask && cell) 1 0
+masked_digit true true = refl
+masked_digit true false = refl
+masked_digit false true = refl
+masked_digit false false = refl
 
-mask-16 : mask 16 ≡ DATA_CELLS
-unfolding mask
-mask-16 = refl
+-- a mask leaves of cells those where it has ones
+masked-cells : (cells mask : List Bool) → length cells ≡ length mask
+    → (bit_and (number_of cells) (number_of mask) ≡ number_of (zip2 (λ cell one. one && cell) cells mask))
+    × (length (zip2 (λ (cell one : Bool). one && cell) cells mask) ≡ length mask)
+unfolding number_of
+masked-cells [] [] size = (refl, refl)
+masked-cells [] (one ∷ mask) size = absurd (omega (arith, size))
+masked-cells (cell ∷ cells) [] size = absurd (omega (arith, size))
+masked-cells (cell ∷ cells) (one ∷ mask) size =
+    let k = length mask in
+    let same : length cells ≡ k = omega (arith, size) in
+    let rest = masked-cells cells mask same in
+    let low : number_of cells < 2 ^ k = subst (λ (n : ℕ). number_of cells < 2 ^ n) same (number_of-lt cells) in (
+      ap (λ (n : ℕ). bit_and (cond cell 1 0 * 2 ^ n + number_of cells) (cond one 1 0 * 2 ^ k + number_of mask)) same
+          ∙ and_block k (cond cell 1 0) (cond one 1 0) (number_of cells) (number_of mask) low (number_of-lt mask)
+          ∙ (λ i. masked_digit cell one i * 2 ^ k + rest.0 i)
+          ∙ ap (λ (n : ℕ). cond (one && cell) 1 0 * 2 ^ n + number_of (zip2 (λ c m. m && c) cells mask)) (sym rest.1),
+      ap suc rest.1,
+    )
 
-four_times : (pairs : ℕ) → 2 ^ (2 * suc pairs) ≡ 4 * 2 ^ (2 * pairs)
-four_times pairs =
-    let e : 2 * suc pairs ≡ suc (suc (2 * pairs)) = omega arith in
-    ap (λ (n : ℕ). 2 ^ n) e ∙ (omega (arith, pow-suc 2 (suc (2 * pairs)), pow-suc 2 (2 * pairs)))
+-- data bits with zeros as clock cells
+unfoldable pub with_zeros : List Bool → List Bool
+with_zeros [] = []
+with_zeros (bit ∷ bits) = false ∷ bit ∷ with_zeros bits
 
-mask-lt : (pairs : ℕ) → mask pairs < 2 ^ (2 * pairs)
-unfolding mask
-mask-lt zero = lit< tt
-mask-lt (suc pairs) = omega (arith, mask-lt pairs, four_times pairs)
+-- every second one of 32 cells, the last among them
+abbrev data_mask : List Bool
+data_mask = with_zeros (replicate 16 true)
 
--- the number of data bits in as many data cells
-data_number : List Bool → ℕ
-data_number [] = 0
-data_number (bit ∷ bits) = cond bit 1 0 * 2 ^ (2 * length bits) + data_number bits
+mask-is : number_of data_mask ≡ DATA_CELLS
+unfolding number_of with_zeros
+mask-is = refl
 
-pair_masked : (clock bit : Bool) → bit_and (2 * cond clock 1 0 + cond bit 1 0) 1 ≡ cond bit 1 0
-pair_masked true true = refl
-pair_masked true false = refl
-pair_masked false true = refl
-pair_masked false false = refl
+-- so it leaves their data cells
+abbrev pub unclocked : List Bool → List Bool
+unclocked cells = zip2 (λ cell one. one && cell) cells data_mask
 
-pair_number : (clock bit : Bool) (worth rest : ℕ)
-    → cond clock 1 0 * (2 * worth) + (cond bit 1 0 * worth + rest) ≡ (2 * cond clock 1 0 + cond bit 1 0) * worth + rest
-pair_number true true worth rest = omega arith
-pair_number true false worth rest = omega arith
-pair_number false true worth rest = omega arith
-pair_number false false worth rest = omega arith
+pub without_clocks-cells : (cells : List Bool) → length cells ≡ 32 → without_clocks (number_of cells) ≡ number_of (unclocked cells)
+unfolding with_zeros
+without_clocks-cells cells size = ap (bit_and (number_of cells)) (sym mask-is) ∙ (masked-cells cells data_mask size).0
 
-length-data_cells : (pairs : ℕ) (cells : List Bool) → length cells ≡ 2 * pairs → length (data_cells cells) ≡ pairs
-unfolding data_cells
-length-data_cells zero [] size = refl
-length-data_cells (suc pairs) [] size = absurd (omega arith)
-length-data_cells zero (clock ∷ []) size = absurd (omega arith)
-length-data_cells (suc pairs) (clock ∷ []) size = absurd (omega arith)
-length-data_cells zero (clock ∷ bit ∷ cells) size = absurd (omega arith)
-length-data_cells (suc pairs) (clock ∷ bit ∷ cells) size = ap suc (length-data_cells pairs cells (omega arith))
+-- they have 32 bits
+pub without_clocks-lt : (raw : ℕ) → without_clocks raw < 2 ^ 32
+without_clocks-lt raw = omega (arith, and_le_r raw DATA_CELLS)
 
--- what the mask leaves of cells is the number of their data bits
-masked-number : (pairs : ℕ) (cells : List Bool) → length cells ≡ 2 * pairs → bit_and (number_of cells) (mask pairs) ≡ data_number (data_cells cells)
-unfolding mask data_number data_cells number_of
-masked-number zero [] size = refl
-masked-number (suc pairs) [] size = absurd (omega arith)
-masked-number zero (clock ∷ []) size = absurd (omega arith)
-masked-number (suc pairs) (clock ∷ []) size = absurd (omega arith)
-masked-number zero (clock ∷ bit ∷ cells) size = absurd (omega arith)
-masked-number (suc pairs) (clock ∷ bit ∷ cells) size =
-    let k = 2 * pairs in
-    let rest : length cells ≡ k = omega arith in
-    let high = 2 * cond clock 1 0 + cond bit 1 0 in
-    let twice : 2 ^ suc k ≡ 2 * 2 ^ k = omega (arith, pow-suc 2 k) in
-    let split : number_of (clock ∷ bit ∷ cells) ≡ high * 2 ^ k + number_of cells =
-    ap (λ (n : ℕ). cond clock 1 0 * 2 ^ suc n + (cond bit 1 0 * 2 ^ n + number_of cells)) rest
-    ∙ ap (λ (n : ℕ). cond clock 1 0 * n + (cond bit 1 0 * 2 ^ k + number_of cells)) twice
-    ∙ pair_number clock bit (2 ^ k) (number_of cells) in
-    let low : number_of cells < 2 ^ k = subst (λ (n : ℕ). number_of cells < 2 ^ n) rest (number_of-lt cells) in
-    let bits : 2 * length (data_cells cells) ≡ k = ap (λ (n : ℕ). 2 * n) (length-data_cells pairs cells rest) in
-    ap (λ (n : ℕ). bit_and n (1 * 2 ^ k + mask pairs)) split
-    ∙ and_block k high 1 (number_of cells) (mask pairs) low (mask-lt pairs)
-    ∙ ap (λ (n : ℕ). n * 2 ^ k + bit_and (number_of cells) (mask pairs)) (pair_masked clock bit)
-    ∙ ap (λ (n : ℕ). cond bit 1 0 * 2 ^ k + n) (masked-number pairs cells rest)
-    ∙ ap (λ (n : ℕ). cond bit 1 0 * 2 ^ n + data_number (data_cells cells)) (sym bits)
-
--- so cells with the same data cells are the same without their clock cells
-pub same-data : (xs ys : List Bool) → length xs ≡ 32 → length ys ≡ 32 → data_cells xs ≡ data_cells ys
-    → without_clocks (number_of xs) ≡ without_clocks (number_of ys)
-same-data xs ys first second same =
-    ap (bit_and (number_of xs)) (sym mask-16) ∙ masked-number 16 xs first ∙ ap data_number same
-    ∙ sym (ap (bit_and (number_of ys)) (sym mask-16) ∙ masked-number 16 ys second)
+pub without_clocks-mod : (raw : ℕ) → without_clocks (raw % 2 ^ 32) ≡ without_clocks raw
+without_clocks-mod raw = sym (and_mod raw DATA_CELLS 32) ∙ mod-eq_of_lt (without_clocks-lt raw)
 
 pub without_clocks-twice : (raw : ℕ) → without_clocks (without_clocks raw) ≡ without_clocks raw
 without_clocks-twice raw = and_assoc DATA_CELLS raw DATA_CELLS ∙ ap (bit_and raw) (and_self DATA_CELLS)
 
-low_pair : (pairs : ℕ) → mask (suc pairs) ≡ mask pairs * 2 ^ 2 + 1
-unfolding mask
-low_pair zero = refl
-low_pair (suc pairs) = omega (arith, low_pair pairs, four_times pairs)
-
-masked-low : (x pairs : ℕ) → bit_and x (mask (suc pairs)) ≡ bit_and (x / 4) (mask pairs) * 4 + x % 2
-masked-low x pairs =
-    let split : x ≡ x / 4 * 2 ^ 2 + x % 4 = omega arith in
-    let last : bit_and (x % 4) 1 ≡ x % 2 = and_mask (x % 4) 1 ∙ (omega arith) in
-    ap (bit_and x) (low_pair pairs)
-    ∙ ap (λ (n : ℕ). bit_and n (mask pairs * 2 ^ 2 + 1)) split
-    ∙ and_block 2 (x / 4) (mask pairs) (x % 4) 1 (omega arith) (lit< tt)
-    ∙ ap (λ (n : ℕ). bit_and (x / 4) (mask pairs) * 4 + n) last
-
-joined : (pairs x : ℕ) → x < 2 ^ (2 * pairs) → 2 * bit_and (x / 2) (mask pairs) + bit_and x (mask pairs) ≡ x
-joined zero x fits = let none : x ≡ 0 = omega (arith, fits) in subst (λ (n : ℕ). 2 * bit_and (n / 2) (mask 0) + bit_and n (mask 0) ≡ n) (sym none) refl
-joined (suc pairs) x fits =
-    let q = x / 4 in
-    let small : q < 2 ^ (2 * pairs) = omega (arith, fits, four_times pairs) in
-    let rest = joined pairs q small in
-    let quarter : x / 2 / 4 ≡ q / 2 = omega arith in
-    let first = masked-low (x / 2) pairs ∙ ap (λ (n : ℕ). bit_and n (mask pairs) * 4 + x / 2 % 2) quarter in
-    omega (arith, rest, first, masked-low x pairs)
-
 -- the two halves of a long give it back
 pub halves-joined : (long : ℕ) → long < 2 ^ 32 → 2 * half_of Odd long + half_of Even long ≡ long
 halves-joined long fits =
-    subst (λ (m : ℕ). 2 * bit_and (long / 2) m + bit_and long m ≡ long) mask-16 (joined 16 long fits)
+    let odd = and_step 0xAAAAAAAA long in
+    let both = and-not 32 0x55555555 long (lit< tt) fits in
+    let last : bit_and 0x55555555 long ≡ half_of Even long = and_comm 0x55555555 long in
+    let first : bit_and 0x55555555 (long / 2) ≡ half_of Odd long = and_comm 0x55555555 (long / 2) in
+    omega (arith, odd, both, last, first, zero-min (long % 2))
 
-digits-apart : (a b m : ℕ) → a < 2 → b < 2 → m < 2 → bit_and (bit_xor a b) m ≡ bit_xor (bit_and a m) (bit_and b m)
-digits-apart zero b m p q r = ap (λ (n : ℕ). bit_and n m) (xor_zero_l b) ∙ sym (ap (λ (n : ℕ). bit_xor n (bit_and b m)) (and_zero_l m) ∙ xor_zero_l (bit_and b m))
-digits-apart (suc zero) zero zero p q r = refl
-digits-apart (suc zero) zero (suc zero) p q r = refl
-digits-apart (suc zero) (suc zero) zero p q r = refl
-digits-apart (suc zero) (suc zero) (suc zero) p q r = refl
-digits-apart (suc zero) zero (suc (suc m)) p q r = absurd (omega arith)
-digits-apart (suc zero) (suc zero) (suc (suc m)) p q r = absurd (omega arith)
-digits-apart (suc zero) (suc (suc b)) m p q r = absurd (omega arith)
-digits-apart (suc (suc a)) b m p q r = absurd (omega arith)
-
-by_digits : (x y : ℕ) → x / 2 ≡ y / 2 → x % 2 ≡ y % 2 → x ≡ y
-by_digits x y high low = omega arith
-
-masked-xor-to : (bound a b m : ℕ) → a ≤ bound → bit_and (bit_xor a b) m ≡ bit_xor (bit_and a m) (bit_and b m)
-masked-xor-to bound zero b m within =
-    ap (λ (n : ℕ). bit_and n m) (xor_zero_l b) ∙ sym (ap (λ (n : ℕ). bit_xor n (bit_and b m)) (and_zero_l m) ∙ xor_zero_l (bit_and b m))
-masked-xor-to zero (suc a) b m within = absurd (omega arith)
-masked-xor-to (suc bound) (suc a) b m within =
-    let x = suc a in
-    by_digits _ _
-    (and_shr (bit_xor x b) m 1 ∙ ap (λ (n : ℕ). bit_and n (m / 2)) (xor_shr x b 1)
-    ∙ masked-xor-to bound (x / 2) (b / 2) (m / 2) (omega arith)
-    ∙ sym (xor_shr (bit_and x m) (bit_and b m) 1 ∙ ap (λ (n : ℕ). bit_xor n (bit_and b m / 2)) (and_shr x m 1) ∙ ap (bit_xor (bit_and (x / 2) (m / 2))) (and_shr b m 1)))
-    (and_mod (bit_xor x b) m 1 ∙ ap (λ (n : ℕ). bit_and n (m % 2)) (xor_mod x b 1)
-    ∙ digits-apart (x % 2) (b % 2) (m % 2) (omega arith) (omega arith) (omega arith)
-    ∙ sym (xor_mod (bit_and x m) (bit_and b m) 1 ∙ ap (λ (n : ℕ). bit_xor n (bit_and b m % 2)) (and_mod x m 1) ∙ ap (bit_xor (bit_and (x % 2) (m % 2))) (and_mod b m 1)))
+digits-apart : (a b m : ℕ) → a < 2 → b < 2 → m < 2 → min ((a + b) % 2) m ≡ (min a m + min b m) % 2
+digits-apart a b zero p q r = min-zero ((a + b) % 2) ∙ sym (λ i. (min-zero a i + min-zero b i) % 2)
+digits-apart a b (suc zero) p q r =
+    let one : (n : ℕ) → n < 2 → min n 1 ≡ n = λ n low. min-eq_left (omega arith) in
+    one ((a + b) % 2) (omega arith) ∙ sym (λ i. (one a p i + one b q i) % 2)
+digits-apart a b (suc (suc m)) p q r = absurd (omega arith)
 
 pub masked-xor : (a b : ℕ) → without_clocks (bit_xor a b) ≡ bit_xor (without_clocks a) (without_clocks b)
-masked-xor a b = let fits : a ≤ a = omega arith in masked-xor-to a a b DATA_CELLS fits
+masked-xor a b =
+    same_from_bits (without_clocks (bit_xor a b)) (bit_xor (without_clocks a) (without_clocks b))
+    (λ i.
+    let m = bit_at DATA_CELLS i in
+    let x = bit_at_and a DATA_CELLS i in
+    let y = bit_at_and b DATA_CELLS i in
+    bit_at_and (bit_xor a b) DATA_CELLS i ∙ ap (λ (n : ℕ). min n m) (bit_at_xor a b i)
+    ∙ digits-apart (bit_at a i) (bit_at b i) m (bit_at-lt a i) (bit_at-lt b i) (bit_at-lt DATA_CELLS i)
+    ∙ sym (bit_at_xor (without_clocks a) (without_clocks b) i ∙ (λ j. (x j + y j) % 2)))
 
 xor-from : (longs : List ℕ) (start : ℕ) → without_clocks (fold bit_xor start longs) ≡ fold bit_xor (without_clocks start) (map without_clocks longs)
 xor-from [] start = refl

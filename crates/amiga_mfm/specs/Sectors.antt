@@ -1,12 +1,10 @@
--- The sectors of Amiga disks (Amiga trackdisk): when a header and when a sector stands at the front of a list of cells. A frame is
--- the sync, two marks A1, and then longs: the info, the label of four longs, the check value of both, the check value of the
--- data, and the data. There is no second sync.
-use Rattle.std.specs.Prelude.{◌≡◌, ℕ, ◌+◌, ◌*◌, ◌^◌, ◌<◌, ◌≤◌, Bool, List, [], ◌∷◌, length, take}
+-- The sectors of Amiga disks (Amiga trackdisk): what a header names and what data hold. A frame is the sync, two marks A1, and then
+-- longs: the info, the label of four longs, the check value of both, the check value of the data, and the data. There is no second sync.
+use Rattle.std.specs.Prelude.{◌≡◌, ℕ, ◌+◌, ◌*◌, ◌^◌, ◌<◌, Bool, List, [], ◌∷◌, take}
 use Rattle.std.specs.Int.{to_be_bytes, w32}
 use Rattle.flux_base.specs.declared.track.TrackId.{TrackId}
-use Rattle.cell_bits.specs.Broken.{Unbroken}
-use Rattle.cell_bits.specs.Word.{Stands}
 use Rattle.check_values.specs.Sums.{data_xor}
+use Rattle.frame_law.specs.Frames.{DataStand, HeaderStands as Header, SectorStands as Sector}
 use Rattle.mfm_coding.specs.Coding.{SYNC_MARK}
 use Rattle.amiga_mfm.specs.Longs.{HALF_CELLS, bytes_at, long_at, raw_longs}
 
@@ -44,7 +42,7 @@ FORMAT_BYTE = 0xFF
 abbrev pub HEADER_HALVES : ℕ
 HEADER_HALVES = 10
 
--- where the parts of a frame begin
+-- where the parts of a frame before its data begin
 abbrev pub INFO : ℕ
 INFO = 32
 
@@ -54,38 +52,36 @@ HEADER_CHECK = 352
 abbrev pub DATA_CHECK : ℕ
 DATA_CHECK = 416
 
-abbrev pub DATA : ℕ
-DATA = 480
-
--- the cells of a header, and those of a frame
+-- the cells of a header, and those of the data, which follow it
 abbrev pub HEADER_CELLS : ℕ
 HEADER_CELLS = 480
 
-abbrev pub FRAME_CELLS : ℕ
-FRAME_CELLS = 8672
+abbrev pub DATA_CELLS : ℕ
+DATA_CELLS = 8192
 
--- A header: the sync; the info, whose bytes are FF, this track, this sector, and the number of sectors to the gap, which is
--- not looked at; and the check value of the halves of info and label.
-pub record HeaderStands (track : TrackId) (cells : List Bool) (sector : ℕ) : Type 0 where
-  pub sync : Stands cells SYNC SYNC_CELLS 0
-  pub whole : HEADER_CELLS ≤ length cells
+-- A header names a sector: the bytes of the info are FF, this track, this sector, and the number of sectors to the gap, which is
+-- not looked at; and the check value is that of the halves of info and label.
+pub record NamesSector (track : TrackId) (cells : List Bool) (sector : ℕ) : Type 0 where
   pub info : take 3 (to_be_bytes w32 (long_at cells INFO HALF_CELLS)) ≡ FORMAT_BYTE ∷ track_number track ∷ sector ∷ []
-  pub known : sector < SECTORS
   pub check : long_at cells HEADER_CHECK HALF_CELLS ≡ data_xor (raw_longs cells INFO HEADER_HALVES)
-  pub unbroken : Unbroken cells 0 HEADER_CELLS
 
--- the bytes of the data: 128 longs, all odd halves before all even ones
-abbrev pub content_of : List Bool → List ℕ
-content_of cells = bytes_at cells DATA (HALF_CELLS * SECTOR_LONGS) SECTOR_LONGS
+-- the data have no sync: they begin where the header ends
+abbrev pub IsDataPlace : List Bool → ℕ → Type 0
+IsDataPlace cells place = place ≡ HEADER_CELLS
 
--- the data: their bytes, and the check value of their halves, with all cells from the header's begin on unbroken
-pub record DataStands (cells : List Bool) (bytes : List ℕ) : Type 0 where
-  pub whole : FRAME_CELLS ≤ length cells
-  pub content : content_of cells ≡ bytes
-  pub check : long_at cells DATA_CHECK HALF_CELLS ≡ data_xor (raw_longs cells DATA (2 * SECTOR_LONGS))
-  pub unbroken : Unbroken cells 0 FRAME_CELLS
+-- the bytes of the data at a place: 128 longs, all odd halves before all even ones
+abbrev pub content_at : List Bool → ℕ → List ℕ
+content_at cells place = bytes_at cells place (HALF_CELLS * SECTOR_LONGS) SECTOR_LONGS
 
--- a sector: its header and its data
-pub record SectorStands (track : TrackId) (cells : List Bool) (sector : ℕ) (bytes : List ℕ) : Type 0 where
-  pub header : HeaderStands track cells sector
-  pub content : DataStands cells bytes
+-- data hold bytes: these, and the check value of their halves
+pub record Hold (cells : List Bool) (place : ℕ) (bytes : List ℕ) : Type 0 where
+  pub content : content_at cells place ≡ bytes
+  pub check : long_at cells DATA_CHECK HALF_CELLS ≡ data_xor (raw_longs cells place (2 * SECTOR_LONGS))
+
+-- a header and a sector stand, as on any track
+abbrev pub HeaderStands : TrackId → List Bool → ℕ → Type 0
+HeaderStands track cells sector = Header SYNC SYNC_CELLS HEADER_CELLS 0 SECTORS (NamesSector track) cells sector
+
+abbrev pub SectorStands : TrackId → List Bool → ℕ → List ℕ → Type 0
+SectorStands track cells sector bytes =
+    Sector (HeaderStands track cells sector) (DataStand HEADER_CELLS DATA_CELLS IsDataPlace Hold cells bytes)

@@ -7,9 +7,8 @@ mod half;
 mod header;
 mod layout;
 mod longs;
-mod pieces;
 mod recording;
-mod track;
+mod rows;
 
 pub use recording::AmigaMfm;
 

@@ -2,20 +2,20 @@ ghost use Rattle.std.specs.Prelude.{◌≡◌, ℕ, ◌+◌, ◌*◌, ◌^◌, �
 ghost use Rattle.std.specs.Int.{to_be_bytes, w32};
 ghost use Rattle.check_values.specs.Sums.{data_xor};
 ghost use Rattle.amiga_mfm.specs.Longs.{long_at, longs_of, raw_longs};
-ghost use Rattle.amiga_mfm.specs.Sectors.{FRAME_CELLS, content_of};
+ghost use Rattle.amiga_mfm.specs.Sectors.{content_at};
 
 use crate::half::{DATA_CELLS, joined};
-use crate::layout::{DATA, HALF_CELLS, SECTOR_LONGS};
+use crate::layout::{HALF_CELLS, SECTOR_LONGS};
 use arrayvec::ArrayVec;
 use frame_law::{CellsFrom, SectorBuffer};
 
-/// The bytes of a sector as longs, the high byte of each first.
+/// Bytes as longs, the high byte of each first.
 pub(crate) fn longs_in(bytes: &[u8]) -> ArrayVec<u32, SECTOR_LONGS>
-    requires { length bytes.now ≡ 512 }
+    requires { length bytes.now ≤ 512 }
     ensures { result.items ≡ longs_of bytes.now }
 {
     let mut longs = ArrayVec::new();
-    for index in 0..SECTOR_LONGS {
+    for index in 0..bytes.len() / 4 {
         let begin = 4 * index;
         let long = [
             bytes[begin],
@@ -54,14 +54,15 @@ pub(crate) fn check_at(frame: &CellsFrom, offset: usize, count: u16) -> u32
     sum & DATA_CELLS
 }
 
-/// Puts the bytes of a sector, whose frame lies in the list, into the buffer.
-pub(crate) fn take_data(frame: &CellsFrom, buffer: &mut SectorBuffer)
+/// Puts the bytes of the data at the place, which lie in the list, into the buffer.
+pub(crate) fn take_data(frame: &CellsFrom, place: usize, buffer: &mut SectorBuffer)
+    requires near { place < 2 ^ 31 }
     requires empty { buffer.old.items ≡ [] }
-    requires whole { FRAME_CELLS ≤ length frame.now }
-    ensures { buffer.new.items ≡ content_of frame.now }
+    requires whole { place + 8192 ≤ length frame.now }
+    ensures { buffer.new.items ≡ content_at frame.now place }
 {
     for index in 0..SECTOR_LONGS {
-        let offset = DATA + HALF_CELLS * index;
+        let offset = place + HALF_CELLS * index;
         push_long(buffer, read_long(frame, offset, HALF_CELLS * SECTOR_LONGS));
     }
 }

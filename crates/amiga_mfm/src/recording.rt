@@ -1,148 +1,163 @@
-ghost use Rattle.std.specs.Prelude.{◌≡◌, ℕ, length};
-ghost use Rattle.std.proofs.Common.{lit≤};
-ghost use Rattle.amiga_mfm.specs.Sectors.{FRAME_CELLS, HeaderStands, IsTrack, SectorStands};
-ghost use Rattle.amiga_mfm.specs.Layout.{place_of, ring_of};
-ghost use Rattle.amiga_mfm.specs.OwnLaws.{header_alone, header_own, no_header, sector_alone, sector_own};
-ghost use Rattle.amiga_mfm.specs.StandLaws.{one_header, one_content, header_number, content_size};
-ghost use Rattle.amiga_mfm.specs.RingLaws.{ring_length, ring_spaced, sector_stands, frame_whole};
+ghost use Rattle.std.specs.Prelude.{◌≡◌, ℕ, [], true};
+ghost use Rattle.std.proofs.Common.{lit<, lit≤, sym, ◌∙◌};
+ghost use Rattle.mfm_coding.specs.CodingLaws.{length-coded};
+ghost use Rattle.mfm_coding.specs.SymbolRows.{rows-end, symbols-follow};
+ghost use Rattle.amiga_mfm.specs.FrameLaws.{frame_stands};
+ghost use Rattle.amiga_mfm.specs.Layout.{row_cells, row_size, row_symbols, rows};
+ghost use Rattle.amiga_mfm.specs.OwnLaws.{tells};
+ghost use Rattle.amiga_mfm.specs.RowLaws.{bytes_held, one_name, sizes, sums, symbols_sized};
+ghost use Rattle.amiga_mfm.specs.Sectors.{Hold, IsDataPlace, IsTrack, NamesSector};
+ghost use Rattle.amiga_mfm.specs.Syncs.{own_syncs};
 
-use crate::data_field::read_data;
-use crate::header::header_sector;
-use crate::layout::{FIRST_SECTOR, RING_CELLS, SECTOR_SIZE, SECTORS, SYNC, SYNC_CELLS};
-use crate::track::push_track;
+use crate::data_field::read_content;
+use crate::header::named_sector;
+use crate::layout::{
+    CONTENT_CELLS, FIRST_SECTOR, HEADER_CELLS, LEAD_OUT, RING_CELLS, Row, SECTOR, SECTOR_SIZE,
+    SECTORS, SYNC, SYNC_CELLS,
+};
+use crate::rows::push_row;
 use cell_bits::Cells;
 use flux_base::{Memory, TrackId};
-use frame_law::{CellsFrom, Reading, Recording, SectorBuffer};
+use frame_law::{CellsFrom, Layout, SectorBuffer};
 
 /// The recording of Amiga disks (Amiga trackdisk, double density). Its tracks are the cylinders 0 to 79 with
 /// the heads 0 and 1, its sectors are numbered 0 to 10.
 #[derive(Clone, Copy, Debug, PartialEq, Eq)]
 pub struct AmigaMfm;
 
-impl Recording for AmigaMfm {
+impl Layout for AmigaMfm {
+    type Row = Row;
+
     const SHORTEST: u8 = 2;
 
     const LONGEST: u8 = 4;
+
+    const SYNC: u32 = SYNC;
+
+    const SYNC_CELLS: u8 = SYNC_CELLS;
+
+    const HEADER_CELLS: usize = HEADER_CELLS;
 
     ghost SHORTEST = { 2 };
 
     ghost LONGEST = { 4 };
 
-    ghost sync = { λ r. 0x44894489 };
+    ghost SYNC = { 0x44894489 };
 
-    ghost sync_cells = { λ r. 32 };
+    ghost SYNC_CELLS = { 32 };
+
+    ghost HEADER_CELLS = { 480 };
 
     ghost has_track = { λ r track. IsTrack track };
 
-    ghost header_at = { λ r track cells s. HeaderStands track cells s };
+    ghost lowest_sector = { λ r. 0 };
 
-    ghost sector_at = { λ r track cells s bytes. SectorStands track cells s bytes };
+    ghost sector_count = { λ r track. 11 };
 
-    ghost ring = { λ r track bytes. ring_of track bytes };
+    ghost sector_bytes = { λ r. 512 };
 
-    ghost sector_place = { λ r track s. place_of s };
+    ghost track_cells = { λ r track. 100000 };
 
-    ghost frame_cells = { λ r. FRAME_CELLS };
+    ghost names_sector = { λ r track cells s. NamesSector track cells s };
 
-    ghost first_sector = { λ r. 0 };
+    ghost is_sync = { λ r cells place. IsDataPlace cells place };
 
-    ghost sectors = { λ r track. 11 };
+    ghost hold = { λ r cells place bytes. Hold cells place bytes };
 
-    ghost sector_size = { λ r. 512 };
+    ghost data_cells = { λ r. 8192 };
 
-    ghost ring_cells = { λ r track. 100000 };
+    ghost data_place = { λ r. 480 };
 
-    fn sync(&self) -> u32 {
-        SYNC
-    }
+    ghost rows = { λ r track. rows };
 
-    fn sync_cells(&self) -> u8 {
-        SYNC_CELLS
-    }
+    ghost asks = { true };
 
-    fn first_sector(&self) -> u8 {
+    ghost row_cells = { λ r track before s bytes row. row_cells track before s bytes row };
+
+    ghost row_size = { λ r track count row. row_size count row };
+
+    ghost last_zeros = { 2 };
+
+    fn lowest_sector(&self) -> u8 {
         FIRST_SECTOR
     }
 
-    fn sectors(&self, _track: TrackId) -> u8 {
+    fn sector_count(&self, _track: TrackId) -> u8 {
         SECTORS
     }
 
-    fn sector_size(&self) -> u16 {
+    fn sector_bytes(&self) -> u16 {
         SECTOR_SIZE
     }
 
-    fn ring_cells(&self, _track: TrackId) -> u32 {
+    fn track_cells(&self, _track: TrackId) -> u32 {
         RING_CELLS
     }
 
-    fn ring(&self, track: TrackId, bytes: &[u8], cells: &mut Cells) -> Result<(), Memory> {
-        cells.clear();
-        let written = push_track(cells, track, bytes);
-        if written.is_err() {
-            cells.clear();
-        }
-        written
+    fn data_cells(&self) -> usize {
+        CONTENT_CELLS
     }
 
-    fn read_at(
+    fn lead_in(&self, _track: TrackId) -> &[Row] {
+        &[]
+    }
+
+    fn sector_rows(&self, _track: TrackId) -> &[Row] {
+        &SECTOR
+    }
+
+    fn lead_out(&self, _track: TrackId) -> &[Row] {
+        &LEAD_OUT
+    }
+
+    fn append_row(
         &self,
-        cells: &Cells,
-        place: usize,
         track: TrackId,
-        buffer: &mut SectorBuffer,
-    ) -> Reading {
-        buffer.clear();
-        let frame = CellsFrom::new(cells, place);
-        let Some(sector) = header_sector(&frame, track) else {
-            return Reading::Nothing;
-        };
-        if read_data(&frame, buffer) {
-            return Reading::Good { sector };
-        }
-        Reading::Bad { sector }
+        sector: u8,
+        bytes: &[u8],
+        row: Row,
+        cells: &mut Cells,
+    ) -> Result<(), Memory> {
+        push_row(cells, row, track, sector, bytes)
     }
 
-    ghost sync_size = { λ r. (lit≤ tt, lit≤ tt) };
+    fn read_header(&self, frame: &CellsFrom, track: TrackId) -> Option<u8> {
+        named_sector(frame, track)
+    }
 
-    ghost sync_leads = { λ r track cells s header. header.sync };
+    fn find_data(&self, _frame: &CellsFrom) -> Option<usize> {
+        Some(HEADER_CELLS)
+    }
 
-    ghost one_header = { λ r track cells s t first second. one_header track cells s t first second };
+    fn read_data(&self, frame: &CellsFrom, sync: usize, buffer: &mut SectorBuffer) -> bool {
+        read_content(frame, sync, buffer)
+    }
 
-    ghost one_content = { λ r track cells s t xs ys first second.
-        one_content track cells s t xs ys first second };
+    ghost sizes = { sizes };
 
-    ghost header_of_sector = { λ r track cells s xs sector. sector.header };
+    ghost counts = { λ r track known. (lit≤ tt, lit≤ tt, lit≤ tt) };
 
-    ghost header_number = { λ r track cells s known header. header_number track cells s header };
+    ghost reach = { λ r. record { after = lit≤ tt; near = lit< tt; few = lit≤ tt } };
 
-    ghost content_size = { λ r track cells s xs sector. content_size track cells s xs sector };
+    ghost sums = { λ r track known. (sums.0, sums.1, lit≤ tt) };
 
-    ghost sizes = { λ r track known. (lit≤ tt, lit≤ tt, lit≤ tt) };
+    ghost row_length = { λ r track before s bytes row.
+        length-coded before (row_symbols track s bytes row) ∙ symbols_sized track s bytes row };
 
-    ghost ring_length = { λ r track bytes known sectors. ring_length track bytes sectors };
+    ghost row_follows = { λ r track s bytes row known content. symbols-follow (row_symbols track s bytes row) };
 
-    ghost distances = { (lit≤ tt, lit≤ tt, lit≤ tt) };
+    ghost ends = { λ r track before known. rows-end (row_symbols track) before 0 [] rows.lead_out };
 
-    ghost ring_spaced = { λ r track bytes known sectors. ring_spaced track bytes };
+    ghost one_name = { λ r track cells s t first second. one_name track cells s t first second };
 
-    ghost sector_stands = { λ r track bytes s from count place known sectors number lies.
-        sector_stands track bytes s from count place known sectors number lies };
+    ghost one_content = { λ r cells place xs ys first second. sym first.content ∙ second.content };
 
-    ghost frame_whole = { λ r track bytes s known sectors number.
-        frame_whole track bytes s number };
+    ghost content_size = { λ r cells place xs held. bytes_held cells place xs held };
 
-    ghost frame_some = { λ r. lit≤ tt };
+    ghost frame_stands = { λ r track s bytes before rest known number fit long.
+        frame_stands track s bytes before rest known number fit long };
 
-    ghost header_alone = { λ r track cells s header. header_alone track cells s header };
+    ghost tells = { λ r track. tells track };
 
-    ghost sector_alone = { λ r track cells s xs sector. sector_alone track cells s xs sector };
-
-    ghost header_own = { λ r track bytes s zeros from count behind place known sectors header.
-        header_own track bytes known sectors s zeros from count behind place header };
-
-    ghost sector_own = { λ r track bytes s zeros from count behind place xs known sectors sector.
-        (sector_own track bytes known sectors s zeros from count behind place xs sector).1 };
-
-    ghost no_header = { λ r track count s known header. no_header track count s header };
+    ghost own_syncs = { λ r track known. own_syncs track };
 }

@@ -1,7 +1,7 @@
 -- Coded bytes and marks: how many cells they have, and how they are joined.
 use Rattle.std.specs.Prelude.{◌≡◌, ℕ, ◌*◌, Bool, List, [], ◌∷◌, ◌++◌, length, refl, false}
 use Rattle.std.proofs.Common.{ap, sym, ◌∙◌, arith, append_assoc, append-nil, length-append}
-use Rattle.cell_bits.specs.Bytes.{last_cell, mfm, mfm_cells}
+use Rattle.cell_bits.specs.Bytes.{data_cells, last_cell, mfm, mfm_cells}
 use Rattle.cell_bits.specs.Word.{word_cells}
 use Rattle.cell_bits.specs.WordLaws.{length-word_cells}
 use Rattle.mfm_coding.specs.declared.symbol.Symbol.{Symbol}
@@ -21,6 +21,16 @@ length-mfm_cells before (bit ∷ bits) = let e = length-mfm_cells bit bits in om
 pub length-mfm : (before : Bool) (byte : ℕ) → length (mfm before byte) ≡ 16
 unfolding mfm
 length-mfm before byte = length-mfm_cells before (word_cells 8 byte) ∙ ap (λ n. 2 * n) (length-word_cells 8 byte)
+
+-- the data cells are the data bits
+pub data_cells-mfm : (before : Bool) (bits : List Bool) (more : List Bool) → data_cells (mfm_cells before bits ++ more) ≡ bits ++ data_cells more
+unfolding data_cells mfm_cells
+data_cells-mfm before [] more = refl
+data_cells-mfm before (bit ∷ bits) more = ap (λ (rest : List Bool). bit ∷ rest) (data_cells-mfm bit bits more)
+
+pub data_cells-byte : (before : Bool) (byte : ℕ) → data_cells (mfm before byte) ≡ word_cells 8 byte
+unfolding mfm mfm_cells word_cells data_cells
+data_cells-byte before byte = refl
 
 pub length-symbol_cells : (before : Bool) (symbol : Symbol) → length (symbol_cells before symbol) ≡ 16
 unfolding symbol_cells

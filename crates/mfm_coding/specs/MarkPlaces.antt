@@ -1,7 +1,7 @@
 -- Where the first cells of the mark A1 stand, from its first one on: nowhere in bytes written as data, whatever follows them.
-use Rattle.std.specs.Prelude.{◌≡◌, ℕ, zero, suc, ◌+◌, ◌*◌, ◌<◌, ◌≤◌, Bool, true, false, not, ◌||◌, List, [], ◌∷◌, ◌++◌, length, drop, Option, None, refl}
+use Rattle.std.specs.Prelude.{◌≡◌, ℕ, zero, suc, ◌+◌, ◌*◌, ◌<◌, ◌≤◌, Bool, true, false, not, ◌||◌, List, [], ◌∷◌, ◌++◌, length, drop, replicate, Option, None, refl}
 use Rattle.std.specs.List.{flat_map, range_with_len}
-use Rattle.std.proofs.Common.{subst, sym, arith, append_assoc}
+use Rattle.std.proofs.Common.{ap, subst, sym, arith, append_assoc}
 use Rattle.cell_bits.specs.Bytes.{mfm, mfm_cells}
 use Rattle.cell_bits.specs.Word.{digit, word_cells}
 use Rattle.track_rings.specs.Syncs.{QuietPart, SyncPart, Syncs, all_known, clashes, clashes-not, fits, fits-append, fits-drop, fits-front, fits-known, part-append, part-skip, part-then, quiet-append, quiet-none}
@@ -244,3 +244,15 @@ module _ (Test : List Bool → Type 0) where
   pub no-symbols : QuietSymbols Test []
   unfolding coded
   no-symbols before = quiet-none Test (FollowsBit before)
+
+-- bytes written as data, and a run of one byte
+run-bytes : (count byte : ℕ) → replicate count (Data byte) ≡ bytes_as_data (replicate count byte)
+run-bytes zero byte = refl
+run-bytes (suc count) byte = ap (λ (rest : List Symbol). Data byte ∷ rest) (run-bytes count byte)
+
+pub quiet-bytes : (sync : List (Option Bool)) (bytes : List ℕ) → QuietSymbols (Syncs (mark_front ++ sync)) (bytes_as_data bytes)
+quiet-bytes sync bytes before = bytes_quiet sync before bytes
+
+pub quiet-run : (sync : List (Option Bool)) (count byte : ℕ) → QuietSymbols (Syncs (mark_front ++ sync)) (replicate count (Data byte))
+quiet-run sync count byte =
+    subst (QuietSymbols (Syncs (mark_front ++ sync))) (sym (run-bytes count byte)) (quiet-bytes sync (replicate count byte))

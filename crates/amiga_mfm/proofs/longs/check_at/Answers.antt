@@ -1,7 +1,7 @@
 use Rattle.std.proofs.Common.{sym, ap, ◌∙◌, bit_xor}
 use Rattle.check_values.specs.Sums.{xor}
 use Rattle.amiga_mfm.specs.Longs.{raw_longs}
-use Rattle.amiga_mfm.proofs.Rows.{raw-next, raw-none}
+use Rattle.amiga_mfm.proofs.InRow.{raw-next, raw-none}
 use Rattle.amiga_mfm.proofs.longs.check_at.Goals as goal
 
 pub loop-index-init : goal.loop-index-init

@@ -1,12 +1,12 @@
 use Rattle.std.proofs.Common.{ℕ, ◌++◌, length, List, sym, ap, ◌∙◌, arith, length-append}
 use Rattle.std.specs.Int.{to_be_bytes, w32}
 use Rattle.amiga_mfm.specs.Longs.{bytes_at}
-use Rattle.amiga_mfm.proofs.Rows.{bytes-next, bytes-none}
+use Rattle.amiga_mfm.proofs.InRow.{bytes-next, bytes-none}
 use Rattle.amiga_mfm.proofs.longs.take_data.Goals as goal
 
 pub loop-index-init : goal.loop-index-init
 loop-index-init c = record {
-  taken = c.requires.empty ∙ sym (bytes-none c.args.frame.now 480 4096);
+  taken = c.requires.empty ∙ sym (bytes-none c.args.frame.now c.args.place 4096);
   size = ap length c.requires.empty;
 }
 
@@ -19,7 +19,7 @@ loop-index-preserved c =
     record {
       taken = c.push_long.ensures
           ∙ ap (λ (some : List ℕ). some ++ bytes) c.loop-index.invariant.taken
-          ∙ ap (λ (long : ℕ). bytes_at cells 480 4096 index ++ to_be_bytes w32 long) c.read_long.ensures
-          ∙ sym (bytes-next cells 480 4096 index);
+          ∙ ap (λ (long : ℕ). bytes_at cells c.args.place 4096 index ++ to_be_bytes w32 long) c.read_long.ensures
+          ∙ sym (bytes-next cells c.args.place 4096 index);
       size = (let e = ap length c.push_long.ensures in omega (arith, e, length-append items bytes, c.loop-index.invariant.size));
     }

@@ -1,6 +1,7 @@
 -- Longs and halves in a row, one more at a time, and their exclusive or.
-use Rattle.std.proofs.Common.{◌≡◌, ℕ, zero, suc, ◌+◌, ◌*◌, ◌/◌, ◌<◌, ◌≤◌, Bool, List, [], ◌∷◌, ◌++◌, length, take, drop, map, fold, get_or, bit_xor, refl, sym, ap, ◌∙◌, arith, add-one, length-drop, get_or-drop}
+use Rattle.std.proofs.Common.{◌≡◌, ℕ, zero, suc, ◌+◌, ◌*◌, ◌/◌, ◌<◌, ◌≤◌, Bool, List, [], ◌∷◌, ◌++◌, length, take, drop, map, fold, get_or, bit_xor, refl, sym, ap, ◌∙◌, arith, length-drop, get_or-drop}
 use Rattle.std.specs.List.{flat_map}
+use Rattle.std.specs.Simd.Lanes.{zip2}
 use Rattle.std.specs.Int.{from_be_bytes, to_be_bytes, w32}
 use Rattle.std.specs.Int.Bits.{xor_assoc, xor_zero_l, xor_zero_r}
 use Rattle.std.proofs.lemmas.List.{drop-drop, map-append, take_more}
@@ -10,7 +11,8 @@ use Rattle.check_values.specs.Sums.{data_xor, xor}
 use Rattle.cell_bits.specs.Word.{word}
 use Rattle.amiga_mfm.specs.declared.half.Half.{Half}
 use Rattle.amiga_mfm.specs.declared.half.Half.TheVariants.{Odd, Even}
-use Rattle.amiga_mfm.specs.Longs.{bytes_at, half_of, halves, long_at, longs_at, longs_of, raw_longs, without_clocks}
+use Rattle.amiga_mfm.specs.LongLaws.{length-raw, raw-last}
+use Rattle.amiga_mfm.specs.Longs.{bytes_at, half_of, halves, long_at, long_of_halves, longs_at, longs_of, raw_longs, without_clocks}
 use Rattle.amiga_mfm.specs.Masks.{check-masked, without_clocks-twice}
 
 -- the exclusive or of one more
@@ -53,16 +55,6 @@ check-both longs =
     ∙ xor-start even (xor odd))
 
 -- raw longs in a row
-raw-more : (cells : List Bool) (place count : ℕ) → raw_longs cells place (suc count) ≡ raw_longs cells place count ++ word cells (place + 32 * count) 32 ∷ []
-unfolding raw_longs
-raw-more cells place zero =
-    let e : place ≡ place + 32 * 0 = omega arith in
-    ap (λ (p : ℕ). word cells p 32 ∷ []) e
-raw-more cells place (suc count) =
-    let e : place + 32 + 32 * count ≡ place + 32 * suc count = omega arith in
-    ap (λ (rest : List ℕ). word cells place 32 ∷ rest)
-    (raw-more cells (place + 32) count ∙ ap (λ (p : ℕ). raw_longs cells (place + 32) count ++ word cells p 32 ∷ []) e)
-
 pub raw-none : (cells : List Bool) (place : ℕ) → xor (raw_longs cells place 0) ≡ 0
 unfolding raw_longs
 raw-none cells place = refl
@@ -70,31 +62,36 @@ raw-none cells place = refl
 pub raw-next : (cells : List Bool) (place count : ℕ)
     → xor (raw_longs cells place (count + 1)) ≡ bit_xor (xor (raw_longs cells place count)) (word cells (place + 32 * count) 32)
 raw-next cells place count =
-    ap (λ (n : ℕ). xor (raw_longs cells place n)) (add-one count) ∙ ap xor (raw-more cells place count)
+    ap xor (raw-last cells place count)
     ∙ xor-more (raw_longs cells place count) (word cells (place + 32 * count) 32)
 
 -- longs in a row, as bytes
+zip-more : (xs ys : List ℕ) (x y : ℕ) → length xs ≡ length ys
+    → zip2 long_of_halves (xs ++ x ∷ []) (ys ++ y ∷ []) ≡ zip2 long_of_halves xs ys ++ long_of_halves x y ∷ []
+zip-more [] [] x y size = refl
+zip-more [] (b ∷ ys) x y size = absurd (omega (arith, size))
+zip-more (a ∷ xs) [] x y size = absurd (omega (arith, size))
+zip-more (a ∷ xs) (b ∷ ys) x y size = ap (λ (rest : List ℕ). long_of_halves a b ∷ rest) (zip-more xs ys x y (omega (arith, size)))
+
 longs-more : (cells : List Bool) (place further count : ℕ)
-    → longs_at cells place further (suc count) ≡ longs_at cells place further count ++ long_at cells (place + 32 * count) further ∷ []
-unfolding longs_at
-longs-more cells place further zero =
-    let e : place ≡ place + 32 * 0 = omega arith in
-    ap (λ (p : ℕ). long_at cells p further ∷ []) e
-longs-more cells place further (suc count) =
-    let e : place + 32 + 32 * count ≡ place + 32 * suc count = omega arith in
-    ap (λ (rest : List ℕ). long_at cells place further ∷ rest)
-    (longs-more cells (place + 32) further count
-    ∙ ap (λ (p : ℕ). longs_at cells (place + 32) further count ++ long_at cells p further ∷ []) e)
+    → longs_at cells place further (count + 1) ≡ longs_at cells place further count ++ long_at cells (place + 32 * count) further ∷ []
+longs-more cells place further count =
+    let odd = raw-last cells place count in
+    let even = raw-last cells (place + further) count in
+    let e : place + further + 32 * count ≡ place + 32 * count + further = omega arith in
+    (λ i. zip2 long_of_halves (odd i) (even i))
+    ∙ zip-more (raw_longs cells place count) (raw_longs cells (place + further) count) _ _
+    (length-raw cells place count ∙ sym (length-raw cells (place + further) count))
+    ∙ ap (λ (p : ℕ). longs_at cells place further count ++ long_of_halves (word cells (place + 32 * count) 32) (word cells p 32) ∷ []) e
 
 pub bytes-none : (cells : List Bool) (place further : ℕ) → bytes_at cells place further 0 ≡ []
-unfolding longs_at
+unfolding raw_longs
 bytes-none cells place further = refl
 
 pub bytes-next : (cells : List Bool) (place further count : ℕ)
     → bytes_at cells place further (count + 1) ≡ bytes_at cells place further count ++ to_be_bytes w32 (long_at cells (place + 32 * count) further)
 bytes-next cells place further count =
-    ap (bytes_at cells place further) (add-one count)
-    ∙ ap (flat_map (to_be_bytes w32)) (longs-more cells place further count)
+    ap (flat_map (to_be_bytes w32)) (longs-more cells place further count)
     ∙ flat_map-append (to_be_bytes w32) (longs_at cells place further count) (long_at cells (place + 32 * count) further ∷ [])
 
 -- bytes as longs, the first of them
@@ -127,9 +124,12 @@ longs-next bytes index within =
     from_be_bytes w32 (get_or bytes (4 * index) 0 ∷ get_or bytes (4 * index + 1) 0 ∷ get_or bytes (4 * index + 2) 0 ∷ get_or bytes (4 * index + 3) 0 ∷ [])
     ∷ longs_of more) (drop-drop 4 (4 * index) bytes ∙ ap (λ (n : ℕ). drop n bytes) end)
 
-pub longs-none : (bytes : List ℕ) (count : ℕ) → length bytes ≤ count → longs_of (drop count bytes) ≡ []
+pub longs-none : (bytes : List ℕ) (count : ℕ) → length bytes < count + 4 → longs_of (drop count bytes) ≡ []
 unfolding longs_of
 longs-none [] zero within = refl
+longs-none (a ∷ []) zero within = refl
+longs-none (a ∷ b ∷ []) zero within = refl
+longs-none (a ∷ b ∷ c ∷ []) zero within = refl
+longs-none (a ∷ b ∷ c ∷ d ∷ bytes) zero within = absurd (omega arith)
 longs-none [] (suc count) within = refl
-longs-none (byte ∷ bytes) zero within = absurd (omega arith)
 longs-none (byte ∷ bytes) (suc count) within = longs-none bytes count (omega arith)

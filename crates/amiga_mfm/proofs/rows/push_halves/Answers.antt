@@ -7,7 +7,7 @@ use Rattle.mfm_coding.specs.Writes.{AppendsSymbols, AppendsSymbols-next, Appends
 use Rattle.amiga_mfm.specs.Layout.{halves_symbols}
 use Rattle.amiga_mfm.specs.Longs.{half_bytes}
 use Rattle.amiga_mfm.proofs.Pushes.{halves-each, one_half}
-use Rattle.amiga_mfm.proofs.pieces.push_halves.Goals as goal
+use Rattle.amiga_mfm.proofs.rows.push_halves.Goals as goal
 
 pub loop-long-init : goal.loop-long-init
 loop-long-init c = AppendsSymbols-none c.args.cells.now

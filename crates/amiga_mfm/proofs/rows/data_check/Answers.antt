@@ -2,8 +2,8 @@ use Rattle.std.proofs.Common.{ap, ◌∙◌, bit_xor, map}
 use Rattle.check_values.specs.Sums.{xor}
 use Rattle.amiga_mfm.specs.declared.half.Half.TheVariants.{Odd}
 use Rattle.amiga_mfm.specs.Longs.{half_of}
-use Rattle.amiga_mfm.proofs.Rows.{check-both}
-use Rattle.amiga_mfm.proofs.pieces.data_check.Goals as goal
+use Rattle.amiga_mfm.proofs.InRow.{check-both}
+use Rattle.amiga_mfm.proofs.rows.data_check.Goals as goal
 
 pub returns : goal.returns
 returns c =

@@ -1,59 +1,59 @@
-ghost use Rattle.std.specs.Prelude.{◌≡◌, ℕ, ◌<◌, length, map};
+ghost use Rattle.std.specs.Prelude.{◌≡◌, ℕ, ◌<◌, ◌≤◌, length, map};
 ghost use Rattle.check_values.specs.Sums.{xor};
 ghost use Rattle.mfm_coding.specs.Writes.{AppendsSymbols};
-ghost use Rattle.amiga_mfm.specs.Longs.{half_of};
-ghost use Rattle.amiga_mfm.specs.Layout.{check_of_data, check_of_header, halves_symbols, info_of, longs_symbols, piece_symbols, pieces_symbols};
+ghost use Rattle.amiga_mfm.specs.Longs.{half_of, halves};
+ghost use Rattle.amiga_mfm.specs.Layout.{check_of_data, check_of_header, content_halves, halves_symbols, header_halves, info_of, row_symbols};
 ghost use Rattle.amiga_mfm.specs.Sectors.{IsTrack};
 
 use crate::half::{Half, half_bytes};
 use crate::header::track_number;
-use crate::layout::{FORMAT_BYTE, Piece, SECTORS};
+use crate::layout::{FORMAT_BYTE, LABEL, Row, SECTORS};
+use crate::longs::longs_in;
 use cell_bits::Cells;
 use check_values::amiga_xor;
 use flux_base::{Memory, TrackId};
 use mfm_coding::{push_bytes, push_run};
 
-/// Appends a part of the ring, each piece for this sector with these longs.
-pub(crate) fn push_pieces(
+/// Appends a row for this sector with these bytes.
+pub(crate) fn push_row(
     cells: &mut Cells,
-    pieces: &[Piece],
+    row: Row,
     track: TrackId,
     sector: u8,
-    longs: &[u32],
+    bytes: &[u8],
 ) -> Result<(), Memory>
     requires track { IsTrack track }
     requires sector { sector < 11 }
-    ensures { AppendsSymbols cells.old cells.new (pieces_symbols track sector longs.now pieces.now) result }
+    requires bytes { length bytes.now ≤ 512 }
+    ensures { AppendsSymbols cells.old cells.new (row_symbols track sector bytes.now row) result }
 {
-    for piece in pieces {
-        push_piece(cells, *piece, track, sector, longs)?;
+    match row {
+        Row::Run(count, symbol) => push_run(cells, count, symbol),
+        Row::Header => push_header(cells, info(track, sector)),
+        Row::Content => push_content(cells, longs_in(bytes).as_slice()),
     }
-    Ok(())
 }
 
-fn push_piece(
-    cells: &mut Cells,
-    piece: Piece,
-    track: TrackId,
-    sector: u8,
-    longs: &[u32],
-) -> Result<(), Memory>
-    requires track { IsTrack track }
-    requires sector { sector < 11 }
-    ensures { AppendsSymbols cells.old cells.new (piece_symbols track sector longs.now piece) result }
+/// Appends this info, the label, and the check value of both.
+fn push_header(cells: &mut Cells, info: u32) -> Result<(), Memory>
+    ensures { AppendsSymbols cells.old cells.new (halves_symbols (header_halves info)) result }
 {
-    match piece {
-        Piece::Run(count, symbol) => push_run(cells, count, symbol),
-        Piece::Info => push_longs(cells, &[info(track, sector)]),
-        Piece::HeaderCheck => push_longs(cells, &[header_check(info(track, sector))]),
-        Piece::DataCheck => push_longs(cells, &[data_check(longs)]),
-        Piece::Content => push_longs(cells, longs),
-    }
+    push_longs(cells, &[info])?;
+    push_longs(cells, &LABEL)?;
+    push_longs(cells, &[header_check(info)])
+}
+
+/// Appends the check value of these longs, and the longs.
+fn push_content(cells: &mut Cells, longs: &[u32]) -> Result<(), Memory>
+    ensures { AppendsSymbols cells.old cells.new (halves_symbols (content_halves longs.now)) result }
+{
+    push_longs(cells, &[data_check(longs)])?;
+    push_longs(cells, longs)
 }
 
 /// Appends longs: their odd halves, and then their even ones.
 fn push_longs(cells: &mut Cells, longs: &[u32]) -> Result<(), Memory>
-    ensures { AppendsSymbols cells.old cells.new (longs_symbols longs.now) result }
+    ensures { AppendsSymbols cells.old cells.new (halves_symbols (halves longs.now)) result }
 {
     push_halves(cells, longs, Half::Odd)?;
     push_halves(cells, longs, Half::Even)
