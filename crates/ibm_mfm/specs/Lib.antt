@@ -1,10 +1,10 @@
+pub mod DiskLaws
+pub mod Disks
 pub mod FrameLaws
 pub mod HeaderSyncs
 pub mod Layout
-pub mod Lengths
 pub mod OwnLaws
 pub mod ReadLaws
-pub mod RingLaws
+pub mod RowLaws
 pub mod Sectors
-pub mod StandLaws
 pub mod Syncs

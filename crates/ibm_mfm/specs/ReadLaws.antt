@@ -2,8 +2,8 @@
 use Rattle.std.specs.Prelude.{◌≡◌, ℕ, ◌+◌, ◌*◌, ◌<◌, Bool, List, [], ◌∷◌, ◌++◌, length, refl}
 use Rattle.std.proofs.Common.{ap, ◌∙◌, arith, append_assoc}
 use Rattle.std.proofs.Math.Nat.{mod-eq_of_lt}
-use Rattle.cell_bits.specs.Bytes.{data_byte, data_cells, mfm, mfm_cells}
-use Rattle.cell_bits.specs.Word.{number_of, word_cells}
+use Rattle.cell_bits.specs.Bytes.{data_byte, data_cells, mfm}
+use Rattle.cell_bits.specs.Word.{number_of}
 use Rattle.cell_bits.specs.WordLaws.{number_of-word_cells}
 use Rattle.track_rings.specs.Parts.{take-first}
 use Rattle.track_rings.specs.SectorParts.{AreBytes}
@@ -12,23 +12,14 @@ use Rattle.ibm_fields.specs.FieldLaws.{bytes_at-past}
 use Rattle.mfm_coding.specs.declared.symbol.Symbol.{Symbol}
 use Rattle.mfm_coding.specs.declared.symbol.Symbol.TheVariants.{Data}
 use Rattle.mfm_coding.specs.Coding.{bytes_as_data, coded, low_bit, symbol_cells}
-use Rattle.mfm_coding.specs.CodingLaws.{coded-append, last_bit, length-coded, length-mfm}
-
-data_cells-mfm_cells : (before : Bool) (bits : List Bool) → data_cells (mfm_cells before bits) ≡ bits
-unfolding data_cells mfm_cells
-data_cells-mfm_cells before [] = refl
-data_cells-mfm_cells before (bit ∷ bits) = ap (λ (rest : List Bool). bit ∷ rest) (data_cells-mfm_cells bit bits)
-
-data_cells-mfm : (before : Bool) (byte : ℕ) → data_cells (mfm before byte) ≡ word_cells 8 byte
-unfolding mfm
-data_cells-mfm before byte = data_cells-mfm_cells before (word_cells 8 byte)
+use Rattle.mfm_coding.specs.CodingLaws.{coded-append, data_cells-byte, last_bit, length-coded, length-mfm}
 
 -- a byte reads back
 data_byte-mfm : (before : Bool) (byte : ℕ) (rest : List Bool) → byte < 256 → data_byte (mfm before byte ++ rest) 0 ≡ byte
 unfolding data_byte
 data_byte-mfm before byte rest fits =
     ap (λ (cells : List Bool). number_of (data_cells cells)) (take-first (mfm before byte) rest 16 (length-mfm before byte))
-    ∙ ap number_of (data_cells-mfm before byte)
+    ∙ ap number_of (data_cells-byte before byte)
     ∙ number_of-word_cells 8 byte ∙ mod-eq_of_lt fits
 
 -- bytes read back
@@ -45,10 +36,10 @@ reads-first before (byte ∷ bytes) after rest fit =
     (bytes_at-past (mfm before byte) (more ++ rest) 16 0 (length bytes) (length-mfm before byte)
     ∙ reads-first (low_bit (Data byte)) bytes after rest fit.1)
 
--- also behind others
-pub reads-behind : (before : Bool) (others : List Symbol) (bytes : List ℕ) (after : List Symbol) (rest : List Bool) → AreBytes bytes
+-- also after others
+pub reads-after : (before : Bool) (others : List Symbol) (bytes : List ℕ) (after : List Symbol) (rest : List Bool) → AreBytes bytes
     → bytes_at (coded before (others ++ (bytes_as_data bytes ++ after)) ++ rest) (16 * length others) (length bytes) ≡ bytes
-reads-behind before others bytes after rest fit =
+reads-after before others bytes after rest fit =
     let bit = last_bit before others in
     let then = bytes_as_data bytes ++ after in
     let e : 16 * length others ≡ 16 * length others + 0 = omega arith in

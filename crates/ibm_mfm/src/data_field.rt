@@ -1,41 +1,45 @@
-ghost use Rattle.std.specs.Prelude.{◌≡◌, ℕ, [], List, false, IfNone, IfSome, IsTrue};
-ghost use Rattle.ibm_mfm.specs.Sectors.{DataStands, IsDataSync};
+ghost use Rattle.std.specs.Prelude.{◌≡◌, ℕ, ◌+◌, ◌^◌, ◌<◌, ◌≤◌, [], List, false, length, IfNone, IfSome, IsTrue};
+ghost use Rattle.frame_law.specs.Frames.{IsDataSync};
+ghost use Rattle.ibm_mfm.specs.Sectors.{Hold};
+ghost use Rattle.ibm_mfm.specs.Syncs.{SyncAt};
 
 use crate::layout::{
-    CONTENT_CHECK_PLACE, CONTENT_PLACE, DATA_CELLS, FIRST_BYTE_PLACE, HEADER_CELLS, SECTOR_SIZE,
+    CONTENT_CHECK_PLACE, CONTENT_PLACE, FIRST_BYTE_PLACE, HEADER_CELLS, MARK_CELLS, SECTOR_SIZE,
+    THIRD_MARK_PLACE, TWO_MARKS, TWO_MARKS_CELLS,
 };
-use crate::pieces::field_check;
-use crate::sync::first_sync;
+use crate::rows::field_check;
+use cell_bits::MFM_A1_MARK;
 use frame_law::{CellsFrom, SectorBuffer};
 use ibm_fields::{DATA_BYTE, DATA_REACH, DELETED_DATA_BYTE, number_at, take_bytes};
 
-/// Whether data stand behind the header at the front of the cells. Then the buffer, which was empty, has them.
-pub(crate) fn read_data(frame: &CellsFrom, buffer: &mut SectorBuffer) -> bool
-    requires { buffer.old.items ≡ [] }
-    ensures good { IsTrue result → DataStands frame.now buffer.new.items }
-    ensures bad { result ≡ false → (bytes : List ℕ) → ¬ DataStands frame.now bytes }
+/// The first three marks after the header, within reach.
+pub(crate) fn first_sync(frame: &CellsFrom) -> Option<usize>
+    ensures first { IfSome result (λ sync. IsDataSync 160 (SyncAt frame.now) sync) }
+    ensures none { IfNone result ((sync : ℕ) → ¬ IsDataSync 160 (SyncAt frame.now) sync) }
 {
-    let Some(sync) = data_sync(frame) else {
-        return false;
-    };
-    if frame.len() < sync + DATA_CELLS {
-        return false;
+    let end = HEADER_CELLS + DATA_REACH;
+    let mut start = HEADER_CELLS;
+    while let Some(place) = frame.find_word(start, end, TWO_MARKS, TWO_MARKS_CELLS) {
+        if frame.stands_at(place + THIRD_MARK_PLACE, MFM_A1_MARK, MARK_CELLS) {
+            return Some(place);
+        }
+        start = place + 1;
     }
+    None
+}
+
+/// Whether the byte after the sync opens data, and they hold bytes. Then the buffer, which was empty, has them.
+pub(crate) fn read_field(frame: &CellsFrom, sync: usize, buffer: &mut SectorBuffer) -> bool
+    requires near { sync < 2 ^ 31 }
+    requires whole { sync + 8288 ≤ length frame.now }
+    requires empty { buffer.old.items ≡ [] }
+    ensures good { IsTrue result → Hold frame.now sync buffer.new.items }
+    ensures bad { result ≡ false → (bytes : List ℕ) → ¬ Hold frame.now sync bytes }
+{
     let first = frame.byte_at(sync + FIRST_BYTE_PLACE);
     if first != DATA_BYTE && first != DELETED_DATA_BYTE {
         return false;
     }
-    if !frame.unbroken_to(sync + DATA_CELLS) {
-        return false;
-    }
     take_bytes(frame, sync + CONTENT_PLACE, SECTOR_SIZE, buffer);
     field_check(first, buffer.as_slice()) == number_at(frame, sync + CONTENT_CHECK_PLACE)
-}
-
-/// The first sync behind the header.
-fn data_sync(frame: &CellsFrom) -> Option<usize>
-    ensures stands { IfSome result (λ sync. IsDataSync frame.now sync) }
-    ensures none { IfNone result ((sync : ℕ) → ¬ IsDataSync frame.now sync) }
-{
-    first_sync(frame, HEADER_CELLS, HEADER_CELLS + DATA_REACH)
 }

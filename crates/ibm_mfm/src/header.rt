@@ -1,24 +1,22 @@
-ghost use Rattle.std.specs.Prelude.{◌≡◌, ℕ, IfNone, IfSome};
-ghost use Rattle.ibm_mfm.specs.Sectors.{HeaderStands};
+ghost use Rattle.std.specs.Prelude.{◌≡◌, ℕ, ◌≤◌, length, IfNone, IfSome};
+ghost use Rattle.ibm_mfm.specs.Sectors.{NamesSector};
 
 use crate::layout::{
-    ADDRESS_CHECK_PLACE, ADDRESS_PLACE, FIRST_BYTE_PLACE, FIRST_SECTOR, HEADER_CELLS, SIZE_CODE,
+    ADDRESS_CHECK_PLACE, ADDRESS_PLACE, FIRST_BYTE_PLACE, MARK_CELLS, SIZE_CODE, THIRD_MARK_PLACE,
 };
-use crate::pieces::field_check;
-use crate::sync::sync_at;
+use crate::rows::field_check;
+use cell_bits::MFM_A1_MARK;
 use flux_base::TrackId;
 use frame_law::CellsFrom;
 use ibm_fields::{ID_BYTE, address_at, number_at};
 
-/// The number of the sector whose header, of this track of so many sectors, stands at the front of the cells.
-pub(crate) fn header_sector(frame: &CellsFrom, sectors: u8, track: TrackId) -> Option<u8>
-    ensures stands { IfSome result (λ s. HeaderStands sectors track frame.now s) }
-    ensures none { IfNone result ((s : ℕ) → ¬ HeaderStands sectors track frame.now s) }
+/// The sector of this track that the header at the front of the cells, which are as many as one has, names.
+pub(crate) fn named_sector(frame: &CellsFrom, track: TrackId) -> Option<u8>
+    requires { 160 ≤ length frame.now }
+    ensures named { IfSome result (λ s. NamesSector track frame.now s) }
+    ensures none { IfNone result ((s : ℕ) → ¬ NamesSector track frame.now s) }
 {
-    if frame.len() < HEADER_CELLS {
-        return None;
-    }
-    if !sync_at(frame, 0) {
+    if !frame.stands_at(THIRD_MARK_PLACE, MFM_A1_MARK, MARK_CELLS) {
         return None;
     }
     if frame.byte_at(FIRST_BYTE_PLACE) != ID_BYTE {
@@ -28,15 +26,9 @@ pub(crate) fn header_sector(frame: &CellsFrom, sectors: u8, track: TrackId) -> O
     if cylinder != track.cylinder || head != track.head || size != SIZE_CODE {
         return None;
     }
-    if sector < FIRST_SECTOR || sector > sectors {
-        return None;
-    }
     if number_at(frame, ADDRESS_CHECK_PLACE)
         != field_check(ID_BYTE, &[cylinder, head, sector, size])
     {
-        return None;
-    }
-    if !frame.unbroken_to(HEADER_CELLS) {
         return None;
     }
     Some(sector)

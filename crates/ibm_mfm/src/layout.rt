@@ -1,60 +1,105 @@
 ghost use Rattle.std.specs.Prelude.{◌≡◌};
-ghost use Rattle.ibm_mfm.specs.Layout.{lead_out, sector_layout};
+ghost use Rattle.ibm_mfm.specs.Disks.{disk_of as disk_with};
 
 use mfm_coding::Symbol;
 
-/// A part of a track's ring.
+/// What the tracks of a disk have of their own.
 #[derive(Clone, Copy)]
-pub(crate) enum Piece {
+pub(crate) struct Disk {
+    /// How many sectors a track has.
+    pub(crate) sectors: u8,
+    /// The number of the first of them.
+    pub(crate) first_sector: u8,
+    /// The bytes of the gap after each sector.
+    pub(crate) sector_gap: u8,
+    /// The bytes of the gap after the last sector, which fills the track.
+    pub(crate) track_gap: u8,
+    /// The cells of a track, 16 a byte.
+    pub(crate) cells: u32,
+}
+
+/// The disks: those of 360 and 720 KB, with 6250 bytes a track, and those of 1440 KB, with 12500.
+const DISKS: [Disk; 2] = [
+    Disk {
+        sectors: 9,
+        first_sector: 1,
+        sector_gap: 80,
+        track_gap: 218,
+        cells: 100_000,
+    },
+    Disk {
+        sectors: 18,
+        first_sector: 1,
+        sector_gap: 108,
+        track_gap: 78,
+        cells: 200_000,
+    },
+];
+
+/// What stands for a disk where there is none: it has no tracks.
+const NO_DISK: Disk = Disk {
+    sectors: 0,
+    first_sector: 1,
+    sector_gap: 0,
+    track_gap: 0,
+    cells: 0,
+};
+
+/// The disk that has so many sectors a track.
+pub(crate) fn disk_of(sectors: u8) -> Disk
+    ensures { result ≡ disk_with sectors }
+{
+    DISKS
+        .iter()
+        .find(|disk| disk.sectors == sectors)
+        .copied()
+        .unwrap_or(NO_DISK)
+}
+
+/// A row of a track.
+#[derive(Clone, Copy)]
+pub enum Row {
     /// So many times the same symbol.
     Run(u8, Symbol),
     /// The first byte of a header, a sector's address and the check value.
     Address,
     /// The first byte of data, a sector's bytes and the check value.
     Content,
+    /// The gap after a sector, as long as the disk has it.
+    SectorGap,
+    /// The gap after the last sector, as long as the disk has it.
+    TrackGap,
 }
 
 /// The byte of the gaps.
-const GAP: Symbol = Symbol::Data(0x4E);
+pub(crate) const GAP: Symbol = Symbol::Data(0x4E);
 
 /// The byte that stands before marks.
 const ZERO: Symbol = Symbol::Data(0x00);
 
 /// Before the first sector: a gap with the index mark.
-pub(crate) const LEAD_IN: [Piece; 5] = [
-    Piece::Run(80, GAP),
-    Piece::Run(12, ZERO),
-    Piece::Run(3, Symbol::IndexMark),
-    Piece::Run(1, Symbol::Data(0xFC)),
-    Piece::Run(50, GAP),
+pub(crate) const LEAD_IN: [Row; 5] = [
+    Row::Run(80, GAP),
+    Row::Run(12, ZERO),
+    Row::Run(3, Symbol::IndexMark),
+    Row::Run(1, Symbol::Data(0xFC)),
+    Row::Run(50, GAP),
 ];
 
-/// A sector: header, gap, data, gap. The last gap has 80 bytes where a track has 9 sectors, and else 108.
-pub(crate) fn sector_pieces(sectors: u8) -> [Piece; 8]
-    ensures { result ≡ sector_layout sectors }
-{
-    let gap = if sectors == 9 { 80 } else { 108 };
-    [
-        Piece::Run(12, ZERO),
-        Piece::Run(3, Symbol::SyncMark),
-        Piece::Address,
-        Piece::Run(22, GAP),
-        Piece::Run(12, ZERO),
-        Piece::Run(3, Symbol::SyncMark),
-        Piece::Content,
-        Piece::Run(gap, GAP),
-    ]
-}
+/// A sector: header, gap, data, gap.
+pub(crate) const SECTOR: [Row; 8] = [
+    Row::Run(12, ZERO),
+    Row::Run(3, Symbol::SyncMark),
+    Row::Address,
+    Row::Run(22, GAP),
+    Row::Run(12, ZERO),
+    Row::Run(3, Symbol::SyncMark),
+    Row::Content,
+    Row::SectorGap,
+];
 
-/// Behind the last sector: the gap that fills the track, up to 6250 bytes with 9 sectors, and else to 12500.
-pub(crate) fn lead_out_pieces(sectors: u8) -> [Piece; 1]
-    ensures { result ≡ lead_out sectors }
-{
-    let gap = if sectors == 9 { 218 } else { 78 };
-    [Piece::Run(gap, GAP)]
-}
-
-pub(crate) const FIRST_SECTOR: u8 = 1;
+/// After the last sector: a gap.
+pub(crate) const LEAD_OUT: [Row; 1] = [Row::TrackGap];
 
 /// The bytes of a sector.
 pub(crate) const SECTOR_SIZE: u16 = 512;
@@ -65,15 +110,18 @@ pub(crate) const SIZE_CODE: u8 = 2;
 /// A mark A1, by its cells.
 pub(crate) const MARK_CELLS: u8 = 16;
 
-/// Two marks A1 as one word, and its cells.
+/// Two marks A1 as one word, and its cells: a sync is sought by them.
 pub(crate) const TWO_MARKS: u32 = 0x4489_4489;
 
 pub(crate) const TWO_MARKS_CELLS: u8 = 32;
 
+/// Where the third mark stands, in cells from the first one's begin.
+pub(crate) const THIRD_MARK_PLACE: usize = 32;
+
 /// Three marks, a byte, four bytes of address and the check value, 16 cells each.
 pub(crate) const HEADER_CELLS: usize = 160;
 
-/// Where the first byte stands behind three marks, in cells from their begin.
+/// Where the first byte stands after three marks, in cells from their begin.
 pub(crate) const FIRST_BYTE_PLACE: usize = 48;
 
 /// Where the address and its check value begin, in cells from the header's begin.
@@ -89,5 +137,5 @@ pub(crate) const CONTENT_PLACE: usize = 64;
 
 pub(crate) const CONTENT_CHECK_PLACE: usize = 8256;
 
-/// The register of a check value behind three marks: that of the bytes A1 A1 A1, from FFFF.
+/// The register of a check value after three marks: that of the bytes A1 A1 A1, from FFFF.
 pub(crate) const CHECK_START: u16 = 0xCDB4;

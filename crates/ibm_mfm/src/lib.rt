@@ -5,10 +5,8 @@
 mod data_field;
 mod header;
 mod layout;
-mod pieces;
 mod recording;
-mod sync;
-mod track;
+mod rows;
 
 pub use recording::IbmMfm;
 

@@ -1,153 +1,167 @@
-ghost use Rattle.std.specs.Prelude.{◌≡◌, ℕ, length};
-ghost use Rattle.std.proofs.Common.{lit≤};
-ghost use Rattle.ibm_mfm.specs.Sectors.{HeaderStands, IsTrack, SectorStands};
-ghost use Rattle.ibm_mfm.specs.Layout.{FRAME_CELLS, place_of, ring_cells_of, ring_of};
-ghost use Rattle.ibm_mfm.specs.OwnLaws.{header_alone, header_own, no_header, sector_alone, sector_own};
-ghost use Rattle.ibm_mfm.specs.StandLaws.{sync_leads, one_header, one_content, header_number, content_size, sizes};
-ghost use Rattle.ibm_mfm.specs.RingLaws.{ring_length, ring_spaced, sector_stands, frame_whole};
+ghost use Rattle.std.specs.Prelude.{◌≡◌, ℕ, ◌+◌, true, refl};
+ghost use Rattle.std.proofs.Common.{lit≤, sym, ◌∙◌};
+ghost use Rattle.ibm_mfm.specs.DiskLaws.{counts, ends, sums};
+ghost use Rattle.ibm_mfm.specs.Disks.{IsTrack, disk_of as disk_with};
+ghost use Rattle.ibm_mfm.specs.FrameLaws.{frame_stands};
+ghost use Rattle.ibm_mfm.specs.HeaderSyncs.{own_syncs};
+ghost use Rattle.ibm_mfm.specs.Layout.{row_cells, row_size, rows};
+ghost use Rattle.ibm_mfm.specs.OwnLaws.{bytes_held, one_name, sizes, tells, within_reach};
+ghost use Rattle.ibm_mfm.specs.RowLaws.{row_follows, row_length};
+ghost use Rattle.ibm_mfm.specs.Sectors.{Hold, NamesSector};
+ghost use Rattle.ibm_mfm.specs.Syncs.{SyncAt};
 
-use crate::data_field::read_data;
-use crate::header::header_sector;
-use crate::layout::{FIRST_SECTOR, SECTOR_SIZE, TWO_MARKS, TWO_MARKS_CELLS};
-use crate::track::push_track;
+use crate::data_field::{first_sync, read_field};
+use crate::header::named_sector;
+use crate::layout::{
+    DATA_CELLS, HEADER_CELLS, LEAD_IN, LEAD_OUT, Row, SECTOR, SECTOR_SIZE, TWO_MARKS,
+    TWO_MARKS_CELLS, disk_of,
+};
+use crate::rows::push_row;
 use cell_bits::Cells;
 use flux_base::{Memory, TrackId};
-use frame_law::{CellsFrom, Reading, Recording, SectorBuffer};
+use frame_law::{CellsFrom, Layout, SectorBuffer};
 
 /// The double density recording of the PC's disks, in the form of the IBM System 34. Its tracks are the
 /// cylinders 0 to 79 with the heads 0 and 1. There are two: with 9 sectors a track (360 and 720 KB), and with
-/// 18 (1440 KB). Sectors are numbered from 1.
+/// 18 (1440 KB); one with another number has no track. Sectors are numbered from 1.
 #[derive(Clone, Copy, Debug, PartialEq, Eq)]
 pub struct IbmMfm {
     /// How many sectors a track has, 9 or 18.
     pub sectors: u8,
 }
 
-impl Recording for IbmMfm {
+impl Layout for IbmMfm {
+    type Row = Row;
+
     const SHORTEST: u8 = 2;
 
     const LONGEST: u8 = 4;
+
+    const SYNC: u32 = TWO_MARKS;
+
+    const SYNC_CELLS: u8 = TWO_MARKS_CELLS;
+
+    const HEADER_CELLS: usize = HEADER_CELLS;
 
     ghost SHORTEST = { 2 };
 
     ghost LONGEST = { 4 };
 
-    ghost sync = { λ r. 0x44894489 };
+    ghost SYNC = { 0x44894489 };
 
-    ghost sync_cells = { λ r. 32 };
+    ghost SYNC_CELLS = { 32 };
+
+    ghost HEADER_CELLS = { 160 };
 
     ghost has_track = { λ r track. IsTrack r.sectors track };
 
-    ghost header_at = { λ r track cells s. HeaderStands r.sectors track cells s };
+    ghost lowest_sector = { λ r. (disk_with r.sectors).first_sector };
 
-    ghost sector_at = { λ r track cells s bytes. SectorStands r.sectors track cells s bytes };
+    ghost sector_count = { λ r track. r.sectors };
 
-    ghost ring = { λ r track bytes. ring_of r.sectors track bytes };
+    ghost sector_bytes = { λ r. 512 };
 
-    ghost sector_place = { λ r track s. place_of r.sectors s };
+    ghost track_cells = { λ r track. (disk_with r.sectors).cells };
 
-    ghost frame_cells = { λ r. FRAME_CELLS };
+    ghost names_sector = { λ r track cells s. NamesSector track cells s };
 
-    ghost first_sector = { λ r. 1 };
+    ghost is_sync = { λ r cells place. SyncAt cells place };
 
-    ghost sectors = { λ r track. r.sectors };
+    ghost hold = { λ r cells sync bytes. Hold cells sync bytes };
 
-    ghost sector_size = { λ r. 512 };
+    ghost data_cells = { λ r. 8288 };
 
-    ghost ring_cells = { λ r track. ring_cells_of r.sectors };
+    ghost data_place = { λ r. 704 };
 
-    fn sync(&self) -> u32 {
-        TWO_MARKS
+    ghost rows = { λ r track. rows };
+
+    ghost asks = { true };
+
+    ghost row_cells = { λ r track before s bytes row. row_cells (disk_with r.sectors) track before s bytes row };
+
+    ghost row_size = { λ r track count row. row_size (disk_with r.sectors) count row };
+
+    ghost last_zeros = { 2 };
+
+    fn lowest_sector(&self) -> u8 {
+        disk_of(self.sectors).first_sector
     }
 
-    fn sync_cells(&self) -> u8 {
-        TWO_MARKS_CELLS
-    }
-
-    fn first_sector(&self) -> u8 {
-        FIRST_SECTOR
-    }
-
-    fn sectors(&self, _track: TrackId) -> u8 {
+    fn sector_count(&self, _track: TrackId) -> u8 {
         self.sectors
     }
 
-    fn sector_size(&self) -> u16 {
+    fn sector_bytes(&self) -> u16 {
         SECTOR_SIZE
     }
 
-    fn ring_cells(&self, _track: TrackId) -> u32 {
-        if self.sectors == 9 { 100000 } else { 200000 }
+    fn track_cells(&self, _track: TrackId) -> u32 {
+        disk_of(self.sectors).cells
     }
 
-    fn ring(&self, track: TrackId, bytes: &[u8], cells: &mut Cells) -> Result<(), Memory> {
-        cells.clear();
-        let written = push_track(cells, self.sectors, track, bytes);
-        if written.is_err() {
-            cells.clear();
-        }
-        written
+    fn data_cells(&self) -> usize {
+        DATA_CELLS
     }
 
-    fn read_at(
+    fn lead_in(&self, _track: TrackId) -> &[Row] {
+        &LEAD_IN
+    }
+
+    fn sector_rows(&self, _track: TrackId) -> &[Row] {
+        &SECTOR
+    }
+
+    fn lead_out(&self, _track: TrackId) -> &[Row] {
+        &LEAD_OUT
+    }
+
+    fn append_row(
         &self,
-        cells: &Cells,
-        place: usize,
         track: TrackId,
-        buffer: &mut SectorBuffer,
-    ) -> Reading {
-        buffer.clear();
-        let frame = CellsFrom::new(cells, place);
-        let Some(sector) = header_sector(&frame, self.sectors, track) else {
-            return Reading::Nothing;
-        };
-        if read_data(&frame, buffer) {
-            return Reading::Good { sector };
-        }
-        buffer.clear();
-        Reading::Bad { sector }
+        sector: u8,
+        bytes: &[u8],
+        row: Row,
+        cells: &mut Cells,
+    ) -> Result<(), Memory> {
+        push_row(cells, row, disk_of(self.sectors), track, sector, bytes)
     }
 
-    ghost sync_size = { λ r. (lit≤ tt, lit≤ tt) };
+    fn read_header(&self, frame: &CellsFrom, track: TrackId) -> Option<u8> {
+        named_sector(frame, track)
+    }
 
-    ghost sync_leads = { λ r track cells s header. sync_leads r.sectors track cells s header };
+    fn find_data(&self, frame: &CellsFrom) -> Option<usize> {
+        first_sync(frame)
+    }
 
-    ghost one_header = { λ r track cells s t first second. one_header r.sectors track cells s t first second };
+    fn read_data(&self, frame: &CellsFrom, sync: usize, buffer: &mut SectorBuffer) -> bool {
+        read_field(frame, sync, buffer)
+    }
 
-    ghost one_content = { λ r track cells s t xs ys first second.
-        one_content r.sectors track cells s t xs ys first second };
+    ghost sizes = { sizes };
 
-    ghost header_of_sector = { λ r track cells s xs sector. sector.header };
+    ghost counts = { λ r track known. counts r.sectors known.disk };
 
-    ghost header_number = { λ r track cells s known header. header_number r.sectors track cells s header };
+    ghost reach = { λ r. within_reach };
 
-    ghost content_size = { λ r track cells s xs sector. content_size r.sectors track cells s xs sector };
+    ghost sums = { λ r track known. sums r.sectors known.disk };
 
-    ghost sizes = { λ r track known. sizes r.sectors track known };
+    ghost row_length = { λ r track before s bytes row. row_length (disk_with r.sectors) track before s bytes row };
 
-    ghost ring_length = { λ r track bytes known sectors. ring_length r.sectors track bytes known sectors };
+    ghost row_follows = { λ r track s bytes row known content. row_follows (disk_with r.sectors) track s bytes row };
 
-    ghost distances = { (lit≤ tt, lit≤ tt, lit≤ tt) };
+    ghost ends = { λ r track before known. ends r.sectors known.disk track before };
 
-    ghost ring_spaced = { λ r track bytes known sectors. ring_spaced r.sectors track bytes };
+    ghost one_name = { λ r track cells s t first second. one_name track cells s t first second };
 
-    ghost sector_stands = { λ r track bytes s from count place known sectors number lies.
-        sector_stands r.sectors track bytes s from count place known sectors number lies };
+    ghost one_content = { λ r cells sync xs ys first second. sym first.content ∙ second.content };
 
-    ghost frame_whole = { λ r track bytes s known sectors number.
-        frame_whole r.sectors track bytes s known sectors number };
+    ghost content_size = { λ r cells sync xs held. bytes_held cells sync xs held };
 
-    ghost frame_some = { λ r. lit≤ tt };
+    ghost frame_stands = { λ r track s bytes before rest known number fit long.
+        frame_stands r.sectors track s bytes before rest known number fit long };
 
-    ghost header_alone = { λ r track cells s header. header_alone r.sectors track cells s header };
+    ghost tells = { λ r track. tells track };
 
-    ghost sector_alone = { λ r track cells s xs sector. sector_alone r.sectors track cells s xs sector };
-
-    ghost header_own = { λ r track bytes s zeros from count behind place known sectors header.
-        header_own r.sectors track bytes known sectors s zeros from count behind place header };
-
-    ghost sector_own = { λ r track bytes s zeros from count behind place xs known sectors sector.
-        (sector_own r.sectors track bytes known sectors s zeros from count behind place xs sector).1 };
-
-    ghost no_header = { λ r track count s known header. no_header r.sectors track count s header };
+    ghost own_syncs = { λ r track known. own_syncs r.sectors track known };
 }

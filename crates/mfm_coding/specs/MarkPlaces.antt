@@ -211,7 +211,8 @@ abbrev pub QuietSymbols : (List Bool → Type 0) → List Symbol → Type 0
 QuietSymbols Test symbols = SyncSymbols Test (λ place. ⊥) symbols
 
 module _ (Test : List Bool → Type 0) where
-  symbols-joined : (Here : ℕ → Type 0) (xs ys : List Symbol) (before : Bool)
+  -- some, and then more, seen apart
+  pub symbols-joined : (Here : ℕ → Type 0) (xs ys : List Symbol) (before : Bool)
       → SyncPart Test Here (FollowsBit (last_bit (last_bit before xs) ys)) (FollowsBit before) (coded before xs ++ coded (last_bit before xs) ys)
       → SyncPart Test Here (FollowsBit (last_bit before (xs ++ ys))) (FollowsBit before) (coded before (xs ++ ys))
   symbols-joined Here xs ys before part =

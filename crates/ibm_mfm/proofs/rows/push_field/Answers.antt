@@ -7,7 +7,7 @@ use Rattle.mfm_coding.specs.Coding.{bytes_as_data}
 use Rattle.ibm_mfm.specs.Layout.{field}
 use Rattle.ibm_mfm.specs.Sectors.{check_of}
 use Rattle.mfm_coding.specs.Writes.{AppendsSymbols, AppendsSymbols-none, AppendsSymbols-more, AppendsSymbols-stop}
-use Rattle.ibm_mfm.proofs.pieces.push_field.Goals as goal
+use Rattle.ibm_mfm.proofs.rows.push_field.Goals as goal
 
 pub returns-in_err-push_symbol : goal.returns-in_err-push_symbol
 returns-in_err-push_symbol c =

@@ -1,53 +1,41 @@
 ghost use Rattle.std.specs.Prelude.{◌≡◌, ℕ};
 ghost use Rattle.ibm_fields.specs.Fields.{high_first};
 ghost use Rattle.mfm_coding.specs.Coding.{bytes_as_data};
-ghost use Rattle.ibm_mfm.specs.Layout.{field, piece_symbols, pieces_symbols};
-ghost use Rattle.ibm_mfm.specs.Sectors.{check_of};
 ghost use Rattle.mfm_coding.specs.Writes.{AppendsSymbols};
+ghost use Rattle.ibm_mfm.specs.Layout.{field, row_symbols};
+ghost use Rattle.ibm_mfm.specs.Sectors.{check_of};
 
-use crate::layout::{CHECK_START, Piece, SIZE_CODE};
+use crate::layout::{CHECK_START, Disk, GAP, Row, SIZE_CODE};
 use cell_bits::Cells;
 use check_values::crc16;
 use flux_base::{Memory, TrackId};
 use ibm_fields::{DATA_BYTE, ID_BYTE};
 use mfm_coding::{Symbol, push_bytes, push_run, push_symbol};
 
-/// Appends a part of the ring, each piece for this sector with these bytes.
-pub(crate) fn push_pieces(
+/// Appends a row of the disk's track for this sector with these bytes.
+pub(crate) fn push_row(
     cells: &mut Cells,
-    pieces: &[Piece],
+    row: Row,
+    disk: Disk,
     track: TrackId,
     sector: u8,
     bytes: &[u8],
 ) -> Result<(), Memory>
-    ensures { AppendsSymbols cells.old cells.new (pieces_symbols track sector bytes.now pieces.now) result }
+    ensures { AppendsSymbols cells.old cells.new (row_symbols disk track sector bytes.now row) result }
 {
-    for piece in pieces {
-        push_piece(cells, *piece, track, sector, bytes)?;
-    }
-    Ok(())
-}
-
-fn push_piece(
-    cells: &mut Cells,
-    piece: Piece,
-    track: TrackId,
-    sector: u8,
-    bytes: &[u8],
-) -> Result<(), Memory>
-    ensures { AppendsSymbols cells.old cells.new (piece_symbols track sector bytes.now piece) result }
-{
-    match piece {
-        Piece::Run(count, symbol) => push_run(cells, count, symbol),
-        Piece::Address => {
+    match row {
+        Row::Run(count, symbol) => push_run(cells, count, symbol),
+        Row::Address => {
             let address = [track.cylinder, track.head, sector, SIZE_CODE];
             push_field(cells, ID_BYTE, &address)
         }
-        Piece::Content => push_field(cells, DATA_BYTE, bytes),
+        Row::Content => push_field(cells, DATA_BYTE, bytes),
+        Row::SectorGap => push_run(cells, disk.sector_gap, GAP),
+        Row::TrackGap => push_run(cells, disk.track_gap, GAP),
     }
 }
 
-/// Appends what stands behind three marks: a first byte, other bytes, and the check value.
+/// Appends what stands after three marks: a first byte, other bytes, and the check value.
 fn push_field(cells: &mut Cells, first: u8, bytes: &[u8]) -> Result<(), Memory>
     ensures { AppendsSymbols cells.old cells.new (field first bytes.now) result }
 {
@@ -63,7 +51,7 @@ fn push_number(cells: &mut Cells, number: u16) -> Result<(), Memory>
     push_bytes(cells, &[(number / 256) as u8, (number % 256) as u8])
 }
 
-/// The check value of a field behind three marks: of the marks' bytes, its first byte and its other bytes.
+/// The check value of a field after three marks: of the marks' bytes, its first byte and its other bytes.
 pub(crate) fn field_check(first: u8, bytes: &[u8]) -> u16
     ensures { result ≡ check_of first bytes.now }
 {
