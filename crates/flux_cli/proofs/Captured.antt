@@ -12,11 +12,12 @@ use Rattle.captured_disks.specs.Inputs.{IsErasedDisk}
 use Rattle.flux_engine.specs.Disks.{Decoded, IsDecoded, Stop}
 use Rattle.flux_cli.specs.Captured.{Decodes, RunsCaptured, RunsErased, Wrote, WroteOrCut}
 use Rattle.flux_cli.specs.Commands.{AskFor, words_of}
-use Rattle.flux_cli.specs.DisksWork.{decode_work, refusal_of, status_of}
+use Rattle.flux_cli.specs.DisksWork.{disk_work, refusal_of, status_of}
 use Rattle.flux_cli.specs.Runs.{Finished, Outside, Ran, Says, growth}
 use Rattle.flux_cli.specs.Work.{Got, Outcome}
 use Rattle.flux_cli.specs.declared.command.Command.{Command}
 use Rattle.flux_cli.specs.declared.command.Command.TheVariants.{Decode}
+use Rattle.flux_cli.specs.declared.command.Output.TheVariants.{ImageAndReport}
 use Rattle.flux_cli.proofs.Outcomes.{one_command}
 
 asked_is : WordsNameFormats → (words : List (List ℕ)) (command : Command) (asked : Option Command) → words ≡ words_of command → AskFor words asked → asked ≡ Some command
@@ -39,7 +40,7 @@ module _ {S W N : Type 0} (words : List (List ℕ)) (before after : Outside S W 
     image_got : Got (growth before.image after.image) decoded.image
     notes_got : Got (growth before.notes after.notes) (decoded.notes ++ refusal_of decoded.stop)
 
-  came : (status : Status) → Finished (decode_work format) status before after → Came status
+  came : (status : Status) → Finished (disk_work ImageAndReport format) status before after → Came status
   came status done =
       let d = done.gives in
       let whole : x ≡ done.taken ++ done.later = (done.input x decodes.input).0 in

@@ -1,14 +1,16 @@
 -- What `write` does by what the writing of the disk says.
-use Rattle.std.proofs.Common.{◌≡◌, ◌≢◌, ◌≤◌, ℕ, Bool, if◌then◌else◌, inl, inr, List, [], ◌++◌, length, drop, take, min, Option, Ok, Err, refl, sym, ap, ◌∙◌, subst, arith, append-nil, length-append, eq-eqb}
+use Rattle.std.proofs.Common.{◌≡◌, ◌≢◌, ◌<◌, ◌≤◌, ℕ, Bool, if◌then◌else◌, inl, inr, List, [], ◌++◌, length, drop, take, min, Option, Ok, Err, refl, sym, ap, ◌∙◌, subst, arith, append-nil, length-append, eq-eqb}
 use Rattle.std.proofs.KnownBytes.{Appends-nil, Keeps-refl}
 use Rattle.std.proofs.lemmas.Bool.{cases_lt, ne_eqb}
 use Rattle.std.proofs.lemmas.List.{drop_all}
 use Rattle.std.proofs.Math.Seq.{drop-append_seam}
 use Rattle.std.specs.Io.KnownBytes.{Appends, IsAtEnd, Keeps}
 use Rattle.flux_base.specs.declared.status.Status.TheVariants.{AllGood, Refused, ReadFault as ReadFaultStatus, ImageFault as ImageFaultStatus, NotesFault}
+use Rattle.flux_engine.specs.Needed.{ReadsUpTo, ReadsWhereOpen}
 use Rattle.flux_engine.specs.Rings.{streams_of}
 use Rattle.flux_engine.specs.Writes.{IsNoImage, IsWholeImage, WritesDisk, most_read}
 use Rattle.flux_engine.specs.declared.write_fault.WriteFault.TheVariants.{ReadFault, ImageFault, WrongSize}
+use Rattle.kryo_stream.specs.Reads.{SourceMoment}
 use Rattle.sector_images.specs.Formats.{row}
 use Rattle.sector_images.specs.declared.format.Format.{Format}
 use Rattle.sector_report.specs.Lines.{image_text}
@@ -63,6 +65,11 @@ wrong format taken later left' wrongly ended =
             left = sym (ap (λ n. drop n (taken ++ later)) (sym all) ∙ drop-append_seam taken later);
           }
     ]
+
+-- the reads of an image
+pub write-reads : (format : Format) {old new : SourceMoment} → ReadsUpTo (most_read format) old new → ReadsWhereOpen (λ x. length x < most_read format) old new
+unfolding ReadsUpTo
+write-reads format reads = reads
 
 module _ {S W N : Type 0} (format : Format) (before after : Outside S W N) where
   -- an image, and no more

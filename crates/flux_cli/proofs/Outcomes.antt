@@ -3,11 +3,12 @@ use Rattle.std.proofs.Common.{◌≡◌, ℕ, List, [], ◌∷◌, arith, Option
 use Rattle.flux_engine.specs.Laws.{OneOutcome}
 use Rattle.sector_images.specs.Formats.{WordsNameFormats}
 use Rattle.flux_cli.specs.Commands.{AskFor, words_of}
-use Rattle.flux_cli.specs.DisksWork.{decode_outcome, report_outcome}
+use Rattle.flux_cli.specs.DisksWork.{disk_outcome}
 use Rattle.flux_cli.specs.Work.{Outcome}
 use Rattle.flux_cli.specs.Works.{IsOutcome, work_of}
 use Rattle.flux_cli.specs.declared.command.Command.{Command}
 use Rattle.flux_cli.specs.declared.command.Command.TheVariants.{Turns, Decode, Report, Write}
+use Rattle.flux_cli.specs.declared.command.Output.TheVariants.{ImageAndReport, ReportAlone}
 
 -- the first letter of the first word
 abbrev letter : List (List ℕ) → ℕ
@@ -59,9 +60,9 @@ module _ (names : WordsNameFormats) (one : OneOutcome) where
   one_of None x a b first second = first ∙ sym second
   one_of (Some Turns) x a b first second = first ∙ sym second
   one_of (Some (Decode format)) x a b first second =
-      first.2 ∙ ap decode_outcome (one format x first.0 second.0 first.1 second.1) ∙ sym second.2
+      first.2 ∙ ap (disk_outcome ImageAndReport) (one format x first.0 second.0 first.1 second.1) ∙ sym second.2
   one_of (Some (Report format)) x a b first second =
-      first.2 ∙ ap report_outcome (one format x first.0 second.0 first.1 second.1) ∙ sym second.2
+      first.2 ∙ ap (disk_outcome ReportAlone) (one format x first.0 second.0 first.1 second.1) ∙ sym second.2
   one_of (Some (Write format)) x a b first second = first ∙ sym second
 
   pub one_outcome : (words : List (List ℕ)) (x : List ℕ) (a b : Outcome) → IsOutcome words x a → IsOutcome words x b → a ≡ b

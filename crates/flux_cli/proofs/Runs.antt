@@ -1,12 +1,30 @@
 -- What a run does that reads nothing.
-use Rattle.std.proofs.Common.{[], refl}
+use Rattle.std.proofs.Common.{ℕ, List, [], Option, None, Some, refl, sym, arith, append-nil}
+use Rattle.std.proofs.KnownBytes.{Consumes-nil}
 use Rattle.std.specs.Io.KnownBytes.{Consumes}
+use Rattle.flux_base.specs.Outside.{Gives}
 use Rattle.flux_base.specs.declared.status.Status.TheVariants.{Usage, NotesFault}
+use Rattle.flux_engine.specs.Needed.{ReadsWhereOpen}
+use Rattle.kryo_stream.specs.Reads.{SourceMoment}
 use Rattle.sector_report.specs.Lines.{usage_text}
 use Rattle.flux_cli.specs.Runs.{Finished, IsCut, Outside, growth}
 use Rattle.flux_cli.specs.Work.{Got, GotNothing, GotPart}
 use Rattle.flux_cli.specs.Works.{usage_work}
 use Rattle.flux_cli.proofs.Inputs.{rest}
+
+Gives-nil : (given : Option (List (List ℕ))) → Gives given given []
+Gives-nil None = tt
+Gives-nil (Some pieces) = sym (append-nil pieces)
+
+-- a source that was not read
+pub not_read : (IsOpen : List ℕ → Type 0) (m : SourceMoment) → ReadsWhereOpen IsOpen m m
+not_read IsOpen m = record {
+  pieces = [];
+  gave = Gives-nil m.given;
+  consumed = Consumes-nil m.left;
+  needed = λ k below. absurd (omega (arith, below));
+  still = λ _. refl;
+}
 
 module _ {S W N : Type 0} (before after : Outside S W N) (unread : Consumes before.source.bytes after.source.bytes []) where
   -- the usage

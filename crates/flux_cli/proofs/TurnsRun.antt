@@ -2,12 +2,14 @@
 use Rattle.std.proofs.Common.{◌≡◌, ℕ, ◌+◌, ◌≤◌, false, List, [], ◌++◌, length, drop, take, Some, None, Ok, Err, refl, sym, ap, ◌∙◌, subst, arith, length-append}
 use Rattle.flux_base.specs.declared.status.Status.TheVariants.{AllGood, Refused as RefusedStatus, ReadFault as ReadFaultStatus, ImageFault, NotesFault}
 use Rattle.flux_engine.specs.Answers.{IsTakenBehind}
+use Rattle.flux_engine.specs.Needed.{ReadsWhereOpen}
 use Rattle.flux_engine.specs.Streams.{behind}
 use Rattle.index_turns.specs.Track.{TrackState}
 use Rattle.kryo_stream.specs.declared.fault.StreamFault.{StreamFault}
 use Rattle.kryo_stream.specs.declared.fault.TrackFault.TheVariants.{ReadFault, Refused}
 use Rattle.kryo_stream.specs.Stream.{first_fault, times, indexes, stream_length}
-use Rattle.kryo_stream.specs.Outcome.{IsRead, IsStream}
+use Rattle.kryo_stream.specs.Outcome.{DoNotTell, IsRead, IsReadWhereNeeded, IsStream}
+use Rattle.kryo_stream.specs.Reads.{SourceMoment}
 use Rattle.sector_report.specs.Lines.{refused_text}
 use Rattle.flux_cli.specs.Runs.{Outside, Finished, IsCut, growth}
 use Rattle.flux_cli.specs.Turns.{turns_text}
@@ -42,6 +44,10 @@ takes-few taken later few =
 lines-of : (x : List ℕ) (flux : TrackState) (stays : List ℕ) → IsStream x flux stays → turns_text flux.times flux.indexes ≡ turns_text (times x) (indexes x)
 lines-of x flux stays stream =
     ap (λ ts. turns_text ts flux.indexes) stream.times ∙ ap (turns_text (times x)) stream.indexes
+
+-- the reads of one stream
+pub turns-reads : {old new : SourceMoment} → IsReadWhereNeeded old new false [] → ReadsWhereOpen (DoNotTell false) old new
+turns-reads reads = record { pieces = reads.pieces; gave = reads.gave; consumed = reads.consumed; needed = reads.needed; still = reads.still }
 
 module _ {S W N : Type 0} (before after : Outside S W N) (held' : List ℕ) (flux : TrackState) where
   -- all lines of a stream without a fault

@@ -1,8 +1,11 @@
 -- The words of the command line, without the program's name.
 use Rattle.std.specs.Prelude.{◌≡◌, ℕ, List, [], ◌∷◌, codes, Option, Some, None}
 use Rattle.sector_images.specs.Formats.{row}
+use Rattle.sector_images.specs.declared.format.Format.{Format}
 use Rattle.flux_cli.specs.declared.command.Command.{Command}
 use Rattle.flux_cli.specs.declared.command.Command.TheVariants.{Turns, Decode, Report, Write}
+use Rattle.flux_cli.specs.declared.command.Output.{Output}
+use Rattle.flux_cli.specs.declared.command.Output.TheVariants.{ImageAndReport, ReportAlone}
 
 -- the words that ask for a command
 abbrev pub words_of : Command → List (List ℕ)
@@ -15,3 +18,8 @@ words_of (Write format) = codes "write" ∷ (row format).word ∷ []
 abbrev pub AskFor : List (List ℕ) → Option Command → Type 0
 AskFor words (Some command) = words ≡ words_of command
 AskFor words None = (command : Command) → ¬ (words ≡ words_of command)
+
+-- the command over a disk's streams that has this output
+abbrev pub command_for : Output → Format → Command
+command_for ImageAndReport format = Decode format
+command_for ReportAlone format = Report format

@@ -2,15 +2,18 @@
 use Rattle.std.specs.Prelude.{◌≡◌, ◌==◌, ℕ, ◌⊎◌, ◌++◌, List, [], length, Option, Some, None, if◌then◌else◌}
 use Rattle.flux_base.specs.declared.status.Status.{Status}
 use Rattle.flux_base.specs.declared.status.Status.TheVariants.{AllGood, NotAllGood, Refused, ReadFault, ImageFault, NotesFault}
-use Rattle.flux_engine.specs.Answers.{IsTakenBehind, AppendsAndPart, WroteAll, StoppedInImage, StoppedInLines, StoppedInTotal}
+use Rattle.flux_engine.specs.Answers.{IsTakenBehind, AppendsAndPart, StoppedInImage, StoppedInLines, StoppedInTotal}
 use Rattle.flux_engine.specs.Disks.{Decoded, IsDecoded, Stop, stop_of}
+use Rattle.flux_engine.specs.Needed.{EndsInStreams}
 use Rattle.kryo_stream.specs.declared.fault.StreamFault.TheVariants.{Truncated}
 use Rattle.sector_images.specs.Places.{tracks}
 use Rattle.sector_images.specs.declared.format.Format.{Format}
 use Rattle.sector_report.specs.Lines.{refused_text}
 use Rattle.sector_report.specs.declared.totals.Totals.{Totals}
 use Rattle.flux_cli.specs.TurnsWork.{MOST_AT_ONCE}
-use Rattle.flux_cli.specs.Work.{Outcome, Growth, Got, GotNothing, GotPart, Work}
+use Rattle.flux_cli.specs.Work.{Outcome, Growth, Got, GotNothing, Work}
+use Rattle.flux_cli.specs.declared.command.Output.{Output}
+use Rattle.flux_cli.specs.declared.command.Output.TheVariants.{ImageAndReport, ReportAlone}
 
 -- whether every sector is good
 abbrev pub status_of : Totals → Option Stop → Status
@@ -22,13 +25,22 @@ abbrev pub refusal_of : Option Stop → List ℕ
 refusal_of None = []
 refusal_of (Some stop) = refused_text stop.track stop.block stop.fault
 
--- the image, and in the notes the report and after it the refusal
-abbrev pub decode_outcome : Decoded → Outcome
-decode_outcome d = record { status = status_of d.totals d.stop; image = d.image; notes = d.notes ++ refusal_of d.stop }
+-- what of a decoded disk goes to the sink of the image: the image, or the report in its place
+abbrev pub to_image : Output → Decoded → List ℕ
+to_image ImageAndReport d = d.image
+to_image ReportAlone d = d.notes
 
--- the report in place of the image, and the refusal in the notes
-abbrev pub report_outcome : Decoded → Outcome
-report_outcome d = record { status = status_of d.totals d.stop; image = d.notes; notes = refusal_of d.stop }
+-- what of it goes to the sink of the notes, where the refusal stands after it
+abbrev pub to_notes : Output → Decoded → List ℕ
+to_notes ImageAndReport d = d.notes
+to_notes ReportAlone d = []
+
+abbrev pub disk_outcome : Output → Decoded → Outcome
+disk_outcome output d = record {
+  status = status_of d.totals d.stop;
+  image = to_image output d;
+  notes = to_notes output d ++ refusal_of d.stop;
+}
 
 -- the wanted streams are taken to their End, and a little behind the last
 abbrev pub disk_leaves : Format → Status → (x later : List ℕ) → Type 0
@@ -38,32 +50,28 @@ disk_leaves format Refused x later =
     (stop : Stop) × (stop_of format x ≡ Some stop) × IsTakenBehind x later stop.track MOST_AT_ONCE
 disk_leaves format _ x later = ⊥
 
+-- both sinks got all of a decoded disk but the refusal
+pub record GotAll (output : Output) (d : Decoded) (image notes : Growth) : Type 0 where
+  pub image_got : Got image (to_image output d)
+  pub notes_got : Got notes (to_notes output d)
+
 -- the source failed inside a stream: all was written that the bytes taken come to, and they end inside a block
-pub record CutInReading (format : Format) (taken : List ℕ) (image notes : Growth) : Type 0 where
+pub record CutInReading (output : Output) (format : Format) (taken : List ℕ) (image notes : Growth) : Type 0 where
   pub decoded : Decoded
-  pub wrote : WroteAll format taken image.before image.after notes.before notes.after decoded
+  pub is : IsDecoded format taken decoded
+  pub got : GotAll output decoded image notes
   pub stop : Stop
   pub stops : decoded.stop ≡ Some stop
   pub cut_short : stop.fault ≡ Truncated
 
 -- all was written of a refused disk but the line that says why: of it a part that is shorter than it
-pub record CutInRefusal (format : Format) (x later : List ℕ) (image notes : Growth) : Type 0 where
+pub record CutInRefusal (output : Output) (format : Format) (x later : List ℕ) (image notes : Growth) : Type 0 where
   pub decoded : Decoded
   pub is : IsDecoded format x decoded
   pub stop : Stop
   pub stops : decoded.stop ≡ Some stop
-  pub image_got : Got image decoded.image
-  pub notes_got : AppendsAndPart notes.before notes.after decoded.notes (refused_text stop.track stop.block stop.fault)
-  pub taken : IsTakenBehind x later stop.track MOST_AT_ONCE
-
--- the report of a refused disk was written, and a part of the line that says why, which is shorter than it
-pub record CutAfterReport (format : Format) (x later : List ℕ) (report notes : Growth) : Type 0 where
-  pub decoded : Decoded
-  pub is : IsDecoded format x decoded
-  pub stop : Stop
-  pub stops : decoded.stop ≡ Some stop
-  pub report_got : Got report decoded.notes
-  pub notes_got : GotPart notes (refused_text stop.track stop.block stop.fault)
+  pub image_got : Got image (to_image output decoded)
+  pub notes_got : AppendsAndPart notes.before notes.after (to_notes output decoded) (refused_text stop.track stop.block stop.fault)
   pub taken : IsTakenBehind x later stop.track MOST_AT_ONCE
 
 -- a sink cut the report: in a track's lines, or in the total line
@@ -72,34 +80,32 @@ CutInReport format x later image notes =
     StoppedInLines format x later image.before image.after notes.before notes.after
     ⊎ StoppedInTotal format x later image.before image.after notes.before notes.after
 
-abbrev pub decode_cut : Format → Status → (taken later : List ℕ) → (image notes : Growth) → Type 0
-decode_cut format ReadFault taken later image notes = CutInReading format taken image notes
-decode_cut format ImageFault taken later image notes =
-    StoppedInImage format (taken ++ later) later image.before image.after notes.before notes.after
-decode_cut format NotesFault taken later image notes =
-    CutInReport format (taken ++ later) later image notes ⊎ CutInRefusal format (taken ++ later) later image notes
-decode_cut format _ taken later image notes = ⊥
-
--- the image of `report` goes nowhere
+-- where the report stands alone, the image goes nowhere
 abbrev pub nowhere : Growth
 nowhere = record { before = None; after = None }
 
-abbrev pub report_cut : Format → Status → (taken later : List ℕ) → (image notes : Growth) → Type 0
-report_cut format ReadFault taken later image notes = CutInReading format taken nowhere image × GotNothing notes
-report_cut format ImageFault taken later image notes = CutInReport format (taken ++ later) later nowhere image × GotNothing notes
-report_cut format NotesFault taken later image notes = CutAfterReport format (taken ++ later) later image notes
-report_cut format _ taken later image notes = ⊥
+-- the sink of the image cut what it was to get
+abbrev pub CutByImage : Output → Format → (x later : List ℕ) → (image notes : Growth) → Type 0
+CutByImage ImageAndReport format x later image notes = StoppedInImage format x later image.before image.after notes.before notes.after
+CutByImage ReportAlone format x later image notes = CutInReport format x later nowhere image × GotNothing notes
 
-abbrev pub decode_work : Format → Work
-decode_work format = record {
-  gives = λ x o. (d : Decoded) × IsDecoded format x d × (o ≡ decode_outcome d);
-  leaves = disk_leaves format;
-  cut = decode_cut format;
-}
+-- the sink of the notes cut the report, if that goes there
+abbrev pub CutByNotes : Output → Format → (x later : List ℕ) → (image notes : Growth) → Type 0
+CutByNotes ImageAndReport format x later image notes = CutInReport format x later image notes
+CutByNotes ReportAlone format x later image notes = ⊥
 
-abbrev pub report_work : Format → Work
-report_work format = record {
-  gives = λ x o. (d : Decoded) × IsDecoded format x d × (o ≡ report_outcome d);
+abbrev pub disk_cut : Output → Format → Status → (taken later : List ℕ) → (image notes : Growth) → Type 0
+disk_cut output format ReadFault taken later image notes = CutInReading output format taken image notes
+disk_cut output format ImageFault taken later image notes = CutByImage output format (taken ++ later) later image notes
+disk_cut output format NotesFault taken later image notes =
+    CutByNotes output format (taken ++ later) later image notes ⊎ CutInRefusal output format (taken ++ later) later image notes
+disk_cut output format _ taken later image notes = ⊥
+
+-- the work of `decode`, whose output is the image with the report, and of `report`, whose output is the report alone
+abbrev pub disk_work : Output → Format → Work
+disk_work output format = record {
+  gives = λ x o. (d : Decoded) × IsDecoded format x d × (o ≡ disk_outcome output d);
+  untold = EndsInStreams format;
   leaves = disk_leaves format;
-  cut = report_cut format;
+  cut = disk_cut output format;
 }

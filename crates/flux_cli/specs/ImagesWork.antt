@@ -1,5 +1,5 @@
 -- The work of `write`.
-use Rattle.std.specs.Prelude.{◌≡◌, ◌==◌, ◌≤◌, ℕ, ◌++◌, List, [], length, drop, min, if◌then◌else◌}
+use Rattle.std.specs.Prelude.{◌≡◌, ◌==◌, ◌<◌, ◌≤◌, ℕ, ◌++◌, List, [], length, drop, min, if◌then◌else◌}
 use Rattle.flux_base.specs.declared.status.Status.{Status}
 use Rattle.flux_base.specs.declared.status.Status.TheVariants.{AllGood, Refused, ReadFault, ImageFault, NotesFault}
 use Rattle.flux_engine.specs.Rings.{streams_of}
@@ -35,5 +35,11 @@ write_cut format NotesFault taken later image notes =
     GivesFront (write_outcome format (taken ++ later)) image notes × (later ≡ drop (most_read format) (taken ++ later))
 write_cut format _ taken later image notes = ⊥
 
+-- after no more bytes than an image has, more may follow
 abbrev pub write_work : Format → Work
-write_work format = record { gives = λ x o. o ≡ write_outcome format x; leaves = write_leaves format; cut = write_cut format }
+write_work format = record {
+  gives = λ x o. o ≡ write_outcome format x;
+  untold = λ x. length x < most_read format;
+  leaves = write_leaves format;
+  cut = write_cut format;
+}

@@ -6,4 +6,5 @@ pub mod DisksWork
 pub mod ImagesWork
 pub mod Works
 pub mod Runs
+pub mod DisksRuns
 pub mod Captured

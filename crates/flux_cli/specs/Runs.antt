@@ -5,19 +5,22 @@ use Rattle.flux_base.specs.Moments.{Moment}
 use Rattle.flux_base.specs.Outside.{Rose}
 use Rattle.flux_base.specs.declared.status.Status.{Status}
 use Rattle.flux_base.specs.declared.status.Status.TheVariants.{AllGood, NotAllGood, Refused, Usage, ReadFault, ImageFault, NotesFault, Memory}
+use Rattle.flux_engine.specs.Needed.{ReadsWhereOpen}
+use Rattle.kryo_stream.specs.Reads.{SourceMoment}
 use Rattle.flux_cli.specs.Commands.{AskFor}
 use Rattle.flux_cli.specs.Work.{Outcome, Growth, Got, Work}
 use Rattle.flux_cli.specs.Works.{work_of}
 use Rattle.flux_cli.specs.declared.command.Command.{Command}
 
--- the outside at a moment
+-- the outside at a moment: the source, with what each of its reads so far gave, if it tells that, and both sinks
 pub record Outside (S W N : Type 0) : Type 0 where
   pub source : Moment S
+  pub given : Option (List (List ℕ))
   pub image : Moment W
   pub notes : Moment N
 
-abbrev pub outside : {S W N : Type 0} → Moment S → Moment W → Moment N → Outside S W N
-outside source image notes = record { source = source; image = image; notes = notes }
+abbrev pub outside : {S W N : Type 0} → Moment S → Option (List (List ℕ)) → Moment W → Moment N → Outside S W N
+outside source given image notes = record { source = source; given = given; image = image; notes = notes }
 
 abbrev pub growth : {A : Type 0} → Moment A → Moment A → Growth
 growth before after = record { before = before.bytes; after = after.bytes }
@@ -70,11 +73,21 @@ IsAnswer None _ = ⊥
 IsAnswer (Some command) Usage = ⊥
 IsAnswer (Some command) _ = Unit {0}
 
+abbrev pub reads_of : {S W N : Type 0} → Outside S W N → SourceMoment
+reads_of now = record { left = now.source.bytes; given = now.given; faults = now.source.faults }
+
+-- A source that tells its bytes was read only where those that it had given did not tell what there is to do. Where they told it,
+-- nothing was taken; and without a read its count of faults stayed.
+abbrev pub WasReadWhereNeeded : {S W N : Type 0} → Work → (before after : Outside S W N) → Type 0
+WasReadWhereNeeded work before after =
+    (x : List ℕ) → before.source.bytes ≡ Some x → ReadsWhereOpen work.untold (reads_of before) (reads_of after)
+
 -- what was done that was asked
 pub record Does {S W N : Type 0} (asked : Option Command) (status : Status) (before after : Outside S W N) : Type 0 where
   pub answer : IsAnswer asked status
   pub says : Says asked status before after
   pub counts : NoCountFell before after
+  pub needed : WasReadWhereNeeded (work_of asked) before after
 
 -- what a run with these words did
 pub record Ran {S W N : Type 0} (words : List (List ℕ)) (status : Status) (before after : Outside S W N) : Type 0 where

@@ -1,8 +1,9 @@
 -- The work of `turns`.
-use Rattle.std.specs.Prelude.{◌≡◌, ℕ, ◌++◌, List, [], Option, Some, None}
+use Rattle.std.specs.Prelude.{◌≡◌, ℕ, false, ◌++◌, List, [], Option, Some, None}
 use Rattle.flux_base.specs.declared.status.Status.{Status}
 use Rattle.flux_base.specs.declared.status.Status.TheVariants.{AllGood, Refused, ReadFault, ImageFault, NotesFault}
 use Rattle.flux_engine.specs.Answers.{IsTakenBehind}
+use Rattle.kryo_stream.specs.Outcome.{DoNotTell}
 use Rattle.kryo_stream.specs.Stream.{first_fault, times, indexes}
 use Rattle.kryo_stream.specs.declared.fault.StreamFault.{StreamFault}
 use Rattle.kryo_stream.specs.declared.fault.StreamFault.TheVariants.{Truncated}
@@ -41,5 +42,6 @@ turns_cut ImageFault taken later image notes = GivesFront (turns_outcome (taken 
 turns_cut NotesFault taken later image notes = GivesFront (turns_outcome (taken ++ later)) image notes × IsTakenBehind (taken ++ later) later 0 MOST_AT_ONCE
 turns_cut _ taken later image notes = ⊥
 
+-- after bytes that end inside a block the stream may go on
 abbrev pub turns_work : Work
-turns_work = record { gives = λ x o. o ≡ turns_outcome x; leaves = turns_leaves; cut = turns_cut }
+turns_work = record { gives = λ x o. o ≡ turns_outcome x; untold = DoNotTell false; leaves = turns_leaves; cut = turns_cut }

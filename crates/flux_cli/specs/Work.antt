@@ -40,6 +40,8 @@ pub record GivesFront (o : Outcome) (image notes : Growth) : Type 0 where
 pub record Work : Type 1 where
   -- what the input x comes to
   pub gives : (x : List ℕ) → Outcome → Type 0
+  -- bytes x of the front of an input do not tell what it comes to: the source is read after such bytes alone
+  pub untold : (x : List ℕ) → Type 0
   -- what is left of the input x where all was given, by the status
   pub leaves : Status → (x later : List ℕ) → Type 0
   -- where a fault may cut the work, by the status, which says whose fault it is: what was taken of the input and what is left,

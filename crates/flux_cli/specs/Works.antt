@@ -4,12 +4,13 @@ use Rattle.flux_base.specs.declared.status.Status.{Status}
 use Rattle.flux_base.specs.declared.status.Status.TheVariants.{Usage, NotesFault}
 use Rattle.sector_report.specs.Lines.{usage_text}
 use Rattle.flux_cli.specs.Commands.{AskFor}
-use Rattle.flux_cli.specs.DisksWork.{decode_work, report_work}
+use Rattle.flux_cli.specs.DisksWork.{disk_work}
 use Rattle.flux_cli.specs.ImagesWork.{write_work}
 use Rattle.flux_cli.specs.TurnsWork.{turns_work}
 use Rattle.flux_cli.specs.Work.{Outcome, Growth, GotNothing, GotPart, Work}
 use Rattle.flux_cli.specs.declared.command.Command.{Command}
 use Rattle.flux_cli.specs.declared.command.Command.TheVariants.{Turns, Decode, Report, Write}
+use Rattle.flux_cli.specs.declared.command.Output.TheVariants.{ImageAndReport, ReportAlone}
 
 -- nothing is read, and the notes get the usage
 abbrev pub usage_leaves : Status → (x later : List ℕ) → Type 0
@@ -23,6 +24,7 @@ usage_cut _ taken later image notes = ⊥
 abbrev pub usage_work : Work
 usage_work = record {
   gives = λ x o. o ≡ record { status = Usage; image = []; notes = usage_text };
+  untold = λ x. ⊥;
   leaves = usage_leaves;
   cut = usage_cut;
 }
@@ -30,8 +32,8 @@ usage_work = record {
 abbrev pub work_of : Option Command → Work
 work_of None = usage_work
 work_of (Some Turns) = turns_work
-work_of (Some (Decode format)) = decode_work format
-work_of (Some (Report format)) = report_work format
+work_of (Some (Decode format)) = disk_work ImageAndReport format
+work_of (Some (Report format)) = disk_work ReportAlone format
 work_of (Some (Write format)) = write_work format
 
 -- this is the outcome of the words over the input

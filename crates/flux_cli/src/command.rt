@@ -18,6 +18,15 @@ pub enum Command {
     Write(Format),
 }
 
+/// What comes of the streams of a disk.
+#[derive(Clone, Copy, Debug, PartialEq, Eq)]
+pub enum Output {
+    /// The image, and the report in the notes.
+    ImageAndReport,
+    /// The report, in the image's place.
+    ReportAlone,
+}
+
 /// The command that the words are, if they are one.
 pub fn command_of(words: &[Word]) -> Option<Command>
     ensures { AskFor words.now result }

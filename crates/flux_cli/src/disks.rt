@@ -1,29 +1,33 @@
 ghost use Rattle.std.specs.Prelude.{◌≡◌, ◌≢◌, None, Some};
 ghost use Rattle.flux_base.specs.Moments.{moment};
 ghost use Rattle.flux_base.specs.declared.status.Status.{Status};
+ghost use Rattle.flux_cli.specs.Commands.{command_for};
+ghost use Rattle.flux_cli.specs.DisksRuns.{DecodesTo};
 ghost use Rattle.flux_cli.specs.DisksWork.{status_of};
 ghost use Rattle.flux_cli.specs.Runs.{Does, outside};
-ghost use Rattle.flux_cli.specs.declared.command.Command.TheVariants.{Decode, Report};
+ghost use Rattle.flux_cli.specs.declared.command.Output.TheVariants.{ReportAlone};
 ghost use Rattle.flux_engine.specs.Room.{fresh};
 
+use crate::command::Output;
 use flux_base::{CountingSink, Sink, Source, Status};
 use flux_engine::{DiskRoom, EngineFault, decode_disk};
 use sector_report::{Totals, refused_line, write_line};
 
-/// Decodes a disk: its image goes to `image`, and its report to `notes`.
+/// Decodes a disk, and gives its image with its report, or the report alone. Notes say why it is refused.
 pub fn decode<S: Source, W: Sink, N: Sink>(
     room: &mut DiskRoom,
+    output: Output,
     source: &mut S,
     image: &mut W,
     notes: &mut N,
 ) -> Status
     requires { room.old ≡ fresh room.old.format }
-    ensures does { Does (Some (Decode room.old.format)) result
-        (outside (moment S.left S.faults source.old) (moment W.written W.faults image.old) (moment N.written N.faults notes.old))
-        (outside (moment S.left S.faults source.new) (moment W.written W.faults image.new) (moment N.written N.faults notes.new)) }
+    ensures does { Does (Some (command_for output room.old.format)) result
+        (outside (moment S.left S.faults source.old) (S.given source.old) (moment W.written W.faults image.old) (moment N.written N.faults notes.old))
+        (outside (moment S.left S.faults source.new) (S.given source.new) (moment W.written W.faults image.new) (moment N.written N.faults notes.new)) }
     ensures memory { result ≢ Status.Memory }
 {
-    match decode_disk(room, source, image, notes) {
+    match decode_to(room, output, source, image, notes) {
         Ok(totals) => status_of(&totals),
         Err(EngineFault::ReadFault) => Status::ReadFault,
         Err(EngineFault::ImageFault) => Status::ImageFault,
@@ -41,34 +45,38 @@ pub fn decode<S: Source, W: Sink, N: Sink>(
     }
 }
 
-/// Decodes a disk, and gives its report in place of its image.
-pub fn report<S: Source, W: Sink, N: Sink>(
+/// Decodes a disk to where its output goes. A fault is named by the sink that had it.
+fn decode_to<S: Source, W: Sink, N: Sink>(
     room: &mut DiskRoom,
+    output: Output,
     source: &mut S,
     image: &mut W,
     notes: &mut N,
-) -> Status
+) -> Result<Totals, EngineFault>
     requires { room.old ≡ fresh room.old.format }
-    ensures does { Does (Some (Report room.old.format)) result
-        (outside (moment S.left S.faults source.old) (moment W.written W.faults image.old) (moment N.written N.faults notes.old))
-        (outside (moment S.left S.faults source.new) (moment W.written W.faults image.new) (moment N.written N.faults notes.new)) }
-    ensures memory { result ≢ Status.Memory }
+    ensures { DecodesTo output room.old.format
+        (outside (moment S.left S.faults source.old) (S.given source.old) (moment W.written W.faults image.old) (moment N.written N.faults notes.old))
+        (outside (moment S.left S.faults source.new) (S.given source.new) (moment W.written W.faults image.new) (moment N.written N.faults notes.new)) result }
 {
-    match decode_disk(room, source, &mut CountingSink::new(), image) {
-        Ok(totals) => status_of(&totals),
-        Err(EngineFault::ReadFault) => Status::ReadFault,
-        Err(EngineFault::NotesFault) => Status::ImageFault,
-        // The sink that counts never fails.
-        Err(EngineFault::ImageFault) => unreachable!(),
-        Err(
-            EngineFault::Refused {
+    match output {
+        Output::ImageAndReport => decode_disk(room, source, image, notes),
+        Output::ReportAlone => match decode_disk(room, source, &mut CountingSink::new(), image) {
+            Ok(totals) => Ok(totals),
+            Err(EngineFault::NotesFault) => Err(EngineFault::ImageFault),
+            // The sink that counts never fails.
+            Err(EngineFault::ImageFault) => unreachable!(),
+            Err(EngineFault::ReadFault) => Err(EngineFault::ReadFault),
+            Err(
+                EngineFault::Refused {
+                    track,
+                    block,
+                    fault,
+                },
+            ) => Err(EngineFault::Refused {
                 track,
                 block,
                 fault,
-            },
-        ) => match write_line(notes, &refused_line(track, block, &fault)) {
-            Ok(()) => Status::Refused,
-            Err(_) => Status::NotesFault,
+            }),
         },
     }
 }

@@ -6,8 +6,8 @@ ghost use Rattle.flux_cli.specs.Runs.{Does, Ran, outside};
 ghost use Rattle.flux_cli.specs.declared.command.Command.TheVariants.{Turns};
 ghost use Rattle.kryo_stream.specs.Room.{IsFresh};
 
-use crate::command::{Command, command_of};
-use crate::disks::{decode, report};
+use crate::command::{Command, Output, command_of};
+use crate::disks::decode;
 use crate::images::write;
 use crate::turns::write_turns;
 use captured_disks::captured_disks_decode;
@@ -28,22 +28,24 @@ pub fn run<S: Source, W: Sink, N: Sink>(
     notes: &mut N,
 ) -> Status
     // It finished, and gave all that the input comes to; or a counted fault of one object cut it at a place that the
-    // command's row states; or there was no memory to begin, and source, image and notes are as they were.
+    // command's row states; or there was no memory to begin, and source, image and notes are as they were. The source is
+    // read only where the bytes that it gave do not tell what there is to do, so that nothing is awaited on an open pipe
+    // that isn't needed.
     ensures ran { Ran words.now result
-        (outside (moment S.left S.faults source.old) (moment W.written W.faults image.old) (moment N.written N.faults notes.old))
-        (outside (moment S.left S.faults source.new) (moment W.written W.faults image.new) (moment N.written N.faults notes.new)) }
+        (outside (moment S.left S.faults source.old) (S.given source.old) (moment W.written W.faults image.old) (moment N.written N.faults notes.old))
+        (outside (moment S.left S.faults source.new) (S.given source.new) (moment W.written W.faults image.new) (moment N.written N.faults notes.new)) }
 
     // From any streams that carry an image's written tracks, disturbed within the bounds, `decode` writes exactly that
     // image, every sector good; or a counted fault cut it, or there was no memory to begin.
     ensures captured { RunsCaptured words.now result
-        (outside (moment S.left S.faults source.old) (moment W.written W.faults image.old) (moment N.written N.faults notes.old))
-        (outside (moment S.left S.faults source.new) (moment W.written W.faults image.new) (moment N.written N.faults notes.new)) }
+        (outside (moment S.left S.faults source.old) (S.given source.old) (moment W.written W.faults image.old) (moment N.written N.faults notes.old))
+        (outside (moment S.left S.faults source.new) (S.given source.new) (moment W.written W.faults image.new) (moment N.written N.faults notes.new)) }
 
     // Beside erased stretches it keeps each sector of which one place lies whole between them, and calls no sector
     // contradictory.
     ensures erased { RunsErased words.now result
-        (outside (moment S.left S.faults source.old) (moment W.written W.faults image.old) (moment N.written N.faults notes.old))
-        (outside (moment S.left S.faults source.new) (moment W.written W.faults image.new) (moment N.written N.faults notes.new)) }
+        (outside (moment S.left S.faults source.old) (S.given source.old) (moment W.written W.faults image.old) (moment N.written N.faults notes.old))
+        (outside (moment S.left S.faults source.new) (S.given source.new) (moment W.written W.faults image.new) (moment N.written N.faults notes.new)) }
 {
     words_name_formats();
     captured_disks_decode();
@@ -59,8 +61,8 @@ fn run_words<S: Source, W: Sink, N: Sink>(
     notes: &mut N,
 ) -> Status
     ensures { Ran words.now result
-        (outside (moment S.left S.faults source.old) (moment W.written W.faults image.old) (moment N.written N.faults notes.old))
-        (outside (moment S.left S.faults source.new) (moment W.written W.faults image.new) (moment N.written N.faults notes.new)) }
+        (outside (moment S.left S.faults source.old) (S.given source.old) (moment W.written W.faults image.old) (moment N.written N.faults notes.old))
+        (outside (moment S.left S.faults source.new) (S.given source.new) (moment W.written W.faults image.new) (moment N.written N.faults notes.new)) }
 {
     match command_of(words) {
         None => match write_whole(notes, usage_line().as_bytes()) {
@@ -72,11 +74,11 @@ fn run_words<S: Source, W: Sink, N: Sink>(
             Err(Memory) => Status::Memory,
         },
         Some(Command::Decode(format)) => match DiskRoom::reserve(alloc, format) {
-            Ok(mut room) => decode(&mut room, source, image, notes),
+            Ok(mut room) => decode(&mut room, Output::ImageAndReport, source, image, notes),
             Err(Memory) => Status::Memory,
         },
         Some(Command::Report(format)) => match DiskRoom::reserve(alloc, format) {
-            Ok(mut room) => report(&mut room, source, image, notes),
+            Ok(mut room) => decode(&mut room, Output::ReportAlone, source, image, notes),
             Err(Memory) => Status::Memory,
         },
         Some(Command::Write(format)) => match WriteRoom::reserve(alloc, format) {
@@ -95,8 +97,8 @@ fn turns<S: Source, W: Sink, N: Sink>(
 ) -> Status
     requires { IsFresh room.old }
     ensures does { Does (Some Turns) result
-        (outside (moment S.left S.faults source.old) (moment W.written W.faults image.old) (moment N.written N.faults notes.old))
-        (outside (moment S.left S.faults source.new) (moment W.written W.faults image.new) (moment N.written N.faults notes.new)) }
+        (outside (moment S.left S.faults source.old) (S.given source.old) (moment W.written W.faults image.old) (moment N.written N.faults notes.old))
+        (outside (moment S.left S.faults source.new) (S.given source.new) (moment W.written W.faults image.new) (moment N.written N.faults notes.new)) }
     ensures memory { result ≢ Status.Memory }
 {
     match room.read(source) {

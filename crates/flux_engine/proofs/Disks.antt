@@ -88,7 +88,7 @@ no-fault : (x : List ℕ) (n : ℕ) → first_fault (stream_at x n) ≡ None →
 no-fault x n is = ap (λ (o : Option (ℕ × StreamFault)). is_some o) is
 
 -- the stop is the first stream that has a fault
-stop_is : (format : Format) (x : List ℕ) (parts : List Part) (n block : ℕ) (fault : StreamFault) → length parts ≡ n → n < length (tracks format)
+pub stop_is : (format : Format) (x : List ℕ) (parts : List Part) (n block : ℕ) (fault : StreamFault) → length parts ≡ n → n < length (tracks format)
     → AreParts format x parts → first_fault (stream_at x n) ≡ Some (block, fault)
     → stop_of format x ≡ Some (record { track = n; block = block; fault = fault })
 unfolding stop_of

@@ -21,6 +21,7 @@ pub mod Captured
 pub mod CapturedCells
 pub mod RingLaws
 pub mod Filling
+pub mod Needed
 pub mod Growing
 pub mod VerdictBounds
 pub mod ReportLines

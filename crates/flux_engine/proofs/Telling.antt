@@ -12,11 +12,11 @@ pub record Rest (x : List ℕ) (left' : Option (List ℕ)) (taken : List ℕ) : 
   pub left : left' ≡ Some rest
   pub all : x ≡ taken ++ rest
 
-rest_of : (x taken : List ℕ) (left' : Option (List ℕ)) → Consumes (Some x) left' taken → Rest x left' taken
+pub rest_of : (x taken : List ℕ) (left' : Option (List ℕ)) → Consumes (Some x) left' taken → Rest x left' taken
 rest_of x taken None consumed = absurd consumed
 rest_of x taken (Some rest) consumed = record { rest = rest; left = refl; all = consumed }
 
-some_same : (a b : List ℕ) → Some a ≡ Some b → a ≡ b
+pub some_same : (a b : List ℕ) → Some a ≡ Some b → a ≡ b
 some_same a b same = cc
 
 at_end : (x taken : List ℕ) (left' : Option (List ℕ)) → IsAtEnd left' → (r : Rest x left' taken) → r.rest ≡ []

@@ -12,3 +12,4 @@ pub mod DiskLaws
 pub mod Rings
 pub mod Captures
 pub mod Writes
+pub mod Needed

@@ -1,8 +1,10 @@
 ghost use Rattle.std.specs.Prelude.{◌≡◌, ℕ, ◌+◌, ◌≤◌, ◌<◌, List, Some, length, OnErr, IfOk};
 ghost use Rattle.flux_engine.specs.Answers.{DecodesDisk, SaysOfInput, EngineCause, Stayed, IsWholeOrRefused};
+ghost use Rattle.flux_engine.specs.Needed.{EndsInStreams, ReadsWhereOpen};
 ghost use Rattle.flux_engine.specs.Reading.{HasDecoded};
 ghost use Rattle.flux_engine.specs.Room.{fresh};
 ghost use Rattle.flux_engine.specs.Writing.{IsSum, sum_of};
+ghost use Rattle.kryo_stream.specs.Reads.{source_at};
 ghost use Rattle.sector_images.specs.Places.{tracks};
 
 use crate::fault::EngineFault;
@@ -27,6 +29,10 @@ pub fn decode_disk<S: Source, W: Sink, N: Sink>(
     requires { room.old ≡ fresh room.old.format }
     ensures decoded { DecodesDisk room.old.format (S.left source.old) (S.left source.new) (W.written image.old) (W.written image.new) (N.written notes.old) (N.written notes.new) result }
     ensures told { (bytes : List ℕ) → S.left source.old ≡ Some bytes → SaysOfInput room.old.format bytes (S.left source.new) (W.written image.old) (W.written image.new) (N.written notes.old) (N.written notes.new) result }
+
+    // A source that tells its bytes is read only where those that it gave before end inside a stream.
+    ensures needed { (bytes : List ℕ) → S.left source.old ≡ Some bytes → ReadsWhereOpen (EndsInStreams room.old.format) (source_at S.left S.given S.faults source.old) (source_at S.left S.given S.faults source.new) }
+
     ensures cause { EngineCause (S.faults source.old) (S.faults source.new) (W.faults image.old) (W.faults image.new) (N.faults notes.old) (N.faults notes.new) result }
 
     // Over a source and sinks that do not fail there is no other answer.
@@ -54,6 +60,7 @@ fn decode_tracks<S: Source, W: Sink, N: Sink>(
 ) -> Result<Totals, EngineFault>
     requires { room.old ≡ fresh room.old.format }
     ensures ok { IfOk result (λ totals. HasDecoded room.old.format (S.left source.old) (S.left source.new) (W.written image.old) (W.written image.new) (N.written notes.old) (N.written notes.new) room.new (length (tracks room.old.format)) totals) }
+    ensures needed { (bytes : List ℕ) → S.left source.old ≡ Some bytes → ReadsWhereOpen (EndsInStreams room.old.format) (source_at S.left S.given S.faults source.old) (source_at S.left S.given S.faults source.new) }
     ensures err { OnErr result (DecodesDisk room.old.format (S.left source.old) (S.left source.new) (W.written image.old) (W.written image.new) (N.written notes.old) (N.written notes.new) result) }
     ensures cause { EngineCause (S.faults source.old) (S.faults source.new) (W.faults image.old) (W.faults image.new) (N.faults notes.old) (N.faults notes.new) result }
     ensures source_later { S.faults source.old ≤ S.faults source.new }

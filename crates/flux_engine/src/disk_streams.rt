@@ -4,10 +4,12 @@ ghost use Rattle.std.specs.Prelude.{◌≡◌, ℕ, ◌≤◌, ◌<◌, List, So
 ghost use Rattle.std.specs.Io.KnownBytes.{Appends, Consumes, IsAtEnd};
 ghost use Rattle.flux_base.specs.Outside.{Rose, AppendsPart};
 ghost use Rattle.cell_bits.specs.State.{room};
+ghost use Rattle.kryo_stream.specs.Reads.{source_at};
 ghost use Rattle.sector_images.specs.Formats.{row};
 ghost use Rattle.flux_engine.specs.Answers.{Stayed};
+ghost use Rattle.flux_engine.specs.Needed.{ReadsUpTo};
 ghost use Rattle.flux_engine.specs.Rings.{HasRoomForRings, streams_of};
-ghost use Rattle.flux_engine.specs.Writes.{IsWrittenOrWrongSize, SaysOfBytes, WriteCause, WritesDisk, TakesFewer};
+ghost use Rattle.flux_engine.specs.Writes.{IsWrittenOrWrongSize, SaysOfBytes, WriteCause, WritesDisk, TakesFewer, most_read};
 
 use crate::ring_making::track_ring;
 use crate::write_fault::WriteFault;
@@ -29,6 +31,10 @@ pub fn write_disk<S: Source, W: Sink>(
 ) -> Result<(), WriteFault>
     ensures wrote { WritesDisk room.old (S.left source.old) (S.left source.new) (W.written sink.old) (W.written sink.new) result }
     ensures told { (bytes : List ℕ) → S.left source.old ≡ Some bytes → SaysOfBytes room.old bytes (S.left source.new) (W.written sink.old) (W.written sink.new) result }
+
+    // The source is read only where no more bytes than an image has were given.
+    ensures needed { ReadsUpTo (most_read room.old) (source_at S.left S.given S.faults source.old) (source_at S.left S.given S.faults source.new) }
+
     ensures format { room.new ≡ room.old }
     ensures cause { WriteCause (S.faults source.old) (S.faults source.new) (W.faults sink.old) (W.faults sink.new) result }
 
@@ -63,6 +69,7 @@ fn fill<S: Source>(buffer: &mut [u8], source: &mut S) -> Result<usize, Failed>
     ensures ok { IfOk result (λ count. Consumes (S.left source.old) (S.left source.new) (take count buffer.new)) }
     ensures ended { IfOk result (λ count. count < length buffer.new → IsAtEnd (S.left source.new)) }
     ensures err { OnErr result (TakesFewer (S.left source.old) (S.left source.new) (length buffer.old)) }
+    ensures needed { ReadsUpTo (length buffer.old) (source_at S.left S.given S.faults source.old) (source_at S.left S.given S.faults source.new) }
     ensures later { S.faults source.old ≤ S.faults source.new }
     ensures cause { OnErr result (Rose (S.faults source.old) (S.faults source.new)) }
 {

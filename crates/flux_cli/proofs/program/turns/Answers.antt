@@ -1,6 +1,6 @@
 use Rattle.std.proofs.Common.{arith}
 use Rattle.std.proofs.KnownBytes.{Appends-nil, Keeps-refl}
-use Rattle.flux_cli.proofs.TurnsRun.{turns-finish, turns-refuse, turns-cut-read, turns-cut-image, turns-cut-notes}
+use Rattle.flux_cli.proofs.TurnsRun.{turns-finish, turns-refuse, turns-cut-read, turns-cut-image, turns-cut-notes, turns-reads}
 use Rattle.flux_cli.proofs.program.turns.Goals as goal
 
 pub returns-in-Ok-write_turns-clause-does : goal.returns-in-Ok-write_turns-clause-does
@@ -9,6 +9,7 @@ returns-in-Ok-write_turns-clause-does g c = record {
   says = turns-finish _ _ c.read.new.self.held c.read.new.self.flux c.in-Ok.field-0
       (rw (c.requires.held, c.requires.unused) at c.in-Ok.ensures.read) c.in-Ok.ensures.bound (rw c.flux.ensures at c.in-Ok-write_turns.ensures.ok) (Appends-nil _);
   counts = record { source = c.in-Ok.ensures.later; image = c.in-Ok-write_turns.ensures.later; notes = omega arith };
+  needed = λ x told. turns-reads (rw (c.requires.held, c.requires.unused) at c.in-Ok.ensures.needed);
 }
 
 pub returns-in-Err-clause-does : goal.returns-in-Err-clause-does
@@ -20,6 +21,7 @@ returns-in-Err-clause-does g c = record {
     c.in-Err.ensures.cause,
   );
   counts = record { source = c.in-Ok.ensures.later; image = c.in-Err.ensures.later; notes = omega arith };
+  needed = λ x told. turns-reads (rw (c.requires.held, c.requires.unused) at c.in-Ok.ensures.needed);
 }
 
 pub returns-in-Err-ReadFault-clause-does : goal.returns-in-Err-ReadFault-clause-does
@@ -31,6 +33,7 @@ returns-in-Err-ReadFault-clause-does g c = record {
     (rw c.in-Err-ReadFault.field-0-is at c.in-Err-ReadFault.ensures.cause),
   );
   counts = record { source = c.in-Err-ReadFault.ensures.later; image = omega arith; notes = omega arith };
+  needed = λ x told. turns-reads (rw (c.requires.held, c.requires.unused) at c.in-Err-ReadFault.ensures.needed);
 }
 
 pub returns-in-Ok-write_line-clause-does : goal.returns-in-Ok-write_line-clause-does
@@ -40,6 +43,7 @@ returns-in-Ok-write_line-clause-does g c = record {
       (rw (c.in-Err-Refused.field-0-is, c.requires.held, c.requires.unused) at c.in-Err-Refused.ensures.read) (Appends-nil _)
       (rw c.refused_line.ensures at c.in-Ok-write_line.ensures.ok);
   counts = record { source = c.in-Err-Refused.ensures.later; image = omega arith; notes = c.in-Ok-write_line.ensures.later };
+  needed = λ x told. turns-reads (rw (c.requires.held, c.requires.unused) at c.in-Err-Refused.ensures.needed);
 }
 
 pub returns-in-Err-write_line-clause-does : goal.returns-in-Err-write_line-clause-does
@@ -52,4 +56,5 @@ returns-in-Err-write_line-clause-does g c = record {
     c.in-Err-write_line.ensures.cause,
   );
   counts = record { source = c.in-Err-Refused.ensures.later; image = omega arith; notes = c.in-Err-write_line.ensures.later };
+  needed = λ x told. turns-reads (rw (c.requires.held, c.requires.unused) at c.in-Err-Refused.ensures.needed);
 }

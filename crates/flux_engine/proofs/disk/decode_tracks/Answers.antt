@@ -2,17 +2,21 @@ use Rattle.std.proofs.Common.{◌≡◌, ◌<◌, ◌+◌, length, Ok, Err, ap, 
 use Rattle.sector_images.specs.Places.{tracks}
 use Rattle.sector_images.specs.declared.format.Format.{Format}
 use Rattle.sector_report.specs.declared.totals.Totals.{Totals}
+use Rattle.kryo_stream.specs.Reads.{source_at}
 use Rattle.flux_engine.specs.Answers.{DecodesTrack}
+use Rattle.flux_engine.specs.Needed.{EndsInStreams}
 use Rattle.flux_engine.specs.Recordings.{track_at}
 use Rattle.flux_engine.specs.Room.{RoomState}
 use Rattle.flux_engine.proofs.Counting.{part_few, part_sum}
 use Rattle.flux_engine.proofs.RingLaws.{track_known}
 use Rattle.flux_engine.proofs.Disks.{decoded_start, decoded_more, decoded_fault}
+use Rattle.flux_engine.proofs.Needed.{no_reads, track_more}
 use Rattle.flux_engine.proofs.disk.decode_tracks.Goals as goal
 
 pub loop-number-init : goal.loop-number-init
 loop-number-init g c = record {
   decoded = decoded_start c.args.room.now.format _ _ _ c.args.room.now c.no_totals-totals.result c.requires c.no_totals-totals.ensures.value;
+  needed = λ bytes told. no_reads (EndsInStreams c.args.room.now.format) (source_at g.S.Source.left g.S.Source.given g.S.Source.faults c.args.source.now);
   sum = c.no_totals-totals.ensures.sum;
   few = (let none : c.no_totals-totals.result.sectors ≡ 0 = ap (λ (t : Totals). t.sectors) c.no_totals-totals.ensures.value in omega (arith, none));
   source_later = omega arith;
@@ -57,6 +61,18 @@ returns-in-Err-clause-err g c =
     decoded_fault c.args.room.now.format (g.S.Source.left c.args.source.now) mid left' (g.W.Sink.written c.args.image.now) imid image'
     (g.N.Sink.written c.args.notes.now) nmid notes' room held' n c.loop-number.totals h c.in-Err.fault low d
 
+pub returns-in-Err-clause-needed : goal.returns-in-Err-clause-needed
+returns-in-Err-clause-needed g c = λ bytes told.
+    let h = c.loop-number.invariant.decoded in
+    let n = c.loop-number.number in
+    let count : c.track_count-number-end.result ≡ length (tracks c.args.room.now.format) =
+    c.track_count-number-end.ensures ∙ ap (λ (r : RoomState). length (tracks r.format)) c.room.view_is in
+    let low : n < length (tracks c.args.room.now.format) = omega (arith, count) in
+    track_more c.args.room.now.format bytes (source_at g.S.Source.left g.S.Source.given g.S.Source.faults c.args.source.now)
+    (source_at g.S.Source.left g.S.Source.given g.S.Source.faults c.loop-number.source) (source_at g.S.Source.left g.S.Source.given g.S.Source.faults c.decode_track.new.source)
+    told (g.W.Sink.written c.args.image.now) (g.W.Sink.written c.loop-number.image) (g.N.Sink.written c.args.notes.now) (g.N.Sink.written c.loop-number.notes)
+    c.loop-number.room n c.loop-number.totals h low (c.loop-number.invariant.needed bytes told) c.in-Err.ensures.needed
+
 pub loop-number-preserved : goal.loop-number-preserved
 loop-number-preserved g c =
     let h = c.loop-number.invariant.decoded in
@@ -82,6 +98,12 @@ loop-number-preserved g c =
       decoded = decoded_more c.args.room.now.format (g.S.Source.left c.args.source.now) mid left' (g.W.Sink.written c.args.image.now) imid image'
           (g.N.Sink.written c.args.notes.now) nmid notes' room room'.held n c.loop-number.totals h room' c.in-Ok.more c.add.new.totals d
           c.in-Ok.ensures.format c.in-Ok.ensures.held c.in-Ok.ensures.used c.in-Ok.ensures.next c.in-Ok.ensures.sound c.add.ensures.value;
+      needed = λ bytes told.
+          let low : n < length (tracks c.args.room.now.format) = omega (arith, count) in
+          track_more c.args.room.now.format bytes (source_at g.S.Source.left g.S.Source.given g.S.Source.faults c.args.source.now)
+          (source_at g.S.Source.left g.S.Source.given g.S.Source.faults c.loop-number.source) (source_at g.S.Source.left g.S.Source.given g.S.Source.faults c.decode_track.new.source)
+          told (g.W.Sink.written c.args.image.now) (g.W.Sink.written c.loop-number.image) (g.N.Sink.written c.args.notes.now) (g.N.Sink.written c.loop-number.notes)
+          c.loop-number.room n c.loop-number.totals h low (c.loop-number.invariant.needed bytes told) c.in-Ok.ensures.needed;
       sum = c.add.ensures.sum;
       few = omega (arith, few, same, sum, c.loop-number.invariant.few);
       source_later = omega (arith, c.loop-number.invariant.source_later, c.in-Ok.ensures.source_later);

@@ -1,5 +1,7 @@
 use Rattle.std.proofs.Common.{◌≡◌, ◌≤◌, ◌-◌, length, take}
 use Rattle.std.specs.Io.KnownBytes.{Consumes}
+use Rattle.kryo_stream.specs.Reads.{source_at}
+use Rattle.flux_engine.proofs.Needed.{IsFilled}
 use Rattle.flux_engine.proofs.disk_streams.fill.Given as goal
 
 abbrev pub invariant-loop-filled : goal.invariant-loop-filled
@@ -7,6 +9,8 @@ invariant-loop-filled g l = record {
   within : l.filled ≤ length l.buffer;
   len : length l.buffer ≡ length l.initial.buffer;
   took : Consumes (g.S.Source.left l.initial.source) (g.S.Source.left l.source) (take l.filled l.buffer);
+  reads : IsFilled (length l.initial.buffer) (source_at g.S.Source.left g.S.Source.given g.S.Source.faults l.initial.source)
+      (source_at g.S.Source.left g.S.Source.given g.S.Source.faults l.source) l.filled;
   later : g.S.Source.faults l.initial.source ≤ g.S.Source.faults l.source;
 }
 
