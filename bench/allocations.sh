@@ -52,4 +52,15 @@ sweep disk 1 report ibm-3740
 sweep pc_disk 1 decode ibm-360
 sweep empty 2 write amiga
 sweep image 0 write apple-do
+
+# The commands that the program may have besides.
+has() {
+    "$program" "$@" < empty > out 2> notes
+    test $? != 3
+}
+head -c 174848 /dev/zero > commodore_image
+has trial apple-do 1 && sweep empty 0 trial apple-do 1
+has to-g64 c1541 && sweep commodore_image 0 to-g64 c1541
+has from-g64 c1541 && sweep empty 2 from-g64 c1541
+has decode-set apple-do 2 && sweep disk 1 decode-set apple-do 2
 exit $wrong

@@ -1,0 +1,131 @@
+#!/usr/bin/env python3
+"""Runs a program over generated cases, and compares its answers with the plain reading of the definitions in plain.py.
+
+The exit code and the bytes of standard output and standard error have to be the same. Cases are made from a seed and their number,
+so that each can be made again. The first input that differs is kept, with both answers.
+
+usage: bench/compare.py PROGRAM [--cases N] [--seed S] [--first I] [--processes P] [--keep FOLDER]
+"""
+import argparse
+import collections
+import multiprocessing
+import os
+import pathlib
+import random
+import subprocess
+import sys
+import tempfile
+import time
+
+import cases
+import plain
+
+
+def options():
+    parser = argparse.ArgumentParser()
+    parser.add_argument("program")
+    parser.add_argument("--cases", type=int, default=10000)
+    parser.add_argument("--seed", type=int, default=1)
+    parser.add_argument("--first", type=int, default=0, help="the number of the first case")
+    parser.add_argument("--processes", type=int, default=os.cpu_count())
+    parser.add_argument("--keep", default="differs")
+    return parser.parse_args()
+
+
+def run(program, words, data, by_file):
+    """The program's code and bytes, over a pipe or over a file."""
+    command = [os.path.abspath(program).encode(), *words]
+    if by_file:
+        with tempfile.TemporaryFile() as source:
+            source.write(data)
+            source.seek(0)
+            done = subprocess.run(command, stdin=source, capture_output=True)
+    else:
+        done = subprocess.run(command, input=data, capture_output=True)
+    return done.returncode, done.stdout, done.stderr
+
+
+# A right command over no input, for each word that a usage line may offer.
+PROBES = {b"decode": [b"ibm-3740"], b"report": [b"ibm-3740"], b"write": [b"ibm-3740"], b"trial": [b"apple-do", b"0"],
+          b"to-g64": [b"c1541"], b"from-g64": [b"c1541"], b"decode-set": [b"apple-do", b"2"]}
+
+
+def commands_of(program):
+    """The usage line, and the commands that it offers and that are built."""
+    code, out, usage = run(program, [], b"", False)
+    usage = usage.rstrip(b"\n")
+    if code != 3 or out or usage.decode() not in plain.USAGES:
+        sys.exit(f"no usage line of flux: {usage!r}")
+    offered = [word for word in PROBES if b"| " + word + b" " in usage]
+    return usage, {word for word in offered if run(program, [word, *PROBES[word]], b"", False)[0] != 3}
+
+
+def one(task):
+    """Runs a case: its kinds, the answer's kind, and what differs, or None."""
+    program, seed, number, usage, built = task
+    chance = random.Random(f"{seed} {number}")
+    name, words, data, kinds = cases.make(chance, built)
+    wanted = plain.outcome(words, data, built, usage)
+    got = run(program, words, data, number % 2 == 0)
+    return number, name, kinds, answer_of(words, wanted), (words, data, wanted, got) if wanted != got else None
+
+
+def answer_of(words, wanted):
+    """The code, and the fault's name or the verdicts that it has."""
+    code, out, notes = wanted
+    last = notes.splitlines()[-1:] or [b""]
+    found = [f"code {code}"]
+    if code == 2:
+        fault = last[0].decode().split()
+        found.append("refused: " + next((part for part in fault if part[0].isupper()), "image"))
+    lines = (notes if words and words[0] != b"report" else out).decode().splitlines()
+    return found + sorted({"verdict " + line.split()[2] for line in lines if line[2:3] == "." and len(line.split()) > 3})
+
+
+def keep(folder, number, words, data, wanted, got):
+    folder = pathlib.Path(folder)
+    folder.mkdir(parents=True, exist_ok=True)
+    (folder / "input").write_bytes(data)
+    (folder / "words").write_text(f"case {number}: {words}\n")
+    for name, (code, out, notes) in (("wanted", wanted), ("got", got)):
+        (folder / f"{name}.code").write_text(f"{code}\n")
+        (folder / f"{name}.out").write_bytes(out)
+        (folder / f"{name}.err").write_bytes(notes)
+
+
+def table(title, counter):
+    print(f"\n{title}")
+    for name, count in sorted(counter.items()):
+        print(f"  {count:7}  {name}")
+
+
+def main():
+    args = options()
+    usage, built = commands_of(args.program)
+    begin = time.time()
+    names, kinds, answers, slowest = (collections.Counter() for _ in range(4))
+    different = collections.Counter()
+    first = None
+    tasks = ((args.program, args.seed, number, usage, built) for number in range(args.first, args.first + args.cases))
+    with multiprocessing.Pool(args.processes) as pool:
+        for number, name, done, answer, differs in pool.imap_unordered(one, tasks):
+            names[name] += 1
+            kinds.update(done)
+            answers.update(answer)
+            if differs:
+                different[name] += 1
+                if first is None or len(differs[1]) < first:
+                    first = len(differs[1])
+                    keep(args.keep, number, *differs)
+                    print(f"case {number} differs, {first} bytes: kept in {args.keep}", flush=True)
+    table("cases, by kind", names)
+    table("ways of damage", kinds)
+    table("answers that were wanted", answers)
+    table("differences, by kind", different)
+    print(f"\ncommands {' '.join(sorted(word.decode() for word in built))} and turns; seed {args.seed}")
+    print(f"{args.cases} cases, {sum(different.values())} differences, {time.time() - begin:.0f} s")
+    return 1 if different else 0
+
+
+if __name__ == "__main__":
+    sys.exit(main())

@@ -1,0 +1,253 @@
+#!/usr/bin/env python3
+"""The worst inputs for time and memory, at 1 MiB and at 4 MiB, for each command that the program has. Needs time(1).
+
+usage: bench/hostile.py [PROGRAM [COMMAND..]]     (PROGRAM: crates/flux/out/flux; COMMAND: every one)
+
+A row has the processor time at both sizes, the least of some runs, their ratio, and the peak of resident memory. It fails where 4 MiB
+take more than 4.4 times what 1 MiB takes, or where the peak is not below 128 MiB. What `write` and `trial` do has one size for each
+format; there a disk of 80 cylinders is compared with one of 40, and may take 2.2 times as long.
+"""
+import os
+import random
+import struct
+import subprocess
+import sys
+import tempfile
+from pathlib import Path
+
+import plain_recordings as recordings
+from compare import commands_of
+from measure import peak_of
+from plain import FORMATS
+from plain_recordings import MfmList, fm, gcr, places_of, raw, word
+from plain_streams import index_block, places_of_ones, spelled_between
+
+TOP = Path(__file__).resolve().parent.parent
+SIZES = (1 << 20, 1 << 22)
+RUNS, MOST_RUNS = 3, 40
+PEAK = 128
+END = b"\r" * 4
+USED = ("ibm-3740", "ibm-1440", "amiga", "c1541", "apple-do")
+
+
+# Streams of so many bytes, whose first revolution has the format's length
+
+def around(form, size, unit, indexes=b""):
+    """A stream of so many bytes at most, in which a unit of in-stream bytes is repeated after the Index blocks."""
+    head = index_block(0, 0, 0) + index_block(0, form.ring_cells(0) * form.nominal(0) // 1024, 0) + indexes
+    return head + unit * ((size - len(head) - 4) // len(unit)) + END
+
+
+def cells_as_flux(form, cells):
+    """The flux blocks of cells that are repeated: each ends at a one, and the first interval begins at the last one before."""
+    turned = cells[cells.rindex("1") + 1 :] + cells[: cells.rindex("1") + 1]
+    times = [(place + 1) * form.nominal(0) // 1024 for place in places_of_ones(turned)]
+    return spelled_between(times, 0, len(times))
+
+
+def repeated(cells):
+    return lambda form, size: around(form, size, cells_as_flux(form, cells(form)))
+
+
+def header_of(form):
+    """The cells of the header of a sector of track 0."""
+    first = form.recording.first
+    if form.word == "ibm-3740":
+        return word(0xF57E) + fm(recordings.checked(b"\xfe", bytes([0, 0, first, 0])))
+    if form.word.startswith("ibm"):
+        return MfmList().mark(0x4489, 3).bytes(recordings.checked(b"\xa1" * 3, bytes([0xFE, 0, 0, first, 2]))).cells()
+    if form.word == "amiga":
+        out = MfmList()
+        form.recording.frame(out, bytes([0xFF, 0, 0, 11]), bytes(16), bytes(512), 0, 4)
+        return out.cells()[32:512]
+    if form.word.startswith("c1541"):
+        return "1" * 10 + gcr(bytes([8, first ^ 1 ^ 0xA2 ^ 0xA3, first, 1, 0xA3, 0xA2]))
+    return raw(b"\xd5\xaa\x96" + recordings.four_and_four(bytes([254, 0, first, 254 ^ first])))
+
+
+QUIET = {"ibm-3740": "11", "ibm-1440": "10", "amiga": "10", "c1541": "01", "apple-do": "1111111100"}
+
+
+def between(form, cells):
+    return (QUIET[form.word] * cells)[:cells]
+
+
+def headers(form):
+    """Headers one after another, each as near to the next as can be."""
+    return header_of(form) + between(form, 16)
+
+
+def headers_without_data(form):
+    """Headers so far from one another that each search for data goes over all of its 1024 cells."""
+    return header_of(form) + between(form, 1030)
+
+
+def sectors_of_another_check(form):
+    """A whole sector whose data have another check value."""
+    first = form.recording.first
+    cells = form.recording.ring(0, 0, [bytes(form.recording.size)] * form.recording.sectors(0), (0, 0))
+    places = list(places_of(cells, form.recording.sync))
+    start = places[0]
+    end = next(place for place in places[1:] if form.recording.header(cells, place, 0, 0))
+    assert form.recording.header(cells, start, 0, 0)[0] == first
+    turned = start + (end - start) // 2 + (start + (end - start) // 2 + 1) % 2
+    return cells[start:turned] + "10"[int(cells[turned])] + cells[turned + 1 : end]
+
+
+def syncs(form):
+    """The recording's sync word again and again, which is no header's begin."""
+    return word(0x4489) if "4489" in f"{int(form.recording.sync, 2):x}" else form.recording.sync
+
+
+def indexes_that_jump(form, size):
+    """Half of the bytes are Index blocks: their positions jump back and forth, and their sample counters make the times rise."""
+    count = (size - 40) // 17
+    blocks = b"".join(index_block(k // 2 if k % 2 else count - k // 2, (k // 2 if k % 2 == 0 else count - k // 2) * 96 + k + 1, 0)
+                      for k in range(count))
+    return blocks + b"\x60" * count + END
+
+
+def indexes_alone(form, size):
+    return b"".join(index_block(0, k, 0) for k in range((size - 4) // 16)) + END
+
+
+def headers_and_indexes(form, size):
+    """Half of the bytes are headers, half are Index blocks in many revolutions."""
+    count = size // 32
+    last = form.ring_cells(0) * form.nominal(0) // 1024
+    indexes = b"".join(index_block(0, last + k + 1, 0) for k in range(count))
+    return around(form, size, cells_as_flux(form, headers(form)), indexes)
+
+
+def noise(form, size):
+    return around(form, size, random.Random(1).randbytes(size).translate(None, bytes(range(14)))[: size - 40])
+
+
+def noise_of_cells(form):
+    """Distances of 1 to 4 cells by chance."""
+    chance = random.Random(2)
+    return "".join(chance.choice(("1", "01", "001", "0001")) for _ in range(20000))
+
+
+def cut_in_its_end(form, size):
+    return around(form, size + 1, b"\x60")[:-1]
+
+
+def of_bytes(unit):
+    return lambda form, size: around(form, size, unit)
+
+
+STREAMS = [
+    ("one-byte transitions, 14 ticks", of_bytes(b"\x0e")),
+    ("one-byte transitions, 96 ticks", of_bytes(b"\x60")),
+    ("transitions at one time", of_bytes(b"\0\0")),
+    ("overflows", of_bytes(b"\x0b")),
+    ("indexes that jump", indexes_that_jump),
+    ("indexes alone", indexes_alone),
+    ("texts", lambda form, size: index_block(0, 0, 0) + index_block(0, 1, 0)
+     + (b"\r\x04\xfc\xff" + b" " * 65532) * ((size - 36) // 65536) + END),
+    ("noise", noise),
+    ("silence", of_bytes(b"\x07\xff")),
+    ("cut in its End", cut_in_its_end),
+]
+TRACKS = [
+    ("headers everywhere", repeated(headers)),
+    ("headers without data", repeated(headers_without_data)),
+    ("headers in many revolutions", headers_and_indexes),
+    ("sectors of another check value", repeated(sectors_of_another_check)),
+    ("syncs one after another", repeated(syncs)),
+    ("ones alone", repeated(lambda form: "1")),
+    ("noise of cells", repeated(noise_of_cells)),
+]
+
+
+def g64_of(size, cells):
+    """A G64 file of so many bytes in which all tracks have these cells as often as they fit, in at most 65535 bytes."""
+    length = min(size // 36, 65535)
+    bits = (cells * (8 * length // len(cells) + 1))[: 8 * length]
+    content = struct.pack("<H", length) + int(bits, 2).to_bytes(length, "big")
+    offsets = [684 + len(content) * (k // 2) if k % 2 == 0 and k < 70 else 0 for k in range(84)]
+    return b"GCR-1541\0" + bytes([84]) + struct.pack("<H84I", 7928, *offsets) + bytes(336) + (content * 35).ljust(size - 684, b"\0")
+
+
+# Measuring
+
+def once(command, path):
+    """The processor time of a run in seconds."""
+    with open(path, "rb") as given:
+        child = subprocess.Popen(command, stdin=given, stdout=subprocess.DEVNULL, stderr=subprocess.DEVNULL)
+        _, _, usage = os.wait4(child.pid, 0)
+    return usage.ru_utime + usage.ru_stime
+
+
+def compared(small, large, most):
+    """The least processor times of two runs, each a command and its input's file: other work on the machine only adds to them, so they
+    are repeated until their ratio is within its bound."""
+    least, more = 1e9, 1e9
+    for number in range(MOST_RUNS):
+        least, more = min(least, once(*small)), min(more, once(*large))
+        if number + 1 >= RUNS and more <= most * least:
+            break
+    return least, more
+
+
+class Table:
+    def __init__(self, program):
+        self.program, self.rows, self.wrong, self.worst, self.peak = program, 0, 0, 0, 0
+        print(f"{'command':22} {'input':32} {'small ms':>9} {'large ms':>9} {'ratio':>6} {'MiB':>6}")
+
+    def row(self, words, name, small, large, most=4.4, other=None):
+        """A row: the command over the small input and over the large one, or another command over the large one."""
+        runs = [[self.program, *words], [self.program, *(other or words)]]
+        with tempfile.NamedTemporaryFile() as first, tempfile.NamedTemporaryFile() as second:
+            for file, data in ((first, small), (second, large)):
+                file.write(data)
+                file.flush()
+            seconds, more = compared((runs[0], first.name), (runs[1], second.name), most)
+            peak = max(peak_of(runs[0], first.name), peak_of(runs[1], second.name))
+        ratio = more / max(seconds, 1e-4)
+        wrong = ratio > most or not peak < PEAK
+        self.rows += 1
+        self.wrong += wrong
+        self.worst, self.peak = max(self.worst, ratio / most), max(self.peak, peak)
+        print(f"{' '.join(words):22} {name:32} {seconds * 1e3:9.1f} {more * 1e3:9.1f} {ratio:6.2f} {peak:6.1f}{'  NOT' * wrong}", flush=True)
+
+
+def main():
+    program = os.path.abspath(sys.argv[1] if len(sys.argv) > 1 else TOP / "crates/flux/out/flux")
+    _, built = commands_of(program)
+    wanted = sys.argv[2:] or ["turns"] + [word.decode() for word in built]
+    table = Table(program)
+    if "turns" in wanted:
+        for name, make in STREAMS:
+            table.row(["turns"], name, *(make(FORMATS["ibm-720"], size) for size in SIZES))
+    for command in ("decode", "report"):
+        for form in (FORMATS[name] for name in USED if command in wanted):
+            for name, make in TRACKS + STREAMS:
+                if command == "decode" or name in ("headers everywhere", "headers in many revolutions", "silence"):
+                    table.row([command, form.word], name, *(make(form, size) for size in SIZES))
+    if "decode-set" in wanted:
+        for form in (FORMATS[name] for name in USED):
+            for name, make in TRACKS[:3]:
+                table.row(["decode-set", form.word, "16"], name, *(16 * make(form, size // 16) for size in SIZES))
+    for command in ("write", "to-g64"):
+        if command in wanted:
+            table.row([command, "c1541"], "zeros, no image's size", *(bytes(size) for size in SIZES))
+    if "write" in wanted:
+        table.row(["write", "ibm-360"], "images of 40 and 80 cylinders", bytes(368640), bytes(737280), 2.2, ["write", "ibm-720"])
+    if "to-g64" in wanted:
+        table.row(["to-g64", "c1541"], "images of 35 and 40 tracks", bytes(174848), bytes(196608), 2.2, ["to-g64", "c1541-40"])
+    if "trial" in wanted:
+        table.row(["trial", "ibm-360", "1"], "disks of 40 and 80 cylinders", b"", b"", 2.2, ["trial", "ibm-720", "1"])
+    if "from-g64" in wanted:
+        form = FORMATS["c1541"]
+        for name, cells in (("headers everywhere", headers(form)), ("headers without data", headers_without_data(form)), ("ones alone", "1"),
+                            ("syncs one after another", "1" * 10 + "0"), ("sectors of another check value", sectors_of_another_check(form))):
+            table.row(["from-g64", "c1541"], name, *(g64_of(size, cells) for size in SIZES))
+    print(f"\n{table.rows} rows, {table.wrong} over a bound; the worst ratio is {table.worst:.0%} of its bound, "
+          f"the highest peak {table.peak:.1f} MiB")
+    return 1 if table.wrong else 0
+
+
+if __name__ == "__main__":
+    sys.exit(main())

@@ -1,0 +1,352 @@
+"""What flux is to answer, read off the definitions as plainly as they stand: slow, of whole lists, one sentence a line.
+
+It shares nothing with the program. `outcome(words, input, ..)` gives the exit code and the bytes for standard output and for standard
+error. Streams are read in plain_streams.py, sectors in plain_recordings.py; here are formats, verdicts, lines and commands.
+"""
+import bisect
+import itertools
+import struct
+
+from plain_recordings import AmigaMfm, AppleGcr, CommodoreGcr, IbmFm, IbmMfm, places_of, word
+from plain_streams import LIMIT, Refused, Stream, number_at, padding_at, places_of_ones, recovered, stream_of_times
+
+# Formats
+
+class Format:
+    def __init__(self, word, recording, cylinders, heads, nominal, ring_cells, order=None):
+        self.word, self.recording, self.nominal, self.ring_cells, self.order = word, recording, nominal, ring_cells, order
+        self.tracks = list(itertools.product(range(cylinders), range(heads)))
+        self.places = list(itertools.accumulate((self.track_bytes(k) for k in range(len(self.tracks))), initial=0))
+        self.image_bytes = self.places[-1]
+
+    def track_bytes(self, k):
+        return self.recording.size * self.recording.sectors(self.tracks[k][0])
+
+    def sector_numbers(self, k):
+        return range(self.recording.first, self.recording.first + self.recording.sectors(self.tracks[k][0]))
+
+    def slot(self, sector):
+        """The place of a sector in its track's part, in sectors."""
+        return self.order[sector] if self.order else sector - self.recording.first
+
+    def ring_of(self, image, k):
+        size, start = self.recording.size, self.places[k]
+        sectors = [image[start + size * self.slot(s) : start + size * self.slot(s) + size] for s in self.sector_numbers(k)]
+        ids = None
+        if isinstance(self.recording, CommodoreGcr):
+            directory = self.places[17]
+            ids = (image[directory + 0xA2], image[directory + 0xA3])
+        return self.recording.ring(*self.tracks[k], sectors, ids)
+
+
+def zone(values):
+    return lambda cylinder: values[0 if cylinder < 17 else 1 if cylinder < 24 else 2 if cylinder < 30 else 3]
+
+
+def always(value):
+    return lambda cylinder: value
+
+
+ZONE_CELLS, ZONE_RINGS = zone((79963, 86114, 92265, 98416)), zone((61488, 57000, 53280, 49912))
+DOS = [0x0, 0x7, 0xE, 0x6, 0xD, 0x5, 0xC, 0x4, 0xB, 0x3, 0xA, 0x2, 0x9, 0x1, 0x8, 0xF]
+PRODOS = [0x0, 0x8, 0x1, 0x9, 0x2, 0xA, 0x3, 0xB, 0x4, 0xC, 0x5, 0xD, 0x6, 0xE, 0x7, 0xF]
+
+FORMATS = {form.word: form for form in (
+    Format("ibm-3740", IbmFm(), 77, 1, always(49208), always(83328)),
+    Format("ibm-360", IbmMfm(9), 40, 2, always(49208), always(100000)),
+    Format("ibm-720", IbmMfm(9), 80, 2, always(49208), always(100000)),
+    Format("ibm-1440", IbmMfm(18), 80, 2, always(24604), always(200000)),
+    Format("amiga", AmigaMfm(), 80, 2, always(49208), always(100000)),
+    Format("c1541", CommodoreGcr(), 35, 1, ZONE_CELLS, ZONE_RINGS),
+    Format("apple-do", AppleGcr(), 35, 1, always(98416), always(49994), DOS),
+    Format("c1541-40", CommodoreGcr(), 40, 1, ZONE_CELLS, ZONE_RINGS),
+    Format("apple-po", AppleGcr(), 35, 1, always(98416), always(49994), PRODOS),
+)}
+
+
+# Readings, verdicts and lines
+
+def readings(recording, cells, cylinder, head):
+    """(place, sector, data) of each place at which a header stands; the data are None where the sector does not."""
+    for place in places_of(cells, recording.sync):
+        header = recording.header(cells, place, cylinder, head)
+        if header:
+            yield place, header[0], recording.sector(cells, place, header[1])
+
+
+def verdict_of(entries):
+    """The verdict over a sector's readings in their order, each a pair of its place's text and its data, and the good data."""
+    good = [entry for entry in entries if entry[1] is not None]
+    bad = len(entries) - len(good)
+    if not entries:
+        return "missing 0 0", None
+    if not good:
+        return f"bad 0 {bad} {entries[0][0]}", None
+    other = [entry for entry in good if entry[1] != good[0][1]]
+    if other:
+        return f"contradictory {len(good)} {bad} {good[0][0]} {other[0][0]}", None
+    return f"good {len(good)} {bad} {good[0][0]}", good[0][1]
+
+
+VERDICTS = ("good", "bad", "missing", "contradictory")
+
+
+class Answer:
+    """What decoding comes to, track by track."""
+
+    def __init__(self, form):
+        self.form, self.image, self.lines, self.number = form, [], [], dict.fromkeys(VERDICTS, 0)
+
+    def track(self, k, entries):
+        """Appends a track with its readings, (the place's text, sector, data)."""
+        form = self.form
+        cylinder, head = form.tracks[k]
+        part = bytearray(form.track_bytes(k))
+        size = form.recording.size
+        for sector in form.sector_numbers(k):
+            verdict, data = verdict_of([(place, data) for place, named, data in entries if named == sector])
+            self.number[verdict.split()[0]] += 1
+            self.lines.append(f"{cylinder:02}.{head} {sector:02} {verdict}\n")
+            if data is not None:
+                part[size * form.slot(sector) : size * form.slot(sector) + size] = data
+        self.image.append(bytes(part))
+
+    def totals(self):
+        return " ".join(f"{verdict} {self.number[verdict]}" for verdict in VERDICTS)
+
+    def end(self):
+        self.lines.append(f"total {sum(self.number.values())} {self.totals()}\n")
+        return 0 if self.number["good"] == sum(self.number.values()) else 1
+
+
+def turn_of(stream, cells, place):
+    time = stream.times[cells.count("1", 0, place + 1) - 1]
+    return bisect.bisect_right(stream.indexes, time)
+
+
+def capture(form, k, data, place, prefix=""):
+    """The stream at a place, and its readings for a track."""
+    stream = Stream(data, place)
+    cylinder, head = form.tracks[k]
+    cells = recovered(stream, form.nominal(cylinder), form.ring_cells(cylinder))
+    found = readings(form.recording, cells, cylinder, head)
+    return stream, [(f"{prefix}{turn_of(stream, cells, p)} {p}", sector, content) for p, sector, content in found]
+
+
+def decoded(form, data, captures=None):
+    """The answer and the refused line's text, or None where nothing is refused."""
+    answer, place = Answer(form), 0
+    for k in range(len(form.tracks)):
+        joined = []
+        for q in range(captures or 1):
+            if (k, q) != (0, 0):
+                place += padding_at(data, place)
+            try:
+                stream, entries = capture(form, k, data, place, f"{q} " if captures else "")
+            except Refused as stop:
+                which = f"track {k} capture {q}" if captures else f"track {k}"
+                return answer, f"refused {which} {stop.text()}\n"
+            place += stream.length
+            joined += entries
+        answer.track(k, joined)
+    return answer, None
+
+
+def written_cells(ring):
+    quarter = len(ring) // 4
+    return ring[len(ring) - quarter :] + 3 * ring + ring[:quarter], [quarter + i * len(ring) for i in range(4)]
+
+
+def stream_of(ring, nominal):
+    cells, turns = written_cells(ring)
+    times = [(place + 1) * nominal // 1024 for place in places_of_ones(cells)]
+    return stream_of_times(times, [(turn + 1) * nominal // 1024 for turn in turns])
+
+
+# The trial
+
+def trial_image(form, seed):
+    return bytes((seed + 167 * i + 13 * (i // 256)) % 256 for i in range(form.image_bytes))
+
+
+def trial_times(ring, nominal, seed, k):
+    """The times and the index times."""
+    hole, hole_at = seed // 1000 % 1000, 16 * (seed // 1000000)
+    reach, drift = nominal // 8 - 1024, nominal // 256
+    state = (seed + 7919 * k) % 2**31
+    base = nominal + ((seed + k) % 17 - 8) * (nominal // 128)
+    cells, turns = written_cells(ring)
+    places = places_of_ones(cells)
+    quarter = len(ring) // 4
+    times, ideal, periods = [], [(places[0] + 1) * base], [base]
+    for j, place in enumerate(places):
+        state = (1103515245 * state + 12345) % 2**31
+        times.append((ideal[j] + state // 16 % (2 * reach + 1) - reach) // 1024)
+        if j + 1 < len(places):
+            ideal.append(ideal[j] + (places[j + 1] - place) * periods[j])
+            period = periods[j] + state // 2**20 % 3 - 1
+            periods.append(period if abs(period - base) <= drift else periods[j])
+    last = [bisect.bisect_right(places, turn) - 1 for turn in turns]
+    indexes = [(ideal[j] + (turn - places[j]) * periods[j]) // 1024 for j, turn in zip(last, turns)]
+    kept = [time for time, place in zip(times, places) if ((place - quarter) % len(ring) - hole_at) % len(ring) >= hole]
+    return kept, indexes
+
+
+def trial_line(form, seed):
+    image = trial_image(form, seed)
+    answer = Answer(form)
+    for k, (cylinder, _) in enumerate(form.tracks):
+        stream = stream_of_times(*trial_times(form.ring_of(image, k), form.nominal(cylinder), seed, k))
+        answer.track(k, capture(form, k, stream, 0)[1])
+    total = sum(map(sum, answer.image))
+    return f"trial {form.word} {seed} tracks {len(form.tracks)} sectors {sum(answer.number.values())} {answer.totals()} sum {total}\n"
+
+
+# G64 files
+
+def g64_file(form, image):
+    count = len(form.tracks)
+    offsets, speeds, parts = [0] * 84, [0] * 84, []
+    for k in range(count):
+        offsets[2 * k] = 684 + 7930 * k
+        speeds[2 * k] = zone((3, 2, 1, 0))(k)
+        ring = form.ring_of(image, k)
+        content = int(ring, 2).to_bytes(len(ring) // 8, "big")
+        parts.append(struct.pack("<H", len(content)) + content.ljust(7928, b"\xff"))
+    head = b"GCR-1541\0" + bytes([84]) + struct.pack("<H", 7928)
+    return head + struct.pack("<84I", *offsets) + struct.pack("<84I", *speeds) + b"".join(parts)
+
+
+def g64_fault(form, data):
+    """The first fault's name and numbers, or None."""
+    if len(data) > LIMIT:
+        return "TooLarge"
+    if len(data) < 12:
+        return f"ShortHeader {len(data)}"
+    if data[:8] != b"GCR-1541":
+        return "BadSignature"
+    if data[8] != 0:
+        return f"BadVersion {data[8]}"
+    if not 1 <= data[9] <= 84:
+        return f"BadTracks {data[9]}"
+    if len(data) < 12 + 8 * data[9]:
+        return f"ShortTable {len(data)}"
+    for k in range(len(form.tracks)):
+        offset = g64_offset(data, k)
+        if offset != 0 and offset + 2 > len(data):
+            return f"BadOffset {k + 1} {offset}"
+        length = int.from_bytes(data[offset : offset + 2], "little")
+        if offset != 0 and offset + 2 + length > len(data):
+            return f"ShortTrack {k + 1} {length}"
+    return None
+
+
+def g64_offset(data, k):
+    """The offset of a wanted track; 0 where its entry is after the table."""
+    return number_at(data, 12 + 4 * (2 * k)) if 2 * k < data[9] else 0
+
+
+def from_g64(form, data):
+    fault = g64_fault(form, data)
+    if fault:
+        return 2, b"", f"refused g64 {fault}\n".encode()
+    answer = Answer(form)
+    for k, (cylinder, head) in enumerate(form.tracks):
+        offset = g64_offset(data, k)
+        length = int.from_bytes(data[offset : offset + 2], "little") if offset else 0
+        cells = "".join(word(byte, 8) for byte in data[offset + 2 : offset + 2 + length])
+        found = [entry for entry in readings(form.recording, cells + cells, cylinder, head) if entry[0] < len(cells)]
+        answer.track(k, [(f"0 {place}", sector, content) for place, sector, content in found])
+    code = answer.end()
+    return code, b"".join(answer.image), "".join(answer.lines).encode()
+
+
+# Runs
+
+USAGES = ["usage: flux turns | decode FORMAT | report FORMAT | write FORMAT | trial FORMAT SEED"]
+for more in (" | to-g64 FORMAT | from-g64 FORMAT", " | decode-set FORMAT COUNT", " | decode-folder FORMAT FOLDER"):
+    USAGES.append(USAGES[-1] + more)
+
+
+def is_number(text, digits, least, most):
+    return 1 <= len(text) <= digits and all(48 <= byte <= 57 for byte in text) and least <= int(text) <= most
+
+
+def decode(form, data, captures=None):
+    answer, refused = decoded(form, data, captures)
+    code = 2 if refused else answer.end()
+    return code, b"".join(answer.image), ("".join(answer.lines) + (refused or "")).encode()
+
+
+def report(form, data):
+    answer, refused = decoded(form, data)
+    code = 2 if refused else answer.end()
+    return code, "".join(answer.lines).encode(), (refused or "").encode()
+
+
+def wrong_size(form, data):
+    return 2, b"", f"refused image {min(len(data), form.image_bytes + 1)} wanted {form.image_bytes}\n".encode()
+
+
+def write(form, data):
+    if len(data) != form.image_bytes:
+        return wrong_size(form, data)
+    rings = (form.ring_of(data, k) for k in range(len(form.tracks)))
+    return 0, b"".join(stream_of(ring, form.nominal(c)) for ring, (c, _) in zip(rings, form.tracks)), b""
+
+
+def to_g64(form, data):
+    return (0, g64_file(form, data), b"") if len(data) == form.image_bytes else wrong_size(form, data)
+
+
+def turns(data):
+    try:
+        stream = Stream(data, 0)
+    except Refused as stop:
+        return 2, b"", f"refused track 0 {stop.text()}\n".encode()
+    lines = [f"transitions {len(stream.times)}\n"]
+    lines += [f"turn {n} {b - a}\n" for n, (a, b) in enumerate(zip(stream.indexes, stream.indexes[1:]), 1)]
+    return 0, "".join(lines).encode(), b""
+
+
+def any_format(form):
+    return True
+
+
+def commodore(form):
+    return isinstance(form.recording, CommodoreGcr)
+
+
+# What each word of a command wants after it, and what it gives: the formats that it takes, whether a last word is right, the answer.
+COMMANDS = {
+    b"decode": (any_format, None, lambda form, last, data: decode(form, data)),
+    b"report": (any_format, None, lambda form, last, data: report(form, data)),
+    b"write": (any_format, None, lambda form, last, data: write(form, data)),
+    b"trial": (any_format, lambda last: is_number(last, 10, 0, 2**32 - 1),
+               lambda form, last, data: (0, trial_line(form, int(last)).encode(), b"")),
+    b"to-g64": (commodore, None, lambda form, last, data: to_g64(form, data)),
+    b"from-g64": (commodore, None, lambda form, last, data: from_g64(form, data)),
+    b"decode-set": (any_format, lambda last: is_number(last, 2, 1, 16), lambda form, last, data: decode(form, data, int(last))),
+}
+
+
+def is_text(data):
+    try:
+        data.decode()
+        return True
+    except UnicodeDecodeError:
+        return False
+
+
+def outcome(words, data, built, usage):
+    """The code and the bytes of standard output and standard error, of a program that has these commands and this usage line."""
+    if not all(map(is_text, words)):
+        return 9, b"", b""
+    if words == [b"turns"]:
+        return turns(data)
+    if words and words[0] in COMMANDS and words[0] in built:
+        takes, last, answer = COMMANDS[words[0]]
+        form = FORMATS.get(words[1].decode()) if len(words) > 1 else None
+        if form and takes(form) and len(words) == (3 if last else 2) and (not last or last(words[2])):
+            return answer(form, words[2] if last else None, data)
+    return 3, b"", usage + b"\n"

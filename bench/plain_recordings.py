@@ -1,0 +1,338 @@
+"""The recordings, read off the definitions: where a header and a sector stand in a list of cells, a text of 0 and 1, and their rings."""
+import functools
+import itertools
+import operator
+import struct
+
+
+def xor_of(numbers):
+    return functools.reduce(operator.xor, numbers, 0)
+
+
+# Cells and check values
+
+def word(value, count=16):
+    return f"{value:0{count}b}"
+
+
+def places_of(cells, sync):
+    """All places at which a word stands."""
+    place = cells.find(sync)
+    while place >= 0:
+        yield place
+        place = cells.find(sync, place + 1)
+
+
+def unbroken(cells, start, end):
+    return "0" * 8 not in cells[start:end]
+
+
+def data_bytes(cells, place, count):
+    """The data cells of coded bytes; None where they do not lie in the list."""
+    if len(cells) < place + 16 * count:
+        return None
+    bits = cells[place + 1 : place + 16 * count : 2]
+    return int(bits, 2).to_bytes(count, "big") if count else b""
+
+
+def crc_by_bits(start, data):
+    """Polynomial 1021, high bit first."""
+    value = start
+    for byte in data:
+        value ^= byte << 8
+        for _ in range(8):
+            value = (value << 1 ^ 0x1021 if value & 0x8000 else value << 1) & 0xFFFF
+    return value
+
+
+CRC_OF_HIGH = [crc_by_bits(high << 8, b"\0") for high in range(256)]
+
+
+def crc(data, start=0xFFFF):
+    value = start
+    for byte in data:
+        value = (value << 8 & 0xFFFF) ^ CRC_OF_HIGH[value >> 8 ^ byte]
+    return value
+
+
+def checked(before, content):
+    return content + struct.pack(">H", crc(before + content))
+
+
+def first_of(cells, start, words):
+    """The first place from the header's end to below 1024 cells after it at which one of the words stands, and the word."""
+    found = [(place, sync) for sync in words for place in [cells.find(sync, start, start + 1023 + len(sync))] if place >= 0]
+    return min(found, default=(None, None))
+
+
+# The recordings. `header(cells, place, cylinder, head)` gives the sector whose header stands at a place, and the header's end;
+# `sector(cells, place, end)` gives the data that stands with it. Both give None where nothing stands.
+
+class IbmFm:
+    first, size, sync = 1, 128, word(0xF57E)
+    MARKS = {word(0xF57E): 0xFE, word(0xF56F): 0xFB, word(0xF56A): 0xF8, word(0xF77A): 0xFC}
+
+    def sectors(self, cylinder):
+        return 26
+
+    def header(self, cells, place, cylinder, head):
+        field = data_bytes(cells, place + 16, 6)
+        if field is None or not unbroken(cells, place, place + 112) or field != checked(b"\xfe", field[:4]):
+            return None
+        named = field[:2] == bytes([cylinder, head]) and 1 <= field[2] <= 26 and field[3] == 0
+        return (field[2], place + 112) if named else None
+
+    def sector(self, cells, place, end):
+        q, sync = first_of(cells, end, self.MARKS)
+        if q is None or self.MARKS[sync] not in (0xFB, 0xF8):
+            return None
+        field = data_bytes(cells, q + 16, 130)
+        if field is None or not unbroken(cells, place, q + 2096):
+            return None
+        return field[:128] if field == checked(bytes([self.MARKS[sync]]), field[:128]) else None
+
+    def ring(self, cylinder, head, sectors, ids=None):
+        out = fm(b"\xff" * 40 + bytes(6)) + word(0xF77A) + fm(b"\xff" * 26)
+        for number, data in enumerate(sectors, 1):
+            out += fm(bytes(6)) + word(0xF57E) + fm(checked(b"\xfe", bytes([cylinder, head, number, 0]))) + fm(b"\xff" * 11 + bytes(6))
+            out += word(0xF56F) + fm(checked(b"\xfb", data)) + fm(b"\xff" * 27)
+        return out + fm(b"\xff" * 247)
+
+
+def fm(data):
+    return "".join("1" + bit for byte in data for bit in word(byte, 8))
+
+
+MFM_PAIRS = {("0", "0"): "10", ("0", "1"): "01", ("1", "0"): "00", ("1", "1"): "01"}
+
+
+@functools.cache
+def mfm_byte(before, byte):
+    bits = before + word(byte, 8)
+    return "".join(MFM_PAIRS[pair] for pair in zip(bits, bits[1:]))
+
+
+class MfmList:
+    """Cells that grow by MFM bytes and by marks. The bit before the first is 0."""
+
+    def __init__(self):
+        self.parts, self.before = [], "0"
+
+    def bytes(self, data):
+        for byte in data:
+            self.parts.append(mfm_byte(self.before, byte))
+            self.before = "01"[byte & 1]
+        return self
+
+    def mark(self, value, count):
+        self.parts += [word(value)] * count
+        self.before = "01"[value & 1]
+        return self
+
+    def cells(self):
+        return "".join(self.parts)
+
+
+class IbmMfm:
+    first, size, sync = 1, 512, word(0x4489) * 3
+    GAPS = {9: (80, 218), 18: (108, 78)}
+
+    def __init__(self, count):
+        self.count = count
+
+    def sectors(self, cylinder):
+        return self.count
+
+    def header(self, cells, place, cylinder, head):
+        field = data_bytes(cells, place + 48, 7)
+        if field is None or not unbroken(cells, place, place + 160) or field != checked(b"\xa1" * 3, field[:5]):
+            return None
+        named = field[:3] == bytes([0xFE, cylinder, head]) and 1 <= field[3] <= self.count and field[4] == 2
+        return (field[3], place + 160) if named else None
+
+    def sector(self, cells, place, end):
+        q, _ = first_of(cells, end, [self.sync])
+        if q is None:
+            return None
+        field = data_bytes(cells, q + 48, 515)
+        if field is None or field[0] not in (0xFB, 0xF8) or not unbroken(cells, place, q + 8288):
+            return None
+        return field[1:513] if field == checked(b"\xa1" * 3, field[:513]) else None
+
+    def ring(self, cylinder, head, sectors, ids=None):
+        gap, end_gap = self.GAPS[self.count]
+        out = MfmList().bytes(b"\x4e" * 80 + bytes(12)).mark(0x5224, 3).bytes(b"\xfc" + b"\x4e" * 50)
+        for number, data in enumerate(sectors, 1):
+            header = checked(b"\xa1" * 3, bytes([0xFE, cylinder, head, number, 2]))
+            out.bytes(bytes(12)).mark(0x4489, 3).bytes(header + b"\x4e" * 22)
+            out.bytes(bytes(12)).mark(0x4489, 3).bytes(checked(b"\xa1" * 3, b"\xfb" + data) + b"\x4e" * gap)
+        return out.bytes(b"\x4e" * end_gap).cells()
+
+
+MASK = 0x55555555
+
+
+def longs(cells, place, count):
+    return [int(cells[p : p + 32], 2) for p in range(place, place + 32 * count, 32)]
+
+
+def long_of(odd, even):
+    return (odd & MASK) << 1 | even & MASK
+
+
+def halves(values):
+    return [x >> 1 & MASK for x in values] + [x & MASK for x in values]
+
+
+class AmigaMfm:
+    first, size, sync = 0, 512, word(0x4489) * 2
+
+    def sectors(self, cylinder):
+        return 11
+
+    def header(self, cells, place, cylinder, head):
+        if len(cells) < place + 480 or not unbroken(cells, place, place + 480):
+            return None
+        raw = longs(cells, place + 32, 12)
+        kind, track, sector, _ = long_of(*raw[:2]).to_bytes(4, "big")
+        if kind != 0xFF or track != 2 * cylinder + head or sector > 10 or long_of(*raw[10:]) != xor_of(raw[:10]) & MASK:
+            return None
+        return sector, place + 480
+
+    def sector(self, cells, place, end):
+        if len(cells) < place + 8672 or not unbroken(cells, place, place + 8672):
+            return None
+        raw = longs(cells, end, 256)
+        if long_of(*longs(cells, place + 416, 2)) != xor_of(raw) & MASK:
+            return None
+        return struct.pack(">128I", *map(long_of, raw[:128], raw[128:]))
+
+    def ring(self, cylinder, head, sectors, ids=None):
+        out = MfmList()
+        for number, data in enumerate(sectors):
+            self.frame(out, bytes([0xFF, 2 * cylinder + head, number, 11 - number]), bytes(16), data)
+        return out.bytes(bytes(266)).cells()
+
+    def frame(self, out, info, label, data, header_check=0, data_check=0):
+        """Appends a sector; the checks are off by what is given."""
+        header = halves(struct.unpack(">I", info)) + halves(struct.unpack(">4I", label))
+        content = halves(struct.unpack(">128I", data))
+        out.bytes(bytes(2)).mark(0x4489, 2)
+        for half in header + halves([xor_of(header) ^ header_check]) + halves([xor_of(content) ^ data_check]) + content:
+            out.bytes(int(word(half, 32)[1::2], 2).to_bytes(2, "big"))
+
+
+GCR_CODES = "01010 01011 10010 10011 01110 01111 10110 10111 01001 11001 11010 11011 01101 11101 11110 10101".split()
+GCR_NIBBLES = {code: nibble for nibble, code in enumerate(GCR_CODES)}
+
+
+def gcr(data):
+    return "".join(GCR_CODES[byte >> 4] + GCR_CODES[byte & 15] for byte in data)
+
+
+def ungcr(cells, place, count):
+    """The bytes of codes; None where a code is none, or they do not lie in the list."""
+    if len(cells) < place + 10 * count:
+        return None
+    nibbles = [GCR_NIBBLES.get(cells[p : p + 5]) for p in range(place, place + 10 * count, 5)]
+    if None in nibbles:
+        return None
+    return bytes(high << 4 | low for high, low in zip(nibbles[::2], nibbles[1::2]))
+
+
+def raw(data):
+    return "".join(word(byte, 8) for byte in data)
+
+
+class CommodoreGcr:
+    first, size, sync = 0, 256, "1" * 10 + "0"
+    GAPS = {21: 12, 19: 21, 18: 16, 17: 13}
+
+    def sectors(self, cylinder):
+        return 21 if cylinder < 17 else 19 if cylinder < 24 else 18 if cylinder < 30 else 17
+
+    def header(self, cells, place, cylinder, head):
+        if len(cells) < place + 70 or not unbroken(cells, place, place + 70):
+            return None
+        field = ungcr(cells, place + 10, 6)
+        if field is None or field[0] != 8 or field[3] != cylinder + 1 or field[2] >= self.sectors(cylinder):
+            return None
+        return (field[2], place + 70) if field[1] == xor_of(field[2:]) else None
+
+    def sector(self, cells, place, end):
+        q, _ = first_of(cells, end, [self.sync])
+        field = None if q is None else ungcr(cells, q + 10, 258)
+        if field is None or field[0] != 7 or not unbroken(cells, place, q + 2590):
+            return None
+        return field[1:257] if xor_of(field[1:257]) == field[257] else None
+
+    def ring(self, cylinder, head, sectors, ids=(0, 0)):
+        out = ""
+        for number, data in enumerate(sectors):
+            names = bytes([number, cylinder + 1, ids[1], ids[0]])
+            out += "1" * 40 + gcr(bytes([8, xor_of(names)]) + names + b"\x0f\x0f") + raw(b"\x55" * 9)
+            out += "1" * 40 + gcr(b"\x07" + data + bytes([xor_of(data), 0, 0])) + raw(b"\x55" * self.GAPS[self.sectors(cylinder)])
+        return out
+
+
+NIBBLES = bytes.fromhex("""
+    96 97 9A 9B 9D 9E 9F A6 A7 AB AC AD AE AF B2 B3 B4 B5 B6 B7 B9 BA BB BC BD BE BF CB CD CE CF D3
+    D6 D7 D9 DA DB DC DD DE DF E5 E6 E7 E9 EA EB EC ED EE EF F2 F3 F4 F5 F6 F7 F9 FA FB FC FD FE FF""")
+NIBBLE_VALUES = {nibble: value for value, nibble in enumerate(NIBBLES)}
+SWAPPED = [0, 2, 1, 3]
+
+
+def raw_bytes(cells, place, count):
+    if len(cells) < place + 8 * count:
+        return None
+    return int(cells[place : place + 8 * count], 2).to_bytes(count, "big")
+
+
+def four_and_four(data):
+    return b"".join(bytes([byte >> 1 | 0xAA, byte | 0xAA]) for byte in data)
+
+
+def six_and_two(data, unused=(0, 0)):
+    """The 343 nibbles; `unused` are the two pairs of bits without a byte."""
+    wide = data + bytes(2)
+    values = [SWAPPED[wide[k] & 3] | SWAPPED[wide[k + 86] & 3] << 2 | SWAPPED[wide[k + 172] & 3] << 4 for k in range(86)]
+    values[84] |= unused[0] << 4
+    values[85] |= unused[1] << 4
+    values += [byte >> 2 for byte in data]
+    return bytes(NIBBLES[value ^ before] for value, before in zip(values + [0], [0] + values))
+
+
+class AppleGcr:
+    first, size, sync = 0, 256, word(0xD5AA96, 24)
+
+    def sectors(self, cylinder):
+        return 16
+
+    def header(self, cells, place, cylinder, head):
+        field = raw_bytes(cells, place + 24, 8)
+        if field is None or not unbroken(cells, place, place + 88) or any(byte & 0xAA != 0xAA for byte in field):
+            return None
+        volume, track, sector, check = ((m << 1 | 1) & n & 0xFF for m, n in zip(field[::2], field[1::2]))
+        return (sector, place + 88) if track == cylinder and sector < 16 and check == volume ^ track ^ sector else None
+
+    def sector(self, cells, place, end):
+        q, _ = first_of(cells, end, [word(0xD5AA)])
+        field = None if q is None else raw_bytes(cells, q + 16, 344)
+        if field is None or field[0] != 0xAD or not unbroken(cells, place, q + 2768):
+            return None
+        coded = [NIBBLE_VALUES.get(byte) for byte in field[1:]]
+        if None in coded:
+            return None
+        values = list(itertools.accumulate(coded, operator.xor))
+        if values[342] != 0:
+            return None
+        return bytes(values[86 + j] << 2 | SWAPPED[values[j % 86] >> 2 * (j // 86) & 3] for j in range(256))
+
+    def ring(self, cylinder, head, sectors, ids=None):
+        sync = "1111111100"
+        out = sync * 33
+        for number, data in enumerate(sectors):
+            names = bytes([254, cylinder, number])
+            out += raw(b"\xd5\xaa\x96" + four_and_four(names + bytes([xor_of(names)])) + b"\xde\xaa\xeb") + sync * 6
+            out += raw(b"\xd5\xaa\xad" + six_and_two(data) + b"\xde\xaa\xeb") + sync * 14
+        return out
