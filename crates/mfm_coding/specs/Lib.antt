@@ -1,6 +1,5 @@
 pub mod Coding
 pub mod CodingLaws
 pub mod MarkPlaces
-pub mod Spacing
 pub mod SymbolRows
 pub mod Writes

@@ -141,31 +141,6 @@ module _ (sync : List (Option Bool)) where
       quiet-append (Syncs (mark_front ++ sync)) (FollowsBit (last_bit (digit byte 0) (bytes_as_data bytes))) (FollowsBit (digit byte 0)) (FollowsBit before)
       (mfm before byte) (coded (digit byte 0) (bytes_as_data bytes)) (byte_quiet before byte) (bytes_quiet (digit byte 0) bytes)
 
--- a byte follows a data bit
-abbrev pub FollowsByte : Bool → List Bool → Type 0
-FollowsByte before rest = (byte : ℕ) × (more : List Bool) × (rest ≡ mfm before byte ++ more)
-
--- as it does before some bytes, whatever follows them
-pub first_byte : (before : Bool) (byte : ℕ) (bytes : List ℕ) (rest : List Bool)
-    → FollowsByte before (coded before (bytes_as_data (byte ∷ bytes)) ++ rest)
-unfolding coded symbol_cells
-first_byte before byte bytes rest =
-    (byte, coded (digit byte 0) (bytes_as_data bytes) ++ rest, append_assoc (mfm before byte) (coded (digit byte 0) (bytes_as_data bytes)) rest)
-
--- the byte after a mark A1, from a place on, does not begin as the mark does
-pub after_mark_front : (byte : ℕ) (more : List Bool) → ¬ (fits mark_front (true ∷ (mfm true byte ++ more)) ≡ true)
-unfolding mfm mfm_cells word_cells
-after_mark_front byte more fit = not_at_data true (digit byte 7) (digit byte 6) (digit byte 5) (digit byte 4) (digit byte 3) _ fit
-
-pub after_mark_data : (byte : ℕ) (more : List Bool) → ¬ (fits mark_front (drop 1 (mfm true byte ++ more)) ≡ true)
-unfolding mfm mfm_cells word_cells
-after_mark_data byte more fit =
-    not_at_data (digit byte 7) (digit byte 6) (digit byte 5) (digit byte 4) (digit byte 3) (digit byte 2) _ fit
-
-pub after_mark_clock : (byte : ℕ) (more : List Bool) → ¬ (fits mark_front (drop 8 (mfm true byte ++ more)) ≡ true)
-unfolding mfm mfm_cells word_cells
-after_mark_clock byte more fit = not_at_clock (digit byte 4) (digit byte 3) (digit byte 2) _ fit
-
 -- The sectors of a track in a row, in each of which the sync begins at one place.
 module _ (Test : List Bool → Type 0) (f : ℕ → List Symbol) (size offset : ℕ) where
   pub sectors_part : (first count : ℕ)

@@ -100,22 +100,3 @@ module _ {X : Type 0} (asks : Bool) (cells_of : Bool → X → List Bool) where
         let next = asks && last_of before (cells_of before x) in
         let e = length-append (cells_of before x) (coded asks cells_of next xs) in
         omega (arith, e, sized before x, length-coded next xs)
-
-    -- what stands at the begin of a part of them
-    pub coded-at : (before : Bool) (front : List X) (here : X) (behind : List X) (more : List Bool)
-        → drop (total size_of front) (coded asks cells_of before (front ++ here ∷ behind) ++ more)
-        ≡ cells_of (bit_after before front) here
-        ++ (coded asks cells_of (asks && last_of (bit_after before front) (cells_of (bit_after before front) here)) behind ++ more)
-    unfolding coded
-    coded-at before front here behind more =
-        let bit = bit_after before front in
-        let first = coded asks cells_of before front in
-        let cells = cells_of bit here in
-        let last = coded asks cells_of (asks && last_of bit cells) behind in
-        let size = length-coded before front in
-        let e : total size_of front ≡ total size_of front + 0 = omega arith in
-        ap (λ (all : List Bool). drop (total size_of front) (all ++ more)) (coded-append before front (here ∷ behind))
-        ∙ ap (drop (total size_of front)) (append_assoc first (cells ++ last) more)
-        ∙ ap (λ (n : ℕ). drop n (first ++ ((cells ++ last) ++ more))) e
-        ∙ drop-past first ((cells ++ last) ++ more) (total size_of front) 0 size
-        ∙ append_assoc cells last more

@@ -7,10 +7,6 @@ use Rattle.std.proofs.lemmas.List.{drop-drop}
 use Rattle.track_rings.specs.Fronts.{AgreeTo}
 use Rattle.track_rings.specs.Parts.{drop-past}
 
--- what is known of cells: each is a one, a zero, or anything
-abbrev pub Pattern : Type 0
-Pattern = List (Option Bool)
-
 -- such cells stand at the front
 unfoldable pub fits : List (Option Bool) → List Bool → Bool
 fits [] cells = true
@@ -170,10 +166,6 @@ abbrev pub Syncs : List (Option Bool) → List Bool → Type 0
 Syncs sync cells = fits sync cells ≡ true
 
 module _ (Test : List Bool → Type 0) where
-  pub only-weaken : (Here There : ℕ → Type 0) (xs ys : List Bool) → ((place : ℕ) → place < length xs → Here place → There place)
-      → Only Test Here xs ys → Only Test There xs ys
-  only-weaken Here There xs ys weaker only place within test = weaker place within (only place within test)
-
   pub only-none : (Here : ℕ → Type 0) (ys : List Bool) → Only Test Here [] ys
   only-none Here ys place within test = absurd (omega (arith, within))
 

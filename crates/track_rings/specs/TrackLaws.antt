@@ -289,36 +289,3 @@ module _ {Row : Type 0} (asks : Bool) (cells_of : Bool → ℕ → List ℕ → 
         last-zero : (a last bit : Bool) (cells : List Bool) → bit ≡ (a && last) → (a && last_of bit cells) ≡ false → (a && last_of last cells) ≡ false
         last-zero true last bit cells is zero = ap (λ (b : Bool). last_of b cells) (sym is) ∙ zero
         last-zero false last bit cells is zero = refl
-
--- Where the coding does not ask, the ring is what its parts are.
-module _ {Row : Type 0} (cells_of : Bool → ℕ → List ℕ → Row → List Bool) where
-  none-before : (parts : List (Part Row)) → bit_after false (part_cells cells_of) false parts ≡ false
-  none-before parts = sym (bit_after-asked false (part_cells cells_of) false parts refl)
-
-  apart-flat : (xs ys : List (Part Row)) → coded false (part_cells cells_of) false (xs ++ ys)
-      ≡ coded false (part_cells cells_of) false xs ++ coded false (part_cells cells_of) false ys
-  apart-flat xs ys =
-      coded-append false (part_cells cells_of) false xs ys
-      ∙ ap (λ (bit : Bool). coded false (part_cells cells_of) false xs ++ coded false (part_cells cells_of) bit ys) (none-before xs)
-
-  each-flat : (f : ℕ → List (Part Row)) (numbers : List ℕ) → coded false (part_cells cells_of) false (flat_map f numbers)
-      ≡ flat_map (λ n. coded false (part_cells cells_of) false (f n)) numbers
-  unfolding coded
-  each-flat f [] = refl
-  each-flat f (n ∷ numbers) =
-      apart-flat (f n) (flat_map f numbers)
-      ∙ ap (λ (cells : List Bool). coded false (part_cells cells_of) false (f n) ++ cells) (each-flat f numbers)
-
-  pub flat-ring : (first sectors size : ℕ) (bytes : List ℕ) (rows : Rows Row) → ring_of false cells_of first sectors size bytes rows
-      ≡ rows_cells false cells_of false first [] rows.lead_in
-      ++ (flat_map (λ s. rows_cells false cells_of false s (bytes_of first size bytes s) (sector_rows rows)) (range_with_len first sectors)
-      ++ rows_cells false cells_of false first [] rows.lead_out)
-  unfolding ring_of track_parts rows_cells sector_parts
-  flat-ring first sectors size bytes rows =
-      let lead_in = parts_of first [] rows.lead_in in
-      let all = flat_map (sector_parts first size bytes rows) (range_with_len first sectors) in
-      let lead_out = parts_of first [] rows.lead_out in
-      apart-flat lead_in (all ++ lead_out)
-      ∙ ap (λ (cells : List Bool). coded false (part_cells cells_of) false lead_in ++ cells)
-      (apart-flat all lead_out ∙ ap (λ (cells : List Bool). cells ++ coded false (part_cells cells_of) false lead_out)
-      (each-flat (sector_parts first size bytes rows) (range_with_len first sectors)))
