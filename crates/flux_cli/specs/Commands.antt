@@ -1,8 +1,9 @@
 -- The words of the command line, without the program's name.
 use Rattle.std.specs.Prelude.{◌≡◌, ℕ, List, [], ◌∷◌, codes, Option, Some, None}
 use Rattle.sector_images.specs.Formats.{row}
+use Rattle.flux_cli.specs.G64Disks.{format_of}
 use Rattle.flux_cli.specs.declared.command.Command.{Command}
-use Rattle.flux_cli.specs.declared.command.Command.TheVariants.{Turns, Decode, Report, Write}
+use Rattle.flux_cli.specs.declared.command.Command.TheVariants.{Turns, Decode, Report, Write, ToG64, FromG64}
 
 -- the words that ask for a command
 abbrev pub words_of : Command → List (List ℕ)
@@ -10,6 +11,8 @@ words_of Turns = codes "turns" ∷ []
 words_of (Decode format) = codes "decode" ∷ (row format).word ∷ []
 words_of (Report format) = codes "report" ∷ (row format).word ∷ []
 words_of (Write format) = codes "write" ∷ (row format).word ∷ []
+words_of (ToG64 disk) = codes "to-g64" ∷ (row (format_of disk)).word ∷ []
+words_of (FromG64 disk) = codes "from-g64" ∷ (row (format_of disk)).word ∷ []
 
 -- what the words ask for; nothing where they are not those of a command
 abbrev pub AskFor : List (List ℕ) → Option Command → Type 0
