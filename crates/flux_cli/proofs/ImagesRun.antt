@@ -1,35 +1,38 @@
--- What `write` does by what the writing of the disk says.
-use Rattle.std.proofs.Common.{◌≡◌, ◌≢◌, ◌<◌, ◌≤◌, ℕ, Bool, if◌then◌else◌, inl, inr, List, [], ◌++◌, length, drop, take, min, Option, Ok, Err, refl, sym, ap, ◌∙◌, subst, arith, append-nil, length-append, eq-eqb}
+-- What a command does that makes something of an image.
+use Rattle.std.proofs.Common.{◌≡◌, ◌≢◌, ◌<◌, ◌≤◌, ℕ, Bool, if◌then◌else◌, inl, inr, List, [], ◌++◌, length, drop, take, min, Option, refl, sym, ap, ◌∙◌, subst, arith, append-nil, length-append, eq-eqb}
 use Rattle.std.proofs.KnownBytes.{Appends-nil, Keeps-refl}
 use Rattle.std.proofs.lemmas.Bool.{cases_lt, ne_eqb}
 use Rattle.std.proofs.lemmas.List.{drop_all}
 use Rattle.std.proofs.Math.Seq.{drop-append_seam}
-use Rattle.std.specs.Io.KnownBytes.{Appends, IsAtEnd, Keeps}
-use Rattle.flux_base.specs.declared.status.Status.TheVariants.{AllGood, Refused, ReadFault as ReadFaultStatus, ImageFault as ImageFaultStatus, NotesFault}
+use Rattle.std.specs.Io.KnownBytes.{Appends, Consumes, IsAtEnd, Keeps}
+use Rattle.flux_base.specs.Outside.{AppendsPart}
+use Rattle.flux_base.specs.declared.status.Status.TheVariants.{AllGood, Refused, ReadFault, ImageFault, NotesFault}
 use Rattle.flux_engine.specs.Needed.{ReadsUpTo, ReadsWhereOpen}
-use Rattle.flux_engine.specs.Rings.{streams_of}
-use Rattle.flux_engine.specs.Writes.{IsNoImage, IsWholeImage, WritesDisk, most_read}
-use Rattle.flux_engine.specs.declared.write_fault.WriteFault.TheVariants.{ReadFault, ImageFault, WrongSize}
+use Rattle.flux_engine.specs.Writes.{IsNoImage, IsWholeImage, most_read}
 use Rattle.kryo_stream.specs.Reads.{SourceMoment}
 use Rattle.sector_images.specs.Formats.{row}
 use Rattle.sector_images.specs.declared.format.Format.{Format}
 use Rattle.sector_report.specs.Lines.{image_text}
-use Rattle.flux_cli.specs.ImagesWork.{write_outcome, write_work}
+use Rattle.flux_cli.specs.ImagesWork.{image_outcome, image_work}
 use Rattle.flux_cli.specs.Runs.{Finished, IsCut, Outside, growth}
 use Rattle.flux_cli.specs.Work.{GivesFront, Got, GotNothing, GotPart, Outcome}
 use Rattle.flux_cli.proofs.Inputs.{rest}
 
-abbrev written : Format → List ℕ → Outcome
-written format x = record { status = AllGood; image = streams_of format x; notes = [] }
+abbrev written : (List ℕ → List ℕ) → List ℕ → Outcome
+written made_of x = record { status = AllGood; image = made_of x; notes = [] }
 
 abbrev refused : Format → List ℕ → Outcome
 refused format x = record { status = Refused; image = []; notes = image_text (min (length x) (most_read format)) (row format).image_size }
 
-is-written : (format : Format) (x : List ℕ) → length x ≡ (row format).image_size → write_outcome format x ≡ written format x
-is-written format x size = ap (λ (b : Bool). if b then written format x else refused format x) (eq-eqb (length x) (row format).image_size size)
+is-written : (made_of : List ℕ → List ℕ) (format : Format) (x : List ℕ) → length x ≡ (row format).image_size
+    → image_outcome made_of format x ≡ written made_of x
+is-written made_of format x size =
+    ap (λ (b : Bool). if b then written made_of x else refused format x) (eq-eqb (length x) (row format).image_size size)
 
-is-refused : (format : Format) (x : List ℕ) → length x ≢ (row format).image_size → write_outcome format x ≡ refused format x
-is-refused format x size = ap (λ (b : Bool). if b then written format x else refused format x) (ne_eqb (length x) (row format).image_size size)
+is-refused : (made_of : List ℕ → List ℕ) (format : Format) (x : List ℕ) → length x ≢ (row format).image_size
+    → image_outcome made_of format x ≡ refused format x
+is-refused made_of format x size =
+    ap (λ (b : Bool). if b then written made_of x else refused format x) (ne_eqb (length x) (row format).image_size size)
 
 got-nothing : (old new : Option (List ℕ)) → new ≡ old → Appends old new []
 got-nothing old new same = subst (λ n. Appends old n []) (sym same) (Appends-nil old)
@@ -67,100 +70,105 @@ wrong format taken later left' wrongly ended =
     ]
 
 -- the reads of an image
-pub write-reads : (format : Format) {old new : SourceMoment} → ReadsUpTo (most_read format) old new → ReadsWhereOpen (λ x. length x < most_read format) old new
+pub image-reads : (format : Format) {old new : SourceMoment} → ReadsUpTo (most_read format) old new → ReadsWhereOpen (λ x. length x < most_read format) old new
 unfolding ReadsUpTo
-write-reads format reads = reads
+image-reads format reads = reads
 
-module _ {S W N : Type 0} (format : Format) (before after : Outside S W N) where
+module _ {S W N : Type 0} (made_of : List ℕ → List ℕ) (format : Format) (before after : Outside S W N)
+    (taken : List ℕ) (consumed : Consumes before.source.bytes after.source.bytes taken) where
   -- an image, and no more
-  whole-is : (taken later : List ℕ) → IsWholeImage format taken after.source.bytes → (IsAtEnd after.source.bytes → later ≡ [])
+  whole-is : (later : List ℕ) → IsWholeImage format taken after.source.bytes → (IsAtEnd after.source.bytes → later ≡ [])
       → (taken ++ later ≡ taken) × (later ≡ [])
-  whole-is taken later whole ended =
+  whole-is later whole ended =
       let none = ended whole.ended in (ap (λ more. taken ++ more) none ∙ append-nil taken, none)
 
-  -- the streams of an image
-  pub write-finish : (u : Unit {0}) → WritesDisk format before.source.bytes after.source.bytes before.image.bytes after.image.bytes (Ok u)
-      → Got (growth before.notes after.notes) [] → Finished (write_work format) AllGood before after
-  write-finish u d notes =
-      let r = rest before.source after.source d.taken d.consumed in
-      let is = whole-is d.taken r.later d.says.0 r.ended in record {
-        taken = d.taken;
+  -- all that is made of an image
+  pub image-finish : IsWholeImage format taken after.source.bytes → Appends before.image.bytes after.image.bytes (made_of taken)
+      → Got (growth before.notes after.notes) [] → Finished (image_work made_of format) AllGood before after
+  image-finish whole wrote notes =
+      let r = rest before.source after.source taken consumed in
+      let is = whole-is r.later whole r.ended in record {
+        taken = taken;
         later = r.later;
         input = r.input;
-        outcome = written format d.taken;
-        gives = sym (ap (write_outcome format) is.0 ∙ is-written format d.taken d.says.0.size);
+        outcome = written made_of taken;
+        gives = sym (ap (image_outcome made_of format) is.0 ∙ is-written made_of format taken whole.size);
         status_is = refl;
-        image_got = d.says.1;
+        image_got = wrote;
         notes_got = notes;
         leaves = is.1;
       }
 
-  -- a part of the streams
-  pub write-cut-image : WritesDisk format before.source.bytes after.source.bytes before.image.bytes after.image.bytes (Err ImageFault)
-      → Got (growth before.notes after.notes) [] → IsCut (write_work format) ImageFaultStatus before after
-  write-cut-image d notes =
-      let r = rest before.source after.source d.taken d.consumed in
-      let is = whole-is d.taken r.later d.says.0 r.ended in
-      let front : GivesFront (written format d.taken) (growth before.image after.image) (growth before.notes after.notes) = record {
-        image_front = (d.says.1.0, d.says.1.2);
+  -- a part of it
+  pub image-cut-image : IsWholeImage format taken after.source.bytes → AppendsPart before.image.bytes after.image.bytes (made_of taken)
+      → Got (growth before.notes after.notes) [] → IsCut (image_work made_of format) ImageFault before after
+  image-cut-image whole wrote notes =
+      let r = rest before.source after.source taken consumed in
+      let is = whole-is r.later whole r.ended in
+      let front : GivesFront (written made_of taken) (growth before.image after.image) (growth before.notes after.notes) = record {
+        image_front = (wrote.0, wrote.2);
         notes_front = (0, notes);
       } in record {
-        taken = d.taken;
+        taken = taken;
         later = r.later;
         input = r.input;
         place = (
           subst (λ o. GivesFront o (growth before.image after.image) (growth before.notes after.notes))
-              (sym (ap (write_outcome format) is.0 ∙ is-written format d.taken d.says.0.size)) front,
+              (sym (ap (image_outcome made_of format) is.0 ∙ is-written made_of format taken whole.size)) front,
           is.1,
         );
       }
 
   -- the source failed
-  pub write-cut-read : WritesDisk format before.source.bytes after.source.bytes before.image.bytes after.image.bytes (Err ReadFault)
-      → GotNothing (growth before.notes after.notes) → IsCut (write_work format) ReadFaultStatus before after
-  write-cut-read d notes =
-      let r = rest before.source after.source d.taken d.consumed in record {
-        taken = d.taken;
+  pub image-cut-read : length taken ≤ (row format).image_size → after.image.bytes ≡ before.image.bytes
+      → GotNothing (growth before.notes after.notes) → IsCut (image_work made_of format) ReadFault before after
+  image-cut-read few same notes =
+      let r = rest before.source after.source taken consumed in record {
+        taken = taken;
         later = r.later;
         input = r.input;
-        place = record { few = d.says.0; image_got = keeps before.image.bytes after.image.bytes d.says.1; notes_got = notes };
+        place = record { few = few; image_got = keeps before.image.bytes after.image.bytes same; notes_got = notes };
       }
 
-  module _ (read wanted : ℕ) (d : WritesDisk format before.source.bytes after.source.bytes before.image.bytes after.image.bytes (Err (WrongSize read wanted))) where
+  module _ (read wanted : ℕ) (wrongly : IsNoImage format taken after.source.bytes) (read_is : read ≡ length taken)
+      (wanted_is : wanted ≡ (row format).image_size) (same : after.image.bytes ≡ before.image.bytes) where
+    text_is : (later : List ℕ) → Wrong format taken later
+        → image_text read wanted ≡ image_text (min (length (taken ++ later)) (most_read format)) (row format).image_size
+    text_is later w =
+        ap (λ n. image_text n wanted) (read_is ∙ w.counted) ∙ ap (image_text (min (length (taken ++ later)) (most_read format))) wanted_is
+
     -- the line that refuses other bytes
-    pub write-refuse : Got (growth before.notes after.notes) (image_text read wanted) → Finished (write_work format) Refused before after
-    write-refuse line =
-        let r = rest before.source after.source d.taken d.consumed in
-        let w = wrong format d.taken r.later after.source.bytes d.says.0 r.ended in
-        let text : image_text read wanted ≡ image_text (min (length (d.taken ++ r.later)) (most_read format)) (row format).image_size =
-        ap (λ n. image_text n wanted) (d.says.1 ∙ w.counted) ∙ ap (image_text (min (length (d.taken ++ r.later)) (most_read format))) d.says.2 in record {
-          taken = d.taken;
+    pub image-refuse : Got (growth before.notes after.notes) (image_text read wanted) → Finished (image_work made_of format) Refused before after
+    image-refuse line =
+        let r = rest before.source after.source taken consumed in
+        let w = wrong format taken r.later after.source.bytes wrongly r.ended in record {
+          taken = taken;
           later = r.later;
           input = r.input;
-          outcome = refused format (d.taken ++ r.later);
-          gives = sym (is-refused format (d.taken ++ r.later) w.size);
+          outcome = refused format (taken ++ r.later);
+          gives = sym (is-refused made_of format (taken ++ r.later) w.size);
           status_is = refl;
-          image_got = got-nothing before.image.bytes after.image.bytes d.says.3;
-          notes_got = subst (Got (growth before.notes after.notes)) text line;
+          image_got = got-nothing before.image.bytes after.image.bytes same;
+          notes_got = subst (Got (growth before.notes after.notes)) (text_is r.later w) line;
           leaves = w.left;
         }
 
     -- a part of it
-    pub write-cut-notes : GotPart (growth before.notes after.notes) (image_text read wanted) → IsCut (write_work format) NotesFault before after
-    write-cut-notes part =
-        let r = rest before.source after.source d.taken d.consumed in
-        let w = wrong format d.taken r.later after.source.bytes d.says.0 r.ended in
-        let text : image_text read wanted ≡ image_text (min (length (d.taken ++ r.later)) (most_read format)) (row format).image_size =
-        ap (λ n. image_text n wanted) (d.says.1 ∙ w.counted) ∙ ap (image_text (min (length (d.taken ++ r.later)) (most_read format))) d.says.2 in
-        let front : GivesFront (refused format (d.taken ++ r.later)) (growth before.image after.image) (growth before.notes after.notes) = record {
-          image_front = (0, got-nothing before.image.bytes after.image.bytes d.says.3);
-          notes_front = (part.0, subst (λ bytes. Got (growth before.notes after.notes) (take part.0 bytes)) text part.2);
+    pub image-cut-notes : GotPart (growth before.notes after.notes) (image_text read wanted)
+        → IsCut (image_work made_of format) NotesFault before after
+    image-cut-notes part =
+        let r = rest before.source after.source taken consumed in
+        let w = wrong format taken r.later after.source.bytes wrongly r.ended in
+        let front : GivesFront (refused format (taken ++ r.later)) (growth before.image after.image) (growth before.notes after.notes) = record {
+          image_front = (0, got-nothing before.image.bytes after.image.bytes same);
+          notes_front = (part.0, subst (λ bytes. Got (growth before.notes after.notes) (take part.0 bytes)) (text_is r.later w) part.2);
         } in record {
-          taken = d.taken;
+          taken = taken;
           later = r.later;
           input = r.input;
           place = (
-            subst (λ o. GivesFront o (growth before.image after.image) (growth before.notes after.notes)) (sym (is-refused format (d.taken ++ r.later) w.size)) front,
+            subst (λ o. GivesFront o (growth before.image after.image) (growth before.notes after.notes))
+                (sym (is-refused made_of format (taken ++ r.later) w.size)) front,
             w.left,
           );
         }

@@ -3,6 +3,7 @@ pub mod Results
 pub mod Inputs
 pub mod DisksRun
 pub mod ImagesRun
+pub mod G64Run
 pub mod TurnsRun
 pub mod Runs
 pub mod Outcomes

@@ -1,9 +1,11 @@
+pub mod G64Disks
 pub mod Commands
 pub mod Turns
 pub mod Work
 pub mod TurnsWork
 pub mod DisksWork
 pub mod ImagesWork
+pub mod G64Work
 pub mod Works
 pub mod Runs
 pub mod DisksRuns

@@ -2,8 +2,9 @@ ghost use Rattle.std.specs.Prelude.{◌≡◌, [], ◌∷◌};
 ghost use Rattle.flux_cli.specs.Commands.{AskFor};
 ghost use Rattle.sector_images.specs.Formats.{row};
 
+use crate::g64_disk::G64Disk;
 use flux_base::Word;
-use sector_images::Format;
+use sector_images::{Format, words_name_formats};
 
 /// What the words ask for.
 #[derive(Clone, Copy, Debug, PartialEq, Eq)]
@@ -16,6 +17,10 @@ pub enum Command {
     Report(Format),
     /// The streams of a disk's tracks, from its image.
     Write(Format),
+    /// The file that emulators keep of a disk, from its image.
+    ToG64(G64Disk),
+    /// An image from such a file, and a report in the notes.
+    FromG64(G64Disk),
 }
 
 /// What comes of the streams of a disk.
@@ -62,12 +67,23 @@ fn format_command(verb: &[u8], word: &[u8]) -> Option<Command>
 fn command_over(verb: &[u8], format: Format) -> Option<Command>
     ensures { AskFor (verb.now ∷ (row format).word ∷ []) result }
 {
+    words_name_formats();
     if verb == b"decode".as_slice() {
         Some(Command::Decode(format))
     } else if verb == b"report".as_slice() {
         Some(Command::Report(format))
     } else if verb == b"write".as_slice() {
         Some(Command::Write(format))
+    } else if verb == b"to-g64".as_slice() {
+        match G64Disk::of_format(format) {
+            Some(disk) => Some(Command::ToG64(disk)),
+            None => None,
+        }
+    } else if verb == b"from-g64".as_slice() {
+        match G64Disk::of_format(format) {
+            Some(disk) => Some(Command::FromG64(disk)),
+            None => None,
+        }
     } else {
         None
     }

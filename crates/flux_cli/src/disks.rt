@@ -82,7 +82,7 @@ fn decode_to<S: Source, W: Sink, N: Sink>(
 }
 
 /// Whether every sector of a disk is good.
-fn status_of(totals: &Totals) -> Status
+pub(crate) fn status_of(totals: &Totals) -> Status
     ensures { result ≡ status_of totals.now None }
 {
     if totals.good == totals.sectors {

@@ -11,5 +11,6 @@ pub fn outcomes_are_one()
     ensures { (words : List (List ℕ)) (x : List ℕ) (a b : Outcome) → IsOutcome words x a → IsOutcome words x b → a ≡ b }
 {
     words_name_formats();
+    g64_image::file_disks_are_one();
     flux_engine::outcomes_are_one()
 }

@@ -3,6 +3,8 @@
 
 mod command;
 mod disks;
+mod g64_disk;
+mod g64_files;
 mod images;
 mod laws;
 mod program;

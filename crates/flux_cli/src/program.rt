@@ -8,11 +8,13 @@ ghost use Rattle.kryo_stream.specs.Room.{IsFresh};
 
 use crate::command::{Command, Output, command_of};
 use crate::disks::decode;
+use crate::g64_files::{from_file, to_file};
 use crate::images::write;
 use crate::turns::write_turns;
 use captured_disks::captured_disks_decode;
 use flux_base::{Memory, Sink, Source, Status, Word, write_whole};
 use flux_engine::{DiskRoom, WriteRoom};
+use g64_image::G64Room;
 use kryo_stream::{RoomFault, StreamRoom};
 use sector_images::words_name_formats;
 use sector_report::{refused_line, usage_line, write_line};
@@ -83,6 +85,14 @@ fn run_words<S: Source, W: Sink, N: Sink>(
         },
         Some(Command::Write(format)) => match WriteRoom::reserve(alloc, format) {
             Ok(mut room) => write(&mut room, source, image, notes),
+            Err(Memory) => Status::Memory,
+        },
+        Some(Command::ToG64(disk)) => match G64Room::reserve(alloc, disk.format()) {
+            Ok(mut room) => to_file(&mut room, source, image, notes),
+            Err(Memory) => Status::Memory,
+        },
+        Some(Command::FromG64(disk)) => match G64Room::reserve(alloc, disk.format()) {
+            Ok(mut room) => from_file(&mut room, source, image, notes),
             Err(Memory) => Status::Memory,
         },
     }

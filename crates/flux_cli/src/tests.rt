@@ -14,7 +14,7 @@ const TWO_TRANSITIONS: [u8; 50] = [
 ];
 
 const USAGE: &str =
-    "usage: flux turns | decode FORMAT | report FORMAT | write FORMAT | trial FORMAT SEED\n";
+    "usage: flux turns | decode FORMAT | report FORMAT | write FORMAT | trial FORMAT SEED | to-g64 FORMAT | from-g64 FORMAT\n";
 
 /// What a run answered and wrote.
 #[derive(Drop)]

@@ -1,5 +1,5 @@
 -- The steps of decoding a disk.
-use Rattle.std.specs.Prelude.{◌≡◌, ◌≤◌, ◌<◌, ℕ, ◌+◌, Bool, true, false, List, [], ◌∷◌, ◌++◌, length, take, find, sum_by, nat_lt, is_some, option_and_then, option_map, Option, Some, None, Ok, Err, refl}
+use Rattle.std.specs.Prelude.{◌≡◌, ◌≤◌, ◌<◌, ℕ, ◌+◌, Bool, true, false, List, [], ◌∷◌, ◌++◌, length, take, find, nat_lt, is_some, option_and_then, option_map, Option, Some, None, Ok, Err, refl}
 use Rattle.std.specs.List.{range_with_len}
 use Rattle.std.specs.Io.KnownBytes.{Appends}
 use Rattle.std.proofs.Common.{ap, sym, subst, ◌∙◌, arith, inl, inr, add-one, append_assoc, append-nil, length-append}
@@ -7,8 +7,6 @@ use Rattle.std.proofs.KnownBytes.{Appends-nil, Appends-trans, Consumes-nil, Cons
 use Rattle.std.proofs.lemmas.Bool.{cases_lt, lt-ltb}
 use Rattle.std.proofs.lemmas.List.{length_push, get_or_append_left}
 use Rattle.std.proofs.Math.Seq.{get_or-append_seam}
-use Rattle.std.proofs.lemmas.List.Concat.{flat_map-append}
-use Rattle.std.proofs.lemmas.List.Sums.{sum_by-append}
 use Rattle.flux_base.specs.Outside.{AppendsPart}
 use Rattle.kryo_stream.specs.Outcome.{input_of}
 use Rattle.kryo_stream.specs.Stream.{first_fault, times, indexes}
@@ -21,6 +19,7 @@ use Rattle.sector_report.specs.declared.totals.Totals.{Totals}
 use Rattle.flux_engine.specs.Answers.{Answer, DecodesTrack, DecodesDisk, IsTrackStream, SaysOfDisk, WroteAll, IsTakenBehind, AppendsAndPart}
 use Rattle.flux_engine.specs.Disks.{Stop, IsPartAt, part_at, AreParts, images, lines, totals_over, stop_at, stop_of, decoded_count, Decoded, decoded_of, no_totals}
 use Rattle.flux_engine.specs.Reading.{HasDecoded}
+use Rattle.flux_engine.specs.PartLaws.{images-more, lines-more, totals-more}
 use Rattle.flux_engine.specs.Recordings.{track_at}
 use Rattle.flux_engine.specs.Room.{RoomState, fresh}
 use Rattle.flux_engine.specs.Streams.{behind, behind_stream, stream_at, has_fault}
@@ -29,40 +28,6 @@ use Rattle.flux_engine.specs.Writing.{sum_of}
 use Rattle.flux_engine.specs.declared.fault.EngineFault.{EngineFault}
 use Rattle.flux_engine.specs.declared.fault.EngineFault.TheVariants.{ReadFault, ImageFault, NotesFault, Refused}
 use Rattle.flux_engine.proofs.Finding.{find-first, find-none}
-
--- parts of the image, lines and totals of one track more
-images-more : (parts : List Part) (part : Part) → images (parts ++ part ∷ []) ≡ images parts ++ part.image
-images-more parts part =
-    flat_map-append (λ (p : Part). p.image) parts (part ∷ []) ∙ ap (λ (r : List ℕ). images parts ++ r) (append-nil part.image)
-
-lines-more : (parts : List Part) (part : Part) → lines (parts ++ part ∷ []) ≡ lines parts ++ part.lines
-lines-more parts part =
-    flat_map-append (λ (p : Part). p.lines) parts (part ∷ []) ∙ ap (λ (r : List ℕ). lines parts ++ r) (append-nil part.lines)
-
-sum-more : (f : Part → ℕ) (parts : List Part) (part : Part) → sum_by f (parts ++ part ∷ []) ≡ sum_by f parts + f part
-sum-more f parts part =
-    let whole = sum_by-append f parts (part ∷ []) in
-    let one : sum_by f (part ∷ []) ≡ f part = omega arith in
-    whole ∙ ap (λ (n : ℕ). sum_by f parts + n) one
-
-abbrev of_numbers : (sectors good bad missing contradictory : ℕ) → Totals
-of_numbers s g b m c = record { sectors = s; good = g; bad = b; missing = m; contradictory = c }
-
-totals-same : (a b : Totals) → a.sectors ≡ b.sectors → a.good ≡ b.good → a.bad ≡ b.bad → a.missing ≡ b.missing → a.contradictory ≡ b.contradictory → a ≡ b
-totals-same a b s g d m c =
-    ap (λ (n : ℕ). of_numbers n a.good a.bad a.missing a.contradictory) s
-    ∙ ap (λ (n : ℕ). of_numbers b.sectors n a.bad a.missing a.contradictory) g
-    ∙ ap (λ (n : ℕ). of_numbers b.sectors b.good n a.missing a.contradictory) d
-    ∙ ap (λ (n : ℕ). of_numbers b.sectors b.good b.bad n a.contradictory) m
-    ∙ ap (λ (n : ℕ). of_numbers b.sectors b.good b.bad b.missing n) c
-
-totals-more : (parts : List Part) (part : Part) → totals_over (parts ++ part ∷ []) ≡ sum_of (totals_over parts) part.totals
-totals-more parts part = totals-same (totals_over (parts ++ part ∷ [])) (sum_of (totals_over parts) part.totals)
-    (sum-more (λ (p : Part). p.totals.sectors) parts part)
-    (sum-more (λ (p : Part). p.totals.good) parts part)
-    (sum-more (λ (p : Part). p.totals.bad) parts part)
-    (sum-more (λ (p : Part). p.totals.missing) parts part)
-    (sum-more (λ (p : Part). p.totals.contradictory) parts part)
 
 no_part : Part
 no_part = record { image = []; lines = []; totals = no_totals }

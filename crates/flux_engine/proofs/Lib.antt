@@ -1,6 +1,5 @@
 pub mod Walks
 pub mod Zeros
-pub mod Pieces
 pub mod ImagePieces
 pub mod RecoveredCells
 pub mod Streams

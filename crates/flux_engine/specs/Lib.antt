@@ -1,9 +1,13 @@
 pub mod Streams
 pub mod Recordings
 pub mod Tracks
+pub mod TrackParts
 pub mod Gathering
+pub mod NoteLaws
 pub mod Writing
 pub mod Disks
+pub mod PartLaws
+pub mod Pieces
 pub mod Room
 pub mod Answers
 pub mod Reading

@@ -72,7 +72,7 @@ fn decode_tracks<S: Source, W: Sink, N: Sink>(
     let mut totals = no_totals();
     for number in 0..track_count(room.format) {
         match decode_track(room, number, source, image, notes) {
-            Ok(more) => add(&mut totals, more),
+            Ok(more) => add_totals(&mut totals, more),
             Err(fault) => return Err(fault),
         }
     }
@@ -80,7 +80,7 @@ fn decode_tracks<S: Source, W: Sink, N: Sink>(
 }
 
 /// Adds the totals of one track more.
-fn add(totals: &mut Totals, more: Totals)
+pub fn add_totals(totals: &mut Totals, more: Totals)
     requires sum { IsSum totals.old }
     requires more { IsSum more }
     requires few { totals.old.sectors + more.sectors < 1000000 }

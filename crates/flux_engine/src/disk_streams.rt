@@ -62,8 +62,8 @@ pub fn write_disk<S: Source, W: Sink>(
     }
 }
 
-/// Reads until the buffer is full or the source has ended, and gives the number of bytes.
-fn fill<S: Source>(buffer: &mut [u8], source: &mut S) -> Result<usize, Failed>
+/// Reads until the buffer is full or the source has ended, and gives the number of bytes, which stand at the buffer's front.
+pub fn fill<S: Source>(buffer: &mut [u8], source: &mut S) -> Result<usize, Failed>
     ensures bound { IfOk result (λ count. count ≤ length buffer.new) }
     ensures len { length buffer.new ≡ length buffer.old }
     ensures ok { IfOk result (λ count. Consumes (S.left source.old) (S.left source.new) (take count buffer.new)) }

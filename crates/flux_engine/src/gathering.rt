@@ -33,7 +33,7 @@ pub(crate) fn gather<R: Recording>(
     let mut passed = 0;
     while let Some((cell, reading)) = next_reading(recording, cells, from, track, &mut buffer) {
         passed += cells.ones_between(from, cell + 1);
-        note(
+        note_reading(
             book,
             reading,
             place_of(flux, passed, cell),
@@ -58,8 +58,8 @@ fn place_of(flux: &TrackFlux, ones_to: usize, cell: usize) -> Place
     }
 }
 
-/// Notes what is read at a place.
-fn note(book: &mut Book, reading: Reading, place: Place, bytes: &[u8])
+/// Notes what is read at a place of a track: a good sector with its bytes, or a bad one.
+pub fn note_reading(book: &mut Book, reading: Reading, place: Place, bytes: &[u8])
     requires fits { CanBeNoted book.old reading bytes.now }
     requires few { book.old.notes < 2 ^ 31 }
     ensures shape { SameShape book.old book.new }

@@ -20,14 +20,16 @@ mod ring_making;
 mod room;
 mod sectors;
 mod track;
+mod track_part;
 mod write_fault;
 mod write_laws;
 mod write_room;
 mod writing;
 
-pub use disk::decode_disk;
-pub use disk_streams::write_disk;
+pub use disk::{add_totals, decode_disk};
+pub use disk_streams::{fill, write_disk};
 pub use fault::EngineFault;
+pub use gathering::note_reading;
 pub use laws::{
     good_is_right, good_is_right_on_disks, lines_tell_verdicts, outcomes_are_one,
     parts_fill_images, parts_stay,
@@ -35,9 +37,11 @@ pub use laws::{
 pub use ring_making::track_ring;
 pub use room::DiskRoom;
 pub use track::decode_track;
+pub use track_part::{PartFault, write_part};
 pub use write_fault::WriteFault;
 pub use write_laws::{captures_are_recovered, streams_are_captures};
 pub use write_room::WriteRoom;
+pub use writing::no_totals;
 
 #[cfg(test)]
 mod tests;

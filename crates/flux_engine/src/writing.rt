@@ -70,6 +70,7 @@ pub(crate) fn write_lines<N: Sink>(
     requires few { AreFew sectors }
     requires known { Knows sectors book.now }
     ensures ok { OnOk result ((readings : List Reading) → StandsFor book.now readings → Appends (N.written notes.old) (N.written notes.new) (lines_of track sectors readings)) }
+    ensures counted { IfOk result (λ totals. IsSum totals × (totals.sectors ≡ sectors.count)) }
     ensures totals { IfOk result (λ totals. (readings : List Reading) → StandsFor book.now readings → totals ≡ totals_of (map (verdict_over readings) (numbers sectors))) }
     ensures err { OnErr result ((readings : List Reading) → StandsFor book.now readings → AppendsPart (N.written notes.old) (N.written notes.new) (lines_of track sectors readings)) }
     ensures later { N.faults notes.old ≤ N.faults notes.new }
@@ -89,7 +90,7 @@ pub(crate) fn write_lines<N: Sink>(
 }
 
 /// The totals of no sector.
-pub(crate) fn no_totals() -> Totals
+pub fn no_totals() -> Totals
     ensures value { result ≡ totals_of [] }
     ensures sum { IsSum result }
 {

@@ -9,7 +9,7 @@ use Rattle.turn_merge.specs.declared.verdict.Verdict.TheVariants.{Good, Contradi
 use Rattle.sector_report.specs.declared.totals.Totals.{Totals}
 
 unfoldable pub usage_text : List ℕ
-usage_text = codes "usage: flux turns | decode FORMAT | report FORMAT | write FORMAT | trial FORMAT SEED\n"
+usage_text = codes "usage: flux turns | decode FORMAT | report FORMAT | write FORMAT | trial FORMAT SEED | to-g64 FORMAT | from-g64 FORMAT\n"
 
 unfoldable pub transitions_text : ℕ → List ℕ
 transitions_text count = codes "transitions " ++ decimal count ++ codes "\n"

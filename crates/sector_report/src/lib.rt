@@ -10,7 +10,7 @@ mod totals;
 mod usage;
 
 pub use laws::{sector_lines_tell, sectors_have_one_line, totals_have_one_line};
-pub use line::{Line, write_line};
+pub use line::{Line, put, put_named, put_u32, write_line};
 pub use refused::{image_line, refused_line};
 pub use sector_lines::{sector_line, total_line};
 pub use stream_lines::{transitions_line, turn_line};

@@ -24,14 +24,14 @@ loop-number-init g c = record {
   notes_later = omega arith;
 }
 
-pub add-requires-clause-more : goal.add-requires-clause-more
-add-requires-clause-more g c =
+pub add_totals-requires-clause-more : goal.add_totals-requires-clause-more
+add_totals-requires-clause-more g c =
     let d = c.in-Ok.ensures.decoded in
     let format = c.loop-number.room.format in
     rw d.wrote.4 (part_sum format (track_at format c.loop-number.number) d.times d.indexes d.wrote.0 d.wrote.1)
 
-pub add-requires-clause-few : goal.add-requires-clause-few
-add-requires-clause-few g c =
+pub add_totals-requires-clause-few : goal.add_totals-requires-clause-few
+add_totals-requires-clause-few g c =
     let d = c.in-Ok.ensures.decoded in
     let format = c.loop-number.room.format in
     let same : c.in-Ok.more.sectors ≡ d.wrote.0.totals.sectors = ap (λ (t : Totals). t.sectors) d.wrote.4 in
@@ -93,18 +93,18 @@ loop-number-preserved g c =
     let known = track_known c.sectors_lie_in_images.ensures.numbers room.format n (omega (arith, count, all)) in
     let few = part_few c.tracks_keep_bounds.ensures.bounds room.format (track_at room.format n) known here.times here.indexes here.wrote.0 here.wrote.1 in
     let same : c.in-Ok.more.sectors ≡ here.wrote.0.totals.sectors = ap (λ (t : Totals). t.sectors) here.wrote.4 in
-    let sum : c.add.new.totals.sectors ≡ c.loop-number.totals.sectors + c.in-Ok.more.sectors = ap (λ (t : Totals). t.sectors) c.add.ensures.value in
+    let sum : c.add_totals.new.totals.sectors ≡ c.loop-number.totals.sectors + c.in-Ok.more.sectors = ap (λ (t : Totals). t.sectors) c.add_totals.ensures.value in
     record {
       decoded = decoded_more c.args.room.now.format (g.S.Source.left c.args.source.now) mid left' (g.W.Sink.written c.args.image.now) imid image'
-          (g.N.Sink.written c.args.notes.now) nmid notes' room room'.held n c.loop-number.totals h room' c.in-Ok.more c.add.new.totals d
-          c.in-Ok.ensures.format c.in-Ok.ensures.held c.in-Ok.ensures.used c.in-Ok.ensures.next c.in-Ok.ensures.sound c.add.ensures.value;
+          (g.N.Sink.written c.args.notes.now) nmid notes' room room'.held n c.loop-number.totals h room' c.in-Ok.more c.add_totals.new.totals d
+          c.in-Ok.ensures.format c.in-Ok.ensures.held c.in-Ok.ensures.used c.in-Ok.ensures.next c.in-Ok.ensures.sound c.add_totals.ensures.value;
       needed = λ bytes told.
           let low : n < length (tracks c.args.room.now.format) = omega (arith, count) in
           track_more c.args.room.now.format bytes (source_at g.S.Source.left g.S.Source.given g.S.Source.faults c.args.source.now)
           (source_at g.S.Source.left g.S.Source.given g.S.Source.faults c.loop-number.source) (source_at g.S.Source.left g.S.Source.given g.S.Source.faults c.decode_track.new.source)
           told (g.W.Sink.written c.args.image.now) (g.W.Sink.written c.loop-number.image) (g.N.Sink.written c.args.notes.now) (g.N.Sink.written c.loop-number.notes)
           c.loop-number.room n c.loop-number.totals h low (c.loop-number.invariant.needed bytes told) c.in-Ok.ensures.needed;
-      sum = c.add.ensures.sum;
+      sum = c.add_totals.ensures.sum;
       few = omega (arith, few, same, sum, c.loop-number.invariant.few);
       source_later = omega (arith, c.loop-number.invariant.source_later, c.in-Ok.ensures.source_later);
       image_later = omega (arith, c.loop-number.invariant.image_later, c.in-Ok.ensures.image_later);

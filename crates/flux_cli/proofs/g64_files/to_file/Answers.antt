@@ -1,0 +1,66 @@
+use Rattle.std.proofs.Common.{arith}
+use Rattle.std.proofs.KnownBytes.{Appends-nil, Keeps-refl}
+use Rattle.g64_image.specs.Layout.{g64_file}
+use Rattle.flux_cli.specs.G64Disks.{format_of}
+use Rattle.flux_cli.proofs.ImagesRun.{image-finish, image-refuse, image-cut-read, image-cut-image, image-cut-notes, image-reads}
+use Rattle.flux_cli.proofs.g64_files.to_file.Goals as goal
+
+pub returns-in-Ok-clause-does : goal.returns-in-Ok-clause-does
+returns-in-Ok-clause-does g c = λ disk is.
+    let w = rw is at c.in-Ok.ensures.wrote in record {
+      answer = tt;
+      says = image-finish (g64_file (format_of disk)) (format_of disk) _ _ w.taken w.consumed w.says.0 w.says.1 (Appends-nil _);
+      counts = record { source = c.in-Ok.ensures.source_later; image = c.in-Ok.ensures.sink_later; notes = omega arith };
+      needed = λ x told. image-reads (format_of disk) (rw is at c.in-Ok.ensures.needed);
+    }
+
+pub returns-in-Err-ImageFault-clause-does : goal.returns-in-Err-ImageFault-clause-does
+returns-in-Err-ImageFault-clause-does g c = λ disk is.
+    let e = c.in-Err-ImageFault in
+    let w = rw (e.field-0-is, is) at e.ensures.wrote in record {
+      answer = tt;
+      says = (
+        image-cut-image (g64_file (format_of disk)) (format_of disk) _ _ w.taken w.consumed w.says.0 w.says.1 (Appends-nil _),
+        (rw e.field-0-is at e.ensures.cause),
+      );
+      counts = record { source = e.ensures.source_later; image = e.ensures.sink_later; notes = omega arith };
+      needed = λ x told. image-reads (format_of disk) (rw is at e.ensures.needed);
+    }
+
+pub returns-in-Err-ReadFault-clause-does : goal.returns-in-Err-ReadFault-clause-does
+returns-in-Err-ReadFault-clause-does g c = λ disk is.
+    let e = c.in-Err-ReadFault in
+    let w = rw (e.field-0-is, is) at e.ensures.wrote in record {
+      answer = tt;
+      says = (
+        image-cut-read (g64_file (format_of disk)) (format_of disk) _ _ w.taken w.consumed w.says.0 w.says.1 (Keeps-refl _),
+        (rw e.field-0-is at e.ensures.cause),
+      );
+      counts = record { source = e.ensures.source_later; image = e.ensures.sink_later; notes = omega arith };
+      needed = λ x told. image-reads (format_of disk) (rw is at e.ensures.needed);
+    }
+
+pub returns-in-Ok-write_line-clause-does : goal.returns-in-Ok-write_line-clause-does
+returns-in-Ok-write_line-clause-does g c = λ disk is.
+    let e = c.in-Err-WrongSize in
+    let w = rw (e.field-0-is, is) at e.ensures.wrote in record {
+      answer = tt;
+      says = image-refuse (g64_file (format_of disk)) (format_of disk) _ _ w.taken w.consumed e.read e.wanted w.says.0 w.says.1 w.says.2 w.says.3
+          (rw c.image_line.ensures at c.in-Ok-write_line.ensures.ok);
+      counts = record { source = e.ensures.source_later; image = e.ensures.sink_later; notes = c.in-Ok-write_line.ensures.later };
+      needed = λ x told. image-reads (format_of disk) (rw is at e.ensures.needed);
+    }
+
+pub returns-in-Err-clause-does : goal.returns-in-Err-clause-does
+returns-in-Err-clause-does g c = λ disk is.
+    let e = c.in-Err-WrongSize in
+    let w = rw (e.field-0-is, is) at e.ensures.wrote in record {
+      answer = tt;
+      says = (
+        image-cut-notes (g64_file (format_of disk)) (format_of disk) _ _ w.taken w.consumed e.read e.wanted w.says.0 w.says.1 w.says.2 w.says.3
+            (rw c.image_line.ensures at c.in-Err.ensures.err),
+        c.in-Err.ensures.cause,
+      );
+      counts = record { source = e.ensures.source_later; image = e.ensures.sink_later; notes = c.in-Err.ensures.later };
+      needed = λ x told. image-reads (format_of disk) (rw is at e.ensures.needed);
+    }

@@ -1,0 +1,56 @@
+//! What a track comes to, written to the image and to the notes.
+
+ghost use Rattle.std.specs.Prelude.{◌≡◌, ◌≤◌, List, IfOk};
+ghost use Rattle.sector_images.specs.Places.{IsTrack};
+ghost use Rattle.turn_merge.specs.Book.{StandsFor};
+ghost use Rattle.turn_merge.specs.Readings.{Reading};
+ghost use Rattle.flux_engine.specs.Recordings.{sectors_of as sectors_in};
+ghost use Rattle.flux_engine.specs.TrackParts.{PartCause, WritesPart};
+ghost use Rattle.flux_engine.specs.Tracks.{part_of};
+ghost use Rattle.flux_engine.specs.Writing.{IsSum, Knows};
+
+use crate::recordings::sectors_of;
+use crate::writing::{write_image, write_lines};
+use flux_base::{Sink, TrackId};
+use sector_images::{Format, tracks_keep_bounds};
+use sector_report::Totals;
+use turn_merge::Book;
+
+/// Which sink failed as a track was written.
+#[derive(Clone, Copy, Debug, PartialEq, Eq)]
+pub enum PartFault {
+    /// The sink of the image.
+    ImageFault,
+    /// The sink of the notes.
+    NotesFault,
+}
+
+/// Writes what the readings of a track come to, as `decode_track` does: its part of the image, a piece for each sector,
+/// in the order of their places there, and then its lines by the sectors' numbers, each in one piece. Gives its totals.
+pub fn write_part<W: Sink, N: Sink>(
+    format: Format,
+    track: TrackId,
+    book: &Book,
+    image: &mut W,
+    notes: &mut N,
+) -> Result<Totals, PartFault>
+    requires track { IsTrack format track }
+    requires known { Knows (sectors_in format track) book.now }
+    ensures wrote { (readings : List Reading) → StandsFor book.now readings
+        → WritesPart (part_of format track readings) (W.written image.old) (W.written image.new) (N.written notes.old) (N.written notes.new) result }
+    ensures sum { IfOk result IsSum }
+    ensures few { IfOk result (λ totals. totals.sectors ≤ 100) }
+    ensures cause { PartCause (W.faults image.old) (W.faults image.new) (N.faults notes.old) (N.faults notes.new) result }
+    ensures image_later { W.faults image.old ≤ W.faults image.new }
+    ensures notes_later { N.faults notes.old ≤ N.faults notes.new }
+{
+    tracks_keep_bounds();
+    match write_image(format, track, book, image) {
+        Ok(()) => {}
+        Err(_) => return Err(PartFault::ImageFault),
+    }
+    match write_lines(track, sectors_of(format, track), book, notes) {
+        Ok(totals) => Ok(totals),
+        Err(_) => Err(PartFault::NotesFault),
+    }
+}

@@ -1,0 +1,16 @@
+use Rattle.std.proofs.Common.{◌≤◌, ◌*◌}
+use Rattle.flux_engine.specs.Writing.{IsSum}
+use Rattle.g64_image.specs.Progress.{HasRead}
+use Rattle.g64_image.specs.Room.{IsRoomy}
+use Rattle.g64_image.proofs.reading.write_tracks.Given as goal
+
+abbrev pub invariant-loop-number : goal.invariant-loop-number
+invariant-loop-number g l = record {
+  read : HasRead l.format l.file (g.W.Sink.written l.initial.image) (g.W.Sink.written l.image) (g.N.Sink.written l.initial.notes) (g.N.Sink.written l.notes)
+      l.number l.totals;
+  roomy : IsRoomy l.format l.tools.cells l.tools.book;
+  sum : IsSum l.totals;
+  few : l.totals.sectors ≤ 100 * l.number;
+  image_later : g.W.Sink.faults l.initial.image ≤ g.W.Sink.faults l.image;
+  notes_later : g.N.Sink.faults l.initial.notes ≤ g.N.Sink.faults l.notes;
+}

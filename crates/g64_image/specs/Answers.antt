@@ -1,0 +1,144 @@
+-- What the calls that write and read files may answer, and what that says of the bytes that were taken and written.
+use Rattle.std.specs.Prelude.{◌≡◌, ◌≢◌, ◌≤◌, ◌<◌, ◌⊎◌, ℕ, ◌+◌, List, [], ◌∷◌, ◌++◌, drop, length, min, Option, Some, None, Result, Ok, Err}
+use Rattle.std.specs.Io.KnownBytes.{Appends, Consumes, IsAtEnd}
+use Rattle.flux_base.specs.Outside.{AppendsPart, Rose}
+use Rattle.flux_engine.specs.Answers.{AppendsAndPart}
+use Rattle.flux_engine.specs.Disks.{images, lines, totals_over}
+use Rattle.flux_engine.specs.Tracks.{Part}
+use Rattle.flux_engine.specs.Writes.{IsNoImage, IsWholeImage, most_read}
+use Rattle.sector_images.specs.Formats.{row}
+use Rattle.sector_images.specs.Places.{tracks}
+use Rattle.sector_images.specs.declared.format.Format.{Format}
+use Rattle.sector_report.specs.Lines.{total_text}
+use Rattle.sector_report.specs.declared.totals.Totals.{Totals}
+use Rattle.g64_image.specs.Faults.{MOST_BYTES, first_fault}
+use Rattle.g64_image.specs.FileDisks.{AreFileParts, FileDisk, IsFileDisk}
+use Rattle.g64_image.specs.Layout.{g64_file}
+use Rattle.g64_image.specs.declared.fault.ToStop.{ToStop}
+use Rattle.g64_image.specs.declared.fault.ToStop.TheVariants.{ReadFault as ToReadFault, ImageFault as ToImageFault, WrongSize}
+use Rattle.g64_image.specs.declared.fault.FromStop.{FromStop}
+use Rattle.g64_image.specs.declared.fault.FromStop.TheVariants.{ReadFault, ImageFault, NotesFault, Refused}
+
+abbrev pub ToAnswer : Type 0
+ToAnswer = Result (Unit {0}) ToStop
+
+abbrev pub FromAnswer : Type 0
+FromAnswer = Result Totals FromStop
+
+-- a fault of an object of the outside comes only where its count rose
+abbrev pub ToCause : (source source' sink sink' : ℕ) → ToAnswer → Type 0
+ToCause source source' sink sink' (Err ToReadFault) = Rose source source'
+ToCause source source' sink sink' (Err ToImageFault) = Rose sink sink'
+ToCause source source' sink sink' _ = Unit {0}
+
+-- what the answer says of the bytes that were taken as an image, and of those that were written as its file
+abbrev pub SaysOfImage : Format → (taken : List ℕ) → (left' written written' : Option (List ℕ)) → ToAnswer → Type 0
+SaysOfImage format taken left' written written' (Ok _) =
+    IsWholeImage format taken left' × Appends written written' (g64_file format taken)
+SaysOfImage format taken left' written written' (Err ToImageFault) =
+    IsWholeImage format taken left' × AppendsPart written written' (g64_file format taken)
+SaysOfImage format taken left' written written' (Err (WrongSize read wanted)) =
+    IsNoImage format taken left' × (read ≡ length taken) × (wanted ≡ (row format).image_size) × (written' ≡ written)
+SaysOfImage format taken left' written written' (Err ToReadFault) =
+    (length taken ≤ (row format).image_size) × (written' ≡ written)
+
+-- A call that writes the file of an image: it took these bytes.
+pub record WritesFile (format : Format) (left left' written written' : Option (List ℕ)) (answer : ToAnswer) : Type 0 where
+  pub taken : List ℕ
+  pub consumed : Consumes left left' taken
+  pub says : SaysOfImage format taken left' written written' answer
+
+-- What the answer says of a source that tells its bytes x: all of an image, and of other bytes at most one more than an image
+-- has, are taken.
+abbrev pub SaysOfBytes : Format → (x : List ℕ) → (left' written written' : Option (List ℕ)) → ToAnswer → Type 0
+SaysOfBytes format x left' written written' (Ok _) =
+    (length x ≡ (row format).image_size) × (left' ≡ Some []) × Appends written written' (g64_file format x)
+SaysOfBytes format x left' written written' (Err ToImageFault) =
+    (length x ≡ (row format).image_size) × (left' ≡ Some []) × AppendsPart written written' (g64_file format x)
+SaysOfBytes format x left' written written' (Err (WrongSize read wanted)) =
+    (length x ≢ (row format).image_size) × (read ≡ min (length x) (most_read format)) × (wanted ≡ (row format).image_size)
+    × (left' ≡ Some (drop (most_read format) x)) × (written' ≡ written)
+SaysOfBytes format x left' written written' (Err ToReadFault) =
+    (taken : List ℕ) × Consumes (Some x) left' taken × (length taken ≤ (row format).image_size) × (written' ≡ written)
+
+-- the file was written, or the image has another size
+abbrev pub IsWrittenOrWrongSize : ToAnswer → Type 0
+IsWrittenOrWrongSize (Ok _) = Unit {0}
+IsWrittenOrWrongSize (Err (WrongSize _ _)) = Unit {0}
+IsWrittenOrWrongSize (Err _) = ⊥
+
+-- each fault of an object of the outside comes only where its count rose
+abbrev pub FromCause : (source source' image image' notes notes' : ℕ) → FromAnswer → Type 0
+FromCause source source' image image' notes notes' (Err ReadFault) = Rose source source'
+FromCause source source' image image' notes notes' (Err ImageFault) = Rose image image'
+FromCause source source' image image' notes notes' (Err NotesFault) = Rose notes notes'
+FromCause source source' image image' notes notes' _ = Unit {0}
+
+-- these bytes were taken, and no more follow: or they are one more than a file may have
+pub record IsTakenFile (taken : List ℕ) (left' : Option (List ℕ)) : Type 0 where
+  pub most : length taken ≤ MOST_BYTES + 1
+  pub ended : length taken ≤ MOST_BYTES → IsAtEnd left'
+
+-- the lines of the first tracks were written, and their parts of the image with a part of the next that is shorter than it
+pub record StoppedInImage (format : Format) (file : List ℕ) (image image' notes notes' : Option (List ℕ)) : Type 0 where
+  pub parts : List Part
+  pub next : Part
+  pub each : AreFileParts format file (parts ++ next ∷ [])
+  pub many : length parts < length (tracks format)
+  pub image_grew : AppendsAndPart image image' (images parts) next.image
+  pub notes_grew : Appends notes notes' (lines parts)
+
+-- the lines of the first tracks were written, with a part of the lines of the next that is shorter than they are, and
+-- the parts of the image of all these tracks
+pub record StoppedInLines (format : Format) (file : List ℕ) (image image' notes notes' : Option (List ℕ)) : Type 0 where
+  pub parts : List Part
+  pub next : Part
+  pub each : AreFileParts format file (parts ++ next ∷ [])
+  pub many : length parts < length (tracks format)
+  pub image_grew : Appends image image' (images (parts ++ next ∷ []))
+  pub notes_grew : AppendsAndPart notes notes' (lines parts) next.lines
+
+-- all sector lines and the whole image were written, and a part of the total line that is shorter than it
+pub record StoppedInTotal (format : Format) (file : List ℕ) (image image' notes notes' : Option (List ℕ)) : Type 0 where
+  pub parts : List Part
+  pub each : AreFileParts format file parts
+  pub many : length parts ≡ length (tracks format)
+  pub image_grew : Appends image image' (images parts)
+  pub notes_grew : AppendsAndPart notes notes' (lines parts) (total_text (totals_over parts))
+
+-- a file without a fault was taken to its end
+pub record IsWholeFile (format : Format) (file : List ℕ) (left' : Option (List ℕ)) : Type 0 where
+  pub no_fault : first_fault format file ≡ None
+  pub ended : IsAtEnd left'
+
+-- all was written that a file without a fault comes to
+pub record WroteAll (format : Format) (file : List ℕ) (image image' notes notes' : Option (List ℕ)) (o : FileDisk) : Type 0 where
+  pub disk : IsFileDisk format file o
+  pub image_grew : Appends image image' o.image
+  pub notes_grew : Appends notes notes' o.notes
+
+-- what the answer says of the bytes that were taken as a file, and of those that were written
+abbrev pub SaysOfFile : Format → (taken : List ℕ) → (left' image image' notes notes' : Option (List ℕ)) → FromAnswer → Type 0
+SaysOfFile format taken left' image image' notes notes' (Ok totals) =
+    (o : FileDisk) × IsWholeFile format taken left' × WroteAll format taken image image' notes notes' o × (totals ≡ o.totals)
+SaysOfFile format taken left' image image' notes notes' (Err (Refused fault)) =
+    IsTakenFile taken left' × (first_fault format taken ≡ Some fault) × (image' ≡ image) × (notes' ≡ notes)
+SaysOfFile format taken left' image image' notes notes' (Err ReadFault) =
+    (length taken ≤ MOST_BYTES) × (image' ≡ image) × (notes' ≡ notes)
+SaysOfFile format taken left' image image' notes notes' (Err ImageFault) =
+    IsWholeFile format taken left' × StoppedInImage format taken image image' notes notes'
+SaysOfFile format taken left' image image' notes notes' (Err NotesFault) =
+    IsWholeFile format taken left'
+    × (StoppedInLines format taken image image' notes notes' ⊎ StoppedInTotal format taken image image' notes notes')
+
+-- A call that reads a file: it took these bytes.
+pub record ReadsFile (format : Format) (left left' image image' notes notes' : Option (List ℕ)) (answer : FromAnswer) : Type 0 where
+  pub taken : List ℕ
+  pub consumed : Consumes left left' taken
+  pub says : SaysOfFile format taken left' image image' notes notes' answer
+
+-- the file was read, or has a fault
+abbrev pub IsReadOrRefused : FromAnswer → Type 0
+IsReadOrRefused (Ok _) = Unit {0}
+IsReadOrRefused (Err (Refused _)) = Unit {0}
+IsReadOrRefused (Err _) = ⊥

@@ -1,0 +1,9 @@
+pub mod Layout
+pub mod Room
+pub mod Faults
+pub mod FileDisks
+pub mod Gathering
+pub mod Answers
+pub mod Progress
+pub mod Lines
+pub mod Laws

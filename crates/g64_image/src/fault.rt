@@ -1,0 +1,62 @@
+use thiserror::Error;
+
+/// Why a file is refused. Tracks are counted from 1.
+#[derive(Clone, Copy, Debug, PartialEq, Eq, Error)]
+pub enum G64Fault {
+    /// It has more than 4194304 bytes.
+    #[error("the file has more than 4194304 bytes")]
+    TooLarge,
+    /// It has so many bytes, fewer than its header's 12.
+    #[error("the file ends inside its header, after {0} bytes")]
+    ShortHeader(u32),
+    /// It does not begin with `GCR-1541`.
+    #[error("the file does not begin with GCR-1541")]
+    BadSignature,
+    /// It has this version, and not 0.
+    #[error("the file has version {0}")]
+    BadVersion(u8),
+    /// It has this number of half tracks: none, or more than 84.
+    #[error("the file has {0} half tracks")]
+    BadTracks(u8),
+    /// It has so many bytes, and ends inside its tables of offsets and speeds.
+    #[error("the file ends inside its tables, after {0} bytes")]
+    ShortTable(u32),
+    /// Where the track's length is to stand, the file has ended.
+    #[error("track {track} lies at {offset}, past the end of the file")]
+    BadOffset { track: u8, offset: u32 },
+    /// The file ends inside the track, which is to have so many bytes.
+    #[error("the file ends inside track {track}, which has {length} bytes")]
+    ShortTrack { track: u8, length: u16 },
+}
+
+/// Why an image was not written as a file, or not whole.
+#[derive(Clone, Copy, Debug, PartialEq, Eq, Error)]
+pub enum ToStop {
+    /// The source failed.
+    #[error("the source failed")]
+    ReadFault,
+    /// The sink of the file failed.
+    #[error("the file was not written")]
+    ImageFault,
+    /// An image of the format has another size: the bytes that were read, at most one more than it has, and those that it
+    /// has.
+    #[error("{read} bytes were read of an image of {wanted}")]
+    WrongSize { read: u32, wanted: u32 },
+}
+
+/// Why a file was not read, or its image and report not written whole.
+#[derive(Clone, Copy, Debug, PartialEq, Eq, Error)]
+pub enum FromStop {
+    /// The source failed.
+    #[error("the source failed")]
+    ReadFault,
+    /// The sink of the image failed.
+    #[error("the image was not written")]
+    ImageFault,
+    /// The sink of the notes failed.
+    #[error("the notes were not written")]
+    NotesFault,
+    /// The file has a fault.
+    #[error("{0}")]
+    Refused(G64Fault),
+}
