@@ -217,6 +217,25 @@ def g64_with_fault(chance, kinds, data):
     return data
 
 
+def case_folder(chance, kinds, built):
+    """The files of a dump, by their names: a track or a few with sectors, sometimes one that is refused, missing or joined of two."""
+    form = FORMATS[chance.choice(list(FORMATS))]
+    kinds |= {f"format {form.word}", "a folder"}
+    names = [f"track{cylinder:02}.{head}.raw" for cylinder, head in form.tracks]
+    files = dict.fromkeys(names, FILLER)
+    at = chance.randrange(len(names))
+    files[names[at]] = track_stream(chance, kinds, form, at) if one_in(chance, 2) else few(chance, kinds)
+    if one_in(chance, 3):
+        kinds.add("files missing")
+        for name in chance.sample(names, chance.choice([1, 2, len(names)])):
+            del files[name]
+    if one_in(chance, 3):
+        kinds.add("files of other names")
+        for name in ("track00.2.raw", "track99.0.raw", "track0.0.raw", "TRACK00.0.RAW", "notes"):
+            files[name] = few(chance, kinds)
+    return [b"decode-folder", form.word.encode(), b"FOLDER"], files
+
+
 # The kinds of cases: name, how many in ten thousand, how one is made, the command that it needs.
 TABLE = [
     ("words", 700, case_words, None),
@@ -229,6 +248,7 @@ TABLE = [
     ("images of any size", 360, case_wrong_size, None),
     ("images that are written", 30, case_write, None),
     ("G64 files", 150, case_g64, b"from-g64"),
+    ("folders", 200, case_folder, b"decode-folder"),
     ("trials", 8, case_trial, b"trial"),
 ]
 

@@ -2,7 +2,7 @@
 """Runs a program over generated cases, and compares its answers with the plain reading of the definitions in plain.py.
 
 The exit code and the bytes of standard output and standard error have to be the same. Cases are made from a seed and their number,
-so that each can be made again. The first input that differs is kept, with both answers.
+so that each can be made again. The smallest input that differs is kept, with both answers.
 
 usage: bench/compare.py PROGRAM [--cases N] [--seed S] [--first I] [--processes P] [--keep FOLDER]
 """
@@ -33,7 +33,12 @@ def options():
 
 
 def run(program, words, data, by_file):
-    """The program's code and bytes, over a pipe or over a file."""
+    """The program's code and bytes, over a pipe, over a file, or over the files of a folder."""
+    if isinstance(data, dict):
+        with tempfile.TemporaryDirectory() as folder:
+            for name, content in data.items():
+                pathlib.Path(folder, name).write_bytes(content)
+            return run(program, [*words[:2], folder.encode()], b"", by_file)
     command = [os.path.abspath(program).encode(), *words]
     if by_file:
         with tempfile.TemporaryFile() as source:
@@ -47,7 +52,8 @@ def run(program, words, data, by_file):
 
 # A right command over no input, for each word that a usage line may offer.
 PROBES = {b"decode": [b"ibm-3740"], b"report": [b"ibm-3740"], b"write": [b"ibm-3740"], b"trial": [b"apple-do", b"0"],
-          b"to-g64": [b"c1541"], b"from-g64": [b"c1541"], b"decode-set": [b"apple-do", b"2"]}
+          b"to-g64": [b"c1541"], b"from-g64": [b"c1541"], b"decode-set": [b"apple-do", b"2"],
+          b"decode-folder": [b"apple-do", b"/nowhere"]}
 
 
 def commands_of(program):
@@ -82,10 +88,15 @@ def answer_of(words, wanted):
     return found + sorted({"verdict " + line.split()[2] for line in lines if line[2:3] == "." and len(line.split()) > 3})
 
 
+def size_of(data):
+    return sum(map(len, data.values())) if isinstance(data, dict) else len(data)
+
+
 def keep(folder, number, words, data, wanted, got):
     folder = pathlib.Path(folder)
     folder.mkdir(parents=True, exist_ok=True)
-    (folder / "input").write_bytes(data)
+    for name, content in (data if isinstance(data, dict) else {"input": data}).items():
+        (folder / name).write_bytes(content)
     (folder / "words").write_text(f"case {number}: {words}\n")
     for name, (code, out, notes) in (("wanted", wanted), ("got", got)):
         (folder / f"{name}.code").write_text(f"{code}\n")
@@ -114,10 +125,11 @@ def main():
             answers.update(answer)
             if differs:
                 different[name] += 1
-                if first is None or len(differs[1]) < first:
-                    first = len(differs[1])
+                size = size_of(differs[1])
+                if first is None or size < first:
+                    first = size
                     keep(args.keep, number, *differs)
-                    print(f"case {number} differs, {first} bytes: kept in {args.keep}", flush=True)
+                    print(f"case {number} differs, {size} bytes: kept in {args.keep}", flush=True)
     table("cases, by kind", names)
     table("ways of damage", kinds)
     table("answers that were wanted", answers)

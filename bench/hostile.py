@@ -1,14 +1,16 @@
 #!/usr/bin/env python3
 """The worst inputs for time and memory, at 1 MiB and at 4 MiB, for each command that the program has. Needs time(1).
 
-usage: bench/hostile.py [PROGRAM [COMMAND..]]     (PROGRAM: crates/flux/out/flux; COMMAND: every one)
+usage: bench/hostile.py [--count] [PROGRAM [COMMAND..]]     (PROGRAM: crates/flux/out/flux; COMMAND: every one)
 
-A row has the processor time at both sizes, the least of some runs, their ratio, and the peak of resident memory. It fails where 4 MiB
+A row has the processor time at both sizes, the least of nine runs, their ratio, and the peak of resident memory. It fails where 4 MiB
 take more than 4.4 times what 1 MiB takes, or where the peak is not below 128 MiB. What `write` and `trial` do has one size for each
-format; there a disk of 80 cylinders is compared with one of 40, and may take 2.2 times as long.
+format; there a disk of 80 cylinders is compared with one of 40, and may take 2.2 times as long. Times mean little on a machine that
+does other work. With --count a row has millions of instructions in place of milliseconds, by valgrind(1), which are the same each time.
 """
 import os
 import random
+import re
 import struct
 import subprocess
 import sys
@@ -24,7 +26,8 @@ from plain_streams import index_block, places_of_ones, spelled_between
 
 TOP = Path(__file__).resolve().parent.parent
 SIZES = (1 << 20, 1 << 22)
-RUNS, MOST_RUNS = 3, 40
+RUNS = 9
+COUNT = "--count" in sys.argv
 PEAK = 128
 END = b"\r" * 4
 USED = ("ibm-3740", "ibm-1440", "amiga", "c1541", "apple-do")
@@ -180,21 +183,27 @@ def once(command, path):
     return usage.ru_utime + usage.ru_stime
 
 
-def compared(small, large, most):
-    """The least processor times of two runs, each a command and its input's file: other work on the machine only adds to them, so they
-    are repeated until their ratio is within its bound."""
-    least, more = 1e9, 1e9
-    for number in range(MOST_RUNS):
-        least, more = min(least, once(*small)), min(more, once(*large))
-        if number + 1 >= RUNS and more <= most * least:
-            break
-    return least, more
+def instructions(command, path):
+    """The instructions of a run, in thousands of millions."""
+    counting = ["valgrind", "--tool=cachegrind", "--cache-sim=no", "--cachegrind-out-file=/dev/null", *command]
+    with open(path, "rb") as given:
+        done = subprocess.run(counting, stdin=given, stdout=subprocess.DEVNULL, stderr=subprocess.PIPE, text=True)
+    return int(re.search(r"I +refs: +([0-9,]+)", done.stderr).group(1).replace(",", "")) / 1e9
+
+
+def compared(small, large):
+    """The least processor times of two runs, each a command and its input's file. Each is run so often whatever comes out, in turn, since
+    other work on the machine weighs on both; a row is not measured again because it is over its bound."""
+    if COUNT:
+        return instructions(*small), instructions(*large)
+    pairs = [(once(*small), once(*large)) for _ in range(RUNS)]
+    return min(first for first, _ in pairs), min(second for _, second in pairs)
 
 
 class Table:
     def __init__(self, program):
         self.program, self.rows, self.wrong, self.worst, self.peak = program, 0, 0, 0, 0
-        print(f"{'command':22} {'input':32} {'small ms':>9} {'large ms':>9} {'ratio':>6} {'MiB':>6}")
+        print(f"{'command':22} {'input':32} {'small':>9} {'large':>9} {'ratio':>6} {'MiB':>6}")
 
     def row(self, words, name, small, large, most=4.4, other=None):
         """A row: the command over the small input and over the large one, or another command over the large one."""
@@ -203,9 +212,9 @@ class Table:
             for file, data in ((first, small), (second, large)):
                 file.write(data)
                 file.flush()
-            seconds, more = compared((runs[0], first.name), (runs[1], second.name), most)
+            seconds, more = compared((runs[0], first.name), (runs[1], second.name))
             peak = max(peak_of(runs[0], first.name), peak_of(runs[1], second.name))
-        ratio = more / max(seconds, 1e-4)
+        ratio = more / max(seconds, 1e-6)
         wrong = ratio > most or not peak < PEAK
         self.rows += 1
         self.wrong += wrong
@@ -214,9 +223,10 @@ class Table:
 
 
 def main():
-    program = os.path.abspath(sys.argv[1] if len(sys.argv) > 1 else TOP / "crates/flux/out/flux")
+    given = [word for word in sys.argv[1:] if word != "--count"]
+    program = os.path.abspath(given[0] if given else TOP / "crates/flux/out/flux")
     _, built = commands_of(program)
-    wanted = sys.argv[2:] or ["turns"] + [word.decode() for word in built]
+    wanted = given[1:] or ["turns"] + [word.decode() for word in built]
     table = Table(program)
     if "turns" in wanted:
         for name, make in STREAMS:

@@ -299,6 +299,15 @@ def to_g64(form, data):
     return (0, g64_file(form, data), b"") if len(data) == form.image_bytes else wrong_size(form, data)
 
 
+def decode_folder(form, files):
+    """`files` has the bytes of a folder's files by their names."""
+    names = [f"track{cylinder:02}.{head}.raw" for cylinder, head in form.tracks]
+    for k, name in enumerate(names):
+        if name not in files:
+            return 2, b"", f"refused track {k} missing {name}\n".encode()
+    return decode(form, b"".join(files[name] for name in names))
+
+
 def turns(data):
     try:
         stream = Stream(data, 0)
@@ -327,6 +336,7 @@ COMMANDS = {
     b"to-g64": (commodore, None, lambda form, last, data: to_g64(form, data)),
     b"from-g64": (commodore, None, lambda form, last, data: from_g64(form, data)),
     b"decode-set": (any_format, lambda last: is_number(last, 2, 1, 16), lambda form, last, data: decode(form, data, int(last))),
+    b"decode-folder": (any_format, lambda last: last != b"", lambda form, last, data: decode_folder(form, data)),
 }
 
 
@@ -339,7 +349,8 @@ def is_text(data):
 
 
 def outcome(words, data, built, usage):
-    """The code and the bytes of standard output and standard error, of a program that has these commands and this usage line."""
+    """The code and the bytes of standard output and standard error, of a program that has these commands and this usage line. For
+    `decode-folder` the files of the folder stand in place of the input."""
     if not all(map(is_text, words)):
         return 9, b"", b""
     if words == [b"turns"]:
