@@ -1,0 +1,9 @@
+mod Ones
+mod Holes
+mod Passing
+mod Drives
+mod Parts
+mod Indexes
+mod Chosen
+mod Near
+mod Turns

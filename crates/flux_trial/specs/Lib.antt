@@ -1,0 +1,5 @@
+pub mod Image
+pub mod Drive
+pub mod Hole
+pub mod Times
+pub mod inside
