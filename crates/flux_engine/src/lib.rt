@@ -36,7 +36,7 @@ pub use ring_making::track_ring;
 pub use room::DiskRoom;
 pub use track::decode_track;
 pub use write_fault::WriteFault;
-pub use write_laws::{captures_are_recovered, streams_are_captures};
+pub use write_laws::{captures_are_recovered, images_have_rings, streams_are_captures};
 pub use write_room::WriteRoom;
 
 #[cfg(test)]
