@@ -7,3 +7,10 @@ mod Indexes
 mod Chosen
 mod Near
 mod Turns
+mod Sound
+mod Streams
+mod Rings
+mod Joined
+mod Trials
+mod Writing
+mod Giving

@@ -6,6 +6,15 @@ mod flux;
 mod head;
 mod hole;
 mod image;
+mod kept;
+mod room;
+mod source;
+mod trial;
 
 pub use flux::trial_flux;
 pub use image::trial_image;
+pub use room::TrialRoom;
+pub use trial::run_trial;
+
+#[cfg(test)]
+mod tests;
