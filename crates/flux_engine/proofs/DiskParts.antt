@@ -13,7 +13,7 @@ use Rattle.kryo_stream.specs.declared.fault.StreamFault.{StreamFault}
 use Rattle.sector_images.specs.Formats.{row}
 use Rattle.sector_images.specs.Places.{TracksFillImages, TracksJoin, bytes_of, place_of, sector_in, tracks}
 use Rattle.sector_images.specs.declared.format.Format.{Format}
-use Rattle.flux_engine.specs.DiskLaws.{PartsStandAtTheirPlaces, StandsInImage, WholeDisksFillImages}
+use Rattle.flux_engine.specs.DiskLaws.{PartsFitImages, PartsStandAtTheirPlaces, StandsInImage, WholeDisksFillImages}
 use Rattle.flux_engine.specs.Disks.{Stop, AreParts, Decoded, IsDecoded, decoded_count, images, lines, no_totals, part_at, stop_at, stop_of}
 use Rattle.disk_recordings.specs.Laws.{TracksAreRead}
 use Rattle.disk_recordings.specs.Members.{header_at, sector_at}
@@ -128,6 +128,17 @@ module _ (read : TracksAreRead) (format : Format) (x : List ℕ) (ps : List Part
       ap (λ (qs : List Part). length (images qs)) (sym (take-length ps)) ∙ size_before (length ps) (omega arith)
       ∙ ap (λ (m : ℕ). sum_by (bytes_of format) (take m (tracks format))) all
       ∙ ap (sum_by (bytes_of format)) (take-length (tracks format)) ∙ filled format
+
+pub parts_fit_images : TracksAreRead → TracksFillImages → PartsFitImages
+parts_fit_images read filled format x ps are few =
+    let n : ℕ = length ps in
+    let front : List TrackId = take n (tracks format) in
+    let rest : List TrackId = drop n (tracks format) in
+    let mine = ap (λ (qs : List Part). length (images qs)) (take-length ps) in
+    let before = size_before read format x ps are few n (omega arith) in
+    let all = ap (sum_by (bytes_of format)) (take-append-drop n (tracks format)) in
+    let both = sum_by-append (bytes_of format) front rest in
+    omega (arith, mine, before, all, both, filled format)
 
 -- a stop is at one of the format's streams
 stop_is_at : (n : ℕ) (s : Stop) (fault : Option (ℕ × StreamFault))

@@ -19,7 +19,7 @@ use Rattle.track_rings.specs.Rings.{AreSectors}
 use Rattle.sector_images.specs.Formats.{row, zone}
 use Rattle.sector_images.specs.Places.{IsTrack, NumbersNameTracks, SectorsLieInImages, TracksKeepBounds, sector_place, tracks}
 use Rattle.sector_images.specs.declared.format.Format.{Format}
-use Rattle.flux_engine.specs.Captures.{WritesCaptures}
+use Rattle.flux_engine.specs.Captures.{ImagesHaveRings, WritesCaptures}
 use Rattle.flux_engine.specs.Recordings.{sectors_of, track_at}
 use Rattle.flux_engine.specs.Rings.{IsImage, IsRing, disk_id, nominal_of, ring_cells_of, ring_of, ring_with, HasRoomForRings, track_stream, sector_bytes, track_bytes}
 use Rattle.flux_engine.specs.declared.sectors.Sectors.{Sectors}
@@ -185,3 +185,8 @@ writes_captures have keep names lie reads format image k is below =
     captures (ring_with format track image) (nominal_of format k) early (omega (arith, ring.cells_are, bounds.shortest_ring)) bounds.shortest_cell
     (reads (ring_with format track image) (nominal_of format k) (omega (arith, bounds.shortest_cell)) bounds.longest_cell
     (omega (arith, ring.cells_are, bounds.longest_ring)) early)
+
+pub images_have_rings : RingsHaveCells → NumbersNameTracks → SectorsLieInImages → ImagesHaveRings
+images_have_rings have names lie format image k is below =
+    let known = track_known names format k below in
+    is_ring have format (track_at format k) image known (are_sectors lie format (track_at format k) image is known)

@@ -65,6 +65,11 @@ WrittenRingsAreRecovered = (format : Format) (image : List ℕ) (k : ℕ) → Is
     → (from count : ℕ) × (2 * ring_cells_of format k ≤ count)
     × (cells_of_stream format (track_at format k) (track_stream format image k) ≡ stretch (ring_of format image k) from count)
 
+-- each track of an image has a ring, with the format's cells
+abbrev pub ImagesHaveRings : Type 0
+ImagesHaveRings = (format : Format) (image : List ℕ) (k : ℕ) → IsImage format image → k < length (tracks format)
+    → IsRing (ring_cells_of format k) (ring_of format image k)
+
 -- the stream that is written of each track of an image is a capture of the track's ring
 abbrev pub WritesCaptures : Type 0
 WritesCaptures = (format : Format) (image : List ℕ) (k : ℕ) → IsImage format image → k < length (tracks format)

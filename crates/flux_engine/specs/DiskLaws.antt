@@ -1,5 +1,5 @@
 -- What a decoded disk says of each of its sectors, in its image and in its lines.
-use Rattle.std.specs.Prelude.{◌≡◌, ◌==◌, ◌<◌, ℕ, ◌+◌, ◌-◌, ◌++◌, Bool, false, List, [], ◌∷◌, length, take, drop, replicate, slice_get, sum_by, Option, None, Some}
+use Rattle.std.specs.Prelude.{◌≡◌, ◌==◌, ◌≤◌, ◌<◌, ℕ, ◌+◌, ◌-◌, ◌++◌, Bool, false, List, [], ◌∷◌, length, take, drop, replicate, slice_get, sum_by, Option, None, Some}
 use Rattle.std.specs.List.{slice_split}
 use Rattle.flux_base.specs.declared.track.TrackId.{TrackId}
 use Rattle.frame_law.specs.Readings.{AreReadings}
@@ -13,11 +13,11 @@ use Rattle.turn_merge.specs.Readings.{verdict}
 use Rattle.turn_merge.specs.declared.verdict.Place.{Place}
 use Rattle.turn_merge.specs.declared.verdict.Verdict.{Verdict}
 use Rattle.turn_merge.specs.declared.verdict.Verdict.TheVariants.{Good}
-use Rattle.flux_engine.specs.Disks.{Decoded, IsDecoded, Stop, decoded_count, part_at}
+use Rattle.flux_engine.specs.Disks.{AreParts, Decoded, IsDecoded, Stop, decoded_count, images, part_at}
 use Rattle.disk_recordings.specs.Members.{header_at, sector_at}
 use Rattle.flux_engine.specs.Recordings.{track_at, cells_of}
 use Rattle.flux_engine.specs.Streams.{stream_at}
-use Rattle.flux_engine.specs.Tracks.{Found, is_good, place_at, readings_of}
+use Rattle.flux_engine.specs.Tracks.{Found, Part, is_good, place_at, readings_of}
 
 -- A track's part of the image has the track's bytes in number, and stands in the disk's image at the track's place.
 pub record StandsInImage (format : Format) (track : TrackId) (part image : List ℕ) : Type 0 where
@@ -33,6 +33,11 @@ PartsStandAtTheirPlaces = (format : Format) (x : List ℕ) (o : Decoded) (is : I
 abbrev pub WholeDisksFillImages : Type 0
 WholeDisksFillImages = (format : Format) (x : List ℕ) (o : Decoded) → IsDecoded format x o → o.stop ≡ None
     → length o.image ≡ (row format).image_size
+
+-- the parts of the first tracks have no more bytes than the format's image
+abbrev pub PartsFitImages : Type 0
+PartsFitImages = (format : Format) (x : List ℕ) (parts : List Part) → AreParts format x parts → length parts ≤ length (tracks format)
+    → length (images parts) ≤ (row format).image_size
 
 -- the input comes to this outcome, track number n is one of those that are decoded, and the sector is one of the track's
 pub record IsDecodedSector (format : Format) (x : List ℕ) (o : Decoded) (n sector : ℕ) : Type 0 where

@@ -39,7 +39,7 @@ pub use room::DiskRoom;
 pub use track::decode_track;
 pub use track_part::{PartFault, write_part};
 pub use write_fault::WriteFault;
-pub use write_laws::{captures_are_recovered, streams_are_captures};
+pub use write_laws::{captures_are_recovered, images_have_rings, streams_are_captures};
 pub use write_room::WriteRoom;
 pub use writing::no_totals;
 

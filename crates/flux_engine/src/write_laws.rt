@@ -1,6 +1,6 @@
 //! What the streams of a track come to, those that are written and those that a drive gives.
 
-ghost use Rattle.flux_engine.specs.Captures.{CapturesAreErasedCaptures, CapturesAreRecovered, ErasedCapturesAreRecovered, WrittenRingsAreRecovered, WritesCaptures};
+ghost use Rattle.flux_engine.specs.Captures.{CapturesAreErasedCaptures, CapturesAreRecovered, ErasedCapturesAreRecovered, ImagesHaveRings, WrittenRingsAreRecovered, WritesCaptures};
 
 use disk_recordings::tracks_have_rings;
 use flux_writer::track_law;
@@ -15,6 +15,14 @@ pub fn streams_are_captures()
     tracks_have_rings();
     tracks_keep_bounds();
     track_law();
+    sectors_lie_in_images()
+}
+
+/// Each track of an image has a ring: it has the format's cells, and its ones are one to four cells apart.
+pub fn images_have_rings()
+    ensures { ImagesHaveRings }
+{
+    tracks_have_rings();
     sectors_lie_in_images()
 }
 

@@ -3,6 +3,8 @@ use Rattle.std.specs.Prelude.{ℕ, List, ◌/◌, ◌%◌, ◌++◌, codes, deci
 use Rattle.flux_base.specs.declared.track.TrackId.{TrackId}
 use Rattle.kryo_stream.specs.declared.fault.StreamFault.{StreamFault}
 use Rattle.kryo_stream.specs.declared.fault.StreamFault.TheVariants.{Truncated, UnknownType, BadSize, WrongPosition, DeviceFault, DataAfterEnd, IndexPosition, IndexOrder, NoTurn, TooLong}
+use Rattle.sector_images.specs.Formats.{row}
+use Rattle.sector_images.specs.declared.format.Format.{Format}
 use Rattle.turn_merge.specs.declared.verdict.Place.{Place}
 use Rattle.turn_merge.specs.declared.verdict.Verdict.{Verdict}
 use Rattle.turn_merge.specs.declared.verdict.Verdict.TheVariants.{Good, Contradictory, Bad, Missing}
@@ -66,3 +68,11 @@ unfoldable pub total_text : Totals → List ℕ
 total_text totals =
     codes "total " ++ decimal totals.sectors ++ codes " good " ++ decimal totals.good ++ codes " bad " ++ decimal totals.bad
     ++ codes " missing " ++ decimal totals.missing ++ codes " contradictory " ++ decimal totals.contradictory ++ codes "\n"
+
+-- what a trial came to: its format and its number, the tracks, their totals, and the sum of the image's bytes
+unfoldable pub trial_text : Format → (seed tracks : ℕ) → Totals → (sum : ℕ) → List ℕ
+trial_text format seed tracks totals sum =
+    codes "trial " ++ (row format).word ++ codes " " ++ decimal seed ++ codes " tracks " ++ decimal tracks
+    ++ codes " sectors " ++ decimal totals.sectors ++ codes " good " ++ decimal totals.good ++ codes " bad " ++ decimal totals.bad
+    ++ codes " missing " ++ decimal totals.missing ++ codes " contradictory " ++ decimal totals.contradictory
+    ++ codes " sum " ++ decimal sum ++ codes "\n"

@@ -7,6 +7,7 @@ mod refused;
 mod sector_lines;
 mod stream_lines;
 mod totals;
+mod trial_lines;
 mod usage;
 
 pub use laws::{sector_lines_tell, sectors_have_one_line, totals_have_one_line};
@@ -15,6 +16,7 @@ pub use refused::{image_line, refused_line};
 pub use sector_lines::{sector_line, total_line};
 pub use stream_lines::{transitions_line, turn_line};
 pub use totals::Totals;
+pub use trial_lines::trial_line;
 pub use usage::{USAGE, usage_line};
 
 #[cfg(test)]

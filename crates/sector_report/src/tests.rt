@@ -1,6 +1,7 @@
 use super::*;
 use flux_base::TrackId;
 use kryo_stream::StreamFault;
+use sector_images::Format;
 use std::test::Fail;
 use turn_merge::{Place, Verdict};
 
@@ -133,5 +134,31 @@ fn the_longest_lines(rt: HostRuntime) {
     assert_eq!(rt;
         total_line(&totals).as_str(),
         "total 4294967295 good 4294967295 bad 4294967295 missing 4294967295 contradictory 4294967295\n"
+    );
+}
+
+#[test]
+fn lines_of_trials(rt: HostRuntime) {
+    let totals = Totals {
+        sectors: 1440,
+        good: 1280,
+        bad: 160,
+        missing: 3,
+        contradictory: 4,
+    };
+    assert_eq!(rt;
+        trial_line(Format::Ibm720, 250100001, 160, &totals, 83558400).as_str(),
+        "trial ibm-720 250100001 tracks 160 sectors 1440 good 1280 bad 160 missing 3 contradictory 4 sum 83558400\n"
+    );
+    let most = Totals {
+        sectors: u32::MAX,
+        good: u32::MAX,
+        bad: u32::MAX,
+        missing: u32::MAX,
+        contradictory: u32::MAX,
+    };
+    assert_eq!(rt;
+        trial_line(Format::C1541Forty, u32::MAX, u32::MAX, &most, u64::MAX).as_str(),
+        "trial c1541-40 4294967295 tracks 4294967295 sectors 4294967295 good 4294967295 bad 4294967295 missing 4294967295 contradictory 4294967295 sum 18446744073709551615\n"
     );
 }

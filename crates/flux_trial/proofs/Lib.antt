@@ -1,0 +1,16 @@
+mod Ones
+mod Holes
+mod Passing
+mod Drives
+mod Parts
+mod Indexes
+mod Chosen
+mod Near
+mod Turns
+mod Sound
+mod Streams
+mod Rings
+mod Joined
+mod Trials
+mod Writing
+mod Giving

@@ -1,0 +1,7 @@
+pub mod Image
+pub mod Drive
+pub mod Hole
+pub mod Times
+pub mod Tracks
+pub mod Room
+pub mod inside
