@@ -52,4 +52,5 @@ sweep disk 1 report ibm-3740
 sweep pc_disk 1 decode ibm-360
 sweep empty 2 write amiga
 sweep image 0 write apple-do
+sweep empty 0 trial apple-do 0
 exit $wrong

@@ -1,9 +1,11 @@
+pub mod Seeds
 pub mod Commands
 pub mod Turns
 pub mod Work
 pub mod TurnsWork
 pub mod DisksWork
 pub mod ImagesWork
+pub mod TrialWork
 pub mod Works
 pub mod Runs
 pub mod Captured

@@ -6,10 +6,11 @@ use Rattle.sector_report.specs.Lines.{usage_text}
 use Rattle.flux_cli.specs.Commands.{AskFor}
 use Rattle.flux_cli.specs.DisksWork.{decode_work, report_work}
 use Rattle.flux_cli.specs.ImagesWork.{write_work}
+use Rattle.flux_cli.specs.TrialWork.{trial_work}
 use Rattle.flux_cli.specs.TurnsWork.{turns_work}
 use Rattle.flux_cli.specs.Work.{Outcome, Growth, GotNothing, GotPart, Work}
 use Rattle.flux_cli.specs.declared.command.Command.{Command}
-use Rattle.flux_cli.specs.declared.command.Command.TheVariants.{Turns, Decode, Report, Write}
+use Rattle.flux_cli.specs.declared.command.Command.TheVariants.{Turns, Decode, Report, Write, Trial}
 
 -- nothing is read, and the notes get the usage
 abbrev pub usage_leaves : Status → (x later : List ℕ) → Type 0
@@ -33,6 +34,7 @@ work_of (Some Turns) = turns_work
 work_of (Some (Decode format)) = decode_work format
 work_of (Some (Report format)) = report_work format
 work_of (Some (Write format)) = write_work format
+work_of (Some (Trial format seed)) = trial_work format seed
 
 -- this is the outcome of the words over the input
 abbrev pub IsOutcome : List (List ℕ) → List ℕ → Outcome → Type 0

@@ -6,7 +6,9 @@ mod disks;
 mod images;
 mod laws;
 mod program;
+mod seed;
 mod standard;
+mod trial;
 mod turns;
 
 pub use laws::outcomes_are_one;

@@ -9,10 +9,12 @@ ghost use Rattle.kryo_stream.specs.Room.{IsFresh};
 use crate::command::{Command, command_of};
 use crate::disks::{decode, report};
 use crate::images::write;
+use crate::trial::trial;
 use crate::turns::write_turns;
 use captured_disks::captured_disks_decode;
 use flux_base::{Memory, Sink, Source, Status, Word, write_whole};
 use flux_engine::{DiskRoom, WriteRoom};
+use flux_trial::TrialRoom;
 use kryo_stream::{RoomFault, StreamRoom};
 use sector_images::words_name_formats;
 use sector_report::{refused_line, usage_line, write_line};
@@ -81,6 +83,10 @@ fn run_words<S: Source, W: Sink, N: Sink>(
         },
         Some(Command::Write(format)) => match WriteRoom::reserve(alloc, format) {
             Ok(mut room) => write(&mut room, source, image, notes),
+            Err(Memory) => Status::Memory,
+        },
+        Some(Command::Trial(format, seed)) => match TrialRoom::reserve(alloc, format) {
+            Ok(mut room) => trial(&mut room, seed, source, image, notes),
             Err(Memory) => Status::Memory,
         },
     }
