@@ -11,7 +11,7 @@ use Rattle.captured_disks.specs.Headline.{CapturedDisksDecode, DecodesRest, Deco
 use Rattle.captured_disks.specs.Inputs.{IsErasedDisk}
 use Rattle.flux_engine.specs.Disks.{Decoded, IsDecoded, Stop}
 use Rattle.flux_cli.specs.Captured.{Decodes, RunsCaptured, RunsErased, Wrote, WroteOrCut}
-use Rattle.flux_cli.specs.Commands.{AskFor, words_of}
+use Rattle.flux_cli.specs.Commands.{AreWordsOf, AskFor}
 use Rattle.flux_cli.specs.DisksWork.{disk_work, refusal_of, status_of}
 use Rattle.flux_cli.specs.Runs.{Finished, Outside, Ran, Says, growth}
 use Rattle.flux_cli.specs.Work.{Got, Outcome}
@@ -20,9 +20,9 @@ use Rattle.flux_cli.specs.declared.command.Command.TheVariants.{Decode}
 use Rattle.flux_cli.specs.declared.command.Output.TheVariants.{ImageAndReport}
 use Rattle.flux_cli.proofs.Outcomes.{one_command}
 
-asked_is : WordsNameFormats → (words : List (List ℕ)) (command : Command) (asked : Option Command) → words ≡ words_of command → AskFor words asked → asked ≡ Some command
+asked_is : WordsNameFormats → (words : List (List ℕ)) (command : Command) (asked : Option Command) → AreWordsOf command words → AskFor words asked → asked ≡ Some command
 asked_is names words command None are asks = absurd (asks command are)
-asked_is names words command (Some other) are asks = ap Some (one_command names other command (sym asks ∙ are))
+asked_is names words command (Some other) are asks = ap Some (one_command names words other command asks are)
 
 some_input : (x y : List ℕ) → Some x ≡ Some y → x ≡ y
 some_input x y same = cc

@@ -8,3 +8,5 @@ pub mod TurnsRun
 pub mod Runs
 pub mod Outcomes
 pub mod Captured
+pub mod TrialRun
+pub mod Digits

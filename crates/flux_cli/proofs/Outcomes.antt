@@ -1,10 +1,18 @@
 -- The words and the input decide the outcome.
-use Rattle.std.proofs.Common.{◌≡◌, ℕ, List, [], ◌∷◌, nat_eq, false, Option, Some, None, refl, sym, ap, ◌∙◌, subst}
+use Rattle.std.proofs.Common.{◌≡◌, ℕ, ◌+◌, ◌*◌, List, [], ◌∷◌, nat_eq, false, Option, Some, None, refl, sym, ap, ◌∙◌, subst}
 use Rattle.std.proofs.lemmas.Bool.{eq-eqb}
+use Rattle.std.specs.Prelude.{length, sum}
+use Rattle.std.specs.Str.Parse.{digits_value}
+use Rattle.flux_base.specs.declared.status.Status.TheVariants.{AllGood}
+use Rattle.flux_engine.specs.Disks.{Decoded}
 use Rattle.flux_engine.specs.Laws.{OneOutcome}
+use Rattle.flux_trial.specs.Tracks.{IsTrialLine, trial_input}
 use Rattle.g64_image.specs.Laws.{OneFileDisk}
 use Rattle.sector_images.specs.Formats.{WordsNameFormats}
-use Rattle.flux_cli.specs.Commands.{AskFor, words_of}
+use Rattle.sector_images.specs.Places.{tracks}
+use Rattle.sector_images.specs.declared.format.Format.{Format}
+use Rattle.sector_report.specs.Lines.{trial_text}
+use Rattle.flux_cli.specs.Commands.{AreWordsOf, AskFor}
 use Rattle.flux_cli.specs.DisksWork.{disk_outcome}
 use Rattle.flux_cli.specs.G64Disks.{format_of}
 use Rattle.flux_cli.specs.G64Work.{from_g64_outcome}
@@ -13,20 +21,25 @@ use Rattle.flux_cli.specs.Works.{IsOutcome, work_of}
 use Rattle.flux_cli.specs.declared.command.Command.{Command}
 use Rattle.flux_cli.specs.declared.g64_disk.G64Disk.{G64Disk}
 use Rattle.flux_cli.specs.declared.g64_disk.G64Disk.TheVariants.{Tracks35, Tracks40}
-use Rattle.flux_cli.specs.declared.command.Command.TheVariants.{Turns, Decode, Report, Write, ToG64, FromG64}
+use Rattle.flux_cli.specs.declared.command.Command.TheVariants.{Turns, Decode, Report, Write, Trial, ToG64, FromG64}
 use Rattle.flux_cli.specs.declared.command.Output.TheVariants.{ImageAndReport, ReportAlone}
 
--- the first letter of the first word
-abbrev letter : List (List ℕ) → ℕ
-letter [] = 0
-letter ([] ∷ words) = 0
-letter ((byte ∷ bytes) ∷ words) = byte
+-- the first two letters of the first word, as one number
+abbrev letters : List (List ℕ) → ℕ
+letters [] = 0
+letters ([] ∷ words) = 0
+letters ((byte ∷ []) ∷ words) = 0
+letters ((byte ∷ next ∷ bytes) ∷ words) = 256 * byte + next
 
-abbrev second : List (List ℕ) → List ℕ
-second (word ∷ other ∷ words) = other
-second words = []
+abbrev format_word : List (List ℕ) → List ℕ
+format_word (word ∷ other ∷ words) = other
+format_word words = []
 
--- two letters
+abbrev seed_word : List (List ℕ) → List ℕ
+seed_word (word ∷ other ∷ last ∷ words) = last
+seed_word words = []
+
+-- numbers that differ
 differ : (m n : ℕ) → nat_eq m n ≡ false → m ≡ n → ⊥
 differ m n other same = let equal = eq-eqb m n same in cc
 
@@ -36,51 +49,75 @@ one_disk Tracks35 Tracks40 same = absurd (cc)
 one_disk Tracks40 Tracks35 same = absurd (cc)
 one_disk Tracks40 Tracks40 same = refl
 
--- no two commands have the same words
-pub one_command : WordsNameFormats → (a b : Command) → words_of a ≡ words_of b → a ≡ b
-one_command names Turns Turns same = refl
-one_command names Turns (Decode g) same = absurd (cc)
-one_command names Turns (Report g) same = absurd (cc)
-one_command names Turns (Write g) same = absurd (cc)
-one_command names Turns (ToG64 other) same = absurd (cc)
-one_command names Turns (FromG64 other) same = absurd (cc)
-one_command names (Decode f) Turns same = absurd (cc)
-one_command names (Decode f) (Decode g) same = ap Decode (names f g (ap second same))
-one_command names (Decode f) (Report g) same = absurd (differ 100 114 refl (ap letter same))
-one_command names (Decode f) (Write g) same = absurd (differ 100 119 refl (ap letter same))
-one_command names (Decode f) (ToG64 other) same = absurd (differ 100 116 refl (ap letter same))
-one_command names (Decode f) (FromG64 other) same = absurd (differ 100 102 refl (ap letter same))
-one_command names (Report f) Turns same = absurd (cc)
-one_command names (Report f) (Decode g) same = absurd (differ 114 100 refl (ap letter same))
-one_command names (Report f) (Report g) same = ap Report (names f g (ap second same))
-one_command names (Report f) (Write g) same = absurd (differ 114 119 refl (ap letter same))
-one_command names (Report f) (ToG64 other) same = absurd (differ 114 116 refl (ap letter same))
-one_command names (Report f) (FromG64 other) same = absurd (differ 114 102 refl (ap letter same))
-one_command names (Write f) Turns same = absurd (cc)
-one_command names (Write f) (Decode g) same = absurd (differ 119 100 refl (ap letter same))
-one_command names (Write f) (Report g) same = absurd (differ 119 114 refl (ap letter same))
-one_command names (Write f) (Write g) same = ap Write (names f g (ap second same))
-one_command names (Write f) (ToG64 other) same = absurd (differ 119 116 refl (ap letter same))
-one_command names (Write f) (FromG64 other) same = absurd (differ 119 102 refl (ap letter same))
-one_command names (ToG64 disk) Turns same = absurd (cc)
-one_command names (ToG64 disk) (Decode g) same = absurd (differ 116 100 refl (ap letter same))
-one_command names (ToG64 disk) (Report g) same = absurd (differ 116 114 refl (ap letter same))
-one_command names (ToG64 disk) (Write g) same = absurd (differ 116 119 refl (ap letter same))
-one_command names (ToG64 disk) (ToG64 other) same = ap ToG64 (one_disk disk other (names (format_of disk) (format_of other) (ap second same)))
-one_command names (ToG64 disk) (FromG64 other) same = absurd (differ 116 102 refl (ap letter same))
-one_command names (FromG64 disk) Turns same = absurd (cc)
-one_command names (FromG64 disk) (Decode g) same = absurd (differ 102 100 refl (ap letter same))
-one_command names (FromG64 disk) (Report g) same = absurd (differ 102 114 refl (ap letter same))
-one_command names (FromG64 disk) (Write g) same = absurd (differ 102 119 refl (ap letter same))
-one_command names (FromG64 disk) (ToG64 other) same = absurd (differ 102 116 refl (ap letter same))
-one_command names (FromG64 disk) (FromG64 other) same = ap FromG64 (one_disk disk other (names (format_of disk) (format_of other) (ap second same)))
+-- words ask for one command at most
+pub one_command : WordsNameFormats → (words : List (List ℕ)) (a b : Command) → AreWordsOf a words → AreWordsOf b words → a ≡ b
+one_command names words Turns Turns first second = refl
+one_command names words Turns (Decode g) first second = absurd (differ 29813 25701 refl (ap letters (sym first ∙ second)))
+one_command names words Turns (Report g) first second = absurd (differ 29813 29285 refl (ap letters (sym first ∙ second)))
+one_command names words Turns (Write g) first second = absurd (differ 29813 30578 refl (ap letters (sym first ∙ second)))
+one_command names words Turns (Trial g t) first second = absurd (differ 29813 29810 refl (ap letters (sym first ∙ second.1)))
+one_command names words Turns (ToG64 other) first second = absurd (differ 29813 29807 refl (ap letters (sym first ∙ second)))
+one_command names words Turns (FromG64 other) first second = absurd (differ 29813 26226 refl (ap letters (sym first ∙ second)))
+one_command names words (Decode f) Turns first second = absurd (differ 25701 29813 refl (ap letters (sym first ∙ second)))
+one_command names words (Decode f) (Decode g) first second = ap Decode (names f g (ap format_word (sym first ∙ second)))
+one_command names words (Decode f) (Report g) first second = absurd (differ 25701 29285 refl (ap letters (sym first ∙ second)))
+one_command names words (Decode f) (Write g) first second = absurd (differ 25701 30578 refl (ap letters (sym first ∙ second)))
+one_command names words (Decode f) (Trial g t) first second = absurd (differ 25701 29810 refl (ap letters (sym first ∙ second.1)))
+one_command names words (Decode f) (ToG64 other) first second = absurd (differ 25701 29807 refl (ap letters (sym first ∙ second)))
+one_command names words (Decode f) (FromG64 other) first second = absurd (differ 25701 26226 refl (ap letters (sym first ∙ second)))
+one_command names words (Report f) Turns first second = absurd (differ 29285 29813 refl (ap letters (sym first ∙ second)))
+one_command names words (Report f) (Decode g) first second = absurd (differ 29285 25701 refl (ap letters (sym first ∙ second)))
+one_command names words (Report f) (Report g) first second = ap Report (names f g (ap format_word (sym first ∙ second)))
+one_command names words (Report f) (Write g) first second = absurd (differ 29285 30578 refl (ap letters (sym first ∙ second)))
+one_command names words (Report f) (Trial g t) first second = absurd (differ 29285 29810 refl (ap letters (sym first ∙ second.1)))
+one_command names words (Report f) (ToG64 other) first second = absurd (differ 29285 29807 refl (ap letters (sym first ∙ second)))
+one_command names words (Report f) (FromG64 other) first second = absurd (differ 29285 26226 refl (ap letters (sym first ∙ second)))
+one_command names words (Write f) Turns first second = absurd (differ 30578 29813 refl (ap letters (sym first ∙ second)))
+one_command names words (Write f) (Decode g) first second = absurd (differ 30578 25701 refl (ap letters (sym first ∙ second)))
+one_command names words (Write f) (Report g) first second = absurd (differ 30578 29285 refl (ap letters (sym first ∙ second)))
+one_command names words (Write f) (Write g) first second = ap Write (names f g (ap format_word (sym first ∙ second)))
+one_command names words (Write f) (Trial g t) first second = absurd (differ 30578 29810 refl (ap letters (sym first ∙ second.1)))
+one_command names words (Write f) (ToG64 other) first second = absurd (differ 30578 29807 refl (ap letters (sym first ∙ second)))
+one_command names words (Write f) (FromG64 other) first second = absurd (differ 30578 26226 refl (ap letters (sym first ∙ second)))
+one_command names words (Trial f s) Turns first second = absurd (differ 29810 29813 refl (ap letters (sym first.1 ∙ second)))
+one_command names words (Trial f s) (Decode g) first second = absurd (differ 29810 25701 refl (ap letters (sym first.1 ∙ second)))
+one_command names words (Trial f s) (Report g) first second = absurd (differ 29810 29285 refl (ap letters (sym first.1 ∙ second)))
+one_command names words (Trial f s) (Write g) first second = absurd (differ 29810 30578 refl (ap letters (sym first.1 ∙ second)))
+one_command names words (Trial f s) (Trial g t) first second =
+    let same = sym first.1 ∙ second.1 in
+    ap (λ (format : Format). Trial format s) (names f g (ap format_word same))
+    ∙ ap (Trial g) (sym first.2.value ∙ ap (digits_value 10) (ap seed_word same) ∙ second.2.value)
+one_command names words (Trial f s) (ToG64 other) first second = absurd (differ 29810 29807 refl (ap letters (sym first.1 ∙ second)))
+one_command names words (Trial f s) (FromG64 other) first second = absurd (differ 29810 26226 refl (ap letters (sym first.1 ∙ second)))
+one_command names words (ToG64 disk) Turns first second = absurd (differ 29807 29813 refl (ap letters (sym first ∙ second)))
+one_command names words (ToG64 disk) (Decode g) first second = absurd (differ 29807 25701 refl (ap letters (sym first ∙ second)))
+one_command names words (ToG64 disk) (Report g) first second = absurd (differ 29807 29285 refl (ap letters (sym first ∙ second)))
+one_command names words (ToG64 disk) (Write g) first second = absurd (differ 29807 30578 refl (ap letters (sym first ∙ second)))
+one_command names words (ToG64 disk) (Trial g t) first second = absurd (differ 29807 29810 refl (ap letters (sym first ∙ second.1)))
+one_command names words (ToG64 disk) (ToG64 other) first second = ap ToG64 (one_disk disk other (names (format_of disk) (format_of other) (ap format_word (sym first ∙ second))))
+one_command names words (ToG64 disk) (FromG64 other) first second = absurd (differ 29807 26226 refl (ap letters (sym first ∙ second)))
+one_command names words (FromG64 disk) Turns first second = absurd (differ 26226 29813 refl (ap letters (sym first ∙ second)))
+one_command names words (FromG64 disk) (Decode g) first second = absurd (differ 26226 25701 refl (ap letters (sym first ∙ second)))
+one_command names words (FromG64 disk) (Report g) first second = absurd (differ 26226 29285 refl (ap letters (sym first ∙ second)))
+one_command names words (FromG64 disk) (Write g) first second = absurd (differ 26226 30578 refl (ap letters (sym first ∙ second)))
+one_command names words (FromG64 disk) (Trial g t) first second = absurd (differ 26226 29810 refl (ap letters (sym first ∙ second.1)))
+one_command names words (FromG64 disk) (ToG64 other) first second = absurd (differ 26226 29807 refl (ap letters (sym first ∙ second)))
+one_command names words (FromG64 disk) (FromG64 other) first second = ap FromG64 (one_disk disk other (names (format_of disk) (format_of other) (ap format_word (sym first ∙ second))))
 
 -- words ask for one thing at most
 one_asked : WordsNameFormats → (words : List (List ℕ)) (a b : Option Command) → AskFor words a → AskFor words b → a ≡ b
 one_asked names words None None first second = refl
 one_asked names words None (Some b) first second = absurd (first b second)
 one_asked names words (Some a) None first second = absurd (second a first)
-one_asked names words (Some a) (Some b) first second = ap Some (one_command names a b (sym first ∙ second))
+one_asked names words (Some a) (Some b) first second = ap Some (one_command names words a b first second)
+
+-- a trial has one line
+one_line : OneOutcome → (format : Format) (seed : ℕ) (a b : List ℕ) → IsTrialLine format seed a → IsTrialLine format seed b → a ≡ b
+one_line one format seed a b first second =
+    first.line_is
+    ∙ ap (λ (d : Decoded). trial_text format seed (length (tracks format)) d.totals (sum d.image))
+    (one format (trial_input format seed) first.decoded second.decoded first.is second.is)
+    ∙ sym second.line_is
 
 module _ (names : WordsNameFormats) (one : OneOutcome) (one_file : OneFileDisk) where
   one_of : (asked : Option Command) (x : List ℕ) (a b : Outcome) → (work_of asked).gives x a → (work_of asked).gives x b → a ≡ b
@@ -91,6 +128,8 @@ module _ (names : WordsNameFormats) (one : OneOutcome) (one_file : OneFileDisk) 
   one_of (Some (Report format)) x a b first second =
       first.2 ∙ ap (disk_outcome ReportAlone) (one format x first.0 second.0 first.1 second.1) ∙ sym second.2
   one_of (Some (Write format)) x a b first second = first ∙ sym second
+  one_of (Some (Trial format seed)) x a b first second =
+      first.2 ∙ ap (λ (line : List ℕ). record { status = AllGood; image = line; notes = [] }) (one_line one format seed first.0 second.0 first.1 second.1) ∙ sym second.2
   one_of (Some (ToG64 disk)) x a b first second = first ∙ sym second
   one_of (Some (FromG64 disk)) x a b first second =
       first.2 ∙ ap from_g64_outcome (one_file (format_of disk) x first.0 second.0 first.1 second.1) ∙ sym second.2

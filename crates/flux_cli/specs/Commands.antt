@@ -1,26 +1,38 @@
 -- The words of the command line, without the program's name.
-use Rattle.std.specs.Prelude.{◌≡◌, ℕ, List, [], ◌∷◌, codes, Option, Some, None}
+use Rattle.std.specs.Prelude.{◌≡◌, ℕ, List, [], ◌∷◌, codes, decimal, Option, Some, None}
 use Rattle.sector_images.specs.Formats.{row}
 use Rattle.sector_images.specs.declared.format.Format.{Format}
 use Rattle.flux_cli.specs.G64Disks.{format_of}
+use Rattle.flux_cli.specs.Seeds.{IsSeed}
 use Rattle.flux_cli.specs.declared.command.Command.{Command}
-use Rattle.flux_cli.specs.declared.command.Command.TheVariants.{Turns, Decode, Report, Write, ToG64, FromG64}
+use Rattle.flux_cli.specs.declared.command.Command.TheVariants.{Turns, Decode, Report, Write, Trial, ToG64, FromG64}
 use Rattle.flux_cli.specs.declared.command.Output.{Output}
 use Rattle.flux_cli.specs.declared.command.Output.TheVariants.{ImageAndReport, ReportAlone}
 
--- the words that ask for a command
+-- the words that ask for a command; a seed may have zeros before it, and these are the words without
 abbrev pub words_of : Command → List (List ℕ)
 words_of Turns = codes "turns" ∷ []
 words_of (Decode format) = codes "decode" ∷ (row format).word ∷ []
 words_of (Report format) = codes "report" ∷ (row format).word ∷ []
 words_of (Write format) = codes "write" ∷ (row format).word ∷ []
+words_of (Trial format seed) = codes "trial" ∷ (row format).word ∷ decimal seed ∷ []
 words_of (ToG64 disk) = codes "to-g64" ∷ (row (format_of disk)).word ∷ []
 words_of (FromG64 disk) = codes "from-g64" ∷ (row (format_of disk)).word ∷ []
 
+-- the words ask for a command
+abbrev pub AreWordsOf : Command → List (List ℕ) → Type 0
+AreWordsOf Turns words = words ≡ words_of Turns
+AreWordsOf (Decode format) words = words ≡ words_of (Decode format)
+AreWordsOf (Report format) words = words ≡ words_of (Report format)
+AreWordsOf (Write format) words = words ≡ words_of (Write format)
+AreWordsOf (Trial format seed) words = (number : List ℕ) × (words ≡ codes "trial" ∷ (row format).word ∷ number ∷ []) × IsSeed seed number
+AreWordsOf (ToG64 disk) words = words ≡ words_of (ToG64 disk)
+AreWordsOf (FromG64 disk) words = words ≡ words_of (FromG64 disk)
+
 -- what the words ask for; nothing where they are not those of a command
 abbrev pub AskFor : List (List ℕ) → Option Command → Type 0
-AskFor words (Some command) = words ≡ words_of command
-AskFor words None = (command : Command) → ¬ (words ≡ words_of command)
+AskFor words (Some command) = AreWordsOf command words
+AskFor words None = (command : Command) → ¬ AreWordsOf command words
 
 -- the command over a disk's streams that has this output
 abbrev pub command_for : Output → Format → Command

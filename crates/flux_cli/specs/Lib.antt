@@ -1,4 +1,5 @@
 pub mod G64Disks
+pub mod Seeds
 pub mod Commands
 pub mod Turns
 pub mod Work
@@ -6,6 +7,7 @@ pub mod TurnsWork
 pub mod DisksWork
 pub mod ImagesWork
 pub mod G64Work
+pub mod TrialWork
 pub mod Works
 pub mod Runs
 pub mod DisksRuns

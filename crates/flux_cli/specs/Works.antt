@@ -8,10 +8,11 @@ use Rattle.flux_cli.specs.DisksWork.{disk_work}
 use Rattle.flux_cli.specs.G64Disks.{format_of}
 use Rattle.flux_cli.specs.G64Work.{from_g64_work, to_g64_work}
 use Rattle.flux_cli.specs.ImagesWork.{write_work}
+use Rattle.flux_cli.specs.TrialWork.{trial_work}
 use Rattle.flux_cli.specs.TurnsWork.{turns_work}
 use Rattle.flux_cli.specs.Work.{Outcome, Growth, GotNothing, GotPart, Work}
 use Rattle.flux_cli.specs.declared.command.Command.{Command}
-use Rattle.flux_cli.specs.declared.command.Command.TheVariants.{Turns, Decode, Report, Write, ToG64, FromG64}
+use Rattle.flux_cli.specs.declared.command.Command.TheVariants.{Turns, Decode, Report, Write, Trial, ToG64, FromG64}
 use Rattle.flux_cli.specs.declared.command.Output.TheVariants.{ImageAndReport, ReportAlone}
 
 -- nothing is read, and the notes get the usage
@@ -37,6 +38,7 @@ work_of (Some Turns) = turns_work
 work_of (Some (Decode format)) = disk_work ImageAndReport format
 work_of (Some (Report format)) = disk_work ReportAlone format
 work_of (Some (Write format)) = write_work format
+work_of (Some (Trial format seed)) = trial_work format seed
 work_of (Some (ToG64 disk)) = to_g64_work (format_of disk)
 work_of (Some (FromG64 disk)) = from_g64_work (format_of disk)
 

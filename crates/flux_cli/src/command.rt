@@ -1,8 +1,9 @@
-ghost use Rattle.std.specs.Prelude.{◌≡◌, [], ◌∷◌};
+ghost use Rattle.std.specs.Prelude.{◌≡◌, [], ◌∷◌, codes};
 ghost use Rattle.flux_cli.specs.Commands.{AskFor};
 ghost use Rattle.sector_images.specs.Formats.{row};
 
 use crate::g64_disk::G64Disk;
+use crate::seed::seed_of;
 use flux_base::Word;
 use sector_images::{Format, words_name_formats};
 
@@ -17,6 +18,8 @@ pub enum Command {
     Report(Format),
     /// The streams of a disk's tracks, from its image.
     Write(Format),
+    /// The trial that a number names.
+    Trial(Format, u32),
     /// The file that emulators keep of a disk, from its image.
     ToG64(G64Disk),
     /// An image from such a file, and a report in the notes.
@@ -39,6 +42,7 @@ pub fn command_of(words: &[Word]) -> Option<Command>
     match words {
         [verb] => plain_command(verb.bytes()),
         [verb, word] => format_command(verb.bytes(), word.bytes()),
+        [verb, word, seed] => seed_command(verb.bytes(), word.bytes(), seed.bytes()),
         _ => None,
     }
 }
@@ -86,5 +90,28 @@ fn command_over(verb: &[u8], format: Format) -> Option<Command>
         }
     } else {
         None
+    }
+}
+
+/// The command of three words, of which the second is a format's and the third a seed.
+fn seed_command(verb: &[u8], word: &[u8], seed: &[u8]) -> Option<Command>
+    ensures { AskFor (verb.now ∷ word.now ∷ seed.now ∷ []) result }
+{
+    if verb != b"trial".as_slice() {
+        return None;
+    }
+    match Format::of_word(word) {
+        Some(format) => trial_of(format, seed),
+        None => None,
+    }
+}
+
+/// The trial of a format and a seed.
+fn trial_of(format: Format, seed: &[u8]) -> Option<Command>
+    ensures { AskFor (codes "trial" ∷ (row format).word ∷ seed.now ∷ []) result }
+{
+    match seed_of(seed) {
+        Some(seed) => Some(Command::Trial(format, seed)),
+        None => None,
     }
 }

@@ -8,7 +8,9 @@ mod g64_files;
 mod images;
 mod laws;
 mod program;
+mod seed;
 mod standard;
+mod trial;
 mod turns;
 
 pub use laws::outcomes_are_one;

@@ -10,10 +10,12 @@ use crate::command::{Command, Output, command_of};
 use crate::disks::decode;
 use crate::g64_files::{from_file, to_file};
 use crate::images::write;
+use crate::trial::trial;
 use crate::turns::write_turns;
 use captured_disks::captured_disks_decode;
 use flux_base::{Memory, Sink, Source, Status, Word, write_whole};
 use flux_engine::{DiskRoom, WriteRoom};
+use flux_trial::TrialRoom;
 use g64_image::G64Room;
 use kryo_stream::{RoomFault, StreamRoom};
 use sector_images::words_name_formats;
@@ -85,6 +87,10 @@ fn run_words<S: Source, W: Sink, N: Sink>(
         },
         Some(Command::Write(format)) => match WriteRoom::reserve(alloc, format) {
             Ok(mut room) => write(&mut room, source, image, notes),
+            Err(Memory) => Status::Memory,
+        },
+        Some(Command::Trial(format, seed)) => match TrialRoom::reserve(alloc, format) {
+            Ok(mut room) => trial(&mut room, seed, source, image, notes),
             Err(Memory) => Status::Memory,
         },
         Some(Command::ToG64(disk)) => match G64Room::reserve(alloc, disk.format()) {

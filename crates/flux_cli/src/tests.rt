@@ -298,6 +298,22 @@ fn words_that_are_no_command(rt: HostRuntime) -> Result<(), Fail> {
     is_no_command(&rt, alloc, &["decode", "amigo"])?;
     is_no_command(&rt, alloc, &["report", "ibm-3740", "now"])?;
     is_no_command(&rt, alloc, &["write"])?;
+    is_no_command(&rt, alloc, &["trial", "amiga"])?;
+    is_no_command(&rt, alloc, &["trial", "amigo", "1"])?;
+    is_no_command(&rt, alloc, &["trail", "amiga", "1"])?;
+    is_no_command(&rt, alloc, &["trial", "amiga", "1", "2"])?;
+    for seed in [
+        "",
+        "4294967296",
+        "9999999999",
+        "00000000001",
+        "+1",
+        "-1",
+        "1x",
+        " 1",
+    ] {
+        is_no_command(&rt, alloc, &["trial", "amiga", seed])?;
+    }
     let failing = Failing {
         notes: Some(0),
         ..NONE
@@ -404,5 +420,28 @@ fn images_of_another_size(rt: HostRuntime) -> Result<(), Fail> {
     let end = run_over(alloc, &words, END.to_vec(alloc)?, 2, failing)?;
     assert_eq!(rt; end.status, Status::NotesFault);
     assert_eq!(rt; end.notes.bytes(), b"".as_slice());
+    Ok(())
+}
+
+// Zeros before a seed are not printed. Nothing is read, and a sink that fails leaves nothing.
+#[test]
+fn trials_of_a_number(rt: HostRuntime) -> Result<(), Fail> {
+    let alloc = rt.alloc();
+    let words = ["trial", "apple-do", "0000000000"];
+    let end = run_over(alloc, &words, TWO_TRANSITIONS.to_vec(alloc)?, 7, NONE)?;
+    assert_eq!(rt; end.status, Status::AllGood);
+    assert_eq!(rt;
+        end.image.bytes(),
+        b"trial apple-do 0 tracks 35 sectors 560 good 560 bad 0 missing 0 contradictory 0 sum 18278400\n".as_slice()
+    );
+    assert_eq!(rt; end.notes.calls(), 0);
+    assert_eq!(rt; end.source.calls(), 0);
+    let failing = Failing {
+        image: Some(0),
+        ..NONE
+    };
+    let end = run_over(alloc, &words, Vec::new(alloc), 7, failing)?;
+    assert_eq!(rt; end.status, Status::ImageFault);
+    assert_eq!(rt; end.image.bytes(), b"".as_slice());
     Ok(())
 }

@@ -1,0 +1,36 @@
+-- What `trial` does by what the trial says.
+use Rattle.std.proofs.Common.{ℕ, List, [], Option, refl}
+use Rattle.std.proofs.KnownBytes.{Consumes-nil}
+use Rattle.flux_base.specs.declared.status.Status.TheVariants.{AllGood, ImageFault}
+use Rattle.flux_trial.specs.Tracks.{IsTrialLine}
+use Rattle.sector_images.specs.declared.format.Format.{Format}
+use Rattle.flux_cli.specs.Runs.{Finished, IsCut, Outside, growth}
+use Rattle.flux_cli.specs.TrialWork.{trial_work}
+use Rattle.flux_cli.specs.Work.{Got, GotNothing, GotPart}
+use Rattle.flux_cli.proofs.Inputs.{rest}
+use Rattle.std.specs.Io.KnownBytes.{Consumes}
+
+module _ {S W N : Type 0} (format : Format) (seed : ℕ) (before after : Outside S W N) (unread : Consumes before.source.bytes after.source.bytes [])
+    (line : List ℕ) (is : IsTrialLine format seed line) where
+  pub trial-finish : Got (growth before.image after.image) line → Got (growth before.notes after.notes) [] → Finished (trial_work format seed) AllGood before after
+  trial-finish image notes =
+      let r = rest before.source after.source [] unread in record {
+        taken = [];
+        later = r.later;
+        input = r.input;
+        outcome = record { status = AllGood; image = line; notes = [] };
+        gives = (line, is, refl);
+        status_is = refl;
+        image_got = image;
+        notes_got = notes;
+        leaves = refl;
+      }
+
+  pub trial-cut : GotPart (growth before.image after.image) line → GotNothing (growth before.notes after.notes) → IsCut (trial_work format seed) ImageFault before after
+  trial-cut image notes =
+      let r = rest before.source after.source [] unread in record {
+        taken = [];
+        later = r.later;
+        input = r.input;
+        place = record { unread = refl; line = line; is = is; image_got = image; notes_got = notes };
+      }
