@@ -1,9 +1,6 @@
 use super::*;
-use cell_bits::Cells;
-use flux_base::{Failed, Memory, MemorySink};
-use flux_engine::track_ring;
-use index_turns::TrackFlux;
-use sector_images::{Format, sectors_lie_in_images, tracks_keep_bounds};
+use flux_base::{Failed, MemorySink};
+use sector_images::Format;
 use std::alloc::Global;
 use std::process::Abort;
 use std::test::Fail;
@@ -123,64 +120,6 @@ fn lines_that_are_cut(rt: HostRuntime) -> Result<(), Fail> {
         let mut sink = MemorySink::new(alloc, room_of_sink, Vec::new(alloc))?;
         assert_eq!(rt; run_trial(&mut room, 0, &mut sink), Err(Failed));
         assert_eq!(rt; sink.bytes(), written.as_bytes());
-    }
-    Ok(())
-}
-
-/// What the drive of a seed gives of track 3 of its Apple disk.
-fn turn_over_track(alloc: Global, seed: u32, flux: &mut TrackFlux) -> Result<(), Memory> {
-    tracks_keep_bounds();
-    sectors_lie_in_images();
-    let mut image = vec![in alloc; 0u8; 143360]?;
-    trial_image(Format::AppleDo, seed, &mut image);
-    let mut ring = Cells::new(alloc);
-    match track_ring(Format::AppleDo, 3, &image, &mut ring) {
-        Ok(()) => trial_flux(&ring, 98416, seed, 3, flux),
-        Err(memory) => Err(memory),
-    }
-}
-
-// Another program worked the times out from docs/FORMATS.md, over rings of its own.
-#[test]
-fn times_of_drives(rt: HostRuntime) -> Result<(), Fail> {
-    let alloc = rt.alloc();
-    for (seed, count, first, last, indexes, sum) in [
-        (
-            4,
-            131435,
-            [289, 372, 469],
-            16724014,
-            [1192560, 5971811, 10751493, 15530227],
-            1098822447247,
-        ),
-        (
-            250100001,
-            131085,
-            [304, 404, 507],
-            17828545,
-            [1276061, 6374981, 11468814, 16556590],
-            1168897442851,
-        ),
-        (
-            4294967295,
-            129184,
-            [268, 373, 451],
-            16146755,
-            [1153500, 5767737, 10380919, 14995089],
-            1044049115851,
-        ),
-    ] {
-        let mut flux = TrackFlux::new(alloc);
-        turn_over_track(alloc, seed, &mut flux)?;
-        let mut total: u64 = 0;
-        for time in flux.times() {
-            total = total.wrapping_add(*time);
-        }
-        assert_eq!(rt; flux.times().len(), count);
-        assert_eq!(rt; flux.times().get(..3), Some(first.as_slice()));
-        assert_eq!(rt; flux.times().last(), Some(&last));
-        assert_eq!(rt; flux.indexes(), indexes.as_slice());
-        assert_eq!(rt; total, sum);
     }
     Ok(())
 }
