@@ -11,9 +11,9 @@ use Rattle.check_values.specs.Sums.{data_xor, xor}
 use Rattle.cell_bits.specs.Word.{word}
 use Rattle.amiga_mfm.specs.declared.half.Half.{Half}
 use Rattle.amiga_mfm.specs.declared.half.Half.TheVariants.{Odd, Even}
-use Rattle.amiga_mfm.specs.LongLaws.{length-raw, raw-last}
+use Rattle.amiga_mfm.specs.lemmas.LongLaws.{length-raw, raw-last}
 use Rattle.amiga_mfm.specs.Longs.{bytes_at, half_of, halves, long_at, long_of_halves, longs_at, longs_of, raw_longs, without_clocks}
-use Rattle.amiga_mfm.specs.Masks.{check-masked, without_clocks-twice}
+use Rattle.amiga_mfm.specs.lemmas.Masks.{check-masked, without_clocks-twice}
 
 -- the exclusive or of one more
 pub xor-more : (xs : List ℕ) (x : ℕ) → xor (xs ++ x ∷ []) ≡ bit_xor (xor xs) x

@@ -3,7 +3,7 @@ use Rattle.std.proofs.Common.{◌≡◌, ℕ, zero, suc, ◌+◌, ◌*◌, ◌/�
 use Rattle.std.proofs.lemmas.Bool.{cases_lt, eqb-true}
 use Rattle.cell_bits.specs.Bytes.{data_byte, data_cells}
 use Rattle.cell_bits.specs.Word.{number_of, word_cells}
-use Rattle.cell_bits.specs.WordLaws.{number_of-word_cells, word_cells-append, word_cells-number_of}
+use Rattle.cell_bits.specs.lemmas.WordLaws.{number_of-word_cells, word_cells-append, word_cells-number_of}
 
 -- the check holds of each number below n
 each_below : (ℕ → Bool) → ℕ → Bool

@@ -9,11 +9,12 @@ use Rattle.cell_bits.specs.State.{CellsState}
 use Rattle.mfm_coding.specs.declared.symbol.Symbol.{Symbol}
 use Rattle.mfm_coding.specs.declared.symbol.Symbol.TheVariants.{Data}
 use Rattle.mfm_coding.specs.Coding.{bytes_as_data}
-use Rattle.mfm_coding.specs.Writes.{AppendsSymbols, AppendsSymbols-more, AppendsSymbols-none, AppendsSymbols-stop}
+use Rattle.mfm_coding.specs.Writes.{AppendsSymbols}
+use Rattle.mfm_coding.specs.lemmas.WriteLaws.{AppendsSymbols-more, AppendsSymbols-none, AppendsSymbols-stop}
 use Rattle.amiga_mfm.specs.declared.half.Half.{Half}
 use Rattle.amiga_mfm.specs.Layout.{halves_symbols}
 use Rattle.amiga_mfm.specs.Longs.{half_bytes, half_of}
-use Rattle.amiga_mfm.specs.RowLaws.{length-halves_symbols}
+use Rattle.amiga_mfm.specs.lemmas.RowLaws.{length-halves_symbols}
 
 -- one half of one long
 abbrev pub one_half : Half → ℕ → List Symbol

@@ -1,9 +1,4 @@
-pub mod FrameLaws
 pub mod Layout
-pub mod LongLaws
 pub mod Longs
-pub mod Masks
-pub mod OwnLaws
-pub mod RowLaws
-pub mod Syncs
 pub mod Sectors
+pub mod lemmas

@@ -1,13 +1,13 @@
 ghost use Rattle.std.specs.Prelude.{◌≡◌, ℕ, [], true};
 ghost use Rattle.std.proofs.Common.{lit<, lit≤, sym, ◌∙◌};
-ghost use Rattle.mfm_coding.specs.CodingLaws.{length-coded};
-ghost use Rattle.mfm_coding.specs.SymbolRows.{rows-end, symbols-follow};
-ghost use Rattle.amiga_mfm.specs.FrameLaws.{frame_stands};
+ghost use Rattle.mfm_coding.specs.lemmas.CodingLaws.{length-coded};
+ghost use Rattle.mfm_coding.specs.lemmas.SymbolRows.{rows-end, symbols-follow};
+ghost use Rattle.amiga_mfm.specs.lemmas.FrameLaws.{frame_stands};
 ghost use Rattle.amiga_mfm.specs.Layout.{row_cells, row_size, row_symbols, rows};
-ghost use Rattle.amiga_mfm.specs.OwnLaws.{tells};
-ghost use Rattle.amiga_mfm.specs.RowLaws.{bytes_held, one_name, sizes, sums, symbols_sized};
+ghost use Rattle.amiga_mfm.specs.lemmas.OwnLaws.{tells};
+ghost use Rattle.amiga_mfm.specs.lemmas.RowLaws.{bytes_held, one_name, sizes, sums, symbols_sized};
 ghost use Rattle.amiga_mfm.specs.Sectors.{Hold, IsDataPlace, IsTrack, NamesSector};
-ghost use Rattle.amiga_mfm.specs.Syncs.{own_syncs};
+ghost use Rattle.amiga_mfm.specs.lemmas.Syncs.{own_syncs};
 
 use crate::data_field::read_content;
 use crate::header::named_sector;

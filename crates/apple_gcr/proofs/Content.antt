@@ -1,5 +1,5 @@
 -- The nibbles of a sector's bytes, written one after another.
-use Rattle.std.proofs.Common.{◌≡◌, ℕ, ◌+◌, ◌<◌, Bool, List, [], ◌∷◌, ◌++◌, length, take, get_or, ap, sym, subst, ◌∙◌, arith, lit<, refl, add-one, append-nil, Ok, Err}
+use Rattle.std.proofs.Common.{◌≡◌, ℕ, ◌+◌, ◌<◌, Bool, List, [], ◌∷◌, ◌++◌, length, take, get_or, ap, sym, subst, ◌∙◌, arith, lit<, refl, add-one, append-nil, Ok, Err, IsErr}
 use Rattle.std.specs.declared.result.Result.{Result}
 use Rattle.std.specs.List.{flat_map}
 use Rattle.std.proofs.lemmas.List.{get_or_past, take_all, take_more}
@@ -8,11 +8,11 @@ use Rattle.std.specs.Int.Bits.{bit_xor, xor_zero_l}
 use Rattle.flux_base.specs.declared.outside.Memory.{Memory}
 use Rattle.cell_bits.specs.State.{CellsState}
 use Rattle.cell_bits.specs.Word.{word_cells}
-use Rattle.frame_law.specs.Writing.{AppendsCells, AppendsCells-more, AppendsCells-next, AppendsCells-none, AppendsCells-short}
+use Rattle.frame_law.specs.Writing.{AppendsCells}
+use Rattle.frame_law.specs.lemmas.WritingLaws.{AppendsCells-more, AppendsCells-next, AppendsCells-none, AppendsCells-short}
 use Rattle.apple_gcr.specs.Nibbles.{bytes_cells, nibble}
 use Rattle.apple_gcr.specs.SixAndTwo.{data_nibbles, value_at, values_of}
-use Rattle.apple_gcr.specs.ValueLaws.{get_or-data_nibbles, get_or-values_of, length-data_nibbles, length-values_of}
-use Rattle.std.proofs.Common.{IsErr}
+use Rattle.apple_gcr.specs.lemmas.ValueLaws.{get_or-data_nibbles, get_or-values_of, length-data_nibbles, length-values_of}
 
 -- the first nibbles were appended, so many, and the last value is the given one
 pub record IsWritten (old new : CellsState) (bytes : List ℕ) (count last : ℕ) : Type 0 where

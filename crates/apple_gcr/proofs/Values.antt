@@ -9,10 +9,10 @@ use Rattle.std.specs.Int.Bits.{bit_xor, xor_zero_l}
 use Rattle.std.specs.List.{range_with_len}
 use Rattle.std.proofs.Math.Nat.{mod-lt}
 use Rattle.apple_gcr.specs.declared.nibbles.TheConstants.{VALUES_BY_BYTE}
-use Rattle.apple_gcr.specs.FieldLaws.{agree-below, one_value}
+use Rattle.apple_gcr.specs.lemmas.FieldLaws.{agree-below, one_value}
 use Rattle.apple_gcr.specs.Nibbles.{disk_byte, nibble}
 use Rattle.apple_gcr.specs.SixAndTwo.{AreCoded, code_at}
-use Rattle.apple_gcr.specs.ValueLaws.{AreSixBits, FirstStand, code-fits, same_value, xor-undo}
+use Rattle.apple_gcr.specs.lemmas.ValueLaws.{AreSixBits, FirstStand, code-fits, same_value, xor-undo}
 
 -- the table of values has values of six bits
 values_table : map (λ place. get_or VALUES_BY_BYTE place 0 % 64) (range_with_len 0 128) ≡ map (λ place. get_or VALUES_BY_BYTE place 0) (range_with_len 0 128)

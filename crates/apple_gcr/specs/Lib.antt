@@ -1,11 +1,6 @@
-pub mod FieldLaws
 pub mod FourAndFour
-pub mod FrameLaws
 pub mod Layout
 pub mod Nibbles
-pub mod RowLaws
 pub mod Sectors
 pub mod SixAndTwo
-pub mod StandLaws
-pub mod Syncs
-pub mod ValueLaws
+pub mod lemmas

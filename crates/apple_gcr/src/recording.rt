@@ -1,11 +1,11 @@
 ghost use Rattle.std.specs.Prelude.{◌≡◌, ℕ, ◌+◌, false, refl};
 ghost use Rattle.std.proofs.Common.{lit≤};
-ghost use Rattle.apple_gcr.specs.FrameLaws.{frame_stands};
+ghost use Rattle.apple_gcr.specs.lemmas.FrameLaws.{frame_stands};
 ghost use Rattle.apple_gcr.specs.Layout.{row_cells, row_size, rows};
-ghost use Rattle.apple_gcr.specs.RowLaws.{row_follows, row_length};
+ghost use Rattle.apple_gcr.specs.lemmas.RowLaws.{row_follows, row_length};
 ghost use Rattle.apple_gcr.specs.Sectors.{Hold, IsSync, IsTrack, NamesSector};
-ghost use Rattle.apple_gcr.specs.StandLaws.{one_content, one_name, sizes, sums, tells, within_reach};
-ghost use Rattle.apple_gcr.specs.Syncs.{own_syncs};
+ghost use Rattle.apple_gcr.specs.lemmas.StandLaws.{one_content, one_name, sizes, sums, tells, within_reach};
+ghost use Rattle.apple_gcr.specs.lemmas.Syncs.{own_syncs};
 
 use crate::data_field::{first_sync, read_field};
 use crate::header::named_sector;

@@ -12,7 +12,7 @@ use Rattle.sector_images.specs.Formats.{row, zone}
 use Rattle.sector_images.specs.Places.{IsSector, IsTrack, SectorsLieInImages, sector_place}
 use Rattle.sector_images.specs.declared.format.Format.{Format}
 use Rattle.track_rings.specs.Rings.{AreSectors, bytes_of}
-use Rattle.track_rings.specs.SectorParts.{sectors-length, sectors-parts}
+use Rattle.track_rings.specs.lemmas.SectorParts.{sectors-length, sectors-parts}
 use Rattle.flux_engine.specs.Rings.{IsImage, sector_bytes, track_bytes}
 
 all_fit : (f : ℕ → List ℕ) (first count : ℕ) → ((k : ℕ) → All (λ byte. byte < 256) (f k)) → All (λ byte. byte < 256) (flat_map f (range_with_len first count))

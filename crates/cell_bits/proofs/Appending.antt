@@ -6,7 +6,7 @@ use Rattle.std.proofs.lemmas.Nat.{shl_whole, or_shifted, or_lt, shl_below, shr_b
 use Rattle.std.proofs.lemmas.Nat.Bits.{bit_at_above}
 use Rattle.std.proofs.lemmas.List.{flat_map_more}
 use Rattle.cell_bits.specs.Word.{digit, word_cells}
-use Rattle.cell_bits.specs.WordLaws.{word_cells-append, word_cells-low}
+use Rattle.cell_bits.specs.lemmas.WordLaws.{word_cells-append, word_cells-low}
 use Rattle.cell_bits.specs.Run.{run_cells}
 use Rattle.cell_bits.specs.Bytes.{last_cell}
 use Rattle.cell_bits.proofs.Packing.{all_cells}

@@ -8,7 +8,7 @@ use Rattle.std.proofs.lemmas.List.{get_or_append_left, get_or-append_right, get_
 use Rattle.std.proofs.Math.Seq.{take-append_seam}
 use Rattle.std.proofs.lemmas.List.Concat.{flat_map-append, get_or-flat_map}
 use Rattle.cell_bits.specs.Word.{digit, word_cells}
-use Rattle.cell_bits.specs.WordLaws.{length-word_cells, get_or-word_cells}
+use Rattle.cell_bits.specs.lemmas.WordLaws.{length-word_cells, get_or-word_cells}
 use Rattle.cell_bits.specs.inside.Window.{IsWindow}
 use Rattle.cell_bits.specs.inside.Packed.{most_words}
 

@@ -3,7 +3,7 @@ use Rattle.std.proofs.Common.{◌≡◌, ℕ, ◌+◌, ◌-◌, ◌*◌, ◌/◌
 use Rattle.std.proofs.lemmas.Bool.{cases_lt}
 use Rattle.std.proofs.lemmas.List.{get_or_past}
 use Rattle.cell_bits.specs.Word.{digit, word_cells, Stands}
-use Rattle.cell_bits.specs.WordLaws.{length-word_cells, get_or-word_cells}
+use Rattle.cell_bits.specs.lemmas.WordLaws.{length-word_cells, get_or-word_cells}
 use Rattle.cell_bits.specs.Search.{StandsNowhere, IsFirstWord, HasNoOne}
 use Rattle.cell_bits.specs.Broken.{Unbroken}
 use Rattle.cell_bits.specs.inside.Window.{IsWindow, AreCandidates, cell_of_two}

@@ -4,7 +4,7 @@ use mir.Val.{bool_byte}
 use Rattle.std.proofs.lemmas.Nat.{shr_split, or_shifted}
 use Rattle.std.proofs.lemmas.Bool.{cases_lt, eqb-true}
 use Rattle.cell_bits.specs.Word.{word_cells, number_of}
-use Rattle.cell_bits.specs.WordLaws.{word_cells-number_of, number_of-word_cells, number_of-lt, word_cells-append}
+use Rattle.cell_bits.specs.lemmas.WordLaws.{word_cells-number_of, number_of-word_cells, number_of-lt, word_cells-append}
 use Rattle.cell_bits.specs.Bytes.{fm, mfm, fm_cells, mfm_cells, data_cells}
 use Rattle.cell_bits.specs.Marks.{woven}
 use Rattle.cell_bits.specs.inside.Spread.{spread_of}

@@ -7,7 +7,7 @@ use Rattle.std.proofs.lemmas.List.Sums.{sum_by-append, sum_by-cons, count_by-le-
 use Rattle.std.proofs.lemmas.Nat.Bits.{bit_at-lt}
 use Rattle.std.proofs.Math.Nat.{pow-le-pow_right}
 use Rattle.cell_bits.specs.Word.{digit, word_cells, number_of, word}
-use Rattle.cell_bits.specs.WordLaws.{digit-number, length-word_cells, get_or-word_cells, number_of-word_cells}
+use Rattle.cell_bits.specs.lemmas.WordLaws.{digit-number, length-word_cells, get_or-word_cells, number_of-word_cells}
 use Rattle.cell_bits.specs.Bytes.{data_byte, data_cells}
 use Rattle.cell_bits.specs.Ones.{ones, ones_from_to}
 use Rattle.cell_bits.specs.inside.Window.{IsWindow}

@@ -6,5 +6,5 @@ pub mod Run
 pub mod Search
 pub mod State
 pub mod Word
-pub mod WordLaws
 pub mod inside
+pub mod lemmas

@@ -1,10 +1,10 @@
 -- Bytes that are read from ten cells each.
 use Rattle.std.proofs.Common.{◌≡◌, ℕ, zero, suc, ◌+◌, ◌<◌, ◌≤◌, Bool, List, [], ◌∷◌, length, arith, Option, Some, None, IfSome, IfNone, ap, sym, ◌∙◌}
 use Rattle.cell_bits.specs.Word.{word, word_cells}
-use Rattle.frame_law.specs.WordRows.{word_cells-word}
+use Rattle.frame_law.specs.lemmas.WordRowLaws.{word_cells-word}
 use Rattle.flux_base.specs.declared.track.TrackId.{TrackId}
 use Rattle.commodore_gcr.specs.Coding.{ByteAt, BytesAt, gcr}
-use Rattle.commodore_gcr.specs.CodingLaws.{one_list_at}
+use Rattle.commodore_gcr.specs.lemmas.CodingLaws.{one_list_at}
 use Rattle.commodore_gcr.specs.Sectors.{NamesSector, header_bytes}
 
 pub byte_at-some : (cells : List Bool) (place number : ℕ) (result : Option ℕ) → place + 10 ≤ length cells → number ≡ word cells place 10

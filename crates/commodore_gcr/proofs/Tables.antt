@@ -5,9 +5,9 @@ use Rattle.std.proofs.lemmas.Bool.Decides.{nat_tests}
 use Rattle.std.proofs.lemmas.List.FromFn.{get_or-map-range_with_len}
 use Rattle.std.proofs.Math.Nat.{mod-eq_of_lt, mod-lt}
 use Rattle.cell_bits.specs.Word.{word_cells, number_of}
-use Rattle.cell_bits.specs.WordLaws.{number_of-word_cells, word_cells-append}
+use Rattle.cell_bits.specs.lemmas.WordLaws.{number_of-word_cells, word_cells-append}
 use Rattle.commodore_gcr.specs.Coding.{code_of, gcr}
-use Rattle.commodore_gcr.specs.RowLaws.{nibble-lt}
+use Rattle.commodore_gcr.specs.lemmas.RowLaws.{nibble-lt}
 use Rattle.commodore_gcr.specs.declared.coding.TheConstants.{CODES, NIBBLES}
 
 -- two functions that agree in a list of their values agree at each number of it

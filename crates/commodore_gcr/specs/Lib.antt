@@ -1,10 +1,5 @@
 pub mod Coding
-pub mod CodingLaws
 pub mod Zones
 pub mod Sectors
 pub mod Layout
-pub mod ZoneLaws
-pub mod RowLaws
-pub mod FrameLaws
-pub mod OwnLaws
-pub mod Syncs
+pub mod lemmas

@@ -1,11 +1,11 @@
 ghost use Rattle.std.specs.Prelude.{◌≡◌, ℕ, ◌+◌, false, refl};
-ghost use Rattle.commodore_gcr.specs.FrameLaws.{frame_stands};
+ghost use Rattle.commodore_gcr.specs.lemmas.FrameLaws.{frame_stands};
 ghost use Rattle.commodore_gcr.specs.Layout.{ring_cells_of, row_cells, row_size, rows};
-ghost use Rattle.commodore_gcr.specs.OwnLaws.{one_content, one_name, sizes, tells, within_reach};
-ghost use Rattle.commodore_gcr.specs.RowLaws.{row_follows, row_length};
+ghost use Rattle.commodore_gcr.specs.lemmas.OwnLaws.{one_content, one_name, sizes, tells, within_reach};
+ghost use Rattle.commodore_gcr.specs.lemmas.RowLaws.{row_follows, row_length};
 ghost use Rattle.commodore_gcr.specs.Sectors.{Hold, IsSync, NamesSector};
-ghost use Rattle.commodore_gcr.specs.Syncs.{own_syncs};
-ghost use Rattle.commodore_gcr.specs.ZoneLaws.{counts, sums};
+ghost use Rattle.commodore_gcr.specs.lemmas.Syncs.{own_syncs};
+ghost use Rattle.commodore_gcr.specs.lemmas.ZoneLaws.{counts, sums};
 ghost use Rattle.commodore_gcr.specs.Zones.{IsTrack, sectors_of, zone_of};
 
 use crate::data_block::{first_sync, read_block};

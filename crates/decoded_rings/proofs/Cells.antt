@@ -3,7 +3,7 @@ use Rattle.std.specs.Prelude.{◌≡◌, ℕ, zero, suc, ◌+◌, ◌<◌, ◌�
 use Rattle.std.proofs.Common.{ap, ◌∙◌, arith, append_assoc}
 use Rattle.std.proofs.lemmas.List.Sums.{sum_by-cons}
 use Rattle.std.proofs.Math.Seq.{drop-append-add}
-use Rattle.track_rings.specs.Cuts.{length-stretch}
+use Rattle.track_rings.specs.lemmas.Cuts.{length-stretch}
 use Rattle.decoded_rings.specs.Pieces.{ERASED_ZEROS, RingPiece, begin_of_piece, cells_of_ring_pieces, piece_cells}
 
 -- the cells behind those of the first piece

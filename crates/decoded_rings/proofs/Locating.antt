@@ -1,12 +1,11 @@
 -- Unbroken cells lie in one piece and the zeros beside it.
 use Rattle.std.specs.Prelude.{◌≡◌, ℕ, suc, ◌+◌, ◌-◌, ◌<◌, ◌≤◌, Bool, false, List, [], ◌∷◌, ◌++◌, length, take, drop, replicate, slice_get, Some, refl}
-use Rattle.std.proofs.Common.{ap, sym, subst, ◌∙◌, arith, inl, inr, append_assoc, length-append}
+use Rattle.std.proofs.Common.{ap, sym, subst, ◌∙◌, arith, inl, inr, append_assoc, length-append, length-drop}
 use Rattle.std.proofs.lemmas.Bool.{cases_lt}
 use Rattle.std.proofs.lemmas.List.{drop-append-le, length-replicate, take-append-le}
 use Rattle.std.proofs.Math.Seq.{drop-append-add}
-use Rattle.std.proofs.Common.{length-drop}
 use Rattle.cell_bits.specs.Broken.{Unbroken}
-use Rattle.track_rings.specs.Cuts.{length-stretch}
+use Rattle.track_rings.specs.lemmas.Cuts.{length-stretch}
 use Rattle.track_rings.specs.Rings.{stretch}
 use Rattle.decoded_rings.specs.Pieces.{RingPiece, begin_of_piece, cells_of_ring_pieces, piece_cells}
 use Rattle.track_rings.specs.OwnSectors.{between_zeros}

@@ -6,7 +6,7 @@ use Rattle.std.proofs.lemmas.List.{drop-append-le, drop-drop, take-append-drop, 
 use Rattle.cell_bits.specs.Broken.{Unbroken}
 use Rattle.decoded_rings.specs.Pieces.{IsCellOf, RingPiece, begin_of_piece, cells_of_ring_pieces, piece_cells}
 use Rattle.decoded_rings.specs.Verdicts.{LiesInPiece, StandsAsWritten, StandsInOnePiece}
-use Rattle.track_rings.specs.Cuts.{length-stretch}
+use Rattle.track_rings.specs.lemmas.Cuts.{length-stretch}
 use Rattle.track_rings.specs.OwnSectors.{IsAlone, between_zeros}
 use Rattle.decoded_rings.specs.Written.{HasSector, IsReadBy, WrittenTrack}
 use Rattle.decoded_rings.proofs.Cells.{begins-after, piece-there}

@@ -1,5 +1,5 @@
 pub mod Outside
 pub mod Memory
 pub mod Status
-pub mod Parts
 pub mod Moments
+pub mod lemmas

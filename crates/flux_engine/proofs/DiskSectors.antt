@@ -26,7 +26,7 @@ use Rattle.flux_engine.proofs.DiskParts.{few_parts, image_is, image_split, lines
 use Rattle.flux_engine.proofs.GoodSectors.{in_image}
 use Rattle.flux_engine.proofs.LineNumbers.{Skips, line-first, sectors_on, skips-append, skips-lines, skips-tracks}
 use Rattle.flux_engine.proofs.Outcomes.{good_is_right, one_found, one_part}
-use Rattle.flux_engine.specs.Pieces.{pieces-at}
+use Rattle.flux_engine.specs.lemmas.Pieces.{pieces-at}
 
 -- a verdict that is not good leaves no data
 other_none : (good bad : ℕ) (first : Place) (mine : List ℕ) (other : Option Reading) → is_good (verdict_with good bad first other) ≡ false

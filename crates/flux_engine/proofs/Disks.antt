@@ -19,7 +19,7 @@ use Rattle.sector_report.specs.declared.totals.Totals.{Totals}
 use Rattle.flux_engine.specs.Answers.{Answer, DecodesTrack, DecodesDisk, IsTrackStream, SaysOfDisk, WroteAll, IsTakenBehind, AppendsAndPart}
 use Rattle.flux_engine.specs.Disks.{Stop, IsPartAt, part_at, AreParts, images, lines, totals_over, stop_at, stop_of, decoded_count, Decoded, decoded_of, no_totals}
 use Rattle.flux_engine.specs.Reading.{HasDecoded}
-use Rattle.flux_engine.specs.PartLaws.{images-more, lines-more, totals-more}
+use Rattle.flux_engine.specs.lemmas.PartLaws.{images-more, lines-more, totals-more}
 use Rattle.flux_engine.specs.Recordings.{track_at}
 use Rattle.flux_engine.specs.Room.{RoomState, fresh}
 use Rattle.flux_engine.specs.Streams.{behind, behind_stream, stream_at, has_fault}

@@ -17,7 +17,7 @@ use Rattle.turn_merge.specs.declared.verdict.Verdict.TheVariants.{Good}
 use Rattle.flux_engine.specs.Tracks.{Found, place_at, readings_at, readings_of, image_bytes}
 use Rattle.flux_engine.specs.declared.sectors.Sectors.{Sectors}
 use Rattle.flux_engine.proofs.Each.{Each, each-at, each-map, each-flat, each-of, each-unflat, each-filter, each-unfilter, each-missed}
-use Rattle.flux_engine.specs.Pieces.{pieces-at}
+use Rattle.flux_engine.specs.lemmas.Pieces.{pieces-at}
 
 abbrev is_good_of : ℕ → Reading → Bool
 is_good_of sector r = nat_eq r.sector sector && is_some r.bytes

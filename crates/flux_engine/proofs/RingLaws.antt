@@ -24,7 +24,7 @@ use Rattle.flux_engine.specs.Recordings.{sectors_of, track_at}
 use Rattle.flux_engine.specs.Rings.{IsImage, IsRing, disk_id, nominal_of, ring_cells_of, ring_of, ring_with, HasRoomForRings, track_stream, sector_bytes, track_bytes}
 use Rattle.flux_engine.specs.declared.sectors.Sectors.{Sectors}
 use Rattle.flux_engine.proofs.Captured.{captures}
-use Rattle.flux_engine.specs.Pieces.{pieces-more}
+use Rattle.flux_engine.specs.lemmas.Pieces.{pieces-more}
 use Rattle.flux_engine.proofs.Repeated.{early_one}
 
 -- the ring of a format's track

@@ -3,11 +3,8 @@ pub mod Recordings
 pub mod Tracks
 pub mod TrackParts
 pub mod Gathering
-pub mod NoteLaws
 pub mod Writing
 pub mod Disks
-pub mod PartLaws
-pub mod Pieces
 pub mod Room
 pub mod Answers
 pub mod Reading
@@ -17,3 +14,4 @@ pub mod Rings
 pub mod Captures
 pub mod Writes
 pub mod Needed
+pub mod lemmas

@@ -3,7 +3,7 @@ use Rattle.std.proofs.Common.{◌≡◌, ◌++◌, ℕ, List, [], Option, sym, a
 use Rattle.std.specs.Io.KnownBytes.{Appends}
 use Rattle.std.proofs.KnownBytes.{Appends-nil, Appends-trans}
 use Rattle.flux_base.specs.Outside.{AppendsPart}
-use Rattle.flux_base.specs.Parts.{AppendsPart-first, AppendsPart-second}
+use Rattle.flux_base.specs.lemmas.Parts.{AppendsPart-first, AppendsPart-second}
 use Rattle.flux_writer.specs.inside.Gathering.{Gathers}
 
 pub Gathers-nothing : (a : Option (List ℕ)) (held : List ℕ) → Gathers a a held held []

@@ -4,7 +4,7 @@ use Rattle.std.proofs.lemmas.List.{length-take}
 use Rattle.std.proofs.lemmas.Bool.{cases_lt}
 use Rattle.cell_bits.specs.Search.{StandsNowhere}
 use Rattle.cell_bits.specs.Word.{Stands}
-use Rattle.cell_bits.specs.WordLaws.{length-word_cells}
+use Rattle.cell_bits.specs.lemmas.WordLaws.{length-word_cells}
 use Rattle.frame_law.specs.Readings.{NoHeader}
 
 -- a word stands within the list

@@ -2,11 +2,10 @@ ghost use Rattle.std.specs.Prelude.{◌≡◌, ℕ, ◌+◌, ◌*◌, ◌^◌, �
 ghost use Rattle.cell_bits.specs.Bytes.{last_cell};
 ghost use Rattle.flux_base.specs.declared.track.TrackId.{TrackId};
 ghost use Rattle.frame_law.specs.Frames.{AreSizes, FrameStands, IsDataSync, IsWithinReach};
-ghost use Rattle.frame_law.specs.OwnFrames.{HasOwnSyncs, TellsEarly};
+ghost use Rattle.frame_law.specs.lemmas.OwnFrames.{HasOwnSyncs, TellsEarly};
 ghost use Rattle.frame_law.specs.Writing.{AppendsCells};
-ghost use Rattle.track_rings.specs.Rings.{AreSectors, IsSectorNumber};
+ghost use Rattle.track_rings.specs.Rings.{AreSectors, IsSectorNumber, AreBytes};
 ghost use Rattle.track_rings.specs.Rows.{IsContent, Rows, frame_size, last_of, place_of, ring_of, ring_size, rows_cells, sector_rows};
-ghost use Rattle.track_rings.specs.SectorParts.{AreBytes};
 ghost use Rattle.track_rings.specs.Spaced.{MayFollow};
 
 use crate::{CellsFrom, SectorBuffer};

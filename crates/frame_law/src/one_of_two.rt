@@ -3,7 +3,7 @@
 ghost use Rattle.std.specs.Prelude.{◌≡◌, ℕ, ◌≤◌, length, min, max};
 ghost use Rattle.std.proofs.Common.{arith};
 ghost use Rattle.either.specs.declared.Either.TheVariants.{Left, Right};
-ghost use Rattle.frame_law.specs.Spacing.{spaced_wider};
+ghost use Rattle.frame_law.specs.lemmas.Spacing.{spaced_wider};
 
 use crate::{Reading, Recording, SectorBuffer};
 use cell_bits::Cells;

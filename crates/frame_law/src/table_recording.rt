@@ -3,8 +3,8 @@
 ghost use Rattle.std.specs.Prelude.{◌≡◌, ℕ, ◌+◌, ◌*◌, ◌<◌, ◌≤◌, List, Bool, length};
 ghost use Rattle.std.proofs.Common.{arith, refl, subst};
 ghost use Rattle.frame_law.specs.Frames.{DataStand, HeaderStands, SectorStands};
-ghost use Rattle.frame_law.specs.FrameLaws.{frame_within, one_content, ring_length, ring_spaced, sector_stands};
-ghost use Rattle.frame_law.specs.OwnFrames.{header_alone, header_own, header_within, no_header, sector_alone, sector_own, some_cells, some_header};
+ghost use Rattle.frame_law.specs.lemmas.FrameLaws.{frame_within, one_content, ring_length, ring_spaced, sector_stands};
+ghost use Rattle.frame_law.specs.lemmas.OwnFrames.{header_alone, header_own, header_within, no_header, sector_alone, sector_own, some_cells, some_header};
 ghost use Rattle.track_rings.specs.Rings.{AreSectors, bytes_of};
 ghost use Rattle.track_rings.specs.Rows.{place_of, ring_of};
 

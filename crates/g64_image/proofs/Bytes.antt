@@ -6,7 +6,7 @@ use Rattle.std.proofs.lemmas.List.Concat.{flat_map-append}
 use Rattle.std.proofs.lemmas.List.FromFn.{map-range_with_len_more}
 use Rattle.std.proofs.Math.Seq.{take-suc}
 use Rattle.cell_bits.specs.Word.{number_of, word, word_cells}
-use Rattle.cell_bits.specs.WordLaws.{length-word_cells, number_of-lt}
+use Rattle.cell_bits.specs.lemmas.WordLaws.{length-word_cells, number_of-lt}
 use Rattle.g64_image.specs.Layout.{cells_of_bytes}
 
 length-take-most : (n : ℕ) (xs : List Bool) → length (take n xs) ≤ n

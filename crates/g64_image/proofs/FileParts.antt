@@ -9,7 +9,7 @@ use Rattle.std.proofs.Math.Seq.{get_or-append_seam}
 use Rattle.flux_base.specs.Outside.{AppendsPart}
 use Rattle.flux_engine.specs.Answers.{AppendsAndPart}
 use Rattle.flux_engine.specs.Disks.{images, lines, no_totals, part_at, totals_over}
-use Rattle.flux_engine.specs.PartLaws.{images-more, lines-more, totals-more}
+use Rattle.flux_engine.specs.lemmas.PartLaws.{images-more, lines-more, totals-more}
 use Rattle.flux_engine.specs.Recordings.{track_at}
 use Rattle.flux_engine.specs.TrackParts.{WritesPart}
 use Rattle.flux_engine.specs.Tracks.{Part, part_of}

@@ -5,7 +5,7 @@ use Rattle.std.proofs.Common.{ap, sym, subst, ◌∙◌, arith, append_assoc, in
 use Rattle.std.proofs.lemmas.Bool.{cases_lt}
 use Rattle.std.proofs.lemmas.List.Elements.{filter_map-append}
 use Rattle.byteorder.specs.Endian.{little_bytes}
-use Rattle.flux_engine.specs.Pieces.{pieces-more, range-append, range-more}
+use Rattle.flux_engine.specs.lemmas.Pieces.{pieces-more, range-append, range-more}
 use Rattle.flux_engine.specs.Rings.{ring_cells_of}
 use Rattle.flux_engine.specs.Recordings.{track_at}
 use Rattle.sector_images.specs.Formats.{commodore_zone, zone}

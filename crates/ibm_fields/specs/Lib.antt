@@ -1,4 +1,2 @@
 pub mod Fields
-pub mod FieldFronts
-pub mod FieldLaws
-pub mod Numbers
+pub mod lemmas

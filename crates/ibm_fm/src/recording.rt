@@ -1,12 +1,12 @@
 ghost use Rattle.std.specs.Prelude.{◌≡◌, ℕ, ◌+◌, false, refl};
 ghost use Rattle.std.proofs.Common.{lit≤, sym, ◌∙◌};
-ghost use Rattle.ibm_fm.specs.FrameLaws.{frame_stands};
+ghost use Rattle.ibm_fm.specs.lemmas.FrameLaws.{frame_stands};
 ghost use Rattle.ibm_fm.specs.Layout.{row_cells, row_size, rows};
-ghost use Rattle.ibm_fm.specs.OwnLaws.{tells};
-ghost use Rattle.ibm_fm.specs.RowLaws.{row_follows, row_length};
+ghost use Rattle.ibm_fm.specs.lemmas.OwnLaws.{tells};
+ghost use Rattle.ibm_fm.specs.lemmas.RowLaws.{row_follows, row_length};
 ghost use Rattle.ibm_fm.specs.Sectors.{Hold, IsSync, IsTrack, NamesSector};
-ghost use Rattle.ibm_fm.specs.StandLaws.{bytes_held, one_name, sizes, sums, within_reach};
-ghost use Rattle.ibm_fm.specs.Syncs.{own_syncs};
+ghost use Rattle.ibm_fm.specs.lemmas.StandLaws.{bytes_held, one_name, sizes, sums, within_reach};
+ghost use Rattle.ibm_fm.specs.lemmas.Syncs.{own_syncs};
 
 use crate::data_field::{first_sync, read_field};
 use crate::header::named_sector;

@@ -2,7 +2,8 @@
 use Rattle.std.proofs.Common.{◌≡◌, ℕ, ◌+◌, ◌<◌, ◌≤◌, Bool, List, arith, inl, inr, subst}
 use Rattle.std.proofs.lemmas.Bool.{cases_lt}
 use Rattle.cell_bits.specs.Search.{StandsNowhere}
-use Rattle.ibm_mfm.specs.Syncs.{SyncAt, TWO_MARKS, sync-two}
+use Rattle.ibm_mfm.specs.Syncs.{SyncAt}
+use Rattle.ibm_mfm.specs.lemmas.SyncLaws.{TWO_MARKS, sync-two}
 
 -- they stand at no place from `from` to below `to`
 abbrev pub NoSync : List Bool → ℕ → ℕ → Type 0

@@ -1,10 +1,5 @@
-pub mod DiskLaws
 pub mod Disks
-pub mod FrameLaws
-pub mod HeaderSyncs
 pub mod Layout
-pub mod OwnLaws
-pub mod ReadLaws
-pub mod RowLaws
 pub mod Sectors
 pub mod Syncs
+pub mod lemmas

@@ -1,12 +1,12 @@
 ghost use Rattle.std.specs.Prelude.{◌≡◌, ℕ, ◌+◌, true, refl};
 ghost use Rattle.std.proofs.Common.{lit≤, sym, ◌∙◌};
-ghost use Rattle.ibm_mfm.specs.DiskLaws.{counts, ends, sums};
+ghost use Rattle.ibm_mfm.specs.lemmas.DiskLaws.{counts, ends, sums};
 ghost use Rattle.ibm_mfm.specs.Disks.{IsTrack, disk_of as disk_with};
-ghost use Rattle.ibm_mfm.specs.FrameLaws.{frame_stands};
-ghost use Rattle.ibm_mfm.specs.HeaderSyncs.{own_syncs};
+ghost use Rattle.ibm_mfm.specs.lemmas.FrameLaws.{frame_stands};
+ghost use Rattle.ibm_mfm.specs.lemmas.HeaderSyncs.{own_syncs};
 ghost use Rattle.ibm_mfm.specs.Layout.{row_cells, row_size, rows};
-ghost use Rattle.ibm_mfm.specs.OwnLaws.{bytes_held, one_name, sizes, tells, within_reach};
-ghost use Rattle.ibm_mfm.specs.RowLaws.{row_follows, row_length};
+ghost use Rattle.ibm_mfm.specs.lemmas.OwnLaws.{bytes_held, one_name, sizes, tells, within_reach};
+ghost use Rattle.ibm_mfm.specs.lemmas.RowLaws.{row_follows, row_length};
 ghost use Rattle.ibm_mfm.specs.Sectors.{Hold, NamesSector};
 ghost use Rattle.ibm_mfm.specs.Syncs.{SyncAt};
 

@@ -1,5 +1,3 @@
 pub mod Coding
-pub mod CodingLaws
-pub mod MarkPlaces
-pub mod SymbolRows
 pub mod Writes
+pub mod lemmas

@@ -5,7 +5,7 @@ use Rattle.std.proofs.lemmas.List.{append-nil, drop-append-le, map-append}
 use Rattle.std.proofs.lemmas.List.Concat.{flat_map-append}
 use Rattle.cell_bits.specs.Run.{run_cells}
 use Rattle.track_rings.specs.Rings.{AreNeighbours, cell_of, stretch}
-use Rattle.track_rings.specs.Stretches.{stretch-append}
+use Rattle.track_rings.specs.lemmas.Stretches.{stretch-append}
 use Rattle.phase_loop.specs.Rows.{Row, next_row, with_next_row, rows_to, rows_of, recovered}
 use Rattle.phase_loop.specs.declared.start.LoopStart.{LoopStart}
 use Rattle.phase_loop.proofs.Clock.{IsClock}

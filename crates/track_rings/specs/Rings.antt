@@ -45,3 +45,8 @@ pub record IsSectorNumber (first sectors sector : ℕ) : Type 0 where
 pub record LiesAt (ring_cells begin frame_cells from count place : ℕ) : Type 0 where
   pub same : (from + place) % ring_cells ≡ begin
   pub whole : place + frame_cells ≤ count
+
+-- each is a byte
+unfoldable pub AreBytes : List ℕ → Type 0
+AreBytes [] = Unit {0}
+AreBytes (byte ∷ bytes) = (byte < 256) × AreBytes bytes

@@ -1,8 +1,7 @@
 -- A track made of rows: what its rows are, from index to index, and their cells.
 use Rattle.std.specs.Prelude.{◌≡◌, ℕ, ◌+◌, ◌-◌, ◌*◌, Bool, false, ◌&&◌, List, [], ◌∷◌, ◌++◌, length, map, ◌⊎◌}
 use Rattle.std.specs.List.{flat_map, range_with_len}
-use Rattle.track_rings.specs.Rings.{IsSectorNumber, bytes_of}
-use Rattle.track_rings.specs.SectorParts.{AreBytes}
+use Rattle.track_rings.specs.Rings.{IsSectorNumber, bytes_of, AreBytes}
 
 -- The rows of a track: those before its first sector, those of each sector, and those after its last one. The frame of a sector
 -- goes from the begin of its header to the end of its data.

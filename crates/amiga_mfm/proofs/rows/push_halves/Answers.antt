@@ -3,7 +3,8 @@ use Rattle.std.specs.List.{flat_map}
 use Rattle.std.proofs.lemmas.List.{take_all}
 use Rattle.mfm_coding.specs.declared.symbol.Symbol.{Symbol}
 use Rattle.mfm_coding.specs.Coding.{bytes_as_data}
-use Rattle.mfm_coding.specs.Writes.{AppendsSymbols, AppendsSymbols-next, AppendsSymbols-none, AppendsSymbols-short}
+use Rattle.mfm_coding.specs.Writes.{AppendsSymbols}
+use Rattle.mfm_coding.specs.lemmas.WriteLaws.{AppendsSymbols-next, AppendsSymbols-none, AppendsSymbols-short}
 use Rattle.amiga_mfm.specs.Layout.{halves_symbols}
 use Rattle.amiga_mfm.specs.Longs.{half_bytes}
 use Rattle.amiga_mfm.proofs.Pushes.{halves-each, one_half}

@@ -2,7 +2,7 @@ use Rattle.std.proofs.Common.{[], arith, map}
 use Rattle.std.proofs.lemmas.List.{length-map}
 use Rattle.amiga_mfm.specs.declared.half.Half.TheVariants.{Odd, Even}
 use Rattle.amiga_mfm.specs.Longs.{half_of, halves}
-use Rattle.amiga_mfm.specs.RowLaws.{length-halves}
+use Rattle.amiga_mfm.specs.lemmas.RowLaws.{length-halves}
 use Rattle.amiga_mfm.proofs.Pushes.{halves-more, halves-stop, no-halves}
 use Rattle.amiga_mfm.proofs.rows.push_longs.Goals as goal
 

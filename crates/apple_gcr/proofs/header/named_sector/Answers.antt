@@ -1,6 +1,6 @@
 use Rattle.std.proofs.Common.{◌≡◌, ◌∙◌, ℕ, ap, sym}
 use Rattle.apple_gcr.specs.Sectors.{check_of}
-use Rattle.apple_gcr.specs.StandLaws.{one_byte}
+use Rattle.apple_gcr.specs.lemmas.StandLaws.{one_byte}
 use Rattle.apple_gcr.proofs.header.named_sector.Goals as goal
 
 pub returns-then-cylinder-track-clause-none : goal.returns-then-cylinder-track-clause-none

@@ -1,6 +1,6 @@
 use Rattle.std.proofs.Common.{◌<◌, subst, sym, ℕ}
 use Rattle.std.proofs.Math.Facts.{Fits-of_lt}
-use Rattle.frame_law.specs.WordRows.{word-lt}
+use Rattle.frame_law.specs.lemmas.WordRowLaws.{word-lt}
 use Rattle.apple_gcr.specs.Nibbles.{disk_byte}
 use Rattle.apple_gcr.proofs.nibbles.disk_byte_at.Goals as goal
 

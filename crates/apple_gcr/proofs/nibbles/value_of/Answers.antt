@@ -1,7 +1,7 @@
 use Rattle.std.proofs.Common.{◌≡◌, ◌%◌, ℕ, get_or, ap, sym, ◌∙◌, lit<}
 use Rattle.std.proofs.Math.Nat.{mod-lt}
 use Rattle.apple_gcr.specs.declared.nibbles.TheConstants.{NIBBLES, VALUES_BY_BYTE}
-use Rattle.apple_gcr.specs.FieldLaws.{nibble-is, value-of_nibble}
+use Rattle.apple_gcr.specs.lemmas.FieldLaws.{nibble-is, value-of_nibble}
 use Rattle.apple_gcr.proofs.Values.{value-fits}
 use Rattle.apple_gcr.proofs.nibbles.value_of.Goals as goal
 

@@ -1,5 +1,5 @@
 use Rattle.std.proofs.Common.{arith}
-use Rattle.cell_bits.specs.WordLaws.{length-word_cells}
+use Rattle.cell_bits.specs.lemmas.WordLaws.{length-word_cells}
 use Rattle.apple_gcr.proofs.rows.push_cells.Goals as goal
 
 pub returns : goal.returns

@@ -1,4 +1,4 @@
-use Rattle.frame_law.specs.Writing.{AppendsCells-none, AppendsCells-next, AppendsCells-short}
+use Rattle.frame_law.specs.lemmas.WritingLaws.{AppendsCells-none, AppendsCells-next, AppendsCells-short}
 use Rattle.apple_gcr.specs.FourAndFour.{four_and_four}
 use Rattle.apple_gcr.proofs.rows.push_fields.Goals as goal
 

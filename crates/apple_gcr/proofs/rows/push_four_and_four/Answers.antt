@@ -1,6 +1,6 @@
 use Rattle.std.proofs.Common.{◌++◌, [], arith, append-nil, length-append}
 use Rattle.cell_bits.specs.Word.{word_cells}
-use Rattle.frame_law.specs.Writing.{AppendsCells-none, AppendsCells-more, AppendsCells-stop}
+use Rattle.frame_law.specs.lemmas.WritingLaws.{AppendsCells-none, AppendsCells-more, AppendsCells-stop}
 use Rattle.apple_gcr.specs.FourAndFour.{four_and_four, second_half}
 use Rattle.apple_gcr.proofs.rows.push_four_and_four.Goals as goal
 

@@ -1,9 +1,9 @@
 use Rattle.std.proofs.Common.{replicate, arith, length-append}
 use Rattle.std.proofs.lemmas.List.{length-replicate}
 use Rattle.cell_bits.specs.Word.{word_cells}
-use Rattle.cell_bits.specs.WordLaws.{length-word_cells}
-use Rattle.frame_law.specs.Writing.{AppendsCells-stop}
-use Rattle.frame_law.specs.WordRows.{length-row}
+use Rattle.cell_bits.specs.lemmas.WordLaws.{length-word_cells}
+use Rattle.frame_law.specs.lemmas.WritingLaws.{AppendsCells-stop}
+use Rattle.frame_law.specs.lemmas.WordRowLaws.{length-row}
 use Rattle.apple_gcr.specs.Layout.{SELF_SYNC, self_syncs}
 use Rattle.apple_gcr.proofs.rows.push_self_syncs.Goals as goal
 

@@ -1,5 +1,5 @@
 use Rattle.std.proofs.Common.{◌/◌, ◌%◌}
-use Rattle.commodore_gcr.specs.RowLaws.{nibble-lt}
+use Rattle.commodore_gcr.specs.lemmas.RowLaws.{nibble-lt}
 use Rattle.commodore_gcr.proofs.Tables.{byte_is, codes_are}
 use Rattle.commodore_gcr.proofs.coding.decoded.Goals as goal
 

@@ -1,7 +1,7 @@
 use Rattle.std.proofs.Common.{◌≡◌, ◌+◌, ℕ, Bool, true, false, ap, sym, subst, ◌∙◌}
 use Rattle.check_values.specs.Sums.{xor}
 use Rattle.commodore_gcr.specs.Coding.{ByteAt}
-use Rattle.commodore_gcr.specs.CodingLaws.{one_list_at}
+use Rattle.commodore_gcr.specs.lemmas.CodingLaws.{one_list_at}
 use Rattle.commodore_gcr.proofs.data_block.read_block.Goals as goal
 
 never : (b : Bool) → b ≡ false → ¬ (b ≡ true)

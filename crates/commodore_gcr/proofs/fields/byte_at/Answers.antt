@@ -1,4 +1,4 @@
-use Rattle.frame_law.specs.WordRows.{word-lt}
+use Rattle.frame_law.specs.lemmas.WordRowLaws.{word-lt}
 use Rattle.commodore_gcr.proofs.Bytes.{byte_at-none, byte_at-some}
 use Rattle.commodore_gcr.proofs.fields.byte_at.Goals as goal
 

@@ -1,5 +1,5 @@
 use Rattle.std.proofs.Common.{◌*◌, ◌+◌, arith, lit<, refl, sym, subst, ℕ, get_or}
-use Rattle.frame_law.specs.WordRows.{row-more}
+use Rattle.frame_law.specs.lemmas.WordRowLaws.{row-more}
 use Rattle.commodore_gcr.specs.Coding.{ByteAt, BytesAt}
 use Rattle.commodore_gcr.proofs.fields.take_bytes.Goals as goal
 

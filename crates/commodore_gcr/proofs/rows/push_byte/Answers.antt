@@ -1,5 +1,5 @@
 use Rattle.std.proofs.Common.{arith}
-use Rattle.commodore_gcr.specs.CodingLaws.{length-gcr}
+use Rattle.commodore_gcr.specs.lemmas.CodingLaws.{length-gcr}
 use Rattle.commodore_gcr.proofs.rows.push_byte.Goals as goal
 
 pub returns : goal.returns

@@ -1,4 +1,4 @@
-use Rattle.frame_law.specs.Writing.{AppendsCells-next, AppendsCells-short}
+use Rattle.frame_law.specs.lemmas.WritingLaws.{AppendsCells-next, AppendsCells-short}
 use Rattle.commodore_gcr.specs.Coding.{gcr}
 use Rattle.commodore_gcr.proofs.rows.push_bytes.Goals as goal
 

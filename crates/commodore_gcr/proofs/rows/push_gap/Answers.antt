@@ -1,9 +1,9 @@
 use Rattle.std.proofs.Common.{arith, length-append}
 use Rattle.cell_bits.specs.Word.{word_cells}
-use Rattle.cell_bits.specs.WordLaws.{length-word_cells}
-use Rattle.frame_law.specs.Writing.{AppendsCells-stop}
+use Rattle.cell_bits.specs.lemmas.WordLaws.{length-word_cells}
+use Rattle.frame_law.specs.lemmas.WritingLaws.{AppendsCells-stop}
 use Rattle.commodore_gcr.specs.Layout.{gap_cells}
-use Rattle.commodore_gcr.specs.RowLaws.{length-gap_cells}
+use Rattle.commodore_gcr.specs.lemmas.RowLaws.{length-gap_cells}
 use Rattle.commodore_gcr.proofs.rows.push_gap.Goals as goal
 
 pub returns-in_err-push_gap_byte : goal.returns-in_err-push_gap_byte

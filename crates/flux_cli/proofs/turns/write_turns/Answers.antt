@@ -2,7 +2,7 @@ use Rattle.std.proofs.Common.{◌≡◌, ◌-◌, length, ap, ◌∙◌, subst}
 use Rattle.std.proofs.KnownBytes.{Appends-trans}
 use Rattle.std.specs.Io.KnownBytes.{Appends}
 use Rattle.flux_base.specs.Outside.{AppendsPart}
-use Rattle.flux_base.specs.Parts.{AppendsPart-first, AppendsPart-second}
+use Rattle.flux_base.specs.lemmas.Parts.{AppendsPart-first, AppendsPart-second}
 use Rattle.sector_report.specs.Lines.{transitions_text}
 use Rattle.flux_cli.specs.Turns.{turn_lines}
 use Rattle.flux_cli.proofs.Results.{OnOk-map, OnErr-map}

@@ -6,7 +6,7 @@ use Rattle.sector_report.specs.Lines.{sector_text}
 use Rattle.turn_merge.specs.Readings.{verdict}
 use Rattle.turn_merge.specs.declared.verdict.Verdict.{Verdict}
 use Rattle.flux_engine.specs.Tracks.{line_of, lines_of, totals_of}
-use Rattle.flux_engine.specs.Pieces.{pieces_next, pieces_stop}
+use Rattle.flux_engine.specs.lemmas.Pieces.{pieces_next, pieces_stop}
 use Rattle.flux_engine.proofs.writing.write_lines.Goals as goal
 
 pub returns-in-Err-clause-err : goal.returns-in-Err-clause-err

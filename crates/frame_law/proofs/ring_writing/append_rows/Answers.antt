@@ -1,5 +1,5 @@
 use Rattle.std.proofs.Common.{sym}
-use Rattle.frame_law.specs.RowWriting.{AppendsParts-no_row, AppendsParts-none, AppendsParts-row}
+use Rattle.frame_law.specs.lemmas.RowWritingLaws.{AppendsParts-no_row, AppendsParts-none, AppendsParts-row}
 use Rattle.frame_law.proofs.ring_writing.append_rows.Goals as goal
 
 pub loop-row-init : goal.loop-row-init

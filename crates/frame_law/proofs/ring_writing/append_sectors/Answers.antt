@@ -1,5 +1,5 @@
 use Rattle.std.proofs.Common.{◌<◌, ◌+◌, ◌*◌, ap, subst, ◌∙◌}
-use Rattle.frame_law.specs.RowWriting.{AppendsParts-no_sector, AppendsParts-none, AppendsParts-sector}
+use Rattle.frame_law.specs.lemmas.RowWritingLaws.{AppendsParts-no_sector, AppendsParts-none, AppendsParts-sector}
 use Rattle.track_rings.specs.Rows.{sector_parts}
 use Rattle.frame_law.proofs.RowWrites.{sector_parts-at}
 use Rattle.frame_law.proofs.ring_writing.append_sectors.Goals as goal

@@ -1,6 +1,6 @@
 use Rattle.std.proofs.Common.{◌++◌, [], refl}
 use Rattle.std.specs.List.{flat_map, range_with_len}
-use Rattle.frame_law.specs.RowWriting.{AppendsParts-more, AppendsParts-none, AppendsParts-stop}
+use Rattle.frame_law.specs.lemmas.RowWritingLaws.{AppendsParts-more, AppendsParts-none, AppendsParts-stop}
 use Rattle.track_rings.specs.Rows.{parts_of, sector_parts, track_parts}
 use Rattle.frame_law.proofs.ring_writing.append_track.Goals as goal
 

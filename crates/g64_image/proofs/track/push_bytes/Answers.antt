@@ -1,6 +1,6 @@
 use Rattle.std.proofs.Common.{◌≡◌, ◌++◌, Bool, List, ap, arith, length, length-append}
 use Rattle.cell_bits.specs.Word.{word_cells}
-use Rattle.cell_bits.specs.WordLaws.{length-word_cells}
+use Rattle.cell_bits.specs.lemmas.WordLaws.{length-word_cells}
 use Rattle.g64_image.proofs.Bytes.{bytes_more, no_cells}
 use Rattle.g64_image.proofs.track.push_bytes.Goals as goal
 

@@ -2,7 +2,7 @@ use Rattle.std.proofs.Common.{◌≡◌, ◌∙◌, List, ℕ, subst, sym, ap, �
 use Rattle.std.proofs.KnownBytes.{Appends-trans}
 use Rattle.std.specs.Io.KnownBytes.{Appends}
 use Rattle.flux_base.specs.Outside.{AppendsPart}
-use Rattle.flux_base.specs.Parts.{AppendsPart-first, AppendsPart-second}
+use Rattle.flux_base.specs.lemmas.Parts.{AppendsPart-first, AppendsPart-second}
 use Rattle.g64_image.specs.Layout.{front, g64_file, records}
 use Rattle.g64_image.proofs.Results.{OnErr-map, OnOk-map}
 use Rattle.g64_image.proofs.writing.write_file.Goals as goal

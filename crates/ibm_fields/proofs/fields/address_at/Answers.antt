@@ -1,4 +1,4 @@
-use Rattle.ibm_fields.specs.FieldLaws.{bytes_at-four}
+use Rattle.ibm_fields.specs.lemmas.FieldLaws.{bytes_at-four}
 use Rattle.ibm_fields.proofs.fields.address_at.Goals as goal
 
 pub returns : goal.returns

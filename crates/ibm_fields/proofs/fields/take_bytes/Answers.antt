@@ -1,5 +1,5 @@
 use Rattle.std.proofs.Common.{lit<, sym, ◌∙◌, arith, refl}
-use Rattle.ibm_fields.specs.FieldLaws.{bytes_at-none, bytes_at-suc}
+use Rattle.ibm_fields.specs.lemmas.FieldLaws.{bytes_at-none, bytes_at-suc}
 use Rattle.ibm_fields.proofs.fields.take_bytes.Goals as goal
 
 pub loop-index-init : goal.loop-index-init

@@ -1,5 +1,5 @@
 use Rattle.std.proofs.Common.{arith}
-use Rattle.ibm_fm.specs.RowLaws.{length-fm}
+use Rattle.ibm_fm.specs.lemmas.RowLaws.{length-fm}
 use Rattle.ibm_fm.proofs.rows.push_byte.Goals as goal
 
 pub returns : goal.returns

@@ -1,5 +1,5 @@
 use Rattle.cell_bits.specs.Bytes.{fm}
-use Rattle.frame_law.specs.Writing.{AppendsCells-none, AppendsCells-next, AppendsCells-short}
+use Rattle.frame_law.specs.lemmas.WritingLaws.{AppendsCells-none, AppendsCells-next, AppendsCells-short}
 use Rattle.ibm_fm.proofs.rows.push_bytes.Goals as goal
 
 pub loop-byte-init : goal.loop-byte-init

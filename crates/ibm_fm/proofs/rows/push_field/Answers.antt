@@ -1,10 +1,11 @@
 use Rattle.std.proofs.Common.{◌≡◌, ◌++◌, [], List, Bool, arith, ap, subst, sym, ◌∙◌, length-append}
 use Rattle.std.proofs.lemmas.List.Concat.{flat_map-append}
 use Rattle.cell_bits.specs.Bytes.{fm}
-use Rattle.frame_law.specs.Writing.{AppendsCells, AppendsCells-more, AppendsCells-none, AppendsCells-stop}
+use Rattle.frame_law.specs.Writing.{AppendsCells}
+use Rattle.frame_law.specs.lemmas.WritingLaws.{AppendsCells-more, AppendsCells-none, AppendsCells-stop}
 use Rattle.ibm_fields.specs.Fields.{high_first}
 use Rattle.ibm_fm.specs.Layout.{field_cells, fm_bytes}
-use Rattle.ibm_fm.specs.RowLaws.{length-fm_bytes}
+use Rattle.ibm_fm.specs.lemmas.RowLaws.{length-fm_bytes}
 use Rattle.ibm_fm.specs.Sectors.{check_of}
 use Rattle.ibm_fm.proofs.rows.push_field.Goals as goal
 

@@ -1,5 +1,5 @@
 use Rattle.std.proofs.Common.{arith}
-use Rattle.cell_bits.specs.WordLaws.{length-word_cells}
+use Rattle.cell_bits.specs.lemmas.WordLaws.{length-word_cells}
 use Rattle.ibm_fm.specs.Layout.{word_of}
 use Rattle.ibm_fm.proofs.rows.push_mark.Goals as goal
 

@@ -1,9 +1,9 @@
 use Rattle.std.proofs.Common.{replicate, arith, length-append}
 use Rattle.std.proofs.lemmas.List.{length-replicate}
 use Rattle.cell_bits.specs.Bytes.{fm}
-use Rattle.frame_law.specs.Writing.{AppendsCells-stop}
+use Rattle.frame_law.specs.lemmas.WritingLaws.{AppendsCells-stop}
 use Rattle.ibm_fm.specs.Layout.{fm_bytes}
-use Rattle.ibm_fm.specs.RowLaws.{length-fm, length-fm_bytes}
+use Rattle.ibm_fm.specs.lemmas.RowLaws.{length-fm, length-fm_bytes}
 use Rattle.ibm_fm.proofs.rows.push_run.Goals as goal
 
 pub returns-in_err-push_byte : goal.returns-in_err-push_byte

@@ -1,5 +1,5 @@
 use Rattle.std.proofs.Common.{refl, arith}
-use Rattle.ibm_mfm.specs.Syncs.{sync-joined, sync-third}
+use Rattle.ibm_mfm.specs.lemmas.SyncLaws.{sync-joined, sync-third}
 use Rattle.ibm_mfm.proofs.Searches.{no_sync-next, no_sync-to}
 use Rattle.ibm_mfm.proofs.data_field.first_sync.Goals as goal
 

@@ -6,7 +6,8 @@ use Rattle.mfm_coding.specs.declared.symbol.Symbol.TheVariants.{Data}
 use Rattle.mfm_coding.specs.Coding.{bytes_as_data}
 use Rattle.ibm_mfm.specs.Layout.{field}
 use Rattle.ibm_mfm.specs.Sectors.{check_of}
-use Rattle.mfm_coding.specs.Writes.{AppendsSymbols, AppendsSymbols-none, AppendsSymbols-more, AppendsSymbols-stop}
+use Rattle.mfm_coding.specs.Writes.{AppendsSymbols}
+use Rattle.mfm_coding.specs.lemmas.WriteLaws.{AppendsSymbols-none, AppendsSymbols-more, AppendsSymbols-stop}
 use Rattle.ibm_mfm.proofs.rows.push_field.Goals as goal
 
 pub returns-in_err-push_symbol : goal.returns-in_err-push_symbol

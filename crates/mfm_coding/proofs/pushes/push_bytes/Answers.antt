@@ -3,7 +3,8 @@ use Rattle.std.proofs.lemmas.List.{length-map, length-take, map-append, take_mor
 use Rattle.mfm_coding.specs.declared.symbol.Symbol.{Symbol}
 use Rattle.mfm_coding.specs.declared.symbol.Symbol.TheVariants.{Data}
 use Rattle.mfm_coding.specs.Coding.{bytes_as_data}
-use Rattle.mfm_coding.specs.Writes.{AppendsSymbols, AppendsSymbols-more, AppendsSymbols-none, AppendsSymbols-stop}
+use Rattle.mfm_coding.specs.Writes.{AppendsSymbols}
+use Rattle.mfm_coding.specs.lemmas.WriteLaws.{AppendsSymbols-more, AppendsSymbols-none, AppendsSymbols-stop}
 use Rattle.mfm_coding.proofs.pushes.push_bytes.Goals as goal
 
 pub loop-byte-init : goal.loop-byte-init

@@ -1,7 +1,8 @@
 use Rattle.std.proofs.Common.{◌∷◌, [], replicate, arith, subst, List, Ok}
 use Rattle.std.proofs.lemmas.List.{length-replicate, replicate-append-replicate}
 use Rattle.mfm_coding.specs.declared.symbol.Symbol.{Symbol}
-use Rattle.mfm_coding.specs.Writes.{AppendsSymbols, AppendsSymbols-more, AppendsSymbols-none, AppendsSymbols-stop}
+use Rattle.mfm_coding.specs.Writes.{AppendsSymbols}
+use Rattle.mfm_coding.specs.lemmas.WriteLaws.{AppendsSymbols-more, AppendsSymbols-none, AppendsSymbols-stop}
 use Rattle.mfm_coding.proofs.pushes.push_run.Goals as goal
 
 pub loop-init : goal.loop-init

@@ -2,8 +2,8 @@ use Rattle.std.proofs.Common.{arith}
 use Rattle.cell_bits.specs.Bytes.{last_cell}
 use Rattle.mfm_coding.specs.declared.symbol.Symbol.TheVariants.{Data, SyncMark, IndexMark}
 use Rattle.mfm_coding.specs.Coding.{symbol_cells}
-use Rattle.mfm_coding.specs.CodingLaws.{length-symbol_cells}
-use Rattle.mfm_coding.specs.Writes.{AppendsSymbols-one}
+use Rattle.mfm_coding.specs.lemmas.CodingLaws.{length-symbol_cells}
+use Rattle.mfm_coding.specs.lemmas.WriteLaws.{AppendsSymbols-one}
 use Rattle.mfm_coding.proofs.pushes.push_symbol.Goals as goal
 
 pub returns-in-Data : goal.returns-in-Data

@@ -2,7 +2,7 @@ use Rattle.std.proofs.Common.{◌≡◌, ℕ, ◌+◌, ◌*◌, ◌-◌, ◌++�
 use Rattle.std.proofs.lemmas.Bool.{false≢true}
 use Rattle.cell_bits.specs.Word.{word_cells}
 use Rattle.cell_bits.specs.Run.{run_cells}
-use Rattle.cell_bits.specs.WordLaws.{length-word_cells}
+use Rattle.cell_bits.specs.lemmas.WordLaws.{length-word_cells}
 use Rattle.cell_bits.proofs.Runs.{runs-after, runs-within, run-within}
 use Rattle.cell_bits.proofs.cells.Cells.push_groups.Goals as goal
 

@@ -1,6 +1,6 @@
 use Rattle.std.proofs.Common.{◌≡◌, ◌&&◌, ◌≤◌, Bool, true, false, List, [], length, arith, ap, refl, subst, sym}
 use Rattle.cell_bits.specs.Bytes.{last_cell}
-use Rattle.frame_law.specs.FrameLaws.{ring_length}
+use Rattle.frame_law.specs.lemmas.FrameLaws.{ring_length}
 use Rattle.track_rings.specs.Rows.{coded, part_cells, ring_of, track_parts}
 use Rattle.frame_law.proofs.table_recording.AnyRecording.ring.Goals as goal
 

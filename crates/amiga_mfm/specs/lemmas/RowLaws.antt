@@ -1,0 +1,75 @@
+-- The table of a track: how many cells its rows have, and its sums. And what cells name and hold is one thing.
+use Rattle.std.specs.Prelude.{◌≡◌, ℕ, ◌+◌, ◌*◌, ◌/◌, Bool, List, [], ◌∷◌, length, map, refl}
+use Rattle.std.specs.Int.{to_be_bytes, w32}
+use Rattle.std.specs.List.{flat_map}
+use Rattle.std.proofs.Common.{ap, sym, ◌∙◌, arith, length-append, lit≤}
+use Rattle.std.proofs.lemmas.List.{length-map, length-replicate}
+use Rattle.std.proofs.lemmas.Simd.{length-zip2}
+use Rattle.flux_base.specs.declared.track.TrackId.{TrackId}
+use Rattle.track_rings.specs.Rows.{frame_size, ring_size, total}
+use Rattle.frame_law.specs.Frames.{AreSizes}
+use Rattle.mfm_coding.specs.declared.symbol.Symbol.TheVariants.{Data}
+use Rattle.amiga_mfm.specs.declared.half.Half.TheVariants.{Odd, Even}
+use Rattle.amiga_mfm.specs.declared.layout.Row.{Row}
+use Rattle.amiga_mfm.specs.declared.layout.Row.TheVariants.{Run, Header, Content}
+use Rattle.amiga_mfm.specs.Layout.{content_halves, halves_symbols, header_halves, info_of, row_size, row_symbols, rows}
+use Rattle.amiga_mfm.specs.lemmas.LongLaws.{length-raw}
+use Rattle.amiga_mfm.specs.Longs.{half_bytes, half_of, halves, long_of_halves, longs_at, longs_of, raw_longs}
+use Rattle.amiga_mfm.specs.Sectors.{Hold, NamesSector, track_number}
+
+pub length-halves : (longs : List ℕ) → length (halves longs) ≡ 2 * length longs
+length-halves longs =
+    let all = length-append (map (half_of Odd) longs) (map (half_of Even) longs) in
+    omega (arith, all, length-map longs (half_of Odd), length-map longs (half_of Even))
+
+length-half_bytes : (some : List ℕ) → length (flat_map half_bytes some) ≡ 2 * length some
+unfolding half_bytes
+length-half_bytes [] = refl
+length-half_bytes (half ∷ some) = let e = length-half_bytes some in omega (arith, e)
+
+pub length-halves_symbols : (some : List ℕ) → length (halves_symbols some) ≡ 2 * length some
+length-halves_symbols some = length-map (flat_map half_bytes some) Data ∙ length-half_bytes some
+
+pub length-longs_of : (bytes : List ℕ) → length (longs_of bytes) ≡ length bytes / 4
+unfolding longs_of
+length-longs_of [] = refl
+length-longs_of (a ∷ []) = refl
+length-longs_of (a ∷ b ∷ []) = refl
+length-longs_of (a ∷ b ∷ c ∷ []) = refl
+length-longs_of (a ∷ b ∷ c ∷ d ∷ bytes) = let e = length-longs_of bytes in omega (arith, e)
+
+pub symbols_sized : (track : TrackId) (sector : ℕ) (bytes : List ℕ) (row : Row) → 16 * length (row_symbols track sector bytes row) ≡ row_size (length bytes) row
+symbols_sized track sector bytes (Run count symbol) = ap (λ (n : ℕ). 16 * n) (length-replicate count symbol)
+symbols_sized track sector bytes Header = ap (λ (n : ℕ). 16 * n) (length-halves_symbols (header_halves (info_of track sector)))
+symbols_sized track sector bytes Content =
+    let longs = longs_of bytes in
+    let e = length-halves_symbols (content_halves longs) in
+    omega (arith, e, length-halves longs, length-longs_of bytes)
+
+-- the numbers of the recording
+pub sizes : AreSizes 2 4 32 480 2
+sizes = record { some_cells = lit≤ tt; word = lit≤ tt; apart = lit≤ tt; order = lit≤ tt; near = lit≤ tt; header = lit≤ tt; last = lit≤ tt }
+
+-- the rows of a frame, and those of a track
+pub sums : (frame_size row_size 512 rows ≡ 8672) × (ring_size row_size 11 512 rows ≡ 100000)
+unfolding total
+sums = (refl, refl)
+
+pub one_name : (track : TrackId) (cells : List Bool) (s t : ℕ) → NamesSector track cells s → NamesSector track cells t → s ≡ t
+one_name track cells s t first second =
+    let same : 0xFF ∷ track_number track ∷ s ∷ [] ≡ 0xFF ∷ track_number track ∷ t ∷ [] = sym first.info ∙ second.info in
+    cc
+
+length-bytes : (longs : List ℕ) → length (flat_map (to_be_bytes w32) longs) ≡ 4 * length longs
+length-bytes [] = refl
+length-bytes (long ∷ longs) =
+    let e = length-append (to_be_bytes w32 long) (flat_map (to_be_bytes w32) longs) in
+    omega (arith, e, length-bytes longs)
+
+pub bytes_held : (cells : List Bool) (place : ℕ) (xs : List ℕ) → Hold cells place xs → length xs ≡ 512
+bytes_held cells place xs held =
+    let odd = raw_longs cells place 128 in
+    let even = raw_longs cells (place + 4096) 128 in
+    let size = length-raw cells place 128 in
+    sym (ap length held.content) ∙ length-bytes (longs_at cells place 4096 128)
+    ∙ ap (λ (n : ℕ). 4 * n) (length-zip2 long_of_halves odd even (size ∙ sym (length-raw cells (place + 4096) 128)) ∙ size)

@@ -1,0 +1,7 @@
+-- What follows from the definitions: nobody has to believe it.
+pub mod WordRowLaws
+pub mod WritingLaws
+pub mod RowWritingLaws
+pub mod FrameLaws
+pub mod OwnFrames
+pub mod Spacing

@@ -1,0 +1,203 @@
+-- What stands depends on its own cells alone, and in a stretch of a track's ring between zeros it is one of the track's own
+-- sectors: of what a header names, what data hold, and where the sync stands.
+use Rattle.std.specs.Prelude.{◌≡◌, ℕ, suc, ◌+◌, ◌-◌, ◌%◌, ◌<◌, ◌≤◌, Bool, true, false, List, ◌∷◌, ◌++◌, length, take, drop, replicate, Option, Some}
+use Rattle.std.proofs.Common.{sym, subst, ◌∙◌, arith}
+use Rattle.std.proofs.Math.Nat.{mod-eq_of_lt}
+use Rattle.cell_bits.specs.Word.{Stands}
+use Rattle.track_rings.specs.lemmas.Fronts.{AgreeTo, agree-front, agree-length, agree-less, agree-stands, agree-unbroken}
+use Rattle.track_rings.specs.OwnSectors.{IsAlone, IsOwnPlace, between_zeros}
+use Rattle.track_rings.specs.lemmas.Owning.{IsOwner, IsSyncPlace, Leads, Owner, SaysEarly, leads-not_zeros}
+use Rattle.track_rings.specs.lemmas.Owning as owning
+use Rattle.track_rings.specs.Rings.{AreSectors, IsSectorNumber, LiesAt, stretch}
+use Rattle.track_rings.specs.Rows.{Rows, frame_size, ring_size}
+use Rattle.track_rings.specs.lemmas.Syncs.{Only, Syncs}
+use Rattle.track_rings.specs.lemmas.TrackLaws.{frame-within}
+use Rattle.frame_law.specs.lemmas.FrameLaws.{IsWhole, one_sync}
+use Rattle.frame_law.specs.Frames.{AreSizes, HeaderStands, IsDataSync, IsWithinReach}
+
+-- What a header names, and what data hold, is told by their own cells, and by all of these but the last seven: they name and hold
+-- nothing else where the last seven are others. A sync is told by fewer cells than data have.
+pub record TellsEarly (sync_cells header_cells data_cells : ℕ) (names : List Bool → ℕ → Type 0) (is_sync : List Bool → ℕ → Type 0)
+    (hold : List Bool → ℕ → List ℕ → Type 0) : Type 0 where
+  pub sync_within : sync_cells ≤ header_cells
+  pub named : (cells others : List Bool) (s : ℕ) → AgreeTo header_cells cells others → names cells s → names others s
+  pub named_early : (cells others : List Bool) (s t : ℕ) → AgreeTo (header_cells - 7) cells others → names cells s → names others t → s ≡ t
+  pub synced : (cells others : List Bool) (place : ℕ) → AgreeTo (place + data_cells - 7) cells others → is_sync cells place → is_sync others place
+  pub held : (cells others : List Bool) (sync : ℕ) (bytes : List ℕ) → AgreeTo (sync + data_cells) cells others → hold cells sync bytes
+      → hold others sync bytes
+  pub held_early : (cells others : List Bool) (sync : ℕ) (xs ys : List ℕ) → AgreeTo (sync + data_cells - 7) cells others → hold cells sync xs
+      → hold others sync ys → xs ≡ ys
+
+-- Each header begins with some zeros, a one and what more is known of its first cells, and in the ring of given bytes, where
+-- another follows it, these cells begin only where headers do.
+pub record HasOwnSyncs (sync sync_cells header_cells first sectors : ℕ) (names : List Bool → ℕ → Type 0) (place_of : ℕ → ℕ)
+    (Given : List ℕ → Type 0) (ring : List ℕ → List Bool) : Type 0 where
+  pub lead : ℕ
+  pub rest : List (Option Bool)
+  pub short : lead + suc (length rest) + 7 ≤ header_cells
+  pub leads : (cells : List Bool) (s : ℕ) → Stands cells sync sync_cells 0 → names cells s → Leads lead rest cells
+  pub only : (bytes : List ℕ) → Given bytes → Only (Syncs (Some true ∷ rest)) (IsSyncPlace place_of first sectors lead) (ring bytes) (ring bytes)
+
+pub some_header : {shortest longest sync_cells header_cells zeros : ℕ} → AreSizes shortest longest sync_cells header_cells zeros → 0 < header_cells
+some_header sizes = omega (arith, sizes.header)
+
+pub some_cells : {shortest longest sync_cells header_cells zeros data_place data_cells : ℕ} → AreSizes shortest longest sync_cells header_cells zeros
+    → IsWithinReach header_cells data_place data_cells → 1 ≤ data_place + data_cells
+some_cells sizes reach = omega (arith, sizes.header, reach.after)
+
+-- a track has room for a header
+pub header_within : {Row : Type 0} (asks : Bool) (cells_of : Bool → ℕ → List ℕ → Row → List Bool) (size_of : ℕ → Row → ℕ)
+    (sized : (before : Bool) (s : ℕ) (bytes : List ℕ) (row : Row) → length (cells_of before s bytes row) ≡ size_of (length bytes) row)
+    (first sectors size : ℕ) (rows : Rows Row) (bytes : List ℕ) (cells : ℕ) {header_cells data_place data_cells : ℕ} → 1 ≤ sectors
+    → AreSectors sectors size bytes → IsWithinReach header_cells data_place data_cells
+    → frame_size size_of size rows ≡ data_place + data_cells → ring_size size_of sectors size rows ≡ cells → header_cells ≤ cells
+header_within asks cells_of size_of sized first sectors size rows bytes cells some given reach sum all =
+    let number : IsSectorNumber first sectors first = record { least = omega arith; most = omega (arith, some) } in
+    let within = frame-within asks cells_of size_of sized first sectors size rows bytes given.whole first number in
+    omega (arith, within, sum, all, reach.after)
+
+module _ (header_cells data_cells : ℕ) (is_sync : List Bool → ℕ → Type 0) (hold : List Bool → ℕ → List ℕ → Type 0)
+    (sync sync_cells data_place first sectors : ℕ) (names : List Bool → ℕ → Type 0)
+    (tells : TellsEarly sync_cells header_cells data_cells names is_sync hold) where
+  abbrev Header : List Bool → ℕ → Type 0
+  Header cells s = HeaderStands sync sync_cells header_cells first sectors names cells s
+
+  abbrev Sector : List Bool → ℕ → List ℕ → Type 0
+  Sector cells s bytes = IsWhole header_cells data_cells is_sync hold sync sync_cells data_place first sectors names cells s bytes
+
+  -- what stands in cells that agree
+  agree-header : (total : ℕ) (cells others : List Bool) (s : ℕ) → AgreeTo total cells others → header_cells ≤ total → Header cells s → Header others s
+  agree-header total cells others s same long header =
+      let own = agree-less total cells others same header_cells long in record {
+        begins = agree-stands total cells others same sync sync_cells 0 (omega (arith, tells.sync_within, long)) header.begins;
+        whole = agree-length header_cells cells others own header.whole;
+        named = tells.named cells others s own header.named;
+        known = header.known;
+        unbroken = agree-unbroken total cells others same 0 header_cells long header.unbroken;
+      }
+
+  agree-data_sync : (total : ℕ) (cells others : List Bool) (place : ℕ) → AgreeTo total cells others → place + data_cells - 7 ≤ total
+      → IsDataSync header_cells (is_sync cells) place → IsDataSync header_cells (is_sync others) place
+  agree-data_sync total cells others place same long at = record {
+    after = at.after;
+    near = at.near;
+    stands = tells.synced cells others place (agree-less total cells others same (place + data_cells - 7) long) at.stands;
+    first = λ other above below stands. at.first other above below
+        (tells.synced others cells other (sym (agree-less total cells others same (other + data_cells - 7) (omega arith))) stands);
+  }
+
+  pub header_alone : (cells : List Bool) (s : ℕ) → 0 < header_cells → Header cells s → IsAlone (λ others. Header others s) cells
+  header_alone cells s some header = record {
+    end = header_cells;
+    some = some;
+    within = header.whole;
+    unbroken = header.unbroken;
+    alone = λ more. agree-header header_cells cells (take header_cells cells ++ more) s (agree-front header_cells cells more header.whole) (omega arith) header;
+  }
+
+  pub sector_alone : (cells : List Bool) (s : ℕ) (bytes : List ℕ) → 0 < header_cells → Sector cells s bytes
+      → IsAlone (λ others. Sector others s bytes) cells
+  sector_alone cells s bytes some sector =
+      let content = sector.content in
+      let place = content.sync in
+      let end = place + data_cells in
+      let after : header_cells ≤ place = content.first_sync.after in record {
+        end = end;
+        some = omega (arith, some, after);
+        within = content.whole;
+        unbroken = content.unbroken;
+        alone = λ more.
+            let others = take end cells ++ more in
+            let same = agree-front end cells more content.whole in record {
+              header = agree-header end cells others s same (omega (arith, after)) sector.header;
+              content = record {
+                sync = place;
+                first_sync = agree-data_sync end cells others place same (omega arith) content.first_sync;
+                whole = agree-length end cells others same content.whole;
+                held = tells.held cells others place bytes same content.held;
+                unbroken = agree-unbroken end cells others same 0 end (omega arith) content.unbroken;
+              };
+            };
+      }
+
+  module _ (place_of : ℕ → ℕ) (Given : List ℕ → Type 0) (ring : List ℕ → List Bool)
+      (own_syncs : HasOwnSyncs sync sync_cells header_cells first sectors names place_of Given ring) where
+    abbrev Early : (List Bool → Type 0) → List Bool → Type 0
+    Early Says cells = SaysEarly (own_syncs.lead + suc (length own_syncs.rest)) Says cells
+
+    -- no header stands in zeros
+    pub no_header : (count s : ℕ) → ¬ Header (replicate count false) s
+    no_header count s header =
+        leads-not_zeros own_syncs.lead own_syncs.rest count (own_syncs.leads (replicate count false) s header.begins header.named)
+
+    header_early : (cells : List Bool) (s : ℕ) → Header cells s → Early (λ others. (t : ℕ) (bytes : List ℕ) → Sector others t bytes → s ≡ t) cells
+    header_early cells s header = record {
+      end = header_cells;
+      within = header.whole;
+      unbroken = header.unbroken;
+      long = own_syncs.short;
+      says = λ others same t bytes sector. tells.named_early cells others s t same header.named sector.header.named;
+    }
+
+    sector_early : (cells : List Bool) (s : ℕ) (bytes : List ℕ) → Sector cells s bytes
+        → Early (λ others. (t : ℕ) (others_bytes : List ℕ) → Sector others t others_bytes → bytes ≡ others_bytes) cells
+    sector_early cells s bytes sector =
+        let data_sync = sector.content.first_sync in
+        let place = sector.content.sync in record {
+          end = place + data_cells;
+          within = sector.content.whole;
+          unbroken = sector.content.unbroken;
+          long = omega (arith, own_syncs.short, data_sync.after);
+          says = λ others same t others_bytes other.
+              let there = agree-data_sync (place + data_cells - 7) cells others place same (omega arith) data_sync in
+              let one : other.content.sync ≡ place = one_sync header_cells (is_sync others) other.content.sync place other.content.first_sync there in
+              tells.held_early cells others place bytes others_bytes same sector.content.held
+              (subst (λ (n : ℕ). hold others n others_bytes) one other.content.held);
+        }
+
+    module _ (ring_cells frame_cells : ℕ) (content : List ℕ → ℕ → List ℕ) (bytes : List ℕ) (given : Given bytes) where
+      owner : Owner
+      owner = record {
+        ring = ring bytes;
+        ring_cells = ring_cells;
+        lead = own_syncs.lead;
+        sync = own_syncs.rest;
+        header = Header;
+        sector = Sector;
+        first = first;
+        sectors = sectors;
+        content = content bytes;
+        place_of = place_of;
+        frame_cells = frame_cells;
+      }
+
+      module _ (size : length (ring bytes) ≡ ring_cells) (some : 1 ≤ frame_cells)
+          (low : (s : ℕ) → IsSectorNumber first sectors s → place_of s + frame_cells ≤ ring_cells) (room : header_cells ≤ ring_cells)
+          (stands : (s from count place : ℕ) → IsSectorNumber first sectors s → LiesAt ring_cells (place_of s) frame_cells from count place
+          → Sector (drop place (stretch (ring bytes) from count)) s (content bytes s)) where
+        owns : IsOwner owner
+        unfolding owner
+        owns = record {
+          size = size;
+          room = omega (arith, own_syncs.short, room);
+          leads = λ cells s header. own_syncs.leads cells s header.begins header.named;
+          only = own_syncs.only bytes given;
+          stands = λ s count number enough.
+              let within = low s number in
+              let here : place_of s + 0 < ring_cells = omega (arith, within, some) in
+              let same : (place_of s + 0) % ring_cells ≡ place_of s = mod-eq_of_lt here ∙ (omega arith) in
+              let long : frame_cells ≤ count = enough in
+              stands s (place_of s) count 0 number (record { same = same; whole = omega arith });
+          has_header = λ cells s others sector. sector.header;
+          header_early = header_early;
+          sector_early = sector_early;
+        }
+
+        module _ (s zeros from count behind place : ℕ) where
+          pub header_own : Header (drop place (between_zeros (ring bytes) zeros from count behind)) s → IsOwnPlace ring_cells (place_of s) zeros from place
+          unfolding owner
+          header_own header = owning.header_own owner owns zeros from count behind place s header
+
+          pub sector_own : (xs : List ℕ) → Sector (drop place (between_zeros (ring bytes) zeros from count behind)) s xs → xs ≡ content bytes s
+          unfolding owner
+          sector_own xs sector = (owning.sector_own owner owns zeros from count behind place s xs sector).1

@@ -1,0 +1,79 @@
+-- What is read behind a part of known length, and bytes in a row.
+use Rattle.std.specs.Prelude.{◌≡◌, ℕ, zero, suc, ◌+◌, ◌*◌, ◌/◌, ◌%◌, Bool, List, [], ◌∷◌, ◌++◌, length, take, refl}
+use Rattle.std.proofs.Common.{ap, ◌∙◌, arith, add-one}
+use Rattle.cell_bits.specs.Bytes.{data_byte, data_cells}
+use Rattle.cell_bits.specs.Word.{number_of}
+use Rattle.track_rings.specs.lemmas.Parts.{drop-past}
+use Rattle.ibm_fields.specs.Fields.{bytes_at, high_first, number_at}
+
+pub data_byte-past : (xs ys : List Bool) (size offset : ℕ) → length xs ≡ size → data_byte (xs ++ ys) (size + offset) ≡ data_byte ys offset
+unfolding data_byte
+data_byte-past xs ys size offset is =
+    ap (λ (cells : List Bool). number_of (data_cells (take 16 cells))) (drop-past xs ys size offset is)
+
+pub bytes_at-past : (xs ys : List Bool) (size offset count : ℕ) → length xs ≡ size
+    → bytes_at (xs ++ ys) (size + offset) count ≡ bytes_at ys offset count
+unfolding bytes_at
+bytes_at-past xs ys size offset zero is = refl
+bytes_at-past xs ys size offset (suc count) is =
+    let e : size + offset + 16 ≡ size + (offset + 16) = omega arith in
+    ap (λ (byte : ℕ). byte ∷ bytes_at (xs ++ ys) (size + offset + 16) count) (data_byte-past xs ys size offset is)
+    ∙ ap (λ (rest : List ℕ). data_byte ys offset ∷ rest)
+    (ap (λ (n : ℕ). bytes_at (xs ++ ys) n count) e ∙ bytes_at-past xs ys size (offset + 16) count is)
+
+pub number_at-past : (xs ys : List Bool) (size offset : ℕ) → length xs ≡ size → number_at (xs ++ ys) (size + offset) ≡ number_at ys offset
+number_at-past xs ys size offset is =
+    let e : size + offset + 16 ≡ size + (offset + 16) = omega arith in
+    ap (λ (byte : ℕ). 256 * byte + data_byte (xs ++ ys) (size + offset + 16)) (data_byte-past xs ys size offset is)
+    ∙ ap (λ (byte : ℕ). 256 * data_byte ys offset + byte)
+    (ap (data_byte (xs ++ ys)) e ∙ data_byte-past xs ys size (offset + 16) is)
+
+pub length-bytes_at : (cells : List Bool) (place count : ℕ) → length (bytes_at cells place count) ≡ count
+unfolding bytes_at
+length-bytes_at cells place zero = refl
+length-bytes_at cells place (suc count) = let e = length-bytes_at cells (place + 16) count in omega (arith, e)
+
+-- the first byte, where it is known
+pub data_byte-first : (cells : List Bool) (place count byte : ℕ) (bytes : List ℕ) → bytes_at cells place (suc count) ≡ byte ∷ bytes
+    → data_byte cells place ≡ byte
+unfolding bytes_at
+data_byte-first cells place count byte bytes same = cc
+
+-- a number reads back where its two bytes do
+pub number_at-high_first : (cells : List Bool) (place number : ℕ) → bytes_at cells place 2 ≡ high_first number → number_at cells place ≡ number
+unfolding bytes_at
+number_at-high_first cells place number same =
+    let high : data_byte cells place ≡ number / 256 = cc in
+    let low : data_byte cells (place + 16) ≡ number % 256 = cc in
+    omega (arith, high, low)
+
+bytes_at-next : (cells : List Bool) (place count : ℕ)
+    → bytes_at cells place (suc count) ≡ bytes_at cells place count ++ data_byte cells (place + 16 * count) ∷ []
+unfolding bytes_at
+bytes_at-next cells place zero =
+    let e : place ≡ place + 16 * 0 = omega arith in
+    ap (λ (p : ℕ). data_byte cells p ∷ []) e
+bytes_at-next cells place (suc count) =
+    let e : place + 16 + 16 * count ≡ place + 16 * suc count = omega arith in
+    ap (λ (rest : List ℕ). data_byte cells place ∷ rest)
+    (bytes_at-next cells (place + 16) count ∙ ap (λ (p : ℕ). bytes_at cells (place + 16) count ++ data_byte cells p ∷ []) e)
+
+-- one more byte
+pub bytes_at-suc : (cells : List Bool) (place count : ℕ)
+    → bytes_at cells place (count + 1) ≡ bytes_at cells place count ++ data_byte cells (place + 16 * count) ∷ []
+bytes_at-suc cells place count = rw add-one (bytes_at-next cells place count)
+
+pub bytes_at-none : (cells : List Bool) (place : ℕ) → bytes_at cells place 0 ≡ []
+unfolding bytes_at
+bytes_at-none cells place = refl
+
+-- four of them
+pub bytes_at-four : (cells : List Bool) (place : ℕ)
+    → bytes_at cells place 4
+    ≡ data_byte cells place ∷ data_byte cells (place + 16) ∷ data_byte cells (place + 32) ∷ data_byte cells (place + 48) ∷ []
+unfolding bytes_at
+bytes_at-four cells place =
+    let third : place + 16 + 16 ≡ place + 32 = omega arith in
+    let fourth : place + 16 + 16 + 16 ≡ place + 48 = omega arith in
+    ap (λ (p : ℕ). data_byte cells place ∷ data_byte cells (place + 16) ∷ data_byte cells p ∷ data_byte cells (place + 16 + 16 + 16) ∷ []) third
+    ∙ ap (λ (p : ℕ). data_byte cells place ∷ data_byte cells (place + 16) ∷ data_byte cells (place + 32) ∷ data_byte cells p ∷ []) fourth

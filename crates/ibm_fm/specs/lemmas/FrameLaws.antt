@@ -1,0 +1,146 @@
+-- A sector's frame as it is written, whatever comes after it: its header names the sector, and its data hold the bytes.
+use Rattle.std.specs.Prelude.{◌≡◌, ℕ, ◌+◌, ◌*◌, ◌<◌, ◌≤◌, Bool, true, false, List, [], ◌∷◌, ◌++◌, length, take, drop, replicate, refl}
+use Rattle.std.proofs.Common.{ap, sym, subst, ◌∙◌, arith, append_assoc, append-nil, inl, inr, length-append, lit<, lit≤}
+use Rattle.flux_base.specs.declared.track.TrackId.{TrackId}
+use Rattle.cell_bits.specs.Bytes.{data_byte, data_cells, fm, fm_cells}
+use Rattle.cell_bits.specs.Word.{Stands, number_of, word_cells}
+use Rattle.cell_bits.specs.lemmas.WordLaws.{length-word_cells}
+use Rattle.track_rings.specs.lemmas.Gaps.{begins, free_of, gap-free}
+use Rattle.track_rings.specs.lemmas.Parts.{drop-past, take-first}
+use Rattle.track_rings.specs.Rings.{IsSectorNumber, AreBytes}
+use Rattle.track_rings.specs.Rows.{coded, rows_cells}
+use Rattle.frame_law.specs.Frames.{FrameStands}
+use Rattle.ibm_fields.specs.Fields.{bytes_at, high_first, number_at}
+use Rattle.ibm_fields.specs.lemmas.FieldLaws.{bytes_at-past, data_byte-past, number_at-past}
+use Rattle.ibm_fields.specs.lemmas.Numbers.{crc-lt}
+use Rattle.ibm_fm.specs.Layout.{field_cells, fm_bytes, row_cells, rows}
+use Rattle.ibm_fm.specs.lemmas.ReadLaws.{number_at-after, reads-first}
+use Rattle.ibm_fm.specs.lemmas.RowLaws.{length-fm_bytes}
+use Rattle.ibm_fm.specs.Sectors.{Hold, IsSync, IsTrack, NamesSector, address_of, check_of}
+
+-- the gap from a header to the data, and the data mark
+unfoldable gap_and_mark : List Bool
+gap_and_mark = fm_bytes (replicate 11 0xFF) ++ (fm_bytes (replicate 6 0x00) ++ word_cells 16 0xF56F)
+
+-- a frame's cells, and what comes after them
+abbrev frame_of : TrackId → ℕ → List ℕ → List Bool → List Bool
+frame_of track sector bytes rest = word_cells 16 0xF57E ++ (field_cells 0xFE (address_of track sector) ++ (gap_and_mark ++ (field_cells 0xFB bytes ++ rest)))
+
+regroup : (i a g z m f rest : List Bool) → (i ++ (a ++ (g ++ (z ++ (m ++ (f ++ [])))))) ++ rest ≡ i ++ (a ++ ((g ++ (z ++ m)) ++ (f ++ rest)))
+regroup i a g z m f rest = simp (append_assoc, append-nil)
+
+frame-cells : (track : TrackId) (sector : ℕ) (bytes : List ℕ) (before : Bool) (rest : List Bool)
+    → rows_cells false (row_cells track) before sector bytes rows.frame ++ rest ≡ frame_of track sector bytes rest
+unfolding rows_cells coded gap_and_mark
+frame-cells track sector bytes before rest =
+    regroup (word_cells 16 0xF57E) (field_cells 0xFE (address_of track sector)) (fm_bytes (replicate 11 0xFF)) (fm_bytes (replicate 6 0x00))
+    (word_cells 16 0xF56F) (field_cells 0xFB bytes) rest
+
+length-field_cells : (mark : ℕ) (bytes : List ℕ) → length (field_cells mark bytes) ≡ 16 * (length bytes + 2)
+length-field_cells mark bytes =
+    let check = high_first (check_of mark bytes) in
+    length-fm_bytes (bytes ++ check) ∙ ap (λ (n : ℕ). 16 * n) (length-append bytes check)
+
+length-gap_and_mark : length gap_and_mark ≡ 288
+unfolding gap_and_mark fm fm_cells word_cells
+length-gap_and_mark = refl
+
+-- the mark of a header, and what comes after it
+mark-begins : (rest : List Bool) → Stands (word_cells 16 0xF57E ++ rest) 0xF57E 16 0
+mark-begins rest = take-first (word_cells 16 0xF57E) rest 16 (length-word_cells 16 0xF57E)
+
+-- a header names its sector
+names-sector : (track : TrackId) (sector : ℕ) (rest : List Bool) → IsTrack track → IsSectorNumber 1 26 sector
+    → NamesSector track (word_cells 16 0xF57E ++ (field_cells 0xFE (address_of track sector) ++ rest)) sector
+unfolding AreBytes
+names-sector track sector rest known number =
+    let mark = word_cells 16 0xF57E in
+    let address = address_of track sector in
+    let check = high_first (check_of 0xFE address) in
+    let behind = field_cells 0xFE address ++ rest in
+    let size : length mark ≡ 16 = length-word_cells 16 0xF57E in
+    let low : sector < 256 = omega (arith, number.most) in
+    let fit : AreBytes address = (omega (arith, known.cylinder), (omega (arith, known.head), (low, (lit< tt, tt)))) in
+    record {
+      address = bytes_at-past mark behind 16 0 4 size ∙ reads-first address check rest fit;
+      check = number_at-past mark behind 16 64 size ∙ number_at-after address (check_of 0xFE address) rest (crc-lt 0xFFFF (0xFE ∷ address) (lit< tt));
+    }
+
+-- in the gap no mark stands, and after it the data's does
+free_of_marks : (rest : List Bool)
+    → (free_of (word_cells 16 0xF57E) 272 (gap_and_mark ++ rest) ≡ true)
+    × (free_of (word_cells 16 0xF56F) 272 (gap_and_mark ++ rest) ≡ true)
+    × (free_of (word_cells 16 0xF56A) 272 (gap_and_mark ++ rest) ≡ true)
+    × (free_of (word_cells 16 0xF77A) 272 (gap_and_mark ++ rest) ≡ true)
+unfolding free_of begins gap_and_mark fm fm_cells word_cells
+free_of_marks rest = (refl, refl, refl, refl)
+
+gap_mark : (rest : List Bool) → take 16 (drop 272 (gap_and_mark ++ rest)) ≡ word_cells 16 0xF56F
+unfolding gap_and_mark fm fm_cells word_cells
+gap_mark rest = refl
+
+gap_byte : (rest : List Bool) → data_byte (gap_and_mark ++ rest) 272 ≡ 0xFB
+unfolding gap_and_mark fm fm_cells word_cells data_byte data_cells number_of
+gap_byte rest = refl
+
+no-mark : (header rest : List Bool) (place : ℕ) → length header ≡ 112 → 112 ≤ place → place < 384 → ¬ IsSync (header ++ (gap_and_mark ++ rest)) place
+no-mark header rest place size above below some =
+    let gap = gap_and_mark ++ rest in
+    let free = free_of_marks rest in
+    let none : (mark : ℕ) → free_of (word_cells 16 mark) 272 gap ≡ true → ¬ Stands (header ++ gap) mark 16 place =
+    λ mark none_there. gap-free mark 16 272 header gap 112 place (lit≤ tt) none_there size above below in
+    elim some [
+      | inl data_mark ↦ elim data_mark [
+        | inl stands ↦ none 0xF56F free.1 stands
+        | inr stands ↦ none 0xF56A free.2 stands
+      ]
+      | inr other ↦ elim other [
+        | inl stands ↦ none 0xF57E free.0 stands
+        | inr stands ↦ none 0xF77A free.3 stands
+      ]
+    ]
+
+-- data hold their bytes
+holds : (header : List Bool) (bytes : List ℕ) (rest : List Bool) → length header ≡ 112 → AreBytes bytes → length bytes ≡ 128
+    → Hold (header ++ (gap_and_mark ++ (field_cells 0xFB bytes ++ rest))) 384 bytes
+holds header bytes rest header_size fit size =
+    let check = high_first (check_of 0xFB bytes) in
+    let behind = field_cells 0xFB bytes ++ rest in
+    let gap = gap_and_mark ++ behind in
+    let byte : data_byte (header ++ gap) 384 ≡ 0xFB = data_byte-past header gap 112 272 header_size ∙ gap_byte behind in
+    record {
+      opens = inl (ap (take 16) (drop-past header gap 112 272 header_size) ∙ gap_mark behind);
+      content = bytes_at-past header gap 112 288 128 header_size
+          ∙ bytes_at-past gap_and_mark behind 288 0 128 length-gap_and_mark
+          ∙ ap (bytes_at behind 0) (sym size)
+          ∙ reads-first bytes check rest fit;
+      check = number_at-past header gap 112 2336 header_size
+          ∙ number_at-past gap_and_mark behind 288 2048 length-gap_and_mark
+          ∙ ap (λ (n : ℕ). number_at behind (16 * n)) (sym size)
+          ∙ number_at-after bytes (check_of 0xFB bytes) rest (crc-lt 0xFFFF (0xFB ∷ bytes) (lit< tt))
+          ∙ ap (λ (mark : ℕ). check_of mark bytes) (sym byte);
+    }
+
+-- the rows of a frame are read back
+pub frame_stands : (track : TrackId) (sector : ℕ) (bytes : List ℕ) (before : Bool) (rest : List Bool) → IsTrack track → IsSectorNumber 1 26 sector
+    → AreBytes bytes → length bytes ≡ 128
+    → FrameStands 0xF57E 16 112 384 (NamesSector track) IsSync Hold (rows_cells false (row_cells track) before sector bytes rows.frame ++ rest) sector bytes
+frame_stands track sector bytes before rest known number fit size =
+    let mark = word_cells 16 0xF57E in
+    let field = field_cells 0xFE (address_of track sector) in
+    let header = mark ++ field in
+    let behind = field_cells 0xFB bytes ++ rest in
+    let header_size : length header ≡ 112 =
+    omega (arith, length-append mark field, length-word_cells 16 0xF57E, length-field_cells 0xFE (address_of track sector)) in
+    let grouped : frame_of track sector bytes rest ≡ header ++ (gap_and_mark ++ behind) = sym (append_assoc mark field (gap_and_mark ++ behind)) in
+    let data_held = holds header bytes rest header_size fit size in
+    subst (λ (cells : List Bool). FrameStands 0xF57E 16 112 384 (NamesSector track) IsSync Hold cells sector bytes)
+    (sym (frame-cells track sector bytes before rest))
+    (record {
+      begins = mark-begins (field ++ (gap_and_mark ++ behind));
+      named = names-sector track sector (gap_and_mark ++ behind) known number;
+      opens = subst (λ (cells : List Bool). IsSync cells 384) (sym grouped) (inl data_held.opens);
+      first = λ place above below.
+          subst (λ (cells : List Bool). ¬ IsSync cells place) (sym grouped) (no-mark header behind place header_size above below);
+      held = subst (λ (cells : List Bool). Hold cells 384 bytes) (sym grouped) data_held;
+    })

@@ -1,0 +1,186 @@
+-- Where the ID mark stands in a ring: only where a sector's header begins.
+use Rattle.std.specs.Prelude.{◌≡◌, ℕ, ◌+◌, Bool, true, false, List, [], ◌∷◌, ◌++◌, length, replicate, Option, Some, None, refl}
+use Rattle.std.specs.List.{flat_map, range_with_len}
+use Rattle.std.proofs.Common.{sym, subst, arith, append_assoc}
+use Rattle.flux_base.specs.declared.track.TrackId.{TrackId}
+use Rattle.cell_bits.specs.Bytes.{fm, fm_cells}
+use Rattle.cell_bits.specs.Word.{Stands, word_cells}
+use Rattle.cell_bits.specs.lemmas.WordLaws.{length-word_cells}
+use Rattle.track_rings.specs.lemmas.Owning.{Leads}
+use Rattle.track_rings.specs.Rings.{AreSectors, bytes_of}
+use Rattle.track_rings.specs.lemmas.RowSyncs.{syncs-in_ring}
+use Rattle.track_rings.specs.Rows.{Part, coded, part_cells, parts_of, place_of, ring_of as ring_of_rows, rows_cells, sector_parts, sector_rows, total, track_parts}
+use Rattle.track_rings.specs.lemmas.Syncs.{QuietPart, SyncPart, Syncs, all_known, clashes, clashes_at_all, fits, fits-front, fits-known, fits-word, nowhere-known, only-first, part-skip, part-then, quiet-all, quiet-append, quiet-none}
+use Rattle.frame_law.specs.lemmas.OwnFrames.{HasOwnSyncs}
+use Rattle.ibm_fields.specs.Fields.{high_first}
+use Rattle.ibm_fm.specs.declared.layout.Mark.TheVariants.{Index}
+use Rattle.ibm_fm.specs.declared.layout.Row.{Row}
+use Rattle.ibm_fm.specs.declared.layout.Row.TheVariants.{Run, Mark as AMark}
+use Rattle.ibm_fm.specs.Layout.{field_cells, fm_bytes, ring_of, row_cells, row_size, rows}
+use Rattle.ibm_fm.specs.lemmas.RowLaws.{length-fm_bytes, row_length}
+use Rattle.ibm_fm.specs.Sectors.{NamesSector, address_of, check_of}
+
+-- the ID mark, without its first cell, which is a one
+unfoldable pub sync_rest : List (Option Bool)
+sync_rest = all_known (word_cells 15 0xF57E)
+
+abbrev pub IdMark : List Bool → Type 0
+IdMark cells = Syncs (Some true ∷ sync_rest) cells
+
+pub length-sync_rest : length sync_rest ≡ 15
+unfolding sync_rest word_cells
+length-sync_rest = refl
+
+leads : (cells : List Bool) → Stands cells 0xF57E 16 0 → Leads 0 sync_rest cells
+unfolding sync_rest word_cells
+leads cells stands = fits-word (word_cells 16 0xF57E) cells 16 (length-word_cells 16 0xF57E) stands
+
+-- eight clock cells, each with a data cell after it
+unfoldable eight_clocks : List (Option Bool)
+eight_clocks =
+    Some true ∷ None ∷ Some true ∷ None ∷ Some true ∷ None ∷ Some true ∷ None
+    ∷ Some true ∷ None ∷ Some true ∷ None ∷ Some true ∷ None ∷ Some true ∷ None ∷ []
+
+Clocked : List Bool → Type 0
+unfolding eight_clocks
+Clocked cells = fits eight_clocks cells ≡ true
+
+-- whatever stands there
+Anything : List Bool → Type 0
+Anything cells = Unit {0}
+
+-- a data cell with its clock, before eight clocks
+bit_quiet : (bit : Bool) → QuietPart IdMark Clocked Clocked (true ∷ bit ∷ [])
+unfolding Clocked eight_clocks sync_rest word_cells clashes_at_all clashes fits
+bit_quiet bit rest clocked = (
+  nowhere-known (Some true ∷ sync_rest) (Some true ∷ None ∷ eight_clocks) (true ∷ bit ∷ []) rest 2 refl refl clocked,
+  fits-front (Some true ∷ None ∷ Some true ∷ None ∷ Some true ∷ None ∷ Some true ∷ None
+      ∷ Some true ∷ None ∷ Some true ∷ None ∷ Some true ∷ None ∷ Some true ∷ None ∷ []) (Some true ∷ None ∷ []) (true ∷ bit ∷ rest) clocked,
+)
+
+bits_quiet : (bits : List Bool) → QuietPart IdMark Clocked Clocked (fm_cells bits)
+unfolding fm_cells
+bits_quiet [] = quiet-none IdMark Clocked
+bits_quiet (bit ∷ bits) = quiet-append IdMark Clocked Clocked Clocked (true ∷ bit ∷ []) (fm_cells bits) (bit_quiet bit) (bits_quiet bits)
+
+byte_quiet : (byte : ℕ) → QuietPart IdMark Clocked Clocked (fm byte)
+unfolding fm
+byte_quiet byte = bits_quiet (word_cells 8 byte)
+
+bytes_quiet : (bytes : List ℕ) → QuietPart IdMark Clocked Clocked (fm_bytes bytes)
+bytes_quiet bytes = quiet-all IdMark Clocked fm byte_quiet bytes
+
+field_quiet : (mark : ℕ) (bytes : List ℕ) → QuietPart IdMark Clocked Clocked (field_cells mark bytes)
+field_quiet mark bytes = bytes_quiet (bytes ++ high_first (check_of mark bytes))
+
+-- the bytes of 00 before a mark clash whatever follows
+zeros_quiet : QuietPart IdMark Anything Clocked (fm_bytes (replicate 6 0x00))
+unfolding Clocked Anything eight_clocks sync_rest word_cells clashes_at_all clashes fits fm fm_cells
+zeros_quiet rest any = (
+  nowhere-known (Some true ∷ sync_rest) (all_known (fm_bytes (replicate 6 0x00))) (fm_bytes (replicate 6 0x00)) rest 96 refl refl
+      (fits-known (fm_bytes (replicate 6 0x00)) rest),
+  refl,
+)
+
+-- other marks, before bytes
+data_mark_quiet : QuietPart IdMark Clocked Anything (word_cells 16 0xF56F)
+unfolding Clocked Anything eight_clocks sync_rest word_cells clashes_at_all clashes fits
+data_mark_quiet rest clocked = (
+  nowhere-known (Some true ∷ sync_rest) (all_known (word_cells 16 0xF56F) ++ eight_clocks) (word_cells 16 0xF56F) rest 16 refl refl clocked,
+  tt,
+)
+
+index_mark_quiet : QuietPart IdMark Clocked Anything (word_cells 16 0xF77A)
+unfolding Clocked Anything eight_clocks sync_rest word_cells clashes_at_all clashes fits
+index_mark_quiet rest clocked = (
+  nowhere-known (Some true ∷ sync_rest) (all_known (word_cells 16 0xF77A) ++ eight_clocks) (word_cells 16 0xF77A) rest 16 refl refl clocked,
+  tt,
+)
+
+-- the ID mark, before bytes, at its begin alone
+id_mark_first : SyncPart IdMark (λ place. place ≡ 0) Clocked Anything (word_cells 16 0xF57E)
+unfolding Clocked Anything eight_clocks sync_rest word_cells clashes_at_all clashes fits
+id_mark_first rest clocked = (
+  only-first IdMark true (word_cells 15 0xF57E) rest
+      (nowhere-known (Some true ∷ sync_rest) (all_known (word_cells 15 0xF57E) ++ eight_clocks) (word_cells 15 0xF57E) rest 15 refl refl clocked),
+  tt,
+)
+
+lead_in_quiet : (track : TrackId) → QuietPart IdMark Clocked Clocked (rows_cells false (row_cells track) false 1 [] rows.lead_in)
+unfolding rows_cells coded
+lead_in_quiet track =
+    quiet-append IdMark Clocked Clocked Clocked (fm_bytes (replicate 40 0xFF))
+    (fm_bytes (replicate 6 0x00) ++ (word_cells 16 0xF77A ++ (fm_bytes (replicate 26 0xFF) ++ []))) (bytes_quiet (replicate 40 0xFF))
+    (quiet-append IdMark Clocked Anything Clocked (fm_bytes (replicate 6 0x00)) (word_cells 16 0xF77A ++ (fm_bytes (replicate 26 0xFF) ++ [])) zeros_quiet
+    (quiet-append IdMark Clocked Clocked Anything (word_cells 16 0xF77A) (fm_bytes (replicate 26 0xFF) ++ []) index_mark_quiet
+    (quiet-append IdMark Clocked Clocked Clocked (fm_bytes (replicate 26 0xFF)) [] (bytes_quiet (replicate 26 0xFF)) (quiet-none IdMark Clocked))))
+
+lead_out_quiet : (track : TrackId) (before : Bool) → QuietPart IdMark Clocked Clocked (rows_cells false (row_cells track) before 1 [] rows.lead_out)
+unfolding rows_cells coded
+lead_out_quiet track before =
+    quiet-append IdMark Clocked Clocked Clocked (fm_bytes (replicate 247 0xFF)) [] (bytes_quiet (replicate 247 0xFF)) (quiet-none IdMark Clocked)
+
+-- what follows a sector's ID mark
+after_mark : TrackId → List ℕ → ℕ → List Bool
+after_mark track content sector =
+    field_cells 0xFE (address_of track sector)
+    ++ (fm_bytes (replicate 11 0xFF)
+    ++ (fm_bytes (replicate 6 0x00) ++ (word_cells 16 0xF56F ++ (field_cells 0xFB content ++ (fm_bytes (replicate 27 0xFF) ++ [])))))
+
+after_mark_quiet : (track : TrackId) (content : List ℕ) (sector : ℕ) → QuietPart IdMark Clocked Clocked (after_mark track content sector)
+unfolding after_mark
+after_mark_quiet track content sector =
+    let last = fm_bytes (replicate 27 0xFF) ++ [] in
+    let filled = field_cells 0xFB content ++ last in
+    let marked = word_cells 16 0xF56F ++ filled in
+    let zeros = fm_bytes (replicate 6 0x00) ++ marked in
+    quiet-append IdMark Clocked Clocked Clocked (field_cells 0xFE (address_of track sector)) (fm_bytes (replicate 11 0xFF) ++ zeros)
+    (field_quiet 0xFE (address_of track sector))
+    (quiet-append IdMark Clocked Clocked Clocked (fm_bytes (replicate 11 0xFF)) zeros (bytes_quiet (replicate 11 0xFF))
+    (quiet-append IdMark Clocked Anything Clocked (fm_bytes (replicate 6 0x00)) marked zeros_quiet
+    (quiet-append IdMark Clocked Clocked Anything (word_cells 16 0xF56F) filled data_mark_quiet
+    (quiet-append IdMark Clocked Clocked Clocked (field_cells 0xFB content) last (field_quiet 0xFB content)
+    (quiet-append IdMark Clocked Clocked Clocked (fm_bytes (replicate 27 0xFF)) [] (bytes_quiet (replicate 27 0xFF)) (quiet-none IdMark Clocked))))))
+
+sector_part : (track : TrackId) (before : Bool) (sector : ℕ) (content : List ℕ)
+    → SyncPart IdMark (λ place. place ≡ 96) Clocked Clocked (rows_cells false (row_cells track) before sector content (sector_rows rows))
+unfolding rows_cells coded after_mark
+sector_part track before sector content =
+    let zeros = fm_bytes (replicate 6 0x00) in
+    let after = after_mark track content sector in
+    let size : length zeros ≡ 96 = length-fm_bytes (replicate 6 0x00) in
+    part-skip IdMark (λ place. place ≡ 96) Clocked Anything Clocked zeros (word_cells 16 0xF57E ++ after) zeros_quiet
+    (part-then IdMark (λ place. length zeros + place ≡ 96) Clocked Clocked Anything (word_cells 16 0xF57E) after
+    (λ rest clocked. (let one = id_mark_first rest clocked in ((λ place within test. (let e = one.0 place within test in omega (arith, e, size))), one.1)))
+    (after_mark_quiet track content sector))
+
+-- a byte has clocks, whatever follows
+byte_clocked : (byte : ℕ) (rest : List Bool) → Clocked (fm byte ++ rest)
+unfolding Clocked eight_clocks fits fm fm_cells word_cells
+byte_clocked byte rest = refl
+
+lead_in_clocked : (track : TrackId) (parts : List (Part Row))
+    → Clocked (coded false (part_cells (row_cells track)) false (parts_of 1 [] rows.lead_in ++ parts))
+unfolding coded
+lead_in_clocked track parts =
+    let others = parts_of 1 [] (Run 6 0x00 ∷ AMark Index ∷ Run 26 0xFF ∷ []) ++ parts in
+    let rest = coded false (part_cells (row_cells track)) false others in
+    subst Clocked (sym (append_assoc (fm 0xFF) (fm_bytes (replicate 39 0xFF)) rest)) (byte_clocked 0xFF (fm_bytes (replicate 39 0xFF) ++ rest))
+
+ring_clocked : (track : TrackId) (bytes : List ℕ) → Clocked (ring_of track bytes)
+unfolding ring_of_rows track_parts
+ring_clocked track bytes = lead_in_clocked track (flat_map (sector_parts 1 128 bytes rows) (range_with_len 1 26) ++ parts_of 1 [] rows.lead_out)
+
+-- so in the ring it begins where headers do
+pub own_syncs : (track : TrackId) → HasOwnSyncs 0xF57E 16 112 1 26 (NamesSector track) (place_of row_size 1 128 rows) (AreSectors 26 128) (ring_of track)
+unfolding total
+own_syncs track = record {
+  lead = 0;
+  rest = sync_rest;
+  short = omega (arith, length-sync_rest);
+  leads = λ cells s stands named. leads cells stands;
+  only = λ bytes given.
+      syncs-in_ring false (row_cells track) row_size (row_length track) 1 26 128 rows bytes given.whole IdMark Clocked 0
+      (λ before s number. sector_part track before s (bytes_of 1 128 bytes s))
+      (lead_in_quiet track) (lead_out_quiet track) (ring_clocked track bytes);
+}

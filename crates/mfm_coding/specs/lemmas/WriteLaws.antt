@@ -1,0 +1,82 @@
+-- Bytes and marks that are appended some after others.
+use Rattle.std.specs.Prelude.{◌≡◌, ℕ, ◌+◌, ◌<◌, ◌≤◌, Bool, List, [], ◌∷◌, ◌++◌, length, IsErr, Ok, Err, take, get_or, flat_map}
+use Rattle.std.specs.declared.result.Result.{Result}
+use Rattle.std.proofs.Common.{ap, sym, subst, ◌∙◌, arith, append-nil, length-append}
+use Rattle.std.proofs.lemmas.List.{take_more}
+use Rattle.std.proofs.lemmas.List.Concat.{flat_map-append}
+use Rattle.std.proofs.lemmas.List.Folds.{length-flat_map-take}
+use Rattle.flux_base.specs.declared.outside.Memory.{Memory}
+use Rattle.cell_bits.specs.Bytes.{last_cell}
+use Rattle.cell_bits.specs.State.{CellsState}
+use Rattle.frame_law.specs.Writing.{AppendsCells}
+use Rattle.frame_law.specs.lemmas.WritingLaws.{AppendsCells-more, AppendsCells-none, AppendsCells-stop}
+use Rattle.mfm_coding.specs.declared.symbol.Symbol.{Symbol}
+use Rattle.mfm_coding.specs.Coding.{coded, symbol_cells}
+use Rattle.mfm_coding.specs.lemmas.CodingLaws.{coded-append, last_bit, last_cell-coded, length-coded}
+use Rattle.mfm_coding.specs.Writes.{AppendsSymbols}
+
+-- none
+pub AppendsSymbols-none : (state : CellsState) → AppendsSymbols state state [] (Ok tt)
+unfolding coded
+AppendsSymbols-none state = AppendsCells-none state
+
+-- one
+pub AppendsSymbols-one : (old new : CellsState) (symbol : Symbol) (result : Result (Unit {0}) Memory)
+    → AppendsCells old new (symbol_cells (last_cell old.cells) symbol) result → AppendsSymbols old new (symbol ∷ []) result
+unfolding coded
+AppendsSymbols-one old new symbol result a =
+    subst (λ (cells : List Bool). AppendsCells old new cells result) (sym (append-nil (symbol_cells (last_cell old.cells) symbol))) a
+
+bit-behind : (old mid : CellsState) (first : List Symbol) → AppendsSymbols old mid first (Ok tt)
+    → last_cell mid.cells ≡ last_bit (last_cell old.cells) first
+bit-behind old mid first a = ap last_cell a.ok ∙ last_cell-coded old.cells first
+
+-- some, and then more
+pub AppendsSymbols-more : (old mid new : CellsState) (first then : List Symbol) (result : Result (Unit {0}) Memory)
+    → AppendsSymbols old mid first (Ok tt) → AppendsSymbols mid new then result → AppendsSymbols old new (first ++ then) result
+AppendsSymbols-more old mid new first then result a b =
+    let before = last_cell old.cells in
+    let same : coded before first ++ coded (last_cell mid.cells) then ≡ coded before (first ++ then) =
+    ap (λ (bit : Bool). coded before first ++ coded bit then) (bit-behind old mid first a) ∙ sym (coded-append before first then) in
+    subst (λ (cells : List Bool). AppendsCells old new cells result) same
+    (AppendsCells-more old mid new (coded before first) (coded (last_cell mid.cells) then) result a b)
+
+-- the first of some, and then no memory for all of them
+pub AppendsSymbols-stop : (old mid new : CellsState) (first then all : List Symbol) (why : Memory) (result : Result (Unit {0}) Memory)
+    → IsErr result → AppendsSymbols old mid first (Ok tt) → AppendsSymbols mid new then (Err why) → length first + length then ≤ length all
+    → AppendsSymbols old new all result
+AppendsSymbols-stop old mid new first then all why result failed a b short =
+    let before = last_cell old.cells in
+    let middle = last_cell mid.cells in
+    AppendsCells-stop old mid new (coded before first) (coded middle then) (coded before all) why result failed a b
+    (omega (
+      arith,
+      short,
+      length-append (coded before first) (coded middle then),
+      length-coded before first,
+      length-coded middle then,
+      length-coded before all,
+    ))
+
+module _ {X : Type 0} (symbols_of : X → List Symbol) (pieces : List X) where
+  -- those of one more piece
+  pub AppendsSymbols-next : (old mid new : CellsState) (i : ℕ) (d : X) → i < length pieces
+      → AppendsSymbols old mid (flat_map symbols_of (take i pieces)) (Ok tt) → AppendsSymbols mid new (symbols_of (get_or pieces i d)) (Ok tt)
+      → AppendsSymbols old new (flat_map symbols_of (take (i + 1) pieces)) (Ok tt)
+  AppendsSymbols-next old mid new i d within a b =
+      let more = AppendsSymbols-more old mid new _ _ (Ok tt) a b in
+      let one = append-nil (symbols_of (get_or pieces i d)) in
+      let joined = flat_map-append symbols_of (take i pieces) (get_or pieces i d ∷ []) in
+      rw (take_more pieces i d within, joined, one) more
+
+  -- no memory for one more piece
+  pub AppendsSymbols-short : (old mid new : CellsState) (i : ℕ) (d : X) (why : Memory) (result : Result (Unit {0}) Memory)
+      → IsErr result → i < length pieces
+      → AppendsSymbols old mid (flat_map symbols_of (take i pieces)) (Ok tt) → AppendsSymbols mid new (symbols_of (get_or pieces i d)) (Err why)
+      → AppendsSymbols old new (flat_map symbols_of pieces) result
+  AppendsSymbols-short old mid new i d why result failed within a b =
+      let first = flat_map symbols_of (take i pieces) in
+      let then = symbols_of (get_or pieces i d) in
+      let part = length-flat_map-take symbols_of pieces i d within in
+      AppendsSymbols-stop old mid new first then (flat_map symbols_of pieces) why result failed a b
+      (omega (arith, part, length-append first then))
