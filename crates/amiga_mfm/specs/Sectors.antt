@@ -9,7 +9,7 @@ use Rattle.mfm_coding.specs.Coding.{SYNC_MARK}
 use Rattle.amiga_mfm.specs.Longs.{HALF_CELLS, bytes_at, long_at, raw_longs}
 
 -- the tracks: 80 cylinders of two heads
-pub record IsTrack (track : TrackId) : Type 0 where
+pub record IsAmigaTrack (track : TrackId) : Type 0 where
   pub cylinder : track.cylinder < 80
   pub head : track.head < 2
 

@@ -1,5 +1,5 @@
 ghost use Rattle.std.specs.Prelude.{◌≡◌, ℕ, ◌≤◌, length, IfNone, IfSome};
-ghost use Rattle.amiga_mfm.specs.Sectors.{IsTrack, NamesSector, track_number as number_of_track};
+ghost use Rattle.amiga_mfm.specs.Sectors.{IsAmigaTrack, NamesSector, track_number as number_of_track};
 
 use crate::layout::{FORMAT_BYTE, HALF_CELLS, HEADER_CHECK, HEADER_HALVES, INFO};
 use crate::longs::{check_at, read_long};
@@ -8,7 +8,7 @@ use frame_law::CellsFrom;
 
 /// The sector of this track that the header at the front of the cells, which are as many as one has, names.
 pub(crate) fn named_sector(frame: &CellsFrom, track: TrackId) -> Option<u8>
-    requires track { IsTrack track }
+    requires track { IsAmigaTrack track }
     requires whole { 480 ≤ length frame.now }
     ensures named { IfSome result (λ s. NamesSector track frame.now s) }
     ensures none { IfNone result ((s : ℕ) → ¬ NamesSector track frame.now s) }
@@ -26,7 +26,7 @@ pub(crate) fn named_sector(frame: &CellsFrom, track: TrackId) -> Option<u8>
 
 /// The number by which a header names its track.
 pub(crate) fn track_number(track: TrackId) -> u8
-    requires { IsTrack track }
+    requires { IsAmigaTrack track }
     ensures { result ≡ number_of_track track }
 {
     2 * track.cylinder + track.head

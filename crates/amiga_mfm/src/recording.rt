@@ -6,7 +6,7 @@ ghost use Rattle.amiga_mfm.specs.lemmas.FrameLaws.{frame_stands};
 ghost use Rattle.amiga_mfm.specs.Layout.{row_cells, row_size, row_symbols, rows};
 ghost use Rattle.amiga_mfm.specs.lemmas.OwnLaws.{tells};
 ghost use Rattle.amiga_mfm.specs.lemmas.RowLaws.{bytes_held, one_name, sizes, sums, symbols_sized};
-ghost use Rattle.amiga_mfm.specs.Sectors.{Hold, IsDataPlace, IsTrack, NamesSector};
+ghost use Rattle.amiga_mfm.specs.Sectors.{Hold, IsDataPlace, IsAmigaTrack, NamesSector};
 ghost use Rattle.amiga_mfm.specs.lemmas.Syncs.{own_syncs};
 
 use crate::data_field::read_content;
@@ -48,7 +48,7 @@ impl Layout for AmigaMfm {
 
     ghost HEADER_CELLS = { 480 };
 
-    ghost has_track = { λ r track. IsTrack track };
+    ghost has_track = { λ r track. IsAmigaTrack track };
 
     ghost lowest_sector = { λ r. 0 };
 

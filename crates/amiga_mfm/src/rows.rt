@@ -3,7 +3,7 @@ ghost use Rattle.check_values.specs.Sums.{xor};
 ghost use Rattle.mfm_coding.specs.Writes.{AppendsSymbols};
 ghost use Rattle.amiga_mfm.specs.Longs.{half_of, halves};
 ghost use Rattle.amiga_mfm.specs.Layout.{check_of_data, check_of_header, content_halves, halves_symbols, header_halves, info_of, row_symbols};
-ghost use Rattle.amiga_mfm.specs.Sectors.{IsTrack};
+ghost use Rattle.amiga_mfm.specs.Sectors.{IsAmigaTrack};
 
 use crate::half::{Half, half_bytes};
 use crate::header::track_number;
@@ -22,7 +22,7 @@ pub(crate) fn push_row(
     sector: u8,
     bytes: &[u8],
 ) -> Result<(), Memory>
-    requires track { IsTrack track }
+    requires track { IsAmigaTrack track }
     requires sector { sector < 11 }
     requires bytes { length bytes.now ≤ 512 }
     ensures { AppendsSymbols cells.old cells.new (row_symbols track sector bytes.now row) result }
@@ -71,7 +71,7 @@ fn push_halves(cells: &mut Cells, longs: &[u32], half: Half) -> Result<(), Memor
 
 /// The long that names the sector: FF, track, sector, and how many sectors there are from it to the gap.
 fn info(track: TrackId, sector: u8) -> u32
-    requires track { IsTrack track }
+    requires track { IsAmigaTrack track }
     requires sector { sector < 11 }
     ensures { result ≡ info_of track sector }
 {

@@ -8,7 +8,7 @@ use Rattle.apple_gcr.specs.Nibbles.{disk_byte}
 use Rattle.apple_gcr.specs.SixAndTwo.{AreCoded, Carries}
 
 -- the tracks: 35 cylinders of one side
-pub record IsTrack (track : TrackId) : Type 0 where
+pub record IsAppleTrack (track : TrackId) : Type 0 where
   pub cylinder : track.cylinder < 35
   pub head : track.head ≡ 0
 

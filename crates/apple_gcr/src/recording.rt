@@ -3,7 +3,7 @@ ghost use Rattle.std.proofs.Common.{lit≤};
 ghost use Rattle.apple_gcr.specs.lemmas.FrameLaws.{frame_stands};
 ghost use Rattle.apple_gcr.specs.Layout.{row_cells, row_size, rows};
 ghost use Rattle.apple_gcr.specs.lemmas.RowLaws.{row_follows, row_length};
-ghost use Rattle.apple_gcr.specs.Sectors.{Hold, IsSync, IsTrack, NamesSector};
+ghost use Rattle.apple_gcr.specs.Sectors.{Hold, IsSync, IsAppleTrack, NamesSector};
 ghost use Rattle.apple_gcr.specs.lemmas.StandLaws.{one_content, one_name, sizes, sums, tells, within_reach};
 ghost use Rattle.apple_gcr.specs.lemmas.Syncs.{own_syncs};
 
@@ -46,7 +46,7 @@ impl Layout for AppleGcr {
 
     ghost HEADER_CELLS = { 88 };
 
-    ghost has_track = { λ r track. IsTrack track };
+    ghost has_track = { λ r track. IsAppleTrack track };
 
     ghost lowest_sector = { λ r. 0 };
 

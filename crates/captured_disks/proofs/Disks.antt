@@ -10,7 +10,7 @@ use Rattle.kryo_stream.specs.Stream.{indexes, times}
 use Rattle.sector_images.specs.Places.{IsSector, IsTrack, NumbersHoldSectors, NumbersNameTracks, SectorsLieInImages, TracksFillImages, TracksJoin, tracks}
 use Rattle.sector_images.specs.declared.format.Format.{Format}
 use Rattle.track_rings.specs.Rings.{last_in}
-use Rattle.turn_merge.specs.Readings.{Reading, agreed, verdict}
+use Rattle.turn_merge.specs.Readings.{NotedReading, agreed, verdict}
 use Rattle.turn_merge.specs.declared.verdict.Verdict.{Verdict}
 use Rattle.turn_merge.specs.declared.verdict.Verdict.TheVariants.{Good, Contradictory, Bad, Missing}
 use Rattle.decoded_rings.specs.Pieces.{RingPiece, cells_of_ring_pieces}
@@ -22,7 +22,7 @@ use Rattle.flux_engine.specs.Disks.{Decoded, IsDecoded, IsPartAt, decoded_count,
 use Rattle.flux_engine.specs.Recordings.{sectors_of, track_at}
 use Rattle.flux_engine.specs.Rings.{IsImage, IsRing, nominal_of, ring_cells_of, ring_of, sector_bytes}
 use Rattle.flux_engine.specs.Streams.{stream_at}
-use Rattle.flux_engine.specs.Tracks.{Part, is_good, readings_of}
+use Rattle.flux_engine.specs.Tracks.{TrackPart, is_good, readings_of}
 use Rattle.captured_disks.specs.Frames.{ring_piece, written_track}
 use Rattle.captured_disks.specs.Headline.{CapturedDisksDecode, DecodesRest, DecodesWhole, ErasedDisksDecode, IsKept, IsSectorOf}
 use Rattle.captured_disks.specs.Inputs.{IsCapturedDisk, IsErasedDisk}
@@ -153,10 +153,10 @@ module _ (laws : Laws) (format : Format) (image x : List ℕ) (o : Decoded) (is 
         (laws.whole format x o decoded (stop erased)) is.size
         (λ n sector one. (all_kept n sector one).1)
 
-    part_good : (n : ℕ) → n < length (tracks format) → (part : Part) → IsPartAt format x n part → part.totals.good ≡ part.totals.sectors
+    part_good : (n : ℕ) → n < length (tracks format) → (part : TrackPart) → IsPartAt format x n part → part.totals.good ≡ part.totals.sectors
     part_good n known part at =
         let comes = at.comes in
-        let readings : List Reading = readings_of (times (stream_at x n)) (indexes (stream_at x n)) (cells_at format x n) comes.found in
+        let readings : List NotedReading = readings_of (times (stream_at x n)) (indexes (stream_at x n)) (cells_at format x n) comes.found in
         let are : AreReadingsOf (sector_at format (track_at format n)) (cells_of_ring_pieces (ring_of format image n) (piece n known) []) readings =
         subst (λ (cs : List Bool). AreReadingsOf (sector_at format (track_at format n)) cs readings)
         (cells erased n known ∙ ap (cells_of_ring_pieces (ring_of format image n) (piece n known)) (no_later n known))
@@ -168,7 +168,7 @@ module _ (laws : Laws) (format : Format) (image x : List ℕ) (o : Decoded) (is 
         let lies = laws.two_rings format image n is known (piece n known) s (long n known) one in
         good_with (verdict readings s) (agreed readings s) ((written_track format image n).bytes_of s)
         (((laws.pieces format image n is known (piece n known) []).1 readings are).whole s one lies)) in
-        ap (λ (p : Part). p.totals.good) comes.is ∙ count ∙ sym (ap (λ (p : Part). p.totals.sectors) comes.is)
+        ap (λ (p : TrackPart). p.totals.good) comes.is ∙ count ∙ sym (ap (λ (p : TrackPart). p.totals.sectors) comes.is)
 
     many : length decoded.parts ≡ length (tracks format)
     many = decoded.many ∙ ap (decoded_count format) (sym (ap (λ (d : Decoded). d.stop) decoded.is) ∙ stop erased)

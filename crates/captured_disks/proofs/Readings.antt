@@ -6,7 +6,7 @@ use Rattle.frame_law.specs.Laws.{AreAllFrom, ReadingsAreAll}
 use Rattle.frame_law.specs.Readings.{AreReadings}
 use Rattle.frame_law.specs.declared.reading.Reading.TheVariants.{Nothing, Bad as BadFrame, Good as GoodFrame}
 use Rattle.frame_law.specs.declared.reading.Reading.{Reading as Frame}
-use Rattle.turn_merge.specs.Readings.{Reading, bad_reading, good_reading}
+use Rattle.turn_merge.specs.Readings.{NotedReading, bad_reading, good_reading}
 use Rattle.turn_merge.specs.declared.verdict.Place.{Place}
 use Rattle.decoded_rings.specs.Verdicts.{AreReadingsOf}
 use Rattle.flux_engine.specs.Tracks.{Found, place_at, readings_at, readings_of}
@@ -42,17 +42,17 @@ module _ {X Y : Type 0} (g : X → List Y) where
       ]
 
 -- a good reading is one of a frame that was read as good
-record IsOfFrame (place : Place) (frame : Frame) (bytes : List ℕ) (r : Reading) (data_of : List ℕ) : Type 0 where
+record IsOfFrame (place : Place) (frame : Frame) (bytes : List ℕ) (r : NotedReading) (data_of : List ℕ) : Type 0 where
   frame_is : frame ≡ GoodFrame r.sector
   bytes_are : data_of ≡ bytes
   place_is : r.place ≡ place
 
-of_frame : (place : Place) (frame : Frame) (bytes data_of : List ℕ) (r : Reading) → Contains (readings_at place frame bytes) r → r.bytes ≡ Some data_of
+of_frame : (place : Place) (frame : Frame) (bytes data_of : List ℕ) (r : NotedReading) → Contains (readings_at place frame bytes) r → r.bytes ≡ Some data_of
     → IsOfFrame place frame bytes r data_of
 of_frame place Nothing bytes data_of r has some = absurd (contains_none r has)
 of_frame place (BadFrame s) bytes data_of r has some =
     elim (contains_cases (bad_reading s place) r [] has) [
-      | inl same ↦ absurd (let none : None ≡ Some data_of = ap (λ (q : Reading). q.bytes) same ∙ some in none_some data_of none)
+      | inl same ↦ absurd (let none : None ≡ Some data_of = ap (λ (q : NotedReading). q.bytes) same ∙ some in none_some data_of none)
       | inr later ↦ absurd (contains_none r later)
     ]
   where
@@ -61,9 +61,9 @@ of_frame place (BadFrame s) bytes data_of r has some =
 of_frame place (GoodFrame s) bytes data_of r has some =
     elim (contains_cases (good_reading s place bytes) r [] has) [
       | inl same ↦ record {
-        frame_is = ap (λ (q : Reading). GoodFrame q.sector) same;
-        bytes_are = one_some data_of bytes (sym some ∙ sym (ap (λ (q : Reading). q.bytes) same));
-        place_is = sym (ap (λ (q : Reading). q.place) same);
+        frame_is = ap (λ (q : NotedReading). GoodFrame q.sector) same;
+        bytes_are = one_some data_of bytes (sym some ∙ sym (ap (λ (q : NotedReading). q.bytes) same));
+        place_is = sym (ap (λ (q : NotedReading). q.place) same);
       }
       | inr later ↦ absurd (contains_none r later)
     ]
@@ -73,13 +73,13 @@ of_frame place (GoodFrame s) bytes data_of r has some =
 
 module _ (header : List Bool → ℕ → Type 0) (sector : List Bool → ℕ → List ℕ → Type 0) (all : ReadingsAreAll header sector)
     (times indexes : List ℕ) (cells : List Bool) (found : List Found) (reads : AreReadings header sector cells 0 found) where
-  abbrev of_found : Found → List Reading
+  abbrev of_found : Found → List NotedReading
   of_found f = readings_at (place_at times indexes cells f.0) f.1 f.2
 
   each : AreAllFrom header sector cells 0 found
   each = (all cells 0 found).0 reads
 
-  stand : (r : Reading) (bytes : List ℕ) → Contains (readings_of times indexes cells found) r → r.bytes ≡ Some bytes
+  stand : (r : NotedReading) (bytes : List ℕ) → Contains (readings_of times indexes cells found) r → r.bytes ≡ Some bytes
       → sector (drop r.place.cell cells) r.sector bytes
   stand r bytes has some =
       let f = from_flat of_found found r has in
@@ -93,10 +93,10 @@ module _ (header : List Bool → ℕ → Type 0) (sector : List Bool → ℕ →
       subst (λ (p : Place). sector (drop p.cell cells) r.sector bytes) (sym is.place_is) here
 
   noted : (place s : ℕ) (bytes : List ℕ) → sector (drop place cells) s bytes
-      → (r : Reading) × Contains (readings_of times indexes cells found) r × (r.sector ≡ s) × (r.bytes ≡ Some bytes)
+      → (r : NotedReading) × Contains (readings_of times indexes cells found) r × (r.sector ≡ s) × (r.bytes ≡ Some bytes)
   noted place s bytes here =
       let there = (each.good place s bytes (omega arith)).1 here in
-      let r : Reading = good_reading s (place_at times indexes cells place) bytes in
+      let r : NotedReading = good_reading s (place_at times indexes cells place) bytes in
       (r, to_flat of_found found (place, GoodFrame s, bytes) r there (contains_first r []), refl, refl)
 
   pub are_readings_of : AreReadingsOf sector cells (readings_of times indexes cells found)

@@ -5,7 +5,7 @@ use Rattle.frame_law.specs.Laws.{ReadingsAreAll}
 use Rattle.kryo_stream.specs.Stream.{indexes, times}
 use Rattle.sector_images.specs.Places.{IsSector}
 use Rattle.sector_images.specs.declared.format.Format.{Format}
-use Rattle.turn_merge.specs.Readings.{Reading, agreed}
+use Rattle.turn_merge.specs.Readings.{NotedReading, agreed}
 use Rattle.turn_merge.specs.declared.verdict.Verdict.{Verdict}
 use Rattle.turn_merge.specs.declared.verdict.Verdict.TheVariants.{Good, Contradictory, Bad, Missing}
 use Rattle.decoded_rings.specs.Pieces.{RingPiece, cells_of_ring_pieces}
@@ -53,7 +53,7 @@ module _ (format : Format) (image x : List ℕ) (o : Decoded) (disks : DisksAreR
     has_sector = record { least = is.known.0; most = is.known.1 }
 
     module _ (outcome : Verdict) (has : HasVerdict format x n sector outcome) where
-      abbrev readings : List Reading
+      abbrev readings : List NotedReading
       readings = readings_of (times (stream_at x n)) (indexes (stream_at x n)) (cells_at format x n) has.found
 
       are : AreReadingsOf sector_there (cells_of_ring_pieces (ring_of format image n) first later) readings

@@ -8,7 +8,7 @@ use Rattle.kryo_stream.specs.Growth.{StreamsStay}
 use Rattle.kryo_stream.specs.Joined.{PaddingIsPassed}
 use Rattle.kryo_stream.specs.Outcome.{input_of}
 use Rattle.kryo_stream.specs.Stream.{first_fault, indexes, indexes_of, stream_length, times, times_of, total_bytes}
-use Rattle.kryo_stream.specs.declared.block.Piece.{Piece}
+use Rattle.kryo_stream.specs.declared.block.SpelledBlock.{SpelledBlock}
 use Rattle.flux_engine.specs.Streams.{behind, behind_stream, stream_at}
 use Rattle.captured_disks.specs.Inputs.{AreJoined}
 
@@ -46,7 +46,7 @@ module _ (stay : StreamsStay) (passed : PaddingIsPassed) (count : ℕ) (bytes : 
   after k rest known is =
       let same = stay (bytes k) (from (k + 1) rest) (sound k known).0 in
       ap behind_stream is
-      ∙ ap (λ (ps : List Piece). drop (total_bytes ps) (bytes k ++ from (k + 1) rest)) same.blocks
+      ∙ ap (λ (ps : List SpelledBlock). drop (total_bytes ps) (bytes k ++ from (k + 1) rest)) same.blocks
       ∙ ap (λ (n : ℕ). drop n (bytes k ++ from (k + 1) rest)) (sound k known).1
       ∙ drop-append_seam (bytes k) (from (k + 1) rest)
 

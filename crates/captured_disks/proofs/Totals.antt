@@ -5,7 +5,7 @@ use Rattle.std.proofs.Common.{ap, arith}
 use Rattle.std.proofs.lemmas.List.Sums.{sum_by-cons}
 use Rattle.turn_merge.specs.declared.verdict.Verdict.{Verdict}
 use Rattle.flux_engine.specs.Disks.{part_at, totals_over}
-use Rattle.flux_engine.specs.Tracks.{Part, is_good, totals_of}
+use Rattle.flux_engine.specs.Tracks.{TrackPart, is_good, totals_of}
 
 counted : (v : ℕ → Verdict) (first count : ℕ) → ((s : ℕ) → first ≤ s → s < first + count → is_good (v s) ≡ true)
     → count_by is_good (map v (range_with_len first count)) ≡ length (map v (range_with_len first count))
@@ -22,15 +22,15 @@ pub all_counted : (v : ℕ → Verdict) (first count : ℕ) → ((s : ℕ) → f
     → (totals_of (map v (range_with_len first count))).good ≡ (totals_of (map v (range_with_len first count))).sectors
 all_counted v first count good = counted v first count good
 
-sums_same : (parts : List Part) → ((n : ℕ) → n < length parts → (part_at parts n).totals.good ≡ (part_at parts n).totals.sectors)
-    → sum_by (λ (part : Part). part.totals.good) parts ≡ sum_by (λ (part : Part). part.totals.sectors) parts
+sums_same : (parts : List TrackPart) → ((n : ℕ) → n < length parts → (part_at parts n).totals.good ≡ (part_at parts n).totals.sectors)
+    → sum_by (λ (part : TrackPart). part.totals.good) parts ≡ sum_by (λ (part : TrackPart). part.totals.sectors) parts
 sums_same [] each = refl
 sums_same (part ∷ parts) each =
     let here : part.totals.good ≡ part.totals.sectors = each 0 (omega arith) in
     let rest = sums_same parts (λ n below. each (suc n) (omega (arith, below))) in
-    omega (arith, here, rest, sum_by-cons (λ (p : Part). p.totals.good) part parts, sum_by-cons (λ (p : Part). p.totals.sectors) part parts)
+    omega (arith, here, rest, sum_by-cons (λ (p : TrackPart). p.totals.good) part parts, sum_by-cons (λ (p : TrackPart). p.totals.sectors) part parts)
 
 -- a disk on each of whose tracks each verdict is good
-pub totals_good : (parts : List Part) → ((n : ℕ) → n < length parts → (part_at parts n).totals.good ≡ (part_at parts n).totals.sectors)
+pub totals_good : (parts : List TrackPart) → ((n : ℕ) → n < length parts → (part_at parts n).totals.good ≡ (part_at parts n).totals.sectors)
     → (totals_over parts).good ≡ (totals_over parts).sectors
 totals_good parts each = sums_same parts each

@@ -5,7 +5,7 @@ use Rattle.track_rings.specs.Rows.{Rows, ring_of as ring_of_rows}
 use Rattle.commodore_gcr.specs.declared.layout.Row.{Row}
 use Rattle.commodore_gcr.specs.declared.layout.Row.TheVariants.{SyncLead, SyncOnes, HeaderBlock, HeaderGap, DataBytes, DataFill, ZoneGap}
 use Rattle.commodore_gcr.specs.declared.recording.CommodoreGcr.{CommodoreGcr}
-use Rattle.commodore_gcr.specs.declared.zones.Zone.{Zone}
+use Rattle.commodore_gcr.specs.declared.zones.SpeedZone.{SpeedZone}
 use Rattle.commodore_gcr.specs.Coding.{gcr_bytes, raw_bytes}
 use Rattle.commodore_gcr.specs.Sectors.{DATA_FILL, SECTOR_SIZE, data_bytes, header_block}
 use Rattle.commodore_gcr.specs.Zones.{sectors_of, zone_of}
@@ -36,7 +36,7 @@ row_cells disk track before sector bytes DataFill = gcr_bytes DATA_FILL
 row_cells disk track before sector bytes ZoneGap = gap_cells (zone_of track).gap
 
 -- how many they are: one for each one, 10 for each byte of a block, and 8 for each byte of a gap
-abbrev pub row_size : Zone → ℕ → Row → ℕ
+abbrev pub row_size : SpeedZone → ℕ → Row → ℕ
 row_size zone count SyncLead = 30
 row_size zone count SyncOnes = 10
 row_size zone count HeaderBlock = 10 * 8

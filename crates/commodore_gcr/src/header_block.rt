@@ -1,7 +1,7 @@
 ghost use Rattle.std.specs.Prelude.{◌≡◌, ℕ, ◌≤◌, List, length, IfNone, IfSome};
 ghost use Rattle.commodore_gcr.specs.Coding.{BytesAt};
 ghost use Rattle.commodore_gcr.specs.Sectors.{NamesSector, header_block as block_of_header};
-ghost use Rattle.commodore_gcr.specs.Zones.{IsTrack};
+ghost use Rattle.commodore_gcr.specs.Zones.{IsCommodoreTrack};
 
 use crate::fields::byte_at;
 use crate::layout::{HEADER_BYTE, HEADER_FILL};
@@ -13,7 +13,7 @@ use frame_law::CellsFrom;
 
 /// The sector of this track that the header at the front of the cells, which are as many as one has, names.
 pub(crate) fn named_sector(frame: &CellsFrom, track: TrackId) -> Option<u8>
-    requires track { IsTrack track }
+    requires track { IsCommodoreTrack track }
     requires whole { 70 ≤ length frame.now }
     ensures named { IfSome result (λ s. NamesSector track frame.now s) }
     ensures none { IfNone result ((s : ℕ) → ¬ NamesSector track frame.now s) }
@@ -50,7 +50,7 @@ fn header_bytes_at(frame: &CellsFrom) -> Option<[u8; 6]>
 
 /// The header block of a sector.
 pub(crate) fn header_block(disk: CommodoreGcr, track: TrackId, sector: u8) -> [u8; 8]
-    requires { IsTrack track }
+    requires { IsCommodoreTrack track }
     ensures { result ≡ block_of_header disk.id1 disk.id2 track sector }
 {
     let CommodoreGcr { id1, id2 } = disk;

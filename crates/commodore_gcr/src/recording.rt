@@ -6,7 +6,7 @@ ghost use Rattle.commodore_gcr.specs.lemmas.RowLaws.{row_follows, row_length};
 ghost use Rattle.commodore_gcr.specs.Sectors.{Hold, IsSync, NamesSector};
 ghost use Rattle.commodore_gcr.specs.lemmas.Syncs.{own_syncs};
 ghost use Rattle.commodore_gcr.specs.lemmas.ZoneLaws.{counts, sums};
-ghost use Rattle.commodore_gcr.specs.Zones.{IsTrack, sectors_of, zone_of};
+ghost use Rattle.commodore_gcr.specs.Zones.{IsCommodoreTrack, sectors_of, zone_of};
 
 use crate::data_block::{first_sync, read_block};
 use crate::header_block::named_sector;
@@ -55,7 +55,7 @@ impl Layout for CommodoreGcr {
 
     ghost HEADER_CELLS = { 70 };
 
-    ghost has_track = { λ r track. IsTrack track };
+    ghost has_track = { λ r track. IsCommodoreTrack track };
 
     ghost lowest_sector = { λ r. 0 };
 

@@ -4,7 +4,7 @@ ghost use Rattle.cell_bits.specs.Word.{word_cells};
 ghost use Rattle.commodore_gcr.specs.Sectors.{data_bytes};
 ghost use Rattle.commodore_gcr.specs.Coding.{gcr, gcr_bytes};
 ghost use Rattle.commodore_gcr.specs.Layout.{gap_cells, row_cells};
-ghost use Rattle.commodore_gcr.specs.Zones.{IsTrack};
+ghost use Rattle.commodore_gcr.specs.Zones.{IsCommodoreTrack};
 
 use crate::coding::coded;
 use crate::header_block::header_block;
@@ -24,7 +24,7 @@ pub(crate) fn push_row(
     sector: u8,
     bytes: &[u8],
 ) -> Result<(), Memory>
-    requires { IsTrack track }
+    requires { IsCommodoreTrack track }
     ensures { AppendsCells cells.old cells.new (row_cells disk track false sector bytes.now row) result }
 {
     match row {

@@ -4,7 +4,7 @@ use Rattle.std.specs.Str.{bytes_eq}
 use Rattle.std.proofs.Common.{ap, sym, subst, ◌∙◌, arith, inl, inr, ◌⊎◌}
 use Rattle.std.proofs.lemmas.Bool.{eqb-true, eq-eqb}
 use Rattle.std.proofs.lemmas.Slice.Eq.{bytes_eq-Decides}
-use Rattle.turn_merge.specs.Readings.{Reading, agreed, agreed_of, bad_ones, bytes_of, first_other, good_ones, verdict, verdict_of, verdict_with}
+use Rattle.turn_merge.specs.Readings.{NotedReading, agreed, agreed_of, bad_ones, bytes_of, first_other, good_ones, verdict, verdict_of, verdict_with}
 use Rattle.turn_merge.specs.declared.verdict.Place.{Place}
 use Rattle.decoded_rings.specs.Pieces.{RingPiece, begin_of_piece, cells_of_ring_pieces}
 use Rattle.decoded_rings.specs.Verdicts.{AreReadingsOf, IsGoodWith, IsGoodWithOrLost, LiesInOnePiece, StandsAsWritten, VerdictsAreRight}
@@ -77,38 +77,38 @@ same_eq : (xs ys : List ℕ) → xs ≡ ys → not (bytes_eq xs ys) ≡ false
 same_eq xs ys same = ap not ((bytes_eq-Decides xs ys).1 same)
 
 -- readings that all hold the same bytes
-no_other : (bytes : List ℕ) (first : Reading) (more : List Reading) → ((r : Reading) → Contains (first ∷ more) r → bytes_of r ≡ bytes)
+no_other : (bytes : List ℕ) (first : NotedReading) (more : List NotedReading) → ((r : NotedReading) → Contains (first ∷ more) r → bytes_of r ≡ bytes)
     → first_other (bytes_of first) more ≡ None
 no_other bytes first more same =
-    missed (λ (r : Reading). not (bytes_eq (bytes_of r) (bytes_of first))) more
+    missed (λ (r : NotedReading). not (bytes_eq (bytes_of r) (bytes_of first))) more
     (λ r has. same_eq (bytes_of r) (bytes_of first)
     (same r (contains_later first r more has) ∙ sym (same first (contains_first first more))))
 
-good_with : (good bad : ℕ) (place : Place) (other : Option Reading) (bytes own : List ℕ) → other ≡ None → bytes ≡ own
+good_with : (good bad : ℕ) (place : Place) (other : Option NotedReading) (bytes own : List ℕ) → other ≡ None → bytes ≡ own
     → IsGoodWith (verdict_with good bad place other) (if is_none other then Some bytes else None) own
 good_with good bad place None bytes own none same = ap (λ (b : List ℕ). Some b) same
 good_with good bad place (Some other) bytes own none same = absurd (cc)
 
-some_good : (bytes : List ℕ) (first : Reading) (more bads : List Reading) → ((r : Reading) → Contains (first ∷ more) r → bytes_of r ≡ bytes)
+some_good : (bytes : List ℕ) (first : NotedReading) (more bads : List NotedReading) → ((r : NotedReading) → Contains (first ∷ more) r → bytes_of r ≡ bytes)
     → IsGoodWith (verdict_of (first ∷ more) bads) (agreed_of (first ∷ more)) bytes
 some_good bytes first more bads same =
     good_with (length (first ∷ more)) (length bads) first.place (first_other (bytes_of first) more) (bytes_of first) bytes
     (no_other bytes first more same) (same first (contains_first first more))
 
-good_of : (bytes : List ℕ) (goods bads : List Reading) (r : Reading) → Contains goods r → ((q : Reading) → Contains goods q → bytes_of q ≡ bytes)
+good_of : (bytes : List ℕ) (goods bads : List NotedReading) (r : NotedReading) → Contains goods r → ((q : NotedReading) → Contains goods q → bytes_of q ≡ bytes)
     → IsGoodWith (verdict_of goods bads) (agreed_of goods) bytes
 good_of bytes [] bads r has same = absurd (contains_none r has)
 good_of bytes (first ∷ more) bads r has same = some_good bytes first more bads same
 
-abbrev Lost : List ℕ → List Reading → List Reading → Type 0
+abbrev Lost : List ℕ → List NotedReading → List NotedReading → Type 0
 Lost bytes goods bads = IsGoodWithOrLost (verdict_of goods bads) (agreed_of goods) bytes
 
-not_lost : (good bad : ℕ) (place : Place) (other : Option Reading) (held : Option (List ℕ)) (bytes : List ℕ)
+not_lost : (good bad : ℕ) (place : Place) (other : Option NotedReading) (held : Option (List ℕ)) (bytes : List ℕ)
     → IsGoodWith (verdict_with good bad place other) held bytes → IsGoodWithOrLost (verdict_with good bad place other) held bytes
 not_lost good bad place None held bytes is = is
 not_lost good bad place (Some other) held bytes is = absurd is
 
-good_or_lost : (bytes : List ℕ) (goods bads : List Reading) → ((r : Reading) → Contains goods r → bytes_of r ≡ bytes) → Lost bytes goods bads
+good_or_lost : (bytes : List ℕ) (goods bads : List NotedReading) → ((r : NotedReading) → Contains goods r → bytes_of r ≡ bytes) → Lost bytes goods bads
 good_or_lost bytes [] [] same = refl
 good_or_lost bytes [] (bad ∷ bads) same = refl
 good_or_lost bytes (first ∷ more) bads same =
@@ -117,11 +117,11 @@ good_or_lost bytes (first ∷ more) bads same =
 
 module _ (sector : List Bool → ℕ → List ℕ → Type 0) (track : WrittenTrack)
     (first : RingPiece) (later : List RingPiece) (stands : StandsAsWritten sector track first later)
-    (readings : List Reading) (are : AreReadingsOf sector (cells_of_ring_pieces track.ring first later) readings) where
-  abbrev is_good_of : ℕ → Reading → Bool
+    (readings : List NotedReading) (are : AreReadingsOf sector (cells_of_ring_pieces track.ring first later) readings) where
+  abbrev is_good_of : ℕ → NotedReading → Bool
   is_good_of s r = nat_eq r.sector s && is_some r.bytes
 
-  own : (s : ℕ) (r : Reading) → Contains (good_ones readings s) r → bytes_of r ≡ track.bytes_of s
+  own : (s : ℕ) (r : NotedReading) → Contains (good_ones readings s) r → bytes_of r ≡ track.bytes_of s
   own s r has =
       let one = kept (is_good_of s) readings r has in
       let both = and_both (nat_eq r.sector s) (is_some r.bytes) one.1 in

@@ -2,7 +2,7 @@
 use Rattle.std.specs.Prelude.{◌≡◌, ℕ, ◌+◌, ◌*◌, ◌<◌, ◌≤◌, Bool, Contains, List, [], ◌∷◌, drop, length, Option, Some, None, slice_get}
 use Rattle.track_rings.specs.OwnSectors.{IsAlone}
 use Rattle.track_rings.specs.Rings.{LiesAt}
-use Rattle.turn_merge.specs.Readings.{Reading, agreed, verdict}
+use Rattle.turn_merge.specs.Readings.{NotedReading, agreed, verdict}
 use Rattle.turn_merge.specs.declared.verdict.Verdict.{Verdict}
 use Rattle.turn_merge.specs.declared.verdict.Verdict.TheVariants.{Good, Contradictory, Bad, Missing}
 use Rattle.decoded_rings.specs.Pieces.{IsCellOf, RingPiece, begin_of_piece, cells_of_ring_pieces}
@@ -10,10 +10,10 @@ use Rattle.decoded_rings.specs.Written.{HasSector, WrittenTrack}
 
 -- The readings are those of the cells: each good one is of a sector that stands at its place with its bytes, and each sector
 -- that stands at a place has a good reading.
-pub record AreReadingsOf (sector : List Bool → ℕ → List ℕ → Type 0) (cells : List Bool) (readings : List Reading) : Type 0 where
-  pub stand : (r : Reading) (bytes : List ℕ) → Contains readings r → r.bytes ≡ Some bytes → sector (drop r.place.cell cells) r.sector bytes
+pub record AreReadingsOf (sector : List Bool → ℕ → List ℕ → Type 0) (cells : List Bool) (readings : List NotedReading) : Type 0 where
+  pub stand : (r : NotedReading) (bytes : List ℕ) → Contains readings r → r.bytes ≡ Some bytes → sector (drop r.place.cell cells) r.sector bytes
   pub all : (place s : ℕ) (bytes : List ℕ) → sector (drop place cells) s bytes
-      → (r : Reading) × Contains readings r × (r.sector ≡ s) × (r.bytes ≡ Some bytes)
+      → (r : NotedReading) × Contains readings r × (r.sector ≡ s) × (r.bytes ≡ Some bytes)
 
 -- the sector is good, and its data are these bytes
 abbrev pub IsGoodWith : Verdict → Option (List ℕ) → List ℕ → Type 0
@@ -56,7 +56,7 @@ module _ (sector : List Bool → ℕ → List ℕ → Type 0) (track : WrittenTr
         → sector (drop (begin_of_piece (first ∷ later) index + place) (cells_of_ring_pieces track.ring first later)) s (track.bytes_of s)
 
   -- over all readings of the cells of pieces
-  pub record VerdictsAreRight (first : RingPiece) (later : List RingPiece) (readings : List Reading) : Type 0 where
+  pub record VerdictsAreRight (first : RingPiece) (later : List RingPiece) (readings : List NotedReading) : Type 0 where
     pub whole : (s : ℕ) → HasSector track s → LiesInOnePiece track (first ∷ later) s
         → IsGoodWith (verdict readings s) (agreed readings s) (track.bytes_of s)
     pub each : (s : ℕ) → HasSector track s → IsGoodWithOrLost (verdict readings s) (agreed readings s) (track.bytes_of s)
@@ -66,7 +66,7 @@ module _ (sector : List Bool → ℕ → List ℕ → Type 0) (track : WrittenTr
   -- cells of two pieces.
   abbrev pub PiecesAreRight : Type 0
   PiecesAreRight = (first : RingPiece) (later : List RingPiece) → StandsAsWritten first later
-      × ((readings : List Reading) → AreReadingsOf sector (cells_of_ring_pieces track.ring first later) readings
+      × ((readings : List NotedReading) → AreReadingsOf sector (cells_of_ring_pieces track.ring first later) readings
       → VerdictsAreRight first later readings)
 
   -- one piece of at least two rings has each sector's frame whole

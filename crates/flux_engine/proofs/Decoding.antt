@@ -8,9 +8,9 @@ use Rattle.index_turns.specs.Track.{TrackState}
 use Rattle.sector_images.specs.declared.format.Format.{Format}
 use Rattle.sector_report.specs.declared.totals.Totals.{Totals}
 use Rattle.turn_merge.specs.Book.{Knowledge, StandsFor}
-use Rattle.turn_merge.specs.Readings.{Reading, verdict}
+use Rattle.turn_merge.specs.Readings.{NotedReading, verdict}
 use Rattle.flux_engine.specs.Answers.{DecodesTrack}
-use Rattle.flux_engine.specs.Reading.{ReadsTrack, HasGathered}
+use Rattle.flux_engine.specs.NotedReading.{ReadsTrack, HasGathered}
 use Rattle.flux_engine.specs.Recordings.{sectors_of}
 use Rattle.flux_engine.specs.Tracks.{part_of, image_of, lines_of, totals_of, numbers}
 use Rattle.flux_engine.specs.declared.sectors.Sectors.{Sectors}
@@ -24,7 +24,7 @@ module _ (format : Format) (track : TrackId) (number : ℕ) (left left' : Option
 
   pub decodes_image_fault : (u : Unit {0}) (book : Knowledge)
       → Reads (Ok u) → HasGathered format track flux.times flux.indexes book
-      → ((readings : List Reading) → StandsFor book readings → AppendsPart image image' (image_of format track readings))
+      → ((readings : List NotedReading) → StandsFor book readings → AppendsPart image image' (image_of format track readings))
       → DecodesTrack format track number left left' used held held' image image' notes notes (Err ImageFault)
   decodes_image_fault u book r h part = record {
     taken = r.taken;
@@ -44,8 +44,8 @@ module _ (format : Format) (track : TrackId) (number : ℕ) (left left' : Option
 
   pub decodes_notes_fault : (u : Unit {0}) (book : Knowledge) (sectors : Sectors) → sectors ≡ sectors_of format track
       → Reads (Ok u) → HasGathered format track flux.times flux.indexes book
-      → ((readings : List Reading) → StandsFor book readings → Appends image image' (image_of format track readings))
-      → ((readings : List Reading) → StandsFor book readings → AppendsPart notes notes' (lines_of track sectors readings))
+      → ((readings : List NotedReading) → StandsFor book readings → Appends image image' (image_of format track readings))
+      → ((readings : List NotedReading) → StandsFor book readings → AppendsPart notes notes' (lines_of track sectors readings))
       → DecodesTrack format track number left left' used held held' image image' notes notes' (Err NotesFault)
   decodes_notes_fault u book sectors same r h whole part = record {
     taken = r.taken;
@@ -65,9 +65,9 @@ module _ (format : Format) (track : TrackId) (number : ℕ) (left left' : Option
 
   pub decodes_whole : (u : Unit {0}) (book : Knowledge) (sectors : Sectors) (totals : Totals) → sectors ≡ sectors_of format track
       → Reads (Ok u) → HasGathered format track flux.times flux.indexes book
-      → ((readings : List Reading) → StandsFor book readings → Appends image image' (image_of format track readings))
-      → ((readings : List Reading) → StandsFor book readings → Appends notes notes' (lines_of track sectors readings))
-      → ((readings : List Reading) → StandsFor book readings → totals ≡ totals_of (map (verdict readings) (numbers sectors)))
+      → ((readings : List NotedReading) → StandsFor book readings → Appends image image' (image_of format track readings))
+      → ((readings : List NotedReading) → StandsFor book readings → Appends notes notes' (lines_of track sectors readings))
+      → ((readings : List NotedReading) → StandsFor book readings → totals ≡ totals_of (map (verdict readings) (numbers sectors)))
       → DecodesTrack format track number left left' used held held' image image' notes notes' (Ok totals)
   decodes_whole u book sectors totals same r h whole lines counted = record {
     taken = r.taken;

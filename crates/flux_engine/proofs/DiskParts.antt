@@ -19,7 +19,7 @@ use Rattle.disk_recordings.specs.Laws.{TracksAreRead}
 use Rattle.disk_recordings.specs.Members.{header_at, sector_at}
 use Rattle.flux_engine.specs.Recordings.{cells_of, sectors_of, track_at}
 use Rattle.flux_engine.specs.Streams.{has_fault, stream_at}
-use Rattle.flux_engine.specs.Tracks.{Part, IsPart, image_of}
+use Rattle.flux_engine.specs.Tracks.{TrackPart, IsPart, image_of}
 use Rattle.flux_engine.proofs.Finding.{find-below}
 use Rattle.flux_engine.proofs.GoodSectors.{lengths}
 use Rattle.flux_engine.proofs.Outcomes.{stop_track}
@@ -44,40 +44,40 @@ whole_piece before part rest place size at many =
     ap (take size) gone ∙ ap (λ (n : ℕ). take n (part ++ rest)) (sym many) ∙ take-append_seam part rest
 
 -- a track's part of the image has the track's bytes in number
-part_size : TracksAreRead → (format : Format) (track : TrackId) (times' indexes' : List ℕ) (part : Part) → IsPart format track times' indexes' part
+part_size : TracksAreRead → (format : Format) (track : TrackId) (times' indexes' : List ℕ) (part : TrackPart) → IsPart format track times' indexes' part
     → length part.image ≡ bytes_of format track
 unfolding image_of
 part_size read format track times' indexes' part is =
     let size : ℕ = (row format).sector_size in
     let count : ℕ = (sectors_of format track).count in
     let turned : size * count ≡ count * size = omega arith in
-    ap (λ (p : Part). length p.image) is.is
+    ap (λ (p : TrackPart). length p.image) is.is
     ∙ lengths (header_at format track) (sector_at format track) size (read.told format track) (read.all format track)
     times' indexes' (cells_of format track times' indexes') is.found is.all (sectors_of format track) refl (sector_in format track) 0 count
     ∙ turned
 
-abbrev pub no_part : Part
+abbrev pub no_part : TrackPart
 no_part = record { image = []; lines = []; totals = no_totals }
 
 abbrev pub first_track : TrackId
 first_track = record { cylinder = 0; head = 0 }
 
 -- a list of parts up to one, that one and the others
-module _ (ps : List Part) (n : ℕ) (low : n < length ps) where
+module _ (ps : List TrackPart) (n : ℕ) (low : n < length ps) where
   parts_split : ps ≡ take n ps ++ (part_at ps n ∷ drop (suc n) ps)
-  parts_split = sym (take-append-drop n ps) ∙ ap (λ (qs : List Part). take n ps ++ qs) (drop-cons ps n no_part low)
+  parts_split = sym (take-append-drop n ps) ∙ ap (λ (qs : List TrackPart). take n ps ++ qs) (drop-cons ps n no_part low)
 
   pub image_split : images ps ≡ images (take n ps) ++ ((part_at ps n).image ++ images (drop (suc n) ps))
-  image_split = ap images parts_split ∙ flat_map-append (λ (p : Part). p.image) (take n ps) (part_at ps n ∷ drop (suc n) ps)
+  image_split = ap images parts_split ∙ flat_map-append (λ (p : TrackPart). p.image) (take n ps) (part_at ps n ∷ drop (suc n) ps)
 
   pub lines_split : lines ps ≡ lines (take n ps) ++ ((part_at ps n).lines ++ lines (drop (suc n) ps))
-  lines_split = ap lines parts_split ∙ flat_map-append (λ (p : Part). p.lines) (take n ps) (part_at ps n ∷ drop (suc n) ps)
+  lines_split = ap lines parts_split ∙ flat_map-append (λ (p : TrackPart). p.lines) (take n ps) (part_at ps n ∷ drop (suc n) ps)
 
   image_more : length (images (take (suc n) ps)) ≡ length (images (take n ps)) + length (part_at ps n).image
   image_more =
       let one : images (part_at ps n ∷ []) ≡ (part_at ps n).image ++ [] = refl in
-      ap (λ (qs : List Part). length (images qs)) (take-suc ps n no_part low)
-      ∙ ap length (flat_map-append (λ (p : Part). p.image) (take n ps) (part_at ps n ∷ []))
+      ap (λ (qs : List TrackPart). length (images qs)) (take-suc ps n no_part low)
+      ∙ ap length (flat_map-append (λ (p : TrackPart). p.image) (take n ps) (part_at ps n ∷ []))
       ∙ length-append (images (take n ps)) ((part_at ps n).image ++ [])
       ∙ ap (λ (m : ℕ). length (images (take n ps)) + m) (length-append (part_at ps n).image [] ∙ omega arith)
 
@@ -92,7 +92,7 @@ tracks_more format n low =
     ∙ ap (λ (m : ℕ). sum_by (bytes_of format) (take n ts) + m) (one ∙ ap (bytes_of format) here)
 
 -- the parts of the first tracks
-module _ (read : TracksAreRead) (format : Format) (x : List ℕ) (ps : List Part) (are : AreParts format x ps) (few : length ps ≤ length (tracks format)) where
+module _ (read : TracksAreRead) (format : Format) (x : List ℕ) (ps : List TrackPart) (are : AreParts format x ps) (few : length ps ≤ length (tracks format)) where
   pub size_at : (n : ℕ) → n < length ps → length (part_at ps n).image ≡ bytes_of format (track_at format n)
   size_at n low = part_size read format (track_at format n) (times (stream_at x n)) (indexes (stream_at x n)) (part_at ps n) (are n low).comes
 
@@ -125,7 +125,7 @@ module _ (read : TracksAreRead) (format : Format) (x : List ℕ) (ps : List Part
 
   whole : TracksFillImages → length ps ≡ length (tracks format) → length (images ps) ≡ (row format).image_size
   whole filled all =
-      ap (λ (qs : List Part). length (images qs)) (sym (take-length ps)) ∙ size_before (length ps) (omega arith)
+      ap (λ (qs : List TrackPart). length (images qs)) (sym (take-length ps)) ∙ size_before (length ps) (omega arith)
       ∙ ap (λ (m : ℕ). sum_by (bytes_of format) (take m (tracks format))) all
       ∙ ap (sum_by (bytes_of format)) (take-length (tracks format)) ∙ filled format
 
@@ -134,7 +134,7 @@ parts_fit_images read filled format x ps are few =
     let n : ℕ = length ps in
     let front : List TrackId = take n (tracks format) in
     let rest : List TrackId = drop n (tracks format) in
-    let mine = ap (λ (qs : List Part). length (images qs)) (take-length ps) in
+    let mine = ap (λ (qs : List TrackPart). length (images qs)) (take-length ps) in
     let before = size_before read format x ps are few n (omega arith) in
     let all = ap (sum_by (bytes_of format)) (take-append-drop n (tracks format)) in
     let both = sum_by-append (bytes_of format) front rest in

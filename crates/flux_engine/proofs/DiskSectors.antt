@@ -10,7 +10,7 @@ use Rattle.sector_images.specs.Places.{SectorsFillTracks, TracksJoin, place_of, 
 use Rattle.sector_images.specs.declared.format.Format.{Format}
 use Rattle.sector_report.specs.LineLaws.{IsOneLine, SectorsHaveOneLine}
 use Rattle.sector_report.specs.Lines.{sector_text}
-use Rattle.turn_merge.specs.Readings.{Reading, agreed, agreed_of, bad_ones, first_other, good_ones, verdict, verdict_of, verdict_with, bytes_of as data_of}
+use Rattle.turn_merge.specs.Readings.{NotedReading, agreed, agreed_of, bad_ones, first_other, good_ones, verdict, verdict_of, verdict_with, bytes_of as data_of}
 use Rattle.turn_merge.specs.declared.verdict.Place.{Place}
 use Rattle.turn_merge.specs.declared.verdict.Verdict.{Verdict}
 use Rattle.turn_merge.specs.declared.verdict.Verdict.TheVariants.{Good}
@@ -21,7 +21,7 @@ use Rattle.disk_recordings.specs.Laws.{TracksAreRead}
 use Rattle.disk_recordings.specs.Members.{header_at, sector_at}
 use Rattle.flux_engine.specs.Recordings.{sectors_of, track_at}
 use Rattle.flux_engine.specs.Streams.{stream_at}
-use Rattle.flux_engine.specs.Tracks.{Found, IsPart, Part, image_bytes, image_of, is_good, line_of, lines_of, part_of, readings_of}
+use Rattle.flux_engine.specs.Tracks.{Found, IsPart, TrackPart, image_bytes, image_of, is_good, line_of, lines_of, part_of, readings_of}
 use Rattle.flux_engine.proofs.DiskParts.{few_parts, image_is, image_split, lines_split, piece_within, place_is, size_at, stop_is}
 use Rattle.flux_engine.proofs.GoodSectors.{in_image}
 use Rattle.flux_engine.proofs.LineNumbers.{Skips, line-first, sectors_on, skips-append, skips-lines, skips-tracks}
@@ -29,16 +29,16 @@ use Rattle.flux_engine.proofs.Outcomes.{good_is_right, one_found, one_part}
 use Rattle.flux_engine.specs.lemmas.Pieces.{pieces-at}
 
 -- a verdict that is not good leaves no data
-other_none : (good bad : ℕ) (first : Place) (mine : List ℕ) (other : Option Reading) → is_good (verdict_with good bad first other) ≡ false
+other_none : (good bad : ℕ) (first : Place) (mine : List ℕ) (other : Option NotedReading) → is_good (verdict_with good bad first other) ≡ false
     → (if is_none other then Some mine else None) ≡ None
 other_none good bad first mine None is = absurd (cc)
 other_none good bad first mine (Some r) is = refl
 
-none_of : (goods bads : List Reading) → is_good (verdict_of goods bads) ≡ false → agreed_of goods ≡ None
+none_of : (goods bads : List NotedReading) → is_good (verdict_of goods bads) ≡ false → agreed_of goods ≡ None
 none_of [] bads is = refl
 none_of (r ∷ more) bads is = other_none (length (r ∷ more)) (length bads) r.place (data_of r) (first_other (data_of r) more) is
 
-none_agreed : (readings : List Reading) (sector : ℕ) (outcome : Verdict) → verdict readings sector ≡ outcome → is_good outcome ≡ false
+none_agreed : (readings : List NotedReading) (sector : ℕ) (outcome : Verdict) → verdict readings sector ≡ outcome → is_good outcome ≡ false
     → agreed readings sector ≡ None
 unfolding verdict agreed
 none_agreed readings sector outcome is other =
@@ -66,7 +66,7 @@ module _ (read : TracksAreRead) (format : Format) (x : List ℕ) (o : Decoded) (
   abbrev indexes_there : List ℕ
   indexes_there = indexes (stream_at x n)
 
-  abbrev parts : List Part
+  abbrev parts : List TrackPart
   parts = s.outcome.parts
 
   decoded : n < length parts
@@ -75,10 +75,10 @@ module _ (read : TracksAreRead) (format : Format) (x : List ℕ) (o : Decoded) (
       omega (arith, same, s.outcome.many, s.track_decoded)
 
   module _ (outcome : Verdict) (h : HasVerdict format x n sector outcome) where
-    abbrev readings : List Reading
+    abbrev readings : List NotedReading
     readings = readings_of times_there indexes_there (cells_at format x n) h.found
 
-    abbrev my_part : Part
+    abbrev my_part : TrackPart
     my_part = part_of format track readings
 
     abbrev is_part : IsPart format track times_there indexes_there my_part
@@ -101,7 +101,7 @@ module _ (read : TracksAreRead) (format : Format) (x : List ℕ) (o : Decoded) (
         ap (λ (xs : List ℕ). take {A = ℕ} size (drop (place_of format track + at) xs)) (image_is format x o s.outcome ∙ image_split parts n decoded)
         ∙ piece_within (images (take n parts)) (part_at parts n).image (images (drop (suc n) parts)) (place_of format track) at size
         (place_is read format x parts s.outcome.each few joined n decoded) (omega (arith, many, inside))
-        ∙ ap (λ (p : Part). take {A = ℕ} size (drop at p.image)) same_part
+        ∙ ap (λ (p : TrackPart). take {A = ℕ} size (drop at p.image)) same_part
 
     -- its piece of the track's part is its data, or zeros
     piece_is : SectorsFillTracks
@@ -132,7 +132,7 @@ module _ (read : TracksAreRead) (format : Format) (x : List ℕ) (o : Decoded) (
         let earlier : List ℕ = flat_map (line_of track readings) (range_with_len first i) in
         let later : List ℕ = flat_map (line_of track readings) (range_with_len (first + i + 1) (count - i - 1)) in
         let mine : (part_at parts n).lines ≡ earlier ++ (line ++ later) =
-        ap (λ (p : Part). p.lines) same_part ∙ pieces-at (line_of track readings) first i count low
+        ap (λ (p : TrackPart). p.lines) same_part ∙ pieces-at (line_of track readings) first i count low
         ∙ ap (λ (l : List ℕ). earlier ++ (l ++ later)) named in
         let last : List ℕ = last_line (totals_over parts) (stop_of format x) in
         let rest : List ℕ = lines (drop (suc n) parts) in

@@ -23,17 +23,17 @@ use Rattle.flux_engine.specs.lemmas.PartLaws.{images-more, lines-more, totals-mo
 use Rattle.flux_engine.specs.Recordings.{track_at}
 use Rattle.flux_engine.specs.Room.{RoomState, fresh}
 use Rattle.flux_engine.specs.Streams.{behind, behind_stream, stream_at, has_fault}
-use Rattle.flux_engine.specs.Tracks.{Part, IsPart}
+use Rattle.flux_engine.specs.Tracks.{TrackPart, IsPart}
 use Rattle.flux_engine.specs.Writing.{sum_of}
 use Rattle.flux_engine.specs.declared.fault.EngineFault.{EngineFault}
 use Rattle.flux_engine.specs.declared.fault.EngineFault.TheVariants.{ReadFault, ImageFault, NotesFault, Refused}
 use Rattle.flux_engine.proofs.Finding.{find-first, find-none}
 
-no_part : Part
+no_part : TrackPart
 no_part = record { image = []; lines = []; totals = no_totals }
 
 -- one track more
-parts-more : (format : Format) (x : List ℕ) (parts : List Part) (n : ℕ) (part : Part) → length parts ≡ n → AreParts format x parts → IsPartAt format x n part
+parts-more : (format : Format) (x : List ℕ) (parts : List TrackPart) (n : ℕ) (part : TrackPart) → length parts ≡ n → AreParts format x parts → IsPartAt format x n part
     → AreParts format x (parts ++ part ∷ [])
 unfolding no_part
 parts-more format x parts n part many each here = λ (k : ℕ) low.
@@ -53,7 +53,7 @@ no-fault : (x : List ℕ) (n : ℕ) → first_fault (stream_at x n) ≡ None →
 no-fault x n is = ap (λ (o : Option (ℕ × StreamFault)). is_some o) is
 
 -- the stop is the first stream that has a fault
-pub stop_is : (format : Format) (x : List ℕ) (parts : List Part) (n block : ℕ) (fault : StreamFault) → length parts ≡ n → n < length (tracks format)
+pub stop_is : (format : Format) (x : List ℕ) (parts : List TrackPart) (n block : ℕ) (fault : StreamFault) → length parts ≡ n → n < length (tracks format)
     → AreParts format x parts → first_fault (stream_at x n) ≡ Some (block, fault)
     → stop_of format x ≡ Some (record { track = n; block = block; fault = fault })
 unfolding stop_of
@@ -66,7 +66,7 @@ stop_is format x parts n block fault many low each is =
     ap (option_and_then (stop_at x)) found
     ∙ ap (λ (o : Option (ℕ × StreamFault)). option_map (λ (f : ℕ × StreamFault). let s : Stop = record { track = n; block = f.0; fault = f.1 } in s) o) is
 
-no_stop : (format : Format) (x : List ℕ) (parts : List Part) → length parts ≡ length (tracks format) → AreParts format x parts → stop_of format x ≡ None
+no_stop : (format : Format) (x : List ℕ) (parts : List TrackPart) → length parts ≡ length (tracks format) → AreParts format x parts → stop_of format x ≡ None
 unfolding stop_of
 no_stop format x parts many each =
     ap (option_and_then (stop_at x))
@@ -111,7 +111,7 @@ module _ (format : Format) (left mid left' image imid image' notes nmid notes' :
   earlier taken later = subst (λ (x : List ℕ). AreParts format x h.parts) (sym (append_assoc h.taken taken later)) (h.each (taken ++ later))
 
   -- the track of a stream without a fault
-  here : (taken later times' indexes' stays : List ℕ) (part : Part)
+  here : (taken later times' indexes' stays : List ℕ) (part : TrackPart)
       → IsTrackStream (input_of room.used ((room.held ++ taken) ++ later)) times' indexes' stays → IsPart format (track_at format n) times' indexes' part
       → IsPartAt format ((h.taken ++ taken) ++ later) n part
   here taken later times' indexes' stays part s is =
@@ -123,7 +123,7 @@ module _ (format : Format) (left mid left' image imid image' notes nmid notes' :
             (subst (λ (is : List ℕ). IsPart format (track_at format n) times' is part) s.indexes is));
       }
 
-  more : (taken later times' indexes' stays : List ℕ) (part : Part)
+  more : (taken later times' indexes' stays : List ℕ) (part : TrackPart)
       → IsTrackStream (input_of room.used ((room.held ++ taken) ++ later)) times' indexes' stays → IsPart format (track_at format n) times' indexes' part
       → AreParts format ((h.taken ++ taken) ++ later) (h.parts ++ part ∷ [])
   more taken later times' indexes' stays part s is =

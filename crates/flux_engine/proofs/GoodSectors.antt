@@ -11,7 +11,7 @@ use Rattle.frame_law.specs.declared.reading.Reading.{Reading as Frame}
 use Rattle.frame_law.specs.declared.reading.Reading.TheVariants.{Nothing, Bad as BadFrame, Good as GoodFrame}
 use Rattle.frame_law.specs.Laws.{ReadingsAreAll, SectorsAreTold}
 use Rattle.frame_law.specs.Readings.{AreReadings}
-use Rattle.turn_merge.specs.Readings.{Reading, good_ones, bad_ones, bytes_of, first_other, verdict_with, verdict_of, agreed_of, verdict, agreed}
+use Rattle.turn_merge.specs.Readings.{NotedReading, good_ones, bad_ones, bytes_of, first_other, verdict_with, verdict_of, agreed_of, verdict, agreed}
 use Rattle.turn_merge.specs.declared.verdict.Place.{Place}
 use Rattle.turn_merge.specs.declared.verdict.Verdict.TheVariants.{Good}
 use Rattle.flux_engine.specs.Tracks.{Found, place_at, readings_at, readings_of, image_bytes}
@@ -19,31 +19,31 @@ use Rattle.flux_engine.specs.declared.sectors.Sectors.{Sectors}
 use Rattle.flux_engine.proofs.Each.{Each, each-at, each-map, each-flat, each-of, each-unflat, each-filter, each-unfilter, each-missed}
 use Rattle.flux_engine.specs.lemmas.Pieces.{pieces-at}
 
-abbrev is_good_of : ℕ → Reading → Bool
+abbrev is_good_of : ℕ → NotedReading → Bool
 is_good_of sector r = nat_eq r.sector sector && is_some r.bytes
 
 -- the first of the good readings, where the verdict is good
-pub record Head (goods : List Reading) (first : Place) : Type 0 where
-  pub head : Reading
-  pub more : List Reading
+pub record Head (goods : List NotedReading) (first : Place) : Type 0 where
+  pub head : NotedReading
+  pub more : List NotedReading
   pub all : goods ≡ head ∷ more
   pub same : first_other (bytes_of head) more ≡ None
   pub place : head.place ≡ first
 
-by_other : (g b : ℕ) (p : Place) (o : Option Reading) (good bad : ℕ) (first : Place) → verdict_with g b p o ≡ Good good bad first → (o ≡ None) × (p ≡ first)
+by_other : (g b : ℕ) (p : Place) (o : Option NotedReading) (good bad : ℕ) (first : Place) → verdict_with g b p o ≡ Good good bad first → (o ≡ None) × (p ≡ first)
 by_other g b p None good bad first is = (refl, cc)
 by_other g b p (Some other) good bad first is = absurd (cc)
 
-good_head : (goods bads : List Reading) (good bad : ℕ) (first : Place) → verdict_of goods bads ≡ Good good bad first → Head goods first
+good_head : (goods bads : List NotedReading) (good bad : ℕ) (first : Place) → verdict_of goods bads ≡ Good good bad first → Head goods first
 good_head [] [] good bad first is = absurd (cc)
 good_head [] (b ∷ bs) good bad first is = absurd (cc)
 good_head (r ∷ more) bads good bad first is =
     let by = by_other (length (r ∷ more)) (length bads) r.place (first_other (bytes_of r) more) good bad first is in
     record { head = r; more = more; all = refl; same = by.0; place = by.1 }
 
-agreed_head : (goods : List Reading) (first : Place) (h : Head goods first) → agreed_of goods ≡ Some (bytes_of h.head)
+agreed_head : (goods : List NotedReading) (first : Place) (h : Head goods first) → agreed_of goods ≡ Some (bytes_of h.head)
 agreed_head goods first h =
-    ap agreed_of h.all ∙ ap (λ (o : Option Reading). if is_none o then Some (bytes_of h.head) else None) h.same
+    ap agreed_of h.all ∙ ap (λ (o : Option NotedReading). if is_none o then Some (bytes_of h.head) else None) h.same
 
 not_false : (b : Bool) → not b ≡ false → b ≡ true
 not_false true is = refl
@@ -57,13 +57,13 @@ some_bytes : (o : Option (List ℕ)) → is_some o ≡ true → o ≡ Some (unwr
 some_bytes None is = absurd (cc)
 some_bytes (Some xs) is = refl
 
-same_bytes : (goods : List Reading) (first : Place) (h : Head goods first) → Each (λ (q : Reading). bytes_of q ≡ bytes_of h.head) goods
+same_bytes : (goods : List NotedReading) (first : Place) (h : Head goods first) → Each (λ (q : NotedReading). bytes_of q ≡ bytes_of h.head) goods
 same_bytes goods first h =
     let mine = bytes_of h.head in
-    let others = each-map (λ (q : Reading). not (bytes_eq (bytes_of q) mine) ≡ false) (λ (q : Reading). bytes_of q ≡ mine)
+    let others = each-map (λ (q : NotedReading). not (bytes_eq (bytes_of q) mine) ≡ false) (λ (q : NotedReading). bytes_of q ≡ mine)
     (λ q missed. (bytes_eq-Decides (bytes_of q) mine).0 (not_false (bytes_eq (bytes_of q) mine) missed)) h.more
-    (each-missed (λ (q : Reading). not (bytes_eq (bytes_of q) mine)) h.more h.same) in
-    subst (Each (λ (q : Reading). bytes_of q ≡ mine)) (sym h.all) (refl, others)
+    (each-missed (λ (q : NotedReading). not (bytes_eq (bytes_of q) mine)) h.more h.same) in
+    subst (Each (λ (q : NotedReading). bytes_of q ≡ mine)) (sym h.all) (refl, others)
 
 -- a good reading is one of a sector that stands
 abbrev StandsAs : (List Bool → ℕ → List ℕ → Type 0) → List Bool → Frame → List ℕ → Type 0
@@ -79,11 +79,11 @@ module _ (header : List Bool → ℕ → Type 0) (sector_stands : List Bool → 
   stands_as place (BadFrame s) bytes has = tt
   stands_as place (GoodFrame s) bytes has = (((read cells 0 found).0 all).good place s bytes (omega arith)).0 has
 
-  abbrev of_found : Found → List Reading
+  abbrev of_found : Found → List NotedReading
   of_found f = readings_at (place_at times indexes cells f.0) f.1 f.2
 
   -- what a good reading says
-  abbrev Named : Reading → Type 0
+  abbrev Named : NotedReading → Type 0
   Named r = (xs : List ℕ) → r.bytes ≡ Some xs → sector_stands (drop r.place.cell cells) r.sector xs × (r.place ≡ place_at times indexes cells r.place.cell)
 
   named : (place : ℕ) (frame : Frame) (bytes : List ℕ) → StandsAs sector_stands (drop place cells) frame bytes
@@ -98,11 +98,11 @@ module _ (header : List Bool → ℕ → Type 0) (sector_stands : List Bool → 
       each-flat of_found (λ (f : Found). StandsAs sector_stands (drop f.0 cells) f.1 f.2) Named (λ f here. named f.0 f.1 f.2 here) found
       (each-of (λ (f : Found). StandsAs sector_stands (drop f.0 cells) f.1 f.2) found (λ f has. stands_as f.0 f.1 f.2 has))
 
-  goods_named : (sector : ℕ) → Each (λ (r : Reading). Named r × (is_good_of sector r ≡ true)) (good_ones (readings_of times indexes cells found) sector)
+  goods_named : (sector : ℕ) → Each (λ (r : NotedReading). Named r × (is_good_of sector r ≡ true)) (good_ones (readings_of times indexes cells found) sector)
   goods_named sector = each-filter (is_good_of sector) Named (readings_of times indexes cells found) each_named
 
   -- a good reading of the sector is one of cells that hold it
-  good_holds : (sector : ℕ) (r : Reading) → Named r → is_good_of sector r ≡ true
+  good_holds : (sector : ℕ) (r : NotedReading) → Named r → is_good_of sector r ≡ true
       → sector_stands (drop r.place.cell cells) sector (bytes_of r) × (r.place ≡ place_at times indexes cells r.place.cell)
   good_holds sector r says test =
       let both = and_both (nat_eq r.sector sector) (is_some r.bytes) test in
@@ -112,27 +112,27 @@ module _ (header : List Bool → ℕ → Type 0) (sector_stands : List Bool → 
   module _ (sector : ℕ) (first : Place) (h : Head (good_ones (readings_of times indexes cells found) sector) first) where
     pub head_holds : sector_stands (drop first.cell cells) sector (bytes_of h.head) × (first ≡ place_at times indexes cells first.cell)
     head_holds =
-        let each = subst (Each (λ (r : Reading). Named r × (is_good_of sector r ≡ true))) h.all (goods_named sector) in
+        let each = subst (Each (λ (r : NotedReading). Named r × (is_good_of sector r ≡ true))) h.all (goods_named sector) in
         let here = good_holds sector h.head each.0.0 each.0.1 in
         subst (λ (p : Place). sector_stands (drop p.cell cells) sector (bytes_of h.head) × (p ≡ place_at times indexes cells p.cell)) h.place here
 
     pub all_agree : (place : ℕ) (others : List ℕ) → sector_stands (drop place cells) sector others → others ≡ bytes_of h.head
     all_agree place others here =
         let mine = bytes_of h.head in
-        let each = each-unfilter (is_good_of sector) (λ (q : Reading). bytes_of q ≡ mine) (readings_of times indexes cells found)
+        let each = each-unfilter (is_good_of sector) (λ (q : NotedReading). bytes_of q ≡ mine) (readings_of times indexes cells found)
         (same_bytes (good_ones (readings_of times indexes cells found) sector) first h) in
-        let per_found = each-unflat of_found (λ (q : Reading). is_good_of sector q ≡ true → bytes_of q ≡ mine) found each in
-        let at = each-at (λ (f : Found). Each (λ (q : Reading). is_good_of sector q ≡ true → bytes_of q ≡ mine) (of_found f)) found
+        let per_found = each-unflat of_found (λ (q : NotedReading). is_good_of sector q ≡ true → bytes_of q ≡ mine) found each in
+        let at = each-at (λ (f : Found). Each (λ (q : NotedReading). is_good_of sector q ≡ true → bytes_of q ≡ mine) (of_found f)) found
         (place, GoodFrame sector, others) per_found ((((read cells 0 found).0 all).good place sector others (omega arith)).1 here) in
         at.0 (ap (λ (b : Bool). b && true) (eq-eqb sector sector refl))
 
   module _ (sectors : Sectors) (sizes : sectors.size ≡ size) where
-    by_agreed : (r : Reading) (b : Bool) → length (bytes_of r) ≡ size
+    by_agreed : (r : NotedReading) (b : Bool) → length (bytes_of r) ≡ size
         → length (unwrap_or (if b then Some (bytes_of r) else None) (replicate sectors.size 0)) ≡ size
     by_agreed r true same = same
     by_agreed r false same = length-replicate sectors.size 0 ∙ sizes
 
-    agreed_size : (goods : List Reading) → Each (λ (r : Reading). length (bytes_of r) ≡ size) goods
+    agreed_size : (goods : List NotedReading) → Each (λ (r : NotedReading). length (bytes_of r) ≡ size) goods
         → length (unwrap_or (agreed_of goods) (replicate sectors.size 0)) ≡ size
     agreed_size [] each = length-replicate sectors.size 0 ∙ sizes
     agreed_size (r ∷ more) each = by_agreed r (is_none (first_other (bytes_of r) more)) each.0
@@ -141,7 +141,7 @@ module _ (header : List Bool → ℕ → Type 0) (sector_stands : List Bool → 
     unfolding agreed
     bytes_size n =
         agreed_size (good_ones (readings_of times indexes cells found) n)
-        (each-map (λ (r : Reading). Named r × (is_good_of n r ≡ true)) (λ (r : Reading). length (bytes_of r) ≡ size)
+        (each-map (λ (r : NotedReading). Named r × (is_good_of n r ≡ true)) (λ (r : NotedReading). length (bytes_of r) ≡ size)
         (λ r says. told.content_size (drop r.place.cell cells) n (bytes_of r) (good_holds n r says.0 says.1).0) (good_ones (readings_of times indexes cells found) n) (goods_named n))
 
     -- a sector stands at each number from 0 on
@@ -178,6 +178,6 @@ module _ (header : List Bool → ℕ → Type 0) (sector_stands : List Bool → 
           ∙ ap (image_bytes sectors (readings_of times indexes cells found)) at
           ∙ ap (λ (o : Option (List ℕ)). unwrap_or o (replicate sectors.size 0)) (agreed_head (good_ones (readings_of times indexes cells found) sector) first h)
 
-pub head_of : (readings : List Reading) (sector good bad : ℕ) (first : Place) → verdict readings sector ≡ Good good bad first → Head (good_ones readings sector) first
+pub head_of : (readings : List NotedReading) (sector good bad : ℕ) (first : Place) → verdict readings sector ≡ Good good bad first → Head (good_ones readings sector) first
 unfolding verdict
 head_of readings sector good bad first is = good_head (good_ones readings sector) (bad_ones readings sector) good bad first is

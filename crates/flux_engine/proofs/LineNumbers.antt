@@ -14,12 +14,12 @@ use Rattle.sector_images.specs.Formats.{zone}
 use Rattle.sector_images.specs.Places.{tracks}
 use Rattle.sector_images.specs.declared.format.Format.{Format}
 use Rattle.sector_report.specs.LineLaws.{IsOneLine, SectorsHaveOneLine, line_ends}
-use Rattle.turn_merge.specs.Readings.{Reading, verdict}
+use Rattle.turn_merge.specs.Readings.{NotedReading, verdict}
 use Rattle.flux_engine.specs.DiskLaws.{lines_in}
 use Rattle.flux_engine.specs.Disks.{AreParts, lines, part_at}
 use Rattle.flux_engine.specs.Recordings.{cells_of, sectors_of, track_at}
 use Rattle.flux_engine.specs.Streams.{stream_at}
-use Rattle.flux_engine.specs.Tracks.{IsPart, Part, line_of, lines_of, readings_of}
+use Rattle.flux_engine.specs.Tracks.{IsPart, TrackPart, line_of, lines_of, readings_of}
 use Rattle.flux_engine.proofs.DiskParts.{no_part}
 
 -- so many lines stand in front of whatever follows the text, which has as many line ends
@@ -102,16 +102,16 @@ sectors-more format n low =
 
 module _ (one : SectorsHaveOneLine) where
   -- a track has a line for each of its sectors
-  skips-track : (format : Format) (track : TrackId) (times' indexes' : List ℕ) (part : Part) → IsPart format track times' indexes' part
+  skips-track : (format : Format) (track : TrackId) (times' indexes' : List ℕ) (part : TrackPart) → IsPart format track times' indexes' part
       → Skips part.lines (sectors_on format track)
   unfolding lines_of
   skips-track format track times' indexes' part is =
-      let readings : List Reading = readings_of times' indexes' (cells_of format track times' indexes') is.found in
-      subst (λ (p : Part). Skips p.lines (sectors_on format track)) (sym is.is)
+      let readings : List NotedReading = readings_of times' indexes' (cells_of format track times' indexes') is.found in
+      subst (λ (p : TrackPart). Skips p.lines (sectors_on format track)) (sym is.is)
       (skips-lines (line_of track readings) (λ k. one track k (verdict readings k)) (sectors_of format track).first (sectors_of format track).count)
 
   -- the first tracks have a line for each of their sectors
-  pub skips-tracks : (format : Format) (x : List ℕ) (ps : List Part) → AreParts format x ps → length ps ≤ length (tracks format)
+  pub skips-tracks : (format : Format) (x : List ℕ) (ps : List TrackPart) → AreParts format x ps → length ps ≤ length (tracks format)
       → (n : ℕ) → n ≤ length ps → Skips (lines (take n ps)) (sum_by (sectors_on format) (take n (tracks format)))
   skips-tracks format x ps are few zero low = skips-nil
   skips-tracks format x ps are few (suc n) low =
@@ -121,7 +121,7 @@ module _ (one : SectorsHaveOneLine) where
       sym (sectors-more format n (omega (arith, within, few))) in
       let text : lines (take n ps) ++ (part_at ps n).lines ≡ lines (take (suc n) ps) =
       sym (ap lines (take-suc ps n no_part within)
-      ∙ flat_map-append (λ (p : Part). p.lines) (take n ps) (part_at ps n ∷ [])
+      ∙ flat_map-append (λ (p : TrackPart). p.lines) (take n ps) (part_at ps n ∷ [])
       ∙ ap (λ (l : List ℕ). lines (take n ps) ++ l) (append-nil (part_at ps n).lines)) in
       subst (λ (l : List ℕ). Skips l (sum_by (sectors_on format) (take (suc n) ts))) text
       (subst (Skips (lines (take n ps) ++ (part_at ps n).lines)) count

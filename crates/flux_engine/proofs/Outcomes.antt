@@ -18,14 +18,14 @@ use Rattle.disk_recordings.specs.Laws.{TracksAreRead}
 use Rattle.disk_recordings.specs.Members.{header_at, sector_at}
 use Rattle.flux_engine.specs.Recordings.{track_at, sectors_of, cells_of}
 use Rattle.flux_engine.specs.Streams.{stream_at, has_fault}
-use Rattle.flux_engine.specs.Tracks.{Found, Part, IsPart, image_of, part_of, readings_of}
+use Rattle.flux_engine.specs.Tracks.{Found, TrackPart, IsPart, image_of, part_of, readings_of}
 use Rattle.flux_engine.proofs.GoodSectors.{head_of, head_holds, all_agree, good_image}
 
 abbrev pub stop_track : Option Stop → ℕ
 stop_track None = 0
 stop_track (Some s) = s.track
 
-no_part : Part
+no_part : TrackPart
 no_part = record { image = []; lines = []; totals = no_totals }
 
 by_fault : (x : List ℕ) (n : ℕ) (s : Stop) (fault : Option (ℕ × StreamFault)) → first_fault (stream_at x n) ≡ fault
@@ -44,7 +44,7 @@ stop_faults x s (Some n) stop = by_fault x n s (first_fault (stream_at x n)) ref
 not_none : (o : Option (ℕ × StreamFault)) (f : ℕ × StreamFault) → o ≡ Some f → o ≡ None → ⊥
 not_none o f some none = cc
 
-stop_late : (format : Format) (x : List ℕ) (parts : List Part) → AreParts format x parts → length parts ≤ length (tracks format)
+stop_late : (format : Format) (x : List ℕ) (parts : List TrackPart) → AreParts format x parts → length parts ≤ length (tracks format)
     → (stop : Option Stop) → stop_of format x ≡ stop → length parts ≤ decoded_count format stop
 unfolding stop_of
 stop_late format x parts are within None is = within
@@ -58,17 +58,17 @@ stop_late format x parts are within (Some s) is =
 
 module _ (read : TracksAreRead) where
   -- one list of readings
-  pub one_found : (format : Format) (track : TrackId) (times' indexes' : List ℕ) (a b : Part) (p : IsPart format track times' indexes' a) (q : IsPart format track times' indexes' b)
+  pub one_found : (format : Format) (track : TrackId) (times' indexes' : List ℕ) (a b : TrackPart) (p : IsPart format track times' indexes' a) (q : IsPart format track times' indexes' b)
       → p.found ≡ q.found
   one_found format track times' indexes' a b p q =
       read.one format track (cells_of format track times' indexes') 0 p.found q.found p.all q.all
 
-  pub one_part : (format : Format) (track : TrackId) (times' indexes' : List ℕ) (a b : Part) → IsPart format track times' indexes' a → IsPart format track times' indexes' b → a ≡ b
+  pub one_part : (format : Format) (track : TrackId) (times' indexes' : List ℕ) (a b : TrackPart) → IsPart format track times' indexes' a → IsPart format track times' indexes' b → a ≡ b
   one_part format track times' indexes' a b p q =
       p.is ∙ ap (λ (found : List Found). part_of format track (readings_of times' indexes' (cells_of format track times' indexes') found))
       (one_found format track times' indexes' a b p q) ∙ sym q.is
 
-  one_parts : (format : Format) (x : List ℕ) (ps qs : List Part) → AreParts format x ps → AreParts format x qs → length ps ≡ length qs → ps ≡ qs
+  one_parts : (format : Format) (x : List ℕ) (ps qs : List TrackPart) → AreParts format x ps → AreParts format x qs → length ps ≡ length qs → ps ≡ qs
   unfolding no_part
   one_parts format x ps qs are others same =
       ext_get_or no_part ps qs same
@@ -77,10 +77,10 @@ module _ (read : TracksAreRead) where
 
   pub one_outcome : OneOutcome
   one_outcome format x a b p q =
-      p.is ∙ ap (λ (parts : List Part). decoded_of parts (stop_of format x)) (one_parts format x p.parts q.parts p.each q.each (p.many ∙ sym q.many)) ∙ sym q.is
+      p.is ∙ ap (λ (parts : List TrackPart). decoded_of parts (stop_of format x)) (one_parts format x p.parts q.parts p.each q.each (p.many ∙ sym q.many)) ∙ sym q.is
 
   -- the first parts of an outcome
-  first_parts : (format : Format) (x : List ℕ) (ps qs : List Part) → AreParts format x ps → AreParts format x qs → length ps ≤ length qs → take (length ps) qs ≡ ps
+  first_parts : (format : Format) (x : List ℕ) (ps qs : List TrackPart) → AreParts format x ps → AreParts format x qs → length ps ≤ length qs → take (length ps) qs ≡ ps
   unfolding no_part
   first_parts format x ps qs are others fewer =
       let size : length (take (length ps) qs) ≡ length ps = length-take-le (length ps) qs fewer in
@@ -96,15 +96,15 @@ module _ (read : TracksAreRead) where
       let n : ℕ = length parts in
       let late : n ≤ decoded_count format (stop_of format x) = stop_late format x parts are within (stop_of format x) refl in
       let fewer : n ≤ length d.parts = omega (arith, late, d.many) in
-      let rest : List Part = drop n d.parts in
+      let rest : List TrackPart = drop n d.parts in
       let split : d.parts ≡ parts ++ rest =
-      sym (take-append-drop n d.parts) ∙ ap (λ (ps : List Part). ps ++ rest) (first_parts format x parts d.parts are d.each fewer) in
+      sym (take-append-drop n d.parts) ∙ ap (λ (ps : List TrackPart). ps ++ rest) (first_parts format x parts d.parts are d.each fewer) in
       let image : o.image ≡ images parts ++ images rest =
-      ap (λ (a : Decoded). a.image) d.is ∙ ap images split ∙ flat_map-append (λ (p : Part). p.image) parts rest in
+      ap (λ (a : Decoded). a.image) d.is ∙ ap images split ∙ flat_map-append (λ (p : TrackPart). p.image) parts rest in
       let last : List ℕ = last_line (totals_over d.parts) (stop_of format x) in
       let notes : o.notes ≡ lines parts ++ (lines rest ++ last) =
       ap (λ (a : Decoded). a.notes) d.is
-      ∙ ap (λ (xs : List ℕ). xs ++ last) (ap lines split ∙ flat_map-append (λ (p : Part). p.lines) parts rest)
+      ∙ ap (λ (xs : List ℕ). xs ++ last) (ap lines split ∙ flat_map-append (λ (p : TrackPart). p.lines) parts rest)
       ∙ append_assoc (lines parts) (lines rest) last in
       ((images rest, image), (lines rest ++ last, notes))
 
@@ -124,7 +124,7 @@ module _ (read : TracksAreRead) where
         turn = holds.1;
         in_image =
             ap (λ (n : ℕ). take {A = ℕ} size (drop n part.image)) place
-            ∙ ap (λ (p : Part). take {A = ℕ} size (drop (size * slot format sector) p.image)) is.is
+            ∙ ap (λ (p : TrackPart). take {A = ℕ} size (drop (size * slot format sector) p.image)) is.is
             ∙ good_image (header_at format track) (sector_at format track) size (read.told format track) (read.all format track)
             times' indexes' cells is.found is.all (sectors_of format track) refl (sector_in format track) sector (slot format sector) first h fill.1 fill.0;
         agreed = all_agree (header_at format track) (sector_at format track) size (read.told format track) (read.all format track)

@@ -19,7 +19,7 @@ use Rattle.flux_engine.specs.DiskLaws.{HasLine, HasVerdict, IsDecodedSector, IsT
 use Rattle.flux_engine.specs.Disks.{Decoded, IsDecoded, Stop, decoded_count, last_line, lines, totals_over}
 use Rattle.flux_engine.specs.Recordings.{track_at}
 use Rattle.flux_engine.specs.Streams.{stream_at}
-use Rattle.flux_engine.specs.Tracks.{Part}
+use Rattle.flux_engine.specs.Tracks.{TrackPart}
 use Rattle.flux_engine.proofs.DiskParts.{few_parts, first_track, stop_is}
 use Rattle.flux_engine.proofs.DiskSectors.{each_has_one_verdict, lines_name_verdicts}
 use Rattle.flux_engine.proofs.LineNumbers.{Skips, ends-append, ends-line, line-first, sectors-more, skips-tracks}
@@ -105,7 +105,7 @@ module _ (one : SectorsHaveOneLine) (total_one : TotalsHaveOneLine) (format : Fo
   skips_all =
       let skips = skips-tracks one format x is.parts is.each (few_parts format x o is) (length is.parts) (omega arith) in
       subst (λ n. Skips (lines is.parts) (sectors_before format n)) count_is
-      (subst (λ (ps : List Part). Skips (lines ps) (sectors_before format (length is.parts))) (take-length is.parts) skips)
+      (subst (λ (ps : List TrackPart). Skips (lines ps) (sectors_before format (length is.parts))) (take-length is.parts) skips)
 
   last-ends : (stop : Option Stop) → line_ends (last_line totals stop) ≡ total_lines stop
   last-ends None = ends-line (total_text totals) (total_one totals)

@@ -6,13 +6,13 @@ use Rattle.std.proofs.lemmas.Bool.{cases_lt, lt-ltb}
 use Rattle.std.proofs.lemmas.List.{length-map}
 use Rattle.index_turns.specs.Track.{TrackState}
 use Rattle.kryo_stream.specs.Outcome.{IsRead, input_of, most_padding}
-use Rattle.kryo_stream.specs.Pieces.{Reading}
+use Rattle.kryo_stream.specs.Pieces.{BlockOrFault}
 use Rattle.kryo_stream.specs.Stream.{first_fault, fault_at, last_block, pieces, piece_behind, turn_fault, mark_faults, marks, index_time, indexes, stream}
-use Rattle.kryo_stream.specs.declared.block.Piece.{Piece}
+use Rattle.kryo_stream.specs.declared.block.SpelledBlock.{SpelledBlock}
 use Rattle.kryo_stream.specs.declared.fault.StreamFault.{StreamFault}
 use Rattle.kryo_stream.specs.declared.fault.StreamFault.TheVariants.{NoTurn}
 use Rattle.kryo_stream.specs.declared.fault.TrackFault.TheVariants.{ReadFault as Unread, Refused as NotAStream}
-use Rattle.flux_engine.specs.Reading.{ReadsTrack, IsBounded}
+use Rattle.flux_engine.specs.BlockOrFault.{ReadsTrack, IsBounded}
 use Rattle.flux_engine.specs.declared.fault.EngineFault.TheVariants.{ReadFault, Refused}
 
 few_bytes : (used : Bool) (n : ℕ) → n ≤ most_padding used + 4198400 → n ≤ 4198416
@@ -23,7 +23,7 @@ or_some : (o : Option (ℕ × StreamFault)) (y : ℕ × StreamFault) → option_
 or_some None y none = cc
 or_some (Some z) y none = cc
 
-turns_of : (ps : List Piece) → turn_fault ps ≡ None → 2 ≤ length (marks ps)
+turns_of : (ps : List SpelledBlock) → turn_fault ps ≡ None → 2 ≤ length (marks ps)
 turns_of ps none =
     elim (cases_lt (length (marks ps)) 2) [
       | inr least ↦ least
@@ -34,7 +34,7 @@ turns_of ps none =
           absurd (or_some (slice_get (mark_faults ps) 0) (length ps - 1, NoTurn) (sym with_test ∙ none))
     ]
 
-turns_at : (x : List ℕ) (n : ℕ) (r : Reading) → fault_at x n r ≡ None → 2 ≤ length (marks (pieces x (n + 1)))
+turns_at : (x : List ℕ) (n : ℕ) (r : BlockOrFault) → fault_at x n r ≡ None → 2 ≤ length (marks (pieces x (n + 1)))
 turns_at x n (Ok p) none = turns_of (pieces x (n + 1)) none
 turns_at x n (Err fault) none = absurd (cc)
 

@@ -12,7 +12,7 @@ use Rattle.index_turns.specs.Track.{turn_at}
 use Rattle.phase_loop.specs.Sizes.{CellsAreFew}
 use Rattle.sector_images.specs.declared.format.Format.{Format}
 use Rattle.sector_report.specs.LineLaws.{PlaceFits, VerdictFits}
-use Rattle.turn_merge.specs.Readings.{Reading, bad_ones, bytes_of, first_other, good_ones, verdict, verdict_of, verdict_with}
+use Rattle.turn_merge.specs.Readings.{NotedReading, bad_ones, bytes_of, first_other, good_ones, verdict, verdict_of, verdict_with}
 use Rattle.turn_merge.specs.declared.verdict.Place.{Place}
 use Rattle.disk_recordings.specs.Laws.{TracksAreRead}
 use Rattle.disk_recordings.specs.Members.{header_at, sector_at}
@@ -61,25 +61,25 @@ readings_few times indexes cells (f ∷ rest) =
     one_few place (BadFrame s) bytes = omega arith
     one_few place (GoodFrame s) bytes = omega arith
 
-at_place : (place : Place) (frame : Frame) (bytes : List ℕ) → PlaceFits place → Each (λ (r : Reading). PlaceFits r.place) (readings_at place frame bytes)
+at_place : (place : Place) (frame : Frame) (bytes : List ℕ) → PlaceFits place → Each (λ (r : NotedReading). PlaceFits r.place) (readings_at place frame bytes)
 at_place place Nothing bytes fits = tt
 at_place place (BadFrame s) bytes fits = (fits, tt)
 at_place place (GoodFrame s) bytes fits = (fits, tt)
 
 places_fit : (times indexes : List ℕ) (cells : List Bool) (found : List Found) → length cells < 2 ^ 64 → length indexes < 2 ^ 64
-    → Each (λ (f : Found). f.0 < length cells) found → Each (λ (r : Reading). PlaceFits r.place) (readings_of times indexes cells found)
+    → Each (λ (f : Found). f.0 < length cells) found → Each (λ (r : NotedReading). PlaceFits r.place) (readings_of times indexes cells found)
 places_fit times indexes cells found few few' inside =
-    each-flat (λ (f : Found). readings_at (place_at times indexes cells f.0) f.1 f.2) (λ (f : Found). f.0 < length cells) (λ (r : Reading). PlaceFits r.place)
+    each-flat (λ (f : Found). readings_at (place_at times indexes cells f.0) f.1 f.2) (λ (f : Found). f.0 < length cells) (λ (r : NotedReading). PlaceFits r.place)
     (λ f low.
     let turns : turn_at indexes (time_of_place times cells f.0) ≤ length indexes = count_few (λ (index : ℕ). nat_le index (time_of_place times cells f.0)) indexes in
     at_place (place_at times indexes cells f.0) f.1 f.2 (omega (arith, turns, few'), omega (arith, low, few)))
     found inside
 
-filter_fits : (p : Reading → Bool) (readings : List Reading) → Each (λ (r : Reading). PlaceFits r.place) readings
-    → Each (λ (r : Reading). PlaceFits r.place) (filter p readings)
+filter_fits : (p : NotedReading → Bool) (readings : List NotedReading) → Each (λ (r : NotedReading). PlaceFits r.place) readings
+    → Each (λ (r : NotedReading). PlaceFits r.place) (filter p readings)
 filter_fits p readings fits =
-    each-map (λ (r : Reading). PlaceFits r.place × (p r ≡ true)) (λ (r : Reading). PlaceFits r.place) (λ r both. both.0)
-    (filter p readings) (each-filter p (λ (r : Reading). PlaceFits r.place) readings fits)
+    each-map (λ (r : NotedReading). PlaceFits r.place × (p r ≡ true)) (λ (r : NotedReading). PlaceFits r.place) (λ r both. both.0)
+    (filter p readings) (each-filter p (λ (r : NotedReading). PlaceFits r.place) readings fits)
 
 some_same : {X : Type 0} {x y : X} → Some x ≡ Some y → x ≡ y
 some_same e = cc
@@ -93,25 +93,25 @@ find_each p P [] y each is = absurd (cc)
 find_each p P (x ∷ xs) y each is = found_here P x y (find p xs) (p x) each.0 (λ later. find_each p P xs y each.1 later) is
 
 module _ (few : ℕ) (small : few < 2 ^ 64) where
-  with_fits : (good bad : ℕ) (first : Place) (other : Option Reading) → good ≤ few → bad ≤ few → PlaceFits first
-      → ((r : Reading) → other ≡ Some r → PlaceFits r.place) → VerdictFits (verdict_with good bad first other)
+  with_fits : (good bad : ℕ) (first : Place) (other : Option NotedReading) → good ≤ few → bad ≤ few → PlaceFits first
+      → ((r : NotedReading) → other ≡ Some r → PlaceFits r.place) → VerdictFits (verdict_with good bad first other)
   with_fits good bad first None low low' fits others = (omega (arith, low, small), omega (arith, low', small), fits)
   with_fits good bad first (Some r) low low' fits others = (omega (arith, low, small), omega (arith, low', small), fits, others r refl)
 
-  of_fits : (goods bads : List Reading) → length goods ≤ few → length bads ≤ few → Each (λ (r : Reading). PlaceFits r.place) goods
-      → Each (λ (r : Reading). PlaceFits r.place) bads → VerdictFits (verdict_of goods bads)
+  of_fits : (goods bads : List NotedReading) → length goods ≤ few → length bads ≤ few → Each (λ (r : NotedReading). PlaceFits r.place) goods
+      → Each (λ (r : NotedReading). PlaceFits r.place) bads → VerdictFits (verdict_of goods bads)
   of_fits [] [] low low' fits fits' = tt
   of_fits [] (b ∷ bads) low low' fits fits' = (omega (arith, low', small), fits'.0)
   of_fits (g ∷ goods) bads low low' fits fits' =
       with_fits (length (g ∷ goods)) (length bads) g.place (first_other (bytes_of g) goods) low low' fits.0
-      (λ r is. find_each (λ (q : Reading). not (bytes_eq (bytes_of q) (bytes_of g))) (λ (q : Reading). PlaceFits q.place) goods r fits.1 is)
+      (λ r is. find_each (λ (q : NotedReading). not (bytes_eq (bytes_of q) (bytes_of g))) (λ (q : NotedReading). PlaceFits q.place) goods r fits.1 is)
 
-  readings_fit : (readings : List Reading) (sector : ℕ) → length readings ≤ few → Each (λ (r : Reading). PlaceFits r.place) readings
+  readings_fit : (readings : List NotedReading) (sector : ℕ) → length readings ≤ few → Each (λ (r : NotedReading). PlaceFits r.place) readings
       → VerdictFits (verdict readings sector)
   unfolding verdict
   readings_fit readings sector low fits =
-      let is_good : Reading → Bool = λ r. nat_eq r.sector sector && is_some r.bytes in
-      let is_bad : Reading → Bool = λ r. nat_eq r.sector sector && is_none r.bytes in
+      let is_good : NotedReading → Bool = λ r. nat_eq r.sector sector && is_some r.bytes in
+      let is_bad : NotedReading → Bool = λ r. nat_eq r.sector sector && is_none r.bytes in
       let goods : length (good_ones readings sector) ≤ length readings = filter_few is_good readings in
       let bads : length (bad_ones readings sector) ≤ length readings = filter_few is_bad readings in
       of_fits (good_ones readings sector) (bad_ones readings sector) (omega (arith, low, goods)) (omega (arith, low, bads))

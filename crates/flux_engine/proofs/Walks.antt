@@ -6,7 +6,7 @@ use Rattle.cell_bits.specs.Ones.{ones}
 use Rattle.frame_law.specs.declared.reading.Reading.{Reading as Frame}
 use Rattle.frame_law.specs.Readings.{AreReadings, FirstReading}
 use Rattle.turn_merge.specs.Book.{Knowledge, StandsFor, SameShape}
-use Rattle.turn_merge.specs.Readings.{Reading}
+use Rattle.turn_merge.specs.Readings.{NotedReading}
 use Rattle.turn_merge.specs.declared.verdict.Place.{Place}
 use Rattle.index_turns.specs.Track.{turn_at}
 use Rattle.flux_engine.specs.Gathering.{Gathers, IsWalk}
@@ -29,7 +29,7 @@ module _ (header : List Bool → ℕ → Type 0) (sector : List Bool → ℕ →
       → FirstReading header sector cells from (Some (cell, frame)) bytes → cell < length cells
       → ones (take from cells) + met ≡ ones (take (cell + 1) cells)
       → place ≡ record { turn = turn_at indexes (slice_index times (passed + met - 1)); cell = cell } → piece ≡ bytes
-      → ((readings : List Reading) → StandsFor mid readings → StandsFor new (readings ++ readings_at place frame piece))
+      → ((readings : List NotedReading) → StandsFor mid readings → StandsFor new (readings ++ readings_at place frame piece))
       → new.notes ≤ mid.notes + 1 → SameShape mid new
       → IsWalk header sector times indexes cells (cell + 1) (passed + met) old new
   walk_step from passed cell met frame bytes piece place old mid new w first within counted at same appends count shape =
@@ -37,18 +37,18 @@ module _ (header : List Bool → ℕ → Type 0) (sector : List Bool → ℕ →
       let place_is : place ≡ place_at times indexes cells cell =
       at ∙ ap (λ (n : ℕ). let p : Place = record { turn = turn_at indexes (slice_index times (n - 1)); cell = cell } in p) ones_are in
       let Appended : Place → List ℕ → Type 0 = λ (p : Place) (xs : List ℕ).
-      (readings : List Reading) → StandsFor mid readings → StandsFor new (readings ++ readings_at p frame xs) in
+      (readings : List NotedReading) → StandsFor mid readings → StandsFor new (readings ++ readings_at p frame xs) in
       let noted : Appended (place_at times indexes cells cell) bytes =
       subst (λ (p : Place). Appended p bytes) place_is (subst (λ (xs : List ℕ). Appended place xs) same appends) in
       let here : Found = (cell, frame, bytes) in
-      let of_found : Found → List Reading = λ (f : Found). readings_at (place_at times indexes cells f.0) f.1 f.2 in
+      let of_found : Found → List NotedReading = λ (f : Found). readings_at (place_at times indexes cells f.0) f.1 f.2 in
       let more = noted (flat_map of_found w.found) w.noted in
       record {
         found = w.found ++ here ∷ [];
         before = λ (rest : List Found) (all : AreReadings header sector cells (cell + 1) rest).
             subst (AreReadings header sector cells 0) (sym (append_assoc w.found (here ∷ []) rest)) (w.before (here ∷ rest) (first, all));
         noted = subst (StandsFor new)
-            (sym (flat_map-append of_found w.found (here ∷ []) ∙ ap (λ (r : List Reading). flat_map of_found w.found ++ r) (append-nil (of_found here)))) more;
+            (sym (flat_map-append of_found w.found (here ∷ []) ∙ ap (λ (r : List NotedReading). flat_map of_found w.found ++ r) (append-nil (of_found here)))) more;
         shape = record {
           first_is = shape.first_is ∙ w.shape.first_is;
           most_is = shape.most_is ∙ w.shape.most_is;

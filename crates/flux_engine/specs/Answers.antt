@@ -12,7 +12,7 @@ use Rattle.sector_report.specs.Lines.{total_text}
 use Rattle.sector_report.specs.declared.totals.Totals.{Totals}
 use Rattle.flux_engine.specs.Disks.{Stop, Decoded, IsDecoded, AreParts, images, lines, totals_over}
 use Rattle.flux_engine.specs.Streams.{behind, behind_stream}
-use Rattle.flux_engine.specs.Tracks.{Part, IsPart}
+use Rattle.flux_engine.specs.Tracks.{TrackPart, IsPart}
 use Rattle.flux_engine.specs.declared.fault.EngineFault.{EngineFault}
 use Rattle.flux_engine.specs.declared.fault.EngineFault.TheVariants.{ReadFault, ImageFault, NotesFault, Refused}
 
@@ -53,13 +53,13 @@ SaysOfStream number (Err ReadFault) x times' indexes' stays = (block : ℕ) × (
 SaysOfStream number _ x times' indexes' stays = IsTrackStream x times' indexes' stays
 
 -- what the answer says of the bytes that were written: the track's part of the image, and behind it its lines
-abbrev pub SaysOfSinks : (Part → Type 0) → (image image' notes notes' : Option (List ℕ)) → Answer → Type 0
+abbrev pub SaysOfSinks : (TrackPart → Type 0) → (image image' notes notes' : Option (List ℕ)) → Answer → Type 0
 SaysOfSinks Is image image' notes notes' (Ok totals) =
-    (part : Part) × Is part × Appends image image' part.image × Appends notes notes' part.lines × (totals ≡ part.totals)
+    (part : TrackPart) × Is part × Appends image image' part.image × Appends notes notes' part.lines × (totals ≡ part.totals)
 SaysOfSinks Is image image' notes notes' (Err ImageFault) =
-    (part : Part) × Is part × AppendsPart image image' part.image × (notes' ≡ notes)
+    (part : TrackPart) × Is part × AppendsPart image image' part.image × (notes' ≡ notes)
 SaysOfSinks Is image image' notes notes' (Err NotesFault) =
-    (part : Part) × Is part × Appends image image' part.image × AppendsPart notes notes' part.lines
+    (part : TrackPart) × Is part × Appends image image' part.image × AppendsPart notes notes' part.lines
 SaysOfSinks Is image image' notes notes' (Err _) = (image' ≡ image) × (notes' ≡ notes)
 
 -- A call that decodes track `number`: it took these bytes, which with the held ones are no more than padding, a stream and
@@ -94,8 +94,8 @@ pub record WroteAll (format : Format) (x : List ℕ) (image image' notes notes' 
 
 -- the lines of the first tracks were written, and their parts of the image with a part of the next that is shorter than it
 pub record StoppedInImage (format : Format) (x later : List ℕ) (image image' notes notes' : Option (List ℕ)) : Type 0 where
-  pub parts : List Part
-  pub next : Part
+  pub parts : List TrackPart
+  pub next : TrackPart
   pub each : AreParts format x (parts ++ next ∷ [])
   pub many : length parts < length (tracks format)
   pub image_grew : AppendsAndPart image image' (images parts) next.image
@@ -105,8 +105,8 @@ pub record StoppedInImage (format : Format) (x later : List ℕ) (image image' n
 -- the lines of the first tracks were written, with a part of the lines of the next that is shorter than they are, and
 -- the parts of the image of all these tracks
 pub record StoppedInLines (format : Format) (x later : List ℕ) (image image' notes notes' : Option (List ℕ)) : Type 0 where
-  pub parts : List Part
-  pub next : Part
+  pub parts : List TrackPart
+  pub next : TrackPart
   pub each : AreParts format x (parts ++ next ∷ [])
   pub many : length parts < length (tracks format)
   pub image_grew : Appends image image' (images (parts ++ next ∷ []))
@@ -115,7 +115,7 @@ pub record StoppedInLines (format : Format) (x later : List ℕ) (image image' n
 
 -- all sector lines and the whole image were written, and a part of the total line that is shorter than it
 pub record StoppedInTotal (format : Format) (x later : List ℕ) (image image' notes notes' : Option (List ℕ)) : Type 0 where
-  pub parts : List Part
+  pub parts : List TrackPart
   pub each : AreParts format x parts
   pub many : length parts ≡ length (tracks format)
   pub image_grew : Appends image image' (images parts)

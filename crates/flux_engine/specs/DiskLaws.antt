@@ -17,7 +17,7 @@ use Rattle.flux_engine.specs.Disks.{AreParts, Decoded, IsDecoded, Stop, decoded_
 use Rattle.disk_recordings.specs.Members.{header_at, sector_at}
 use Rattle.flux_engine.specs.Recordings.{track_at, cells_of}
 use Rattle.flux_engine.specs.Streams.{stream_at}
-use Rattle.flux_engine.specs.Tracks.{Found, Part, is_good, place_at, readings_of}
+use Rattle.flux_engine.specs.Tracks.{Found, TrackPart, is_good, place_at, readings_of}
 
 -- A track's part of the image has the track's bytes in number, and stands in the disk's image at the track's place.
 pub record StandsInImage (format : Format) (track : TrackId) (part image : List ℕ) : Type 0 where
@@ -36,7 +36,7 @@ WholeDisksFillImages = (format : Format) (x : List ℕ) (o : Decoded) → IsDeco
 
 -- the parts of the first tracks have no more bytes than the format's image
 abbrev pub PartsFitImages : Type 0
-PartsFitImages = (format : Format) (x : List ℕ) (parts : List Part) → AreParts format x parts → length parts ≤ length (tracks format)
+PartsFitImages = (format : Format) (x : List ℕ) (parts : List TrackPart) → AreParts format x parts → length parts ≤ length (tracks format)
     → length (images parts) ≤ (row format).image_size
 
 -- the input comes to this outcome, track number n is one of those that are decoded, and the sector is one of the track's

@@ -9,7 +9,7 @@ use Rattle.sector_report.specs.Lines.{total_text}
 use Rattle.sector_report.specs.declared.totals.Totals.{Totals}
 use Rattle.flux_engine.specs.Recordings.{track_at}
 use Rattle.flux_engine.specs.Streams.{stream_at, has_fault}
-use Rattle.flux_engine.specs.Tracks.{Part, IsPart}
+use Rattle.flux_engine.specs.Tracks.{TrackPart, IsPart}
 
 -- the number of a track's stream, the number of a block in it, and the fault there
 pub record Stop : Type 0 where
@@ -18,28 +18,28 @@ pub record Stop : Type 0 where
   pub fault : StreamFault
 
 -- stream number n of x has no fault, and this is what its track comes to
-pub record IsPartAt (format : Format) (x : List ℕ) (n : ℕ) (part : Part) : Type 0 where
+pub record IsPartAt (format : Format) (x : List ℕ) (n : ℕ) (part : TrackPart) : Type 0 where
   pub no_fault : first_fault (stream_at x n) ≡ None
   pub comes : IsPart format (track_at format n) (times (stream_at x n)) (indexes (stream_at x n)) part
 
 abbrev pub no_totals : Totals
 no_totals = record { sectors = 0; good = 0; bad = 0; missing = 0; contradictory = 0 }
 
-abbrev pub part_at : List Part → ℕ → Part
+abbrev pub part_at : List TrackPart → ℕ → TrackPart
 part_at parts n = get_or parts n (record { image = []; lines = []; totals = no_totals })
 
 -- the first tracks of x, one for each part
-abbrev pub AreParts : Format → List ℕ → List Part → Type 0
+abbrev pub AreParts : Format → List ℕ → List TrackPart → Type 0
 AreParts format x parts = (n : ℕ) → n < length parts → IsPartAt format x n (part_at parts n)
 
-abbrev pub images : List Part → List ℕ
+abbrev pub images : List TrackPart → List ℕ
 images parts = flat_map (λ part. part.image) parts
 
-abbrev pub lines : List Part → List ℕ
+abbrev pub lines : List TrackPart → List ℕ
 lines parts = flat_map (λ part. part.lines) parts
 
 -- the totals of several tracks
-abbrev pub totals_over : List Part → Totals
+abbrev pub totals_over : List TrackPart → Totals
 totals_over parts = record {
   sectors = sum_by (λ part. part.totals.sectors) parts;
   good = sum_by (λ part. part.totals.good) parts;
@@ -73,7 +73,7 @@ abbrev pub last_line : Totals → Option Stop → List ℕ
 last_line totals (Some stop) = []
 last_line totals None = total_text totals
 
-abbrev pub decoded_of : List Part → Option Stop → Decoded
+abbrev pub decoded_of : List TrackPart → Option Stop → Decoded
 decoded_of parts stop = record {
   image = images parts;
   notes = lines parts ++ last_line (totals_over parts) stop;
@@ -83,7 +83,7 @@ decoded_of parts stop = record {
 
 -- what the input x of a format comes to: all tracks before the first stream with a fault, or all tracks
 pub record IsDecoded (format : Format) (x : List ℕ) (o : Decoded) : Type 0 where
-  pub parts : List Part
+  pub parts : List TrackPart
   pub each : AreParts format x parts
   pub many : length parts ≡ decoded_count format (stop_of format x)
   pub is : o ≡ decoded_of parts (stop_of format x)

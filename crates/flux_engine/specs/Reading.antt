@@ -7,13 +7,13 @@ use Rattle.kryo_stream.specs.Outcome.{input_of}
 use Rattle.sector_images.specs.declared.format.Format.{Format}
 use Rattle.sector_report.specs.declared.totals.Totals.{Totals}
 use Rattle.turn_merge.specs.Book.{Knowledge, StandsFor}
-use Rattle.turn_merge.specs.Readings.{Reading}
+use Rattle.turn_merge.specs.Readings.{NotedReading}
 use Rattle.flux_engine.specs.Answers.{IsOfBytesAtHand, IsTruncated, SaysOfStream}
 use Rattle.flux_engine.specs.Disks.{AreParts, images, lines, totals_over}
 use Rattle.flux_engine.specs.Recordings.{sectors_of}
 use Rattle.flux_engine.specs.Room.{RoomState}
 use Rattle.flux_engine.specs.Streams.{behind}
-use Rattle.flux_engine.specs.Tracks.{Part, IsPart, part_of}
+use Rattle.flux_engine.specs.Tracks.{TrackPart, IsPart, part_of}
 use Rattle.flux_engine.specs.Writing.{Knows}
 use Rattle.flux_engine.specs.declared.fault.EngineFault.{EngineFault}
 
@@ -38,7 +38,7 @@ pub record ReadsTrack (number : ℕ) (left left' : Option (List ℕ)) (used : Bo
 -- the book stands for all readings of a track with these transitions and index times
 pub record HasGathered (format : Format) (track : TrackId) (times indexes : List ℕ) (book : Knowledge) : Type 0 where
   pub knows : Knows (sectors_of format track) book
-  pub readings : List Reading
+  pub readings : List NotedReading
   pub stands : StandsFor book readings
   pub is : IsPart format track times indexes (part_of format track readings)
 
@@ -46,7 +46,7 @@ pub record HasGathered (format : Format) (track : TrackId) (times indexes : List
 pub record HasDecoded (format : Format) (left left' image image' notes notes' : Option (List ℕ)) (room : RoomState) (n : ℕ) (totals : Totals) : Type 0 where
   pub taken : List ℕ
   pub consumed : Consumes left left' taken
-  pub parts : List Part
+  pub parts : List TrackPart
   pub many : length parts ≡ n
   pub each : (later : List ℕ) → AreParts format (taken ++ later) parts
   pub rest : (later : List ℕ) → behind (taken ++ later) n ≡ room.held ++ later

@@ -11,7 +11,7 @@ use Rattle.sector_images.specs.Places.{sector_in}
 use Rattle.sector_images.specs.declared.format.Format.{Format}
 use Rattle.sector_report.specs.Lines.{sector_text}
 use Rattle.sector_report.specs.declared.totals.Totals.{Totals}
-use Rattle.turn_merge.specs.Readings.{Reading, good_reading, bad_reading, verdict, agreed}
+use Rattle.turn_merge.specs.Readings.{NotedReading, good_reading, bad_reading, verdict, agreed}
 use Rattle.turn_merge.specs.declared.verdict.Place.{Place}
 use Rattle.turn_merge.specs.declared.verdict.Verdict.{Verdict}
 use Rattle.turn_merge.specs.declared.verdict.Verdict.TheVariants.{Good, Contradictory, Bad, Missing}
@@ -32,13 +32,13 @@ abbrev pub place_at : List ℕ → List ℕ → List Bool → ℕ → Place
 place_at times indexes cells place = record { turn = turn_at indexes (time_of_place times cells place); cell = place }
 
 -- the reading of a sector, where one is read
-abbrev pub readings_at : Place → Frame → List ℕ → List Reading
+abbrev pub readings_at : Place → Frame → List ℕ → List NotedReading
 readings_at place Nothing bytes = []
 readings_at place (BadFrame sector) bytes = bad_reading sector place ∷ []
 readings_at place (GoodFrame sector) bytes = good_reading sector place bytes ∷ []
 
 -- the readings of all that is found on a track
-abbrev pub readings_of : List ℕ → List ℕ → List Bool → List Found → List Reading
+abbrev pub readings_of : List ℕ → List ℕ → List Bool → List Found → List NotedReading
 readings_of times indexes cells found =
     flat_map (λ f. readings_at (place_at times indexes cells f.0) f.1 f.2) found
 
@@ -47,22 +47,22 @@ abbrev pub numbers : Sectors → List ℕ
 numbers sectors = range_with_len sectors.first sectors.count
 
 -- a sector's bytes in the image: its data where its verdict is good, and else zeros
-abbrev pub image_bytes : Sectors → List Reading → ℕ → List ℕ
+abbrev pub image_bytes : Sectors → List NotedReading → ℕ → List ℕ
 image_bytes sectors readings sector = unwrap_or (agreed readings sector) (replicate sectors.size 0)
 
 -- the bytes of the sector that stands at this number, from 0, among those of the track in the image
-abbrev pub image_piece : Format → TrackId → List Reading → ℕ → List ℕ
+abbrev pub image_piece : Format → TrackId → List NotedReading → ℕ → List ℕ
 image_piece format track readings number = image_bytes (sectors_of format track) readings (sector_in format track number)
 
 -- the track's part of the image: the bytes of each sector at the sector's place
-unfoldable pub image_of : Format → TrackId → List Reading → List ℕ
+unfoldable pub image_of : Format → TrackId → List NotedReading → List ℕ
 image_of format track readings = flat_map (image_piece format track readings) (range_with_len 0 (sectors_of format track).count)
 
-abbrev pub line_of : TrackId → List Reading → ℕ → List ℕ
+abbrev pub line_of : TrackId → List NotedReading → ℕ → List ℕ
 line_of track readings sector = sector_text track sector (verdict readings sector)
 
 -- the track's lines, one for each sector, in the order of their numbers
-unfoldable pub lines_of : TrackId → Sectors → List Reading → List ℕ
+unfoldable pub lines_of : TrackId → Sectors → List NotedReading → List ℕ
 lines_of track sectors readings = flat_map (line_of track readings) (numbers sectors)
 
 abbrev pub is_good : Verdict → Bool
@@ -92,13 +92,13 @@ totals_of verdicts = record {
 }
 
 -- what a track adds to the image and to the report, and its totals
-pub record Part : Type 0 where
+pub record TrackPart : Type 0 where
   pub image : List ℕ
   pub lines : List ℕ
   pub totals : Totals
 
 -- what a track comes to by these readings
-abbrev pub part_of : Format → TrackId → List Reading → Part
+abbrev pub part_of : Format → TrackId → List NotedReading → TrackPart
 part_of format track readings = record {
   image = image_of format track readings;
   lines = lines_of track (sectors_of format track) readings;
@@ -106,7 +106,7 @@ part_of format track readings = record {
 }
 
 -- all that can be read on a track with these transitions and index times, and what it comes to
-pub record IsPart (format : Format) (track : TrackId) (times indexes : List ℕ) (part : Part) : Type 0 where
+pub record IsPart (format : Format) (track : TrackId) (times indexes : List ℕ) (part : TrackPart) : Type 0 where
   pub found : List Found
   pub all : AreReadings (header_at format track) (sector_at format track) (cells_of format track times indexes) 0 found
   pub is : part ≡ part_of format track (readings_of times indexes (cells_of format track times indexes) found)

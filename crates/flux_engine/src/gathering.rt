@@ -3,7 +3,7 @@
 ghost use Rattle.std.specs.Prelude.{◌≡◌, ◌<◌, ◌≤◌, ◌+◌, ◌-◌, ◌^◌, ◌++◌, List, length, slice_index};
 ghost use Rattle.index_turns.specs.Track.{turn_at};
 ghost use Rattle.turn_merge.specs.Book.{StandsFor, SameShape};
-ghost use Rattle.turn_merge.specs.Readings.{Reading as NotedReading};
+ghost use Rattle.turn_merge.specs.Readings.{NotedReading};
 ghost use Rattle.flux_engine.specs.Gathering.{AreCellsOf, IsEmptyBook, CanBeNoted, Gathers};
 ghost use Rattle.flux_engine.specs.Tracks.{readings_at};
 

@@ -3,7 +3,7 @@
 ghost use Rattle.std.specs.Prelude.{◌≡◌, ◌≤◌, List, IfOk};
 ghost use Rattle.sector_images.specs.Places.{IsTrack};
 ghost use Rattle.turn_merge.specs.Book.{StandsFor};
-ghost use Rattle.turn_merge.specs.Readings.{Reading};
+ghost use Rattle.turn_merge.specs.Readings.{NotedReading};
 ghost use Rattle.flux_engine.specs.Recordings.{sectors_of as sectors_in};
 ghost use Rattle.flux_engine.specs.TrackParts.{PartCause, WritesPart};
 ghost use Rattle.flux_engine.specs.Tracks.{part_of};
@@ -36,7 +36,7 @@ pub fn write_part<W: Sink, N: Sink>(
 ) -> Result<Totals, PartFault>
     requires track { IsTrack format track }
     requires known { Knows (sectors_in format track) book.now }
-    ensures wrote { (readings : List Reading) → StandsFor book.now readings
+    ensures wrote { (readings : List NotedReading) → StandsFor book.now readings
         → WritesPart (part_of format track readings) (W.written image.old) (W.written image.new) (N.written notes.old) (N.written notes.new) result }
     ensures sum { IfOk result IsSum }
     ensures few { IfOk result (λ totals. totals.sectors ≤ 100) }

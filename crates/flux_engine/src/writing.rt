@@ -5,7 +5,7 @@ ghost use Rattle.std.specs.Io.KnownBytes.{Appends};
 ghost use Rattle.flux_base.specs.Outside.{Rose, AppendsPart};
 ghost use Rattle.sector_images.specs.Places.{IsTrack};
 ghost use Rattle.turn_merge.specs.Book.{StandsFor, IsKnown};
-ghost use Rattle.turn_merge.specs.Readings.{Reading, agreed, verdict as verdict_over};
+ghost use Rattle.turn_merge.specs.Readings.{NotedReading, agreed, verdict as verdict_over};
 ghost use Rattle.turn_merge.specs.declared.verdict.Verdict.{Verdict as SectorVerdict};
 ghost use Rattle.flux_engine.specs.Recordings.{sectors_of as sectors_in};
 ghost use Rattle.flux_engine.specs.Tracks.{image_of, lines_of, totals_of, numbers};
@@ -30,8 +30,8 @@ pub(crate) fn write_image<W: Sink>(
 ) -> Result<(), Failed>
     requires track { IsTrack format track }
     requires known { Knows (sectors_in format track) book.now }
-    ensures ok { OnOk result ((readings : List Reading) → StandsFor book.now readings → Appends (W.written image.old) (W.written image.new) (image_of format track readings)) }
-    ensures err { OnErr result ((readings : List Reading) → StandsFor book.now readings → AppendsPart (W.written image.old) (W.written image.new) (image_of format track readings)) }
+    ensures ok { OnOk result ((readings : List NotedReading) → StandsFor book.now readings → Appends (W.written image.old) (W.written image.new) (image_of format track readings)) }
+    ensures err { OnErr result ((readings : List NotedReading) → StandsFor book.now readings → AppendsPart (W.written image.old) (W.written image.new) (image_of format track readings)) }
     ensures later { W.faults image.old ≤ W.faults image.new }
     ensures cause { OnErr result (Rose (W.faults image.old) (W.faults image.new)) }
 {
@@ -51,7 +51,7 @@ pub(crate) fn write_image<W: Sink>(
 fn image_bytes<'a>(book: &'a Book, sector: u8, size: u16) -> &'a [u8]
     requires known { IsKnown book.now sector }
     requires size { size ≤ 512 }
-    ensures { (readings : List Reading) → StandsFor book.now readings → result.now ≡ unwrap_or (agreed readings sector) (replicate size 0) }
+    ensures { (readings : List NotedReading) → StandsFor book.now readings → result.now ≡ unwrap_or (agreed readings sector) (replicate size 0) }
 {
     match book.bytes(sector) {
         Some(bytes) => bytes,
@@ -69,10 +69,10 @@ pub(crate) fn write_lines<N: Sink>(
     requires cylinder { track.cylinder < 100 }
     requires few { AreFew sectors }
     requires known { Knows sectors book.now }
-    ensures ok { OnOk result ((readings : List Reading) → StandsFor book.now readings → Appends (N.written notes.old) (N.written notes.new) (lines_of track sectors readings)) }
+    ensures ok { OnOk result ((readings : List NotedReading) → StandsFor book.now readings → Appends (N.written notes.old) (N.written notes.new) (lines_of track sectors readings)) }
     ensures counted { IfOk result (λ totals. IsSum totals × (totals.sectors ≡ sectors.count)) }
-    ensures totals { IfOk result (λ totals. (readings : List Reading) → StandsFor book.now readings → totals ≡ totals_of (map (verdict_over readings) (numbers sectors))) }
-    ensures err { OnErr result ((readings : List Reading) → StandsFor book.now readings → AppendsPart (N.written notes.old) (N.written notes.new) (lines_of track sectors readings)) }
+    ensures totals { IfOk result (λ totals. (readings : List NotedReading) → StandsFor book.now readings → totals ≡ totals_of (map (verdict_over readings) (numbers sectors))) }
+    ensures err { OnErr result ((readings : List NotedReading) → StandsFor book.now readings → AppendsPart (N.written notes.old) (N.written notes.new) (lines_of track sectors readings)) }
     ensures later { N.faults notes.old ≤ N.faults notes.new }
     ensures cause { OnErr result (Rose (N.faults notes.old) (N.faults notes.new)) }
 {

@@ -16,14 +16,14 @@ pub struct Disk {
 /// How the cylinders are alike.
 #[derive(Clone, Copy)]
 pub enum Zones {
-    One(Zone),
+    One(CylinderZone),
     /// The four zones of the Commodore 1541.
     Commodore,
 }
 
 /// What the tracks of neighbouring cylinders have alike.
 #[derive(Clone, Copy)]
-pub struct Zone {
+pub struct CylinderZone {
     pub sectors: u8,
     /// The place of the first sector in a ring, and how far the next one is behind it, in cells.
     pub place: u32,
@@ -37,7 +37,7 @@ impl Disk {
         usize::from(self.cylinders).saturating_mul(usize::from(self.heads))
     }
 
-    pub fn zone(self, cylinder: u8) -> Zone {
+    pub fn zone(self, cylinder: u8) -> CylinderZone {
         match self.zones {
             Zones::One(zone) => zone,
             Zones::Commodore => match cylinder {
@@ -50,8 +50,8 @@ impl Disk {
     }
 }
 
-fn commodore_zone(sectors: u8, step: u32, ticks: u8) -> Zone {
-    Zone {
+fn commodore_zone(sectors: u8, step: u32, ticks: u8) -> CylinderZone {
+    CylinderZone {
         sectors,
         place: 30,
         step,
@@ -65,7 +65,7 @@ pub const IBM_3740: Disk = Disk {
     heads: 1,
     first_sector: 1,
     size: 128,
-    zones: Zones::One(Zone {
+    zones: Zones::One(CylinderZone {
         sectors: 26,
         place: 1264,
         step: 3008,
@@ -85,7 +85,7 @@ pub const IBM_720: Disk = Disk {
     heads: 2,
     first_sector: 1,
     size: 512,
-    zones: Zones::One(Zone {
+    zones: Zones::One(CylinderZone {
         sectors: 9,
         place: 2528,
         step: 10464,
@@ -95,7 +95,7 @@ pub const IBM_720: Disk = Disk {
 
 pub const IBM_1440: Disk = Disk {
     word: "ibm-1440",
-    zones: Zones::One(Zone {
+    zones: Zones::One(CylinderZone {
         sectors: 18,
         place: 2528,
         step: 10912,
@@ -107,7 +107,7 @@ pub const IBM_1440: Disk = Disk {
 pub const AMIGA: Disk = Disk {
     word: "amiga",
     first_sector: 0,
-    zones: Zones::One(Zone {
+    zones: Zones::One(CylinderZone {
         sectors: 11,
         place: 32,
         step: 8704,
@@ -133,7 +133,7 @@ pub const C1541_40: Disk = Disk {
 
 pub const APPLE_DO: Disk = Disk {
     word: "apple-do",
-    zones: Zones::One(Zone {
+    zones: Zones::One(CylinderZone {
         sectors: 16,
         place: 330,
         step: 3104,

@@ -32,14 +32,14 @@ pub struct Want<'a> {
 /// In what a run gave something else, and which run it was: by its input's length and its failing call.
 #[derive(Debug, Drop)]
 pub struct Mismatch {
-    pub part: Part,
+    pub part: RunPart,
     pub input: usize,
     pub failing: Option<usize>,
 }
 
 /// What differs.
 #[derive(Clone, Copy, Debug)]
-pub enum Part {
+pub enum RunPart {
     /// There was no memory for the objects.
     Memory,
     Code(u8),
@@ -84,11 +84,11 @@ pub fn gives(alloc: Global, row: Run, want: Want) -> Result<usize, Mismatch> {
             None => Ok(end.source.rest().len()),
             Some(part) => Err(mismatch_of(part, row)),
         },
-        Err(Memory) => Err(mismatch_of(Part::Memory, row)),
+        Err(Memory) => Err(mismatch_of(RunPart::Memory, row)),
     }
 }
 
-fn mismatch_of(part: Part, row: Run) -> Mismatch {
+fn mismatch_of(part: RunPart, row: Run) -> Mismatch {
     let Run { input, .. } = row;
     let failing = row.failing_read.or(row.failing_image).or(row.failing_notes);
     Mismatch {
@@ -107,15 +107,15 @@ struct Ended {
     notes: MemorySink,
 }
 
-fn difference(end: &Ended, want: Want) -> Option<Part> {
+fn difference(end: &Ended, want: Want) -> Option<RunPart> {
     if end.code != want.code {
-        return Some(Part::Code(end.code));
+        return Some(RunPart::Code(end.code));
     }
     if end.image.bytes() != want.image {
-        return Some(Part::Image);
+        return Some(RunPart::Image);
     }
     if end.notes.bytes() != want.notes {
-        return Some(Part::Notes);
+        return Some(RunPart::Notes);
     }
     None
 }

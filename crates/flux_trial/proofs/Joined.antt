@@ -11,7 +11,7 @@ use Rattle.kryo_stream.specs.Joined.{MayStandBefore, PaddingIsPassed}
 use Rattle.kryo_stream.specs.Outcome.{input_of}
 use Rattle.kryo_stream.specs.Protocol.{OUT_OF_BAND}
 use Rattle.kryo_stream.specs.Stream.{first_fault, stream_length, total_bytes}
-use Rattle.kryo_stream.specs.declared.block.Piece.{Piece}
+use Rattle.kryo_stream.specs.declared.block.SpelledBlock.{SpelledBlock}
 use Rattle.sector_images.specs.Places.{tracks}
 use Rattle.sector_images.specs.declared.format.Format.{Format}
 use Rattle.flux_engine.specs.Disks.{Decoded, IsDecoded, stop_at, stop_of}
@@ -42,7 +42,7 @@ module _ (stay : StreamsStay) (passed : PaddingIsPassed) (count : ℕ) (bytes : 
   after k rest known is =
       let same = stay (bytes k) (from (k + 1) rest) (sound k known).0 in
       ap behind_stream is
-      ∙ ap (λ (ps : List Piece). drop (total_bytes ps) (bytes k ++ from (k + 1) rest)) same.blocks
+      ∙ ap (λ (ps : List SpelledBlock). drop (total_bytes ps) (bytes k ++ from (k + 1) rest)) same.blocks
       ∙ ap (λ (n : ℕ). drop n (bytes k ++ from (k + 1) rest)) (sound k known).1
       ∙ drop-append_seam (bytes k) (from (k + 1) rest)
 

@@ -19,7 +19,7 @@ use Rattle.flux_engine.specs.Answers.{EngineCause, SaysOfInput}
 use Rattle.flux_engine.specs.DiskLaws.{PartsFitImages}
 use Rattle.flux_engine.specs.Disks.{Decoded, IsDecoded, images}
 use Rattle.flux_engine.specs.Streams.{stream_at}
-use Rattle.flux_engine.specs.Tracks.{Part}
+use Rattle.flux_engine.specs.Tracks.{TrackPart}
 use Rattle.flux_engine.specs.declared.fault.EngineFault.{EngineFault}
 use Rattle.flux_engine.specs.declared.fault.EngineFault.TheVariants.{ReadFault, ImageFault, NotesFault, Refused}
 use Rattle.flux_trial.specs.Tracks.{IsTrialLine, trial_input, trial_stream}
@@ -67,9 +67,9 @@ module _ (laws : Laws) (stay : StreamsStay) (passed : PaddingIsPassed) (fit : Pa
       absurd (cc)
   no_answer x left' notes notes' image ImageFault is cause says =
       let s = says.2 in
-      let parts : List Part = s.parts in
+      let parts : List TrackPart = s.parts in
       let most = fit format x (parts ++ s.next ∷ []) s.each (omega (arith, s.many, length-append parts (s.next ∷ []))) in
-      let both = ap length (flat_map-append (λ (p : Part). p.image) parts (s.next ∷ [])) in
+      let both = ap length (flat_map-append (λ (p : TrackPart). p.image) parts (s.next ∷ [])) in
       let split = length-append (images parts) (images (s.next ∷ [])) in
       let one = length-append s.next.image [] in
       let grew = s.image_grew in

@@ -11,12 +11,12 @@ const ROOM: usize = 4096;
 
 /// The bytes that are held back until a piece is full, seen by contracts as their list.
 #[derive(Drop)]
-pub(crate) struct Piece {
+pub(crate) struct OutputPiece {
     bytes: [u8; ROOM],
     filled: usize,
 }
 
-impl Model for Piece {
+impl Model for OutputPiece {
     ghost use Rattle.std.specs.Prelude.{ℕ, ◌≤◌, List, take};
 
     ghost Value = { List ℕ };
@@ -26,12 +26,12 @@ impl Model for Piece {
     ghost invariant = { λ p. p.filled ≤ 4096 };
 }
 
-impl Piece {
+impl OutputPiece {
     /// A piece without bytes.
-    pub(crate) fn new() -> Piece
+    pub(crate) fn new() -> OutputPiece
         ensures { result ≡ [] }
     {
-        Piece {
+        OutputPiece {
             bytes: [0; ROOM],
             filled: 0,
         }

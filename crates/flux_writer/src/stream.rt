@@ -8,7 +8,7 @@ ghost use Rattle.flux_writer.specs.Written.{index_block, interval_blocks};
 ghost use Rattle.flux_writer.specs.inside.Writing.{ticks_of, AreCounted, indexes_before, indexes_from, next_blocks, last_blocks};
 
 use crate::indexes::{IndexTimes, IndexUnit};
-use crate::piece::Piece;
+use crate::piece::OutputPiece;
 use byteorder::{ByteOrder, LittleEndian};
 use flux_base::{Failed, Sink};
 use kryo_stream::index_spelling;
@@ -24,7 +24,7 @@ const COUNTER_RANGE: u64 = 1 << 32;
 /// Writes the blocks of one stream, a transition at a time.
 #[derive(Drop)]
 pub(crate) struct StreamWriter<'a> {
-    piece: Piece,
+    piece: OutputPiece,
     /// The number of in-stream bytes so far.
     position: u32,
     /// The time of the transition before, or 0, in ticks.
@@ -42,7 +42,7 @@ impl<'a> StreamWriter<'a> {
         ensures indexes { result.indexes ≡ map (ticks_of unit) indexes.now }
     {
         StreamWriter {
-            piece: Piece::new(),
+            piece: OutputPiece::new(),
             position: 0,
             time: 0,
             indexes: IndexTimes::new(indexes, unit),
@@ -155,7 +155,7 @@ fn interval_length(ticks: u64) -> u32
 /// Writes the blocks of an interval of so many ticks. Nearly all are one byte, which is put straight into the piece
 /// and with no block made.
 #[inline]
-fn write_blocks<W: Sink>(piece: &mut Piece, ticks: u64, sink: &mut W) -> Result<(), Failed>
+fn write_blocks<W: Sink>(piece: &mut OutputPiece, ticks: u64, sink: &mut W) -> Result<(), Failed>
     requires few { ticks / 65536 < 2 ^ 32 }
     ensures ok { OnOk result (Gathers (W.written sink.old) (W.written sink.new) piece.old piece.new
         (spellings (interval_blocks ticks))) }
@@ -172,7 +172,7 @@ fn write_blocks<W: Sink>(piece: &mut Piece, ticks: u64, sink: &mut W) -> Result<
 
 /// Writes the blocks of any interval: its overflows, and a flux value.
 #[inline(never)]
-fn write_any_blocks<W: Sink>(piece: &mut Piece, ticks: u64, sink: &mut W) -> Result<(), Failed>
+fn write_any_blocks<W: Sink>(piece: &mut OutputPiece, ticks: u64, sink: &mut W) -> Result<(), Failed>
     requires few { ticks / 65536 < 2 ^ 32 }
     ensures ok { OnOk result (Gathers (W.written sink.old) (W.written sink.new) piece.old piece.new
         (spellings (interval_blocks ticks))) }
@@ -188,7 +188,7 @@ fn write_any_blocks<W: Sink>(piece: &mut Piece, ticks: u64, sink: &mut W) -> Res
 }
 
 /// Writes so many Overflow blocks.
-fn write_overflows<W: Sink>(piece: &mut Piece, count: u32, sink: &mut W) -> Result<(), Failed>
+fn write_overflows<W: Sink>(piece: &mut OutputPiece, count: u32, sink: &mut W) -> Result<(), Failed>
     ensures ok { OnOk result (Gathers (W.written sink.old) (W.written sink.new) piece.old piece.new (replicate count 11)) }
     ensures err { OnErr result (AppendsPart (W.written sink.old) (W.written sink.new) (piece.old ++ replicate count 11)) }
     ensures later { W.faults sink.old ≤ W.faults sink.new }
@@ -204,7 +204,7 @@ fn write_overflows<W: Sink>(piece: &mut Piece, count: u32, sink: &mut W) -> Resu
 }
 
 /// Writes a flux value, in as few bytes as it fits.
-fn write_flux<W: Sink>(piece: &mut Piece, ticks: u16, sink: &mut W) -> Result<(), Failed>
+fn write_flux<W: Sink>(piece: &mut OutputPiece, ticks: u16, sink: &mut W) -> Result<(), Failed>
     ensures ok { OnOk result (Gathers (W.written sink.old) (W.written sink.new) piece.old piece.new (flux_spelling ticks)) }
     ensures err { OnErr result (AppendsPart (W.written sink.old) (W.written sink.new) (piece.old ++ flux_spelling ticks)) }
     ensures later { W.faults sink.old ≤ W.faults sink.new }

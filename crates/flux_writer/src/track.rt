@@ -36,7 +36,7 @@ pub fn write_turns<W: Sink>(
     ensures cause { OnErr result (Rose (W.faults sink.old) (W.faults sink.new)) }
 {
     let mut stream = StreamWriter::new(turns, IndexUnit::Cells { nominal });
-    let whole = Part {
+    let whole = RingPart {
         from: 0,
         to: cells.len(),
         number: 0,
@@ -81,7 +81,7 @@ pub fn write_track<W: Sink>(ring: &Cells, nominal: u32, sink: &mut W) -> Result<
 
 /// Cells of a list, from one place to below another, of which the first is cell `number` of the written track.
 #[derive(Clone, Copy, Drop)]
-struct Part {
+struct RingPart {
     from: usize,
     to: usize,
     number: u64,
@@ -109,7 +109,7 @@ fn write_ring<W: Sink>(
 {
     let length = ring.len();
     let quarter = length / 4;
-    let last_quarter = Part {
+    let last_quarter = RingPart {
         from: length - quarter,
         to: length,
         number: 0,
@@ -120,7 +120,7 @@ fn write_ring<W: Sink>(
     }
     let mut number = quarter as u64;
     for _ in 0..3u8 {
-        let turn = Part {
+        let turn = RingPart {
             from: 0,
             to: length,
             number,
@@ -130,7 +130,7 @@ fn write_ring<W: Sink>(
             Err(failed) => return Err(failed),
         }
     }
-    let first_quarter = Part {
+    let first_quarter = RingPart {
         from: 0,
         to: quarter,
         number,
@@ -142,7 +142,7 @@ fn write_ring<W: Sink>(
 fn write_part<W: Sink>(
     stream: &mut StreamWriter<'_>,
     cells: &Cells,
-    part: Part,
+    part: RingPart,
     nominal: u32,
     sink: &mut W,
 ) -> Result<(), Failed>

@@ -12,7 +12,7 @@ use Rattle.flux_engine.specs.Disks.{images, lines, no_totals, part_at, totals_ov
 use Rattle.flux_engine.specs.lemmas.PartLaws.{images-more, lines-more, totals-more}
 use Rattle.flux_engine.specs.Recordings.{track_at}
 use Rattle.flux_engine.specs.TrackParts.{WritesPart}
-use Rattle.flux_engine.specs.Tracks.{Part, part_of}
+use Rattle.flux_engine.specs.Tracks.{TrackPart, part_of}
 use Rattle.flux_engine.specs.Writing.{sum_of}
 use Rattle.flux_engine.specs.declared.track_part.PartFault.{PartFault}
 use Rattle.flux_engine.specs.declared.track_part.PartFault.TheVariants.{ImageFault, NotesFault}
@@ -21,7 +21,7 @@ use Rattle.sector_images.specs.declared.format.Format.{Format}
 use Rattle.sector_report.specs.Lines.{total_text}
 use Rattle.sector_report.specs.declared.totals.Totals.{Totals}
 use Rattle.turn_merge.specs.Book.{Knowledge, StandsFor}
-use Rattle.turn_merge.specs.Readings.{Reading}
+use Rattle.turn_merge.specs.Readings.{NotedReading}
 use Rattle.g64_image.specs.Answers.{FromAnswer, IsWholeFile, SaysOfFile, StoppedInImage, StoppedInLines}
 use Rattle.g64_image.specs.Faults.{first_fault}
 use Rattle.g64_image.specs.FileDisks.{AreFileParts, FileDisk, IsFilePart, file_disk_of, read_count}
@@ -31,11 +31,11 @@ use Rattle.g64_image.specs.Progress.{HasRead, WasStopped}
 use Rattle.g64_image.specs.declared.fault.FromStop.TheVariants.{ImageFault as ImageStop, NotesFault as NotesStop}
 use Rattle.g64_image.specs.declared.fault.G64Fault.{G64Fault}
 
-no_part : Part
+no_part : TrackPart
 no_part = record { image = []; lines = []; totals = no_totals }
 
 -- one track more
-parts-more : (format : Format) (file : List ℕ) (parts : List Part) (n : ℕ) (part : Part) → length parts ≡ n → AreFileParts format file parts
+parts-more : (format : Format) (file : List ℕ) (parts : List TrackPart) (n : ℕ) (part : TrackPart) → length parts ≡ n → AreFileParts format file parts
     → IsFilePart format file n part → AreFileParts format file (parts ++ part ∷ [])
 unfolding no_part
 parts-more format file parts n part many each here = λ (k : ℕ) low.
@@ -62,7 +62,7 @@ read_start format file image notes totals none = record {
 module _ (format : Format) (file : List ℕ) (image imid image' notes nmid notes' : Option (List ℕ)) (n : ℕ) (totals : Totals)
     (h : HasRead format file image imid notes nmid n totals) (book : Knowledge)
     (gathered : HasRingReadings format (track_at format n) (track_cells file n) book) where
-  here : Part
+  here : TrackPart
   here = part_of format (track_at format n) gathered.readings
 
   more : AreFileParts format file (h.parts ++ here ∷ [])
@@ -70,7 +70,7 @@ module _ (format : Format) (file : List ℕ) (image imid image' notes nmid notes
   more = parts-more format file h.parts n here h.many h.each gathered.is
 
   pub read_more : (part_totals totals' : Totals)
-      → ((readings : List Reading) → StandsFor book readings → WritesPart (part_of format (track_at format n) readings) imid image' nmid notes' (Ok part_totals))
+      → ((readings : List NotedReading) → StandsFor book readings → WritesPart (part_of format (track_at format n) readings) imid image' nmid notes' (Ok part_totals))
       → totals' ≡ sum_of totals part_totals → HasRead format file image image' notes notes' (n + 1) totals'
   unfolding here
   read_more part_totals totals' wrote sum =
@@ -91,7 +91,7 @@ module _ (format : Format) (file : List ℕ) (image imid image' notes nmid notes
   and_part old between new whole more_bytes first (k, within, then) = (k, within, Appends-trans old between new whole (take k more_bytes) first then)
 
   pub read_stop : (fault : PartFault) → n < length (tracks format)
-      → ((readings : List Reading) → StandsFor book readings → WritesPart (part_of format (track_at format n) readings) imid image' nmid notes' (Err fault))
+      → ((readings : List NotedReading) → StandsFor book readings → WritesPart (part_of format (track_at format n) readings) imid image' nmid notes' (Err fault))
       → WasStopped format file image image' notes notes' (Err fault)
   unfolding here
   read_stop ImageFault low wrote =

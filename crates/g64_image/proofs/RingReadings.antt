@@ -8,7 +8,7 @@ use Rattle.disk_recordings.specs.Members.{header_at, sector_at}
 use Rattle.flux_base.specs.declared.track.TrackId.{TrackId}
 use Rattle.flux_engine.specs.Disks.{no_totals, part_at}
 use Rattle.flux_engine.specs.Recordings.{track_at}
-use Rattle.flux_engine.specs.Tracks.{Found, Part, part_of}
+use Rattle.flux_engine.specs.Tracks.{Found, TrackPart, part_of}
 use Rattle.frame_law.specs.Laws.{SectorsAreTold}
 use Rattle.frame_law.specs.Readings.{FirstReading, Reads}
 use Rattle.frame_law.specs.declared.reading.Reading.{Reading}
@@ -86,16 +86,16 @@ module _ (header : List Bool → ℕ → Type 0) (sector : List Bool → ℕ →
         ap (λ (h : Found). h ∷ fs) same ∙ ap (λ (hs : List Found). g ∷ hs) rest
 
 module _ (read : TracksAreRead) where
-  one_part : (format : Format) (track : TrackId) (cells : List Bool) (a b : Part) → IsRingPart format track cells a → IsRingPart format track cells b → a ≡ b
+  one_part : (format : Format) (track : TrackId) (cells : List Bool) (a b : TrackPart) → IsRingPart format track cells a → IsRingPart format track cells b → a ≡ b
   one_part format track cells a b p q =
       p.is ∙ ap (λ (found : List Found). part_of format track (ring_readings found))
       (one_list (header_at format track) (sector_at format track) _ (read.told format track) (cells ++ cells) (length cells) 0 p.found q.found p.all q.all)
       ∙ sym q.is
 
-  no_part : Part
+  no_part : TrackPart
   no_part = record { image = []; lines = []; totals = no_totals }
 
-  one_parts : (format : Format) (file : List ℕ) (ps qs : List Part) → AreFileParts format file ps → AreFileParts format file qs → length ps ≡ length qs → ps ≡ qs
+  one_parts : (format : Format) (file : List ℕ) (ps qs : List TrackPart) → AreFileParts format file ps → AreFileParts format file qs → length ps ≡ length qs → ps ≡ qs
   unfolding no_part
   one_parts format file ps qs are others same =
       ext_get_or no_part ps qs same
@@ -103,4 +103,4 @@ module _ (read : TracksAreRead) where
 
   pub one_file_disk : OneFileDisk
   one_file_disk format file a b p q =
-      p.is ∙ ap (λ (parts : List Part). file_disk_of parts (first_fault format file)) (one_parts format file p.parts q.parts p.each q.each (p.many ∙ sym q.many)) ∙ sym q.is
+      p.is ∙ ap (λ (parts : List TrackPart). file_disk_of parts (first_fault format file)) (one_parts format file p.parts q.parts p.each q.each (p.many ∙ sym q.many)) ∙ sym q.is

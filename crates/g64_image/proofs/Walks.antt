@@ -6,7 +6,7 @@ use Rattle.flux_engine.specs.Tracks.{Found, readings_at}
 use Rattle.frame_law.specs.declared.reading.Reading.{Reading as Frame}
 use Rattle.frame_law.specs.Readings.{FirstReading, NoHeader}
 use Rattle.turn_merge.specs.Book.{Knowledge, SameShape, StandsFor}
-use Rattle.turn_merge.specs.Readings.{Reading}
+use Rattle.turn_merge.specs.Readings.{NotedReading}
 use Rattle.turn_merge.specs.declared.verdict.Place.{Place}
 use Rattle.g64_image.specs.FileDisks.{AreReadingsTo, ring_place}
 use Rattle.g64_image.specs.Gathering.{GathersTo, IsWalk}
@@ -26,23 +26,23 @@ module _ (header : List Bool → ℕ → Type 0) (sector : List Bool → ℕ →
       → IsWalk header sector cells end from old mid
       → FirstReading header sector cells from (Some (cell, frame)) bytes → cell < end
       → place ≡ ring_place cell → piece ≡ bytes
-      → ((readings : List Reading) → StandsFor mid readings → StandsFor new (readings ++ readings_at place frame piece))
+      → ((readings : List NotedReading) → StandsFor mid readings → StandsFor new (readings ++ readings_at place frame piece))
       → new.notes ≤ mid.notes + 1 → SameShape mid new
       → IsWalk header sector cells end (cell + 1) old new
   walk_step from cell frame bytes piece place old mid new w first low at same appends count shape =
       let Appended : Place → List ℕ → Type 0 = λ (p : Place) (xs : List ℕ).
-      (readings : List Reading) → StandsFor mid readings → StandsFor new (readings ++ readings_at p frame xs) in
+      (readings : List NotedReading) → StandsFor mid readings → StandsFor new (readings ++ readings_at p frame xs) in
       let noted : Appended (ring_place cell) bytes =
       subst (λ (p : Place). Appended p bytes) at (subst (λ (xs : List ℕ). Appended place xs) same appends) in
       let here : Found = (cell, frame, bytes) in
-      let of_found : Found → List Reading = λ (f : Found). readings_at (ring_place f.0) f.1 f.2 in
+      let of_found : Found → List NotedReading = λ (f : Found). readings_at (ring_place f.0) f.1 f.2 in
       let more = noted (flat_map of_found w.found) w.noted in
       record {
         found = w.found ++ here ∷ [];
         before = λ (rest : List Found) (all : AreReadingsTo header sector cells end (cell + 1) rest).
             subst (AreReadingsTo header sector cells end 0) (sym (append_assoc w.found (here ∷ []) rest)) (w.before (here ∷ rest) (first, low, all));
         noted = subst (StandsFor new)
-            (sym (flat_map-append of_found w.found (here ∷ []) ∙ ap (λ (r : List Reading). flat_map of_found w.found ++ r) (append-nil (of_found here)))) more;
+            (sym (flat_map-append of_found w.found (here ∷ []) ∙ ap (λ (r : List NotedReading). flat_map of_found w.found ++ r) (append-nil (of_found here)))) more;
         shape = record {
           first_is = shape.first_is ∙ w.shape.first_is;
           most_is = shape.most_is ∙ w.shape.most_is;

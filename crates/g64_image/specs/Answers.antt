@@ -4,7 +4,7 @@ use Rattle.std.specs.Io.KnownBytes.{Appends, Consumes, IsAtEnd}
 use Rattle.flux_base.specs.Outside.{AppendsPart, Rose}
 use Rattle.flux_engine.specs.Answers.{AppendsAndPart}
 use Rattle.flux_engine.specs.Disks.{images, lines, totals_over}
-use Rattle.flux_engine.specs.Tracks.{Part}
+use Rattle.flux_engine.specs.Tracks.{TrackPart}
 use Rattle.flux_engine.specs.Writes.{IsNoImage, IsWholeImage, most_read}
 use Rattle.sector_images.specs.Formats.{row}
 use Rattle.sector_images.specs.Places.{tracks}
@@ -81,8 +81,8 @@ pub record IsTakenFile (taken : List ℕ) (left' : Option (List ℕ)) : Type 0 w
 
 -- the lines of the first tracks were written, and their parts of the image with a part of the next that is shorter than it
 pub record StoppedInImage (format : Format) (file : List ℕ) (image image' notes notes' : Option (List ℕ)) : Type 0 where
-  pub parts : List Part
-  pub next : Part
+  pub parts : List TrackPart
+  pub next : TrackPart
   pub each : AreFileParts format file (parts ++ next ∷ [])
   pub many : length parts < length (tracks format)
   pub image_grew : AppendsAndPart image image' (images parts) next.image
@@ -91,8 +91,8 @@ pub record StoppedInImage (format : Format) (file : List ℕ) (image image' note
 -- the lines of the first tracks were written, with a part of the lines of the next that is shorter than they are, and
 -- the parts of the image of all these tracks
 pub record StoppedInLines (format : Format) (file : List ℕ) (image image' notes notes' : Option (List ℕ)) : Type 0 where
-  pub parts : List Part
-  pub next : Part
+  pub parts : List TrackPart
+  pub next : TrackPart
   pub each : AreFileParts format file (parts ++ next ∷ [])
   pub many : length parts < length (tracks format)
   pub image_grew : Appends image image' (images (parts ++ next ∷ []))
@@ -100,7 +100,7 @@ pub record StoppedInLines (format : Format) (file : List ℕ) (image image' note
 
 -- all sector lines and the whole image were written, and a part of the total line that is shorter than it
 pub record StoppedInTotal (format : Format) (file : List ℕ) (image image' notes notes' : Option (List ℕ)) : Type 0 where
-  pub parts : List Part
+  pub parts : List TrackPart
   pub each : AreFileParts format file parts
   pub many : length parts ≡ length (tracks format)
   pub image_grew : Appends image image' (images parts)

@@ -4,13 +4,13 @@ use Rattle.disk_recordings.specs.Members.{header_at, sector_at}
 use Rattle.flux_base.specs.declared.track.TrackId.{TrackId}
 use Rattle.flux_engine.specs.Disks.{images, lines, part_at, totals_over}
 use Rattle.flux_engine.specs.Recordings.{track_at}
-use Rattle.flux_engine.specs.Tracks.{Found, Part, part_of, readings_at}
+use Rattle.flux_engine.specs.Tracks.{Found, TrackPart, part_of, readings_at}
 use Rattle.frame_law.specs.Readings.{FirstReading, NoHeader}
 use Rattle.sector_images.specs.Places.{tracks}
 use Rattle.sector_images.specs.declared.format.Format.{Format}
 use Rattle.sector_report.specs.Lines.{total_text}
 use Rattle.sector_report.specs.declared.totals.Totals.{Totals}
-use Rattle.turn_merge.specs.Readings.{Reading}
+use Rattle.turn_merge.specs.Readings.{NotedReading}
 use Rattle.turn_merge.specs.declared.verdict.Place.{Place}
 use Rattle.g64_image.specs.Faults.{first_fault}
 use Rattle.g64_image.specs.Layout.{track_cells}
@@ -28,22 +28,22 @@ abbrev pub ring_place : ℕ → Place
 ring_place cell = record { turn = 0; cell = cell }
 
 -- the readings of all that is found on such a track
-abbrev pub ring_readings : List Found → List Reading
+abbrev pub ring_readings : List Found → List NotedReading
 ring_readings found = flat_map (λ f. readings_at (ring_place f.0) f.1 f.2) found
 
 -- All that can be read in a ring of these cells, and what it comes to: at each place of the cells, where the first cells stand
 -- once more behind the last.
-pub record IsRingPart (format : Format) (track : TrackId) (cells : List Bool) (part : Part) : Type 0 where
+pub record IsRingPart (format : Format) (track : TrackId) (cells : List Bool) (part : TrackPart) : Type 0 where
   pub found : List Found
   pub all : AreReadingsTo (header_at format track) (sector_at format track) (cells ++ cells) (length cells) 0 found
   pub is : part ≡ part_of format track (ring_readings found)
 
 -- what the cells come to that a file has of track number n
-abbrev pub IsFilePart : Format → List ℕ → ℕ → Part → Type 0
+abbrev pub IsFilePart : Format → List ℕ → ℕ → TrackPart → Type 0
 IsFilePart format file n part = IsRingPart format (track_at format n) (track_cells file n) part
 
 -- the first tracks of a file, one for each part
-abbrev pub AreFileParts : Format → List ℕ → List Part → Type 0
+abbrev pub AreFileParts : Format → List ℕ → List TrackPart → Type 0
 AreFileParts format file parts = (n : ℕ) → n < length parts → IsFilePart format file n (part_at parts n)
 
 -- the bytes of the image and of the report, the totals, and the file's fault
@@ -63,7 +63,7 @@ abbrev pub last_line : Totals → Option G64Fault → List ℕ
 last_line totals (Some fault) = []
 last_line totals None = total_text totals
 
-abbrev pub file_disk_of : List Part → Option G64Fault → FileDisk
+abbrev pub file_disk_of : List TrackPart → Option G64Fault → FileDisk
 file_disk_of parts fault = record {
   image = images parts;
   notes = lines parts ++ last_line (totals_over parts) fault;
@@ -73,7 +73,7 @@ file_disk_of parts fault = record {
 
 -- what a file comes to: all its tracks, or nothing where it has a fault
 pub record IsFileDisk (format : Format) (file : List ℕ) (o : FileDisk) : Type 0 where
-  pub parts : List Part
+  pub parts : List TrackPart
   pub each : AreFileParts format file parts
   pub many : length parts ≡ read_count format (first_fault format file)
   pub is : o ≡ file_disk_of parts (first_fault format file)

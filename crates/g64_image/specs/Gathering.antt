@@ -6,7 +6,7 @@ use Rattle.flux_engine.specs.Tracks.{Found, part_of}
 use Rattle.flux_engine.specs.Writing.{Knows}
 use Rattle.sector_images.specs.declared.format.Format.{Format}
 use Rattle.turn_merge.specs.Book.{Knowledge, SameShape, StandsFor}
-use Rattle.turn_merge.specs.Readings.{Reading}
+use Rattle.turn_merge.specs.Readings.{NotedReading}
 use Rattle.g64_image.specs.FileDisks.{AreReadingsTo, IsRingPart, ring_readings}
 
 -- all that can be read at places of the cells below the end was noted in the book
@@ -30,6 +30,6 @@ pub record IsWalk (header : List Bool → ℕ → Type 0) (sector : List Bool �
 -- the book stands for all readings of a ring of these cells
 pub record HasRingReadings (format : Format) (track : TrackId) (cells : List Bool) (book : Knowledge) : Type 0 where
   pub knows : Knows (sectors_of format track) book
-  pub readings : List Reading
+  pub readings : List NotedReading
   pub stands : StandsFor book readings
   pub is : IsRingPart format track cells (part_of format track readings)

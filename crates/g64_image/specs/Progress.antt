@@ -2,7 +2,7 @@
 use Rattle.std.specs.Prelude.{◌≡◌, ℕ, List, length, Option, Result, Ok, Err}
 use Rattle.std.specs.Io.KnownBytes.{Appends}
 use Rattle.flux_engine.specs.Disks.{images, lines, totals_over}
-use Rattle.flux_engine.specs.Tracks.{Part}
+use Rattle.flux_engine.specs.Tracks.{TrackPart}
 use Rattle.flux_engine.specs.declared.track_part.PartFault.{PartFault}
 use Rattle.flux_engine.specs.declared.track_part.PartFault.TheVariants.{ImageFault, NotesFault}
 use Rattle.sector_images.specs.declared.format.Format.{Format}
@@ -12,7 +12,7 @@ use Rattle.g64_image.specs.FileDisks.{AreFileParts}
 
 -- The first n tracks of a file are written whole.
 pub record HasRead (format : Format) (file : List ℕ) (image image' notes notes' : Option (List ℕ)) (n : ℕ) (totals : Totals) : Type 0 where
-  pub parts : List Part
+  pub parts : List TrackPart
   pub many : length parts ≡ n
   pub each : AreFileParts format file parts
   pub image_grew : Appends image image' (images parts)

@@ -8,7 +8,7 @@ use Rattle.frame_law.specs.Frames.{DataStand, HeaderStands as Header, SectorStan
 use Rattle.ibm_fields.specs.Fields.{CHECK_START, ID_BYTE, address, bytes_at, number_at}
 
 -- the tracks: 77 cylinders of one side
-pub record IsTrack (track : TrackId) : Type 0 where
+pub record IsFmTrack (track : TrackId) : Type 0 where
   pub cylinder : track.cylinder < 77
   pub head : track.head ≡ 0
 

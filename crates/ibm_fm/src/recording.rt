@@ -4,7 +4,7 @@ ghost use Rattle.ibm_fm.specs.lemmas.FrameLaws.{frame_stands};
 ghost use Rattle.ibm_fm.specs.Layout.{row_cells, row_size, rows};
 ghost use Rattle.ibm_fm.specs.lemmas.OwnLaws.{tells};
 ghost use Rattle.ibm_fm.specs.lemmas.RowLaws.{row_follows, row_length};
-ghost use Rattle.ibm_fm.specs.Sectors.{Hold, IsSync, IsTrack, NamesSector};
+ghost use Rattle.ibm_fm.specs.Sectors.{Hold, IsSync, IsFmTrack, NamesSector};
 ghost use Rattle.ibm_fm.specs.lemmas.StandLaws.{bytes_held, one_name, sizes, sums, within_reach};
 ghost use Rattle.ibm_fm.specs.lemmas.Syncs.{own_syncs};
 
@@ -47,7 +47,7 @@ impl Layout for IbmFm {
 
     ghost HEADER_CELLS = { 112 };
 
-    ghost has_track = { λ r track. IsTrack track };
+    ghost has_track = { λ r track. IsFmTrack track };
 
     ghost lowest_sector = { λ r. 1 };
 

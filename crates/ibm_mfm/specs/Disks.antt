@@ -24,7 +24,7 @@ abbrev pub disk_of : ℕ → Disk
 disk_of sectors = unwrap_or (found_disk sectors) no_disk
 
 -- the tracks: 80 cylinders of two sides
-pub record IsTrack (sectors : ℕ) (track : TrackId) : Type 0 where
+pub record IsMfmTrack (sectors : ℕ) (track : TrackId) : Type 0 where
   pub disk : IsSome (found_disk sectors)
   pub cylinder : track.cylinder < 80
   pub head : track.head < 2

@@ -1,7 +1,7 @@
 ghost use Rattle.std.specs.Prelude.{◌≡◌, ℕ, ◌+◌, true, refl};
 ghost use Rattle.std.proofs.Common.{lit≤, sym, ◌∙◌};
 ghost use Rattle.ibm_mfm.specs.lemmas.DiskLaws.{counts, ends, sums};
-ghost use Rattle.ibm_mfm.specs.Disks.{IsTrack, disk_of as disk_with};
+ghost use Rattle.ibm_mfm.specs.Disks.{IsMfmTrack, disk_of as disk_with};
 ghost use Rattle.ibm_mfm.specs.lemmas.FrameLaws.{frame_stands};
 ghost use Rattle.ibm_mfm.specs.lemmas.HeaderSyncs.{own_syncs};
 ghost use Rattle.ibm_mfm.specs.Layout.{row_cells, row_size, rows};
@@ -53,7 +53,7 @@ impl Layout for IbmMfm {
 
     ghost HEADER_CELLS = { 160 };
 
-    ghost has_track = { λ r track. IsTrack r.sectors track };
+    ghost has_track = { λ r track. IsMfmTrack r.sectors track };
 
     ghost lowest_sector = { λ r. (disk_with r.sectors).first_sector };
 

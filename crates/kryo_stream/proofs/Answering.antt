@@ -9,14 +9,14 @@ use Rattle.flux_base.specs.declared.outside.Failed.{Failed}
 use Rattle.index_turns.specs.Track.{TrackState, KeepsRoom}
 use Rattle.kryo_stream.specs.declared.block.Block.{Block}
 use Rattle.kryo_stream.specs.declared.block.Block.TheVariants.{Flux, Overflow, Nop, StreamInfo, Index, StreamEnd, Info, End}
-use Rattle.kryo_stream.specs.declared.block.Piece.{Piece}
+use Rattle.kryo_stream.specs.declared.block.SpelledBlock.{SpelledBlock}
 use Rattle.kryo_stream.specs.declared.before.Before.{Before}
 use Rattle.kryo_stream.specs.declared.fault.StreamFault.{StreamFault}
 use Rattle.kryo_stream.specs.declared.fault.StreamFault.TheVariants.{Truncated}
 use Rattle.kryo_stream.specs.declared.fault.TrackFault.{TrackFault}
 use Rattle.kryo_stream.specs.declared.fault.TrackFault.TheVariants.{ReadFault, Memory, Refused}
 use Rattle.kryo_stream.specs.Bench.{BenchState, IsNoted, IsComplete, TurnCause, HasFullBench, KeepsBenchRoom, IsSized}
-use Rattle.kryo_stream.specs.Pieces.{Reading, piece_at}
+use Rattle.kryo_stream.specs.Pieces.{BlockOrFault, piece_at}
 use Rattle.kryo_stream.specs.Stream.{total_bytes, ticks, marks, index_time, block_of_byte, is_in_stream, in_stream_bytes, block_ticks, pieces, is_end, turn_fault, indexes_of}
 use Rattle.kryo_stream.specs.Outcome.{Answer, Says, IsTruncated, IsCut, IsRead, IsReadOfInput, DoNotTell, input_of, HasFullRoom, IsSmall, IsNotMemory, TrackCause}
 use Rattle.kryo_stream.specs.Tally.{at_start, behind, new_times, IsWithin, MayFollow, IsTally}
@@ -50,10 +50,10 @@ at_block {old} {mid} {new} {held} {now} {n} {b} {ts} {bench} taken p takes =
       reading = reading taken;
     }
 
-pub Progress-push : {old mid new : SourceMoment} {held now next : List ℕ} {n : ℕ} {b : Before} {ts : List ℕ} {bench : BenchState} (p : Piece) (bench' : BenchState)
+pub Progress-push : {old mid new : SourceMoment} {held now next : List ℕ} {n : ℕ} {b : Before} {ts : List ℕ} {bench : BenchState} (p : SpelledBlock) (bench' : BenchState)
     → Progress old mid held now n b ts bench → TakesBlock mid new now next b (Ok (Ok p))
     → is_end p.block ≡ false → IsWithin (behind b p)
-    → ((ps : List Piece) → IsNoted ps bench → length ps ≡ n → in_stream_bytes ps ≡ b.counted → IsNoted (ps ++ p ∷ []) bench')
+    → ((ps : List SpelledBlock) → IsNoted ps bench → length ps ≡ n → in_stream_bytes ps ≡ b.counted → IsNoted (ps ++ p ∷ []) bench')
     → Progress old new held next (n + 1) (behind b p) (ts ++ new_times b.time p.block) bench'
 Progress-push {old} {mid} {new} {held} {now} {next} {n} {b} {ts} {bench} p bench' r t going within noted =
     let one : suc n ≡ n + 1 = omega arith in
@@ -100,7 +100,7 @@ read_failed {old} {mid} {new} {held} {now} {next} {n} {b} {ts} {bench} flux fail
       cut = (n, first_fault-here (held ++ here.taken) n (now ++ t.taken) b ts bench Truncated here.reading t.says);
     }
 
-pub read_memory : {old mid new : SourceMoment} {held now next : List ℕ} {n : ℕ} {b : Before} {ts : List ℕ} {bench : BenchState} (flux : TrackState) (answer : Result Reading Failed)
+pub read_memory : {old mid new : SourceMoment} {held now next : List ℕ} {n : ℕ} {b : Before} {ts : List ℕ} {bench : BenchState} (flux : TrackState) (answer : Result BlockOrFault Failed)
     → Progress old mid held now n b ts bench → TakesBlock mid new now next b answer
     → IsRead old.left new.left false held next flux (Err Memory)
 read_memory {old} {mid} {new} {held} {now} {next} {n} {b} {ts} {bench} flux answer r t =
@@ -114,11 +114,11 @@ read_memory {old} {mid} {new} {held} {now} {next} {n} {b} {ts} {bench} flux answ
     }
 
 -- what was taken for a block was needed
-pub taken_for_block : {old mid new : SourceMoment} {held now next : List ℕ} {n : ℕ} {b : Before} {ts : List ℕ} {bench : BenchState} {answer : Result Reading Failed}
+pub taken_for_block : {old mid new : SourceMoment} {held now next : List ℕ} {n : ℕ} {b : Before} {ts : List ℕ} {bench : BenchState} {answer : Result BlockOrFault Failed}
     → Progress old mid held now n b ts bench → TakesBlock mid new now next b answer → (taken : List ℕ) × TakesOpenly false held old new taken
 taken_for_block r t = let here = at_block t.taken r t.takes in (here.taken, here.takes)
 
-end-within : (b : Before) (p : Piece) → p.block ≡ End → IsWithin b → MayFollow b p → IsWithin (behind b p)
+end-within : (b : Before) (p : SpelledBlock) → p.block ≡ End → IsWithin b → MayFollow b p → IsWithin (behind b p)
 end-within b p is within follows =
     let counted : (if is_in_stream p.block then p.bytes else 0) ≡ 0 = ap (λ k. if is_in_stream k then p.bytes else 0) is in
     let time : block_ticks p.block ≡ 0 = ap block_ticks is in record {
@@ -128,7 +128,7 @@ end-within b p is within follows =
     }
 
 -- the End was read: all blocks are noted, and what is left stands after it
-pub record AtEnd (old new : SourceMoment) (held next : List ℕ) (n : ℕ) (b : Before) (ts : List ℕ) (bench bench' : BenchState) (p : Piece)
+pub record AtEnd (old new : SourceMoment) (held next : List ℕ) (n : ℕ) (b : Before) (ts : List ℕ) (bench bench' : BenchState) (p : SpelledBlock)
     (transitions : List ℕ) : Type 0 where
   pub rest : List ℕ
   pub progress : Progress old new held rest n b ts bench
@@ -141,14 +141,14 @@ pub record AtEnd (old new : SourceMoment) (held next : List ℕ) (n : ℕ) (b : 
   pub in_order : All (λ t. t ≤ 274877906944) transitions
   pub complete : IsComplete (pieces (held ++ progress.taken) n ++ p ∷ []) bench' transitions b.counted n
 
-pub at_end : {old mid new : SourceMoment} {held now next : List ℕ} {n : ℕ} {b : Before} {ts : List ℕ} {bench bench' : BenchState} (p : Piece)
+pub at_end : {old mid new : SourceMoment} {held now next : List ℕ} {n : ℕ} {b : Before} {ts : List ℕ} {bench bench' : BenchState} (p : SpelledBlock)
     (transitions : List ℕ) → Progress old mid held now n b ts bench → TakesBlock mid new now next b (Ok (Ok p)) → p.block ≡ End
-    → ((ps : List Piece) → IsNoted ps bench → length ps ≡ n → in_stream_bytes ps ≡ b.counted → IsNoted (ps ++ p ∷ []) bench')
+    → ((ps : List SpelledBlock) → IsNoted ps bench → length ps ≡ n → in_stream_bytes ps ≡ b.counted → IsNoted (ps ++ p ∷ []) bench')
     → transitions ≡ ts ++ new_times b.time p.block
     → AtEnd old new held next n b ts bench bench' p transitions
 at_end {old} {mid} {new} {held} {now} {next} {n} {b} {ts} {bench} {bench'} p transitions r t ends noted times =
     let here : Progress old new held (now ++ t.taken) n b ts bench = at_block t.taken r t.takes in
-    let ps : List Piece = pieces (held ++ here.taken) n in
+    let ps : List SpelledBlock = pieces (held ++ here.taken) n in
     let follows = piece_at-follows b (now ++ t.taken) p t.says.0 in
     let within : IsWithin (behind b p) = end-within b p ends here.reading.tally.within follows.0 in
     let tally : IsTally (ps ++ p ∷ []) (behind b p) (ts ++ new_times b.time p.block) =
@@ -175,24 +175,24 @@ at_end {old} {mid} {new} {held} {now} {next} {n} {b} {ts} {bench} {bench'} p tra
     }
 
 -- some blocks complete the bench
-pub complete : {old new : SourceMoment} {held next : List ℕ} {n : ℕ} {b : Before} {ts : List ℕ} {bench bench' : BenchState} {p : Piece} {transitions : List ℕ}
-    → AtEnd old new held next n b ts bench bench' p transitions → (ps : List Piece) × IsComplete ps bench' transitions b.counted n
+pub complete : {old new : SourceMoment} {held next : List ℕ} {n : ℕ} {b : Before} {ts : List ℕ} {bench bench' : BenchState} {p : SpelledBlock} {transitions : List ℕ}
+    → AtEnd old new held next n b ts bench bench' p transitions → (ps : List SpelledBlock) × IsComplete ps bench' transitions b.counted n
 complete {held = held} {n = n} {p = p} e = (pieces (held ++ e.progress.taken) n ++ p ∷ [], e.complete)
 
-on_ok_at : {bench' : BenchState} {transitions : List ℕ} {counted n : ℕ} (P : List Piece → Type 0) (answer : Answer) (ps : List Piece)
+on_ok_at : {bench' : BenchState} {transitions : List ℕ} {counted n : ℕ} (P : List SpelledBlock → Type 0) (answer : Answer) (ps : List SpelledBlock)
     → IsComplete ps bench' transitions counted n
-    → OnOk answer ((qs : List Piece) → IsComplete qs bench' transitions counted n → P qs) → OnOk answer (P ps)
+    → OnOk answer ((qs : List SpelledBlock) → IsComplete qs bench' transitions counted n → P qs) → OnOk answer (P ps)
 on_ok_at P (Ok _) ps whole ok = ok ps whole
 on_ok_at P (Err _) ps whole ok = tt
 
-if_err_at : {bench' : BenchState} {transitions : List ℕ} {counted n : ℕ} (answer : Answer) (ps : List Piece) (spare : ℕ)
+if_err_at : {bench' : BenchState} {transitions : List ℕ} {counted n : ℕ} (answer : Answer) (ps : List SpelledBlock) (spare : ℕ)
     → IsComplete ps bench' transitions counted n
-    → IfErr answer (λ fault. (qs : List Piece) → IsComplete qs bench' transitions counted n → TurnCause qs spare fault)
+    → IfErr answer (λ fault. (qs : List SpelledBlock) → IsComplete qs bench' transitions counted n → TurnCause qs spare fault)
     → IfErr answer (TurnCause ps spare)
 if_err_at (Ok _) ps spare whole err = tt
 if_err_at (Err _) ps spare whole err = err ps whole
 
-end_says : (ps : List Piece) (x rest ts : List ℕ) (flux : TrackState) (answer : Answer) (spare : ℕ) → IsEnding x ps rest ts
+end_says : (ps : List SpelledBlock) (x rest ts : List ℕ) (flux : TrackState) (answer : Answer) (spare : ℕ) → IsEnding x ps rest ts
     → flux.times ≡ ts → OnOk answer (turn_fault ps ≡ None) → OnOk answer (flux.indexes ≡ indexes_of ps)
     → IfErr answer (TurnCause ps spare) → Says answer x flux rest
 end_says ps x rest ts flux (Ok _) spare e times ok indexes err = record {
@@ -205,29 +205,29 @@ end_says ps x rest ts flux (Err ReadFault) spare e times ok indexes err = tt
 end_says ps x rest ts flux (Err Memory) spare e times ok indexes err = tt
 end_says ps x rest ts flux (Err (Refused block fault)) spare e times ok indexes err = e.fault ∙ err
 
-end_ended : (ps : List Piece) (answer : Answer) (spare : ℕ) (left' : Option (List ℕ)) → IfErr answer (TurnCause ps spare)
+end_ended : (ps : List SpelledBlock) (answer : Answer) (spare : ℕ) (left' : Option (List ℕ)) → IfErr answer (TurnCause ps spare)
     → IsTruncated answer → IsAtEnd left'
 end_ended ps (Ok _) spare left' err never = absurd never
 end_ended ps (Err ReadFault) spare left' err never = absurd never
 end_ended ps (Err Memory) spare left' err never = absurd never
 end_ended ps (Err (Refused block fault)) spare left' err is = absurd (turn_fault-not ps block fault err is)
 
-end_cut : (ps : List Piece) (answer : Answer) (spare : ℕ) (x : List ℕ) → IfErr answer (TurnCause ps spare) → IsCut answer x
+end_cut : (ps : List SpelledBlock) (answer : Answer) (spare : ℕ) (x : List ℕ) → IfErr answer (TurnCause ps spare) → IsCut answer x
 end_cut ps (Ok _) spare x err = tt
 end_cut ps (Err ReadFault) spare x err = absurd err
 end_cut ps (Err Memory) spare x err = tt
 end_cut ps (Err (Refused block fault)) spare x err = tt
 
-pub read_end : {old new : SourceMoment} {held next : List ℕ} {n : ℕ} {b : Before} {ts : List ℕ} {bench bench' : BenchState} {p : Piece} {transitions : List ℕ}
+pub read_end : {old new : SourceMoment} {held next : List ℕ} {n : ℕ} {b : Before} {ts : List ℕ} {bench bench' : BenchState} {p : SpelledBlock} {transitions : List ℕ}
     (flux : TrackState) (answer : Answer) (spare : ℕ) → AtEnd old new held next n b ts bench bench' p transitions → p.block ≡ End
     → transitions ≡ ts ++ new_times b.time p.block → flux.times ≡ transitions
-    → OnOk answer ((ps : List Piece) → IsComplete ps bench' transitions b.counted n → turn_fault ps ≡ None)
-    → OnOk answer ((ps : List Piece) → IsComplete ps bench' transitions b.counted n → flux.indexes ≡ indexes_of ps)
-    → IfErr answer (λ fault. (ps : List Piece) → IsComplete ps bench' transitions b.counted n → TurnCause ps spare fault)
+    → OnOk answer ((ps : List SpelledBlock) → IsComplete ps bench' transitions b.counted n → turn_fault ps ≡ None)
+    → OnOk answer ((ps : List SpelledBlock) → IsComplete ps bench' transitions b.counted n → flux.indexes ≡ indexes_of ps)
+    → IfErr answer (λ fault. (ps : List SpelledBlock) → IsComplete ps bench' transitions b.counted n → TurnCause ps spare fault)
     → IsRead old.left new.left false held next flux answer
 read_end {old} {new} {held} {next} {n} {b} {ts} {bench} {bench'} {p} {transitions} flux answer spare e ends times kept ok indexes err =
     let x : List ℕ = held ++ e.progress.taken in
-    let ps : List Piece = pieces x n ++ p ∷ [] in
+    let ps : List SpelledBlock = pieces x n ++ p ∷ [] in
     let cause : IfErr answer (TurnCause ps spare) = if_err_at answer ps spare e.complete err in record {
       taken = e.progress.taken;
       consumed = e.progress.takes.consumed;
@@ -277,10 +277,10 @@ IsRead-told {left} {left'} {used} {held} {held'} flux answer bytes r told =
     told_after left' used held held' flux answer bytes r.taken (subst (λ l. Consumes l left' r.taken) told r.consumed) r.says r.ended
 
 -- where there is full room, a block finds room
-pub note_finds_room : {old mid new : SourceMoment} {held now next : List ℕ} {n : ℕ} {b : Before} {p : Piece} (Q : Type 0) (flux flux' : TrackState) (bench bench' : BenchState)
+pub note_finds_room : {old mid new : SourceMoment} {held now next : List ℕ} {n : ℕ} {b : Before} {p : SpelledBlock} (Q : Type 0) (flux flux' : TrackState) (bench bench' : BenchState)
     → Progress old mid held now n b flux'.times bench' → TakesBlock mid new now next b (Ok (Ok p))
     → HasFullRoom flux → KeepsRoom flux flux' → HasFullBench bench → KeepsBenchRoom bench bench'
-    → (0 < flux'.spare_times → HasFullBench bench' → (ps : List Piece) → IsNoted ps bench' → total_bytes ps + p.bytes ≤ 4194304 → Q) → Q
+    → (0 < flux'.spare_times → HasFullBench bench' → (ps : List SpelledBlock) → IsNoted ps bench' → total_bytes ps + p.bytes ≤ 4194304 → Q) → Q
 note_finds_room {held = held} {now = now} {n = n} {b = b} {p = p} Q flux flux' bench bench' r t full room full_bench bench_room finds =
     let here = at_block t.taken r t.takes in
     let follows = piece_at-follows b (now ++ t.taken) p t.says.0 in
@@ -293,22 +293,22 @@ note_finds_room {held = held} {now = now} {n = n} {b = b} {p = p} Q flux flux' b
     (pieces (held ++ r.taken) n) r.reading.noted (omega (arith, r.reading.tally.offset, follows.0.room))
 
 -- where there is full room, the index times find room
-pub end_finds_room : {old new : SourceMoment} {held next : List ℕ} {n : ℕ} {b : Before} {ts : List ℕ} {bench bench' : BenchState} {p : Piece} {transitions : List ℕ}
+pub end_finds_room : {old new : SourceMoment} {held next : List ℕ} {n : ℕ} {b : Before} {ts : List ℕ} {bench bench' : BenchState} {p : SpelledBlock} {transitions : List ℕ}
     (answer : Answer) (spare : ℕ) → AtEnd old new held next n b ts bench bench' p transitions → 262144 ≤ spare
-    → IfErr answer (λ fault. (ps : List Piece) → IsComplete ps bench' transitions b.counted n → TurnCause ps spare fault) → IsNotMemory answer
+    → IfErr answer (λ fault. (ps : List SpelledBlock) → IsComplete ps bench' transitions b.counted n → TurnCause ps spare fault) → IsNotMemory answer
 end_finds_room (Ok _) spare e room err = tt
 end_finds_room (Err ReadFault) spare e room err = tt
 end_finds_room (Err (Refused _ _)) spare e room err = tt
 end_finds_room {held = held} {n = n} {p = p} (Err Memory) spare e room err =
-    let ps : List Piece = pieces (held ++ e.progress.taken) n ++ p ∷ [] in
+    let ps : List SpelledBlock = pieces (held ++ e.progress.taken) n ++ p ∷ [] in
     let many : spare < length (marks ps) = err ps e.complete in
     let few : 16 * length (marks ps) ≤ total_bytes ps = marks-length ps e.complete.noted.sizes in
     absurd (omega (arith, many, few, room, e.complete.limit))
 
 -- no source is read for the turns
-pub end_cause : {old new : SourceMoment} {held next : List ℕ} {n : ℕ} {b : Before} {ts : List ℕ} {bench bench' : BenchState} {p : Piece} {transitions : List ℕ}
+pub end_cause : {old new : SourceMoment} {held next : List ℕ} {n : ℕ} {b : Before} {ts : List ℕ} {bench bench' : BenchState} {p : SpelledBlock} {transitions : List ℕ}
     (before now : ℕ) (answer : Answer) (spare : ℕ) → AtEnd old new held next n b ts bench bench' p transitions
-    → IfErr answer (λ fault. (ps : List Piece) → IsComplete ps bench' transitions b.counted n → TurnCause ps spare fault)
+    → IfErr answer (λ fault. (ps : List SpelledBlock) → IsComplete ps bench' transitions b.counted n → TurnCause ps spare fault)
     → TrackCause before now answer
 end_cause before now (Ok _) spare e err = tt
 end_cause before now (Err (Refused _ _)) spare e err = tt
@@ -316,19 +316,19 @@ end_cause before now (Err Memory) spare e err = tt
 end_cause {held = held} {n = n} {p = p} before now (Err ReadFault) spare e err =
     absurd (err (pieces (held ++ e.progress.taken) n ++ p ∷ []) e.complete)
 
-index_times-within : (ps : List Piece) → All IsSized ps → ticks ps ≤ 274877906944 → All (λ time. time < 2 ^ 39) (indexes_of ps)
+index_times-within : (ps : List SpelledBlock) → All IsSized ps → ticks ps ≤ 274877906944 → All (λ time. time < 2 ^ 39) (indexes_of ps)
 index_times-within ps sizes early = All-map (λ time. time < 2 ^ 39) (index_time ps) (marks ps)
     (All-weaker (λ mark. mark.sample < 2 ^ 32) (λ mark. index_time ps mark < 2 ^ 39)
     (λ mark few. omega (arith, few, early, sum_by-take-le (λ p. block_ticks p.block) ps (block_of_byte ps mark.position)))
     (marks ps) (marks-samples ps sizes))
 
 -- the track is as small as the limit makes it
-pub end_small : {old new : SourceMoment} {held next : List ℕ} {n : ℕ} {b : Before} {ts : List ℕ} {bench bench' : BenchState} {p : Piece} {transitions : List ℕ}
+pub end_small : {old new : SourceMoment} {held next : List ℕ} {n : ℕ} {b : Before} {ts : List ℕ} {bench bench' : BenchState} {p : SpelledBlock} {transitions : List ℕ}
     (flux : TrackState) (answer : Answer) → AtEnd old new held next n b ts bench bench' p transitions → flux.times ≡ transitions
-    → OnOk answer ((ps : List Piece) → IsComplete ps bench' transitions b.counted n → flux.indexes ≡ indexes_of ps)
+    → OnOk answer ((ps : List SpelledBlock) → IsComplete ps bench' transitions b.counted n → flux.indexes ≡ indexes_of ps)
     → OnOk answer (IsSmall flux)
 end_small {held = held} {n = n} {p = p} flux (Ok _) e kept indexes =
-    let ps : List Piece = pieces (held ++ e.progress.taken) n ++ p ∷ [] in
+    let ps : List SpelledBlock = pieces (held ++ e.progress.taken) n ++ p ∷ [] in
     let are : flux.indexes ≡ indexes_of ps = indexes ps e.complete in
     let sizes : All IsSized ps = e.complete.noted.sizes in record {
       few_times = omega (arith, ap length kept, e.few_times);

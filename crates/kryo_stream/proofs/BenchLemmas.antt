@@ -6,7 +6,7 @@ use Rattle.std.proofs.lemmas.List.Sums.{sum_by-append, sum_by-cons}
 use Rattle.std.proofs.lemmas.List.Elements.{All-nil, All-append, All-cons, All-head, All-tail}
 use Rattle.kryo_stream.specs.declared.block.Block.{Block}
 use Rattle.kryo_stream.specs.declared.block.Block.TheVariants.{Flux, Overflow, Nop, StreamInfo, Index, StreamEnd, Info, End}
-use Rattle.kryo_stream.specs.declared.block.Piece.{Piece}
+use Rattle.kryo_stream.specs.declared.block.SpelledBlock.{SpelledBlock}
 use Rattle.kryo_stream.specs.declared.block.Mark.{Mark}
 use Rattle.kryo_stream.specs.Protocol.{LIMIT}
 use Rattle.kryo_stream.specs.Stream.{is_in_stream, in_stream_bytes, total_bytes, marks, mark_at, mark_of}
@@ -16,13 +16,13 @@ use Rattle.kryo_stream.specs.Bench.{BenchState, IsNoted, HasFullBench, IsSized, 
 abbrev pub step_of : Block → ℕ → ℕ
 step_of block bytes = if is_in_stream block then bytes else 0
 
-pub in_stream_bytes-cons : (p : Piece) (ps : List Piece) → in_stream_bytes (p ∷ ps) ≡ stream_step p + in_stream_bytes ps
+pub in_stream_bytes-cons : (p : SpelledBlock) (ps : List SpelledBlock) → in_stream_bytes (p ∷ ps) ≡ stream_step p + in_stream_bytes ps
 in_stream_bytes-cons p ps = sum_by-cons stream_step p ps
 
-pub in_stream_bytes-append : (ps qs : List Piece) → in_stream_bytes (ps ++ qs) ≡ in_stream_bytes ps + in_stream_bytes qs
+pub in_stream_bytes-append : (ps qs : List SpelledBlock) → in_stream_bytes (ps ++ qs) ≡ in_stream_bytes ps + in_stream_bytes qs
 in_stream_bytes-append ps qs = sum_by-append stream_step ps qs
 
-pub flux_ends-append : (q : ℕ) (ps qs : List Piece)
+pub flux_ends-append : (q : ℕ) (ps qs : List SpelledBlock)
     → flux_ends q (ps ++ qs) ≡ flux_ends q ps ++ flux_ends (q + in_stream_bytes ps) qs
 flux_ends-append q [] qs = ap (λ n. flux_ends n qs) (omega arith)
 flux_ends-append q (p ∷ ps) qs =
@@ -33,7 +33,7 @@ flux_ends-append q (p ∷ ps) qs =
     (flux_ends ((q + stream_step p) + in_stream_bytes ps) qs))
     ∙ ap (λ n. (end_of (q + stream_step p) p.block ++ flux_ends (q + stream_step p) ps) ++ flux_ends n qs) e
 
-pub overflow_begins-append : (q : ℕ) (ps qs : List Piece)
+pub overflow_begins-append : (q : ℕ) (ps qs : List SpelledBlock)
     → overflow_begins q (ps ++ qs) ≡ overflow_begins q ps ++ overflow_begins (q + in_stream_bytes ps) qs
 overflow_begins-append q [] qs = ap (λ n. overflow_begins n qs) (omega arith)
 overflow_begins-append q (p ∷ ps) qs =
@@ -45,7 +45,7 @@ overflow_begins-append q (p ∷ ps) qs =
     ∙ ap (λ n. (overflow_of q p.block ++ overflow_begins (q + stream_step p) ps) ++ overflow_begins n qs) e
 
 -- the Index blocks, where the first block has this number
-abbrev pub marks_from : ℕ → List Piece → List Mark
+abbrev pub marks_from : ℕ → List SpelledBlock → List Mark
 marks_from n [] = []
 marks_from n (p ∷ ps) = cons_option (mark_of n p.block) (marks_from (n + 1) ps)
 
@@ -53,11 +53,11 @@ pub slice_get-seam : {X : Type 0} (xs : List X) (y : X) (ys : List X) → slice_
 slice_get-seam [] y ys = refl
 slice_get-seam (x ∷ xs) y ys = slice_get-seam xs y ys
 
-mark_at-seam : (done : List Piece) (p : Piece) (rest : List Piece)
+mark_at-seam : (done : List SpelledBlock) (p : SpelledBlock) (rest : List SpelledBlock)
     → mark_at (done ++ p ∷ rest) (length done) ≡ mark_of (length done) p.block
 mark_at-seam done p rest = rw (slice_get-seam done p rest)
 
-marks-rest : (done rest : List Piece)
+marks-rest : (done rest : List SpelledBlock)
     → filter_map (mark_at (done ++ rest)) (range_with_len (length done) (length rest)) ≡ marks_from (length done) rest
 marks-rest done [] = refl
 marks-rest done (p ∷ rest) =
@@ -71,10 +71,10 @@ marks-rest done (p ∷ rest) =
     ∙ marks-rest (done ++ p ∷ []) rest
     ∙ ap (λ n. marks_from n rest) longer)
 
-pub marks-from : (ps : List Piece) → marks ps ≡ marks_from 0 ps
+pub marks-from : (ps : List SpelledBlock) → marks ps ≡ marks_from 0 ps
 marks-from ps = marks-rest [] ps
 
-marks_from-append : (n : ℕ) (ps qs : List Piece) → marks_from n (ps ++ qs) ≡ marks_from n ps ++ marks_from (n + length ps) qs
+marks_from-append : (n : ℕ) (ps qs : List SpelledBlock) → marks_from n (ps ++ qs) ≡ marks_from n ps ++ marks_from (n + length ps) qs
 marks_from-append n [] qs = ap (λ m. marks_from m qs) (omega arith)
 marks_from-append n (p ∷ ps) qs =
     let e : (n + 1) + length ps ≡ n + suc (length ps) = omega arith in
@@ -85,13 +85,13 @@ marks_from-append n (p ∷ ps) qs =
     cons_option-append None xs ys = refl
     cons_option-append (Some x) xs ys = refl
 
-pub marks-snoc : (ps : List Piece) (p : Piece) → marks (ps ++ p ∷ []) ≡ marks ps ++ cons_option (mark_of (length ps) p.block) []
+pub marks-snoc : (ps : List SpelledBlock) (p : SpelledBlock) → marks (ps ++ p ∷ []) ≡ marks ps ++ cons_option (mark_of (length ps) p.block) []
 marks-snoc ps p = marks-from (ps ++ p ∷ []) ∙ marks_from-append 0 ps (p ∷ [])
     ∙ ap (λ n. marks_from 0 ps ++ cons_option (mark_of n p.block) []) (omega arith)
     ∙ ap (λ l. l ++ cons_option (mark_of (length ps) p.block) []) (sym (marks-from ps))
 
 -- one block more is noted
-pub IsNoted-step : (ps : List Piece) (p : Piece) (b b' : BenchState) → IsNoted ps b → IsSized p
+pub IsNoted-step : (ps : List SpelledBlock) (p : SpelledBlock) (b b' : BenchState) → IsNoted ps b → IsSized p
     → b'.ends ≡ b.ends ++ end_of (in_stream_bytes ps + stream_step p) p.block
     → b'.overflows ≡ b.overflows ++ overflow_of (in_stream_bytes ps) p.block
     → b'.indexes ≡ b.indexes ++ cons_option (mark_of (length ps) p.block) []
@@ -111,7 +111,7 @@ IsNoted-step ps p b b' noted size ends overflows indexes = record {
     overflows_one : (n : ℕ) → overflow_of n p.block ≡ overflow_begins (0 + n) (p ∷ [])
     overflows_one n = sym (append-nil (overflow_of (0 + n) p.block) ∙ ap (λ m. overflow_of m p.block) (omega arith))
 
-pub noted_flux : (ps : List Piece) (p : Piece) (b b' : BenchState) (ticks : ℕ) → p.block ≡ Flux ticks → IsSized p
+pub noted_flux : (ps : List SpelledBlock) (p : SpelledBlock) (b b' : BenchState) (ticks : ℕ) → p.block ≡ Flux ticks → IsSized p
     → b'.ends ≡ b.ends ++ (in_stream_bytes ps + p.bytes) ∷ [] → b'.overflows ≡ b.overflows → b'.indexes ≡ b.indexes
     → IsNoted ps b → IsNoted (ps ++ p ∷ []) b'
 noted_flux ps p b b' ticks is size ends overflows indexes noted =
@@ -122,7 +122,7 @@ noted_flux ps p b b' ticks is size ends overflows indexes noted =
     (indexes ∙ sym (append-nil b.indexes)
     ∙ ap (λ block. b.indexes ++ cons_option (mark_of (length ps) block) []) (sym is))
 
-pub noted_overflow : (ps : List Piece) (p : Piece) (b b' : BenchState) → p.block ≡ Overflow → IsSized p
+pub noted_overflow : (ps : List SpelledBlock) (p : SpelledBlock) (b b' : BenchState) → p.block ≡ Overflow → IsSized p
     → b'.overflows ≡ b.overflows ++ in_stream_bytes ps ∷ [] → b'.ends ≡ b.ends → b'.indexes ≡ b.indexes
     → IsNoted ps b → IsNoted (ps ++ p ∷ []) b'
 noted_overflow ps p b b' is size overflows ends indexes noted =
@@ -133,7 +133,7 @@ noted_overflow ps p b b' is size overflows ends indexes noted =
     (indexes ∙ sym (append-nil b.indexes)
     ∙ ap (λ block. b.indexes ++ cons_option (mark_of (length ps) block) []) (sym is))
 
-pub noted_index : (ps : List Piece) (p : Piece) (b b' : BenchState) (number position sample counter : ℕ)
+pub noted_index : (ps : List SpelledBlock) (p : SpelledBlock) (b b' : BenchState) (number position sample counter : ℕ)
     → p.block ≡ Index position sample counter → IsSized p → length ps ≡ number
     → b'.indexes ≡ b.indexes ++ record { number = number; position = position; sample = sample } ∷ []
     → b'.ends ≡ b.ends → b'.overflows ≡ b.overflows → IsNoted ps b → IsNoted (ps ++ p ∷ []) b'
@@ -162,7 +162,7 @@ IsOther-from_not (StreamEnd _ _) flux overflow index = (λ q. refl, λ q. refl, 
 IsOther-from_not (Info _) flux overflow index = (λ q. refl, λ q. refl, λ n. refl)
 IsOther-from_not End flux overflow index = (λ q. refl, λ q. refl, λ n. refl)
 
-pub noted_other : (ps : List Piece) (p : Piece) (b : BenchState) → IsOther p.block → IsSized p
+pub noted_other : (ps : List SpelledBlock) (p : SpelledBlock) (b : BenchState) → IsOther p.block → IsSized p
     → IsNoted ps b → IsNoted (ps ++ p ∷ []) b
 noted_other ps p b other size noted =
     IsNoted-step ps p b b noted size
@@ -201,10 +201,10 @@ mark_of-length (StreamEnd _ _) bytes n rest size = omega arith
 mark_of-length (Info _) bytes n rest size = omega arith
 mark_of-length End bytes n rest size = omega arith
 
-total_bytes-cons : (p : Piece) (ps : List Piece) → total_bytes (p ∷ ps) ≡ p.bytes + total_bytes ps
+total_bytes-cons : (p : SpelledBlock) (ps : List SpelledBlock) → total_bytes (p ∷ ps) ≡ p.bytes + total_bytes ps
 total_bytes-cons p ps = sum_by-cons (λ p. p.bytes) p ps
 
-pub flux_ends-length : (q : ℕ) (ps : List Piece) → All IsSized ps → length (flux_ends q ps) ≤ total_bytes ps
+pub flux_ends-length : (q : ℕ) (ps : List SpelledBlock) → All IsSized ps → length (flux_ends q ps) ≤ total_bytes ps
 flux_ends-length q [] sizes = omega arith
 flux_ends-length q (p ∷ ps) sizes =
     omega (
@@ -215,7 +215,7 @@ flux_ends-length q (p ∷ ps) sizes =
       total_bytes-cons p ps,
     )
 
-pub overflow_begins-length : (q : ℕ) (ps : List Piece) → All IsSized ps → length (overflow_begins q ps) ≤ total_bytes ps
+pub overflow_begins-length : (q : ℕ) (ps : List SpelledBlock) → All IsSized ps → length (overflow_begins q ps) ≤ total_bytes ps
 overflow_begins-length q [] sizes = omega arith
 overflow_begins-length q (p ∷ ps) sizes =
     omega (
@@ -226,7 +226,7 @@ overflow_begins-length q (p ∷ ps) sizes =
       total_bytes-cons p ps,
     )
 
-marks_from-length : (n : ℕ) (ps : List Piece) → All IsSized ps → 16 * length (marks_from n ps) ≤ total_bytes ps
+marks_from-length : (n : ℕ) (ps : List SpelledBlock) → All IsSized ps → 16 * length (marks_from n ps) ≤ total_bytes ps
 marks_from-length n [] sizes = omega arith
 marks_from-length n (p ∷ ps) sizes =
     omega (
@@ -236,21 +236,21 @@ marks_from-length n (p ∷ ps) sizes =
       total_bytes-cons p ps,
     )
 
-pub marks-length : (ps : List Piece) → All IsSized ps → 16 * length (marks ps) ≤ total_bytes ps
+pub marks-length : (ps : List SpelledBlock) → All IsSized ps → 16 * length (marks ps) ≤ total_bytes ps
 marks-length ps sizes = rw (marks-from ps) (marks_from-length 0 ps sizes)
 
 -- room for one block more
-pub spare_for_end : (ps : List Piece) (b : BenchState) (bytes : ℕ) → HasFullBench b → IsNoted ps b
+pub spare_for_end : (ps : List SpelledBlock) (b : BenchState) (bytes : ℕ) → HasFullBench b → IsNoted ps b
     → total_bytes ps + bytes ≤ LIMIT → 1 ≤ bytes → 0 < b.spare_ends
 spare_for_end ps b bytes full noted fits some =
     omega (arith, full.for_ends, flux_ends-length 0 ps noted.sizes, ap length noted.flux)
 
-pub spare_for_overflow : (ps : List Piece) (b : BenchState) (bytes : ℕ) → HasFullBench b → IsNoted ps b
+pub spare_for_overflow : (ps : List SpelledBlock) (b : BenchState) (bytes : ℕ) → HasFullBench b → IsNoted ps b
     → total_bytes ps + bytes ≤ LIMIT → 1 ≤ bytes → 0 < b.spare_overflows
 spare_for_overflow ps b bytes full noted fits some =
     omega (arith, full.for_overflows, overflow_begins-length 0 ps noted.sizes, ap length noted.overflow)
 
-pub spare_for_index : (ps : List Piece) (b : BenchState) (bytes : ℕ) → HasFullBench b → IsNoted ps b
+pub spare_for_index : (ps : List SpelledBlock) (b : BenchState) (bytes : ℕ) → HasFullBench b → IsNoted ps b
     → total_bytes ps + bytes ≤ LIMIT → bytes ≡ 16 → 0 < b.spare_indexes
 spare_for_index ps b bytes full noted fits some =
     omega (arith, full.for_indexes, marks-length ps noted.sizes, ap length noted.index)
@@ -268,11 +268,11 @@ mark_of-samples (StreamEnd _ _) bytes n rest size all = all
 mark_of-samples (Info _) bytes n rest size all = all
 mark_of-samples End bytes n rest size all = all
 
-marks_from-samples : (n : ℕ) (ps : List Piece) → All IsSized ps → All (λ mark. mark.sample < 2 ^ 32) (marks_from n ps)
+marks_from-samples : (n : ℕ) (ps : List SpelledBlock) → All IsSized ps → All (λ mark. mark.sample < 2 ^ 32) (marks_from n ps)
 marks_from-samples n [] sizes = All-nil _
 marks_from-samples n (p ∷ ps) sizes = mark_of-samples p.block p.bytes n (marks_from (n + 1) ps) (All-head IsSized p ps sizes)
     (marks_from-samples (n + 1) ps (All-tail IsSized p ps sizes))
 
 -- the sample counters have 32 bits
-pub marks-samples : (ps : List Piece) → All IsSized ps → All (λ mark. mark.sample < 2 ^ 32) (marks ps)
+pub marks-samples : (ps : List SpelledBlock) → All IsSized ps → All (λ mark. mark.sample < 2 ^ 32) (marks ps)
 marks-samples ps sizes = rw (marks-from ps) (marks_from-samples 0 ps sizes)

@@ -4,13 +4,13 @@ use Rattle.std.specs.List.{cons_option, filter_map, range_with_len}
 use Rattle.std.proofs.lemmas.Bool.{cases_lt}
 use Rattle.std.proofs.lemmas.List.{drop-append-le, drop_all, get_or_append_left, length-map}
 use Rattle.std.proofs.Math.ListN.{get_or-eq_default}
-use Rattle.kryo_stream.specs.declared.block.Piece.{Piece}
+use Rattle.kryo_stream.specs.declared.block.SpelledBlock.{SpelledBlock}
 use Rattle.kryo_stream.specs.declared.fault.StreamFault.{StreamFault}
 use Rattle.kryo_stream.specs.declared.fault.StreamFault.TheVariants.{Truncated}
 use Rattle.kryo_stream.specs.Growth.{PaddingStays, StreamsAreShort, StreamsStay}
 use Rattle.kryo_stream.specs.Protocol.{LIMIT}
 use Rattle.kryo_stream.specs.Padding.{is_padding, padding_of, unpadded}
-use Rattle.kryo_stream.specs.Pieces.{Reading}
+use Rattle.kryo_stream.specs.Pieces.{BlockOrFault}
 use Rattle.kryo_stream.specs.Stream.{total_bytes, in_stream_bytes, has_ended, is_last, piece_behind, with_piece, pieces, stops_at, last_block, fault_at, first_fault, index_time, mark_at, marks, stream, time_at, turn_fault}
 use Rattle.kryo_stream.proofs.FindLemmas.{find-range, FindsFirst, IsFirst}
 use Rattle.kryo_stream.proofs.Lists.{sum_by-push}
@@ -20,7 +20,7 @@ use Rattle.kryo_stream.proofs.Readings.{Lies}
 use Rattle.kryo_stream.proofs.Streams.{goes_on-grow, last_block-is, next-grows, pieces-grow, pieces-inside}
 
 -- a block that is not the last has bytes
-some-more : (x : List ℕ) (ps : List Piece) (r : Reading) → Lies (total_bytes ps) (drop (total_bytes ps) x) r → is_last r ≡ false
+some-more : (x : List ℕ) (ps : List SpelledBlock) (r : BlockOrFault) → Lies (total_bytes ps) (drop (total_bytes ps) x) r → is_last r ≡ false
     → total_bytes ps + 1 ≤ total_bytes (with_piece ps r)
 some-more x ps (Ok p) lies goes = omega (arith, lies.0, sum_by-push (λ q. q.bytes) ps p)
 some-more x ps (Err fault) lies goes = absurd (cc)
@@ -46,11 +46,11 @@ stops-found x None none =
 stops-first : (x : List ℕ) → IsFirst (stops_at x) 0 (0 + (length x + 1)) (last_block x)
 stops-first x = stops-found x (find (stops_at x) (range_with_len 0 (length x + 1))) (find-range (stops_at x) 0 (length x + 1))
 
-read-whole : (x : List ℕ) (n : ℕ) (r : Reading) → fault_at x n r ≡ None → (p : Piece) × (r ≡ Ok p) × (turn_fault (pieces x (n + 1)) ≡ None)
+read-whole : (x : List ℕ) (n : ℕ) (r : BlockOrFault) → fault_at x n r ≡ None → (p : SpelledBlock) × (r ≡ Ok p) × (turn_fault (pieces x (n + 1)) ≡ None)
 read-whole x n (Ok p) is = (p, refl, is)
 read-whole x n (Err fault) is = absurd (cc)
 
-is_enough : (r : Reading) (p : Piece) → r ≡ Ok p → r ≢ Err Truncated
+is_enough : (r : BlockOrFault) (p : SpelledBlock) → r ≡ Ok p → r ≢ Err Truncated
 is_enough r p is = λ cut. cc
 
 pub streams_stay : StreamsStay
@@ -66,7 +66,7 @@ streams_stay x later none =
     let one_more : n + 1 ≡ suc n = omega arith in
     let all : pieces (x ++ later) (n + 1) ≡ pieces x (n + 1) =
     ap (pieces (x ++ later)) one_more
-    ∙ ap (λ (ps : List Piece). with_piece ps (piece_behind (x ++ later) (pieces (x ++ later) n))) (pieces-grow x later n going)
+    ∙ ap (λ (ps : List SpelledBlock). with_piece ps (piece_behind (x ++ later) (pieces (x ++ later) n))) (pieces-grow x later n going)
     ∙ ap (with_piece (pieces x n)) next ∙ ap (pieces x) (sym one_more) in
     record {
       no_fault =
@@ -83,7 +83,7 @@ blocks-few x (suc n) =
     let ps = pieces x n in
     with-few ps (piece_behind x ps) (piece_at-lies (total_bytes ps) (in_stream_bytes ps) (has_ended ps) (drop (total_bytes ps) x)) (blocks-few x n)
   where
-    with-few : (ps : List Piece) (r : Reading) → Lies (total_bytes ps) (drop (total_bytes ps) x) r → length ps ≤ total_bytes ps
+    with-few : (ps : List SpelledBlock) (r : BlockOrFault) → Lies (total_bytes ps) (drop (total_bytes ps) x) r → length ps ≤ total_bytes ps
         → length (with_piece ps r) ≤ total_bytes (with_piece ps r)
     with-few ps (Ok p) lies few = omega (arith, lies.0, few, sum_by-push (λ q. q.bytes) ps p, length-append ps (p ∷ []))
     with-few ps (Err fault) lies few = few
@@ -97,7 +97,7 @@ filter-few h a (suc n) = one-few (h a) (filter_map h (range_with_len (a + 1) n))
     one-few (Some y) rest n few = omega (arith, few)
 
 -- the last block lies within the limit
-limit-of : (x : List ℕ) (ps : List Piece) (p : Piece) → piece_behind x ps ≡ Ok p → total_bytes ps + p.bytes ≤ LIMIT
+limit-of : (x : List ℕ) (ps : List SpelledBlock) (p : SpelledBlock) → piece_behind x ps ≡ Ok p → total_bytes ps + p.bytes ≤ LIMIT
 limit-of x ps p is =
     let lies : Lies (total_bytes ps) (drop (total_bytes ps) x) (Ok p) =
     subst (Lies (total_bytes ps) (drop (total_bytes ps) x)) is (piece_at-lies (total_bytes ps) (in_stream_bytes ps) (has_ended ps) (drop (total_bytes ps) x)) in

@@ -8,7 +8,7 @@ use Rattle.std.proofs.lemmas.Bool.Decides.{nat_tests}
 use Rattle.std.proofs.Math.Seq.{get_or-append_seam, take-append_seam, drop-cons}
 use Rattle.kryo_stream.specs.declared.block.Block.{Block}
 use Rattle.kryo_stream.specs.declared.block.Block.TheVariants.{Flux, Overflow, Nop, StreamInfo, Index, StreamEnd, Info, End}
-use Rattle.kryo_stream.specs.declared.block.Piece.{Piece}
+use Rattle.kryo_stream.specs.declared.block.SpelledBlock.{SpelledBlock}
 use Rattle.std.specs.List.Sorted.{IsNonDecreasing}
 use Rattle.kryo_stream.specs.Stream.{in_stream_bytes, total_bytes, ticks, block_ticks, times_of, time_at, flux_time, block_of_byte, holds_byte}
 use Rattle.kryo_stream.specs.Bench.{BenchState, IsComplete, IsSearchable, IsSized, IsSizedBlock, stream_step, flux_ends, end_of, overflow_begins, overflow_of, base_time}
@@ -16,10 +16,10 @@ use Rattle.kryo_stream.specs.Sequence.{IsHeld}
 use Rattle.kryo_stream.proofs.BenchLemmas.{step_of, in_stream_bytes-cons, in_stream_bytes-append, flux_ends-append, overflow_begins-append, overflow_begins-length, slice_get-seam}
 use Rattle.kryo_stream.proofs.FindLemmas.{find-range, FindsFirst, count_by-append, count_by-all, count_by-none, count_by-same, count_by-between}
 
-pub ticks-append : (ps qs : List Piece) → ticks (ps ++ qs) ≡ ticks ps + ticks qs
+pub ticks-append : (ps qs : List SpelledBlock) → ticks (ps ++ qs) ≡ ticks ps + ticks qs
 ticks-append ps qs = sum_by-append (λ p. block_ticks p.block) ps qs
 
-pub ticks-snoc : (ps : List Piece) (p : Piece) → ticks (ps ++ p ∷ []) ≡ ticks ps + block_ticks p.block
+pub ticks-snoc : (ps : List SpelledBlock) (p : SpelledBlock) → ticks (ps ++ p ∷ []) ≡ ticks ps + block_ticks p.block
 ticks-snoc ps p = omega (arith, ticks-append ps (p ∷ []), sum_by-cons (λ p. block_ticks p.block) p [])
 
 -- the transition of a block that ends at this time
@@ -28,11 +28,11 @@ time_of time (Flux _) = Some time
 time_of _ _ = None
 
 -- the times of the transitions, where the first block begins at this time
-abbrev pub times_from : ℕ → List Piece → List ℕ
+abbrev pub times_from : ℕ → List SpelledBlock → List ℕ
 times_from t [] = []
 times_from t (p ∷ ps) = cons_option (time_of (t + block_ticks p.block) p.block) (times_from (t + block_ticks p.block) ps)
 
-flux_time-is : (ps : List Piece) (block : Block) → flux_time ps block ≡ time_of (ticks ps) block
+flux_time-is : (ps : List SpelledBlock) (block : Block) → flux_time ps block ≡ time_of (ticks ps) block
 flux_time-is ps (Flux _) = refl
 flux_time-is ps Overflow = refl
 flux_time-is ps (Nop _) = refl
@@ -48,13 +48,13 @@ take-seam {X} xs y ys =
     ap (λ n. take n (xs ++ y ∷ ys)) (sym longer) ∙ ap (take (length (xs ++ y ∷ []))) (sym (append_assoc xs (y ∷ []) ys))
     ∙ take-append_seam (xs ++ y ∷ []) ys
 
-time_at-seam : (done : List Piece) (p : Piece) (rest : List Piece)
+time_at-seam : (done : List SpelledBlock) (p : SpelledBlock) (rest : List SpelledBlock)
     → time_at (done ++ p ∷ rest) (length done) ≡ time_of (ticks done + block_ticks p.block) p.block
 time_at-seam done p rest =
     rw (slice_get-seam done p rest) (ap (λ up_to. flux_time up_to p.block) (take-seam done p rest)
     ∙ flux_time-is (done ++ p ∷ []) p.block ∙ ap (λ t. time_of t p.block) (ticks-snoc done p))
 
-times-rest : (done rest : List Piece)
+times-rest : (done rest : List SpelledBlock)
     → filter_map (time_at (done ++ rest)) (range_with_len (length done) (length rest)) ≡ times_from (ticks done) rest
 times-rest done [] = refl
 times-rest done (p ∷ rest) =
@@ -68,10 +68,10 @@ times-rest done (p ∷ rest) =
     ∙ times-rest (done ++ p ∷ []) rest
     ∙ ap (λ t. times_from t rest) (ticks-snoc done p))
 
-pub times-from : (ps : List Piece) → times_of ps ≡ times_from 0 ps
+pub times-from : (ps : List SpelledBlock) → times_of ps ≡ times_from 0 ps
 times-from ps = times-rest [] ps
 
-times_from-append : (t : ℕ) (ps qs : List Piece) → times_from t (ps ++ qs) ≡ times_from t ps ++ times_from (t + ticks ps) qs
+times_from-append : (t : ℕ) (ps qs : List SpelledBlock) → times_from t (ps ++ qs) ≡ times_from t ps ++ times_from (t + ticks ps) qs
 times_from-append t [] qs = ap (λ m. times_from m qs) (omega arith)
 times_from-append t (p ∷ ps) qs =
     let e : (t + block_ticks p.block) + ticks ps ≡ t + ticks (p ∷ ps) =
@@ -86,28 +86,28 @@ times_from-append t (p ∷ ps) qs =
     cons_option-append None xs ys = refl
     cons_option-append (Some x) xs ys = refl
 
-pub times_of-append : (ps qs : List Piece) → times_of (ps ++ qs) ≡ times_of ps ++ times_from (ticks ps) qs
+pub times_of-append : (ps qs : List SpelledBlock) → times_of (ps ++ qs) ≡ times_of ps ++ times_from (ticks ps) qs
 times_of-append ps qs = times-from (ps ++ qs) ∙ times_from-append 0 ps qs
     ∙ ap (λ t. times_from 0 ps ++ times_from t qs) (omega arith)
     ∙ ap (λ l. l ++ times_from (ticks ps) qs) (sym (times-from ps))
 
-pub times_of-snoc : (ps : List Piece) (p : Piece)
+pub times_of-snoc : (ps : List SpelledBlock) (p : SpelledBlock)
     → times_of (ps ++ p ∷ []) ≡ times_of ps ++ cons_option (time_of (ticks ps + block_ticks p.block) p.block) []
 times_of-snoc ps p = times_of-append ps (p ∷ [])
 
 -- where the last Flux block among these ends, or 0, and the time of its transition, or 0
-abbrev pub last_end : List Piece → ℕ
+abbrev pub last_end : List SpelledBlock → ℕ
 last_end ps = get_or (0 ∷ flux_ends 0 ps) (length (flux_ends 0 ps)) 0
 
-abbrev pub last_time : List Piece → ℕ
+abbrev pub last_time : List SpelledBlock → ℕ
 last_time ps = get_or (0 ∷ times_of ps) (length (flux_ends 0 ps)) 0
 
 -- how many overflows stand after the last Flux block among these
-abbrev pub overflows_since : List Piece → ℕ
+abbrev pub overflows_since : List SpelledBlock → ℕ
 overflows_since ps = count_by (λ begin. nat_le (last_end ps) begin) (overflow_begins 0 ps)
 
 -- the overflows among these stand before their end
-abbrev begins_within : ℕ → List Piece → Type 0
+abbrev begins_within : ℕ → List SpelledBlock → Type 0
 begins_within q ps = All (λ begin. (q ≤ begin) × (begin + 1 ≤ q + in_stream_bytes ps)) (overflow_begins q ps)
 
 overflow_of-within : (block : Block) (bytes q more : ℕ) → IsSizedBlock block bytes
@@ -123,7 +123,7 @@ overflow_of-within (StreamEnd _ _) bytes q more size = λ k d below. absurd (ome
 overflow_of-within (Info _) bytes q more size = λ k d below. absurd (omega arith)
 overflow_of-within End bytes q more size = λ k d below. absurd (omega arith)
 
-overflow_begins-within : (q : ℕ) (ps : List Piece) → All IsSized ps → begins_within q ps
+overflow_begins-within : (q : ℕ) (ps : List SpelledBlock) → All IsSized ps → begins_within q ps
 overflow_begins-within q [] sizes = λ k d below. absurd (omega arith)
 overflow_begins-within q (p ∷ ps) sizes =
     All-append (λ begin. (q ≤ begin) × (begin + 1 ≤ q + in_stream_bytes (p ∷ ps))) (overflow_of q p.block)
@@ -134,7 +134,7 @@ overflow_begins-within q (p ∷ ps) sizes =
     (omega (arith, rest.0), omega (arith, rest.1, in_stream_bytes-cons p ps)))
 
 -- what the lists of the blocks so far tell of their time
-pub record Told (ps : List Piece) : Type 0 where
+pub record Told (ps : List SpelledBlock) : Type 0 where
   pub matched : length (times_of ps) ≡ length (flux_ends 0 ps)
   pub within : last_end ps ≤ in_stream_bytes ps
   pub sum : ticks ps ≡ last_time ps + 65536 * overflows_since ps
@@ -144,28 +144,28 @@ get_or-last xs y d =
     let longer : length (xs ++ y ∷ []) ≡ suc (length xs) = omega (arith, length-append xs (y ∷ [])) in
     rw longer (get_or-append_seam xs y [] d)
 
-pub in_stream_bytes-snoc : (ps : List Piece) (p : Piece) → in_stream_bytes (ps ++ p ∷ []) ≡ in_stream_bytes ps + stream_step p
+pub in_stream_bytes-snoc : (ps : List SpelledBlock) (p : SpelledBlock) → in_stream_bytes (ps ++ p ∷ []) ≡ in_stream_bytes ps + stream_step p
 in_stream_bytes-snoc ps p = omega (arith, in_stream_bytes-append ps (p ∷ []), in_stream_bytes-cons p [])
 
 -- the three kinds of blocks, as the lists see them
-pub record IsFluxStep (ps : List Piece) (p : Piece) : Type 0 where
+pub record IsFluxStep (ps : List SpelledBlock) (p : SpelledBlock) : Type 0 where
   pub ends : flux_ends 0 (ps ++ p ∷ []) ≡ flux_ends 0 ps ++ in_stream_bytes (ps ++ p ∷ []) ∷ []
   pub times : times_of (ps ++ p ∷ []) ≡ times_of ps ++ ticks (ps ++ p ∷ []) ∷ []
   pub overflows : overflow_begins 0 (ps ++ p ∷ []) ≡ overflow_begins 0 ps
 
-pub record IsOverflowStep (ps : List Piece) (p : Piece) : Type 0 where
+pub record IsOverflowStep (ps : List SpelledBlock) (p : SpelledBlock) : Type 0 where
   pub ends : flux_ends 0 (ps ++ p ∷ []) ≡ flux_ends 0 ps
   pub times : times_of (ps ++ p ∷ []) ≡ times_of ps
   pub overflows : overflow_begins 0 (ps ++ p ∷ []) ≡ overflow_begins 0 ps ++ in_stream_bytes ps ∷ []
   pub sum : ticks (ps ++ p ∷ []) ≡ ticks ps + 65536
 
-pub record IsOtherStep (ps : List Piece) (p : Piece) : Type 0 where
+pub record IsOtherStep (ps : List SpelledBlock) (p : SpelledBlock) : Type 0 where
   pub ends : flux_ends 0 (ps ++ p ∷ []) ≡ flux_ends 0 ps
   pub times : times_of (ps ++ p ∷ []) ≡ times_of ps
   pub overflows : overflow_begins 0 (ps ++ p ∷ []) ≡ overflow_begins 0 ps
   pub sum : ticks (ps ++ p ∷ []) ≡ ticks ps
 
-Told-flux : (ps : List Piece) (p : Piece) → All IsSized ps → IsFluxStep ps p → Told ps → Told (ps ++ p ∷ [])
+Told-flux : (ps : List SpelledBlock) (p : SpelledBlock) → All IsSized ps → IsFluxStep ps p → Told ps → Told (ps ++ p ∷ [])
 Told-flux ps p sizes step told =
     let grows : in_stream_bytes ps ≤ in_stream_bytes (ps ++ p ∷ []) = omega (arith, in_stream_bytes-snoc ps p) in
     let end_is : last_end (ps ++ p ∷ []) ≡ in_stream_bytes (ps ++ p ∷ []) =
@@ -192,7 +192,7 @@ Told-flux ps p sizes step told =
       sum = omega (arith, time_is, none);
     }
 
-Told-overflow : (ps : List Piece) (p : Piece) → IsOverflowStep ps p → Told ps → Told (ps ++ p ∷ [])
+Told-overflow : (ps : List SpelledBlock) (p : SpelledBlock) → IsOverflowStep ps p → Told ps → Told (ps ++ p ∷ [])
 Told-overflow ps p step told =
     let end_is : last_end (ps ++ p ∷ []) ≡ last_end ps = ap (λ l. get_or (0 ∷ l) (length l) 0) step.ends in
     let time_is : last_time (ps ++ p ∷ []) ≡ last_time ps =
@@ -211,7 +211,7 @@ Told-overflow ps p step told =
       sum = omega (arith, time_is, one, told.sum, step.sum);
     }
 
-Told-other : (ps : List Piece) (p : Piece) → IsOtherStep ps p → Told ps → Told (ps ++ p ∷ [])
+Told-other : (ps : List SpelledBlock) (p : SpelledBlock) → IsOtherStep ps p → Told ps → Told (ps ++ p ∷ [])
 Told-other ps p step told =
     let end_is : last_end (ps ++ p ∷ []) ≡ last_end ps = ap (λ l. get_or (0 ∷ l) (length l) 0) step.ends in
     let time_is : last_time (ps ++ p ∷ []) ≡ last_time ps =
@@ -226,7 +226,7 @@ Told-other ps p step told =
       sum = omega (arith, time_is, same, told.sum, step.sum);
     }
 
-flux_ends-snoc : (ps : List Piece) (p : Piece)
+flux_ends-snoc : (ps : List SpelledBlock) (p : SpelledBlock)
     → flux_ends 0 (ps ++ p ∷ []) ≡ flux_ends 0 ps ++ end_of (in_stream_bytes (ps ++ p ∷ [])) p.block
 flux_ends-snoc ps p =
     let at : (0 + in_stream_bytes ps) + stream_step p ≡ in_stream_bytes (ps ++ p ∷ []) =
@@ -235,7 +235,7 @@ flux_ends-snoc ps p =
     ∙ ap (λ l. flux_ends 0 ps ++ l) (append-nil (end_of ((0 + in_stream_bytes ps) + stream_step p) p.block)
     ∙ ap (λ n. end_of n p.block) at)
 
-overflow_begins-snoc : (ps : List Piece) (p : Piece)
+overflow_begins-snoc : (ps : List SpelledBlock) (p : SpelledBlock)
     → overflow_begins 0 (ps ++ p ∷ []) ≡ overflow_begins 0 ps ++ overflow_of (in_stream_bytes ps) p.block
 overflow_begins-snoc ps p =
     let at : 0 + in_stream_bytes ps ≡ in_stream_bytes ps = omega arith in
@@ -243,7 +243,7 @@ overflow_begins-snoc ps p =
     ∙ ap (λ l. overflow_begins 0 ps ++ l) (append-nil (overflow_of (0 + in_stream_bytes ps) p.block)
     ∙ ap (λ n. overflow_of n p.block) at)
 
-flux_step : (ps : List Piece) (p : Piece) (t : ℕ) → p.block ≡ Flux t → IsFluxStep ps p
+flux_step : (ps : List SpelledBlock) (p : SpelledBlock) (t : ℕ) → p.block ≡ Flux t → IsFluxStep ps p
 flux_step ps p t is = record {
   ends = flux_ends-snoc ps p ∙ ap (λ b. flux_ends 0 ps ++ end_of (in_stream_bytes (ps ++ p ∷ [])) b) is;
   times = times_of-snoc ps p
@@ -253,7 +253,7 @@ flux_step ps p t is = record {
       ∙ append-nil (overflow_begins 0 ps);
 }
 
-overflow_step : (ps : List Piece) (p : Piece) → p.block ≡ Overflow → IsOverflowStep ps p
+overflow_step : (ps : List SpelledBlock) (p : SpelledBlock) → p.block ≡ Overflow → IsOverflowStep ps p
 overflow_step ps p is = record {
   ends = flux_ends-snoc ps p ∙ ap (λ b. flux_ends 0 ps ++ end_of (in_stream_bytes (ps ++ p ∷ [])) b) is
       ∙ append-nil (flux_ends 0 ps);
@@ -264,7 +264,7 @@ overflow_step ps p is = record {
   sum = ticks-snoc ps p ∙ ap (λ b. ticks ps + block_ticks b) is;
 }
 
-other_step : (ps : List Piece) (p : Piece) (block : Block) → p.block ≡ block → ((q : ℕ) → end_of q block ≡ [])
+other_step : (ps : List SpelledBlock) (p : SpelledBlock) (block : Block) → p.block ≡ block → ((q : ℕ) → end_of q block ≡ [])
     → ((q : ℕ) → overflow_of q block ≡ []) → ((t : ℕ) → time_of t block ≡ None) → block_ticks block ≡ 0 → IsOtherStep ps p
 other_step ps p block is ends overflows times ticks_zero = record {
   ends = flux_ends-snoc ps p
@@ -280,7 +280,7 @@ other_step ps p block is ends overflows times ticks_zero = record {
   sum = (let e : block_ticks p.block ≡ 0 = ap block_ticks is ∙ ticks_zero in omega (arith, ticks-snoc ps p, e));
 }
 
-Told-step : (ps : List Piece) (p : Piece) (block : Block) → p.block ≡ block → All IsSized ps → Told ps → Told (ps ++ p ∷ [])
+Told-step : (ps : List SpelledBlock) (p : SpelledBlock) (block : Block) → p.block ≡ block → All IsSized ps → Told ps → Told (ps ++ p ∷ [])
 Told-step ps p (Flux t) is sizes told = Told-flux ps p sizes (flux_step ps p t is) told
 Told-step ps p Overflow is sizes told = Told-overflow ps p (overflow_step ps p is) told
 Told-step ps p (Nop n) is sizes told =
@@ -299,7 +299,7 @@ Told-step ps p End is sizes told =
 Told-nil : Told []
 Told-nil = record { matched = refl; within = omega arith; sum = refl }
 
-Told-more : (done rest : List Piece) → All IsSized done → All IsSized rest → Told done → Told (done ++ rest)
+Told-more : (done rest : List SpelledBlock) → All IsSized done → All IsSized rest → Told done → Told (done ++ rest)
 Told-more done [] sizes more told = subst Told (sym (append-nil done)) told
 Told-more done (p ∷ rest) sizes more told =
     subst Told (append_assoc done (p ∷ []) rest)
@@ -308,7 +308,7 @@ Told-more done (p ∷ rest) sizes more told =
     (All-cons IsSized p [] (All-head IsSized p rest more) (λ k d below. absurd (omega arith))))
     (All-tail IsSized p rest more) (Told-step done p p.block refl sizes told))
 
-pub Told-all : (ps : List Piece) → All IsSized ps → Told ps
+pub Told-all : (ps : List SpelledBlock) → All IsSized ps → Told ps
 Told-all ps sizes = Told-more [] ps (λ k d below. absurd (omega arith)) sizes Told-nil
 
 -- the ends among these stand within them
@@ -323,7 +323,7 @@ end_of-within (StreamEnd _ _) q low high a b = λ k d below. absurd (omega arith
 end_of-within (Info _) q low high a b = λ k d below. absurd (omega arith)
 end_of-within End q low high a b = λ k d below. absurd (omega arith)
 
-pub flux_ends-within : (q : ℕ) (ps : List Piece)
+pub flux_ends-within : (q : ℕ) (ps : List SpelledBlock)
     → All (λ e. (q ≤ e) × (e ≤ q + in_stream_bytes ps)) (flux_ends q ps)
 flux_ends-within q [] = λ k d below. absurd (omega arith)
 flux_ends-within q (p ∷ ps) =
@@ -334,7 +334,7 @@ flux_ends-within q (p ∷ ps) =
     (λ k d below. let rest = flux_ends-within (q + stream_step p) ps k d below in
     (omega (arith, rest.0), omega (arith, rest.1, in_stream_bytes-cons p ps)))
 
-ends_behind : (before from : List Piece) (position : ℕ) → IsHeld before from position
+ends_behind : (before from : List SpelledBlock) (position : ℕ) → IsHeld before from position
     → All (λ e. nat_le e position ≡ false) (flux_ends (in_stream_bytes before) from)
 ends_behind before [] position held = λ k d below. absurd (omega arith)
 ends_behind before (p ∷ ps) position held = λ k d below.
@@ -361,7 +361,7 @@ overflow_of-behind (StreamEnd _ _) bytes q position size held = λ k d below. ab
 overflow_of-behind (Info _) bytes q position size held = λ k d below. absurd (omega arith)
 overflow_of-behind End bytes q position size held = λ k d below. absurd (omega arith)
 
-overflows_behind : (before from : List Piece) (position : ℕ) → All IsSized from → IsHeld before from position
+overflows_behind : (before from : List SpelledBlock) (position : ℕ) → All IsSized from → IsHeld before from position
     → All (λ begin. position ≤ begin) (overflow_begins (in_stream_bytes before) from)
 overflows_behind before [] position sizes held = λ k d below. absurd (omega arith)
 overflows_behind before (p ∷ ps) position sizes held =
@@ -375,7 +375,7 @@ overflows_behind before (p ∷ ps) position sizes held =
     ))
 
 -- how many Flux blocks end at or before the position
-count_ends : (before from : List Piece) (position : ℕ) → in_stream_bytes before ≤ position → IsHeld before from position
+count_ends : (before from : List SpelledBlock) (position : ℕ) → in_stream_bytes before ≤ position → IsHeld before from position
     → count_by (λ e. nat_le e position) (flux_ends 0 (before ++ from)) ≡ length (flux_ends 0 before)
 count_ends before from position low held =
     let passes : All (λ e. nat_le e position ≡ true) (flux_ends 0 before) = λ k d below.
@@ -390,7 +390,7 @@ count_ends before from position low held =
     ∙ omega (arith, rest, count_by-all (λ e. nat_le e position) (flux_ends 0 before) passes)
 
 -- how many overflows stand between the last transition before the position and the position
-count_overflows : (before from : List Piece) (position : ℕ) → All IsSized before → All IsSized from
+count_overflows : (before from : List SpelledBlock) (position : ℕ) → All IsSized before → All IsSized from
     → in_stream_bytes before ≤ position → IsHeld before from position
     → count_by (λ begin. nat_le (last_end before) begin && nat_lt begin position) (overflow_begins 0 (before ++ from))
     ≡ overflows_since before
@@ -412,7 +412,7 @@ count_overflows before from position sizes more low held =
     ∙ count_by-append test (overflow_begins 0 before) (overflow_begins (0 + in_stream_bytes before) from)
     ∙ omega (arith, rest, count_by-same test (λ begin. nat_le (last_end before) begin) (overflow_begins 0 before) same)
 
-base_time-parts : (before from : List Piece) (position : ℕ) → All IsSized before → All IsSized from
+base_time-parts : (before from : List SpelledBlock) (position : ℕ) → All IsSized before → All IsSized from
     → in_stream_bytes before ≤ position → IsHeld before from position
     → base_time (flux_ends 0 (before ++ from)) (overflow_begins 0 (before ++ from)) (times_of (before ++ from)) position
     ≡ ticks before
@@ -437,28 +437,28 @@ base_time-parts before from position sizes more low held =
     ∙ count_overflows before from position sizes more low held in
     omega (arith, time_is, since, told.sum)
 
-nothing : Piece
+nothing : SpelledBlock
 nothing = record { block = End; bytes = 0 }
 
-held_at : (ps : List Piece) (j position : ℕ) → j < length ps → position < in_stream_bytes (take (j + 1) ps)
+held_at : (ps : List SpelledBlock) (j position : ℕ) → j < length ps → position < in_stream_bytes (take (j + 1) ps)
     → IsHeld (take j ps) (drop j ps) position
 held_at ps j position inside high =
     rw (drop-cons ps j nothing inside)
     (omega (arith, high, ap in_stream_bytes (take_more ps j nothing inside), in_stream_bytes-snoc (take j ps) (get_or ps j nothing)))
 
-holds_low : (ps : List Piece) (position j : ℕ) → holds_byte ps position j ≡ true → in_stream_bytes (take j ps) ≤ position
+holds_low : (ps : List SpelledBlock) (position j : ℕ) → holds_byte ps position j ≡ true → in_stream_bytes (take j ps) ≤ position
 holds_low ps position j holds = grind (arith, nat_tests, holds)
 
-holds_high : (ps : List Piece) (position j : ℕ) → holds_byte ps position j ≡ true
+holds_high : (ps : List SpelledBlock) (position j : ℕ) → holds_byte ps position j ≡ true
     → position < in_stream_bytes (take (j + 1) ps)
 holds_high ps position j holds = grind (arith, nat_tests, holds)
 
-passed_one : (ps : List Piece) (position j : ℕ) → holds_byte ps position j ≡ false → in_stream_bytes (take j ps) ≤ position
+passed_one : (ps : List SpelledBlock) (position j : ℕ) → holds_byte ps position j ≡ false → in_stream_bytes (take j ps) ≤ position
     → in_stream_bytes (take (j + 1) ps) ≤ position
 passed_one ps position j fails low = grind (arith, nat_tests, fails, low)
 
 -- where no block holds the byte, all stand before it
-passed_all : (ps : List Piece) (position : ℕ) → ((j : ℕ) → j < length ps → holds_byte ps position j ≡ false)
+passed_all : (ps : List SpelledBlock) (position : ℕ) → ((j : ℕ) → j < length ps → holds_byte ps position j ≡ false)
     → (n : ℕ) → n ≤ length ps → in_stream_bytes (take n ps) ≤ position
 passed_all ps position fails zero bound = omega arith
 passed_all ps position fails (suc n) bound =
@@ -467,11 +467,11 @@ passed_all ps position fails (suc n) bound =
     (passed_one ps position n (fails n (omega arith)) (passed_all ps position fails n (omega arith)))
 
 -- what the position asks of the number of the block that holds its byte
-pub record IsBlockOf (ps : List Piece) (position j : ℕ) : Type 0 where
+pub record IsBlockOf (ps : List SpelledBlock) (position j : ℕ) : Type 0 where
   pub low : in_stream_bytes (take j ps) ≤ position
   pub held : IsHeld (take j ps) (drop j ps) position
 
-block_of_found : (ps : List Piece) (position : ℕ) (found : Option ℕ) → position ≤ in_stream_bytes ps
+block_of_found : (ps : List SpelledBlock) (position : ℕ) (found : Option ℕ) → position ≤ in_stream_bytes ps
     → FindsFirst (holds_byte ps position) 0 (0 + length ps) found → IsBlockOf ps position (unwrap_or found (length ps))
 block_of_found ps position (Some j) within first = record {
   low = holds_low ps position j first.passes;
@@ -485,14 +485,14 @@ block_of_found ps position None within fails =
       held = rw (drop_all (length ps) ps (omega arith)) (omega (arith, low, ap in_stream_bytes all, within));
     }
 
-pub block_of_byte-is : (ps : List Piece) (position : ℕ) → position ≤ in_stream_bytes ps
+pub block_of_byte-is : (ps : List SpelledBlock) (position : ℕ) → position ≤ in_stream_bytes ps
     → IsBlockOf ps position (block_of_byte ps position)
 block_of_byte-is ps position within =
     block_of_found ps position (find (holds_byte ps position) (range_with_len 0 (length ps))) within
     (find-range (holds_byte ps position) 0 (length ps))
 
 -- the three lists tell the time at which the block begins that holds a byte
-pub base_time-is : (ps : List Piece) (position : ℕ) → All IsSized ps → position ≤ in_stream_bytes ps
+pub base_time-is : (ps : List SpelledBlock) (position : ℕ) → All IsSized ps → position ≤ in_stream_bytes ps
     → base_time (flux_ends 0 ps) (overflow_begins 0 ps) (times_of ps) position ≡ ticks (take (block_of_byte ps position) ps)
 base_time-is ps position sizes within =
     let j : ℕ = block_of_byte ps position in
@@ -548,13 +548,13 @@ IsNonDecreasing-overflow_of (StreamEnd _ _) q xs above order = order
 IsNonDecreasing-overflow_of (Info _) q xs above order = order
 IsNonDecreasing-overflow_of End q xs above order = order
 
-flux_ends-order : (q : ℕ) (ps : List Piece) → IsNonDecreasing (flux_ends q ps)
+flux_ends-order : (q : ℕ) (ps : List SpelledBlock) → IsNonDecreasing (flux_ends q ps)
 flux_ends-order q [] = λ i j d low high. absurd (omega arith)
 flux_ends-order q (p ∷ ps) =
     IsNonDecreasing-end_of p.block (q + stream_step p) (flux_ends (q + stream_step p) ps)
     (λ k d below. (flux_ends-within (q + stream_step p) ps k d below).0) (flux_ends-order (q + stream_step p) ps)
 
-overflow_begins-order : (q : ℕ) (ps : List Piece) → All IsSized ps → IsNonDecreasing (overflow_begins q ps)
+overflow_begins-order : (q : ℕ) (ps : List SpelledBlock) → All IsSized ps → IsNonDecreasing (overflow_begins q ps)
 overflow_begins-order q [] sizes = λ i j d low high. absurd (omega arith)
 overflow_begins-order q (p ∷ ps) sizes =
     let more = All-tail IsSized p ps sizes in
@@ -574,7 +574,7 @@ time_of-within (StreamEnd _ _) t high xs below rest = rest
 time_of-within (Info _) t high xs below rest = rest
 time_of-within End t high xs below rest = rest
 
-times_from-within : (t : ℕ) (ps : List Piece) → All (λ time. time ≤ t + ticks ps) (times_from t ps)
+times_from-within : (t : ℕ) (ps : List SpelledBlock) → All (λ time. time ≤ t + ticks ps) (times_from t ps)
 times_from-within t [] = λ k d below. absurd (omega arith)
 times_from-within t (p ∷ ps) =
     let sum = sum_by-cons (λ p. block_ticks p.block) p ps in
@@ -592,7 +592,7 @@ block_ticks-sized (StreamEnd _ _) bytes size = omega arith
 block_ticks-sized (Info _) bytes size = omega arith
 block_ticks-sized End bytes size = omega arith
 
-pub ticks-sized : (ps : List Piece) → All IsSized ps → ticks ps ≤ 65536 * total_bytes ps
+pub ticks-sized : (ps : List SpelledBlock) → All IsSized ps → ticks ps ≤ 65536 * total_bytes ps
 ticks-sized [] sizes = omega arith
 ticks-sized (p ∷ ps) sizes =
     omega (
@@ -603,7 +603,7 @@ ticks-sized (p ∷ ps) sizes =
       ticks-sized ps (All-tail IsSized p ps sizes),
     )
 
-pub IsSearchable-from_complete : (ps : List Piece) (b : BenchState) (transitions : List ℕ) (total end : ℕ)
+pub IsSearchable-from_complete : (ps : List SpelledBlock) (b : BenchState) (transitions : List ℕ) (total end : ℕ)
     → IsComplete ps b transitions total end → IsSearchable b transitions
 IsSearchable-from_complete ps b transitions total end c =
     let noted = c.noted in

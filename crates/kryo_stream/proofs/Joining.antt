@@ -9,12 +9,12 @@ use Rattle.std.proofs.lemmas.Grind.{get_or_default_zero}
 use Rattle.std.proofs.Math.Seq.{drop-append_seam}
 use Rattle.kryo_stream.specs.declared.block.Block.TheVariants.{End}
 use Rattle.kryo_stream.specs.declared.block.Mark.{Mark}
-use Rattle.kryo_stream.specs.declared.block.Piece.{Piece}
+use Rattle.kryo_stream.specs.declared.block.SpelledBlock.{SpelledBlock}
 use Rattle.kryo_stream.specs.declared.fault.StreamFault.{StreamFault}
 use Rattle.kryo_stream.specs.declared.fault.StreamFault.TheVariants.{BadSize, Truncated}
 use Rattle.kryo_stream.specs.Joined.{MayStandBefore, PaddingIsPassed}
 use Rattle.kryo_stream.specs.Padding.{is_padding, padding_of, unpadded}
-use Rattle.kryo_stream.specs.Pieces.{Reading, has, needs, of_size, out_of_band_piece, piece_at, unless_fault}
+use Rattle.kryo_stream.specs.Pieces.{BlockOrFault, has, needs, of_size, out_of_band_piece, piece_at, unless_fault}
 use Rattle.kryo_stream.specs.Protocol.{END_SIZE, LIMIT, OUT_OF_BAND}
 use Rattle.kryo_stream.specs.Stream.{total_bytes, is_end, is_last, marks, mark_at, turn_fault, piece_behind, with_piece, pieces, stops_at, last_block, fault_at, first_fault}
 use Rattle.kryo_stream.proofs.FindLemmas.{find-range, FindsFirst, IsFirst}
@@ -25,7 +25,7 @@ use Rattle.kryo_stream.proofs.StreamLaws.{Turns-from_fault}
 use Rattle.kryo_stream.proofs.Streams.{last_block-is, piece_behind-lies, pieces-inside}
 
 -- each block that does not stop the reading has a byte
-with_piece-more : (x : List ℕ) (ps : List Piece) (n : ℕ) (r : Reading) → Lies (total_bytes ps) (drop (total_bytes ps) x) r → is_last r ≡ false
+with_piece-more : (x : List ℕ) (ps : List SpelledBlock) (n : ℕ) (r : BlockOrFault) → Lies (total_bytes ps) (drop (total_bytes ps) x) r → is_last r ≡ false
     → n ≤ total_bytes ps → suc n ≤ total_bytes (with_piece ps r)
 with_piece-more x ps n (Ok p) lies goes_on many = omega (arith, lies.0, many, sum_by-push (λ q. q.bytes) ps p)
 with_piece-more x ps n (Err fault) lies goes_on many = absurd (cc)
@@ -47,27 +47,27 @@ last_found x None none =
 last-first : (x : List ℕ) → IsFirst (stops_at x) 0 (0 + (length x + 1)) (last_block x)
 last-first x = last_found x (find (stops_at x) (range_with_len 0 (length x + 1))) (find-range (stops_at x) 0 (length x + 1))
 
-read_end : (x : List ℕ) (n : ℕ) (r : Reading) → fault_at x n r ≡ None → (p : Piece) × (r ≡ Ok p)
+read_end : (x : List ℕ) (n : ℕ) (r : BlockOrFault) → fault_at x n r ≡ None → (p : SpelledBlock) × (r ≡ Ok p)
 read_end x n (Ok p) none = (p, refl)
 read_end x n (Err fault) none = absurd (cc)
 
-ok_not_truncated : (r : Reading) (p : Piece) → r ≡ Ok p → r ≢ Err Truncated
+ok_not_truncated : (r : BlockOrFault) (p : SpelledBlock) → r ≡ Ok p → r ≢ Err Truncated
 ok_not_truncated r p is same = cc
 
 -- An End or a fault: a stream that begins with it has a fault.
-abbrev EndsAtOnce : Reading → Type 0
+abbrev EndsAtOnce : BlockOrFault → Type 0
 EndsAtOnce (Ok p) = p.block ≡ End
 EndsAtOnce (Err fault) = Unit {0}
 
-ends_unless : (h : Result (Unit {0}) StreamFault) (r : Reading) → EndsAtOnce r → EndsAtOnce (unless_fault h r)
+ends_unless : (h : Result (Unit {0}) StreamFault) (r : BlockOrFault) → EndsAtOnce r → EndsAtOnce (unless_fault h r)
 ends_unless (Ok _) r ends = ends
 ends_unless (Err fault) r ends = tt
 
-ends_if : (test : Bool) (a b : Reading) → (test ≡ true → EndsAtOnce a) → (test ≡ false → EndsAtOnce b) → EndsAtOnce (if test then a else b)
+ends_if : (test : Bool) (a b : BlockOrFault) → (test ≡ true → EndsAtOnce a) → (test ≡ false → EndsAtOnce b) → EndsAtOnce (if test then a else b)
 ends_if true a b first second = first refl
 ends_if false a b first second = second refl
 
-ends_size : (wanted size : ℕ) (r : Reading) → EndsAtOnce r → EndsAtOnce (of_size wanted size r)
+ends_size : (wanted size : ℕ) (r : BlockOrFault) → EndsAtOnce r → EndsAtOnce (of_size wanted size r)
 ends_size wanted size r ends = ends_if (size == wanted) r (Err (BadSize size)) (λ _. ends) (λ _. tt)
 
 not_eq : (a b : ℕ) (P : Type 0) → (a == b) ≡ true → (a ≡ b → ⊥) → P
@@ -93,7 +93,7 @@ end_first offset counted ended y first second =
     true_false e = cc
 
 -- bytes that are too few for a block
-short_first : (offset count : ℕ) (y : List ℕ) (r : Reading) → length y < count → EndsAtOnce (needs offset count y r)
+short_first : (offset count : ℕ) (y : List ℕ) (r : BlockOrFault) → length y < count → EndsAtOnce (needs offset count y r)
 short_first offset count y r short = elim (cases_lt LIMIT (offset + count)) [
   | inl long ↦ rw (has-long offset count y long) tt
   | inr within ↦ rw (has-short offset count y within short) tt
@@ -110,7 +110,7 @@ short_block offset counted ended y first short =
     true_false e = cc
 
 -- one block has no two turns
-few_marks : (p : Piece) → length (marks (p ∷ [])) ≤ 1
+few_marks : (p : SpelledBlock) → length (marks (p ∷ [])) ≤ 1
 few_marks p = by (mark_at (p ∷ []) 0)
   where
     by : (o : Option Mark) → length (cons_option o []) ≤ 1
@@ -120,7 +120,7 @@ few_marks p = by (mark_at (p ∷ []) 0)
 some_none : (fault : ℕ × StreamFault) → Some fault ≡ None → ⊥
 some_none fault same = cc
 
-ends_fault : (x : List ℕ) (r : Reading) → piece_behind x [] ≡ r → EndsAtOnce r → first_fault x ≡ None → ⊥
+ends_fault : (x : List ℕ) (r : BlockOrFault) → piece_behind x [] ≡ r → EndsAtOnce r → first_fault x ≡ None → ⊥
 ends_fault x (Ok p) is end none =
     let stops : stops_at x 0 ≡ true = ap is_last is ∙ ap is_end end in
     let last : last_block x ≡ 0 = last_block-is x 0 (omega arith) (λ k low. absurd (omega arith)) stops in

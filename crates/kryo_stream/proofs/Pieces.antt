@@ -6,10 +6,10 @@ use Rattle.std.specs.Prelude.{slice_index}
 use Rattle.byteorder.specs.Endian.{little_number}
 use Rattle.kryo_stream.specs.declared.block.Block.TheVariants.{Flux, Overflow, Nop, Info, End}
 use Rattle.kryo_stream.specs.declared.fault.StreamFault.TheVariants.{Truncated, UnknownType, BadSize, WrongPosition, DeviceFault, DataAfterEnd}
-use Rattle.kryo_stream.specs.declared.block.Piece.{Piece}
+use Rattle.kryo_stream.specs.declared.block.SpelledBlock.{SpelledBlock}
 use Rattle.kryo_stream.specs.declared.before.Before.{Before}
 use Rattle.kryo_stream.specs.Tally.{MayFollow}
-use Rattle.kryo_stream.specs.Pieces.{Reading, piece, unless_fault, of_size, at_position, without_failure, number_at, ticks_at, in_stream_piece, stream_info_piece, index_piece, stream_end_piece, info_piece, out_of_band_piece, piece_from, piece_at, IsText}
+use Rattle.kryo_stream.specs.Pieces.{BlockOrFault, piece, unless_fault, of_size, at_position, without_failure, number_at, ticks_at, in_stream_piece, stream_info_piece, index_piece, stream_end_piece, info_piece, out_of_band_piece, piece_from, piece_at, IsText}
 use Rattle.kryo_stream.proofs.Readings.{has-short, has-enough, Grows, grows_same, grows_not, grows_if, grows_needs, Lies, lies_if, lies_needs, lies_text}
 
 little_number-append : (y z : List ℕ) → 4 ≤ length y → little_number 4 (y ++ z) ≡ little_number 4 y
@@ -67,7 +67,7 @@ stream_end_piece-grows : (offset counted : ℕ) (y z : List ℕ)
 stream_end_piece-grows offset counted y z = grows_needs offset 12 y z _ _ (λ enough. grows_same _ _
     (rw (number_at-append y z 4 (omega (arith, enough)), number_at-append y z 8 (omega (arith, enough))) refl))
 
-of_size-grows : (wanted size : ℕ) (a b : Reading) → Grows a b → Grows (of_size wanted size a) (of_size wanted size b)
+of_size-grows : (wanted size : ℕ) (a b : BlockOrFault) → Grows a b → Grows (of_size wanted size a) (of_size wanted size b)
 of_size-grows wanted size a b grows =
     grows_if (size == wanted) a (Err (BadSize size)) b (Err (BadSize size)) grows (grows_not (Err (BadSize size)))
 
@@ -129,15 +129,15 @@ in_stream_piece-lies offset first y one room =
 bad_size-lies : (offset size : ℕ) (y : List ℕ) → Lies offset y (Err (BadSize size))
 bad_size-lies offset size y = λ same. cc
 
-of_size-lies : (offset wanted size : ℕ) (y : List ℕ) (a : Reading) → Lies offset y a → Lies offset y (of_size wanted size a)
+of_size-lies : (offset wanted size : ℕ) (y : List ℕ) (a : BlockOrFault) → Lies offset y a → Lies offset y (of_size wanted size a)
 of_size-lies offset wanted size y a lies =
     lies_if offset y (size == wanted) a (Err (BadSize size)) (λ _. lies) (λ _. bad_size-lies offset size y)
 
-at_position-lies : (offset counted said : ℕ) (y : List ℕ) (a : Reading) → Lies offset y a → Lies offset y (at_position counted said a)
+at_position-lies : (offset counted said : ℕ) (y : List ℕ) (a : BlockOrFault) → Lies offset y a → Lies offset y (at_position counted said a)
 at_position-lies offset counted said y a lies =
     lies_if offset y (said == counted) a (Err (WrongPosition said counted)) (λ _. lies) (λ _ same. cc)
 
-without_failure-lies : (offset code : ℕ) (y : List ℕ) (a : Reading) → Lies offset y a → Lies offset y (without_failure code a)
+without_failure-lies : (offset code : ℕ) (y : List ℕ) (a : BlockOrFault) → Lies offset y a → Lies offset y (without_failure code a)
 without_failure-lies offset code y a lies =
     lies_if offset y (code == 0) a (Err (DeviceFault code)) (λ _. lies) (λ _ same. cc)
 
@@ -172,7 +172,7 @@ piece_at-lies offset counted ended y =
     lies_needs offset 1 y _ (omega arith) (λ one room. piece_from-lies offset counted ended (slice_index y 0) y one room refl)
 
 -- the block at the front of the bytes may follow on those before it
-pub piece_at-follows : (b : Before) (y : List ℕ) (p : Piece) → piece_at b.offset b.counted b.ended y ≡ Ok p
+pub piece_at-follows : (b : Before) (y : List ℕ) (p : SpelledBlock) → piece_at b.offset b.counted b.ended y ≡ Ok p
     → MayFollow b p × (p.bytes ≤ length y)
 piece_at-follows b y p is =
     let lies : Lies b.offset y (Ok p) = subst (Lies b.offset y) is (piece_at-lies b.offset b.counted b.ended y) in

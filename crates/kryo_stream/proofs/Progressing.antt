@@ -2,12 +2,12 @@
 use Rattle.std.proofs.Common.{◌≡◌, ◌≢◌, ◌⊎◌, ℕ, suc, ◌+◌, ◌-◌, ◌<◌, ◌++◌, true, false, List, [], ◌∷◌, length, drop, refl, sym, ap, ◌∙◌, arith, length-append, length-drop, append-nil, Some, Ok, Err, subst, inl, inr}
 use Rattle.std.proofs.lemmas.List.{drop-append-le, drop-drop}
 use Rattle.std.proofs.lemmas.Bool.{cases_lt}
-use Rattle.kryo_stream.specs.declared.block.Piece.{Piece}
+use Rattle.kryo_stream.specs.declared.block.SpelledBlock.{SpelledBlock}
 use Rattle.kryo_stream.specs.declared.before.Before.{Before}
 use Rattle.kryo_stream.specs.declared.fault.StreamFault.{StreamFault}
 use Rattle.kryo_stream.specs.declared.fault.StreamFault.TheVariants.{Truncated, UnknownType, BadSize, WrongPosition, DeviceFault, DataAfterEnd, IndexPosition, IndexOrder, NoTurn, TooLong}
 use Rattle.kryo_stream.specs.Bench.{BenchState, IsNoted}
-use Rattle.kryo_stream.specs.Pieces.{Reading, piece_at}
+use Rattle.kryo_stream.specs.Pieces.{BlockOrFault, piece_at}
 use Rattle.kryo_stream.specs.Stream.{total_bytes, times_of, piece_behind, pieces, with_piece, is_end, is_last, stops_at, last_block, fault_at, first_fault, turn_fault, stream, stream_length, indexes_of, times, indexes}
 use Rattle.kryo_stream.specs.Tally.{at_start, behind, new_times, IsWithin, IsTally}
 use Rattle.kryo_stream.specs.Progress.{IsReading}
@@ -46,7 +46,7 @@ pub next_is : (x : List ℕ) (n : ℕ) (rest : List ℕ) (b : Before) (ts : List
 next_is x n rest b ts bench r = rw (← r.tally.ended, ← r.tally.counted, ← r.tally.offset, r.place) refl
 
 -- a block was read
-pub pieces-push : (x : List ℕ) (n : ℕ) (rest : List ℕ) (b : Before) (ts : List ℕ) (bench : BenchState) (p : Piece)
+pub pieces-push : (x : List ℕ) (n : ℕ) (rest : List ℕ) (b : Before) (ts : List ℕ) (bench : BenchState) (p : SpelledBlock)
     → IsReading x n rest b ts bench → piece_at b.offset b.counted b.ended rest ≡ Ok p → pieces x (suc n) ≡ pieces x n ++ p ∷ []
 pieces-push x n rest b ts bench p r reads = ap (with_piece (pieces x n)) (next_is x n rest b ts bench r ∙ reads)
 
@@ -56,7 +56,7 @@ below_more_of P n below here k low = elim (cases_lt k n) [
   | inr more ↦ (let same : n ≡ k = omega (arith, low, more) in subst P same here)
 ]
 
-pub IsReading-push : (x : List ℕ) (n : ℕ) (rest : List ℕ) (b : Before) (ts : List ℕ) (bench bench' : BenchState) (p : Piece)
+pub IsReading-push : (x : List ℕ) (n : ℕ) (rest : List ℕ) (b : Before) (ts : List ℕ) (bench bench' : BenchState) (p : SpelledBlock)
     → IsReading x n rest b ts bench → piece_at b.offset b.counted b.ended rest ≡ Ok p → is_end p.block ≡ false
     → IsWithin (behind b p) → IsNoted (pieces x n ++ p ∷ []) bench'
     → IsReading x (suc n) (drop p.bytes rest) (behind b p) (ts ++ new_times b.time p.block) bench'
@@ -74,10 +74,10 @@ IsReading-push x n rest b ts bench bench' p r reads going within noted =
       noted = subst (λ ps. IsNoted ps bench') (sym pushed) noted;
     }
 
-err_same : (a b : StreamFault) → ◌≡◌ {A = Reading} (Err a) (Err b) → a ≡ b
+err_same : (a b : StreamFault) → ◌≡◌ {A = BlockOrFault} (Err a) (Err b) → a ≡ b
 err_same a b same = cc
 
-ok_not : {p : Piece} {fault : StreamFault} → ◌≡◌ {A = Reading} (Ok p) (Err fault) → ⊥
+ok_not : {p : SpelledBlock} {fault : StreamFault} → ◌≡◌ {A = BlockOrFault} (Ok p) (Err fault) → ⊥
 ok_not same = cc
 
 truncated_or : (fault : StreamFault) → (fault ≡ Truncated) ⊎ (fault ≢ Truncated)
@@ -116,13 +116,13 @@ first_fault-later x later n rest b ts bench fault r reads none =
     (fault-later b rest later fault reads none)
 
 -- a stream of these blocks, with these times and what is left after it
-pub record IsEnding (x : List ℕ) (ps : List Piece) (rest : List ℕ) (ts : List ℕ) : Type 0 where
+pub record IsEnding (x : List ℕ) (ps : List SpelledBlock) (rest : List ℕ) (ts : List ℕ) : Type 0 where
   pub fault : first_fault x ≡ turn_fault ps
   pub times : ts ≡ times x
   pub indexes : indexes_of ps ≡ indexes x
   pub stays : rest ≡ drop (stream_length x) x
 
-end-here : (x : List ℕ) (n : ℕ) (rest : List ℕ) (b : Before) (ts : List ℕ) (bench : BenchState) (p : Piece)
+end-here : (x : List ℕ) (n : ℕ) (rest : List ℕ) (b : Before) (ts : List ℕ) (bench : BenchState) (p : SpelledBlock)
     → IsReading x n rest b ts bench → piece_at b.offset b.counted b.ended rest ≡ Ok p → is_end p.block ≡ true → IsWithin (behind b p)
     → IsEnding x (pieces x n ++ p ∷ []) (drop p.bytes rest) (ts ++ new_times b.time p.block)
 end-here x n rest b ts bench p r reads ends within =
@@ -140,7 +140,7 @@ end-here x n rest b ts bench p r reads ends within =
       stays = ap (drop p.bytes) r.place ∙ drop-drop p.bytes b.offset x ∙ ap (λ k. drop k x) (tally.offset ∙ ap total_bytes (sym all));
     }
 
-pub end-later : (x later : List ℕ) (n : ℕ) (rest : List ℕ) (b : Before) (ts : List ℕ) (bench : BenchState) (p : Piece)
+pub end-later : (x later : List ℕ) (n : ℕ) (rest : List ℕ) (b : Before) (ts : List ℕ) (bench : BenchState) (p : SpelledBlock)
     → IsReading x n rest b ts bench → piece_at b.offset b.counted b.ended rest ≡ Ok p → is_end p.block ≡ true → IsWithin (behind b p)
     → IsEnding (x ++ later) (pieces x n ++ p ∷ []) (drop p.bytes rest ++ later) (ts ++ new_times b.time p.block)
 end-later x later n rest b ts bench p r reads ends within =

@@ -6,30 +6,30 @@ use Rattle.std.proofs.lemmas.List.{length-take-le, drop-drop}
 use Rattle.std.proofs.lemmas.List.Elements.{All-head, All-tail}
 use Rattle.byteorder.specs.Endian.{little_bytes, little_number}
 use Rattle.kryo_stream.specs.declared.block.Block.TheVariants.{Flux, Overflow, Nop, StreamInfo, Index, StreamEnd, Info, End}
-use Rattle.kryo_stream.specs.declared.block.Piece.{Piece}
+use Rattle.kryo_stream.specs.declared.block.SpelledBlock.{SpelledBlock}
 use Rattle.kryo_stream.specs.declared.fault.StreamFault.TheVariants.{DataAfterEnd}
 use Rattle.kryo_stream.specs.Blocks.{out_of_band}
 use Rattle.kryo_stream.specs.Protocol.{LIMIT}
-use Rattle.kryo_stream.specs.Pieces.{Reading, needs, number_at, ticks_at, in_stream_piece, out_of_band_piece, piece_at}
+use Rattle.kryo_stream.specs.Pieces.{BlockOrFault, needs, number_at, ticks_at, in_stream_piece, out_of_band_piece, piece_at}
 use Rattle.kryo_stream.specs.WellFormed.{IsBlockOf}
 
 -- the block that is read may stand there, and lies within the limit
-pub record Found (offset counted : ℕ) (ended : Bool) (bytes : List ℕ) (p : Piece) : Type 0 where
+pub record Found (offset counted : ℕ) (ended : Bool) (bytes : List ℕ) (p : SpelledBlock) : Type 0 where
   pub block : IsBlockOf counted ended bytes p
   pub some : 1 ≤ p.bytes
   pub limit : offset + p.bytes ≤ LIMIT
 
 -- what holds of a block that was read
-abbrev pub IfPiece : (Piece → Type 0) → Reading → Type 0
+abbrev pub IfPiece : (SpelledBlock → Type 0) → BlockOrFault → Type 0
 IfPiece P (Ok p) = P p
 IfPiece P (Err _) = Unit {0}
 
-if_piece_if : (P : Piece → Type 0) (test : Bool) (a b : Reading) → (test ≡ true → IfPiece P a) → (test ≡ false → IfPiece P b)
+if_piece_if : (P : SpelledBlock → Type 0) (test : Bool) (a b : BlockOrFault) → (test ≡ true → IfPiece P a) → (test ≡ false → IfPiece P b)
     → IfPiece P (if test then a else b)
 if_piece_if P true a b first second = first refl
 if_piece_if P false a b first second = second refl
 
-if_piece_within : (P : Piece → Type 0) (offset count : ℕ) (bytes : List ℕ) (reading : Reading)
+if_piece_within : (P : SpelledBlock → Type 0) (offset count : ℕ) (bytes : List ℕ) (reading : BlockOrFault)
     → (count ≤ length bytes → offset + count ≤ LIMIT → IfPiece P reading) → IfPiece P (needs offset count bytes reading)
 if_piece_within P offset count bytes reading holds = elim (cases_lt LIMIT (offset + count)) [
   | inl long ↦ (let a : nat_lt LIMIT (offset + count) ≡ true = grind (arith, nat_tests, long) in rw a tt)
@@ -178,7 +178,7 @@ found_overflow offset counted first tail is limit = record {
 found_in_stream : (offset counted first : ℕ) (tail : List ℕ) → All IsByte (first ∷ tail) → first ≢ 13 → offset + 1 ≤ LIMIT
     → IfPiece (Found offset counted false (first ∷ tail)) (in_stream_piece offset first (first ∷ tail))
 found_in_stream offset counted first tail all other limit =
-    let P : Piece → Type 0 = Found offset counted false (first ∷ tail) in
+    let P : SpelledBlock → Type 0 = Found offset counted false (first ∷ tail) in
     let fits : first < 256 = All-head IsByte first tail all in
     if_piece_if P (nat_le first 7) _ _
     (λ two. if_piece_within P offset 2 (first ∷ tail) _ (λ enough within.
@@ -363,7 +363,7 @@ found_out_of_band : (offset counted : ℕ) (ended : Bool) (kind s0 s1 : ℕ) (mo
 found_out_of_band offset counted ended kind s0 s1 more fa fb all limit =
     let y : List ℕ = numbers_behind kind s0 s1 more in
     let size : ℕ = s0 + 256 * (s1 + 256 * 0) in
-    let P : Piece → Type 0 = Found offset counted ended y in
+    let P : SpelledBlock → Type 0 = Found offset counted ended y in
     if_piece_if P (kind == 1) _ _ (λ k. if_piece_if P (size == 8) _ _
     (λ z. let s = size_8 s0 s1 fa z in if_piece_within P offset 12 y _ (λ enough within.
     if_piece_if P (number_at 4 y == counted) _ _ (λ at.
@@ -423,10 +423,10 @@ found_at offset counted ended (first ∷ tail) all =
     (sym (eqb-true first 13 is)) (found_header offset counted ended tail (All-tail IsByte first tail all)))
     (λ other. found_data offset counted ended first tail all (eqb-false first 13 other) limit))
 
-found_from : (P : Piece → Type 0) (reading : Reading) (p : Piece) → IfPiece P reading → reading ≡ Ok p → P p
+found_from : (P : SpelledBlock → Type 0) (reading : BlockOrFault) (p : SpelledBlock) → IfPiece P reading → reading ≡ Ok p → P p
 found_from P reading p holds is = subst (IfPiece P) is holds
 
-pub found_block : (offset counted : ℕ) (ended : Bool) (bytes : List ℕ) (p : Piece) → All IsByte bytes
+pub found_block : (offset counted : ℕ) (ended : Bool) (bytes : List ℕ) (p : SpelledBlock) → All IsByte bytes
     → piece_at offset counted ended bytes ≡ Ok p → Found offset counted ended bytes p
 found_block offset counted ended bytes p all is =
     found_from (Found offset counted ended bytes) (piece_at offset counted ended bytes) p (found_at offset counted ended bytes all) is

@@ -8,7 +8,7 @@ use Rattle.std.proofs.Math.Seq.{get_or-append_seam}
 use Rattle.std.proofs.lemmas.Bool.{cases_lt}
 use Rattle.std.proofs.lemmas.Bool.Decides.{nat_tests}
 use Rattle.kryo_stream.specs.declared.block.Mark.{Mark}
-use Rattle.kryo_stream.specs.declared.block.Piece.{Piece}
+use Rattle.kryo_stream.specs.declared.block.SpelledBlock.{SpelledBlock}
 use Rattle.kryo_stream.specs.declared.fault.StreamFault.{StreamFault}
 use Rattle.kryo_stream.specs.declared.fault.StreamFault.TheVariants.{IndexPosition, IndexOrder, NoTurn}
 use Rattle.kryo_stream.specs.declared.fault.TrackFault.{TrackFault}
@@ -46,7 +46,7 @@ filter_map-first h a (suc n) (suc k) x inside none here =
     (ap h (omega arith) ∙ here)
 
 -- an Index block within the stream has the index time that the bench gives
-mark_time-is : (ps : List Piece) (b : BenchState) (transitions : List ℕ) (total end : ℕ) → IsComplete ps b transitions total end
+mark_time-is : (ps : List SpelledBlock) (b : BenchState) (transitions : List ℕ) (total end : ℕ) → IsComplete ps b transitions total end
     → (m : Mark) → m.position ≤ total → mark_time b transitions m ≡ index_time ps m
 mark_time-is ps b transitions total end c m within =
     let noted = c.noted in
@@ -56,7 +56,7 @@ mark_time-is ps b transitions total end c m within =
     ∙ ap (λ n. n + m.sample) (base_time-is ps m.position noted.sizes (omega (arith, within, c.counted)))
 
 -- an Index block that does not name a byte past the stream's end, and is above the one before it
-pub fault_none : (ps : List Piece) (k : ℕ) (m : Mark) → m.position ≤ in_stream_bytes ps
+pub fault_none : (ps : List SpelledBlock) (k : ℕ) (m : Mark) → m.position ≤ in_stream_bytes ps
     → (0 < k → get_or (indexes_of ps) (k - 1) 0 < index_time ps m) → mark_fault ps k m ≡ None
 fault_none ps k m within rises =
     let inside : nat_lt (in_stream_bytes ps) m.position ≡ false = grind (arith, nat_tests, within) in
@@ -64,13 +64,13 @@ fault_none ps k m within rises =
     grind (arith, nat_tests, rises) in
     rw (inside, above)
 
-fault_position : (ps : List Piece) (k : ℕ) (m : Mark) → in_stream_bytes ps < m.position
+fault_position : (ps : List SpelledBlock) (k : ℕ) (m : Mark) → in_stream_bytes ps < m.position
     → mark_fault ps k m ≡ Some (m.number, IndexPosition)
 fault_position ps k m behind =
     let outside : nat_lt (in_stream_bytes ps) m.position ≡ true = grind (arith, nat_tests, behind) in
     rw outside
 
-fault_order : (ps : List Piece) (k : ℕ) (m : Mark) → m.position ≤ in_stream_bytes ps → 0 < k
+fault_order : (ps : List SpelledBlock) (k : ℕ) (m : Mark) → m.position ≤ in_stream_bytes ps → 0 < k
     → index_time ps m ≤ get_or (indexes_of ps) (k - 1) 0 → mark_fault ps k m ≡ Some (m.number, IndexOrder)
 fault_order ps k m within some falls =
     let inside : nat_lt (in_stream_bytes ps) m.position ≡ false = grind (arith, nat_tests, within) in
@@ -81,12 +81,12 @@ fault_order ps k m within some falls =
 abbrev pub blank : Mark
 blank = record { number = 0; position = 0; sample = 0 }
 
-pub mark_fault_at-is : (ps : List Piece) (k : ℕ) (m : Mark) → k < length (marks ps) → get_or (marks ps) k blank ≡ m
+pub mark_fault_at-is : (ps : List SpelledBlock) (k : ℕ) (m : Mark) → k < length (marks ps) → get_or (marks ps) k blank ≡ m
     → mark_fault_at ps k ≡ mark_fault ps k m
 mark_fault_at-is ps k m inside is =
     ap (option_and_then (mark_fault ps k)) (slice_get-get_or (marks ps) k blank inside ∙ ap (λ x. Some x) is)
 
-pub index_at : (ps : List Piece) (k : ℕ) (m : Mark) → k < length (marks ps) → get_or (marks ps) k blank ≡ m
+pub index_at : (ps : List SpelledBlock) (k : ℕ) (m : Mark) → k < length (marks ps) → get_or (marks ps) k blank ≡ m
     → get_or (indexes_of ps) k 0 ≡ index_time ps m
 index_at ps k m inside is = get_or-map (index_time ps) (marks ps) k blank 0 inside ∙ ap (index_time ps) is
 
@@ -100,14 +100,14 @@ placed_at b transitions total k before spare placed p i inside =
     ∙ ap (mark_time b transitions) (get_or-take k b.indexes i blank inside)
 
 -- what the Index blocks so far are, as the whole stream sees them
-pub record Seen (ps : List Piece) (k : ℕ) (placed : List ℕ) : Type 0 where
+pub record Seen (ps : List SpelledBlock) (k : ℕ) (placed : List ℕ) : Type 0 where
   pub count : k ≤ length (marks ps)
   pub times : (i : ℕ) → i < k → get_or placed i 0 ≡ index_time ps (get_or (marks ps) i blank)
   pub within : (i : ℕ) → i < k → (get_or (marks ps) i blank).position ≤ in_stream_bytes ps
   pub rising : (i : ℕ) → 0 < i → i < k → get_or placed (i - 1) 0 < get_or placed i 0
   pub size : length placed ≡ k
 
-Seen-from_placing : (ps : List Piece) (b : BenchState) (transitions : List ℕ) (total end k before spare : ℕ) (placed : List ℕ)
+Seen-from_placing : (ps : List SpelledBlock) (b : BenchState) (transitions : List ℕ) (total end k before spare : ℕ) (placed : List ℕ)
     → IsComplete ps b transitions total end → Placing b transitions total k before spare placed → Seen ps k placed
 Seen-from_placing ps b transitions total end k before spare placed c p =
     let index = c.noted.index in
@@ -124,24 +124,24 @@ Seen-from_placing ps b transitions total end k before spare placed c p =
           ∙ length-take-le k b.indexes p.count;
     }
 
-seen_before : (ps : List Piece) (k : ℕ) (placed : List ℕ) → Seen ps k placed → (i : ℕ) → 0 < i → i ≤ k
+seen_before : (ps : List SpelledBlock) (k : ℕ) (placed : List ℕ) → Seen ps k placed → (i : ℕ) → 0 < i → i ≤ k
     → get_or (indexes_of ps) (i - 1) 0 ≡ get_or placed (i - 1) 0
 seen_before ps k placed s i some below =
     let inside : i - 1 < length (marks ps) = omega (arith, s.count) in
     index_at ps (i - 1) (get_or (marks ps) (i - 1) blank) inside refl ∙ sym (s.times (i - 1) (omega arith))
 
-seen_none : (ps : List Piece) (k : ℕ) (placed : List ℕ) → Seen ps k placed → (i : ℕ) → i < k → mark_fault_at ps i ≡ None
+seen_none : (ps : List SpelledBlock) (k : ℕ) (placed : List ℕ) → Seen ps k placed → (i : ℕ) → i < k → mark_fault_at ps i ≡ None
 seen_none ps k placed s i below =
     mark_fault_at-is ps i (get_or (marks ps) i blank) (omega (arith, s.count)) refl
     ∙ fault_none ps i (get_or (marks ps) i blank) (s.within i below)
     (λ some. omega (arith, seen_before ps k placed s i some (omega arith), s.rising i some below, s.times i below))
 
-seen_faults : (ps : List Piece) (placed : List ℕ) → Seen ps (length (marks ps)) placed → mark_faults ps ≡ []
+seen_faults : (ps : List SpelledBlock) (placed : List ℕ) → Seen ps (length (marks ps)) placed → mark_faults ps ≡ []
 seen_faults ps placed s =
     filter_map-none (mark_fault_at ps) 0 (length (marks ps))
     (λ i low high. seen_none ps (length (marks ps)) placed s i (omega arith))
 
-seen_first : (ps : List Piece) (k : ℕ) (placed : List ℕ) (fault : ℕ × StreamFault) → Seen ps k placed → k < length (marks ps)
+seen_first : (ps : List SpelledBlock) (k : ℕ) (placed : List ℕ) (fault : ℕ × StreamFault) → Seen ps k placed → k < length (marks ps)
     → mark_fault_at ps k ≡ Some fault → turn_fault ps ≡ Some fault
 seen_first ps k placed fault s inside here =
     let first : slice_get (mark_faults ps) 0 ≡ Some fault =
@@ -204,7 +204,7 @@ Placing-start b transitions total spare placed empty = record {
 }
 
 -- the Index block after those placed is at fault
-pub TurnCause-placing : (ps : List Piece) (b : BenchState) (transitions : List ℕ) (total end k before spare : ℕ)
+pub TurnCause-placing : (ps : List SpelledBlock) (b : BenchState) (transitions : List ℕ) (total end k before spare : ℕ)
     (placed : List ℕ) (m : Mark) (fault : TrackFault) → IsComplete ps b transitions total end
     → Placing b transitions total k before spare placed → k < length b.indexes → m ≡ get_or b.indexes k m
     → PlaceCause b transitions placed total m spare fault → TurnCause ps before fault
@@ -232,14 +232,14 @@ TurnCause-placing ps b transitions total end k before spare placed m (Refused bl
     ])
 
 -- where no Index block is at fault, only their number counts
-turn_fault-counted : (ps : List Piece) (few : Bool) → mark_faults ps ≡ [] → nat_lt (length (marks ps)) 2 ≡ few
+turn_fault-counted : (ps : List SpelledBlock) (few : Bool) → mark_faults ps ≡ [] → nat_lt (length (marks ps)) 2 ≡ few
     → turn_fault ps ≡ (if few then Some (length ps - 1, NoTurn) else None)
 turn_fault-counted ps few none test =
     ap (λ l. option_or (slice_get l 0) (if nat_lt (length (marks ps)) 2 then Some (length ps - 1, NoTurn) else None)) none
     ∙ ap (λ t. if t then Some (length ps - 1, NoTurn) else None) test
 
 -- all are placed, but there are fewer than two
-pub turn_fault-few : (ps : List Piece) (b : BenchState) (transitions : List ℕ) (total end k before spare : ℕ) (placed : List ℕ)
+pub turn_fault-few : (ps : List SpelledBlock) (b : BenchState) (transitions : List ℕ) (total end k before spare : ℕ) (placed : List ℕ)
     → IsComplete ps b transitions total end → Placing b transitions total k before spare placed → k ≡ length b.indexes
     → length placed < 2 → turn_fault ps ≡ Some (end, NoTurn)
 turn_fault-few ps b transitions total end k before spare placed c p whole few =
@@ -251,7 +251,7 @@ turn_fault-few ps b transitions total end k before spare placed c p whole few =
     let last : length ps - 1 ≡ end = omega (arith, c.blocks) in
     turn_fault-counted ps true none test ∙ ap (λ n. Some (n, NoTurn)) last
 
-pub turn_fault-none : (ps : List Piece) (b : BenchState) (transitions : List ℕ) (total end k before spare : ℕ) (placed : List ℕ)
+pub turn_fault-none : (ps : List SpelledBlock) (b : BenchState) (transitions : List ℕ) (total end k before spare : ℕ) (placed : List ℕ)
     → IsComplete ps b transitions total end → Placing b transitions total k before spare placed → k ≡ length b.indexes
     → 2 ≤ length placed → turn_fault ps ≡ None
 turn_fault-none ps b transitions total end k before spare placed c p whole many =
@@ -263,7 +263,7 @@ turn_fault-none ps b transitions total end k before spare placed c p whole many 
     turn_fault-counted ps false none test
 
 -- the times placed are the index times of the stream
-pub indexes_of-placed : (ps : List Piece) (b : BenchState) (transitions : List ℕ) (total end k before spare : ℕ) (placed : List ℕ)
+pub indexes_of-placed : (ps : List SpelledBlock) (b : BenchState) (transitions : List ℕ) (total end k before spare : ℕ) (placed : List ℕ)
     → IsComplete ps b transitions total end → Placing b transitions total k before spare placed → k ≡ length b.indexes
     → placed ≡ indexes_of ps
 indexes_of-placed ps b transitions total end k before spare placed c p whole =

@@ -13,7 +13,7 @@ use Rattle.byteorder.specs.Endian.{little_bytes}
 use Rattle.kryo_stream.specs.declared.block.Block.{Block}
 use Rattle.kryo_stream.specs.declared.block.Block.TheVariants.{Flux, Overflow, Nop, StreamInfo, Index, StreamEnd, Info, End}
 use Rattle.kryo_stream.specs.declared.block.Mark.{Mark}
-use Rattle.kryo_stream.specs.declared.block.Piece.{Piece}
+use Rattle.kryo_stream.specs.declared.block.SpelledBlock.{SpelledBlock}
 use Rattle.kryo_stream.specs.Bench.{stream_step}
 use Rattle.kryo_stream.specs.Blocks.{Spells, out_of_band}
 use Rattle.kryo_stream.specs.Spelling.{spelling, IsWritable}
@@ -108,7 +108,7 @@ block_behind before block behind stands =
     })
 
 -- piece number j is the spelled block after j blocks
-record IsPlace (blocks : List Block) (j : ℕ) (p : Piece) : Type 0 where
+record IsPlace (blocks : List Block) (j : ℕ) (p : SpelledBlock) : Type 0 where
   before : List Block
   block : Block
   behind : List Block
@@ -116,14 +116,14 @@ record IsPlace (blocks : List Block) (j : ℕ) (p : Piece) : Type 0 where
   count : length before ≡ j
   piece_is : spelled block ≡ p
 
-place_of : (blocks : List Block) (j : ℕ) (p : Piece) → slice_get (all_spelled blocks) j ≡ Some p → IsPlace blocks j p
+place_of : (blocks : List Block) (j : ℕ) (p : SpelledBlock) → slice_get (all_spelled blocks) j ≡ Some p → IsPlace blocks j p
 place_of [] j p is = absurd (none_some is)
   where
     none_some : None ≡ Some p → ⊥
     none_some e = cc
 place_of (b ∷ bs) zero p is = record { before = []; block = b; behind = bs; whole = refl; count = refl; piece_is = some_same is }
   where
-    some_same : {a c : Piece} → Some a ≡ Some c → a ≡ c
+    some_same : {a c : SpelledBlock} → Some a ≡ Some c → a ≡ c
     some_same e = cc
 place_of (b ∷ bs) (suc j) p is =
     let rest = place_of bs j p is in
@@ -136,7 +136,7 @@ place_of (b ∷ bs) (suc j) p is =
       piece_is = rest.piece_is;
     }
 
-place-before : (blocks : List Block) (j : ℕ) (p : Piece) (at : IsPlace blocks j p) → take j (all_spelled blocks) ≡ all_spelled at.before
+place-before : (blocks : List Block) (j : ℕ) (p : SpelledBlock) (at : IsPlace blocks j p) → take j (all_spelled blocks) ≡ all_spelled at.before
 place-before blocks j p at =
     let front = all_spelled at.before in
     let size : length front ≡ j = length-map at.before spelled ∙ at.count in
@@ -145,7 +145,7 @@ place-before blocks j p at =
     ∙ take-append_seam front (all_spelled (at.block ∷ at.behind))
 
 -- the last of the blocks is an End, and no other is
-place-end : (blocks : List Block) (j : ℕ) (p : Piece) (at : IsPlace blocks j p) → StandsBetween at.before at.block at.behind
+place-end : (blocks : List Block) (j : ℕ) (p : SpelledBlock) (at : IsPlace blocks j p) → StandsBetween at.before at.block at.behind
     → (is_end p.block ≡ true) ↔ (j + 1 ≡ length (all_spelled blocks))
 place-end blocks j p at stands =
     let size : length (all_spelled blocks) ≡ j + suc (length at.behind) =
@@ -173,7 +173,7 @@ none_is test n (Some k) first fails = absurd (true_false (sym first.passes ∙ f
 none_is test n None none fails = refl
 
 -- no block before these holds a byte after them
-not_before : (before behind : List Piece) (position : ℕ) → in_stream_bytes before ≤ position → (i : ℕ) → i < length before
+not_before : (before behind : List SpelledBlock) (position : ℕ) → in_stream_bytes before ≤ position → (i : ℕ) → i < length before
     → holds_byte (before ++ behind) position i ≡ false
 not_before before behind position from i inside =
     let front : take (i + 1) (before ++ behind) ≡ take (i + 1) before = take-append-le (i + 1) before behind (omega (arith, inside)) in
@@ -182,7 +182,7 @@ not_before before behind position from i inside =
     grind (arith, nat_tests, bound)
 
 -- the time at which the block begins that holds a byte
-ticks-before : (before behind : List Piece) (position : ℕ) → in_stream_bytes before ≤ position → IsHeld before behind position
+ticks-before : (before behind : List SpelledBlock) (position : ℕ) → in_stream_bytes before ≤ position → IsHeld before behind position
     → ticks (take (block_of_byte (before ++ behind) position) (before ++ behind)) ≡ ticks before
 ticks-before before [] position from held =
     let ps = before ++ [] in
@@ -205,7 +205,7 @@ ticks-before before (p ∷ behind) position from held =
     ap (λ n. ticks (take n ps)) found ∙ ap ticks seam
 
 -- the position of a block, or of the end, is in the stream
-held-within : (before behind : List Piece) (position : ℕ) → IsHeld before behind position → position ≤ in_stream_bytes (before ++ behind)
+held-within : (before behind : List SpelledBlock) (position : ℕ) → IsHeld before behind position → position ≤ in_stream_bytes (before ++ behind)
 held-within before [] position held = omega (arith, held, ap in_stream_bytes (append-nil before))
 held-within before (p ∷ behind) position held =
     omega (
@@ -265,7 +265,7 @@ module _ (blocks : List Block) (turns : List ℕ) (o : AreInOrder blocks turns) 
   enough : 2 ≤ length (marks (all_spelled blocks))
   enough = omega (arith, o.enough, ap length read.times_are, length-map (marks (all_spelled blocks)) (index_time (all_spelled blocks)))
 
-  stands : (j : ℕ) (p : Piece) (at : IsPlace blocks j p) → StandsBetween at.before at.block at.behind
+  stands : (j : ℕ) (p : SpelledBlock) (at : IsPlace blocks j p) → StandsBetween at.before at.block at.behind
   stands j p at = o.each at.before at.block at.behind at.whole
 
   some_blocks : (bs : List Block) → bs ≡ blocks → 0 < length (all_spelled bs)

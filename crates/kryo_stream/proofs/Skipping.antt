@@ -5,11 +5,11 @@ use Rattle.std.specs.Io.KnownBytes.{IsAtEnd}
 use Rattle.flux_base.specs.declared.outside.Failed.{Failed}
 use Rattle.kryo_stream.specs.declared.before.Before.{Before}
 use Rattle.kryo_stream.specs.declared.block.Block.TheVariants.{Info}
-use Rattle.kryo_stream.specs.declared.block.Piece.{Piece}
+use Rattle.kryo_stream.specs.declared.block.SpelledBlock.{SpelledBlock}
 use Rattle.kryo_stream.specs.declared.fault.StreamFault.TheVariants.{Truncated}
 use Rattle.kryo_stream.specs.declared.intake.More.TheVariants.{Taken, End}
 use Rattle.kryo_stream.specs.Held.{Took}
-use Rattle.kryo_stream.specs.Pieces.{Reading, piece, piece_at, IsText}
+use Rattle.kryo_stream.specs.Pieces.{BlockOrFault, piece, piece_at, IsText}
 use Rattle.kryo_stream.specs.Progress.{BlockSays, IsBlockOpen, TakesBlock, AreFew, IsPassing, IsSkipped}
 use Rattle.kryo_stream.specs.Reads.{SourceMoment, Takes, IsNothing}
 use Rattle.kryo_stream.specs.Tally.{IsWithin}
@@ -122,7 +122,7 @@ text_failed {held = held} b size failed text s = record {
 }
 
 -- bytes that stand at hand without being passed over
-pub at_hand : {old new : SourceMoment} {held now next : List ℕ} (b : Before) (answer : Result Reading Failed) → IsWithin b
+pub at_hand : {old new : SourceMoment} {held now next : List ℕ} (b : Before) (answer : Result BlockOrFault Failed) → IsWithin b
     → Took (IsBlockOpen b held) old new held now → length now ≤ 4096 → BlockSays b answer now next new.left → TakesBlock old new held next b answer
 at_hand {new = new} {next = next} b answer within t bound says = record {
   taken = t.taken;
@@ -132,7 +132,7 @@ at_hand {new = new} {next = next} b answer within t bound says = record {
 }
 
 -- then the bytes that are taken after it count too
-pub took_before : {old mid new : SourceMoment} {held now next : List ℕ} (b : Before) (answer : Result Reading Failed)
+pub took_before : {old mid new : SourceMoment} {held now next : List ℕ} (b : Before) (answer : Result BlockOrFault Failed)
     → Took (IsBlockOpen b held) old mid held now → TakesBlock mid new now next b answer → TakesBlock old new held next b answer
 took_before {new = new} {held = held} {now = now} {next = next} b answer t k =
     let joined : (more : List ℕ) → now ++ more ≡ held ++ (t.taken ++ more) =
@@ -144,7 +144,7 @@ took_before {new = new} {held = held} {now = now} {next = next} b answer t k =
     }
 
 -- a block that is held whole needs no byte more
-pub takes_held : (m : SourceMoment) (held held' : List ℕ) (b : Before) (p : Piece) → b.offset ≤ 4194304 → length held ≤ 4096
+pub takes_held : (m : SourceMoment) (held held' : List ℕ) (b : Before) (p : SpelledBlock) → b.offset ≤ 4194304 → length held ≤ 4096
     → piece_at b.offset b.counted b.ended held ≡ Ok p → held' ≡ drop p.bytes held → TakesBlock m m held held' b (Ok (Ok p))
 takes_held m held held' b p within bound reads place = record {
   taken = [];

@@ -8,10 +8,10 @@ use Rattle.byteorder.specs.Endian.{little_bytes, little_number}
 use Rattle.byteorder.specs.Numbers.{little_number-reads_back}
 use Rattle.kryo_stream.specs.declared.block.Block.{Block}
 use Rattle.kryo_stream.specs.declared.block.Block.TheVariants.{Flux, Overflow, Nop, StreamInfo, Index, StreamEnd, Info, End}
-use Rattle.kryo_stream.specs.declared.block.Piece.{Piece}
+use Rattle.kryo_stream.specs.declared.block.SpelledBlock.{SpelledBlock}
 use Rattle.kryo_stream.specs.Blocks.{Spells, out_of_band}
 use Rattle.kryo_stream.specs.Protocol.{LIMIT}
-use Rattle.kryo_stream.specs.Pieces.{Reading, needs, piece, at_position, number_at, out_of_band_piece, piece_from, piece_at}
+use Rattle.kryo_stream.specs.Pieces.{BlockOrFault, needs, piece, at_position, number_at, out_of_band_piece, piece_from, piece_at}
 use Rattle.kryo_stream.specs.Spelling.{spelling, IsWritable}
 use Rattle.kryo_stream.specs.WellFormed.{MayStand, IsBlockOf}
 
@@ -101,7 +101,7 @@ spelling-prefix a b later fits_a fits_b is =
     length-zero (x ∷ xs) e = absurd (omega arith)
 
 -- a block that needs no more than there is
-needs-enough : (offset count : ℕ) (bytes : List ℕ) (reading : Reading) → offset + count ≤ LIMIT → count ≤ length bytes
+needs-enough : (offset count : ℕ) (bytes : List ℕ) (reading : BlockOrFault) → offset + count ≤ LIMIT → count ≤ length bytes
     → needs offset count bytes reading ≡ reading
 needs-enough offset count bytes reading limit enough =
     let a : nat_lt LIMIT (offset + count) ≡ false = grind (arith, nat_tests, limit) in
@@ -112,7 +112,7 @@ needs-enough offset count bytes reading limit enough =
 number_back : (n : ℕ) (rest : List ℕ) → n < 2 ^ 32 → little_number 4 (little_bytes 4 n ++ rest) ≡ n
 number_back n rest fits = little_number-reads_back 4 n rest fits
 
-at_position-same : (counted : ℕ) (reading : Reading) → at_position counted counted reading ≡ reading
+at_position-same : (counted : ℕ) (reading : BlockOrFault) → at_position counted counted reading ≡ reading
 at_position-same counted reading = rw (eq-eqb counted counted refl) refl
 
 read_info : (offset counted : ℕ) (ended : Bool) (position time : ℕ) (rest : List ℕ) → position < 2 ^ 32 → time < 2 ^ 32
@@ -231,7 +231,7 @@ abbrev Reads : ℕ → ℕ → Bool → Block → List ℕ → List ℕ → Type
 Reads offset counted ended block rest bytes = piece_at offset counted ended (bytes ++ rest) ≡ piece block (length bytes)
 
 -- after no StreamEnd
-in_stream : (offset counted : ℕ) (ended : Bool) (bytes : List ℕ) (reading : Reading) → ended ≡ false
+in_stream : (offset counted : ℕ) (ended : Bool) (bytes : List ℕ) (reading : BlockOrFault) → ended ≡ false
     → piece_at offset counted false bytes ≡ reading → piece_at offset counted ended bytes ≡ reading
 in_stream offset counted ended bytes reading free is = ap (λ e. piece_at offset counted e bytes) free ∙ is
 
@@ -284,7 +284,7 @@ read_spelled offset counted ended End bytes rest is fits stands limit =
     (read_end offset counted ended rest (omega (arith, limit, ap length is)))
 
 -- a block that may stand there is the one that is read
-pub read_block : (offset counted : ℕ) (ended : Bool) (bytes : List ℕ) (p : Piece) → IsBlockOf counted ended bytes p
+pub read_block : (offset counted : ℕ) (ended : Bool) (bytes : List ℕ) (p : SpelledBlock) → IsBlockOf counted ended bytes p
     → offset + p.bytes ≤ LIMIT → piece_at offset counted ended bytes ≡ Ok p
 read_block offset counted ended bytes p block limit =
     let long : length (take p.bytes bytes) ≡ p.bytes = length-take-le p.bytes bytes block.within in

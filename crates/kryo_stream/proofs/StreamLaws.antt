@@ -11,11 +11,11 @@ use Rattle.std.proofs.lemmas.List.Elements.{All-drop}
 use Rattle.std.proofs.lemmas.Option.{slice_get_within, get_or_from_slice_get}
 use Rattle.std.proofs.Math.Seq.{take-append_seam}
 use Rattle.kryo_stream.specs.declared.block.Mark.{Mark}
-use Rattle.kryo_stream.specs.declared.block.Piece.{Piece}
+use Rattle.kryo_stream.specs.declared.block.SpelledBlock.{SpelledBlock}
 use Rattle.kryo_stream.specs.declared.fault.StreamFault.{StreamFault}
 use Rattle.kryo_stream.specs.declared.fault.StreamFault.TheVariants.{NoTurn}
 use Rattle.kryo_stream.specs.Protocol.{LIMIT}
-use Rattle.kryo_stream.specs.Pieces.{Reading}
+use Rattle.kryo_stream.specs.Pieces.{BlockOrFault}
 use Rattle.kryo_stream.specs.Stream.{total_bytes, in_stream_bytes, has_ended, is_end, is_last, marks, index_time, indexes_of, mark_fault, mark_fault_at, mark_faults, turn_fault, piece_behind, with_piece, more_pieces, pieces, stops_at, last_block, fault_at, first_fault, stream}
 use Rattle.kryo_stream.specs.WellFormed.{IsBlockBehind, BeginsWith}
 use Rattle.kryo_stream.proofs.BenchLemmas.{slice_get-seam}
@@ -25,8 +25,8 @@ use Rattle.kryo_stream.proofs.SpellingLaws.{read_block}
 use Rattle.kryo_stream.proofs.ReadingLaws.{IsByte, Found, found_block}
 
 -- these blocks stand at the front of x
-pub record Stand (x : List ℕ) (ps : List Piece) : Type 0 where
-  pub blocks : (j : ℕ) (p : Piece) → slice_get ps j ≡ Some p → IsBlockBehind x (take j ps) p
+pub record Stand (x : List ℕ) (ps : List SpelledBlock) : Type 0 where
+  pub blocks : (j : ℕ) (p : SpelledBlock) → slice_get ps j ≡ Some p → IsBlockBehind x (take j ps) p
   pub limit : total_bytes ps ≤ LIMIT
   pub within : total_bytes ps ≤ length x
   pub sizes : length ps ≤ total_bytes ps
@@ -34,10 +34,10 @@ pub record Stand (x : List ℕ) (ps : List Piece) : Type 0 where
 Stand-nil : (x : List ℕ) → Stand x []
 Stand-nil x = record { blocks = λ j p is. absurd (none_some p is); limit = omega arith; within = omega arith; sizes = omega arith }
   where
-    none_some : (p : Piece) → None ≡ Some p → ⊥
+    none_some : (p : SpelledBlock) → None ≡ Some p → ⊥
     none_some p e = cc
 
-total_bytes-snoc : (ps : List Piece) (p : Piece) → total_bytes (ps ++ p ∷ []) ≡ total_bytes ps + p.bytes
+total_bytes-snoc : (ps : List SpelledBlock) (p : SpelledBlock) → total_bytes (ps ++ p ∷ []) ≡ total_bytes ps + p.bytes
 total_bytes-snoc ps p = omega (arith, sum_by-append (λ q. q.bytes) ps (p ∷ []), sum_by-cons (λ q. q.bytes) p [])
 
 slice_get-front : {X : Type 0} (xs ys : List X) (j : ℕ) → j < length xs → slice_get (xs ++ ys) j ≡ slice_get xs j
@@ -59,7 +59,7 @@ slice_get-snoc xs y z j is = elim (cases_lt j (length xs)) [
     some_same : {X : Type 0} {a b : X} → Some a ≡ Some b → a ≡ b
     some_same e = cc
 
-Stand-snoc : (x : List ℕ) (ps : List Piece) (p : Piece) → All IsByte x → Stand x ps → piece_behind x ps ≡ Ok p
+Stand-snoc : (x : List ℕ) (ps : List SpelledBlock) (p : SpelledBlock) → All IsByte x → Stand x ps → piece_behind x ps ≡ Ok p
     → Stand x (ps ++ p ∷ [])
 Stand-snoc x ps p all s is =
     let found : Found (total_bytes ps) (in_stream_bytes ps) (has_ended ps) (drop (total_bytes ps) x) p =
@@ -79,17 +79,17 @@ Stand-snoc x ps p all s is =
     }
 
 -- no block among these is an End
-abbrev NoEnd : List Piece → Type 0
-NoEnd ps = (j : ℕ) (p : Piece) → slice_get ps j ≡ Some p → is_end p.block ≡ false
+abbrev NoEnd : List SpelledBlock → Type 0
+NoEnd ps = (j : ℕ) (p : SpelledBlock) → slice_get ps j ≡ Some p → is_end p.block ≡ false
 
-NoEnd-snoc : (ps : List Piece) (p : Piece) → NoEnd ps → is_end p.block ≡ false → NoEnd (ps ++ p ∷ [])
+NoEnd-snoc : (ps : List SpelledBlock) (p : SpelledBlock) → NoEnd ps → is_end p.block ≡ false → NoEnd (ps ++ p ∷ [])
 NoEnd-snoc ps p none last j q is = elim (slice_get-snoc ps p q j is) [
   | inl before ↦ none j q before.1
   | inr at ↦ subst (λ r. is_end r.block ≡ false) at.1 last
 ]
 
 -- a block that is not the last was read, and is no End
-not_last : (r : Reading) → is_last r ≡ false → (p : Piece) × (r ≡ Ok p) × (is_end p.block ≡ false)
+not_last : (r : BlockOrFault) → is_last r ≡ false → (p : SpelledBlock) × (r ≡ Ok p) × (is_end p.block ≡ false)
 not_last (Ok p) is = (p, refl, is)
 not_last (Err f) is = cc
 
@@ -102,7 +102,7 @@ pub record Front (x : List ℕ) (n : ℕ) : Type 0 where
 pieces_front : (x : List ℕ) (n : ℕ) → All IsByte x → ((k : ℕ) → k < n → stops_at x k ≡ false) → Front x n
 pieces_front x zero all go_on = record { stand = Stand-nil x; count = refl; none = λ j p is. absurd (none_some p is) }
   where
-    none_some : (p : Piece) → None ≡ Some p → ⊥
+    none_some : (p : SpelledBlock) → None ≡ Some p → ⊥
     none_some p e = cc
 pieces_front x (suc n) all go_on =
     let front = pieces_front x n all (λ k below. go_on k (omega arith)) in
@@ -127,8 +127,8 @@ last_block-first x all =
     last_block_found x (find (stops_at x) (range_with_len 0 (length x + 1))) all (find-range (stops_at x) 0 (length x + 1))
 
 -- where the last block has no fault it was read, and the turns have none
-no_fault : (x : List ℕ) (n : ℕ) (r : Reading) → fault_at x n r ≡ None
-    → (p : Piece) × (r ≡ Ok p) × (turn_fault (pieces x (n + 1)) ≡ None)
+no_fault : (x : List ℕ) (n : ℕ) (r : BlockOrFault) → fault_at x n r ≡ None
+    → (p : SpelledBlock) × (r ≡ Ok p) × (turn_fault (pieces x (n + 1)) ≡ None)
 no_fault x n (Ok p) is = (p, refl, is)
 no_fault x n (Err f) is = cc
 
@@ -151,7 +151,7 @@ filter_map-empty {X} h a (suc n) is i low high =
     cons_option-empty None rest e = (refl, e)
     cons_option-empty (Some y) rest e = cc
 
-mark_within : (ps : List Piece) (k : ℕ) (m : Mark) → mark_fault ps k m ≡ None → m.position ≤ in_stream_bytes ps
+mark_within : (ps : List SpelledBlock) (k : ℕ) (m : Mark) → mark_fault ps k m ≡ None → m.position ≤ in_stream_bytes ps
 mark_within ps k m is = elim (cases_lt (in_stream_bytes ps) m.position) [
   | inl behind ↦ (let test : nat_lt (in_stream_bytes ps) m.position ≡ true = grind (arith, nat_tests, behind) in
       absurd (some_none (rw test at is)))
@@ -161,7 +161,7 @@ mark_within ps k m is = elim (cases_lt (in_stream_bytes ps) m.position) [
     some_none : {fault : ℕ × StreamFault} → Some fault ≡ None → ⊥
     some_none e = cc
 
-mark_rises : (ps : List Piece) (k : ℕ) (m : Mark) → mark_fault ps k m ≡ None → 0 < k
+mark_rises : (ps : List SpelledBlock) (k : ℕ) (m : Mark) → mark_fault ps k m ≡ None → 0 < k
     → get_or (indexes_of ps) (k - 1) 0 < index_time ps m
 mark_rises ps k m is some = elim (cases_lt (get_or (indexes_of ps) (k - 1) 0) (index_time ps m)) [
   | inl rises ↦ rises
@@ -177,7 +177,7 @@ mark_rises ps k m is some = elim (cases_lt (get_or (indexes_of ps) (k - 1) 0) (i
     some_none e = cc
 
 -- what it is to have turns
-pub record Turns (ps : List Piece) : Type 0 where
+pub record Turns (ps : List SpelledBlock) : Type 0 where
   pub turns : 2 ≤ length (marks ps)
   pub positions : All (λ mark. mark.position ≤ in_stream_bytes ps) (marks ps)
   pub order : IsStrictlyIncreasing (indexes_of ps)
@@ -191,7 +191,7 @@ enough_marks n fault is = elim (cases_lt n 2) [
     some_none : Some fault ≡ None → ⊥
     some_none e = cc
 
-pub Turns-from_fault : (ps : List Piece) → turn_fault ps ≡ None → Turns ps
+pub Turns-from_fault : (ps : List SpelledBlock) → turn_fault ps ≡ None → Turns ps
 Turns-from_fault ps is =
     let both = no_first (mark_faults ps) (if nat_lt (length (marks ps)) 2 then Some (length ps - 1, NoTurn) else None) is in
     let none : (k : ℕ) → k < length (marks ps) → mark_fault ps k (get_or (marks ps) k blank) ≡ None = λ k below.
@@ -209,7 +209,7 @@ Turns-from_fault ps is =
           omega (arith, rises, at, ap (λ n. get_or (indexes_of ps) n 0) before);
     }
 
-fault-from_turns : (ps : List Piece) → Turns ps → turn_fault ps ≡ None
+fault-from_turns : (ps : List SpelledBlock) → Turns ps → turn_fault ps ≡ None
 fault-from_turns ps t =
     let none : mark_faults ps ≡ [] = filter_map-none (mark_fault_at ps) 0 (length (marks ps)) (λ k low high.
     let below : k < length (marks ps) = omega arith in
@@ -226,7 +226,7 @@ fault-from_turns ps t =
 -- the blocks of the stream, where x has no first fault
 pub record Whole (x : List ℕ) (n : ℕ) : Type 0 where
   pub front : Front x n
-  pub p : Piece
+  pub p : SpelledBlock
   pub more : pieces x (n + 1) ≡ pieces x n ++ p ∷ []
   pub stand : Stand x (pieces x n ++ p ∷ [])
   pub end : is_end p.block ≡ true
@@ -250,7 +250,7 @@ whole_of x all is =
     }
 
 -- the last block, and no other, is an End
-last_is_end : (ps : List Piece) (p : Piece) → NoEnd ps → is_end p.block ≡ true → (j : ℕ) (q : Piece)
+last_is_end : (ps : List SpelledBlock) (p : SpelledBlock) → NoEnd ps → is_end p.block ≡ true → (j : ℕ) (q : SpelledBlock)
     → slice_get (ps ++ p ∷ []) j ≡ Some q → (is_end q.block ≡ true) ↔ (j + 1 ≡ length (ps ++ p ∷ []))
 last_is_end ps p none end j q is = elim (slice_get-snoc ps p q j is) [
   | inl before ↦ (
@@ -282,7 +282,7 @@ begins_without_fault x all is =
     let w = whole_of x all is in subst (BeginsWith x) (sym w.more) (begins_from_whole x (last_block x) w)
 
 -- the other way: the blocks of a well-formed stream are those that are read
-read_at : (x : List ℕ) (ps : List Piece) → BeginsWith x ps → (j : ℕ) (p : Piece) → slice_get ps j ≡ Some p
+read_at : (x : List ℕ) (ps : List SpelledBlock) → BeginsWith x ps → (j : ℕ) (p : SpelledBlock) → slice_get ps j ≡ Some p
     → piece_behind x (take j ps) ≡ Ok p
 read_at x ps b j p is =
     let below : j < length ps = slice_get_within ps j p is in
@@ -292,12 +292,12 @@ read_at x ps b j p is =
     (drop (total_bytes (take j ps)) x) p (b.blocks j p is)
     (omega (arith, b.limit, sum_by-take-le (λ q. q.bytes) ps (j + 1), ap total_bytes next, total_bytes-snoc (take j ps) p))
 
-piece_of : (ps : List Piece) (j : ℕ) → j < length ps → (p : Piece) × (slice_get ps j ≡ Some p)
+piece_of : (ps : List SpelledBlock) (j : ℕ) → j < length ps → (p : SpelledBlock) × (slice_get ps j ≡ Some p)
 piece_of [] j below = absurd (omega arith)
 piece_of (p ∷ ps) zero below = (p, refl)
 piece_of (p ∷ ps) (suc j) below = piece_of ps j (omega arith)
 
-same_pieces : (x : List ℕ) (ps : List Piece) → BeginsWith x ps → (j : ℕ) → j ≤ length ps → pieces x j ≡ take j ps
+same_pieces : (x : List ℕ) (ps : List SpelledBlock) → BeginsWith x ps → (j : ℕ) → j ≤ length ps → pieces x j ≡ take j ps
 same_pieces x ps b zero bound = refl
 same_pieces x ps b (suc j) bound =
     let below : j < length ps = omega arith in
@@ -308,7 +308,7 @@ same_pieces x ps b (suc j) bound =
     ∙ sym (take_more ps j it.0 below ∙ ap (λ q. take j ps ++ q ∷ []) (get_or_from_slice_get ps j it.0 it.0 it.1))
     ∙ ap (λ n. take n ps) next
 
-stops_is : (x : List ℕ) (ps : List Piece) → BeginsWith x ps → (j : ℕ) (p : Piece) → slice_get ps j ≡ Some p
+stops_is : (x : List ℕ) (ps : List SpelledBlock) → BeginsWith x ps → (j : ℕ) (p : SpelledBlock) → slice_get ps j ≡ Some p
     → stops_at x j ≡ is_end p.block
 stops_is x ps b j p is =
     let below : j < length ps = slice_get_within ps j p is in
@@ -319,19 +319,19 @@ not_true true f = absurd (f refl)
 not_true false f = refl
 
 -- reading stops at the last of them, and not before
-stops_last : (x : List ℕ) (ps : List Piece) → BeginsWith x ps → stops_at x (length ps - 1) ≡ true
+stops_last : (x : List ℕ) (ps : List SpelledBlock) → BeginsWith x ps → stops_at x (length ps - 1) ≡ true
 stops_last x ps b =
     let it = piece_of ps (length ps - 1) (omega (arith, b.some)) in
     stops_is x ps b (length ps - 1) it.0 it.1
     ∙ (b.last (length ps - 1) it.0 it.1).1 (omega (arith, b.some))
 
-goes_on : (x : List ℕ) (ps : List Piece) → BeginsWith x ps → (j : ℕ) → j < length ps - 1 → stops_at x j ≡ false
+goes_on : (x : List ℕ) (ps : List SpelledBlock) → BeginsWith x ps → (j : ℕ) → j < length ps - 1 → stops_at x j ≡ false
 goes_on x ps b j below =
     let it = piece_of ps j (omega arith) in
     stops_is x ps b j it.0 it.1
     ∙ not_true (is_end it.0.block) (λ e. absurd (let at = (b.last j it.0 it.1).0 e in omega (arith, at, below)))
 
-stand_of : (x : List ℕ) (ps : List Piece) → All IsByte x → BeginsWith x ps → (n : ℕ) → n ≤ length ps → Stand x (take n ps)
+stand_of : (x : List ℕ) (ps : List SpelledBlock) → All IsByte x → BeginsWith x ps → (n : ℕ) → n ≤ length ps → Stand x (take n ps)
 stand_of x ps all b zero bound = Stand-nil x
 stand_of x ps all b (suc n) bound =
     let below : n < length ps = omega arith in
@@ -341,7 +341,7 @@ stand_of x ps all b (suc n) bound =
     ∙ ap (λ q. take n ps ++ q ∷ []) (get_or_from_slice_get ps n it.0 it.0 it.1) in
     subst (Stand x) (sym more) (Stand-snoc x (take n ps) it.0 all (stand_of x ps all b n (omega arith)) (read_at x ps b n it.0 it.1))
 
-last_block-is : (x : List ℕ) (ps : List Piece) → All IsByte x → BeginsWith x ps → last_block x ≡ length ps - 1
+last_block-is : (x : List ℕ) (ps : List SpelledBlock) → All IsByte x → BeginsWith x ps → last_block x ≡ length ps - 1
 last_block-is x ps all b =
     let first = last_block-first x all in
     elim (cases_lt (last_block x) (length ps - 1)) [
@@ -356,13 +356,13 @@ last_block-is x ps all b =
     true_false e = cc
 
 -- the stream that is read is the one that x begins with
-pub stream-is : (x : List ℕ) (ps : List Piece) → All IsByte x → BeginsWith x ps → stream x ≡ ps
+pub stream-is : (x : List ℕ) (ps : List SpelledBlock) → All IsByte x → BeginsWith x ps → stream x ≡ ps
 stream-is x ps all b =
     let whole : (length ps - 1) + 1 ≡ length ps = omega (arith, b.some) in
     ap (λ n. pieces x (n + 1)) (last_block-is x ps all b) ∙ ap (pieces x) whole
     ∙ same_pieces x ps b (length ps) (omega arith) ∙ take_all (length ps) ps (omega arith)
 
-pub no_fault_at_start : (x : List ℕ) (ps : List Piece) → All IsByte x → BeginsWith x ps → first_fault x ≡ None
+pub no_fault_at_start : (x : List ℕ) (ps : List SpelledBlock) → All IsByte x → BeginsWith x ps → first_fault x ≡ None
 no_fault_at_start x ps all b =
     let n : ℕ = last_block x in
     let it = piece_of ps (length ps - 1) (omega (arith, b.some)) in
@@ -374,5 +374,5 @@ no_fault_at_start x ps all b =
     ∙ fault-from_turns ps (record { turns = b.turns; positions = b.positions; order = b.order })
 
 -- two well-formed streams at the front of one list are the same
-pub stream-same : (x : List ℕ) (ps qs : List Piece) → All IsByte x → BeginsWith x ps → BeginsWith x qs → ps ≡ qs
+pub stream-same : (x : List ℕ) (ps qs : List SpelledBlock) → All IsByte x → BeginsWith x ps → BeginsWith x qs → ps ≡ qs
 stream-same x ps qs all b c = sym (stream-is x ps all b) ∙ stream-is x qs all c

@@ -3,19 +3,19 @@ use Rattle.std.proofs.Common.{◌≡◌, ◌≢◌, ℕ, zero, suc, ◌+◌, ◌
 use Rattle.std.proofs.lemmas.List.{drop-append-le}
 use Rattle.std.specs.Prelude.{find, unwrap_or}
 use Rattle.std.specs.List.{range_with_len}
-use Rattle.kryo_stream.specs.declared.block.Piece.{Piece}
+use Rattle.kryo_stream.specs.declared.block.SpelledBlock.{SpelledBlock}
 use Rattle.kryo_stream.specs.declared.fault.StreamFault.TheVariants.{Truncated}
-use Rattle.kryo_stream.specs.Pieces.{Reading}
+use Rattle.kryo_stream.specs.Pieces.{BlockOrFault}
 use Rattle.kryo_stream.specs.Stream.{total_bytes, in_stream_bytes, has_ended, piece_after, piece_behind, pieces, with_piece, more_pieces, is_last, stops_at, last_block}
 use Rattle.kryo_stream.proofs.Lists.{sum_by-push}
 use Rattle.kryo_stream.proofs.Pieces.{piece_at-grows, piece_at-lies}
 use Rattle.kryo_stream.proofs.Readings.{Grows, Lies}
 
 -- a block that was read lies within the bytes and the limit
-pub piece_behind-lies : (x : List ℕ) (ps : List Piece) → Lies (total_bytes ps) (drop (total_bytes ps) x) (piece_behind x ps)
+pub piece_behind-lies : (x : List ℕ) (ps : List SpelledBlock) → Lies (total_bytes ps) (drop (total_bytes ps) x) (piece_behind x ps)
 piece_behind-lies x ps = piece_at-lies (total_bytes ps) (in_stream_bytes ps) (has_ended ps) (drop (total_bytes ps) x)
 
-with_piece-inside : (x : List ℕ) (ps : List Piece) (r : Reading) → Lies (total_bytes ps) (drop (total_bytes ps) x) r
+with_piece-inside : (x : List ℕ) (ps : List SpelledBlock) (r : BlockOrFault) → Lies (total_bytes ps) (drop (total_bytes ps) x) r
     → total_bytes ps ≤ length x → total_bytes (with_piece ps r) ≤ length x
 with_piece-inside x ps (Ok p) lies inside =
     omega (arith, lies.1, length-drop (total_bytes ps) x, inside, sum_by-push (λ q. q.bytes) ps p)
@@ -27,12 +27,12 @@ pieces-inside x zero = omega arith
 pieces-inside x (suc n) = with_piece-inside x (pieces x n) (piece_behind x (pieces x n)) (piece_behind-lies x (pieces x n)) (pieces-inside x n)
 
 -- a block stays as it is as more bytes come, unless the bytes were too few
-piece_behind-grows : (x z : List ℕ) (ps : List Piece) → total_bytes ps ≤ length x
+piece_behind-grows : (x z : List ℕ) (ps : List SpelledBlock) → total_bytes ps ≤ length x
     → Grows (piece_behind x ps) (piece_behind (x ++ z) ps)
 piece_behind-grows x z ps inside = subst (λ y. Grows (piece_behind x ps) (piece_after ps y)) (sym (drop-append-le (total_bytes ps) x z inside))
     (piece_at-grows (total_bytes ps) (in_stream_bytes ps) (has_ended ps) (drop (total_bytes ps) x) z)
 
-not_last : (r : Reading) → is_last r ≡ false → r ≢ Err Truncated
+not_last : (r : BlockOrFault) → is_last r ≡ false → r ≢ Err Truncated
 not_last (Ok p) is = λ same. cc
 not_last (Err f) is = cc
 

@@ -8,13 +8,13 @@ use Rattle.std.specs.List.{cons_option}
 use Rattle.std.specs.Option.{option_and_then}
 use Rattle.kryo_stream.specs.declared.block.Block.{Block}
 use Rattle.kryo_stream.specs.declared.block.Block.TheVariants.{Flux, Overflow, Nop, StreamInfo, Index, StreamEnd, Info, End}
-use Rattle.kryo_stream.specs.declared.block.Piece.{Piece}
+use Rattle.kryo_stream.specs.declared.block.SpelledBlock.{SpelledBlock}
 use Rattle.kryo_stream.specs.declared.before.Before.{Before}
 use Rattle.kryo_stream.specs.Stream.{is_in_stream, is_stream_end, has_ended, block_ticks, ticks, times_of, time_at, flux_time}
 use Rattle.kryo_stream.specs.Tally.{at_start, behind, new_times, IsWithin, MayFollow, IsTally}
 use Rattle.kryo_stream.proofs.Lists.{sum_by-push, gathered, slice_get-front, slice_get-last, take-front}
 
-flux_time-new : (up_to : List Piece) (time : ℕ) (b : Block) → ticks up_to ≡ time + block_ticks b
+flux_time-new : (up_to : List SpelledBlock) (time : ℕ) (b : Block) → ticks up_to ≡ time + block_ticks b
     → cons_option (flux_time up_to b) [] ≡ new_times time b
 flux_time-new up_to time (Flux t) is = ap (λ n. n ∷ []) is
 flux_time-new up_to time Overflow is = refl
@@ -25,7 +25,7 @@ flux_time-new up_to time (StreamEnd _ _) is = refl
 flux_time-new up_to time (Info _) is = refl
 flux_time-new up_to time End is = refl
 
-pub times_of-push : (ps : List Piece) (p : Piece) → times_of (ps ++ p ∷ []) ≡ times_of ps ++ new_times (ticks ps) p.block
+pub times_of-push : (ps : List SpelledBlock) (p : SpelledBlock) → times_of (ps ++ p ∷ []) ≡ times_of ps ++ new_times (ticks ps) p.block
 times_of-push ps p =
     let whole : take (length ps + 1) (ps ++ p ∷ []) ≡ ps ++ p ∷ [] =
     take_all (length ps + 1) (ps ++ p ∷ []) (omega (arith, length-append ps (p ∷ []))) in
@@ -42,7 +42,7 @@ or_false : (b : Bool) → (b || false) ≡ b
 or_false true = refl
 or_false false = refl
 
-pub has_ended-push : (ps : List Piece) (p : Piece) → has_ended (ps ++ p ∷ []) ≡ (has_ended ps || is_stream_end p.block)
+pub has_ended-push : (ps : List SpelledBlock) (p : SpelledBlock) → has_ended (ps ++ p ∷ []) ≡ (has_ended ps || is_stream_end p.block)
 has_ended-push ps p = list_any-append (λ q. is_stream_end q.block) ps (p ∷ [])
     ∙ ap (λ b. has_ended ps || b) (or_false (is_stream_end p.block))
 
@@ -71,7 +71,7 @@ IsTally-start = record {
 }
 
 -- one more block
-pub IsTally-push : (ps : List Piece) (b : Before) (times : List ℕ) (p : Piece) → IsTally ps b times → MayFollow b p
+pub IsTally-push : (ps : List SpelledBlock) (b : Before) (times : List ℕ) (p : SpelledBlock) → IsTally ps b times → MayFollow b p
     → IsWithin (behind b p) → IsTally (ps ++ p ∷ []) (behind b p) (times ++ new_times b.time p.block)
 IsTally-push ps b times p tally may within = record {
   offset = ap (λ n. n + p.bytes) tally.offset ∙ sym (sum_by-push (λ q. q.bytes) ps p);

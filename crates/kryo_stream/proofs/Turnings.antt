@@ -3,7 +3,7 @@ use Rattle.std.proofs.Common.{◌≡◌, ◌≢◌, ◌-◌, ◌&&◌, ℕ, Bool
 use Rattle.std.specs.Prelude.{slice_get, nat_lt, nat_le, get_or, length}
 use Rattle.std.specs.List.{filter_map, range_with_len, cons_option}
 use Rattle.std.specs.Option.{option_and_then, option_or}
-use Rattle.kryo_stream.specs.declared.block.Piece.{Piece}
+use Rattle.kryo_stream.specs.declared.block.SpelledBlock.{SpelledBlock}
 use Rattle.kryo_stream.specs.declared.block.Mark.{Mark}
 use Rattle.kryo_stream.specs.declared.fault.StreamFault.{StreamFault}
 use Rattle.kryo_stream.specs.declared.fault.StreamFault.TheVariants.{Truncated, IndexPosition, IndexOrder, NoTurn}
@@ -43,16 +43,16 @@ order_own = λ same. cc
 turn_own : NoTurn ≢ Truncated
 turn_own = λ same. cc
 
-mark_fault-own : (ps : List Piece) (k : ℕ) (mark : Mark) → IsOwn (mark_fault ps k mark)
+mark_fault-own : (ps : List SpelledBlock) (k : ℕ) (mark : Mark) → IsOwn (mark_fault ps k mark)
 mark_fault-own ps k mark =
     own_if (nat_lt (in_stream_bytes ps) mark.position) (Some (mark.number, IndexPosition)) _ position_own
     (own_if (nat_lt 0 k && nat_le (index_time ps mark) (get_or (indexes_of ps) (k - 1) 0)) (Some (mark.number, IndexOrder)) None order_own tt)
 
-turn_fault-own : (ps : List Piece) → IsOwn (turn_fault ps)
+turn_fault-own : (ps : List SpelledBlock) → IsOwn (turn_fault ps)
 turn_fault-own ps = own_or (slice_get (mark_faults ps) 0) _
     (own_first (mark_fault_at ps) (λ k. own_and_then (mark_fault ps k) (mark_fault-own ps k) (slice_get (marks ps) k)) (range_with_len 0 (length (marks ps))))
     (own_if (nat_lt (length (marks ps)) 2) (Some (length ps - 1, NoTurn)) None turn_own tt)
 
-pub turn_fault-not : (ps : List Piece) (block : ℕ) (fault : StreamFault) → turn_fault ps ≡ Some (block, fault) → fault ≡ Truncated → ⊥
+pub turn_fault-not : (ps : List SpelledBlock) (block : ℕ) (fault : StreamFault) → turn_fault ps ≡ Some (block, fault) → fault ≡ Truncated → ⊥
 turn_fault-not ps block fault is truncated =
     let own : IsOwn (Some (block, fault)) = subst IsOwn is (turn_fault-own ps) in own truncated

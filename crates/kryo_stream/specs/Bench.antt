@@ -3,7 +3,7 @@ use Rattle.std.specs.Prelude.{◌≡◌, ◌≤◌, ◌<◌, ℕ, ◌+◌, ◌-�
 use Rattle.std.specs.List.Sorted.{IsNonDecreasing}
 use Rattle.kryo_stream.specs.declared.block.Block.{Block}
 use Rattle.kryo_stream.specs.declared.block.Block.TheVariants.{Flux, Overflow, Nop, StreamInfo, Index, StreamEnd, Info, End}
-use Rattle.kryo_stream.specs.declared.block.Piece.{Piece}
+use Rattle.kryo_stream.specs.declared.block.SpelledBlock.{SpelledBlock}
 use Rattle.kryo_stream.specs.declared.block.Mark.{Mark}
 use Rattle.kryo_stream.specs.declared.fault.StreamFault.TheVariants.{IndexPosition, IndexOrder}
 use Rattle.kryo_stream.specs.declared.fault.TrackFault.{TrackFault}
@@ -44,7 +44,7 @@ pub record KeepsBenchRoom (old new : BenchState) : Type 0 where
   pub for_indexes : length old.indexes + old.spare_indexes ≤ length new.indexes + new.spare_indexes
 
 -- how far a block moves the stream position
-abbrev pub stream_step : Piece → ℕ
+abbrev pub stream_step : SpelledBlock → ℕ
 stream_step p = if is_in_stream p.block then p.bytes else 0
 
 abbrev pub end_of : ℕ → Block → List ℕ
@@ -52,7 +52,7 @@ end_of position (Flux _) = position ∷ []
 end_of _ _ = []
 
 -- the stream positions after the Flux blocks, where the first block stands at this position
-abbrev pub flux_ends : ℕ → List Piece → List ℕ
+abbrev pub flux_ends : ℕ → List SpelledBlock → List ℕ
 flux_ends position [] = []
 flux_ends position (p ∷ ps) = end_of (position + stream_step p) p.block ++ flux_ends (position + stream_step p) ps
 
@@ -61,7 +61,7 @@ overflow_of position Overflow = position ∷ []
 overflow_of _ _ = []
 
 -- the stream positions of the Overflow blocks
-abbrev pub overflow_begins : ℕ → List Piece → List ℕ
+abbrev pub overflow_begins : ℕ → List SpelledBlock → List ℕ
 overflow_begins position [] = []
 overflow_begins position (p ∷ ps) = overflow_of position p.block ++ overflow_begins (position + stream_step p) ps
 
@@ -76,11 +76,11 @@ IsSizedBlock (StreamEnd _ _) bytes = 1 ≤ bytes
 IsSizedBlock (Info _) bytes = 1 ≤ bytes
 IsSizedBlock End bytes = 1 ≤ bytes
 
-abbrev pub IsSized : Piece → Type 0
+abbrev pub IsSized : SpelledBlock → Type 0
 IsSized p = IsSizedBlock p.block p.bytes
 
 -- all blocks so far are noted
-pub record IsNoted (ps : List Piece) (b : BenchState) : Type 0 where
+pub record IsNoted (ps : List SpelledBlock) (b : BenchState) : Type 0 where
   pub sizes : All IsSized ps
   pub flux : b.ends ≡ flux_ends 0 ps
   pub overflow : b.overflows ≡ overflow_begins 0 ps
@@ -95,7 +95,7 @@ base_time ends overflows times position =
     + OVERFLOW_TICKS * count_by (λ begin. nat_le (get_or (0 ∷ ends) count 0) begin && nat_lt begin position) overflows
 
 -- a bench that holds all blocks of a stream, with the times of their transitions and the number of all in-stream bytes
-pub record IsComplete (ps : List Piece) (b : BenchState) (transitions : List ℕ) (total end : ℕ) : Type 0 where
+pub record IsComplete (ps : List SpelledBlock) (b : BenchState) (transitions : List ℕ) (total end : ℕ) : Type 0 where
   pub noted : IsNoted ps b
   pub times : transitions ≡ times_of ps
   pub counted : total ≡ in_stream_bytes ps
@@ -103,7 +103,7 @@ pub record IsComplete (ps : List Piece) (b : BenchState) (transitions : List ℕ
   pub blocks : length ps ≡ end + 1
 
 -- why the turns of a stream were not found
-abbrev pub TurnCause : List Piece → ℕ → TrackFault → Type 0
+abbrev pub TurnCause : List SpelledBlock → ℕ → TrackFault → Type 0
 TurnCause ps spare (Refused block fault) = turn_fault ps ≡ Some (block, fault)
 TurnCause ps spare Memory = spare < length (marks ps)
 TurnCause ps spare ReadFault = ⊥

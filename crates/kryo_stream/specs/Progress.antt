@@ -9,7 +9,7 @@ use Rattle.kryo_stream.specs.declared.intake.More.TheVariants.{Taken, End}
 use Rattle.kryo_stream.specs.Bench.{BenchState, IsNoted}
 use Rattle.kryo_stream.specs.Outcome.{input_of, most_padding, DoNotTell}
 use Rattle.kryo_stream.specs.Protocol.{LIMIT, MOST_HELD}
-use Rattle.kryo_stream.specs.Pieces.{Reading, piece_at}
+use Rattle.kryo_stream.specs.Pieces.{BlockOrFault, piece_at}
 use Rattle.kryo_stream.specs.Reads.{SourceMoment, Takes}
 use Rattle.kryo_stream.specs.Stream.{pieces, stops_at}
 use Rattle.kryo_stream.specs.Tally.{IsTally}
@@ -40,14 +40,14 @@ abbrev pub IsBlockOpen : Before → List ℕ → List ℕ → Type 0
 IsBlockOpen b held taken = piece_at b.offset b.counted b.ended (held ++ taken) ≡ Err Truncated
 
 -- what the reading of a block says of the bytes from the block on: a block is passed over
-abbrev pub BlockSays : Before → Result Reading Failed → List ℕ → List ℕ → Option (List ℕ) → Type 0
+abbrev pub BlockSays : Before → Result BlockOrFault Failed → List ℕ → List ℕ → Option (List ℕ) → Type 0
 BlockSays b (Ok (Ok p)) bytes held' left' = (piece_at b.offset b.counted b.ended bytes ≡ Ok p) × (held' ≡ drop p.bytes bytes)
 BlockSays b (Ok (Err fault)) bytes held' left' =
     (piece_at b.offset b.counted b.ended bytes ≡ Err fault) × (fault ≡ Truncated → IsAtEnd left')
 BlockSays b (Err _) bytes held' left' = piece_at b.offset b.counted b.ended bytes ≡ Err Truncated
 
 -- the next block was read, with what had to be taken for it
-pub record TakesBlock (old new : SourceMoment) (held held' : List ℕ) (b : Before) (answer : Result Reading Failed) : Type 0 where
+pub record TakesBlock (old new : SourceMoment) (held held' : List ℕ) (b : Before) (answer : Result BlockOrFault Failed) : Type 0 where
   pub taken : List ℕ
   pub takes : Takes (IsBlockOpen b held) old new taken
   pub few : b.offset + length (held ++ taken) ≤ LIMIT + MOST_HELD

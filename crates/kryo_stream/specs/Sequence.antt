@@ -3,7 +3,7 @@ use Rattle.std.specs.Prelude.{◌≡◌, ◌≤◌, ◌<◌, ◌+◌, ◌++◌, 
 use Rattle.std.specs.List.Sorted.{IsStrictlyIncreasing}
 use Rattle.kryo_stream.specs.declared.block.Block.{Block}
 use Rattle.kryo_stream.specs.declared.block.Block.TheVariants.{Index}
-use Rattle.kryo_stream.specs.declared.block.Piece.{Piece}
+use Rattle.kryo_stream.specs.declared.block.SpelledBlock.{SpelledBlock}
 use Rattle.kryo_stream.specs.Bench.{stream_step}
 use Rattle.kryo_stream.specs.Protocol.{LIMIT}
 use Rattle.kryo_stream.specs.Spelling.{spelling, IsWritable}
@@ -16,10 +16,10 @@ abbrev pub spellings : List Block → List ℕ
 spellings blocks = flat_map spelling blocks
 
 -- a block with the length of its spelling
-abbrev pub spelled : Block → Piece
+abbrev pub spelled : Block → SpelledBlock
 spelled block = record { block = block; bytes = length (spelling block) }
 
-abbrev pub all_spelled : List Block → List Piece
+abbrev pub all_spelled : List Block → List SpelledBlock
 all_spelled blocks = map spelled blocks
 
 -- a block may stand between these and those: its numbers fit its fields, the protocol lets it stand there, and it is an
@@ -36,7 +36,7 @@ transitions_from time (b ∷ bs) = new_times time b ++ transitions_from (time + 
 
 -- a stream position lies before the end of the first block after these, so that the in-stream byte there is that block's;
 -- where no block follows them, it is their own end
-abbrev pub IsHeld : List Piece → List Piece → ℕ → Type 0
+abbrev pub IsHeld : List SpelledBlock → List SpelledBlock → ℕ → Type 0
 IsHeld before [] position = position ≡ in_stream_bytes before
 IsHeld before (p ∷ ps) position = position < in_stream_bytes before + stream_step p
 

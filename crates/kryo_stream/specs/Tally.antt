@@ -2,7 +2,7 @@
 use Rattle.std.specs.Prelude.{◌≡◌, ◌≤◌, ℕ, ◌+◌, ◌*◌, ◌||◌, false, List, [], ◌∷◌, length, All, if◌then◌else◌}
 use Rattle.kryo_stream.specs.declared.block.Block.{Block}
 use Rattle.kryo_stream.specs.declared.block.Block.TheVariants.{Flux}
-use Rattle.kryo_stream.specs.declared.block.Piece.{Piece}
+use Rattle.kryo_stream.specs.declared.block.SpelledBlock.{SpelledBlock}
 use Rattle.kryo_stream.specs.declared.before.Before.{Before}
 use Rattle.kryo_stream.specs.Protocol.{OVERFLOW_TICKS, LIMIT}
 use Rattle.kryo_stream.specs.Stream.{total_bytes, is_in_stream, in_stream_bytes, is_stream_end, has_ended, block_ticks, ticks, times_of}
@@ -12,7 +12,7 @@ abbrev pub at_start : Before
 at_start = record { offset = 0; counted = 0; ended = false; time = 0 }
 
 -- what stands before the block after this one
-abbrev pub behind : Before → Piece → Before
+abbrev pub behind : Before → SpelledBlock → Before
 behind b p = record {
   offset = b.offset + p.bytes;
   counted = b.counted + (if is_in_stream p.block then p.bytes else 0);
@@ -27,7 +27,7 @@ pub record IsWithin (b : Before) : Type 0 where
   pub time : b.time ≤ OVERFLOW_TICKS * b.offset
 
 -- the block takes bytes, and no more than the limit leaves
-pub record MayFollow (b : Before) (p : Piece) : Type 0 where
+pub record MayFollow (b : Before) (p : SpelledBlock) : Type 0 where
   pub some : 1 ≤ p.bytes
   pub room : b.offset + p.bytes ≤ LIMIT
 
@@ -37,7 +37,7 @@ new_times time (Flux ticks) = (time + ticks) ∷ []
 new_times time _ = []
 
 -- these are the numbers and the times of the transitions of the blocks so far
-pub record IsTally (ps : List Piece) (b : Before) (times : List ℕ) : Type 0 where
+pub record IsTally (ps : List SpelledBlock) (b : Before) (times : List ℕ) : Type 0 where
   pub offset : b.offset ≡ total_bytes ps
   pub counted : b.counted ≡ in_stream_bytes ps
   pub ended : b.ended ≡ has_ended ps

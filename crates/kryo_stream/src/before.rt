@@ -1,6 +1,6 @@
 ghost use Rattle.std.specs.Prelude.{◌≡◌};
 
-use crate::block::{Block, Piece};
+use crate::block::{Block, SpelledBlock};
 
 /// What stands before a block of a stream.
 #[derive(Clone, Copy)]
@@ -32,7 +32,7 @@ impl Before {
 
     /// What stands before the next block.
     #[inline(always)]
-    pub fn behind(&self, piece: &Piece) -> Before
+    pub fn behind(&self, piece: &SpelledBlock) -> Before
         requires within { IsWithin self.now }
         requires follows { MayFollow self.now piece.now }
         ensures value { result ≡ behind self.now piece.now }

@@ -5,7 +5,7 @@ ghost use Rattle.kryo_stream.specs.Stream.{in_stream_bytes, total_bytes, turn_fa
 ghost use Rattle.index_turns.specs.Track.{KeepsRoom};
 ghost use Rattle.kryo_stream.specs.Bench.{HasFullBench, KeepsBenchRoom, KeepsNotes, IsNoted, IsSized, IsComplete, IsSearchable, TurnCause, PlaceCause, base_time, mark_time};
 
-use crate::block::{Block, Mark, Piece};
+use crate::block::{Block, Mark, SpelledBlock};
 use crate::fault::{StreamFault, TrackFault};
 use flux_base::Memory;
 use index_turns::TrackFlux;
@@ -90,15 +90,15 @@ impl StreamBench {
 
     /// Takes note of block `number` of the stream, which begins at the stream position `position`.
     #[inline(always)]
-    pub(crate) fn note(&mut self, number: u32, position: u32, piece: Piece) -> Result<(), Memory>
+    pub(crate) fn note(&mut self, number: u32, position: u32, piece: SpelledBlock) -> Result<(), Memory>
         requires size { IsSized piece }
         requires end { position + piece.bytes < 2 ^ 32 }
-        ensures noted { OnOk result ((ps : List Piece) → IsNoted ps self.old → length ps ≡ number
+        ensures noted { OnOk result ((ps : List SpelledBlock) → IsNoted ps self.old → length ps ≡ number
             → in_stream_bytes ps ≡ position → IsNoted (ps ++ piece ∷ []) self.new) }
         ensures room { KeepsBenchRoom self.old self.new }
 
         // no memory is taken within the full room
-        ensures succeeds { HasFullBench self.old → (ps : List Piece) → IsNoted ps self.old
+        ensures succeeds { HasFullBench self.old → (ps : List SpelledBlock) → IsNoted ps self.old
             → total_bytes ps + piece.bytes ≤ LIMIT → IsOk result }
     {
         match piece.block {
@@ -128,13 +128,13 @@ impl StreamBench {
         end: u32,
         flux: &mut TrackFlux,
     ) -> Result<(), TrackFault>
-        requires complete { (ps : List Piece) × IsComplete ps self.now flux.old.times total end }
+        requires complete { (ps : List SpelledBlock) × IsComplete ps self.now flux.old.times total end }
         requires empty { flux.old.indexes ≡ [] }
-        ensures ok { OnOk result ((ps : List Piece) → IsComplete ps self.now flux.old.times total end
+        ensures ok { OnOk result ((ps : List SpelledBlock) → IsComplete ps self.now flux.old.times total end
             → turn_fault ps ≡ None) }
-        ensures indexes { OnOk result ((ps : List Piece) → IsComplete ps self.now flux.old.times total end
+        ensures indexes { OnOk result ((ps : List SpelledBlock) → IsComplete ps self.now flux.old.times total end
             → flux.new.indexes ≡ indexes_of ps) }
-        ensures cause { IfErr result (λ fault. (ps : List Piece) → IsComplete ps self.now flux.old.times total end
+        ensures cause { IfErr result (λ fault. (ps : List SpelledBlock) → IsComplete ps self.now flux.old.times total end
             → TurnCause ps flux.old.spare_indexes fault) }
         ensures times { flux.new.times ≡ flux.old.times }
         ensures room { KeepsRoom flux.old flux.new }

@@ -37,7 +37,7 @@ pub enum Block {
 
 /// A block as it stands in a stream, and how many bytes it takes there.
 #[derive(Clone, Copy, Debug, PartialEq, Eq)]
-pub struct Piece {
+pub struct SpelledBlock {
     pub block: Block,
     pub bytes: usize,
 }

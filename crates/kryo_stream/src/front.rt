@@ -5,7 +5,7 @@ ghost use Rattle.kryo_stream.specs.declared.block.Block.TheVariants.{Flux};
 ghost use Rattle.kryo_stream.specs.Pieces.{piece, has, in_stream_piece, info_piece, stream_info_piece, index_piece, stream_end_piece, out_of_band_piece, piece_at, IsText};
 
 use crate::before::Before;
-use crate::block::{Block, Piece};
+use crate::block::{Block, SpelledBlock};
 use crate::fault::StreamFault;
 use byteorder::{ByteOrder, LittleEndian};
 
@@ -22,7 +22,7 @@ const HEADER: u32 = 4;
 pub const LIMIT: u32 = 4194304;
 
 /// The block at the front of the bytes, which are those of the input from the block on.
-pub fn front(before: &Before, bytes: &[u8]) -> Result<Piece, StreamFault>
+pub fn front(before: &Before, bytes: &[u8]) -> Result<SpelledBlock, StreamFault>
     requires offset { before.now.offset ≤ 4194304 }
     ensures value { result ≡ piece_at before.now.offset before.now.counted before.now.ended bytes.now }
     ensures sized { IfOk result IsSized }
@@ -92,7 +92,7 @@ fn have(offset: u32, count: u32, bytes: &[u8]) -> Result<(), StreamFault>
 }
 
 /// The in-stream block that begins with the bytes.
-fn in_stream(offset: u32, bytes: &[u8]) -> Result<Piece, StreamFault>
+fn in_stream(offset: u32, bytes: &[u8]) -> Result<SpelledBlock, StreamFault>
     requires offset { offset ≤ 4194304 }
     requires first { 1 ≤ length bytes.now }
     ensures value { result ≡ in_stream_piece offset (slice_index bytes.now 0) bytes.now }
@@ -121,11 +121,11 @@ fn in_stream(offset: u32, bytes: &[u8]) -> Result<Piece, StreamFault>
             1,
         ),
     };
-    Ok(Piece { block, bytes })
+    Ok(SpelledBlock { block, bytes })
 }
 
 /// The out-of-band block whose header the bytes begin with.
-fn out_of_band(before: &Before, bytes: &[u8]) -> Result<Piece, StreamFault>
+fn out_of_band(before: &Before, bytes: &[u8]) -> Result<SpelledBlock, StreamFault>
     requires offset { before.now.offset ≤ 4194304 }
     requires header { 4 ≤ length bytes.now }
     ensures value { result ≡ out_of_band_piece before.now.offset before.now.counted (slice_index bytes.now 1) (little_number 2 (drop 2 bytes.now)) bytes.now }
@@ -137,7 +137,7 @@ fn out_of_band(before: &Before, bytes: &[u8]) -> Result<Piece, StreamFault>
         (0x02, 12) => index(before, bytes),
         (0x03, 8) => stream_end(before, bytes),
         (INFO, _) => info(before.offset, size, bytes),
-        (0x0D, 0x0D0D) => Ok(Piece {
+        (0x0D, 0x0D0D) => Ok(SpelledBlock {
             block: Block::End,
             bytes: 4,
         }),
@@ -147,7 +147,7 @@ fn out_of_band(before: &Before, bytes: &[u8]) -> Result<Piece, StreamFault>
 }
 
 /// The StreamInfo block whose header the bytes begin with.
-fn stream_info(before: &Before, bytes: &[u8]) -> Result<Piece, StreamFault>
+fn stream_info(before: &Before, bytes: &[u8]) -> Result<SpelledBlock, StreamFault>
     requires offset { before.now.offset ≤ 4194304 }
     requires header { 4 ≤ length bytes.now }
     ensures value { result ≡ stream_info_piece before.now.offset before.now.counted bytes.now }
@@ -164,11 +164,11 @@ fn stream_info(before: &Before, bytes: &[u8]) -> Result<Piece, StreamFault>
         });
     }
     let block = Block::StreamInfo { position, time };
-    Ok(Piece { block, bytes: 12 })
+    Ok(SpelledBlock { block, bytes: 12 })
 }
 
 /// The Index block whose header the bytes begin with.
-fn index(before: &Before, bytes: &[u8]) -> Result<Piece, StreamFault>
+fn index(before: &Before, bytes: &[u8]) -> Result<SpelledBlock, StreamFault>
     requires offset { before.now.offset ≤ 4194304 }
     requires header { 4 ≤ length bytes.now }
     ensures value { result ≡ index_piece before.now.offset bytes.now }
@@ -183,11 +183,11 @@ fn index(before: &Before, bytes: &[u8]) -> Result<Piece, StreamFault>
         sample,
         counter,
     };
-    Ok(Piece { block, bytes: 16 })
+    Ok(SpelledBlock { block, bytes: 16 })
 }
 
 /// The StreamEnd block whose header the bytes begin with.
-fn stream_end(before: &Before, bytes: &[u8]) -> Result<Piece, StreamFault>
+fn stream_end(before: &Before, bytes: &[u8]) -> Result<SpelledBlock, StreamFault>
     requires offset { before.now.offset ≤ 4194304 }
     requires header { 4 ≤ length bytes.now }
     ensures value { result ≡ stream_end_piece before.now.offset before.now.counted bytes.now }
@@ -207,18 +207,18 @@ fn stream_end(before: &Before, bytes: &[u8]) -> Result<Piece, StreamFault>
         return Err(StreamFault::DeviceFault(code));
     }
     let block = Block::StreamEnd { position, code };
-    Ok(Piece { block, bytes: 12 })
+    Ok(SpelledBlock { block, bytes: 12 })
 }
 
 /// The Info block of this size whose header the bytes begin with, where they hold it whole.
-fn info(offset: u32, size: u16, bytes: &[u8]) -> Result<Piece, StreamFault>
+fn info(offset: u32, size: u16, bytes: &[u8]) -> Result<SpelledBlock, StreamFault>
     requires offset { offset ≤ 4194304 }
     ensures value { result ≡ info_piece offset size bytes.now }
     ensures sized { IfOk result IsSized }
 {
     let count = HEADER + u32::from(size);
     have(offset, count, bytes)?;
-    Ok(Piece {
+    Ok(SpelledBlock {
         block: Block::Info { length: size },
         bytes: count as usize,
     })

@@ -1,6 +1,6 @@
 ghost use Rattle.std.specs.Prelude.{◌≡◌, ◌<◌, ◌++◌, ℕ, List, All, None};
 ghost use Rattle.kryo_stream.specs.declared.block.Block.{Block};
-ghost use Rattle.kryo_stream.specs.declared.block.Piece.{Piece};
+ghost use Rattle.kryo_stream.specs.declared.block.SpelledBlock.{SpelledBlock};
 ghost use Rattle.kryo_stream.specs.Blocks.{Spells};
 ghost use Rattle.kryo_stream.specs.Growth.{PaddingStays, StreamsAreShort, StreamsStay};
 ghost use Rattle.kryo_stream.specs.Joined.{PaddingIsPassed};
@@ -15,9 +15,9 @@ ghost use Rattle.kryo_stream.specs.WellFormed.{BeginsWith};
 /// most one such beginning, and it is the stream that is read.
 pub fn stream_law()
     ensures sound { (x : List ℕ) → All (λ byte. byte < 256) x → first_fault x ≡ None → BeginsWith x (stream x) }
-    ensures complete { (x : List ℕ) (ps : List Piece) → All (λ byte. byte < 256) x → BeginsWith x ps
+    ensures complete { (x : List ℕ) (ps : List SpelledBlock) → All (λ byte. byte < 256) x → BeginsWith x ps
         → first_fault x ≡ None }
-    ensures same { (x : List ℕ) (ps qs : List Piece) → All (λ byte. byte < 256) x → BeginsWith x ps
+    ensures same { (x : List ℕ) (ps qs : List SpelledBlock) → All (λ byte. byte < 256) x → BeginsWith x ps
         → BeginsWith x qs → ps ≡ qs }
 {}
 

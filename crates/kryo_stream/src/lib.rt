@@ -14,7 +14,7 @@ mod room;
 mod writing;
 
 pub use bench::{MOST_INDEXES, MOST_TIMES, StreamBench};
-pub use block::{Block, Mark, Piece};
+pub use block::{Block, Mark, SpelledBlock};
 pub use fault::{RoomFault, StreamFault, TrackFault};
 pub use intake::Intake;
 pub use laws::{blocks_law, growth_law, joined_law, padding_law, spelling_law, stream_law};

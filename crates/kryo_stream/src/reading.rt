@@ -14,7 +14,7 @@ ghost use Rattle.kryo_stream.specs.Tally.{IsWithin, MayFollow, new_times};
 
 use crate::before::Before;
 use crate::bench::StreamBench;
-use crate::block::{Block, Piece};
+use crate::block::{Block, SpelledBlock};
 use crate::fault::{StreamFault, TrackFault};
 use crate::front::{LIMIT, front, short_flux, text_size};
 use crate::intake::{Intake, More};
@@ -147,7 +147,7 @@ fn read_stream<S: Source>(
         // all blocks takes four times as long.
         if let Some(ticks) = short_flux(&before, intake.bytes()) {
             let block = Block::Flux { ticks };
-            let piece = Piece { block, bytes: 1 };
+            let piece = SpelledBlock { block, bytes: 1 };
             intake.pass(1);
             match note(number, &piece, &before, flux, bench) {
                 Ok(()) => {}
@@ -187,7 +187,7 @@ fn take_block<S: Source>(
     source: &mut S,
     intake: &mut Intake,
     before: &Before,
-) -> Result<Result<Piece, StreamFault>, Failed>
+) -> Result<Result<SpelledBlock, StreamFault>, Failed>
     requires within { IsWithin before.now }
     ensures takes { TakesBlock (source_at S.left S.given S.faults source.old) (source_at S.left S.given S.faults source.new) intake.old.held intake.new.held before.now result }
     ensures sized { IfOk result (λ reading. IfOk reading IsSized) }
@@ -216,7 +216,7 @@ fn take_text<S: Source>(
     source: &mut S,
     intake: &mut Intake,
     before: &Before,
-) -> Result<Result<Piece, StreamFault>, Failed>
+) -> Result<Result<SpelledBlock, StreamFault>, Failed>
     requires within { IsWithin before.now }
     requires bound { length intake.old.held ≤ 4096 }
     requires truncated { piece_at before.now.offset before.now.counted before.now.ended intake.old.held ≡ Err Truncated }
@@ -236,7 +236,7 @@ fn take_text<S: Source>(
     match skip(source, intake, bytes) {
         Ok(More::Taken) => {
             let block = Block::Info { length: size };
-            Ok(Ok(Piece { block, bytes }))
+            Ok(Ok(SpelledBlock { block, bytes }))
         }
         Ok(More::End) => Ok(Err(StreamFault::Truncated)),
         Err(failed) => Err(failed),
@@ -275,7 +275,7 @@ fn next_block<S: Source>(
     source: &mut S,
     intake: &mut Intake,
     before: &Before,
-) -> Result<Result<Piece, StreamFault>, Failed>
+) -> Result<Result<SpelledBlock, StreamFault>, Failed>
     requires within { IsWithin before.now }
     ensures took { Took (IsBlockOpen before.now intake.old.held) (source_at S.left S.given S.faults source.old) (source_at S.left S.given S.faults source.new) intake.old.held intake.new.held }
     ensures bound { length intake.new.held ≤ 4096 }
@@ -308,7 +308,7 @@ fn next_block<S: Source>(
 #[inline(always)]
 fn note(
     number: u32,
-    piece: &Piece,
+    piece: &SpelledBlock,
     before: &Before,
     flux: &mut TrackFlux,
     bench: &mut StreamBench,
@@ -320,16 +320,16 @@ fn note(
     ensures times { OnOk result (flux.new.times ≡ flux.old.times ++ new_times before.now.time piece.now.block) }
     ensures indexes { flux.new.indexes ≡ flux.old.indexes }
     ensures room { KeepsRoom flux.old flux.new }
-    ensures noted { OnOk result ((ps : List Piece) → IsNoted ps bench.old → length ps ≡ number → in_stream_bytes ps ≡ before.now.counted → IsNoted (ps ++ piece.now ∷ []) bench.new) }
+    ensures noted { OnOk result ((ps : List SpelledBlock) → IsNoted ps bench.old → length ps ≡ number → in_stream_bytes ps ≡ before.now.counted → IsNoted (ps ++ piece.now ∷ []) bench.new) }
     ensures bench { KeepsBenchRoom bench.old bench.new }
-    ensures succeeds { 0 < flux.old.spare_times → HasFullBench bench.old → (ps : List Piece) → IsNoted ps bench.old → total_bytes ps + piece.now.bytes ≤ LIMIT → IsOk result }
+    ensures succeeds { 0 < flux.old.spare_times → HasFullBench bench.old → (ps : List SpelledBlock) → IsNoted ps bench.old → total_bytes ps + piece.now.bytes ≤ LIMIT → IsOk result }
 {
     note_time(piece, before, flux)?;
     bench.note(number, before.counted, *piece)
 }
 
 /// Keeps the transition of a block.
-fn note_time(piece: &Piece, before: &Before, flux: &mut TrackFlux) -> Result<(), Memory>
+fn note_time(piece: &SpelledBlock, before: &Before, flux: &mut TrackFlux) -> Result<(), Memory>
     requires within { IsWithin before.now }
     requires times { All (λ time. time ≤ before.now.time) flux.old.times }
     ensures times { OnOk result (flux.new.times ≡ flux.old.times ++ new_times before.now.time piece.now.block) }

@@ -17,20 +17,20 @@ abbrev pub sector_rows : {Row : Type 0} → Rows Row → List Row
 sector_rows rows = rows.before ++ (rows.frame ++ rows.after)
 
 -- a row as it stands in a track: that of this sector, with these bytes
-pub record Part (Row : Type 0) : Type 0 where
+pub record TrackRow (Row : Type 0) : Type 0 where
   pub sector : ℕ
   pub bytes : List ℕ
   pub row : Row
 
-abbrev pub parts_of : {Row : Type 0} → ℕ → List ℕ → List Row → List (Part Row)
+abbrev pub parts_of : {Row : Type 0} → ℕ → List ℕ → List Row → List (TrackRow Row)
 parts_of sector bytes rows = map (λ row. record { sector = sector; bytes = bytes; row = row }) rows
 
 -- One sector of a track whose sectors are numbered from `first` and have `size` bytes each, of the bytes of all.
-unfoldable pub sector_parts : {Row : Type 0} → ℕ → ℕ → List ℕ → Rows Row → ℕ → List (Part Row)
+unfoldable pub sector_parts : {Row : Type 0} → ℕ → ℕ → List ℕ → Rows Row → ℕ → List (TrackRow Row)
 sector_parts first size bytes rows sector = parts_of sector (bytes_of first size bytes sector) (sector_rows rows)
 
 -- The whole track, with so many sectors in the order of their numbers. Rows outside of sectors have no bytes.
-unfoldable pub track_parts : {Row : Type 0} → ℕ → ℕ → ℕ → List ℕ → Rows Row → List (Part Row)
+unfoldable pub track_parts : {Row : Type 0} → ℕ → ℕ → ℕ → List ℕ → Rows Row → List (TrackRow Row)
 track_parts first sectors size bytes rows =
     parts_of first [] rows.lead_in
     ++ (flat_map (sector_parts first size bytes rows) (range_with_len first sectors) ++ parts_of first [] rows.lead_out)
@@ -53,10 +53,10 @@ total size_of [] = 0
 total size_of (x ∷ xs) = size_of x + total size_of xs
 
 -- the cells of a row of a track, and how many they are
-abbrev pub part_cells : {Row : Type 0} → (Bool → ℕ → List ℕ → Row → List Bool) → Bool → Part Row → List Bool
+abbrev pub part_cells : {Row : Type 0} → (Bool → ℕ → List ℕ → Row → List Bool) → Bool → TrackRow Row → List Bool
 part_cells cells_of before part = cells_of before part.sector part.bytes part.row
 
-abbrev pub part_size : {Row : Type 0} → (ℕ → Row → ℕ) → Part Row → ℕ
+abbrev pub part_size : {Row : Type 0} → (ℕ → Row → ℕ) → TrackRow Row → ℕ
 part_size size_of part = size_of (length part.bytes) part.row
 
 module _ {Row : Type 0} (asks : Bool) (cells_of : Bool → ℕ → List ℕ → Row → List Bool) where

@@ -8,7 +8,7 @@ use Rattle.std.proofs.lemmas.List.FromFn.{length-map-range_with_len, get_or-map-
 use Rattle.turn_merge.specs.declared.verdict.Place.{Place}
 use Rattle.turn_merge.specs.declared.verdict.Verdict.{Verdict}
 use Rattle.turn_merge.specs.declared.verdict.Verdict.TheVariants.{Missing}
-use Rattle.turn_merge.specs.Readings.{Reading, good_reading, bad_reading, good_ones, bad_ones, verdict, agreed}
+use Rattle.turn_merge.specs.Readings.{NotedReading, good_reading, bad_reading, good_ones, bad_ones, verdict, agreed}
 use Rattle.turn_merge.specs.Book.{Found, Knowledge, IsKnown, found_at, StandsFor, part, kept, IsOf, found_from}
 
 -- what contracts see of a book's fields
@@ -43,7 +43,7 @@ found_at_is first n size notes vs bs s known =
     get_or-map-range_with_len (entry size vs bs) 0 n (s - first) (s - first) _ ((known_below first n size notes vs bs s known).1) (omega arith)
 
 -- to stand for readings is to stand, in each sector, for its good and its bad ones
-pub sector_of : (first n size notes : ℕ) (vs : List Verdict) (bs : List ℕ) (readings : List Reading) (s : ℕ)
+pub sector_of : (first n size notes : ℕ) (vs : List Verdict) (bs : List ℕ) (readings : List NotedReading) (s : ℕ)
     → StandsFor (book_of first n size notes vs bs) readings → IsKnown (book_of first n size notes vs bs) s
     → IsOf (get_or vs (s - first) Missing) (part bs size (s - first)) (good_ones readings s) (bad_ones readings s)
 unfolding verdict agreed
@@ -54,7 +54,7 @@ sector_of first n size notes vs bs readings s stands known =
       bytes = sym (ap (λ (f : Found). f.bytes) at) ∙ stands.bytes s known;
     }
 
-pub stands_from : (first n size notes : ℕ) (vs : List Verdict) (bs : List ℕ) (readings : List Reading)
+pub stands_from : (first n size notes : ℕ) (vs : List Verdict) (bs : List ℕ) (readings : List NotedReading)
     → notes ≡ length readings
     → ((s : ℕ) → first ≤ s → s - first < n → IsOf (get_or vs (s - first) Missing) (part bs size (s - first)) (good_ones readings s) (bad_ones readings s))
     → StandsFor (book_of first n size notes vs bs) readings
@@ -70,13 +70,13 @@ stands_from first n size notes vs bs readings count each = record {
 }
 
 -- a filter with one more element
-filter_one : (p : Reading → Bool) (r : Reading) (b : Bool) → p r ≡ b → filter p (r ∷ []) ≡ (if b then r ∷ [] else [])
+filter_one : (p : NotedReading → Bool) (r : NotedReading) (b : Bool) → p r ≡ b → filter p (r ∷ []) ≡ (if b then r ∷ [] else [])
 filter_one p r b e = rw e refl
 
-filter_yes : (p : Reading → Bool) (xs : List Reading) (r : Reading) → p r ≡ true → filter p (xs ++ r ∷ []) ≡ filter p xs ++ r ∷ []
+filter_yes : (p : NotedReading → Bool) (xs : List NotedReading) (r : NotedReading) → p r ≡ true → filter p (xs ++ r ∷ []) ≡ filter p xs ++ r ∷ []
 filter_yes p xs r e = filter-append p xs (r ∷ []) ∙ ap (λ ys. filter p xs ++ ys) (filter_one p r true e)
 
-filter_no : (p : Reading → Bool) (xs : List Reading) (r : Reading) → p r ≡ false → filter p (xs ++ r ∷ []) ≡ filter p xs
+filter_no : (p : NotedReading → Bool) (xs : List NotedReading) (r : NotedReading) → p r ≡ false → filter p (xs ++ r ∷ []) ≡ filter p xs
 filter_no p xs r e = filter-append p xs (r ∷ []) ∙ ap (λ ys. filter p xs ++ ys) (filter_one p r false e) ∙ append-nil (filter p xs)
 
 and_true : (a b : Bool) → a ≡ true → b ≡ true → (a && b) ≡ true
@@ -89,22 +89,22 @@ and_false_right : (a b : Bool) → b ≡ false → (a && b) ≡ false
 and_false_right true b e = e
 and_false_right false b e = refl
 
-pub good_ones-good : (readings : List Reading) (s : ℕ) (place : Place) (bytes : List ℕ)
+pub good_ones-good : (readings : List NotedReading) (s : ℕ) (place : Place) (bytes : List ℕ)
     → good_ones (readings ++ good_reading s place bytes ∷ []) s ≡ good_ones readings s ++ good_reading s place bytes ∷ []
 good_ones-good readings s place bytes =
     filter_yes (λ r. nat_eq r.sector s && is_some r.bytes) readings (good_reading s place bytes) (and_true (nat_eq s s) true (eq-eqb s s refl) refl)
 
-pub bad_ones-good : (readings : List Reading) (s q : ℕ) (place : Place) (bytes : List ℕ)
+pub bad_ones-good : (readings : List NotedReading) (s q : ℕ) (place : Place) (bytes : List ℕ)
     → bad_ones (readings ++ good_reading q place bytes ∷ []) s ≡ bad_ones readings s
 bad_ones-good readings s q place bytes =
     filter_no (λ r. nat_eq r.sector s && is_none r.bytes) readings (good_reading q place bytes) (and_false_right (nat_eq q s) false refl)
 
-pub bad_ones-bad : (readings : List Reading) (s : ℕ) (place : Place)
+pub bad_ones-bad : (readings : List NotedReading) (s : ℕ) (place : Place)
     → bad_ones (readings ++ bad_reading s place ∷ []) s ≡ bad_ones readings s ++ bad_reading s place ∷ []
 bad_ones-bad readings s place =
     filter_yes (λ r. nat_eq r.sector s && is_none r.bytes) readings (bad_reading s place) (and_true (nat_eq s s) true (eq-eqb s s refl) refl)
 
-pub good_ones-bad : (readings : List Reading) (s q : ℕ) (place : Place)
+pub good_ones-bad : (readings : List NotedReading) (s q : ℕ) (place : Place)
     → good_ones (readings ++ bad_reading q place ∷ []) s ≡ good_ones readings s
 good_ones-bad readings s q place =
     filter_no (λ r. nat_eq r.sector s && is_some r.bytes) readings (bad_reading q place) (and_false_right (nat_eq q s) false refl)
@@ -113,12 +113,12 @@ unequal : (a b : ℕ) → a ≢ b → nat_eq a b ≡ false
 unequal a b other = grind (arith, nat_tests)
 
 -- a reading of another sector
-pub good_ones-other : (readings : List Reading) (s : ℕ) (r : Reading) → r.sector ≢ s
+pub good_ones-other : (readings : List NotedReading) (s : ℕ) (r : NotedReading) → r.sector ≢ s
     → good_ones (readings ++ r ∷ []) s ≡ good_ones readings s
 good_ones-other readings s r other =
     filter_no (λ x. nat_eq x.sector s && is_some x.bytes) readings r (and_false_left (nat_eq r.sector s) (is_some r.bytes) (unequal r.sector s other))
 
-pub bad_ones-other : (readings : List Reading) (s : ℕ) (r : Reading) → r.sector ≢ s
+pub bad_ones-other : (readings : List NotedReading) (s : ℕ) (r : NotedReading) → r.sector ≢ s
     → bad_ones (readings ++ r ∷ []) s ≡ bad_ones readings s
 bad_ones-other readings s r other =
     filter_no (λ x. nat_eq x.sector s && is_none x.bytes) readings r (and_false_left (nat_eq r.sector s) (is_none r.bytes) (unequal r.sector s other))
@@ -130,7 +130,7 @@ same_or_other (suc a) zero = inr (λ e. omega arith)
 same_or_other (suc a) (suc b) = elim (same_or_other a b) [ inl e ↦ inl (ap suc e) | inr other ↦ inr (λ e. other (omega arith)) ]
 
 -- one more reading of a known sector, which changes what is kept of that sector alone
-pub stands_more : (first n size notes : ℕ) (vs vs' : List Verdict) (bs bs' : List ℕ) (readings : List Reading) (r : Reading)
+pub stands_more : (first n size notes : ℕ) (vs vs' : List Verdict) (bs bs' : List ℕ) (readings : List NotedReading) (r : NotedReading)
     → IsKnown (book_of first n size notes vs bs) r.sector
     → (IsOf (get_or vs (r.sector - first) Missing) (part bs size (r.sector - first)) (good_ones readings r.sector) (bad_ones readings r.sector)
     → IsOf (get_or vs' (r.sector - first) Missing) (part bs' size (r.sector - first)) (good_ones (readings ++ r ∷ []) r.sector) (bad_ones (readings ++ r ∷ []) r.sector))

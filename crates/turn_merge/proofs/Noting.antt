@@ -5,7 +5,7 @@ use Rattle.std.proofs.Math.Nat.{mul-le-mul_right}
 use Rattle.turn_merge.specs.declared.verdict.Place.{Place}
 use Rattle.turn_merge.specs.declared.verdict.Verdict.{Verdict}
 use Rattle.turn_merge.specs.declared.verdict.Verdict.TheVariants.{Good, Contradictory, Bad, Missing}
-use Rattle.turn_merge.specs.Readings.{Reading, good_reading, bad_reading, good_ones, bad_ones, verdict, agreed}
+use Rattle.turn_merge.specs.Readings.{NotedReading, good_reading, bad_reading, good_ones, bad_ones, verdict, agreed}
 use Rattle.turn_merge.specs.Book.{Knowledge, IsKnown, StandsFor, HasShape, part, IsOf, counted, kept, Found}
 use Rattle.turn_merge.proofs.Knowing.{book_of, known_below, found_at_is, length-found, stands_from, stands_more, good_ones-good, bad_ones-good, good_ones-bad, bad_ones-bad}
 
@@ -31,9 +31,9 @@ pub few_counted : (vs : List Verdict) (i notes : ℕ) (v : Verdict) → v ≡ ge
     → ((k : ℕ) → counted (get_or vs k Missing) ≤ notes) → notes < 2 ^ 31 → counted v + 1 < 2 ^ 32
 few_counted vs i notes v e counts few = let h : counted v ≤ notes = rw e (counts i) in omega arith
 
-pub noted_bad : (first n size notes : ℕ) (vs : List Verdict) (bs : List ℕ) (s i : ℕ) (place : Place) (v v' : Verdict) (readings : List Reading)
+pub noted_bad : (first n size notes : ℕ) (vs : List Verdict) (bs : List ℕ) (s i : ℕ) (place : Place) (v v' : Verdict) (readings : List NotedReading)
     → IsKnown (book_of first n size notes vs bs) s → i ≡ s - first → i < length vs → v ≡ get_or vs i Missing
-    → ((good bad : List Reading) (sector : ℕ) (held : List ℕ) → IsOf v held good bad → IsOf v' held good (bad ++ bad_reading sector place ∷ []))
+    → ((good bad : List NotedReading) (sector : ℕ) (held : List ℕ) → IsOf v held good bad → IsOf v' held good (bad ++ bad_reading sector place ∷ []))
     → StandsFor (book_of first n size notes vs bs) readings
     → StandsFor (book_of first n size (notes + 1) (set vs i v') bs) (readings ++ bad_reading s place ∷ [])
 noted_bad first n size notes vs bs s i place v v' readings known index below read more stands =
@@ -47,10 +47,10 @@ noted_bad first n size notes vs bs s i place v v' readings known index below rea
     (λ k other. refl)
     stands
 
-pub noted_good : (first n size notes : ℕ) (vs : List Verdict) (bs bs' : List ℕ) (s i : ℕ) (place : Place) (bytes : List ℕ) (v v' : Verdict) (readings : List Reading)
+pub noted_good : (first n size notes : ℕ) (vs : List Verdict) (bs bs' : List ℕ) (s i : ℕ) (place : Place) (bytes : List ℕ) (v v' : Verdict) (readings : List NotedReading)
     → IsKnown (book_of first n size notes vs bs) s → i ≡ s - first → i < length vs → v ≡ get_or vs i Missing
     → length bytes ≡ size
-    → ((good bad : List Reading) (sector : ℕ) → IsOf v (part bs (length bytes) i) good bad
+    → ((good bad : List NotedReading) (sector : ℕ) → IsOf v (part bs (length bytes) i) good bad
     → IsOf v' (part bs' (length bytes) i) (good ++ good_reading sector place bytes ∷ []) bad)
     → ((k : ℕ) → k ≢ i → part bs' (length bytes) k ≡ part bs (length bytes) k)
     → StandsFor (book_of first n size notes vs bs) readings
@@ -68,13 +68,13 @@ noted_good first n size notes vs bs bs' s i place bytes v v' readings known inde
     stands
 
 -- what a sector's verdict and data are, where the book stands for readings
-pub verdict_read : (first n size notes : ℕ) (vs : List Verdict) (bs : List ℕ) (s i : ℕ) (v : Verdict) (readings : List Reading)
+pub verdict_read : (first n size notes : ℕ) (vs : List Verdict) (bs : List ℕ) (s i : ℕ) (v : Verdict) (readings : List NotedReading)
     → IsKnown (book_of first n size notes vs bs) s → i ≡ s - first → v ≡ get_or vs i Missing
     → StandsFor (book_of first n size notes vs bs) readings → v ≡ verdict readings s
 verdict_read first n size notes vs bs s i v readings known index read stands =
     read ∙ rw index (sym (ap (λ (f : Found). f.verdict) (found_at_is first n size notes vs bs s known)) ∙ stands.verdicts s known)
 
-pub kept_read : (first n size notes : ℕ) (vs : List Verdict) (bs : List ℕ) (s i : ℕ) (v : Verdict) (readings : List Reading)
+pub kept_read : (first n size notes : ℕ) (vs : List Verdict) (bs : List ℕ) (s i : ℕ) (v : Verdict) (readings : List NotedReading)
     → IsKnown (book_of first n size notes vs bs) s → i ≡ s - first → v ≡ get_or vs i Missing
     → StandsFor (book_of first n size notes vs bs) readings → kept v (part bs size i) ≡ agreed readings s
 kept_read first n size notes vs bs s i v readings known index read stands =

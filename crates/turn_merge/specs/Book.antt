@@ -3,7 +3,7 @@ use Rattle.std.specs.Prelude.{◌≡◌, ℕ, ◌+◌, ◌-◌, ◌*◌, ◌<◌
 use Rattle.std.specs.List.{range_with_len}
 use Rattle.turn_merge.specs.declared.verdict.Verdict.{Verdict}
 use Rattle.turn_merge.specs.declared.verdict.Verdict.TheVariants.{Good, Contradictory, Bad, Missing}
-use Rattle.turn_merge.specs.Readings.{Reading, verdict_of, agreed_of, verdict, agreed}
+use Rattle.turn_merge.specs.Readings.{NotedReading, verdict_of, agreed_of, verdict, agreed}
 
 -- what is known of one sector: the verdict over its readings so far, and the data that all good ones hold
 pub record Found : Type 0 where
@@ -28,15 +28,15 @@ abbrev pub found_at : Knowledge → ℕ → Found
 found_at book sector = slice_index_or book.found (sector - book.first_sector) (record { verdict = Missing; bytes = None })
 
 -- the book stands for this list of readings
-pub record StandsFor (book : Knowledge) (readings : List Reading) : Type 0 where
+pub record StandsFor (book : Knowledge) (readings : List NotedReading) : Type 0 where
   pub notes : book.notes ≡ length readings
   pub verdicts : (sector : ℕ) → IsKnown book sector → (found_at book sector).verdict ≡ verdict readings sector
   pub bytes : (sector : ℕ) → IsKnown book sector → (found_at book sector).bytes ≡ agreed readings sector
 
 -- a call appends the reading to whatever list of readings the book stands for
-abbrev pub AppendsReading : Knowledge → Knowledge → Reading → Type 0
+abbrev pub AppendsReading : Knowledge → Knowledge → NotedReading → Type 0
 AppendsReading old new reading =
-    (readings : List Reading) → StandsFor old readings → StandsFor new (readings ++ reading ∷ [])
+    (readings : List NotedReading) → StandsFor old readings → StandsFor new (readings ++ reading ∷ [])
 
 -- the numbers that a book was made with, and how many sectors it knows of
 pub record HasShape (book : Knowledge) (first most size sectors : ℕ) : Type 0 where
@@ -68,7 +68,7 @@ kept (Bad bad first) held = None
 kept Missing held = None
 
 -- a verdict, and the data held beside it, are those of these good and bad readings of a sector
-pub record IsOf (outcome : Verdict) (held : List ℕ) (good bad : List Reading) : Type 0 where
+pub record IsOf (outcome : Verdict) (held : List ℕ) (good bad : List NotedReading) : Type 0 where
   pub is : outcome ≡ verdict_of good bad
   pub bytes : kept outcome held ≡ agreed_of good
 

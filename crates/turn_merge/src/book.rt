@@ -1,6 +1,6 @@
 ghost use Rattle.std.specs.Prelude.{◌≡◌, ◌+◌, ◌^◌, ◌<◌, ◌≤◌, List, [], length, IfOk};
 ghost use Rattle.std.specs.Option.{option_copied};
-ghost use Rattle.turn_merge.specs.Readings.{Reading, good_reading, bad_reading, verdict as verdict_over, agreed};
+ghost use Rattle.turn_merge.specs.Readings.{NotedReading, good_reading, bad_reading, verdict as verdict_over, agreed};
 ghost use Rattle.turn_merge.specs.Book.{IsKnown, StandsFor, AppendsReading, HasShape, SameShape};
 
 use crate::fold::{part_of, with_bad, with_good_at};
@@ -102,7 +102,7 @@ impl Book {
     /// What the readings of a sector say together.
     pub fn verdict(&self, sector: u8) -> Verdict
         requires { IsKnown self.now sector }
-        ensures { (readings : List Reading) → StandsFor self.now readings
+        ensures { (readings : List NotedReading) → StandsFor self.now readings
             → result ≡ verdict_over readings sector }
     {
         self.verdicts[usize::from(sector - self.first_sector)]
@@ -111,7 +111,7 @@ impl Book {
     /// The data of a sector, where its verdict is `Good`.
     pub fn bytes(&self, sector: u8) -> Option<&[u8]>
         requires { IsKnown self.now sector }
-        ensures { (readings : List Reading) → StandsFor self.now readings
+        ensures { (readings : List NotedReading) → StandsFor self.now readings
             → option_copied result ≡ agreed readings sector }
     {
         let index = usize::from(sector - self.first_sector);

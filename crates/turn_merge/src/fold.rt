@@ -1,5 +1,5 @@
 ghost use Rattle.std.specs.Prelude.{◌≡◌, ◌≢◌, ℕ, ◌+◌, ◌*◌, ◌^◌, ◌<◌, ◌≤◌, List, [], ◌∷◌, ◌++◌, length};
-ghost use Rattle.turn_merge.specs.Readings.{Reading, good_reading, bad_reading};
+ghost use Rattle.turn_merge.specs.Readings.{NotedReading, good_reading, bad_reading};
 ghost use Rattle.turn_merge.specs.Book.{counted, part, IsOf};
 
 use crate::verdict::{Place, Verdict};
@@ -19,7 +19,7 @@ pub(crate) fn with_good(verdict: Verdict, held: &mut [u8], place: Place, bytes: 
     requires room { counted verdict + 1 < 2 ^ 32 }
     requires whole { length held.old ≡ length bytes.now }
     ensures count { counted result ≡ counted verdict + 1 }
-    ensures stands { (good bad : List Reading) (sector : ℕ) → IsOf verdict held.old good bad
+    ensures stands { (good bad : List NotedReading) (sector : ℕ) → IsOf verdict held.old good bad
         → IsOf result held.new (good ++ good_reading sector place bytes.now ∷ []) bad }
 {
     match verdict {
@@ -84,7 +84,7 @@ pub(crate) fn with_good_at(
     requires room { counted verdict + 1 < 2 ^ 32 }
     requires within { index * length bytes.now + length bytes.now ≤ length held.old }
     ensures count { counted result ≡ counted verdict + 1 }
-    ensures stands { (good bad : List Reading) (sector : ℕ)
+    ensures stands { (good bad : List NotedReading) (sector : ℕ)
         → IsOf verdict (part held.old (length bytes.now) index) good bad
         → IsOf result (part held.new (length bytes.now) index) (good ++ good_reading sector place bytes.now ∷ []) bad }
     ensures others { (k : ℕ) → k ≢ index
@@ -99,7 +99,7 @@ pub(crate) fn with_good_at(
 pub(crate) fn with_bad(verdict: Verdict, place: Place) -> Verdict
     requires { counted verdict + 1 < 2 ^ 32 }
     ensures count { counted result ≡ counted verdict + 1 }
-    ensures stands { (good bad : List Reading) (sector : ℕ) (held : List ℕ) → IsOf verdict held good bad
+    ensures stands { (good bad : List NotedReading) (sector : ℕ) (held : List ℕ) → IsOf verdict held good bad
         → IsOf result held good (bad ++ bad_reading sector place ∷ []) }
 {
     match verdict {

@@ -21,7 +21,7 @@ use Rattle.amiga_mfm.specs.lemmas.LongLaws.{halves-after, long-joined, long-read
 use Rattle.amiga_mfm.specs.Longs.{half_bytes, half_of, halves, long_of_halves, longs_of, raw_longs, without_clocks}
 use Rattle.amiga_mfm.specs.lemmas.Masks.{check-same, without_clocks-lt}
 use Rattle.amiga_mfm.specs.lemmas.RowLaws.{length-halves, length-longs_of}
-use Rattle.amiga_mfm.specs.Sectors.{Hold, IsDataPlace, IsTrack, NamesSector, track_number}
+use Rattle.amiga_mfm.specs.Sectors.{Hold, IsDataPlace, IsAmigaTrack, NamesSector, track_number}
 
 abbrev pub marks : List Symbol
 marks = SyncMark ∷ SyncMark ∷ []
@@ -65,7 +65,7 @@ begins : (before : Bool) (info : ℕ) (longs : List ℕ) (rest : List Bool) → 
 unfolding coded symbol_cells word_cells
 begins before info longs rest = refl
 
-names : (track : TrackId) (sector : ℕ) (before : Bool) (longs : List ℕ) (rest : List Bool) → IsTrack track → IsSectorNumber 0 11 sector
+names : (track : TrackId) (sector : ℕ) (before : Bool) (longs : List ℕ) (rest : List Bool) → IsAmigaTrack track → IsSectorNumber 0 11 sector
     → NamesSector track (frame_cells before (info_of track sector) longs rest) sector
 unfolding half_bytes
 names track sector before longs rest known number =
@@ -107,7 +107,7 @@ holds before info bytes rest fit whole =
     }
 
 -- the rows of a frame are read back
-pub frame_stands : (track : TrackId) (sector : ℕ) (bytes : List ℕ) (before : Bool) (rest : List Bool) → IsTrack track → IsSectorNumber 0 11 sector
+pub frame_stands : (track : TrackId) (sector : ℕ) (bytes : List ℕ) (before : Bool) (rest : List Bool) → IsAmigaTrack track → IsSectorNumber 0 11 sector
     → AreBytes bytes → length bytes ≡ 512
     → FrameStands 0x44894489 32 480 480 (NamesSector track) IsDataPlace Hold (rows_cells true (row_cells track) before sector bytes rows.frame ++ rest) sector bytes
 frame_stands track sector bytes before rest known number fit whole =

@@ -14,7 +14,7 @@ use Rattle.apple_gcr.specs.lemmas.FieldLaws.{AreFieldBytes-halves, address_cells
 use Rattle.apple_gcr.specs.Layout.{EPILOGUE, VOLUME, address_of, row_cells, rows, self_syncs}
 use Rattle.apple_gcr.specs.Nibbles.{bytes_cells, disk_byte}
 use Rattle.apple_gcr.specs.lemmas.RowLaws.{address-fits}
-use Rattle.apple_gcr.specs.Sectors.{ADDRESS_MARK, DATA_MARK, DATA_SYNC, Hold, IsSync, IsTrack, NamesSector}
+use Rattle.apple_gcr.specs.Sectors.{ADDRESS_MARK, DATA_MARK, DATA_SYNC, Hold, IsSync, IsAppleTrack, NamesSector}
 use Rattle.apple_gcr.specs.SixAndTwo.{data_nibbles, values_of}
 use Rattle.apple_gcr.specs.lemmas.ValueLaws.{data_nibbles-are, get_or-data_nibbles, length-data_nibbles, length-values_of, values_of-carry, values_of-fit}
 
@@ -47,7 +47,7 @@ unfolding gap_and_mark word_cells
 length-gap_and_mark = refl
 
 -- a header names its sector
-names-sector : (track : TrackId) (sector : ℕ) (rest : List Bool) → IsTrack track → sector < 16
+names-sector : (track : TrackId) (sector : ℕ) (rest : List Bool) → IsAppleTrack track → sector < 16
     → NamesSector track (word_cells 24 ADDRESS_MARK ++ (bytes_cells (address_bytes track sector) ++ rest)) sector
 unfolding AreBytes
 names-sector track sector rest known few =
@@ -94,7 +94,7 @@ holds header bytes rest header_size fit size =
     }
 
 -- the rows of a frame are read back
-pub frame_stands : (track : TrackId) (sector : ℕ) (bytes : List ℕ) (before : Bool) (rest : List Bool) → IsTrack track → IsSectorNumber 0 16 sector
+pub frame_stands : (track : TrackId) (sector : ℕ) (bytes : List ℕ) (before : Bool) (rest : List Bool) → IsAppleTrack track → IsSectorNumber 0 16 sector
     → AreBytes bytes → length bytes ≡ 256
     → FrameStands 0xD5AA96 24 88 172 (NamesSector track) IsSync Hold (rows_cells false (row_cells track) before sector bytes rows.frame ++ rest) sector bytes
 frame_stands track sector bytes before rest known number fit size =

@@ -22,7 +22,7 @@ use Rattle.apple_gcr.specs.lemmas.FieldLaws.{AreFieldBytes, AreFieldBytes-halves
 use Rattle.apple_gcr.specs.FourAndFour.{four_and_four}
 use Rattle.apple_gcr.specs.Layout.{SELF_SYNC, VOLUME, address_of, row_cells, row_size, self_syncs, word_of}
 use Rattle.apple_gcr.specs.Nibbles.{bytes_cells}
-use Rattle.apple_gcr.specs.Sectors.{IsTrack, check_of}
+use Rattle.apple_gcr.specs.Sectors.{IsAppleTrack, check_of}
 use Rattle.apple_gcr.specs.SixAndTwo.{data_nibbles}
 use Rattle.apple_gcr.specs.lemmas.ValueLaws.{data_nibbles-are, length-data_nibbles}
 
@@ -40,7 +40,7 @@ row_length track before sector bytes Content =
     length-bytes_cells (data_nibbles bytes) ∙ ap (λ (n : ℕ). 8 * n) (length-data_nibbles bytes)
 
 -- an address is made of bytes
-pub address-fits : (track : TrackId) (sector : ℕ) → IsTrack track → sector < 16 → AreBytes (address_of track sector)
+pub address-fits : (track : TrackId) (sector : ℕ) → IsAppleTrack track → sector < 16 → AreBytes (address_of track sector)
 unfolding AreBytes
 address-fits track sector known few =
     let cylinder : track.cylinder < 256 = omega (arith, known.cylinder) in
@@ -89,7 +89,7 @@ self_syncs-follow (suc count) =
     cells-append 1 3 2 (word_cells 10 SELF_SYNC) (self_syncs count)
     (follows (word_cells 10 SELF_SYNC) self_sync-spaced) (self_syncs-follow count)
 
-pub row_follows : (track : TrackId) (sector : ℕ) (bytes : List ℕ) (row : Row) → IsTrack track → IsContent 0 16 256 sector bytes
+pub row_follows : (track : TrackId) (sector : ℕ) (bytes : List ℕ) (row : Row) → IsAppleTrack track → IsContent 0 16 256 sector bytes
     → MayFollow 1 3 2 false (λ before. row_cells track before sector bytes row)
 row_follows track sector bytes (SelfSyncs count) known content = self_syncs-follow count
 row_follows track sector bytes (AMark mark) known content = follows (word_cells 24 (word_of mark)) (mark-spaced mark)

@@ -18,7 +18,7 @@ use Rattle.apple_gcr.specs.lemmas.FieldLaws.{AreFieldBytes, AreFieldBytes-halves
 use Rattle.apple_gcr.specs.Layout.{EPILOGUE, SELF_SYNC, address_of, ring_of, row_cells, row_size, rows, self_syncs}
 use Rattle.apple_gcr.specs.Nibbles.{bytes_cells}
 use Rattle.apple_gcr.specs.lemmas.RowLaws.{address-fits, row_length}
-use Rattle.apple_gcr.specs.Sectors.{ADDRESS_MARK, DATA_MARK, IsTrack, NamesSector}
+use Rattle.apple_gcr.specs.Sectors.{ADDRESS_MARK, DATA_MARK, IsAppleTrack, NamesSector}
 use Rattle.apple_gcr.specs.SixAndTwo.{data_nibbles}
 use Rattle.apple_gcr.specs.lemmas.ValueLaws.{data_nibbles-are}
 
@@ -123,7 +123,7 @@ AreOthers : List Row → Type 0
 AreOthers [] = Unit {0}
 AreOthers (row ∷ rows) = IsOther row × AreOthers rows
 
-module _ (track : TrackId) (sector : ℕ) (bytes : List ℕ) (known : IsTrack track) (few : sector < 16) (fit : AreBytes bytes) where
+module _ (track : TrackId) (sector : ℕ) (bytes : List ℕ) (known : IsAppleTrack track) (few : sector < 16) (fit : AreBytes bytes) where
   row_quiet : (before : Bool) (row : Row) → IsOther row → QuietPart AddressMark Follows Follows (row_cells track before sector bytes row)
   unfolding IsOther Follows sync_rest word_cells clashes_at_all clashes fits
   row_quiet before (SelfSyncs count) other = self_syncs_quiet count
@@ -158,7 +158,7 @@ unfolding Follows ring_of_rows track_parts coded word_cells fits
 ring_follows track bytes = inr refl
 
 -- so in the ring it begins where headers do
-pub own_syncs : (track : TrackId) → IsTrack track
+pub own_syncs : (track : TrackId) → IsAppleTrack track
     → HasOwnSyncs 0xD5AA96 24 88 0 16 (NamesSector track) (place_of row_size 0 256 rows) (AreSectors 16 256) (ring_of track)
 unfolding total IsOther AreOthers AreBytes
 own_syncs track known = record {

@@ -21,7 +21,7 @@ use Rattle.commodore_gcr.specs.lemmas.CodingLaws.{BytesAt-front, BytesAt-past, g
 use Rattle.commodore_gcr.specs.Layout.{gap_cells, row_cells, rows}
 use Rattle.commodore_gcr.specs.Sectors.{Hold, IsSync, NamesSector, address_of, data_bytes, header_bytes}
 use Rattle.commodore_gcr.specs.lemmas.ZoneLaws.{counts}
-use Rattle.commodore_gcr.specs.Zones.{IsTrack, sectors_of, track_number}
+use Rattle.commodore_gcr.specs.Zones.{IsCommodoreTrack, sectors_of, track_number}
 
 -- the header's cells: the sync's ones and six bytes
 unfoldable header_cells : ℕ → ℕ → TrackId → ℕ → List Bool
@@ -70,7 +70,7 @@ unfolding AreBytes
 AreBytes-data bytes fit = (lit< tt, AreBytes-append bytes (xor bytes ∷ []) fit (xor-lt bytes 0 (lit< tt) fit, tt))
 
 -- of the ids no more than their low eight bits are written
-address-mod : (id1 id2 : ℕ) (track : TrackId) (sector : ℕ) → IsTrack track → sector < 256
+address-mod : (id1 id2 : ℕ) (track : TrackId) (sector : ℕ) → IsCommodoreTrack track → sector < 256
     → xor (address_of id1 id2 track sector) % 256 ≡ xor (address_of (id1 % 256) (id2 % 256) track sector)
 address-mod id1 id2 track sector known low =
     let first = bit_xor 0 sector in
@@ -81,7 +81,7 @@ address-mod id1 id2 track sector known low =
     xor_mod both id2 8 ∙ ap (λ (n : ℕ). bit_xor n (id2 % 256)) (mod-eq_of_lt both_low) in
     xor_mod (bit_xor both id2) id1 8 ∙ ap (λ (n : ℕ). bit_xor n (id1 % 256)) with_second
 
-header_cells-mod : (id1 id2 : ℕ) (track : TrackId) (sector : ℕ) → IsTrack track → sector < 256
+header_cells-mod : (id1 id2 : ℕ) (track : TrackId) (sector : ℕ) → IsCommodoreTrack track → sector < 256
     → header_cells id1 id2 track sector ≡ header_cells (id1 % 256) (id2 % 256) track sector
 unfolding header_cells
 header_cells-mod id1 id2 track sector known low =
@@ -103,7 +103,7 @@ syncs : (id1 id2 : ℕ) (track : TrackId) (sector : ℕ) (bytes : List ℕ) (res
 unfolding free_of begins header_cells between gcr code_of word_cells
 syncs id1 id2 track sector bytes rest = (refl, refl, refl)
 
-names-sector : (id1 id2 : ℕ) (track : TrackId) (sector : ℕ) (rest : List Bool) → IsTrack track → sector < 256 → id1 < 256 → id2 < 256
+names-sector : (id1 id2 : ℕ) (track : TrackId) (sector : ℕ) (rest : List Bool) → IsCommodoreTrack track → sector < 256 → id1 < 256 → id2 < 256
     → NamesSector track (header_cells id1 id2 track sector ++ rest) sector
 unfolding header_cells AreBytes
 names-sector id1 id2 track sector rest known low first second =
@@ -135,7 +135,7 @@ holds cells bytes size stand =
     }
 
 -- the rows of a frame are read back
-pub frame_stands : (disk : CommodoreGcr) (track : TrackId) (sector : ℕ) (bytes : List ℕ) (before : Bool) (rest : List Bool) → IsTrack track
+pub frame_stands : (disk : CommodoreGcr) (track : TrackId) (sector : ℕ) (bytes : List ℕ) (before : Bool) (rest : List Bool) → IsCommodoreTrack track
     → IsSectorNumber 0 (sectors_of track) sector → AreBytes bytes → length bytes ≡ 256
     → FrameStands 0x7FE 11 70 192 (NamesSector track) IsSync Hold (rows_cells false (row_cells disk track) before sector bytes rows.frame ++ rest) sector bytes
 frame_stands disk track sector bytes before rest known number fit size =

@@ -3,12 +3,12 @@ use Rattle.std.specs.Prelude.{◌≡◌, ◌+◌, ◌≤◌, ◌^◌, Bool, true
 use Rattle.std.proofs.Common.{lit≤}
 use Rattle.flux_base.specs.declared.track.TrackId.{TrackId}
 use Rattle.track_rings.specs.Rows.{frame_size, ring_size, total}
-use Rattle.commodore_gcr.specs.declared.zones.Zone.{Zone}
+use Rattle.commodore_gcr.specs.declared.zones.SpeedZone.{SpeedZone}
 use Rattle.commodore_gcr.specs.Layout.{row_size, rows}
 use Rattle.commodore_gcr.specs.Zones.{sectors_of, track_number, zone_of}
 
 -- what holds of each of the four zones holds of a track's
-by_zone : (Claim : Zone → Type 0) (track : TrackId) → Claim (record { sectors = 21; gap = 12; ring_cells = 61488 })
+by_zone : (Claim : SpeedZone → Type 0) (track : TrackId) → Claim (record { sectors = 21; gap = 12; ring_cells = 61488 })
     → Claim (record { sectors = 19; gap = 21; ring_cells = 57000 }) → Claim (record { sectors = 18; gap = 16; ring_cells = 53280 })
     → Claim (record { sectors = 17; gap = 13; ring_cells = 49912 }) → Claim (zone_of track)
 unfolding zone_of

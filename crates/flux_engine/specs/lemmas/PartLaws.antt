@@ -5,19 +5,19 @@ use Rattle.std.proofs.lemmas.List.Concat.{flat_map-append}
 use Rattle.std.proofs.lemmas.List.Sums.{sum_by-append}
 use Rattle.sector_report.specs.declared.totals.Totals.{Totals}
 use Rattle.flux_engine.specs.Disks.{images, lines, totals_over}
-use Rattle.flux_engine.specs.Tracks.{Part}
+use Rattle.flux_engine.specs.Tracks.{TrackPart}
 use Rattle.flux_engine.specs.Writing.{sum_of}
 
 -- parts of the image, lines and totals of one track more
-pub images-more : (parts : List Part) (part : Part) → images (parts ++ part ∷ []) ≡ images parts ++ part.image
+pub images-more : (parts : List TrackPart) (part : TrackPart) → images (parts ++ part ∷ []) ≡ images parts ++ part.image
 images-more parts part =
-    flat_map-append (λ (p : Part). p.image) parts (part ∷ []) ∙ ap (λ (r : List ℕ). images parts ++ r) (append-nil part.image)
+    flat_map-append (λ (p : TrackPart). p.image) parts (part ∷ []) ∙ ap (λ (r : List ℕ). images parts ++ r) (append-nil part.image)
 
-pub lines-more : (parts : List Part) (part : Part) → lines (parts ++ part ∷ []) ≡ lines parts ++ part.lines
+pub lines-more : (parts : List TrackPart) (part : TrackPart) → lines (parts ++ part ∷ []) ≡ lines parts ++ part.lines
 lines-more parts part =
-    flat_map-append (λ (p : Part). p.lines) parts (part ∷ []) ∙ ap (λ (r : List ℕ). lines parts ++ r) (append-nil part.lines)
+    flat_map-append (λ (p : TrackPart). p.lines) parts (part ∷ []) ∙ ap (λ (r : List ℕ). lines parts ++ r) (append-nil part.lines)
 
-sum-more : (f : Part → ℕ) (parts : List Part) (part : Part) → sum_by f (parts ++ part ∷ []) ≡ sum_by f parts + f part
+sum-more : (f : TrackPart → ℕ) (parts : List TrackPart) (part : TrackPart) → sum_by f (parts ++ part ∷ []) ≡ sum_by f parts + f part
 sum-more f parts part =
     let whole = sum_by-append f parts (part ∷ []) in
     let one : sum_by f (part ∷ []) ≡ f part = omega arith in
@@ -34,10 +34,10 @@ totals-same a b s g d m c =
     ∙ ap (λ (n : ℕ). of_numbers b.sectors b.good b.bad n a.contradictory) m
     ∙ ap (λ (n : ℕ). of_numbers b.sectors b.good b.bad b.missing n) c
 
-pub totals-more : (parts : List Part) (part : Part) → totals_over (parts ++ part ∷ []) ≡ sum_of (totals_over parts) part.totals
+pub totals-more : (parts : List TrackPart) (part : TrackPart) → totals_over (parts ++ part ∷ []) ≡ sum_of (totals_over parts) part.totals
 totals-more parts part = totals-same (totals_over (parts ++ part ∷ [])) (sum_of (totals_over parts) part.totals)
-    (sum-more (λ (p : Part). p.totals.sectors) parts part)
-    (sum-more (λ (p : Part). p.totals.good) parts part)
-    (sum-more (λ (p : Part). p.totals.bad) parts part)
-    (sum-more (λ (p : Part). p.totals.missing) parts part)
-    (sum-more (λ (p : Part). p.totals.contradictory) parts part)
+    (sum-more (λ (p : TrackPart). p.totals.sectors) parts part)
+    (sum-more (λ (p : TrackPart). p.totals.good) parts part)
+    (sum-more (λ (p : TrackPart). p.totals.bad) parts part)
+    (sum-more (λ (p : TrackPart). p.totals.missing) parts part)
+    (sum-more (λ (p : TrackPart). p.totals.contradictory) parts part)

@@ -8,7 +8,7 @@ use Rattle.flux_base.specs.declared.outside.Memory.{Memory}
 use Rattle.cell_bits.specs.Bytes.{last_cell}
 use Rattle.cell_bits.specs.State.{CellsState}
 use Rattle.track_rings.specs.lemmas.RowLaws.{bit_after, bit_after-last, coded-append, last_of-append, length-coded, parts_of-append, total-append}
-use Rattle.track_rings.specs.Rows.{Part, coded, last_of, part_cells, part_size, parts_of, total}
+use Rattle.track_rings.specs.Rows.{TrackRow, coded, last_of, part_cells, part_size, parts_of, total}
 use Rattle.track_rings.specs.lemmas.SectorParts.{sectors-parts}
 use Rattle.frame_law.specs.Writing.{AppendsCells}
 use Rattle.frame_law.specs.lemmas.WritingLaws.{AppendsCells-more, AppendsCells-none, AppendsCells-stop}
@@ -48,7 +48,7 @@ module _ {Row : Type 0} (asks : Bool) (cells_of : Bool → ℕ → List ℕ → 
   AppendsParts-one old new sector bytes row result a =
       subst (λ (cells : List Bool). AppendsCells old new cells result) (sym (append-nil (cells_of (asks && last_cell old.cells) sector bytes row))) a
 
-  bit-after : (old mid : CellsState) (first : List (Part Row)) → AppendsParts asks cells_of old mid first (Ok tt)
+  bit-after : (old mid : CellsState) (first : List (TrackRow Row)) → AppendsParts asks cells_of old mid first (Ok tt)
       → (asks && last_cell mid.cells) ≡ bit_after asks (part_cells cells_of) (asks && last_cell old.cells) first
   bit-after old mid first a =
       let before = asks && last_cell old.cells in
@@ -60,7 +60,7 @@ module _ {Row : Type 0} (asks : Bool) (cells_of : Bool → ℕ → List ℕ → 
       ∙ sym (bit_after-last asks (part_cells cells_of) before first (and-twice asks (last_cell old.cells)))
 
   -- some, and then more
-  pub AppendsParts-more : (old mid new : CellsState) (first then : List (Part Row)) (result : Result (Unit {0}) Memory)
+  pub AppendsParts-more : (old mid new : CellsState) (first then : List (TrackRow Row)) (result : Result (Unit {0}) Memory)
       → AppendsParts asks cells_of old mid first (Ok tt) → AppendsParts asks cells_of mid new then result
       → AppendsParts asks cells_of old new (first ++ then) result
   AppendsParts-more old mid new first then result a b =
@@ -74,12 +74,12 @@ module _ {Row : Type 0} (asks : Bool) (cells_of : Bool → ℕ → List ℕ → 
 
   module _ (size_of : ℕ → Row → ℕ)
       (sized : (before : Bool) (sector : ℕ) (bytes : List ℕ) (row : Row) → length (cells_of before sector bytes row) ≡ size_of (length bytes) row) where
-    length-parts : (before : Bool) (parts : List (Part Row)) → length (coded asks (part_cells cells_of) before parts) ≡ total (part_size size_of) parts
+    length-parts : (before : Bool) (parts : List (TrackRow Row)) → length (coded asks (part_cells cells_of) before parts) ≡ total (part_size size_of) parts
     length-parts before parts =
         length-coded asks (part_cells cells_of) (part_size size_of) (λ bit part. sized bit part.sector part.bytes part.row) before parts
 
     -- the first of some, and then no memory for all of them
-    pub AppendsParts-stop : (old mid new : CellsState) (first then rest all : List (Part Row)) (why : Memory) (result : Result (Unit {0}) Memory)
+    pub AppendsParts-stop : (old mid new : CellsState) (first then rest all : List (TrackRow Row)) (why : Memory) (result : Result (Unit {0}) Memory)
         → IsErr result → AppendsParts asks cells_of old mid first (Ok tt) → AppendsParts asks cells_of mid new then (Err why)
         → all ≡ first ++ (then ++ rest) → AppendsParts asks cells_of old new all result
     AppendsParts-stop old mid new first then rest all why result failed a b is =
@@ -113,7 +113,7 @@ module _ {Row : Type 0} (asks : Bool) (cells_of : Bool → ℕ → List ℕ → 
         ∙ parts_of-append sector bytes (take i rows) (row ∷ drop (suc i) rows))
 
     -- no memory for one more sector
-    pub AppendsParts-no_sector : (old mid new : CellsState) (f : ℕ → List (Part Row)) (first count i : ℕ) (why : Memory)
+    pub AppendsParts-no_sector : (old mid new : CellsState) (f : ℕ → List (TrackRow Row)) (first count i : ℕ) (why : Memory)
         (result : Result (Unit {0}) Memory) → IsErr result → i < count
         → AppendsParts asks cells_of old mid (flat_map f (range_with_len first i)) (Ok tt)
         → AppendsParts asks cells_of mid new (f (first + i)) (Err why)
@@ -133,12 +133,12 @@ module _ {Row : Type 0} (asks : Bool) (cells_of : Bool → ℕ → List ℕ → 
       let longer : take (i + 1) rows ≡ take i rows ++ row ∷ [] =
       take_more rows i row within ∙ ap (λ (last : Row). take i rows ++ last ∷ []) is in
       let joined = ap (parts_of sector bytes) longer ∙ parts_of-append sector bytes (take i rows) (row ∷ []) in
-      subst (λ (parts : List (Part Row)). AppendsParts asks cells_of old new parts (Ok tt)) (sym joined)
+      subst (λ (parts : List (TrackRow Row)). AppendsParts asks cells_of old new parts (Ok tt)) (sym joined)
       (AppendsParts-more old mid new (parts_of sector bytes (take i rows)) (parts_of sector bytes (row ∷ [])) (Ok tt) a
       (AppendsParts-one mid new sector bytes row (Ok tt) b))
 
   -- one more sector
-  pub AppendsParts-sector : (old mid new : CellsState) (f : ℕ → List (Part Row)) (first i : ℕ)
+  pub AppendsParts-sector : (old mid new : CellsState) (f : ℕ → List (TrackRow Row)) (first i : ℕ)
       → AppendsParts asks cells_of old mid (flat_map f (range_with_len first i)) (Ok tt)
       → AppendsParts asks cells_of mid new (f (first + i)) (Ok tt)
       → AppendsParts asks cells_of old new (flat_map f (range_with_len first (i + 1))) (Ok tt)
@@ -146,6 +146,6 @@ module _ {Row : Type 0} (asks : Bool) (cells_of : Bool → ℕ → List ℕ → 
       let one : i + suc 0 ≡ i + 1 = omega arith in
       let joined : flat_map f (range_with_len first (i + 1)) ≡ flat_map f (range_with_len first i) ++ f (first + i) =
       sectors-parts f first (i + 1) (first + i) i 0 refl one
-      ∙ ap (λ (parts : List (Part Row)). flat_map f (range_with_len first i) ++ parts) (append-nil (f (first + i))) in
-      subst (λ (parts : List (Part Row)). AppendsParts asks cells_of old new parts (Ok tt)) (sym joined)
+      ∙ ap (λ (parts : List (TrackRow Row)). flat_map f (range_with_len first i) ++ parts) (append-nil (f (first + i))) in
+      subst (λ (parts : List (TrackRow Row)). AppendsParts asks cells_of old new parts (Ok tt)) (sym joined)
       (AppendsParts-more old mid new (flat_map f (range_with_len first i)) (f (first + i)) (Ok tt) a b)

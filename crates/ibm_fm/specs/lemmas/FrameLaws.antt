@@ -16,7 +16,7 @@ use Rattle.ibm_fields.specs.lemmas.Numbers.{crc-lt}
 use Rattle.ibm_fm.specs.Layout.{field_cells, fm_bytes, row_cells, rows}
 use Rattle.ibm_fm.specs.lemmas.ReadLaws.{number_at-after, reads-first}
 use Rattle.ibm_fm.specs.lemmas.RowLaws.{length-fm_bytes}
-use Rattle.ibm_fm.specs.Sectors.{Hold, IsSync, IsTrack, NamesSector, address_of, check_of}
+use Rattle.ibm_fm.specs.Sectors.{Hold, IsSync, IsFmTrack, NamesSector, address_of, check_of}
 
 -- the gap from a header to the data, and the data mark
 unfoldable gap_and_mark : List Bool
@@ -50,7 +50,7 @@ mark-begins : (rest : List Bool) → Stands (word_cells 16 0xF57E ++ rest) 0xF57
 mark-begins rest = take-first (word_cells 16 0xF57E) rest 16 (length-word_cells 16 0xF57E)
 
 -- a header names its sector
-names-sector : (track : TrackId) (sector : ℕ) (rest : List Bool) → IsTrack track → IsSectorNumber 1 26 sector
+names-sector : (track : TrackId) (sector : ℕ) (rest : List Bool) → IsFmTrack track → IsSectorNumber 1 26 sector
     → NamesSector track (word_cells 16 0xF57E ++ (field_cells 0xFE (address_of track sector) ++ rest)) sector
 unfolding AreBytes
 names-sector track sector rest known number =
@@ -122,7 +122,7 @@ holds header bytes rest header_size fit size =
     }
 
 -- the rows of a frame are read back
-pub frame_stands : (track : TrackId) (sector : ℕ) (bytes : List ℕ) (before : Bool) (rest : List Bool) → IsTrack track → IsSectorNumber 1 26 sector
+pub frame_stands : (track : TrackId) (sector : ℕ) (bytes : List ℕ) (before : Bool) (rest : List Bool) → IsFmTrack track → IsSectorNumber 1 26 sector
     → AreBytes bytes → length bytes ≡ 128
     → FrameStands 0xF57E 16 112 384 (NamesSector track) IsSync Hold (rows_cells false (row_cells track) before sector bytes rows.frame ++ rest) sector bytes
 frame_stands track sector bytes before rest known number fit size =

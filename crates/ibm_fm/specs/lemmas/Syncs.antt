@@ -9,7 +9,7 @@ use Rattle.cell_bits.specs.lemmas.WordLaws.{length-word_cells}
 use Rattle.track_rings.specs.lemmas.Owning.{Leads}
 use Rattle.track_rings.specs.Rings.{AreSectors, bytes_of}
 use Rattle.track_rings.specs.lemmas.RowSyncs.{syncs-in_ring}
-use Rattle.track_rings.specs.Rows.{Part, coded, part_cells, parts_of, place_of, ring_of as ring_of_rows, rows_cells, sector_parts, sector_rows, total, track_parts}
+use Rattle.track_rings.specs.Rows.{TrackRow, coded, part_cells, parts_of, place_of, ring_of as ring_of_rows, rows_cells, sector_parts, sector_rows, total, track_parts}
 use Rattle.track_rings.specs.lemmas.Syncs.{QuietPart, SyncPart, Syncs, all_known, clashes, clashes_at_all, fits, fits-front, fits-known, fits-word, nowhere-known, only-first, part-skip, part-then, quiet-all, quiet-append, quiet-none}
 use Rattle.frame_law.specs.lemmas.OwnFrames.{HasOwnSyncs}
 use Rattle.ibm_fields.specs.Fields.{high_first}
@@ -159,7 +159,7 @@ byte_clocked : (byte : ℕ) (rest : List Bool) → Clocked (fm byte ++ rest)
 unfolding Clocked eight_clocks fits fm fm_cells word_cells
 byte_clocked byte rest = refl
 
-lead_in_clocked : (track : TrackId) (parts : List (Part Row))
+lead_in_clocked : (track : TrackId) (parts : List (TrackRow Row))
     → Clocked (coded false (part_cells (row_cells track)) false (parts_of 1 [] rows.lead_in ++ parts))
 unfolding coded
 lead_in_clocked track parts =

@@ -20,7 +20,7 @@ use Rattle.mfm_coding.specs.lemmas.CodingLaws.{coded-append, last_bit, length-co
 use Rattle.mfm_coding.specs.lemmas.SymbolRows.{rows-coded, rows_symbols}
 use Rattle.ibm_mfm.specs.declared.layout.Disk.{Disk}
 use Rattle.ibm_mfm.specs.lemmas.DiskLaws.{counts}
-use Rattle.ibm_mfm.specs.Disks.{IsTrack, disk_of}
+use Rattle.ibm_mfm.specs.Disks.{IsMfmTrack, disk_of}
 use Rattle.ibm_mfm.specs.Layout.{field, row_cells, row_symbols, rows}
 use Rattle.ibm_mfm.specs.lemmas.ReadLaws.{reads-after}
 use Rattle.ibm_mfm.specs.Sectors.{Hold, NamesSector, address_of, check_of}
@@ -117,7 +117,7 @@ holds track sector bytes before rest fit size =
     }
 
 -- the rows of a frame are read back
-pub frame_stands : (sectors : ℕ) (track : TrackId) (sector : ℕ) (bytes : List ℕ) (before : Bool) (rest : List Bool) → IsTrack sectors track
+pub frame_stands : (sectors : ℕ) (track : TrackId) (sector : ℕ) (bytes : List ℕ) (before : Bool) (rest : List Bool) → IsMfmTrack sectors track
     → IsSectorNumber (disk_of sectors).first_sector sectors sector → AreBytes bytes → length bytes ≡ 512
     → FrameStands 0x44894489 32 160 704 (NamesSector track) SyncAt Hold
     (rows_cells true (row_cells (disk_of sectors) track) before sector bytes rows.frame ++ rest) sector bytes

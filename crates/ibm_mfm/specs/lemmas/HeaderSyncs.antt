@@ -22,7 +22,7 @@ use Rattle.mfm_coding.specs.lemmas.MarkPlaces.{FollowsBit, QuietSymbols, SyncSym
 use Rattle.mfm_coding.specs.lemmas.SymbolRows.{rows_symbols, syncs-in_symbols, track_symbols}
 use Rattle.ibm_mfm.specs.declared.layout.Disk.{Disk}
 use Rattle.ibm_mfm.specs.lemmas.DiskLaws.{last_zero}
-use Rattle.ibm_mfm.specs.Disks.{IsTrack, disk_of}
+use Rattle.ibm_mfm.specs.Disks.{IsMfmTrack, disk_of}
 use Rattle.ibm_mfm.specs.lemmas.FrameLaws.{three_marks}
 use Rattle.ibm_mfm.specs.Layout.{field, row_cells, row_size, row_symbols, rows}
 use Rattle.ibm_mfm.specs.lemmas.RowLaws.{row_sized}
@@ -219,7 +219,7 @@ module _ (disk : Disk) (track : TrackId) where
   ring_follows sectors bytes = (Data 0x4E, _, refl)
 
 -- so in the ring it begins where headers do, after the zero with which the first mark begins
-pub own_syncs : (sectors : ℕ) (track : TrackId) → IsTrack sectors track → let disk = disk_of sectors in
+pub own_syncs : (sectors : ℕ) (track : TrackId) → IsMfmTrack sectors track → let disk = disk_of sectors in
     HasOwnSyncs 0x44894489 32 160 disk.first_sector sectors (NamesSector track) (place_of (row_size disk) disk.first_sector 512 rows)
     (AreSectors sectors 512) (λ bytes. ring_of true (row_cells disk track) disk.first_sector sectors 512 bytes rows)
 unfolding total

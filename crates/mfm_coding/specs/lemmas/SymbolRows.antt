@@ -8,7 +8,7 @@ use Rattle.cell_bits.specs.Word.{word_cells}
 use Rattle.track_rings.specs.lemmas.Owning.{IsSyncPlace}
 use Rattle.track_rings.specs.Rings.{IsSectorNumber, bytes_of}
 use Rattle.track_rings.specs.lemmas.RowLaws.{last_of-append}
-use Rattle.track_rings.specs.Rows.{Part, Rows, coded as coded_rows, last_of, part_cells, parts_of, pitch_of, place_of, ring_of, rows_cells, sector_parts, sector_rows, total, track_parts}
+use Rattle.track_rings.specs.Rows.{TrackRow, Rows, coded as coded_rows, last_of, part_cells, parts_of, pitch_of, place_of, ring_of, rows_cells, sector_parts, sector_rows, total, track_parts}
 use Rattle.track_rings.specs.Spaced.{MayFollow, is_spaced, is_zero, zeros_after}
 use Rattle.track_rings.specs.lemmas.SpacedLaws.{MayFollowAll, follow-append, follow-none, follow-one}
 use Rattle.track_rings.specs.lemmas.Syncs.{Only}
@@ -97,10 +97,10 @@ module _ {Row : Type 0} (symbols_of : ℕ → List ℕ → Row → List Symbol) 
   abbrev pub rows_symbols : ℕ → List ℕ → List Row → List Symbol
   rows_symbols sector bytes rows = flat_map (symbols_of sector bytes) rows
 
-  part_symbols : Part Row → List Symbol
+  part_symbols : TrackRow Row → List Symbol
   part_symbols part = symbols_of part.sector part.bytes part.row
 
-  parts-coded : (before : Bool) (parts : List (Part Row))
+  parts-coded : (before : Bool) (parts : List (TrackRow Row))
       → coded_rows true (part_cells symbol_row) before parts ≡ coded before (flat_map part_symbols parts)
   unfolding coded_rows coded part_symbols
   parts-coded before [] = refl

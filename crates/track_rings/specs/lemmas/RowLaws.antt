@@ -3,7 +3,7 @@ use Rattle.std.specs.Prelude.{◌≡◌, ℕ, ◌+◌, ◌*◌, ◌<◌, ◌≤�
 use Rattle.std.specs.List.{flat_map, range_with_len}
 use Rattle.std.proofs.Common.{zero, suc, ap, sym, ◌∙◌, arith, append_assoc, length-append}
 use Rattle.track_rings.specs.lemmas.Parts.{drop-past}
-use Rattle.track_rings.specs.Rows.{Part, coded, last_of, parts_of, total}
+use Rattle.track_rings.specs.Rows.{TrackRow, coded, last_of, parts_of, total}
 
 pub last_of-append : (before : Bool) (xs ys : List Bool) → last_of before (xs ++ ys) ≡ last_of (last_of before xs) ys
 unfolding last_of
@@ -31,7 +31,7 @@ pub parts_of-append : {Row : Type 0} (sector : ℕ) (bytes : List ℕ) (xs ys : 
     → parts_of sector bytes (xs ++ ys) ≡ parts_of sector bytes xs ++ parts_of sector bytes ys
 parts_of-append sector bytes [] ys = refl
 parts_of-append sector bytes (x ∷ xs) ys =
-    ap (λ (parts : List (Part _)). record { sector = sector; bytes = bytes; row = x } ∷ parts) (parts_of-append sector bytes xs ys)
+    ap (λ (parts : List (TrackRow _)). record { sector = sector; bytes = bytes; row = x } ∷ parts) (parts_of-append sector bytes xs ys)
 
 module _ {X : Type 0} (asks : Bool) (cells_of : Bool → X → List Bool) where
   -- the cell that the next one asks for

@@ -8,7 +8,7 @@ use Rattle.std.proofs.Math.Nat.{add-mul, mul-le-mul_right, one-mul}
 use Rattle.cell_bits.specs.Broken.{Unbroken}
 use Rattle.track_rings.specs.Rings.{AreSectors, IsSectorNumber, IsSpaced, LiesAt, bytes_of, stretch, AreBytes}
 use Rattle.track_rings.specs.lemmas.RowLaws.{bit_after, bit_after-asked, bit_after-last, coded-append, last_of-append, length-coded, parts_of-append, total-append, total-each}
-use Rattle.track_rings.specs.Rows.{IsContent, Part, Rows, coded, frame_size, last_of, part_cells, part_size, parts_of, pitch_of, place_of, ring_of, ring_size, rows_cells, sector_parts, sector_rows, total, track_parts}
+use Rattle.track_rings.specs.Rows.{IsContent, TrackRow, Rows, coded, frame_size, last_of, part_cells, part_size, parts_of, pitch_of, place_of, ring_of, ring_size, rows_cells, sector_parts, sector_rows, total, track_parts}
 use Rattle.track_rings.specs.lemmas.SectorParts.{AreBytes-from, bytes_of-fit, sectors-parts}
 use Rattle.track_rings.specs.Spaced.{MayFollow, is_spaced}
 use Rattle.track_rings.specs.lemmas.SpacedLaws.{MayFollowAll, follow-append, follow-each, follow-none, follow-one, follow-ring, follow-unbroken, spaced-unbroken}
@@ -55,7 +55,7 @@ module _ {Row : Type 0} (asks : Bool) (cells_of : Bool → ℕ → List ℕ → 
   total-parts sector bytes [] = refl
   total-parts sector bytes (row ∷ rows) = ap (λ (n : ℕ). size_of (length bytes) row + n) (total-parts sector bytes rows)
 
-  length-parts : (before : Bool) (parts : List (Part Row)) → length (coded asks (part_cells cells_of) before parts) ≡ total (part_size size_of) parts
+  length-parts : (before : Bool) (parts : List (TrackRow Row)) → length (coded asks (part_cells cells_of) before parts) ≡ total (part_size size_of) parts
   length-parts before parts =
       length-coded asks (part_cells cells_of) (part_size size_of) (λ bit part. sized bit part.sector part.bytes part.row) before parts
 
@@ -97,13 +97,13 @@ module _ {Row : Type 0} (asks : Bool) (cells_of : Bool → ℕ → List ℕ → 
     length-ring = length-parts false (track_parts first sectors size bytes rows)
 
     -- what stands before a sector's frame, and after it
-    before_frame : ℕ → List (Part Row)
+    before_frame : ℕ → List (TrackRow Row)
     before_frame sector =
         parts_of first [] rows.lead_in
         ++ (flat_map (sector_parts first size bytes rows) (range_with_len first (sector - first))
         ++ parts_of sector (bytes_of first size bytes sector) rows.before)
 
-    after_frame : ℕ → List (Part Row)
+    after_frame : ℕ → List (TrackRow Row)
     after_frame sector =
         parts_of sector (bytes_of first size bytes sector) rows.after
         ++ (flat_map (sector_parts first size bytes rows) (range_with_len (sector + 1) (first + sectors - (sector + 1)))
@@ -116,9 +116,9 @@ module _ {Row : Type 0} (asks : Bool) (cells_of : Bool → ℕ → List ℕ → 
     parts_of-sector sector =
         let content = bytes_of first size bytes sector in
         parts_of-append sector content rows.before (rows.frame ++ rows.after)
-        ∙ ap (λ (parts : List (Part Row)). parts_of sector content rows.before ++ parts) (parts_of-append sector content rows.frame rows.after)
+        ∙ ap (λ (parts : List (TrackRow Row)). parts_of sector content rows.before ++ parts) (parts_of-append sector content rows.frame rows.after)
 
-    regroup : (l b z f g c o : List (Part Row)) → l ++ ((b ++ ((z ++ (f ++ g)) ++ c)) ++ o) ≡ (l ++ (b ++ z)) ++ (f ++ (g ++ (c ++ o)))
+    regroup : (l b z f g c o : List (TrackRow Row)) → l ++ ((b ++ ((z ++ (f ++ g)) ++ c)) ++ o) ≡ (l ++ (b ++ z)) ++ (f ++ (g ++ (c ++ o)))
     regroup l b z f g c o = simp append_assoc
 
     track-parts : (sector : ℕ) → IsSectorNumber first sectors sector
@@ -131,10 +131,10 @@ module _ {Row : Type 0} (asks : Bool) (cells_of : Bool → ℕ → List ℕ → 
         let lead_out = parts_of first [] rows.lead_out in
         let before = flat_map (sector_parts first size bytes rows) (range_with_len first (sector - first)) in
         let behind = flat_map (sector_parts first size bytes rows) (range_with_len (sector + 1) (first + sectors - (sector + 1))) in
-        ap (λ (parts : List (Part Row)). lead_in ++ (parts ++ lead_out))
+        ap (λ (parts : List (TrackRow Row)). lead_in ++ (parts ++ lead_out))
         (sectors-parts (sector_parts first size bytes rows) first sectors sector (sector - first) (first + sectors - (sector + 1))
         (omega (arith, number.least)) (omega (arith, number.least, number.most)))
-        ∙ ap (λ (parts : List (Part Row)). lead_in ++ ((before ++ (parts ++ behind)) ++ lead_out)) (parts_of-sector sector)
+        ∙ ap (λ (parts : List (TrackRow Row)). lead_in ++ ((before ++ (parts ++ behind)) ++ lead_out)) (parts_of-sector sector)
         ∙ regroup lead_in before (parts_of sector content rows.before) (parts_of sector content rows.frame)
         (parts_of sector content rows.after) behind lead_out
 
@@ -212,7 +212,7 @@ module _ {Row : Type 0} (asks : Bool) (cells_of : Bool → ℕ → List ℕ → 
         → MayFollowAll shortest longest most asks (part_cells cells_of) (parts_of sector bytes rows)
     follow-rows sector bytes [] content = follow-none shortest longest most asks (part_cells cells_of)
     follow-rows sector bytes (row ∷ rows) content =
-        let part : Part Row = record { sector = sector; bytes = bytes; row = row } in
+        let part : TrackRow Row = record { sector = sector; bytes = bytes; row = row } in
         follow-append shortest longest most asks (part_cells cells_of) (part ∷ []) (parts_of sector bytes rows)
         (follow-one shortest longest most asks (part_cells cells_of) part (follows sector bytes row content))
         (follow-rows sector bytes rows content)

@@ -2,13 +2,13 @@ use Rattle.std.proofs.Common.{◌≤◌, List}
 use Rattle.std.specs.List.{flat_map, range_with_len}
 use Rattle.std.specs.Io.KnownBytes.{Appends}
 use Rattle.turn_merge.specs.Book.{StandsFor}
-use Rattle.turn_merge.specs.Readings.{Reading}
+use Rattle.turn_merge.specs.Readings.{NotedReading}
 use Rattle.flux_engine.specs.Tracks.{image_piece}
 use Rattle.flux_engine.proofs.writing.write_image.Given as goal
 
 abbrev pub invariant-loop-number : goal.invariant-loop-number
 invariant-loop-number g l = record {
-  grew : (readings : List Reading) → StandsFor l.book readings
+  grew : (readings : List NotedReading) → StandsFor l.book readings
       → Appends (g.W.Sink.written l.initial.image) (g.W.Sink.written l.image) (flat_map (image_piece l.format l.track readings) (range_with_len 0 l.number));
   later : g.W.Sink.faults l.initial.image ≤ g.W.Sink.faults l.image;
 }

@@ -6,7 +6,7 @@ use Rattle.flux_engine.specs.Tracks.{part_of}
 use Rattle.sector_images.specs.Places.{tracks}
 use Rattle.sector_report.specs.declared.totals.Totals.{Totals}
 use Rattle.turn_merge.specs.Book.{StandsFor}
-use Rattle.turn_merge.specs.Readings.{Reading}
+use Rattle.turn_merge.specs.Readings.{NotedReading}
 use Rattle.g64_image.specs.Gathering.{HasRingReadings}
 use Rattle.g64_image.specs.Layout.{cells_of_bytes, track_cells}
 use Rattle.g64_image.proofs.FileParts.{read_more, read_start, read_stop}
@@ -33,7 +33,7 @@ returns-in-Err-clause-err g c =
     (subst (λ (cells : List Bool). HasRingReadings format c.track_id-track.result cells book) c.track_bytes.ensures.cells c.read_ring.ensures.gathered) in
     read_stop format c.args.file.now (g.W.Sink.written c.args.image.now) imid image' (g.N.Sink.written c.args.notes.now) nmid notes' n c.loop-number.totals
     c.loop-number.invariant.read book gathered c.in-Err.fault (omega (arith, c.track_count-number-end.ensures))
-    (subst (λ (t : TrackId). (readings : List Reading) → StandsFor book readings → WritesPart (part_of format t readings) imid image' nmid notes' (Err c.in-Err.fault)) is c.in-Err.ensures.wrote)
+    (subst (λ (t : TrackId). (readings : List NotedReading) → StandsFor book readings → WritesPart (part_of format t readings) imid image' nmid notes' (Err c.in-Err.fault)) is c.in-Err.ensures.wrote)
 
 pub loop-number-preserved : goal.loop-number-preserved
 loop-number-preserved g c =
@@ -53,7 +53,7 @@ loop-number-preserved g c =
     record {
       read = read_more format c.args.file.now (g.W.Sink.written c.args.image.now) imid image' (g.N.Sink.written c.args.notes.now) nmid notes' n c.loop-number.totals
           c.loop-number.invariant.read book gathered c.in-Ok.more c.add_totals.new.totals
-          (subst (λ (t : TrackId). (readings : List Reading) → StandsFor book readings → WritesPart (part_of format t readings) imid image' nmid notes' (Ok c.in-Ok.more)) is c.in-Ok.ensures.wrote)
+          (subst (λ (t : TrackId). (readings : List NotedReading) → StandsFor book readings → WritesPart (part_of format t readings) imid image' nmid notes' (Ok c.in-Ok.more)) is c.in-Ok.ensures.wrote)
           c.add_totals.ensures.value;
       roomy = c.read_ring.ensures.roomy;
       sum = c.add_totals.ensures.sum;

@@ -1,7 +1,7 @@
 use Rattle.std.proofs.Common.{◌≡◌, ◌∙◌, ◌++◌, ℕ, ap, arith, refl, false, true, Ok, length}
 use Rattle.kryo_stream.proofs.Pieces.{piece_at-follows}
 use Rattle.kryo_stream.proofs.Answering.{Progress-start, Progress-push, taken_for_block, read_refused, read_failed, read_memory, at_end, complete, read_end, not_end, note_finds_room, end_finds_room, end_cause, end_small}
-use Rattle.kryo_stream.specs.declared.block.Piece.{Piece}
+use Rattle.kryo_stream.specs.declared.block.SpelledBlock.{SpelledBlock}
 use Rattle.kryo_stream.specs.declared.block.Block.TheVariants.{Flux}
 use Rattle.kryo_stream.specs.Held.{IntakeState}
 use Rattle.kryo_stream.specs.Reads.{source_at}
@@ -9,7 +9,7 @@ use Rattle.kryo_stream.proofs.Skipping.{takes_held}
 use Rattle.kryo_stream.proofs.reading.read_stream.Goals as goal
 
 -- a transition of one byte
-abbrev short : ℕ → Piece
+abbrev short : ℕ → SpelledBlock
 short ticks = record { block = Flux ticks; bytes = 1 }
 
 pub loop-number-init : goal.loop-number-init
