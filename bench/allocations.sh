@@ -42,8 +42,8 @@ sweep() {
         test "$reads $writes" = "0 0" || complain "$*: allocation $number is refused after a read or a write"
     done
     test "$status" = "$wanted" || complain "$*: the code is $status"
-    test "$late" = 0 || complain "$*: $late allocations behind the first read"
-    echo "$*: each of $allocations allocations refused; none behind the first read"
+    test "$late" = 0 || complain "$*: $late allocations after the first read"
+    echo "$*: each of $allocations allocations refused; none after the first read"
 }
 
 sweep stream 0 turns

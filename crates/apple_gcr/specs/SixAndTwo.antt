@@ -41,7 +41,7 @@ value_at bytes k =
 unfoldable pub values_of : List ℕ → List ℕ
 values_of bytes = map (value_at bytes) (range_with_len 0 VALUES)
 
--- a value exclusive-or the one before it, where a zero stands before the first value and behind the last
+-- a value exclusive-or the one before it, where a zero stands before the first value and after the last
 abbrev pub code_at : List ℕ → ℕ → ℕ
 code_at values k = bit_xor (get_or values k 0) (get_or (0 ∷ values) k 0)
 

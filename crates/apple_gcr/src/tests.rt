@@ -12,7 +12,7 @@ const TRACK: TrackId = TrackId {
 /// An address field and a data field, made by hand.
 #[derive(Clone, Copy)]
 struct Frame {
-    /// The eight bytes behind D5 AA 96: volume, track; sector, check value.
+    /// The eight bytes after D5 AA 96: volume, track; sector, check value.
     address: (u32, u32),
     /// So many cells stand between the fields, half of them before what stands in their middle.
     gap: u16,
@@ -259,7 +259,7 @@ fn reads_headers_without_their_data(rt: HostRuntime) -> Result<(), Fail> {
     Ok(())
 }
 
-/// Two rings, one behind the other, with these eight cells from two places of the first on.
+/// Two rings, one after the other, with these eight cells from two places of the first on.
 fn push_twice(
     cells: &mut Cells,
     ring: &Cells,

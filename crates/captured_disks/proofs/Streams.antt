@@ -23,7 +23,7 @@ module _ (stay : StreamsStay) (passed : PaddingIsPassed) (count : ℕ) (bytes : 
   abbrev padded : ℕ → List ℕ
   padded k = joined.padding k ++ bytes k
 
-  -- the streams from number k on, and what is behind all of them
+  -- the streams from number k on, and what is after all of them
   abbrev from : ℕ → ℕ → List ℕ
   from k rest = flat_map padded (range_with_len k rest) ++ joined.later
 

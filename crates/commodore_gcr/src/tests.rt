@@ -341,7 +341,7 @@ fn writes_a_header_block(rt: HostRuntime) -> Result<(), Fail> {
     DISK.ring(TRACK, &bytes, &mut ring)?;
     assert_eq!(rt; ring.len(), 57000);
 
-    // The bytes 08 11 00 12 42 41 0F 0F behind 40 ones, then the gap.
+    // The bytes 08 11 00 12 42 41 0F 0F after 40 ones, then the gap.
     assert_eq!(rt; ring.word_at(8, 32), 0xFFFF_FFFF);
     assert_eq!(rt; ring.word_at(40, 32), 0x5256_B529);
     assert_eq!(rt; ring.word_at(72, 32), 0x7274_9CB5);

@@ -6,7 +6,7 @@ use Rattle.std.proofs.Math.Seq.{drop-append-add}
 use Rattle.track_rings.specs.lemmas.Cuts.{length-stretch}
 use Rattle.decoded_rings.specs.Pieces.{ERASED_ZEROS, RingPiece, begin_of_piece, cells_of_ring_pieces, piece_cells}
 
--- the cells behind those of the first piece
+-- the cells after those of the first piece
 pub behind_first : (ring : List Bool) (first next : RingPiece) (more : List RingPiece)
     → cells_of_ring_pieces ring first (next ∷ more)
     ≡ piece_cells ring first ++ (replicate ERASED_ZEROS false ++ cells_of_ring_pieces ring next more)

@@ -11,7 +11,7 @@ use Rattle.decoded_rings.specs.Pieces.{RingPiece, begin_of_piece, cells_of_ring_
 use Rattle.track_rings.specs.OwnSectors.{between_zeros}
 use Rattle.decoded_rings.proofs.Cells.{begin-suc, behind_first}
 
--- the cells of pieces behind so many zeros
+-- the cells of pieces after so many zeros
 abbrev pub behind_zeros : List Bool → ℕ → RingPiece → List RingPiece → List Bool
 behind_zeros ring zeros first later = replicate zeros false ++ cells_of_ring_pieces ring first later
 
@@ -31,7 +31,7 @@ pub record Located (ring : List Bool) (before : ℕ) (first : RingPiece) (later 
 eight_zeros : (rest : List Bool) → take 8 (drop 23 (replicate 31 false ++ rest)) ≡ replicate 8 false
 eight_zeros rest = refl
 
--- what lies behind the first piece
+-- what lies after the first piece
 after_first : (ring : List Bool) (before : ℕ) (first next : RingPiece) (more : List RingPiece) (offset : ℕ)
     → drop (before + first.count + offset) (behind_zeros ring before first (next ∷ more)) ≡ drop offset (behind_zeros ring 31 next more)
 after_first ring before first next more offset =
@@ -86,7 +86,7 @@ unbroken-same : (xs ys : List Bool) (from shift place count : ℕ)
 unbroken-same xs ys from shift place count same whole at least most zeros =
     whole (shift + at) (omega arith) (omega arith) (ap (take 8) (same at) ∙ zeros)
 
--- what is located behind the first piece
+-- what is located after the first piece
 behind_first_piece : (ring : List Bool) (before : ℕ) (first next : RingPiece) (more : List RingPiece) (place count : ℕ) → before + first.count ≤ place
     → Located ring 31 next more (place - (before + first.count)) count → Located ring before first (next ∷ more) place count
 behind_first_piece ring before first next more place count late found =
@@ -107,7 +107,7 @@ behind_first_piece ring before first next more place count late found =
       most = omega (arith, found.most, begin-suc first (next ∷ more) found.index, e);
     }
 
--- cells that lie in the first piece and the zeros beside it, and those that lie behind them
+-- cells that lie in the first piece and the zeros beside it, and those that lie after them
 pub locate : (ring : List Bool) (before : ℕ) (first : RingPiece) (later : List RingPiece) (place count : ℕ) → before ≤ 31 → 0 < count
     → Unbroken (behind_zeros ring before first later) place (place + count) → place + count ≤ length (behind_zeros ring before first later)
     → Located ring before first later place count

@@ -12,7 +12,7 @@ use Rattle.decoded_rings.specs.Written.{HasSector, IsReadBy, WrittenTrack}
 use Rattle.decoded_rings.proofs.Cells.{begins-after, piece-there}
 use Rattle.decoded_rings.proofs.Locating.{Located, locate}
 
--- unbroken cells behind a place, counted from the front
+-- unbroken cells after a place, counted from the front
 unbroken-from : (cells : List Bool) (place count : ℕ) → Unbroken (drop place cells) 0 count → Unbroken cells place (place + count)
 unbroken-from cells place count whole at least most zeros =
     let e : place + (at - place) ≡ at = omega (arith, least) in

@@ -4,7 +4,7 @@ use Rattle.std.specs.Io.KnownBytes.{Consumes, IsAtEnd}
 use Rattle.flux_base.specs.Moments.{Moment}
 use Rattle.flux_cli.specs.Runs.{IsInput}
 
--- what the source has left behind the bytes that were taken
+-- what the source has left after the bytes that were taken
 pub record Rest {A : Type 0} (before after : Moment A) (taken : List ℕ) : Type 0 where
   pub later : List ℕ
   pub input : IsInput before after taken later

@@ -14,14 +14,14 @@ range-more a (suc n) =
     let e : (a + 1) + n ≡ a + suc n = omega arith in
     ap (λ rest. a ∷ rest) (range-more (a + 1) n ∙ ap (λ x. range_with_len (a + 1) n ++ x ∷ []) e)
 
--- the line of turn n + 1 stands behind those of n turns
+-- the line of turn n + 1 stands after those of n turns
 pub turn_lines-more : (indexes : List ℕ) (n : ℕ) → turn_lines indexes (suc n) ≡ turn_lines indexes n ++ turn_line_of indexes (1 + n)
 turn_lines-more indexes n =
     ap (flat_map (turn_line_of indexes)) (range-more 1 n)
     ∙ flat_map-append (turn_line_of indexes) (range_with_len 1 n) ((1 + n) ∷ [])
     ∙ ap (λ last. turn_lines indexes n ++ last) (append-nil (turn_line_of indexes (1 + n)))
 
--- the line of turn n + 1 stands behind those of n turns, and in front of those of later turns
+-- the line of turn n + 1 stands after those of n turns, and in front of those of later turns
 turn_lines-front : (indexes : List ℕ) (n later : ℕ)
     → (rest : List ℕ) × (turn_lines indexes (n + suc later) ≡ turn_lines indexes n ++ (turn_line_of indexes (1 + n) ++ rest))
 turn_lines-front indexes n zero =

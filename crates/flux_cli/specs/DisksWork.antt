@@ -42,7 +42,7 @@ disk_outcome output d = record {
   notes = to_notes output d ++ refusal_of d.stop;
 }
 
--- the wanted streams are taken to their End, and a little behind the last
+-- the wanted streams are taken to their End, and a little after the last
 abbrev pub disk_leaves : Format → Status → (x later : List ℕ) → Type 0
 disk_leaves format AllGood x later = IsTakenBehind x later (length (tracks format)) 4096
 disk_leaves format NotAllGood x later = IsTakenBehind x later (length (tracks format)) 4096

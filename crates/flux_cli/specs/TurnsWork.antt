@@ -11,7 +11,7 @@ use Rattle.sector_report.specs.Lines.{refused_text}
 use Rattle.flux_cli.specs.Turns.{turns_text}
 use Rattle.flux_cli.specs.Work.{Outcome, Growth, GotNothing, GivesFront, Work}
 
--- the most bytes of padding before a stream, of the stream, and of what an intake holds behind it
+-- the most bytes of padding before a stream, of the stream, and of what an intake holds after it
 abbrev pub MOST_AT_ONCE : ℕ
 MOST_AT_ONCE = 4198416
 
@@ -23,7 +23,7 @@ turns_by x (Some fault) = record { status = Refused; image = []; notes = refused
 abbrev pub turns_outcome : List ℕ → Outcome
 turns_outcome x = turns_by x (first_fault x)
 
--- a stream is taken to its End, and a little behind it
+-- a stream is taken to its End, and a little after it
 abbrev pub turns_leaves : Status → (x later : List ℕ) → Type 0
 turns_leaves AllGood x later = IsTakenBehind x later 1 4096
 turns_leaves Refused x later = IsTakenBehind x later 0 MOST_AT_ONCE

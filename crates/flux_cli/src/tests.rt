@@ -103,7 +103,7 @@ fn turns(alloc: Global, input: Vec<u8>, chunk: u32) -> Result<Ended, Fail> {
     run_over(alloc, &["turns"], input, chunk, NONE)
 }
 
-// The stream's 50 bytes are read once each: behind its End the source is not asked again.
+// The stream's 50 bytes are read once each: after its End the source is not asked again.
 #[test]
 fn turns_of_a_stream(rt: HostRuntime) -> Result<(), Fail> {
     for (chunk, reads) in [(1, 50), (2, 25), (3, 17), (7, 8), (4096, 1)] {

@@ -156,7 +156,7 @@ module _ (ring : List Bool) (nominal : ℕ) where
     early_cell : cell_of ring early.0 ≡ true
     early_cell = own_cell ring early.0 (omega (arith, early.2)) ∙ early.3
 
-    -- the same one in the first turn, and in the quarter behind the last
+    -- the same one in the first turn, and in the quarter after the last
     abbrev first_K : ℕ
     first_K = quarter ring + early.0
 

@@ -66,7 +66,7 @@ module _ (test : ℕ → Bool) where
     all_rise zero within = (let at = rest.from 0 (omega (arith, within)) in omega (arith, at))
     all_rise (suc i) within = rest.rises i (omega (arith, within))
 
-    -- a number that passes lies behind the first of the rest
+    -- a number that passes lies after the first of the rest
     no_earlier : (k : ℕ) (b : Bool) → test k ≡ b → least < k → 0 < length chosen → k < slice_index chosen 0 → b ≡ false
     no_earlier k true passed above some under =
         let top = rest.to 0 some in

@@ -24,7 +24,7 @@ use Rattle.flux_engine.proofs.Finding.{find-below}
 use Rattle.flux_engine.proofs.GoodSectors.{lengths}
 use Rattle.flux_engine.proofs.Outcomes.{stop_track}
 
--- a part of what stands behind a list, and before another, is that part of it
+-- a part of what stands after a list, and before another, is that part of it
 pub piece_within : (before part rest : List ℕ) (place k size : ℕ) → length before ≡ place → k + size ≤ length part
     → take size (drop (place + k) (before ++ (part ++ rest))) ≡ take size (drop k part)
 piece_within before part rest place k size at within =
@@ -35,7 +35,7 @@ piece_within before part rest place k size at within =
     let left = length-drop k part in
     ap (take size) (on ∙ cut) ∙ take-append-le size (drop k part) rest (omega (arith, left, within))
 
--- all that stands behind a list, and before another
+-- all that stands after a list, and before another
 whole_piece : (before part rest : List ℕ) (place size : ℕ) → length before ≡ place → length part ≡ size
     → take size (drop place (before ++ (part ++ rest))) ≡ part
 whole_piece before part rest place size at many =

@@ -97,7 +97,7 @@ decoded_start format left image notes room totals is none = record {
 
 module _ (format : Format) (left mid left' image imid image' notes nmid notes' : Option (List ℕ)) (room : RoomState) (held' : List ℕ) (n : ℕ) (totals : Totals)
     (h : HasDecoded format left mid image imid notes nmid room n totals) where
-  -- what the next call takes stands behind what was taken before
+  -- what the next call takes stands after what was taken before
   behind_is : (taken later : List ℕ) → behind ((h.taken ++ taken) ++ later) n ≡ (room.held ++ taken) ++ later
   behind_is taken later =
       ap (λ (x : List ℕ). behind x n) (append_assoc h.taken taken later) ∙ h.rest (taken ++ later) ∙ sym (append_assoc room.held taken later)

@@ -7,7 +7,7 @@ use Rattle.std.proofs.lemmas.List.{length-take-le, take-append-le}
 use Rattle.std.specs.Io.KnownBytes.{Consumes}
 use borrow.Rule.Slice.PartMut.{post_of, put_mid}
 
--- the front of a buffer in which a piece was put behind the part that was filled
+-- the front of a buffer in which a piece was put after the part that was filled
 filled_more : (filled count room : ℕ) (xs ys : List ℕ) → filled ≤ length xs → count ≤ length ys
     → take (filled + count) (put_mid filled room xs ys) ≡ take filled xs ++ take count ys
 filled_more filled count room xs ys within few =

@@ -19,7 +19,7 @@ module _ (streams : StreamsStay) (padding : PaddingStays) where
   input-more true x later none = padding x later none
   input-more false x later none = refl
 
-  -- what stands behind the first streams, where none of them has a fault
+  -- what stands after the first streams, where none of them has a fault
   behind-more : (x later : List ℕ) (n : ℕ) → ((k : ℕ) → k < n → first_fault (stream_at x k) ≡ None) → behind (x ++ later) n ≡ behind x n ++ later
   unfolding behind
   behind-more x later zero none = refl

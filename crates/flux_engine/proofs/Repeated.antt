@@ -22,7 +22,7 @@ module _ (ring : List Bool) where
   no_more : (n : ℕ) → 0 + n ≡ n
   no_more n = omega arith
 
-  -- a one in the turn behind the first cell
+  -- a one in the turn after the first cell
   one_in_turn : (place : ℕ) → place < length ring → cell_of ring place ≡ true
       → (w : ℕ) × (1 ≤ w) × (w ≤ length ring) × (cell_of ring w ≡ true)
   one_in_turn zero within one = (length ring, omega (arith, within), omega arith, ap (cell_of ring) (sym (no_more (length ring))) ∙ same_later 0 ∙ one)

@@ -55,12 +55,12 @@ some_same e = cc
 none_some : {X : Type 0} {a : X} → None ≡ Some a → ⊥
 none_some e = cc
 
--- what stands behind the last line end is empty
+-- what stands after the last line end is empty
 past-all : (m : ℕ) (front : List ℕ) → slice_get (lines_in []) m ≡ Some front → front ≡ []
 past-all zero front is = sym (some_same is)
 past-all (suc m) front is = absurd (none_some is)
 
--- what stands behind the sectors' lines: nothing, or the total line
+-- what stands after the sectors' lines: nothing, or the total line
 past-sectors : (totals : Totals) (one : IsOneLine (total_text totals)) (stop : Option Stop) (m : ℕ) (front : List ℕ)
     → slice_get (lines_in (last_line totals stop)) m ≡ Some front → (front ≡ []) ⊎ (front ++ 10 ∷ [] ≡ total_text totals)
 past-sectors totals one (Some stop) m front is = inl (past-all m front is)

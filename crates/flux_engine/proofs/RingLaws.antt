@@ -51,7 +51,7 @@ module _ (piece : ℕ → List ℕ) (size : ℕ) where
   pieces_fit first (suc count) each =
       All-append (λ byte. byte < 256) (piece first) (flat_map piece (range_with_len (first + 1) count)) (each first) (pieces_fit (first + 1) count each)
 
--- each of a list of bytes is one, and so is what stands behind them
+-- each of a list of bytes is one, and so is what stands after them
 pub bytes_fit : (bytes : List ℕ) → All (λ byte. byte < 256) bytes → (k : ℕ) → get_or bytes k 0 < 256
 bytes_fit bytes all k =
     elim (cases_lt k (length bytes)) [

@@ -38,7 +38,7 @@ EngineCause source source' image image' notes notes' (Err ImageFault) = Rose ima
 EngineCause source source' image image' notes notes' (Err NotesFault) = Rose notes notes'
 EngineCause source source' image image' notes notes' _ = Unit {0}
 
--- x begins with a stream of these transitions and index times, and this stands behind it
+-- x begins with a stream of these transitions and index times, and this stands after it
 pub record IsTrackStream (x times' indexes' stays : List ℕ) : Type 0 where
   pub no_fault : first_fault x ≡ None
   pub times : times' ≡ times x
@@ -52,7 +52,7 @@ SaysOfStream number (Err (Refused track block fault)) x times' indexes' stays =
 SaysOfStream number (Err ReadFault) x times' indexes' stays = (block : ℕ) × (first_fault x ≡ Some (block, Truncated))
 SaysOfStream number _ x times' indexes' stays = IsTrackStream x times' indexes' stays
 
--- what the answer says of the bytes that were written: the track's part of the image, and behind it its lines
+-- what the answer says of the bytes that were written: the track's part of the image, and after it its lines
 abbrev pub SaysOfSinks : (TrackPart → Type 0) → (image image' notes notes' : Option (List ℕ)) → Answer → Type 0
 SaysOfSinks Is image image' notes notes' (Ok totals) =
     (part : TrackPart) × Is part × Appends image image' part.image × Appends notes notes' part.lines × (totals ≡ part.totals)
@@ -77,11 +77,11 @@ pub record DecodesTrack (format : Format) (track : TrackId) (number : ℕ) (left
   pub ended : IsTruncated answer → IsAtEnd left'
   pub wrote : SaysOfSinks (IsPart format track times indexes) image image' notes notes' answer
 
--- bytes were appended whole, and behind them a part of some more that is shorter than these
+-- bytes were appended whole, and after them a part of some more that is shorter than these
 abbrev pub AppendsAndPart : Option (List ℕ) → Option (List ℕ) → List ℕ → List ℕ → Type 0
 AppendsAndPart old new whole more = (n : ℕ) × (n < length more) × Appends old new (whole ++ take n more)
 
--- x up to where `later` begins was taken: the first n streams to their end, and behind them at most so many bytes
+-- x up to where `later` begins was taken: the first n streams to their end, and after them at most so many bytes
 pub record IsTakenBehind (x later : List ℕ) (n most : ℕ) : Type 0 where
   pub whole : length later ≤ length (behind x n)
   pub few : length (behind x n) ≤ length later + most

@@ -65,7 +65,7 @@ abbrev pub EachHasOneVerdict : Type 0
 EachHasOneVerdict = (format : Format) (x : List ℕ) (o : Decoded) (n sector : ℕ) → IsDecodedSector format x o n sector
     → HasOneVerdict format x n sector
 
--- the lines of a text, without their line ends, and what stands behind the last line end
+-- the lines of a text, without their line ends, and what stands after the last line end
 abbrev pub lines_in : List ℕ → List (List ℕ)
 lines_in text = slice_split (λ byte. byte == 10) text
 

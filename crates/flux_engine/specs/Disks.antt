@@ -68,7 +68,7 @@ pub record Decoded : Type 0 where
   pub totals : Totals
   pub stop : Option Stop
 
--- the line behind all sector lines, where all tracks are decoded
+-- the line after all sector lines, where all tracks are decoded
 abbrev pub last_line : Totals → Option Stop → List ℕ
 last_line totals (Some stop) = []
 last_line totals None = total_text totals

@@ -62,7 +62,7 @@ ring_cells_of format k = (zone format (track_at format k).cylinder).ring_cells
 abbrev pub track_stream : Format → List ℕ → ℕ → List ℕ
 track_stream format image k = stream_of (ring_of format image k) (nominal_of format k)
 
--- the streams of all tracks in order, one behind another
+-- the streams of all tracks in order, one after another
 unfoldable pub streams_of : Format → List ℕ → List ℕ
 streams_of format image = flat_map (track_stream format image) (range_with_len 0 (length (tracks format)))
 

@@ -18,7 +18,7 @@ use sector_report::{Totals, total_line, write_line};
 /// Decodes all tracks of a disk in order, as `decode_track` does each, and then writes the total line to
 /// `notes`. No answer is for want of memory.
 ///
-/// What stands behind the last stream is not looked at. After a fault nothing more is read or written, and
+/// What stands after the last stream is not looked at. After a fault nothing more is read or written, and
 /// the tracks before are written whole.
 pub fn decode_disk<S: Source, W: Sink, N: Sink>(
     room: &mut DiskRoom,

@@ -20,7 +20,7 @@ use flux_writer::write_track;
 use sector_images::{Format, image_size, nominal, track_count, track_id, tracks_keep_bounds};
 
 /// Reads an image to its end, or to one byte more than an image of the format has, and writes the streams of
-/// its tracks in order, one behind another. No answer is for want of memory.
+/// its tracks in order, one after another. No answer is for want of memory.
 ///
 /// `WrongSize` comes exactly where the bytes that were read are not an image's in number. Then, and after
 /// `ReadFault`, nothing was written. After `ImageFault` a part of the streams was written.

@@ -52,7 +52,7 @@ pub fn parts_fill_images()
 }
 
 /// Each sector of a decoded track has one verdict over all readings of the track, and its line in the report,
-/// behind those of all sectors before it, names it.
+/// after those of all sectors before it, names it.
 /// Where it is good, the place that is named has cells that hold the sector, in the turn that is named, with
 /// the bytes that the whole image has at the sector's place, and all places of the track that hold the sector
 /// hold these bytes.

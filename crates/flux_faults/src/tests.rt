@@ -75,7 +75,7 @@ fn one_good_track(alloc: Global) -> Result<Dump, Fail> {
 }
 
 // The first ten, those at the borders of tracks, one in the middle, the last line of a sector, the total line, and
-// the number behind all.
+// the number after all.
 #[test]
 fn one_write_fails(rt: HostRuntime) -> Result<(), Fail> {
     let alloc = rt.alloc();
@@ -138,7 +138,7 @@ fn a_line_of_the_report_fails(alloc: Global, dump: &Dump, call: usize) -> Result
     Ok(())
 }
 
-// Behind 40 good streams stands an in-stream block, and then a block of an unknown type. The tracks before are written,
+// After 40 good streams stands an in-stream block, and then a block of an unknown type. The tracks before are written,
 // and a line, whose write can fail too.
 #[test]
 fn a_track_in_the_middle_is_refused(rt: HostRuntime) -> Result<(), Fail> {

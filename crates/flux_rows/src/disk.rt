@@ -25,7 +25,7 @@ pub enum Zones {
 #[derive(Clone, Copy)]
 pub struct CylinderZone {
     pub sectors: u8,
-    /// The place of the first sector in a ring, and how far the next one is behind it, in cells.
+    /// The place of the first sector in a ring, and how far the next one is after it, in cells.
     pub place: u32,
     pub step: u32,
     /// How many ticks a cell has in the streams that are made.

@@ -7,7 +7,7 @@ use flux_base::{Memory, TrackId};
 use frame_law::Recording;
 use std::alloc::{AllocError, Global};
 
-/// The shortest good stream: two transitions, with an Index block before and behind them. No sector is in it.
+/// The shortest good stream: two transitions, with an Index block before and after them. No sector is in it.
 pub const SHORT: [u8; 50] = [
     0x0D, 2, 12, 0, 0, 0, 0, 0, 0, 0, 0, 0, 0, 0, 0, 0, 0x60, 0x60, 0x0D, 2, 12, 0, 2, 0, 0, 0, 5,
     0, 0, 0, 24, 0, 0, 0, 0x0D, 3, 8, 0, 2, 0, 0, 0, 0, 0, 0, 0, 0x0D, 0x0D, 0x0D, 0x0D,
@@ -73,7 +73,7 @@ struct Capture {
     ticks: u8,
     /// The bytes of blocks that are in the stream.
     position: u32,
-    /// The cells behind the last transition.
+    /// The cells after the last transition.
     distance: u8,
 }
 

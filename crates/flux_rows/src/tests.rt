@@ -134,7 +134,7 @@ fn fill(rt: &impl Abort, bytes: &mut [u8], from: usize, count: usize, byte: u8) 
     bytes[from..from + count].fill(byte);
 }
 
-// The 77 wanted streams have 3850 bytes, which are 550 pieces of 7. The seven behind them are left.
+// The 77 wanted streams have 3850 bytes, which are 550 pieces of 7. The seven after them are left.
 #[test]
 fn what_follows_the_last_track_is_not_read(rt: HostRuntime) -> Result<(), Fail> {
     let alloc = rt.alloc();

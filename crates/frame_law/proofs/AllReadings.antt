@@ -241,7 +241,7 @@ module _ (header : List Bool → ℕ → Type 0) (sector : List Bool → ℕ →
         read.1,
       )
 
-  -- and the others are all that stands behind it
+  -- and the others are all that stands after it
   are_behind : (from : ℕ) (f : Found) (rest : List Found) → AreAllFrom header sector cells from (f ∷ rest)
       → AreAllFrom header sector cells (f.0 + 1) rest
   are_behind from f rest all =

@@ -8,7 +8,7 @@ use cell_bits::Cells;
 use std::marker::Model;
 
 /// The cells of a list from one place on, seen by contracts as that list: what stands at the place is read
-/// from here. An offset is a number of cells behind the place.
+/// from here. An offset is a number of cells after the place.
 #[derive(Drop)]
 pub struct CellsFrom<'a> {
     cells: &'a Cells,

@@ -32,7 +32,7 @@ abbrev pub ring_readings : List Found → List NotedReading
 ring_readings found = flat_map (λ f. readings_at (ring_place f.0) f.1 f.2) found
 
 -- All that can be read in a ring of these cells, and what it comes to: at each place of the cells, where the first cells stand
--- once more behind the last.
+-- once more after the last.
 pub record IsRingPart (format : Format) (track : TrackId) (cells : List Bool) (part : TrackPart) : Type 0 where
   pub found : List Found
   pub all : AreReadingsTo (header_at format track) (sector_at format track) (cells ++ cells) (length cells) 0 found
@@ -58,7 +58,7 @@ abbrev pub read_count : Format → Option G64Fault → ℕ
 read_count format (Some fault) = 0
 read_count format None = length (tracks format)
 
--- the line behind all sector lines
+-- the line after all sector lines
 abbrev pub last_line : Totals → Option G64Fault → List ℕ
 last_line totals (Some fault) = []
 last_line totals None = total_text totals

@@ -23,7 +23,7 @@ MOST_HALF_TRACKS = 84
 abbrev pub half_track : ℕ → ℕ
 half_track track = 2 * track
 
--- Behind the signature, the version, the number of half tracks and the greatest size of a track stand two tables with an
+-- After the signature, the version, the number of half tracks and the greatest size of a track stand two tables with an
 -- entry of four bytes for each half track: offsets, and then speeds.
 abbrev pub HEADER_SIZE : ℕ
 HEADER_SIZE = 12
@@ -39,11 +39,11 @@ bytes_of_cells cells = map (λ i. word cells (8 * i) 8) (range_with_len 0 (lengt
 unfoldable pub cells_of_bytes : List ℕ → List Bool
 cells_of_bytes bytes = flat_map (word_cells 8) bytes
 
--- the size in which each track is written, with its cells at the front and FF behind them
+-- the size in which each track is written, with its cells at the front and FF after them
 abbrev pub TRACK_SIZE : ℕ
 TRACK_SIZE = 7928
 
--- the place of a written track: its length of two bytes, and behind it the track's bytes
+-- the place of a written track: its length of two bytes, and after it the track's bytes
 abbrev pub written_place : ℕ → ℕ
 written_place track = tables_end MOST_HALF_TRACKS + (2 + TRACK_SIZE) * track
 

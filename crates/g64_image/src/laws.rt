@@ -1,4 +1,4 @@
-//! What the definition behind `from_g64` comes to.
+//! What the definition after `from_g64` comes to.
 
 ghost use Rattle.g64_image.specs.Laws.{OneFileDisk};
 

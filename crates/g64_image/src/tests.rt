@@ -41,7 +41,7 @@ fn read(alloc: Global, file: Vec<u8>) -> Result<Came, Fail> {
     })
 }
 
-/// A header of so many half tracks, and so many zeros behind it, with some bytes at a place.
+/// A header of so many half tracks, and so many zeros after it, with some bytes at a place.
 fn short_file(
     alloc: Global,
     half_tracks: u8,

@@ -1,4 +1,4 @@
--- The fields of the IBM formats, single density (3740) and double density (System 34): bytes that stand behind a mark, and
+-- The fields of the IBM formats, single density (3740) and double density (System 34): bytes that stand after a mark, and
 -- their check value. A byte takes 16 cells, and is read from its data cells alone.
 use Rattle.std.specs.Prelude.{ℕ, zero, suc, ◌+◌, ◌*◌, ◌/◌, ◌%◌, Bool, List, [], ◌∷◌}
 use Rattle.flux_base.specs.declared.track.TrackId.{TrackId}
@@ -18,7 +18,7 @@ DELETED_DATA_BYTE = 0xF8
 abbrev pub CHECK_START : ℕ
 CHECK_START = 0xFFFF
 
--- the sync of the data begins less than this number of cells behind the header
+-- the sync of the data begins less than this number of cells after the header
 abbrev pub DATA_REACH : ℕ
 DATA_REACH = 1024
 

@@ -1,5 +1,5 @@
 //! The fields of the IBM formats, single density (3740) and double density (System 34): bytes that stand
-//! behind a mark, read at an offset from a header's begin, and the bytes with which fields begin. No call takes
+//! after a mark, read at an offset from a header's begin, and the bytes with which fields begin. No call takes
 //! memory.
 #![tactic(auto)]
 

@@ -133,7 +133,7 @@ not_true : (b : Bool) → (b ≡ true → ⊥) → b ≡ false
 not_true true never = absurd (never refl)
 not_true false never = refl
 
--- a byte with one behind it is padding by these two
+-- a byte with one after it is padding by these two
 pads-same : (x later : List ℕ) (i : ℕ) → i + 1 < length x → is_padding (x ++ later) i ≡ is_padding x i
 pads-same x later i within =
     let here : get_or (x ++ later) i 0 ≡ get_or x i 0 = get_or_append_left x later 0 i (omega (arith, within)) in

@@ -1,4 +1,4 @@
--- A stream with other bytes behind it, and with padding before it.
+-- A stream with other bytes after it, and with padding before it.
 use Rattle.std.proofs.Common.{◌≡◌, ◌≢◌, ◌≤◌, ◌<◌, ◌+◌, ◌++◌, ◌==◌, ℕ, zero, suc, Bool, true, false, List, [], ◌∷◌, length, drop, find, get_or, unwrap_or, refl, ap, sym, ◌∙◌, arith, Option, Some, None, Ok, Err, if◌then◌else◌, inl, inr}
 use Rattle.std.specs.List.{cons_option, range_with_len}
 use Rattle.std.specs.Prelude.{Result, slice_index}

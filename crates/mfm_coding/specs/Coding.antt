@@ -18,7 +18,7 @@ low_bit (Data byte) = digit byte 0
 low_bit SyncMark = true
 low_bit IndexMark = false
 
--- the cells of one of them, behind a data bit
+-- the cells of one of them, after a data bit
 unfoldable pub symbol_cells : Bool → Symbol → List Bool
 symbol_cells before (Data byte) = mfm before byte
 symbol_cells before SyncMark = word_cells 16 SYNC_MARK

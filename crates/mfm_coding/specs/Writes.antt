@@ -1,4 +1,4 @@
--- Bytes and marks that a call appends, in MFM behind the cells that there were.
+-- Bytes and marks that a call appends, in MFM after the cells that there were.
 use Rattle.std.specs.Prelude.{◌≡◌, ℕ, ◌+◌, ◌<◌, ◌≤◌, Bool, List, [], ◌∷◌, ◌++◌, length, IsErr, Ok, Err, take, get_or, flat_map}
 use Rattle.std.specs.declared.result.Result.{Result}
 use Rattle.std.proofs.Common.{ap, sym, subst, ◌∙◌, arith, append-nil, length-append}

@@ -1,4 +1,4 @@
--- The cells that the rule's rows give: behind a transition at which a clock begins, those of the ring from one to one.
+-- The cells that the rule's rows give: after a transition at which a clock begins, those of the ring from one to one.
 use Rattle.std.proofs.Common.{◌≡◌, ℕ, zero, suc, ◌+◌, ◌-◌, ◌*◌, ◌<◌, ◌≤◌, List, [], ◌∷◌, ◌++◌, length, drop, map, replicate, arith, refl, sym, ◌∙◌, ap, append_assoc, Bool, true, false, slice_index}
 use Rattle.std.specs.List.{flat_map}
 use Rattle.std.proofs.lemmas.List.{append-nil, drop-append-le, map-append}

@@ -61,7 +61,7 @@ next_placed nominal local ideal period place fine (suc (suc (suc zero))) clock n
 next_placed nominal local ideal period place fine (suc (suc (suc (suc zero)))) clock near timed some few = record { low = omega arith; high = omega arith }
 next_placed nominal local ideal period place fine (suc (suc (suc (suc (suc more))))) clock near timed some few = absurd (omega arith)
 
--- behind a gap the loop starts anew: more than 32 periods lie in it
+-- after a gap the loop starts anew: more than 32 periods lie in it
 pub gap_far : (nominal local ideal period place last fine : ℕ) → IsLocal nominal local → IsNear nominal local ideal period place
     → IsTimed nominal ideal last → 48 * nominal ≤ fine - last → LONGEST < periods_in (fine - place) period
 gap_far nominal local ideal period place last fine clock near timed gap =

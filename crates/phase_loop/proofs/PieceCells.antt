@@ -200,7 +200,7 @@ module _ (start : LoopStart) (is_start : IsStart start) (ring : List Bool) (spac
         ∙ ap (λ (cs : List Bool). front ++ cs) (sym (append_assoc piece_is zeros (true ∷ [])))
         ∙ sym (append_assoc front (piece_is ++ zeros) (true ∷ []))
 
--- a piece's times are its first and those behind it
+-- a piece's times are its first and those after it
 first_time : (piece : Piece) → 0 < length piece.times → piece.times ≡ slice_index piece.times 0 ∷ drop 1 piece.times
 first_time piece some = go piece.times some
   where

@@ -22,7 +22,7 @@ pub record IsHistory (rows : List Row) : Type 0 where
   pub restart : (last_row rows).restart < length rows
   pub rising : IsNonDecreasingBy (λ (r : Row). r.fine) rows
 
--- the state behind one more row
+-- the state after one more row
 unfoldable state_with : LoopStart → List Row → Row → LoopState
 state_with start rows row = record {
   nominal = start.nominal;
@@ -79,7 +79,7 @@ length-recent rows x history =
     let some : List Interval = drop (last_row rows).restart all in
     omega (arith, length-drop (length some - 64) some, length-drop (last_row rows).restart all, length_push (intervals rows) x, length-intervals rows, history.restart, history.some)
 
--- once there are 64, they are those behind the 64th row before the last
+-- once there are 64, they are those after the 64th row before the last
 recent-full : (rows : List Row) (x : Interval) → IsHistory rows → 64 ≤ length rows - (last_row rows).restart
     → keep_last 64 (drop (last_row rows).restart (intervals rows ++ x ∷ [])) ≡ intervals (drop (length rows - 64) rows) ++ x ∷ []
 recent-full rows x history enough =
@@ -101,7 +101,7 @@ last_row-drop k rows within =
     let place : k + (length (drop k rows) - 1) ≡ length rows - 1 = omega (arith, length-drop k rows) in
     get_or-drop k rows (length (drop k rows) - 1) no_row ∙ ap (λ (n : ℕ). get_or rows n no_row) place
 
--- the totals of the intervals behind a row
+-- the totals of the intervals after a row
 record Totals (rows : List Row) (k : ℕ) : Type 0 where
   pub fine : fine_total (intervals (drop k rows)) + (row_at rows k).fine ≡ (last_row rows).fine
   pub count : count_total (intervals (drop k rows)) ≡ sum_by (λ (r : Row). r.count) (drop (k + 1) rows)

@@ -44,7 +44,7 @@ known start times (suc number) rising within =
       last = rw last_row-push (next_follows start rows fine before.history).fine_is;
     }
 
--- times behind a transition do not change its row
+-- times after a transition do not change its row
 pub rows_to-push : (start : LoopStart) (times : List ℕ) (time number : ℕ) → number < length times
     → rows_to start (times ++ time ∷ []) number ≡ rows_to start times number
 unfolding rows_to

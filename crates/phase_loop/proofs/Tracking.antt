@@ -1,4 +1,4 @@
--- The rule's rows behind a transition at which the loop starts: as long as the clock is within the bounds, each count is the
+-- The rule's rows after a transition at which the loop starts: as long as the clock is within the bounds, each count is the
 -- distance of two ones, and the period and the place stay near the clock.
 use Rattle.std.proofs.Common.{◌≡◌, ℕ, suc, ◌+◌, ◌-◌, ◌*◌, ◌/◌, ◌<◌, ◌≤◌, List, [], ◌∷◌, ◌++◌, length, drop, arith, refl, sym, ◌∙◌, ap, subst, inl, inr, true, false, nat_lt}
 use Rattle.std.specs.List.{sum_by}

@@ -27,7 +27,7 @@ OFF_START = 64
 
 -- The transitions at these times, in ticks, are consecutive ones at these places of the endlessly repeated ring, and there is
 -- an ideal place for each, in fine units from one nominal cell before time 0 on, so that each lies within the bounds: it is a
--- local period for each cell behind the one before, the periods are near the nominal cell and drift slowly, and the transition
+-- local period for each cell after the one before, the periods are near the nominal cell and drift slowly, and the transition
 -- is near its ideal place.
 pub record Carried (times : List ℕ) (ring : List Bool) (nominal : ℕ) (places periods : List ℕ) : Type 0 where
   pub each_place : length places ≡ length times

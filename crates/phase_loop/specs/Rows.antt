@@ -42,13 +42,13 @@ row_at rows number = slice_index_or rows number no_row
 abbrev pub last_row : List Row → Row
 last_row rows = row_at rows (length rows - 1)
 
--- How many periods a time lies behind the place, to the nearest, and at least one. For a time before the place
+-- How many periods a time lies after the place, to the nearest, and at least one. For a time before the place
 -- the exact quotient is below a half, and the one with the cut-off difference is a half: both floors are below
 -- one, so that both give one.
 abbrev pub periods_since : Row → ℕ → ℕ
 periods_since before fine = max 1 ((2 * (fine - before.place) + before.period) / (2 * before.period))
 
--- The period behind the transition that follows these rows: the mean of its last 64 intervals, taken from two
+-- The period after the transition that follows these rows: the mean of its last 64 intervals, taken from two
 -- times and kept in the band, once 64 intervals have passed since the restart; before that the first period.
 abbrev pub period_behind : LoopStart → List Row → (restart fine count : ℕ) → ℕ
 period_behind start rows restart fine count =
@@ -57,7 +57,7 @@ period_behind start rows restart fine count =
     else in_band start.nominal
     ((fine - (row_at rows (number - INTERVALS)).fine) / (sum_by (λ row. row.count) (drop (number - (INTERVALS - 1)) rows) + count))
 
--- The row of the transition that follows these rows, where it lies this many periods behind the place. Past 32
+-- The row of the transition that follows these rows, where it lies this many periods after the place. Past 32
 -- the loop starts anew.
 abbrev pub row_at_distance : LoopStart → List Row → Row → (fine periods : ℕ) → Row
 row_at_distance start rows before fine periods =

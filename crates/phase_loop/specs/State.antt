@@ -1,4 +1,4 @@
--- What a loop holds of the rule behind one transition.
+-- What a loop holds of the rule after one transition.
 use Rattle.std.specs.Prelude.{◌≡◌, ◌<◌, ℕ, ◌-◌, List, [], ◌∷◌, length, drop}
 use Rattle.std.specs.List.Sorted.{IsNonDecreasing}
 use Rattle.circular_buffer.specs.Buffer.{keep_last}
@@ -20,7 +20,7 @@ pub record LoopState : Type 0 where
 abbrev pub interval_between : Row → Row → Interval
 interval_between before row = record { fine = row.fine - before.fine; count = row.count }
 
--- the intervals behind a row
+-- the intervals after a row
 abbrev pub intervals_behind : Row → List Row → List Interval
 intervals_behind before [] = []
 intervals_behind before (row ∷ rows) = interval_between before row ∷ intervals_behind row rows
@@ -30,7 +30,7 @@ abbrev pub intervals : List Row → List Interval
 intervals [] = []
 intervals (row ∷ rows) = intervals_behind row rows
 
--- what a loop holds behind the last of these rows
+-- what a loop holds after the last of these rows
 unfoldable pub state_behind : LoopStart → List Row → LoopState
 state_behind start rows = let last = last_row rows in record {
   nominal = start.nominal;

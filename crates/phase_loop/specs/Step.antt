@@ -6,7 +6,7 @@ use Rattle.phase_loop.specs.Window.{fine_total, count_total}
 use Rattle.phase_loop.specs.State.{LoopState}
 use Rattle.phase_loop.specs.declared.window.Interval.{Interval}
 
--- how many periods the time lies behind the place
+-- how many periods the time lies after the place
 abbrev pub periods_to : LoopState → ℕ → ℕ
 periods_to state fine = max 1 ((2 * (fine - state.place) + state.period) / (2 * state.period))
 
@@ -42,7 +42,7 @@ joined state fine periods = record {
   recent = recent_after state fine periods;
 }
 
--- the state behind a transition at the time, and its count
+-- the state after a transition at the time, and its count
 abbrev pub state_after : LoopState → ℕ → LoopState
 state_after state fine =
     if nat_lt LONGEST (periods_to state fine) then restarted state fine else joined state fine (periods_to state fine)

@@ -55,11 +55,11 @@ abbrev pub Carries : List ℕ → (last next : ℕ) → (old new : LoopState) �
 Carries times last next old new cells longer =
     (start : LoopStart) (before : CellsState) → IsAppended start times last old before cells → IsAppended start times next new before longer
 
--- behind the counts of the window stand those of so many transitions, all short
+-- after the counts of the window stand those of so many transitions, all short
 abbrev pub AreGuessed : (most : ℕ) → List ℕ → Type 0
 AreGuessed most counts = All IsShortRun (take most (drop INTERVALS counts))
 
--- the cells with some runs behind them
+-- the cells with some runs after them
 abbrev pub with_runs : CellsState → List ℕ → CellsState
 with_runs cells counts = record { cells = cells.cells ++ flat_map run_cells counts; spare = cells.spare }
 
@@ -78,7 +78,7 @@ pub record IsStretch (times : List ℕ) (last next : ℕ) (state : LoopState) (s
   pub short : length longer.cells ≤ LONGEST * next + 1
   pub keeps : room cells ≤ room longer
 
--- the stand behind so many transitions of a stretch, whatever cells the loop's are and the stretch's runs stand behind
+-- the stand after so many transitions of a stretch, whatever cells the loop's are and the stretch's runs stand after
 abbrev pub TakesRuns : List ℕ → (last taken : ℕ) → LoopState → Stand → List ℕ → Type 0
 TakesRuns times last taken state stand counts = (cells : CellsState) → length cells.cells ≤ LONGEST * last + 1
     → IsStretch times last (last + taken) state stand (drop taken (take (INTERVALS + taken) counts)) cells (with_runs cells (take taken (drop INTERVALS counts)))

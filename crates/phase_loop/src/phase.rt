@@ -79,7 +79,7 @@ impl Loop {
 
     /// Takes the next transition, at `time` ticks, and gives the count of cells since the one before, 1 to 32.
     ///
-    /// The loop holds the rule's values at the last of the times so far; with this time behind them the rule
+    /// The loop holds the rule's values at the last of the times so far; with this time after them the rule
     /// gives one count more, which is the answer, and the loop holds its values there.
     pub fn step(&mut self, time: u64) -> u8
         requires later { self.old.fine ≤ 1024 * time }

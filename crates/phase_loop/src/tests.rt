@@ -92,7 +92,7 @@ fn noisy_times(alloc: Global, count: usize, noise: u64) -> Result<Vec<u64>, Memo
     Ok(times)
 }
 
-/// So many times, each as far behind the one before, the first of them 0.
+/// So many times, each as far after the one before, the first of them 0.
 fn even_times(alloc: Global, count: u64, way: u64) -> Result<Vec<u64>, Memory>
     requires { count * way ≤ 2 ^ 39 }
 {
@@ -103,7 +103,7 @@ fn even_times(alloc: Global, count: u64, way: u64) -> Result<Vec<u64>, Memory>
     Ok(times)
 }
 
-/// Appends so many times, each as far behind the one before.
+/// Appends so many times, each as far after the one before.
 fn append_even(times: &mut Vec<u64>, count: u64, way: u64) -> Result<(), Memory> {
     for _number in 0..count {
         let last = times.last().copied().unwrap_or(0);
@@ -113,7 +113,7 @@ fn append_even(times: &mut Vec<u64>, count: u64, way: u64) -> Result<(), Memory>
 }
 
 // 1546 ticks are 32.2 cells of 48. The place is then the mean of 32 cells and the time, so that the 68 ticks
-// behind it are 1.6 cells. 1594 ticks are 33.2 cells: there the loop starts anew, and 68 ticks are 1.4 cells.
+// after it are 1.6 cells. 1594 ticks are 33.2 cells: there the loop starts anew, and 68 ticks are 1.4 cells.
 #[test]
 fn counts_steps(rt: HostRuntime) -> Result<(), Memory> {
     let mut bench = Loop::new(rt.alloc())?;
@@ -132,7 +132,7 @@ fn recovers_few_cells(rt: HostRuntime) -> Result<(), Memory> {
     assert!(rt; gives(rt.alloc(), EVEN, &[48, 1642, 1710], &[32, 1])?);
 
     // In fine units the places are 0, then 95346 / 2 = 47673, then 188075 / 2 = 94037 and a half, rounded
-    // down: the last time, 167936, lies 1.5 periods behind it to the unit, and would not if it were rounded up.
+    // down: the last time, 167936, lies 1.5 periods after it to the unit, and would not if it were rounded up.
     let start = LoopStart {
         nominal: 49152,
         first: 49266,
@@ -183,7 +183,7 @@ fn forgets_at_a_restart(rt: HostRuntime) -> Result<(), Memory> {
     Ok(())
 }
 
-// The period falls from 48 ticks to the mean of 64 intervals of 40, behind which 70 ticks are (2 * 69.75 + 40) / 80
+// The period falls from 48 ticks to the mean of 64 intervals of 40, after which 70 ticks are (2 * 69.75 + 40) / 80
 // = 2.2 periods, and less than one and a half of 48. The place is a quarter of a tick ahead by then.
 #[test]
 fn follows_a_faster_track(rt: HostRuntime) -> Result<(), Memory> {

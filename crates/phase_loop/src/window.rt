@@ -146,7 +146,7 @@ impl Window {
     }
 }
 
-/// Puts the counts of intervals at a place and behind it.
+/// Puts the counts of intervals at a place and after it.
 fn put_counts_of(intervals: &[Interval], counts: &mut [u8], from: usize)
     requires room { from + length intervals.now ≤ length counts.old }
     requires short { All IsShort intervals.now }

@@ -48,7 +48,7 @@ pub fn track_place(format: Format, track: TrackId) -> u32
     ensures place { result ≡ place_of format track }
     ensures within { result + bytes_of format track ≤ (row format).image_size }
 
-    // Behind a number of whole tracks stands the track of that number.
+    // After a number of whole tracks stands the track of that number.
     ensures joined { (number : ℕ) → slice_get (tracks format) number ≡ Some track
         → result ≡ sum_by (bytes_of format) (take number (tracks format)) }
 {

@@ -14,7 +14,7 @@ stretch ring from (suc count) = cell_of ring from ∷ stretch ring (from + 1) co
 abbrev pub last_in : List ℕ → ℕ
 last_in xs = slice_index xs (length xs - 1)
 
--- a one stands at a place, the next one a distance behind it, and none between them
+-- a one stands at a place, the next one a distance after it, and none between them
 pub record AreNeighbours (ring : List Bool) (place distance : ℕ) : Type 0 where
   pub first : cell_of ring place ≡ true
   pub next : cell_of ring (place + distance) ≡ true

@@ -116,7 +116,7 @@ pub fn decode_first(
 }
 
 impl Decoded {
-    /// The line of the sector with this number, from 0, begins so behind its name.
+    /// The line of the sector with this number, from 0, begins so after its name.
     pub fn says(&self, number: usize, text: &[u8]) -> bool {
         let notes = self.notes.bytes();
         let line = notes.get(first_lines(notes, number).len()..);

@@ -39,8 +39,8 @@ fn ring(
     Ok(ring_of(alloc, &IbmMfm { sectors }, track, content)?)
 }
 
-// The mark of sector 1's data stands 752 cells behind its header's place 2528: behind the header, a gap of 22 + 12 bytes
-// and three marks. Behind the last bit of A1, which is a one, FB has the cells 5545 and FE the cells 5554.
+// The mark of sector 1's data stands 752 cells after its header's place 2528: after the header, a gap of 22 + 12 bytes
+// and three marks. After the last bit of A1, which is a one, FB has the cells 5545 and FE the cells 5554.
 #[test]
 fn a_wrong_data_mark(rt: HostRuntime) -> Result<(), Fail> {
     let alloc = rt.alloc();

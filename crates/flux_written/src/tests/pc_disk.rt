@@ -11,8 +11,8 @@ use std::test::Fail;
 /// The bytes of a track's part of the image.
 const PART: usize = 4608;
 
-/// The lines of each track, behind its name. A stream has the ring's last quarter, three turns and the first quarter. The
-/// first transition lies one cell behind its begin, so that a sector stands one cell before its place in what is written.
+/// The lines of each track, after its name. A stream has the ring's last quarter, three turns and the first quarter. The
+/// first transition lies one cell after its begin, so that a sector stands one cell before its place in what is written.
 /// Sector 3's last header stands whole in the closing quarter and its data do not.
 const LINES: [&str; 9] = [
     "01 good 4 0 1 27527",
@@ -146,7 +146,7 @@ fn one_of_the_first_writes_fails(rt: HostRuntime) -> Result<(), Fail> {
     Ok(())
 }
 
-// Behind the first stream stand an in-stream block and a block of the type 00.
+// After the first stream stand an in-stream block and a block of the type 00.
 #[test]
 fn the_second_stream_is_refused(rt: HostRuntime) -> Result<(), Fail> {
     let alloc = rt.alloc();

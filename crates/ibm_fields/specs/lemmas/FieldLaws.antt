@@ -1,4 +1,4 @@
--- What is read behind a part of known length, and bytes in a row.
+-- What is read after a part of known length, and bytes in a row.
 use Rattle.std.specs.Prelude.{◌≡◌, ℕ, zero, suc, ◌+◌, ◌*◌, ◌/◌, ◌%◌, Bool, List, [], ◌∷◌, ◌++◌, length, take, refl}
 use Rattle.std.proofs.Common.{ap, ◌∙◌, arith, add-one}
 use Rattle.cell_bits.specs.Bytes.{data_byte, data_cells}

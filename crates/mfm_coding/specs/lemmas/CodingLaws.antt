@@ -8,7 +8,7 @@ use Rattle.mfm_coding.specs.declared.symbol.Symbol.{Symbol}
 use Rattle.mfm_coding.specs.declared.symbol.Symbol.TheVariants.{Data, SyncMark, IndexMark}
 use Rattle.mfm_coding.specs.Coding.{coded, low_bit, symbol_cells}
 
--- the last data bit behind all of them
+-- the last data bit after all of them
 abbrev pub last_bit : Bool → List Symbol → Bool
 last_bit before [] = before
 last_bit before (symbol ∷ symbols) = last_bit (low_bit symbol) symbols
@@ -52,7 +52,7 @@ coded-append before (symbol ∷ xs) ys =
     ap (λ (cells : List Bool). symbol_cells before symbol ++ cells) (coded-append (low_bit symbol) xs ys)
     ∙ sym (append_assoc (symbol_cells before symbol) (coded (low_bit symbol) xs) (coded (last_bit (low_bit symbol) xs) ys))
 
--- a part, what is before it, and what is behind it
+-- a part, what is before it, and what is after it
 pub coded-parts : (before part behind : List Symbol)
     → coded false (before ++ (part ++ behind))
     ≡ coded false before ++ (coded (last_bit false before) part ++ coded (last_bit (last_bit false before) part) behind)

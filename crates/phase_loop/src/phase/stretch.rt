@@ -15,10 +15,10 @@ use crate::window::{INTERVALS, Interval, STRETCH, Totals};
 use cell_bits::Cells;
 use flux_base::Memory;
 
-/// A stretch of fewer transitions is short: what is done before and behind it takes longer than it saves.
+/// A stretch of fewer transitions is short: what is done before and after it takes longer than it saves.
 const SHORT_STRETCH: usize = 128;
 
-/// How many transitions no stretch is tried behind a short one.
+/// How many transitions no stretch is tried after a short one.
 const PAUSE: usize = 256;
 
 /// What a step of a loop with a full window changes, without the intervals: few enough numbers to stay in the
@@ -78,7 +78,7 @@ impl Loop {
         Ok(next)
     }
 
-    /// The stretch of `follow`. The first of `counts` are those of the window, and the stretch puts its own behind
+    /// The stretch of `follow`. The first of `counts` are those of the window, and the stretch puts its own after
     /// them.
     fn stretch(
         &self,

@@ -1,4 +1,4 @@
--- The gap behind a header: words that stand nowhere in it, which computation shows whatever comes behind it, and what stands first.
+-- The gap after a header: words that stand nowhere in it, which computation shows whatever comes after it, and what stands first.
 use Rattle.std.specs.Prelude.{◌≡◌, ℕ, zero, suc, ◌+◌, ◌-◌, ◌<◌, ◌≤◌, Bool, true, false, not, ◌&&◌, List, [], ◌∷◌, ◌++◌, length, take, drop, refl}
 use Rattle.std.proofs.Common.{ap, sym, ◌∙◌, arith, inl, inr}
 use Rattle.cell_bits.specs.Word.{Stands, word_cells}
@@ -50,7 +50,7 @@ free-nowhere word (suc count) (cell ∷ cells) zero some free within same =
 free-nowhere word (suc count) (cell ∷ cells) (suc place) some free within same =
     free-nowhere word count cells place some (second_true (not (begins word (cell ∷ cells))) (free_of word count cells) free) (omega arith) same
 
--- so the word stands nowhere there, also where the gap begins behind other cells
+-- so the word stands nowhere there, also where the gap begins after other cells
 pub gap-free : (value size count : ℕ) (front gap : List Bool) (begin place : ℕ) → 1 ≤ size → free_of (word_cells size value) count gap ≡ true
     → length front ≡ begin → begin ≤ place → place < begin + count → ¬ Stands (front ++ gap) value size place
 gap-free value size count front gap begin place some free is above below stands =

@@ -1,4 +1,4 @@
--- What stands at the front of cells, and behind a part of known length.
+-- What stands at the front of cells, and after a part of known length.
 use Rattle.std.specs.Prelude.{◌≡◌, ℕ, ◌+◌, Bool, List, ◌++◌, length, take, drop}
 use Rattle.std.proofs.Common.{ap, sym, ◌∙◌}
 use Rattle.std.proofs.Math.Seq.{drop-append-add, take-append_seam}

@@ -6,7 +6,7 @@ use Rattle.std.proofs.lemmas.List.{get_or-drop}
 use Rattle.std.proofs.lemmas.List.Concat.{flat_map-append}
 use Rattle.track_rings.specs.Rings.{bytes_of, AreBytes}
 
--- numbers up to one of them, it, and those behind it
+-- numbers up to one of them, it, and those after it
 range-parts : (first before behind : ℕ)
     → range_with_len first (before + suc behind) ≡ range_with_len first before ++ (first + before) ∷ range_with_len (first + before + 1) behind
 range-parts first zero behind =
@@ -21,7 +21,7 @@ range-parts first (suc before) behind =
     (range-parts (first + 1) before behind
     ∙ ap (λ (number : ℕ). range_with_len (first + 1) before ++ number ∷ range_with_len (number + 1) behind) n)
 
--- what is written of a track's sectors: of those before one of them, of it, and of those behind it
+-- what is written of a track's sectors: of those before one of them, of it, and of those after it
 pub sectors-parts : {X : Type 0} (f : ℕ → List X) (first sectors sector before behind : ℕ) → first + before ≡ sector → before + suc behind ≡ sectors
     → flat_map f (range_with_len first sectors)
     ≡ flat_map f (range_with_len first before) ++ (f sector ++ flat_map f (range_with_len (sector + 1) behind))

@@ -42,14 +42,14 @@ zeros-unbroken count cells from to few none place above below zeros =
     sym (get_or-drop place cells k false) ∙ sym (get_or-take 8 (drop place cells) k false low)
     ∙ ap (λ (eight : List Bool). get_or eight k false) zeros ∙ get_or-replicate 8 k false false low)
 
--- unbroken cells are so whatever comes behind them
+-- unbroken cells are so whatever comes after them
 pub unbroken-front : (xs ys : List Bool) (count : ℕ) → Unbroken xs 0 count → count ≤ length xs → Unbroken (xs ++ ys) 0 count
 unbroken-front xs ys count whole size place above below zeros =
     let short : place ≤ length xs = omega (arith, size, below) in
     let fits : 8 ≤ length (drop place xs) = omega (arith, length-drop place xs, size, below) in
     whole place above below (sym (ap (take 8) (drop-append-le place xs ys short) ∙ take-append-le 8 (drop place xs) ys fits) ∙ zeros)
 
--- a cell of the repeated ring, in two rings one behind the other
+-- a cell of the repeated ring, in two rings one after the other
 cell-twice : (ring : List Bool) (place : ℕ) → place < length ring + length ring → get_or (ring ++ ring) place false ≡ cell_of ring place
 cell-twice ring place within =
     elim (cases_lt place (length ring)) [
