@@ -1,15 +1,14 @@
 -- What `from-g64` does by what the reading of the file says.
-use Rattle.std.proofs.Common.{◌≡◌, ◌==◌, ◌≤◌, ◌<◌, ◌+◌, ℕ, Bool, true, false, if◌then◌else◌, nat_lt, inl, inr, List, [], ◌++◌, drop, length, length-append, take, Option, Some, None, Ok, Err, refl, sym, ap, ◌∙◌, subst, arith, append-nil}
+use Rattle.std.proofs.Common.{◌≡◌, ◌==◌, ◌≤◌, ◌<◌, ◌+◌, ℕ, Bool, true, false, if◌then◌else◌, inl, inr, List, [], ◌++◌, drop, length, length-append, take, Option, Some, None, Ok, Err, refl, sym, ap, ◌∙◌, subst, arith, append-nil}
 use Rattle.std.proofs.KnownBytes.{Appends-nil, Keeps-refl}
 use Rattle.std.proofs.lemmas.Bool.{cases_lt, lt-ltb}
 use Rattle.std.proofs.lemmas.List.{drop_all}
 use Rattle.std.proofs.Math.Seq.{drop-append_seam}
-use Rattle.std.specs.Io.KnownBytes.{Appends, Consumes, IsAtEnd, Keeps}
+use Rattle.std.specs.Io.KnownBytes.{Appends, IsAtEnd, Keeps}
 use Rattle.flux_base.specs.declared.status.Status.TheVariants.{AllGood, NotAllGood, Refused as RefusedStatus, ReadFault as ReadFaultStatus, ImageFault as ImageFaultStatus, NotesFault as NotesFaultStatus}
-use Rattle.flux_engine.specs.Disks.{no_totals}
 use Rattle.flux_engine.specs.Needed.{ReadsUpTo, ReadsWhereOpen}
 use Rattle.g64_image.specs.Answers.{IsTakenFile, IsWholeFile, ReadsFile, StoppedInImage}
-use Rattle.g64_image.specs.Faults.{MOST_BYTES, first_fault, or_else, table_fault, tracks_fault}
+use Rattle.g64_image.specs.Faults.{MOST_BYTES, first_fault, table_fault}
 use Rattle.g64_image.specs.FileDisks.{FileDisk, IsFileDisk, file_disk_of, read_count}
 use Rattle.g64_image.specs.Lines.{g64_text}
 use Rattle.g64_image.specs.declared.fault.FromStop.TheVariants.{ReadFault, ImageFault, NotesFault, Refused}
@@ -22,7 +21,7 @@ use Rattle.flux_cli.specs.DisksWork.{status_of}
 use Rattle.flux_cli.specs.G64Disks.{format_of}
 use Rattle.flux_cli.specs.G64Work.{CutInFileReport, IsWholeInput, file_refusal, file_status, from_g64_leaves, from_g64_outcome, from_g64_work}
 use Rattle.flux_cli.specs.Runs.{Does, Finished, IsCut, NoCountFell, Outside, WasReadWhereNeeded, growth}
-use Rattle.flux_cli.specs.Work.{Got, GotPart}
+use Rattle.flux_cli.specs.Work.{Got}
 use Rattle.flux_cli.specs.declared.command.Command.TheVariants.{FromG64}
 use Rattle.flux_cli.specs.declared.g64_disk.G64Disk.{G64Disk}
 use Rattle.flux_cli.proofs.Inputs.{rest}

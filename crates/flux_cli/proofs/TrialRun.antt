@@ -1,6 +1,5 @@
 -- What `trial` does by what the trial says.
-use Rattle.std.proofs.Common.{ℕ, List, [], Option, refl}
-use Rattle.std.proofs.KnownBytes.{Consumes-nil}
+use Rattle.std.proofs.Common.{ℕ, List, [], refl}
 use Rattle.flux_base.specs.declared.status.Status.TheVariants.{AllGood, ImageFault}
 use Rattle.flux_trial.specs.Tracks.{IsTrialLine}
 use Rattle.sector_images.specs.declared.format.Format.{Format}

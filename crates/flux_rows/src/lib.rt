@@ -11,11 +11,11 @@ mod streams;
 mod text;
 
 pub use disk::{
-    AMIGA, APPLE_DO, APPLE_PO, C1541, C1541_40, Disk, IBM_360, IBM_720, IBM_1440, IBM_3740, CylinderZone,
-    Zones,
+    AMIGA, APPLE_DO, APPLE_PO, C1541, C1541_40, CylinderZone, Disk, IBM_360, IBM_720, IBM_1440,
+    IBM_3740, Zones,
 };
 pub use dump::{Dump, short_dump};
-pub use runs::{Mismatch, RunPart, Run, Want, comes_to, decode, gives, report, turns};
+pub use runs::{Mismatch, Run, RunPart, Want, comes_to, decode, gives, report, turns};
 pub use streams::{SHORT, content_of, ring_of, short_streams, three_rings, with_word};
 pub use text::{first_bytes, first_lines, first_lines_and, with_line};
 

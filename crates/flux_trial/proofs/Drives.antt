@@ -1,10 +1,9 @@
 -- A head has what the definitions of its drive say.
-use Rattle.std.proofs.Common.{◌≡◌, ◌≤◌, ◌<◌, ◌+◌, ◌-◌, ◌*◌, ◌/◌, ◌%◌, ◌++◌, ℕ, zero, suc, Bool, true, false, cond, not, List, [], ◌∷◌, All, length, map, filter, ap, refl, ◌∙◌, sym, subst, arith, append_assoc, append-nil, length-append}
+use Rattle.std.proofs.Common.{◌≡◌, ◌≤◌, ◌<◌, ◌+◌, ◌-◌, ◌*◌, ◌%◌, ◌++◌, ℕ, zero, suc, Bool, true, false, cond, not, List, [], ◌∷◌, length, map, filter, ap, refl, ◌∙◌, sym, subst, arith, append_assoc, append-nil, length-append}
 use Rattle.std.specs.List.{list_any, range_with_len}
 use Rattle.std.specs.Prelude.{slice_index, nat_eq, ◌||◌}
 use Rattle.std.proofs.lemmas.List.{get_or_append_left, map-append}
 use Rattle.std.proofs.lemmas.List.Elements.{filter-append}
-use Rattle.std.proofs.lemmas.List.FromFn.{length-range_with_len}
 use Rattle.std.proofs.Math.Nat.{mod-add-mod}
 use Rattle.std.proofs.Math.Seq.{get_or-append_seam}
 use Rattle.track_rings.specs.Rings.{last_in}
@@ -13,7 +12,7 @@ use Rattle.flux_trial.specs.Hole.{hole_begin, hole_cells, is_lost, ring_cell}
 use Rattle.flux_trial.specs.Times.{is_seen, times_seen}
 use Rattle.flux_trial.specs.declared.head.Head.{Head}
 use Rattle.flux_trial.specs.declared.hole.Hole.{Hole}
-use Rattle.flux_trial.specs.inside.Heads.{IsAt, IsHole, IsSound, in_hole, passed, passed_all, seen_time, seen_times, started, time_at}
+use Rattle.flux_trial.specs.inside.Heads.{IsAt, IsHole, in_hole, passed, passed_all, seen_time, seen_times, started, time_at}
 
 -- the last of a list with one more
 pub last-snoc : (ks : List ℕ) (k : ℕ) → last_in (ks ++ k ∷ []) ≡ k

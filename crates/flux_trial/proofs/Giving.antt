@@ -1,10 +1,9 @@
 -- A source gives the streams of a trial's tracks, one after another.
-use Rattle.std.proofs.Common.{◌≡◌, ◌≤◌, ◌<◌, ◌+◌, ◌-◌, ◌++◌, ℕ, zero, suc, Bool, List, [], ◌∷◌, length, take, drop, flat_map, min, refl, ap, sym, subst, ◌∙◌, arith, append-nil, append_assoc, length-append, length-drop}
-use Rattle.std.specs.Prelude.{Option, Some, slice_get}
+use Rattle.std.proofs.Common.{◌≡◌, ◌≤◌, ◌<◌, ◌+◌, ◌-◌, ◌++◌, ℕ, suc, Bool, List, [], ◌∷◌, length, take, drop, flat_map, min, refl, ap, sym, ◌∙◌, arith, append_assoc, length-append, length-drop}
+use Rattle.std.specs.Prelude.{Some, slice_get}
 use Rattle.std.specs.List.{range_with_len}
 use Rattle.std.proofs.lemmas.List.{drop_all, take-append-drop}
 use Rattle.flux_base.specs.declared.track.TrackId.{TrackId}
-use Rattle.flux_engine.specs.Recordings.{track_at}
 use Rattle.flux_engine.specs.Rings.{nominal_of, ring_of}
 use Rattle.flux_writer.specs.Written.{in_stream_before, stream_of_times, transition_blocks}
 use Rattle.kryo_stream.specs.Sequence.{spellings}

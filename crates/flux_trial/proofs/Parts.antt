@@ -1,7 +1,7 @@
 -- The cells of a ring that pass, part by part.
-use Rattle.std.proofs.Common.{◌≡◌, ◌≤◌, ◌<◌, ◌+◌, ◌-◌, ◌*◌, ◌/◌, ◌++◌, ℕ, zero, suc, Bool, List, [], ◌∷◌, All, length, take, drop, refl, ap, sym, ◌∙◌, arith, append_assoc, length-append, length-drop}
+use Rattle.std.proofs.Common.{◌≡◌, ◌≤◌, ◌<◌, ◌+◌, ◌-◌, ◌*◌, ◌++◌, ℕ, zero, suc, Bool, List, All, length, take, refl, ap, sym, ◌∙◌, arith, append_assoc, length-append, length-drop}
 use Rattle.std.proofs.lemmas.List.{take_all}
-use Rattle.flux_writer.specs.Written.{ones_of, quarter, track_cells, track_turns}
+use Rattle.flux_writer.specs.Written.{ones_of, quarter, track_cells}
 use Rattle.flux_trial.specs.inside.Heads.{ones_between, ones_from}
 use Rattle.flux_trial.specs.inside.Turning.{cells_after, ones_after, turn_cell}
 use Rattle.flux_trial.proofs.Ones.{Rises, ones_from-append, ones_of-is, ones_rise, ones_within}

@@ -1,18 +1,11 @@
 -- A head that passes over several transitions.
-use Rattle.std.proofs.Common.{◌≡◌, ◌≤◌, ◌<◌, ◌+◌, ◌-◌, ◌*◌, ◌/◌, ◌%◌, ◌++◌, All, ℕ, zero, suc, Bool, true, false, cond, not, List, [], ◌∷◌, length, map, filter, ap, refl, ◌∙◌, sym, subst, arith, append_assoc, append-nil, length-append}
-use Rattle.std.specs.List.{range_with_len}
-use Rattle.std.specs.Prelude.{slice_index}
-use Rattle.std.proofs.lemmas.List.{get_or_append_left, map-append}
-use Rattle.std.proofs.lemmas.List.Elements.{filter-append}
+use Rattle.std.proofs.Common.{◌≡◌, ◌≤◌, ◌<◌, ◌+◌, ◌-◌, ◌*◌, ◌/◌, ◌%◌, ◌++◌, All, ℕ, List, [], ◌∷◌, ap, refl, ◌∙◌, sym, arith, append_assoc, append-nil}
 use Rattle.std.proofs.Math.Nat.{add-mul-mod_self_right, mod-eq_of_lt, mul-le-mul_left, mul-le-mul_right}
-use Rattle.std.proofs.Math.Seq.{get_or-append_seam}
-use Rattle.track_rings.specs.Rings.{last_in}
-use Rattle.flux_trial.specs.Drive.{Drive, base, chance, displaced, drifted, ideal, most_drift, most_way, period, time_of}
-use Rattle.flux_trial.specs.Hole.{is_lost, ring_cell}
-use Rattle.flux_trial.specs.Times.{is_seen, times_seen}
+use Rattle.flux_trial.specs.Drive.{ideal, most_way, period}
+use Rattle.flux_trial.specs.Hole.{ring_cell}
 use Rattle.flux_trial.specs.declared.head.Head.{Head}
 use Rattle.flux_trial.specs.declared.hole.Hole.{Hole}
-use Rattle.flux_trial.specs.inside.Heads.{AreBefore, IsAt, IsSound, passed, passed_all, reach, seen_time, seen_times, started, time_at, MOST_CELLS, LONGEST_CELL}
+use Rattle.flux_trial.specs.inside.Heads.{AreBefore, IsSound, passed, passed_all, reach, seen_time, seen_times}
 
 pub passed_all-append : (head : Head) (xs ys : List ℕ) → passed_all head (xs ++ ys) ≡ passed_all (passed_all head xs) ys
 passed_all-append head [] ys = refl

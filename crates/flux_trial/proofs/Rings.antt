@@ -1,5 +1,5 @@
 -- The rings of a trial's tracks, and the streams that its drive gives of them.
-use Rattle.std.proofs.Common.{◌≡◌, ◌≤◌, ◌<◌, ◌+◌, ◌-◌, ◌*◌, ◌/◌, ◌%◌, ◌++◌, ℕ, zero, suc, Bool, true, false, cond, List, [], ◌∷◌, All, length, get_or, refl, ap, sym, subst, ◌∙◌, arith, inl, inr}
+use Rattle.std.proofs.Common.{◌≡◌, ◌≤◌, ◌<◌, ◌+◌, ◌-◌, ◌*◌, ◌/◌, ℕ, Bool, true, false, cond, List, length, get_or, ap, sym, subst, arith}
 use Rattle.std.specs.Prelude.{map, nat_lt, slice_get, unwrap_or, Option, Some}
 use Rattle.std.specs.List.{range_with_len}
 use Rattle.std.proofs.lemmas.List.FromFn.{get_or-map-range_with_len, length-map-range_with_len}
@@ -8,19 +8,17 @@ use Rattle.cell_bits.specs.State.{CellsState, room}
 use Rattle.flux_base.specs.declared.track.TrackId.{TrackId}
 use Rattle.flux_engine.specs.Captures.{ImagesHaveRings}
 use Rattle.flux_engine.specs.Recordings.{track_at}
-use Rattle.flux_engine.specs.Rings.{HasRoomForRings, IsImage, IsRing, nominal_of, ring_cells_of, ring_of}
-use Rattle.flux_writer.specs.Written.{stream_of_times}
+use Rattle.flux_engine.specs.Rings.{HasRoomForRings, IsImage, IsRing, ring_cells_of}
 use Rattle.kryo_stream.specs.Sequence.{IsStreamOf}
 use Rattle.sector_images.specs.Formats.{Zone, commodore_zone, fine_units, row, zone}
 use Rattle.sector_images.specs.Places.{IsTrack, NumbersNameTracks, TracksKeepBounds, tracks}
 use Rattle.sector_images.specs.declared.format.Format.{Format}
 use Rattle.sector_images.specs.declared.format.Format.TheVariants.{Ibm3740, Ibm360, Ibm720, Ibm1440, Amiga, C1541, C1541Forty, AppleDo, ApplePo}
-use Rattle.flux_trial.specs.Drive.{Drive}
 use Rattle.flux_trial.specs.Image.{image_byte, trial_image}
 use Rattle.flux_trial.specs.Times.{IsTrialRing, trial_indexes, trial_times}
 use Rattle.flux_trial.specs.Tracks.{drive_at, trial_ring, trial_stream}
 use Rattle.flux_trial.proofs.Sound.{IsUsual}
-use Rattle.flux_trial.proofs.Streams.{WrittenIsRead, WrittenIsShort, stream-read, stream-short}
+use Rattle.flux_trial.proofs.Streams.{WrittenIsRead, WrittenIsShort, stream-read}
 
 zones-long : (a b c : Bool) (p q r s : Zone) → 32768 ≤ p.ring_cells → 32768 ≤ q.ring_cells → 32768 ≤ r.ring_cells → 32768 ≤ s.ring_cells
     → 32768 ≤ (cond {A = Zone} a p (cond {A = Zone} b q (cond {A = Zone} c r s))).ring_cells

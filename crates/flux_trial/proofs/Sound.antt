@@ -1,15 +1,15 @@
 -- A head keeps to its bounds over all transitions, and the times of those that are seen are in order.
-use Rattle.std.proofs.Common.{◌≡◌, ◌≤◌, ◌<◌, ◌+◌, ◌-◌, ◌*◌, ◌/◌, ◌%◌, ◌++◌, ◌&&◌, ℕ, zero, suc, Bool, true, false, cond, List, [], ◌∷◌, All, length, get_or, refl, ap, sym, subst, ◌∙◌, arith, inl, inr, length-append}
+use Rattle.std.proofs.Common.{◌≡◌, ◌≤◌, ◌<◌, ◌+◌, ◌-◌, ◌*◌, ◌/◌, ◌%◌, ◌++◌, ◌&&◌, ℕ, zero, suc, Bool, true, false, cond, List, [], ◌∷◌, All, length, get_or, refl, ap, sym, ◌∙◌, arith, length-append}
 use Rattle.std.specs.Prelude.{nat_le}
 use Rattle.std.specs.List.Sorted.{IsNonDecreasing}
 use Rattle.std.proofs.lemmas.Bool.{leb-true}
 use Rattle.std.proofs.lemmas.List.Elements.{All-append, All-cons, All-nil, All-weaker}
-use Rattle.std.proofs.Math.Nat.{mod-lt, mul-le-mul, mul-le-mul_left, mul-le-mul_right}
-use Rattle.flux_trial.specs.Drive.{Drive, base, drifted, most_drift, most_way}
+use Rattle.std.proofs.Math.Nat.{mod-lt, mul-le-mul_left, mul-le-mul_right}
+use Rattle.flux_trial.specs.Drive.{Drive, base, most_drift, most_way}
 use Rattle.flux_trial.specs.Hole.{ring_cell}
 use Rattle.flux_trial.specs.declared.head.Head.{Head}
 use Rattle.flux_trial.specs.declared.hole.Hole.{Hole}
-use Rattle.flux_trial.specs.inside.Heads.{IsSound, in_hole, next_chance, passed, passed_all, reach, seen_time, seen_times, started, time_at, LONGEST_CELL, MOST_CELLS}
+use Rattle.flux_trial.specs.inside.Heads.{IsSound, in_hole, passed, passed_all, reach, seen_time, seen_times, started, time_at, LONGEST_CELL, MOST_CELLS}
 use Rattle.flux_trial.proofs.Passing.{passed-later, reach-later}
 
 -- the nominal cells of which a drive is made up

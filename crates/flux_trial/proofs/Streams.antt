@@ -1,13 +1,12 @@
 -- What a drive gives of a ring is written as one stream without a fault.
-use Rattle.std.proofs.Common.{◌≡◌, ◌≤◌, ◌<◌, ◌⊎◌, ◌+◌, ◌-◌, ◌*◌, ◌/◌, ◌%◌, ◌++◌, ℕ, zero, suc, Bool, true, false, cond, List, [], ◌∷◌, All, length, map, take, drop, get_or, nat_lt, refl, ap, sym, subst, ◌∙◌, arith, inl, inr, length-append, length-drop}
-use Rattle.std.specs.Prelude.{slice_index}
+use Rattle.std.proofs.Common.{◌≡◌, ◌≤◌, ◌<◌, ◌+◌, ◌-◌, ◌*◌, ◌/◌, ◌%◌, ◌++◌, ℕ, zero, suc, Bool, true, false, cond, List, [], ◌∷◌, All, length, take, drop, get_or, refl, ap, sym, subst, ◌∙◌, arith, inl, inr, length-append}
 use Rattle.std.specs.List.Sorted.{IsNonDecreasing, IsStrictlyIncreasing}
 use Rattle.std.proofs.lemmas.Bool.{cases_lt, le-ltb, ltb-true}
 use Rattle.std.proofs.lemmas.List.{get_or-append_right, get_or-drop, get_or-take, length-take-le, take_all}
-use Rattle.std.proofs.lemmas.List.Elements.{All-append, All-head, All-tail, All-weaker}
+use Rattle.std.proofs.lemmas.List.Elements.{All-head, All-tail, All-weaker}
 use Rattle.std.proofs.Math.Nat.{mod-lt, mul-le-mul_right}
 use Rattle.flux_writer.specs.Reading.{EndsWithTransition, IsStreamOf}
-use Rattle.flux_writer.specs.Written.{ones_of, quarter, stream_of_times, track_cells, track_turns}
+use Rattle.flux_writer.specs.Written.{ones_of, quarter, stream_of_times, track_cells}
 use Rattle.track_rings.specs.Rings.{cell_of, last_in}
 use Rattle.flux_trial.specs.Drive.{Drive, index_time}
 use Rattle.flux_trial.specs.Hole.{hole_begin, hole_cells, ring_cell}
@@ -18,10 +17,10 @@ use Rattle.flux_trial.specs.inside.Heads.{FitsRing, IsAt, IsHole, IsSound, in_ho
 use Rattle.flux_trial.specs.inside.Turning.{cells_after, ones_after, turn_cell}
 use Rattle.flux_trial.proofs.Drives.{passed_all-at, started-at, times_seen-more, times_seen-one}
 use Rattle.flux_trial.proofs.Holes.{contains}
-use Rattle.flux_trial.proofs.Near.{one_near, own_cell, same_later}
+use Rattle.flux_trial.proofs.Near.{one_near, own_cell}
 use Rattle.flux_trial.proofs.Ones.{Rises, ones_of-is, ones_rise, ones_within}
 use Rattle.flux_trial.proofs.Parts.{length-cells_after, all_parts, ones-before, ones-end, ones-rest, ones-turn}
-use Rattle.flux_trial.proofs.Passing.{on_ring, passed-later, reach-later}
+use Rattle.flux_trial.proofs.Passing.{on_ring, reach-later}
 use Rattle.flux_trial.proofs.Sound.{Follows, IsUsual, LATEST, first-few, first-small, passed-sound, passed_all-sound, reach-all, seen-after, seen-first, seen-in-order, started-sound, time-late}
 use Rattle.flux_trial.proofs.Turns.{index-at}
 

@@ -1,5 +1,5 @@
 -- A drive turns over a ring, turn by turn.
-use Rattle.std.proofs.Common.{◌≡◌, ◌≤◌, ◌<◌, ◌+◌, ◌-◌, ◌*◌, ◌/◌, ◌++◌, ℕ, zero, suc, Bool, true, false, List, [], ◌∷◌, All, length, map, take, drop, get_or, refl, ap, sym, subst, ◌∙◌, arith, append-nil, length-drop}
+use Rattle.std.proofs.Common.{◌≡◌, ◌≤◌, ◌<◌, ◌+◌, ◌-◌, ◌*◌, ◌/◌, ◌++◌, ℕ, zero, suc, Bool, true, false, List, [], ◌∷◌, All, length, map, take, drop, get_or, refl, ap, sym, subst, ◌∙◌, arith, length-drop}
 use Rattle.std.proofs.lemmas.List.{map-append, take_all}
 use Rattle.cell_bits.specs.Search.{HasNoOne}
 use Rattle.flux_writer.specs.Written.{ones_of, quarter, track_cells, track_turns}

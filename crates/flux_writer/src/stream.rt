@@ -172,7 +172,11 @@ fn write_blocks<W: Sink>(piece: &mut OutputPiece, ticks: u64, sink: &mut W) -> R
 
 /// Writes the blocks of any interval: its overflows, and a flux value.
 #[inline(never)]
-fn write_any_blocks<W: Sink>(piece: &mut OutputPiece, ticks: u64, sink: &mut W) -> Result<(), Failed>
+fn write_any_blocks<W: Sink>(
+    piece: &mut OutputPiece,
+    ticks: u64,
+    sink: &mut W,
+) -> Result<(), Failed>
     requires few { ticks / 65536 < 2 ^ 32 }
     ensures ok { OnOk result (Gathers (W.written sink.old) (W.written sink.new) piece.old piece.new
         (spellings (interval_blocks ticks))) }

@@ -1,5 +1,5 @@
 -- What a cause says of an answer.
-use Rattle.std.specs.Prelude.{◌≡◌, ◌≤◌, ℕ, Result, Ok, Err}
+use Rattle.std.specs.Prelude.{ℕ, Ok, Err}
 use Rattle.std.proofs.Common.{arith}
 use Rattle.flux_engine.specs.Answers.{Stayed}
 use Rattle.g64_image.specs.Answers.{FromAnswer, FromCause, IsReadOrRefused}

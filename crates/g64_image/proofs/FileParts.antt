@@ -1,7 +1,7 @@
 -- The steps of reading a file.
-use Rattle.std.specs.Prelude.{◌≡◌, ◌≤◌, ◌<◌, ℕ, ◌+◌, List, [], ◌∷◌, ◌++◌, length, take, Option, Some, None, Ok, Err, refl}
-use Rattle.std.specs.Io.KnownBytes.{Appends, Consumes, IsAtEnd}
-use Rattle.std.proofs.Common.{ap, sym, subst, ◌∙◌, arith, inl, inr, append-nil}
+use Rattle.std.specs.Prelude.{◌≡◌, ◌<◌, ℕ, ◌+◌, List, [], ◌∷◌, ◌++◌, length, take, Option, Ok, Err, refl}
+use Rattle.std.specs.Io.KnownBytes.{Appends}
+use Rattle.std.proofs.Common.{ap, sym, subst, ◌∙◌, arith, inl, inr}
 use Rattle.std.proofs.KnownBytes.{Appends-nil, Appends-trans}
 use Rattle.std.proofs.lemmas.Bool.{cases_lt}
 use Rattle.std.proofs.lemmas.List.{length_push, get_or_append_left}
@@ -22,13 +22,13 @@ use Rattle.sector_report.specs.Lines.{total_text}
 use Rattle.sector_report.specs.declared.totals.Totals.{Totals}
 use Rattle.turn_merge.specs.Book.{Knowledge, StandsFor}
 use Rattle.turn_merge.specs.Readings.{NotedReading}
-use Rattle.g64_image.specs.Answers.{FromAnswer, IsWholeFile, SaysOfFile, StoppedInImage, StoppedInLines}
+use Rattle.g64_image.specs.Answers.{IsWholeFile, SaysOfFile}
 use Rattle.g64_image.specs.Faults.{first_fault}
-use Rattle.g64_image.specs.FileDisks.{AreFileParts, FileDisk, IsFilePart, file_disk_of, read_count}
+use Rattle.g64_image.specs.FileDisks.{AreFileParts, IsFilePart, file_disk_of, read_count}
 use Rattle.g64_image.specs.Gathering.{HasRingReadings}
 use Rattle.g64_image.specs.Layout.{track_cells}
 use Rattle.g64_image.specs.Progress.{HasRead, WasStopped}
-use Rattle.g64_image.specs.declared.fault.FromStop.TheVariants.{ImageFault as ImageStop, NotesFault as NotesStop}
+use Rattle.g64_image.specs.declared.fault.FromStop.TheVariants.{NotesFault as NotesStop}
 use Rattle.g64_image.specs.declared.fault.G64Fault.{G64Fault}
 
 no_part : TrackPart

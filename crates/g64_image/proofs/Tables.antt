@@ -1,5 +1,5 @@
 -- The tables of a file, entry by entry, and its tracks, one after another.
-use Rattle.std.specs.Prelude.{◌≡◌, ◌≤◌, ◌<◌, ℕ, zero, suc, replicate, ◌+◌, ◌-◌, ◌*◌, ◌/◌, List, [], ◌∷◌, ◌++◌, length, flat_map, filter_map, slice_get, Option, Some, None, Bool, refl}
+use Rattle.std.specs.Prelude.{◌≡◌, ◌≤◌, ◌<◌, ℕ, zero, suc, replicate, ◌+◌, ◌-◌, ◌/◌, List, [], ◌∷◌, ◌++◌, length, flat_map, filter_map, slice_get, Option, Some, None, Bool, refl}
 use Rattle.std.specs.List.{range_with_len}
 use Rattle.std.proofs.Common.{ap, sym, subst, ◌∙◌, arith, append_assoc, inl, inr}
 use Rattle.std.proofs.lemmas.Bool.{cases_lt}
@@ -8,7 +8,7 @@ use Rattle.byteorder.specs.Endian.{little_bytes}
 use Rattle.flux_engine.specs.lemmas.Pieces.{pieces-more, range-append, range-more}
 use Rattle.flux_engine.specs.Rings.{ring_cells_of}
 use Rattle.flux_engine.specs.Recordings.{track_at}
-use Rattle.sector_images.specs.Formats.{commodore_zone, zone}
+use Rattle.sector_images.specs.Formats.{commodore_zone}
 use Rattle.sector_images.specs.declared.format.Format.{Format}
 use Rattle.sector_images.specs.declared.format.Format.TheVariants.{C1541, C1541Forty}
 use Rattle.g64_image.specs.Faults.{first_fault, or_else, table_fault, track_fault, tracks_fault}

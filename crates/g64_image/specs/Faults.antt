@@ -1,5 +1,5 @@
 -- The first fault of a file, in the order in which they are looked at.
-use Rattle.std.specs.Prelude.{◌≤◌, ℕ, ◌+◌, ◌==◌, ◌||◌, not, List, length, drop, filter_map, nat_lt, slice_get, slice_index, take, if◌then◌else◌, Option, Some, None}
+use Rattle.std.specs.Prelude.{◌≤◌, ℕ, ◌+◌, ◌==◌, ◌||◌, not, List, length, filter_map, nat_lt, slice_get, slice_index, take, if◌then◌else◌, Option, Some, None}
 use Rattle.std.specs.List.{range_with_len}
 use Rattle.std.specs.Str.{bytes_eq}
 use Rattle.sector_images.specs.Places.{tracks}

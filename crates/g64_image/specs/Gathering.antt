@@ -1,5 +1,5 @@
 -- The readings of a track that is kept as a ring, gathered in a book.
-use Rattle.std.specs.Prelude.{◌≤◌, ℕ, ◌++◌, Bool, List, length}
+use Rattle.std.specs.Prelude.{◌≤◌, ℕ, ◌++◌, Bool, List}
 use Rattle.flux_base.specs.declared.track.TrackId.{TrackId}
 use Rattle.flux_engine.specs.Recordings.{sectors_of}
 use Rattle.flux_engine.specs.Tracks.{Found, part_of}

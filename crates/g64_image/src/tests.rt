@@ -15,6 +15,7 @@ struct Came {
 }
 
 const GOOD: &[u8] = b"total 683 good 683 bad 0 missing 0 contradictory 0\n";
+
 const NOTHING: &[u8] = b"total 683 good 0 bad 0 missing 683 contradictory 0\n";
 
 /// A disk of 35 tracks of bytes 5E, as a file.
@@ -81,7 +82,11 @@ fn an_image_as_a_file_and_back(rt: HostRuntime) -> Result<(), Fail> {
     assert!(rt; back.image.bytes().iter().all(|byte| *byte == 0x5E));
     assert!(rt; back.notes.bytes().starts_with(b"00.0 00 good 1 0 0 30\n"));
     assert!(rt; back.notes.bytes().ends_with(GOOD));
-    assert!(rt; back.notes.bytes().ends_with(b"34.0 16 good 1 0 0 47006\ntotal 683 good 683 bad 0 missing 0 contradictory 0\n"));
+    assert!(rt;
+        back.notes.bytes().ends_with(
+            b"34.0 16 good 1 0 0 47006\ntotal 683 good 683 bad 0 missing 0 contradictory 0\n"
+        )
+    );
     Ok(())
 }
 
@@ -132,7 +137,13 @@ fn reads_nothing(rt: &impl Abort, alloc: Global, file: Vec<u8>, what: &str) -> R
 fn files_with_a_wrong_header(rt: HostRuntime) -> Result<(), Fail> {
     let alloc = rt.alloc();
     let large = vec![in alloc; 0u8; 4194305]?;
-    refuses(&rt, alloc, large, G64Fault::TooLarge, "refused g64 TooLarge\n")?;
+    refuses(
+        &rt,
+        alloc,
+        large,
+        G64Fault::TooLarge,
+        "refused g64 TooLarge\n",
+    )?;
     let line = "refused g64 BadSignature\n";
     let zeros = vec![in alloc; 0u8; 4194304]?;
     refuses(&rt, alloc, zeros, G64Fault::BadSignature, line)?;
@@ -254,7 +265,11 @@ fn a_sector_across_the_seam(rt: HostRuntime) -> Result<(), Fail> {
     put(&mut file, 686, &turned);
     let end = read(alloc, file)?;
     assert!(rt; end.answer.is_ok());
-    assert!(rt; end.notes.bytes().starts_with(b"00.0 00 good 1 0 0 60718\n00.0 01 good 1 0 0 2158\n"));
+    assert!(rt;
+        end.notes
+            .bytes()
+            .starts_with(b"00.0 00 good 1 0 0 60718\n00.0 01 good 1 0 0 2158\n")
+    );
     assert!(rt; end.notes.bytes().ends_with(GOOD));
     Ok(())
 }

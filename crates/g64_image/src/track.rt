@@ -52,13 +52,7 @@ fn push_bytes(cells: &mut Cells, bytes: &[u8])
 }
 
 /// Notes all readings at places below the end, in a book that has none yet.
-fn gather<R: Recording>(
-    recording: &R,
-    track: TrackId,
-    cells: &Cells,
-    end: usize,
-    book: &mut Book,
-)
+fn gather<R: Recording>(recording: &R, track: TrackId, cells: &Cells, end: usize, book: &mut Book)
     requires track { R.has_track recording.now track }
     requires few { end ≤ 1048560 }
     requires book { IsEmptyBook (record { first = R.first_sector recording.now; count = R.sectors recording.now track; size = R.sector_size recording.now }) book.old }

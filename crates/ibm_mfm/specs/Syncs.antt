@@ -1,10 +1,6 @@
 -- The sync of double density (IBM System 34): three marks A1 with a missing clock, in a row.
-use Rattle.std.specs.Prelude.{◌≡◌, ℕ, ◌+◌, Bool, List, ◌++◌, take, drop, refl}
-use Rattle.std.proofs.Common.{ap, sym, ◌∙◌, lit≤}
-use Rattle.std.proofs.lemmas.List.{drop-drop, drop-take, take-take}
-use Rattle.std.proofs.Math.Seq.{take-add}
-use Rattle.cell_bits.specs.Word.{Stands, word_cells}
-use Rattle.mfm_coding.specs.Coding.{SYNC_MARK}
+use Rattle.std.specs.Prelude.{ℕ, Bool, List}
+use Rattle.cell_bits.specs.Word.{Stands}
 
 -- three marks as one word
 abbrev pub THREE_MARKS : ℕ

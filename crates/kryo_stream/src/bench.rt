@@ -90,7 +90,12 @@ impl StreamBench {
 
     /// Takes note of block `number` of the stream, which begins at the stream position `position`.
     #[inline(always)]
-    pub(crate) fn note(&mut self, number: u32, position: u32, piece: SpelledBlock) -> Result<(), Memory>
+    pub(crate) fn note(
+        &mut self,
+        number: u32,
+        position: u32,
+        piece: SpelledBlock,
+    ) -> Result<(), Memory>
         requires size { IsSized piece }
         requires end { position + piece.bytes < 2 ^ 32 }
         ensures noted { OnOk result ((ps : List SpelledBlock) → IsNoted ps self.old → length ps ≡ number

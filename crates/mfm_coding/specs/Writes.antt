@@ -1,18 +1,12 @@
 -- Bytes and marks that a call appends, in MFM after the cells that there were.
-use Rattle.std.specs.Prelude.{◌≡◌, ℕ, ◌+◌, ◌<◌, ◌≤◌, Bool, List, [], ◌∷◌, ◌++◌, length, IsErr, Ok, Err, take, get_or, flat_map}
+use Rattle.std.specs.Prelude.{List}
 use Rattle.std.specs.declared.result.Result.{Result}
-use Rattle.std.proofs.Common.{ap, sym, subst, ◌∙◌, arith, append-nil, length-append}
-use Rattle.std.proofs.lemmas.List.{take_more}
-use Rattle.std.proofs.lemmas.List.Concat.{flat_map-append}
-use Rattle.std.proofs.lemmas.List.Folds.{length-flat_map-take}
 use Rattle.flux_base.specs.declared.outside.Memory.{Memory}
 use Rattle.cell_bits.specs.Bytes.{last_cell}
 use Rattle.cell_bits.specs.State.{CellsState}
 use Rattle.frame_law.specs.Writing.{AppendsCells}
-use Rattle.frame_law.specs.lemmas.WritingLaws.{AppendsCells-more, AppendsCells-none, AppendsCells-stop}
 use Rattle.mfm_coding.specs.declared.symbol.Symbol.{Symbol}
-use Rattle.mfm_coding.specs.Coding.{coded, symbol_cells}
-use Rattle.mfm_coding.specs.lemmas.CodingLaws.{coded-append, last_bit, last_cell-coded, length-coded}
+use Rattle.mfm_coding.specs.Coding.{coded}
 
 -- Ok says that they were appended. There is no want of memory where there was room for them.
 abbrev pub AppendsSymbols : CellsState → CellsState → List Symbol → Result (Unit {0}) Memory → Type 0

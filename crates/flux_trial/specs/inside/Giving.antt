@@ -1,5 +1,5 @@
 -- A source that gives the streams of a trial's tracks, one after another.
-use Rattle.std.specs.Prelude.{◌≡◌, ◌≤◌, ℕ, ◌-◌, ◌++◌, List, drop, flat_map, length}
+use Rattle.std.specs.Prelude.{◌≡◌, ◌≤◌, ℕ, ◌-◌, ◌++◌, List, flat_map, length}
 use Rattle.std.specs.List.{range_with_len}
 use Rattle.cell_bits.specs.State.{CellsState}
 use Rattle.index_turns.specs.Track.{TrackState, room_of_indexes, room_of_times}

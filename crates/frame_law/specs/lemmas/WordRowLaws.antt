@@ -10,7 +10,7 @@ use Rattle.cell_bits.specs.Word.{Stands, number_of, word, word_cells}
 use Rattle.cell_bits.specs.lemmas.WordLaws.{length-word_cells, number_of-lt, number_of-word_cells, word_cells-number_of}
 use Rattle.track_rings.specs.lemmas.Parts.{take-first}
 use Rattle.track_rings.specs.Rings.{AreBytes}
-use Rattle.frame_law.specs.WordRows.{StandInRow, ListStands}
+use Rattle.frame_law.specs.WordRows.{ListStands}
 
 -- so many cells make no greater number
 pub word-lt : (cells : List Bool) (place count : ℕ) → word cells place count < 2 ^ count

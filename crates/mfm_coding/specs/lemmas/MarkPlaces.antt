@@ -1,7 +1,7 @@
 -- Where the first cells of the mark A1 stand, from its first one on: nowhere in bytes written as data, whatever follows them.
 use Rattle.std.specs.Prelude.{◌≡◌, ℕ, zero, suc, ◌+◌, ◌*◌, ◌<◌, ◌≤◌, Bool, true, false, not, ◌||◌, List, [], ◌∷◌, ◌++◌, length, drop, replicate, Option, None, refl}
 use Rattle.std.specs.List.{flat_map, range_with_len}
-use Rattle.std.proofs.Common.{ap, subst, sym, arith, append_assoc}
+use Rattle.std.proofs.Common.{ap, subst, sym, arith}
 use Rattle.cell_bits.specs.Bytes.{mfm, mfm_cells}
 use Rattle.cell_bits.specs.Word.{digit, word_cells}
 use Rattle.track_rings.specs.lemmas.Syncs.{QuietPart, SyncPart, Syncs, all_known, clashes, clashes-not, fits, fits-append, fits-drop, fits-front, fits-known, part-append, part-skip, part-then, quiet-append, quiet-none}

@@ -1,8 +1,7 @@
 -- What stands one after another, taken apart: its cells, how many they are, and the last one.
-use Rattle.std.specs.Prelude.{◌≡◌, ℕ, ◌+◌, ◌*◌, ◌<◌, ◌≤◌, Bool, true, false, ◌&&◌, List, [], ◌∷◌, ◌++◌, length, drop, refl}
+use Rattle.std.specs.Prelude.{◌≡◌, ℕ, ◌+◌, ◌*◌, ◌<◌, ◌≤◌, Bool, true, false, ◌&&◌, List, [], ◌∷◌, ◌++◌, length, refl}
 use Rattle.std.specs.List.{flat_map, range_with_len}
 use Rattle.std.proofs.Common.{zero, suc, ap, sym, ◌∙◌, arith, append_assoc, length-append}
-use Rattle.track_rings.specs.lemmas.Parts.{drop-past}
 use Rattle.track_rings.specs.Rows.{TrackRow, coded, last_of, parts_of, total}
 
 pub last_of-append : (before : Bool) (xs ys : List Bool) → last_of before (xs ++ ys) ≡ last_of (last_of before xs) ys

@@ -1,13 +1,13 @@
 -- Cells in which zeros never come so many in a row: they are unbroken, and neighbouring ones of their ring are near.
-use Rattle.std.specs.Prelude.{◌≡◌, ℕ, zero, suc, ◌+◌, ◌-◌, ◌%◌, ◌<◌, ◌≤◌, Bool, true, false, List, [], ◌∷◌, ◌++◌, length, take, drop, get_or, replicate, refl}
-use Rattle.std.proofs.Common.{ap, sym, ◌∙◌, arith, inl, inr, length-append, length-drop}
+use Rattle.std.specs.Prelude.{◌≡◌, ℕ, zero, suc, ◌+◌, ◌-◌, ◌%◌, ◌<◌, ◌≤◌, Bool, false, List, [], ◌∷◌, ◌++◌, length, take, drop, get_or, replicate, refl}
+use Rattle.std.proofs.Common.{ap, sym, ◌∙◌, arith, inl, inr, length-drop}
 use Rattle.std.proofs.lemmas.List.{drop-append-le, get_or-drop, get_or-replicate, get_or-take, length-take, take-append-le}
 use Rattle.std.proofs.lemmas.Bool.{cases_lt}
 use Rattle.std.proofs.Math.ListN.{get_or-append}
-use Rattle.std.proofs.Math.Nat.{add-mod_left, mod-add-mod, mod-eq_of_lt, mod-lt, zero-mod}
+use Rattle.std.proofs.Math.Nat.{add-mod_left, mod-add-mod, mod-eq_of_lt, mod-lt}
 use Rattle.std.proofs.Math.Seq.{get_or-append_right}
 use Rattle.cell_bits.specs.Broken.{Unbroken}
-use Rattle.track_rings.specs.Rings.{AreNeighbours, IsSpaced, cell_of}
+use Rattle.track_rings.specs.Rings.{cell_of}
 
 -- so many zeros in a row come at no place
 abbrev pub NoZeroRun : ℕ → List Bool → Type 0

@@ -1,4 +1,4 @@
-use Rattle.std.proofs.Common.{◌≡◌, ◌<◌, ◌+◌, ◌*◌, ◌∙◌, ap, refl, arith, inl, inr}
+use Rattle.std.proofs.Common.{◌+◌, ◌*◌, ◌∙◌, ap, refl, arith, inl, inr}
 use Rattle.flux_cli.proofs.Digits.{more, other, small}
 use Rattle.flux_cli.proofs.seed.number_of.Goals as goal
 

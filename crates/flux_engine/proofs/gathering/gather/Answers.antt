@@ -1,4 +1,3 @@
-use Rattle.flux_engine.specs.lemmas.NoteLaws.{can_note}
 use Rattle.flux_engine.proofs.Walks.{walk_step, walk_end}
 use Rattle.flux_engine.proofs.gathering.gather.Goals as goal
 

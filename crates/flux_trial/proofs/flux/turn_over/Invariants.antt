@@ -1,4 +1,4 @@
-use Rattle.std.proofs.Common.{◌≡◌, ◌≤◌, ◌+◌, ◌*◌, ◌/◌, length}
+use Rattle.std.proofs.Common.{◌≤◌, ◌+◌, ◌*◌}
 use Rattle.index_turns.specs.Track.{KeepsRoom}
 use Rattle.flux_trial.specs.inside.Turning.{HasTurned}
 use Rattle.flux_trial.proofs.flux.turn_over.Given as goal

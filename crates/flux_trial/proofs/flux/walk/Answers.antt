@@ -1,4 +1,4 @@
-use Rattle.std.proofs.Common.{◌≡◌, ◌≤◌, ◌<◌, ◌+◌, ◌-◌, ◌*◌, ◌++◌, ℕ, List, ap, sym, ◌∙◌, subst, arith, rules}
+use Rattle.std.proofs.Common.{◌≡◌, ◌≤◌, ◌+◌, ◌-◌, ◌*◌, ◌++◌, ℕ, List, ap, sym, ◌∙◌, subst, arith, rules}
 use Rattle.flux_trial.specs.Hole.{ring_cell}
 use Rattle.flux_trial.specs.declared.head.Head.{Head}
 use Rattle.flux_trial.specs.inside.Heads.{IsSound, ones_between, passed, passed_all, reach, seen_time, seen_times}

@@ -1,4 +1,4 @@
-use Rattle.std.proofs.Common.{◌≡◌, ◌∙◌, ap, sym, length, rules, arith}
+use Rattle.std.proofs.Common.{◌∙◌, ap, length, arith}
 use Rattle.flux_trial.specs.Drive.{Drive}
 use Rattle.flux_trial.specs.Times.{IsTrialRing}
 use Rattle.flux_trial.proofs.Giving.{stream-is}

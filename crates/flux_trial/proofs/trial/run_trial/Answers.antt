@@ -1,4 +1,4 @@
-use Rattle.std.proofs.Common.{◌≡◌, ◌∙◌, ap, refl, subst, sym, length, rules, arith, false, sum}
+use Rattle.std.proofs.Common.{◌∙◌, ap, refl, subst, sum}
 use Rattle.std.proofs.lemmas.Result.{on_err_weaker, on_ok_weaker}
 use Rattle.flux_engine.specs.Room.{RoomState}
 use Rattle.flux_trial.specs.Room.{TrialState}

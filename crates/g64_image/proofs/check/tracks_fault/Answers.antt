@@ -1,4 +1,4 @@
-use Rattle.std.proofs.Common.{◌≡◌, ℕ, ap, sym, ◌∙◌, arith, List, length, None, slice_get, []}
+use Rattle.std.proofs.Common.{◌≡◌, ℕ, ap, sym, ◌∙◌, arith, List, length, slice_get}
 use Rattle.std.specs.List.{filter_map, range_with_len}
 use Rattle.sector_images.specs.Places.{tracks}
 use Rattle.g64_image.specs.Faults.{track_fault, tracks_fault}

@@ -1,4 +1,4 @@
-use Rattle.std.proofs.Common.{◌≡◌, ◌≤◌, ◌∙◌, List, ℕ, Option, arith, length, subst, sym, take}
+use Rattle.std.proofs.Common.{◌≡◌, ◌∙◌, List, ℕ, Option, arith, length, subst, take}
 use Rattle.sector_images.specs.declared.format.Format.{Format}
 use Rattle.g64_image.specs.Answers.{IsTakenFile, SaysOfFile}
 use Rattle.g64_image.proofs.Causes.{cause_of_sinks, read_or_refused}
@@ -18,7 +18,7 @@ returns-clause-read g c =
     c.deref.ensures.value ∙ take-front c.room.inside.file.len buffer _ (omega (arith, c.in-Ok.ensures.len, c.deref_mut.ensures.len)) in
     let size : length buffer ≡ 4194305 = omega (arith, c.in-Ok.ensures.len, c.deref_mut.ensures.len, c.room.invariant.2) in
     let says : (left : Option (List ℕ)) → IsTakenFile (take read buffer) left
-        → SaysOfFile c.room.inside.format (take read buffer) left image image' notes notes' c.read_file.result =
+    → SaysOfFile c.room.inside.format (take read buffer) left image image' notes notes' c.read_file.result =
     subst (λ (xs : List ℕ). (left : Option (List ℕ)) → IsTakenFile (take read xs) left
     → SaysOfFile c.room.inside.format (take read xs) left image image' notes notes' c.read_file.result) same c.read_file.ensures.says in
     record {

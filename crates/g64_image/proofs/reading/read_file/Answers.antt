@@ -1,4 +1,4 @@
-use Rattle.std.proofs.Common.{◌≡◌, inl, sym, subst}
+use Rattle.std.proofs.Common.{inl, sym, subst}
 use Rattle.std.specs.Io.KnownBytes.{Appends}
 use Rattle.flux_base.specs.Outside.{AppendsPart}
 use Rattle.g64_image.specs.Answers.{IsWholeFile}

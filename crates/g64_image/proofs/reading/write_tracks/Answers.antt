@@ -1,15 +1,14 @@
-use Rattle.std.proofs.Common.{◌≡◌, ◌<◌, ◌+◌, ◌∙◌, Bool, List, ℕ, Option, Ok, Err, ap, arith, length, subst, sym, unwrap_or}
+use Rattle.std.proofs.Common.{◌≡◌, ◌+◌, Bool, List, Option, Ok, Err, ap, arith, subst, sym, unwrap_or}
 use Rattle.flux_base.specs.declared.track.TrackId.{TrackId}
 use Rattle.flux_engine.specs.Recordings.{track_at}
 use Rattle.flux_engine.specs.TrackParts.{WritesPart}
 use Rattle.flux_engine.specs.Tracks.{part_of}
-use Rattle.sector_images.specs.Places.{tracks}
 use Rattle.sector_report.specs.declared.totals.Totals.{Totals}
 use Rattle.turn_merge.specs.Book.{StandsFor}
 use Rattle.turn_merge.specs.Readings.{NotedReading}
 use Rattle.g64_image.specs.Gathering.{HasRingReadings}
-use Rattle.g64_image.specs.Layout.{cells_of_bytes, track_cells}
-use Rattle.g64_image.proofs.FileParts.{read_more, read_start, read_stop}
+use Rattle.g64_image.specs.Layout.{track_cells}
+use Rattle.g64_image.proofs.FileParts.{read_more, read_stop}
 use Rattle.g64_image.proofs.Tables.{track_sound}
 use Rattle.g64_image.proofs.reading.write_tracks.Goals as goal
 

@@ -1,6 +1,5 @@
 use Rattle.std.proofs.Common.{refl}
 use Rattle.g64_image.proofs.Walks.{walk_end, walk_past, walk_step}
-use Rattle.flux_engine.specs.lemmas.NoteLaws.{can_note}
 use Rattle.g64_image.proofs.track.gather.Goals as goal
 
 pub returns-then-cell-end : goal.returns-then-cell-end

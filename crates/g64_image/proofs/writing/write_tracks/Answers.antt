@@ -1,4 +1,4 @@
-use Rattle.std.proofs.Common.{◌≡◌, ◌+◌, ℕ, ap, ◌∙◌, arith, length}
+use Rattle.std.proofs.Common.{◌≡◌, ◌+◌, ap, ◌∙◌, arith, length}
 use Rattle.flux_engine.specs.lemmas.Pieces.{pieces_next, pieces_stop}
 use Rattle.sector_images.specs.Places.{tracks}
 use Rattle.g64_image.specs.Layout.{image_record, track_record}

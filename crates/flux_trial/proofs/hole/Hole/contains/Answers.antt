@@ -1,4 +1,4 @@
-use Rattle.std.proofs.Common.{arith, inl, inr, rules}
+use Rattle.std.proofs.Common.{inl, inr, rules}
 use Rattle.flux_trial.proofs.Holes.{contains}
 use Rattle.flux_trial.proofs.hole.Hole.contains.Goals.{then-cell-self, else-cell-self}
 use Rattle.flux_trial.proofs.hole.Hole.contains.Goals as goal

@@ -1,4 +1,4 @@
-use Rattle.std.proofs.Common.{◌≡◌, ◌<◌, ◌∙◌, ap, sym, arith, rules, length}
+use Rattle.std.proofs.Common.{◌<◌, ◌∙◌, ap, sym, arith, length}
 use Rattle.sector_images.specs.Places.{tracks}
 use Rattle.flux_trial.proofs.Giving.{never-empty, not-given, refilled}
 use Rattle.flux_trial.specs.inside.Giving.{SourceState, left_of}

@@ -1,4 +1,4 @@
-use Rattle.std.proofs.Common.{◌≡◌, ◌∙◌, ap, length, rules}
+use Rattle.std.proofs.Common.{◌∙◌, ap, length}
 use Rattle.flux_trial.proofs.Giving.{start-left}
 use Rattle.flux_trial.proofs.Rings.{is_image}
 use Rattle.flux_trial.specs.inside.Giving.{SourceState}

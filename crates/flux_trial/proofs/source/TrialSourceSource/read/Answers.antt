@@ -1,4 +1,4 @@
-use Rattle.std.proofs.Common.{◌≡◌, ◌∙◌, ap, sym, length, rules, arith}
+use Rattle.std.proofs.Common.{length, arith}
 use Rattle.flux_trial.proofs.Giving.{at-end, gave}
 use Rattle.flux_trial.specs.inside.Giving.{left_of}
 use Rattle.flux_trial.proofs.source.TrialSourceSource.read.Goals as goal
