@@ -17,7 +17,7 @@ pub(crate) fn halves(byte: u8) -> (u8, u8)
 }
 
 /// The byte that stands in 4-and-4 at the offset. None where none does, since a half lacks a bit that all have.
-#[tactic(auto, using(crate::specs::StandLaws::byte_read))]
+#[tactic(auto, using(crate::specs::lemmas::StandLaws::byte_read))]
 pub(crate) fn byte_at(frame: &CellsFrom, offset: usize) -> Option<u8>
     requires near { offset < 2 ^ 32 }
     requires whole { offset + 16 ≤ length frame.now }
