@@ -10,7 +10,7 @@ use Rattle.sector_report.specs.declared.totals.Totals.{Totals}
 use Rattle.turn_merge.specs.Book.{Knowledge, StandsFor}
 use Rattle.turn_merge.specs.Readings.{NotedReading, verdict}
 use Rattle.flux_engine.specs.Answers.{DecodesTrack}
-use Rattle.flux_engine.specs.NotedReading.{ReadsTrack, HasGathered}
+use Rattle.flux_engine.specs.Reading.{ReadsTrack, HasGathered}
 use Rattle.flux_engine.specs.Recordings.{sectors_of}
 use Rattle.flux_engine.specs.Tracks.{part_of, image_of, lines_of, totals_of, numbers}
 use Rattle.flux_engine.specs.declared.sectors.Sectors.{Sectors}

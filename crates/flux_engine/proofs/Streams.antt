@@ -12,7 +12,7 @@ use Rattle.kryo_stream.specs.declared.block.SpelledBlock.{SpelledBlock}
 use Rattle.kryo_stream.specs.declared.fault.StreamFault.{StreamFault}
 use Rattle.kryo_stream.specs.declared.fault.StreamFault.TheVariants.{NoTurn}
 use Rattle.kryo_stream.specs.declared.fault.TrackFault.TheVariants.{ReadFault as Unread, Refused as NotAStream}
-use Rattle.flux_engine.specs.BlockOrFault.{ReadsTrack, IsBounded}
+use Rattle.flux_engine.specs.Reading.{ReadsTrack, IsBounded}
 use Rattle.flux_engine.specs.declared.fault.EngineFault.TheVariants.{ReadFault, Refused}
 
 few_bytes : (used : Bool) (n : ℕ) → n ≤ most_padding used + 4198400 → n ≤ 4198416
