@@ -32,8 +32,8 @@ use Rattle.captured_disks.proofs.Readings.{are_readings_of}
 use Rattle.captured_disks.proofs.Sectors.{DisksAreRight, either, kept, of_one}
 use Rattle.captured_disks.proofs.Stops.{no_stop}
 use Rattle.captured_disks.proofs.Streams.{IsStreamNumber, is_stream_number}
-use Rattle.captured_disks.proofs.Totals.{all_counted, totals_good}
-use Rattle.captured_disks.proofs.TrackBytes.{are_sectors, own_bytes}
+use Rattle.captured_disks.specs.lemmas.Totals.{all_counted, totals_good}
+use Rattle.captured_disks.specs.lemmas.TrackBytes.{are_sectors, own_bytes}
 
 -- what the crates below promise
 pub record Laws : Type 0 where

@@ -10,7 +10,7 @@ use Rattle.track_rings.specs.Rings.{LiesAt}
 use Rattle.flux_engine.specs.Recordings.{track_at}
 use Rattle.flux_engine.specs.Rings.{disk_id, ring_of, track_bytes}
 use Rattle.captured_disks.specs.Frames.{TracksAreOwn}
-use Rattle.captured_disks.proofs.TrackBytes.{are_sectors}
+use Rattle.captured_disks.specs.lemmas.TrackBytes.{are_sectors}
 
 pub tracks_are_own : NumbersNameTracks → SectorsLieInImages → StandAlone → OnlyOwnStand → SectorsStand → FramesAreWhole → FramesHaveCells → RingsHaveCells → TracksAreOwn
 tracks_are_own names lie alone only stand whole cells rings format image k is below =

@@ -1,3 +1,4 @@
 pub mod Inputs
 pub mod Frames
 pub mod Headline
+pub mod lemmas
