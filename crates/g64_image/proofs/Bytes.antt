@@ -1,13 +1,14 @@
 -- Cells as bytes, and bytes as cells.
-use Rattle.std.specs.Prelude.{◌≡◌, ◌≤◌, ◌<◌, ℕ, zero, suc, ◌+◌, ◌*◌, Bool, List, [], ◌∷◌, ◌++◌, length, map, take, drop, flat_map, get_or, refl}
+use Rattle.std.specs.Prelude.{◌≡◌, ◌≤◌, ◌<◌, ℕ, zero, suc, ◌+◌, ◌*◌, ◌/◌, Bool, List, [], ◌∷◌, ◌++◌, length, map, take, drop, flat_map, get_or, refl}
 use Rattle.std.specs.List.{range_with_len}
-use Rattle.std.proofs.Common.{ap, sym, ◌∙◌, arith, append_assoc, append-nil, length-append}
+use Rattle.std.proofs.Common.{ap, sym, ◌∙◌, arith, append_assoc, append-nil, length-append, length-drop}
+use Rattle.std.proofs.lemmas.List.{drop-drop, drop_all, length-take-le, take-append-drop}
 use Rattle.std.proofs.lemmas.List.Concat.{flat_map-append}
 use Rattle.std.proofs.lemmas.List.FromFn.{map-range_with_len_more}
 use Rattle.std.proofs.Math.Seq.{take-suc}
 use Rattle.cell_bits.specs.Word.{number_of, word, word_cells}
-use Rattle.cell_bits.specs.lemmas.WordLaws.{length-word_cells, number_of-lt}
-use Rattle.g64_image.specs.Layout.{cells_of_bytes}
+use Rattle.cell_bits.specs.lemmas.WordLaws.{length-word_cells, number_of-lt, word_cells-number_of}
+use Rattle.g64_image.specs.Layout.{bytes_of_cells, cells_of_bytes}
 
 length-take-most : (n : ℕ) (xs : List Bool) → length (take n xs) ≤ n
 length-take-most zero xs = omega arith
@@ -68,3 +69,28 @@ length-cells_of_bytes [] = refl
 length-cells_of_bytes (byte ∷ bytes) =
     let both = length-append (word_cells 8 byte) (flat_map (word_cells 8) bytes) in
     omega (arith, both, length-word_cells 8 byte, length-cells_of_bytes bytes)
+
+-- the cells of the bytes of a ring, from a byte's place on
+cells-from : (ring : List Bool) (from count : ℕ) → length ring ≡ 8 * (from + count)
+    → flat_map (word_cells 8) (map (λ i. word ring (8 * i) 8) (range_with_len from count)) ≡ drop (8 * from) ring
+unfolding word
+cells-from ring from zero whole = sym (drop_all (8 * from) ring (omega (arith, whole)))
+cells-from ring from (suc count) whole =
+    let here : List Bool = drop (8 * from) ring in
+    let later : List Bool = flat_map (word_cells 8) (map (λ i. word ring (8 * i) 8) (range_with_len (from + 1) count)) in
+    let size : length here ≡ 8 * suc count = omega (arith, whole, length-drop (8 * from) ring) in
+    let eight : length (take 8 here) ≡ 8 = length-take-le 8 here (omega (arith, size)) in
+    let first : word_cells 8 (number_of (take 8 here)) ≡ take 8 here =
+    ap (λ (n : ℕ). word_cells n (number_of (take 8 here))) (sym eight) ∙ word_cells-number_of (take 8 here) in
+    let next : 8 * from + 8 ≡ 8 * (from + 1) = omega arith in
+    let rest : later ≡ drop 8 here =
+    cells-from ring (from + 1) count (omega (arith, whole)) ∙ sym (drop-drop 8 (8 * from) ring ∙ ap (λ (n : ℕ). drop n ring) next) in
+    ap (λ (xs : List Bool). xs ++ later) first ∙ ap (λ (xs : List Bool). take 8 here ++ xs) rest ∙ take-append-drop 8 here
+
+-- a ring of whole bytes comes back from its bytes
+pub cells-back : (ring : List Bool) → length ring ≡ 8 * (length ring / 8) → cells_of_bytes (bytes_of_cells ring) ≡ ring
+unfolding cells_of_bytes bytes_of_cells
+cells-back ring whole =
+    let all : length ring ≡ 8 * (0 + length ring / 8) = omega (arith, whole) in
+    let none : 8 * 0 ≡ 0 = omega arith in
+    cells-from ring 0 (length ring / 8) all ∙ ap (λ (n : ℕ). drop n ring) none

@@ -6,3 +6,11 @@ pub mod Causes
 pub mod Walks
 pub mod FileParts
 pub mod RingReadings
+pub mod WrittenFiles
+pub mod WrittenFaults
+pub mod RingSectors
+pub mod WrittenTracks
+pub mod WrittenImages
+pub mod WrittenDisks
+pub mod GoodReadings
+pub mod GoodFiles

@@ -68,7 +68,7 @@ module _ (header : List Bool → ℕ → Type 0) (sector : List Bool → ℕ →
         one_reading f.0 (drop f.0 cells) f.1 g.1 f.2 g.2 first.2 second.2 first.3 there
         ∙ ap (λ (p : ℕ). let a : Found = (p, g.1, g.2) in a) same
 
-    one_list : (end from : ℕ) (found others : List Found) → AreReadingsTo header sector cells end from found
+    pub one_list : (end from : ℕ) (found others : List Found) → AreReadingsTo header sector cells end from found
         → AreReadingsTo header sector cells end from others → found ≡ others
     one_list end from [] [] all other = refl
     one_list end from [] (g ∷ gs) all other =
