@@ -12,7 +12,7 @@ use Rattle.flux_trial.specs.inside.Heads.{IsAt, reach}
 use Rattle.flux_trial.proofs.Drives.{ideal-front, ideal-next}
 use Rattle.flux_trial.proofs.Ones.{Rises}
 
-filter_all : (p : ℕ → Bool) (xs : List ℕ) → All (λ x. p x ≡ true) xs → filter p xs ≡ xs
+pub filter_all : (p : ℕ → Bool) (xs : List ℕ) → All (λ x. p x ≡ true) xs → filter p xs ≡ xs
 filter_all p [] all = refl
 filter_all p (x ∷ xs) all =
     ap (λ (b : Bool). cond b (x ∷ filter p xs) (filter p xs)) (All-head (λ x. p x ≡ true) x xs all)

@@ -17,7 +17,7 @@ use Rattle.sector_images.specs.declared.format.Format.{Format}
 use Rattle.flux_engine.specs.Disks.{Decoded, IsDecoded, stop_at, stop_of}
 use Rattle.flux_engine.specs.Streams.{behind, behind_stream, has_fault, stream_at}
 
-none_before : (stream : List ℕ) → MayStandBefore [] stream
+pub none_before : (stream : List ℕ) → MayStandBefore [] stream
 none_before stream = record { each = All-nil (λ (byte : ℕ). byte ≡ OUT_OF_BAND); few = omega arith; none_in_stream = λ other. refl }
 
 module _ (stay : StreamsStay) (passed : PaddingIsPassed) (count : ℕ) (bytes : ℕ → List ℕ)

@@ -8,9 +8,13 @@ mod Chosen
 mod Near
 mod Turns
 mod Sound
+mod Bounds
 mod Streams
+mod Repeated
+mod Captured
 mod Rings
 mod Joined
 mod Trials
+mod Whole
 mod Writing
 mod Giving

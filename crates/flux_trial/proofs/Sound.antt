@@ -38,7 +38,7 @@ started-sound d cell usual few =
     }
 
 -- one more step of chance
-kept : (a b : Bool) (next period low high : ℕ) → a ≡ nat_le low next → b ≡ nat_le next high → low ≤ period → period ≤ high
+pub kept : (a b : Bool) (next period low high : ℕ) → a ≡ nat_le low next → b ≡ nat_le next high → low ≤ period → period ≤ high
     → (low ≤ cond (a && b) next period) × (cond (a && b) next period ≤ high)
 kept true true next period low high is_low is_high least most = (leb-true low next (sym is_low), leb-true next high (sym is_high))
 kept true false next period low high is_low is_high least most = (least, most)
@@ -165,6 +165,14 @@ pub first-few : (hole : Hole) (head : Head) (xs : List ℕ) (cell : ℕ) → len
 first-few hole head xs cell =
     omega (arith, length-append (seen_time hole cell head) (seen_times hole head xs), one_seen (in_hole hole cell) (time_at head), seen-few hole head xs)
 
+rest_above : (xs : List ℕ) (x k d : ℕ) → Follows x xs → k < length xs → x ≤ get_or xs k d
+rest_above [] x k d follows within = absurd (omega (arith, within))
+rest_above (y ∷ ys) x zero d follows within = omega (arith, follows.0)
+rest_above (y ∷ ys) x (suc k) d follows within = omega (arith, follows.0, rest_above ys y k d follows.2 (omega (arith, within)))
+
+rest_inside : (xs : List ℕ) (x a b : ℕ) → Follows x xs → All (λ y. (a ≤ y) × (y ≤ b)) xs → All (λ y. (x ≤ y) × (y ≤ b)) xs
+rest_inside xs x a b follows inside k d within = (rest_above xs x k d follows within, (inside k d within).1)
+
 -- the ideal place of a cell after transitions
 pub reach-all : (head : Head) (xs : List ℕ) (a b : ℕ) → IsSound head → Follows head.cell xs → head.cell ≤ a → a ≤ b
     → All (λ x. (a ≤ x) × (x ≤ b)) xs → reach head a + 1024 * (b - a) ≤ reach (passed_all head xs) b
@@ -174,13 +182,39 @@ reach-all head (x ∷ xs) a b sound follows at order inside =
     let next : Head = passed head x in
     let sound' = passed-sound head x sound follows.0 follows.1 in
     let nothing : (x - x) * next.period ≡ 0 = (let z : x - x ≡ 0 = omega arith in ap (λ (n : ℕ). n * next.period) z ∙ (omega arith)) in
-    let rest = reach-all next xs x b sound' follows.2 (omega arith) here.1 (rest_inside xs x follows.2 (λ k d within. inside (suc k) d (omega (arith, within)))) in
+    let rest = reach-all next xs x b sound' follows.2 (omega arith) here.1 (rest_inside xs x a b follows.2 (λ k d within. inside (suc k) d (omega (arith, within)))) in
     omega (arith, reach-later head a x sound at here.0, nothing, rest, here.0, here.1)
-  where
-    rest_inside : (xs : List ℕ) (x : ℕ) → Follows x xs → All (λ y. (a ≤ y) × (y ≤ b)) xs → All (λ y. (x ≤ y) × (y ≤ b)) xs
-    rest_inside xs x follows inside k d within = (above xs x k d follows within, (inside k d within).1)
-      where
-        above : (xs : List ℕ) (x k d : ℕ) → Follows x xs → k < length xs → x ≤ get_or xs k d
-        above [] x k d follows within = absurd (omega (arith, within))
-        above (y ∷ ys) x zero d follows within = omega (arith, follows.0)
-        above (y ∷ ys) x (suc k) d follows within = omega (arith, follows.0, above ys y k d follows.2 (omega (arith, within)))
+
+-- more cells further, by the slowest and the fastest periods
+further-near : (head : Head) (a b : ℕ) → IsSound head → head.cell ≤ a → a ≤ b
+    → (reach head a + (b - a) * (head.base - head.most_drift) ≤ reach head b) × (reach head b ≤ reach head a + (b - a) * (head.base + head.most_drift))
+further-near head a b sound at order =
+    let x : ℕ = a - head.cell in
+    let y : ℕ = b - a in
+    let both : b - head.cell ≡ x + y = omega (arith, at, order) in
+    let low : y * (head.base - head.most_drift) ≤ y * head.period = mul-le-mul_left y (omega (arith, sound.low)) in
+    let high : y * head.period ≤ y * (head.base + head.most_drift) = mul-le-mul_left y sound.high in
+    let split : (x + y) * head.period ≡ x * head.period + y * head.period = grind arith in
+    let whole : (b - head.cell) * head.period ≡ (x + y) * head.period = ap (λ (n : ℕ). n * head.period) both in
+    (omega (arith, low, split, whole), omega (arith, high, split, whole))
+
+-- the same after transitions
+pub reach-near : (head : Head) (xs : List ℕ) (a b : ℕ) → IsSound head → Follows head.cell xs → head.cell ≤ a → a ≤ b → All (λ x. (a ≤ x) × (x ≤ b)) xs
+    → (reach head a + (b - a) * (head.base - head.most_drift) ≤ reach (passed_all head xs) b)
+    × (reach (passed_all head xs) b ≤ reach head a + (b - a) * (head.base + head.most_drift))
+reach-near head [] a b sound follows at order inside = further-near head a b sound at order
+reach-near head (x ∷ xs) a b sound follows at order inside =
+    let here = inside 0 0 (omega arith) in
+    let next : Head = passed head x in
+    let sound' = passed-sound head x sound follows.0 follows.1 in
+    let nothing : (x - x) * next.period ≡ 0 = (let z : x - x ≡ 0 = omega arith in ap (λ (n : ℕ). n * next.period) z ∙ (omega arith)) in
+    let rest = reach-near next xs x b sound' follows.2 (omega arith) here.1 (rest_inside xs x a b follows.2 (λ k d within. inside (suc k) d (omega (arith, within)))) in
+    let way = further-near head a x sound at here.0 in
+    let slow : ℕ = head.base - head.most_drift in
+    let fast : ℕ = head.base + head.most_drift in
+    let p : ℕ = x - a in
+    let q : ℕ = b - x in
+    let both : b - a ≡ p + q = omega (arith, here.0, here.1) in
+    let slowly : (b - a) * slow ≡ p * slow + q * slow = (let split : (p + q) * slow ≡ p * slow + q * slow = grind arith in ap (λ (n : ℕ). n * slow) both ∙ split) in
+    let fastly : (b - a) * fast ≡ p * fast + q * fast = (let split : (p + q) * fast ≡ p * fast + q * fast = grind arith in ap (λ (n : ℕ). n * fast) both ∙ split) in
+    (omega (arith, way.0, rest.0, nothing, slowly), omega (arith, way.1, rest.1, nothing, fastly))

@@ -1,5 +1,6 @@
 -- What a drive gives of a ring is written as one stream without a fault.
 use Rattle.std.proofs.Common.{◌≡◌, ◌≤◌, ◌<◌, ◌+◌, ◌-◌, ◌*◌, ◌/◌, ◌%◌, ◌++◌, ℕ, zero, suc, Bool, true, false, cond, List, [], ◌∷◌, All, length, take, drop, get_or, refl, ap, sym, subst, ◌∙◌, arith, inl, inr, length-append}
+use Rattle.std.specs.Int.{abs_diff}
 use Rattle.std.specs.List.Sorted.{IsNonDecreasing, IsStrictlyIncreasing}
 use Rattle.std.proofs.lemmas.Bool.{cases_lt, le-ltb, ltb-true}
 use Rattle.std.proofs.lemmas.List.{get_or-append_right, get_or-drop, get_or-take, length-take-le, take_all}
@@ -7,21 +8,23 @@ use Rattle.std.proofs.lemmas.List.Elements.{All-head, All-tail, All-weaker}
 use Rattle.std.proofs.Math.Nat.{mod-lt, mul-le-mul_right}
 use Rattle.flux_writer.specs.Reading.{EndsWithTransition, IsStreamOf}
 use Rattle.flux_writer.specs.Written.{ones_of, quarter, stream_of_times, track_cells}
+use Rattle.index_turns.specs.Track.{turn_length}
 use Rattle.track_rings.specs.Rings.{cell_of, last_in}
-use Rattle.flux_trial.specs.Drive.{Drive, index_time}
+use Rattle.flux_trial.specs.Drive.{Drive, base, index_time, most_drift}
 use Rattle.flux_trial.specs.Hole.{hole_begin, hole_cells, ring_cell}
 use Rattle.flux_trial.specs.Times.{IsTrialRing, times_seen, trial_indexes, trial_times}
 use Rattle.flux_trial.specs.declared.head.Head.{Head}
 use Rattle.flux_trial.specs.declared.hole.Hole.{Hole}
 use Rattle.flux_trial.specs.inside.Heads.{FitsRing, IsAt, IsHole, IsSound, in_hole, ones_between, ones_from, passed, passed_all, reach, seen_time, seen_times, started, time_at, MOST_CELLS}
 use Rattle.flux_trial.specs.inside.Turning.{cells_after, ones_after, turn_cell}
+use Rattle.flux_trial.proofs.Bounds.{mean-near}
 use Rattle.flux_trial.proofs.Drives.{passed_all-at, started-at, times_seen-more, times_seen-one}
 use Rattle.flux_trial.proofs.Holes.{contains}
 use Rattle.flux_trial.proofs.Near.{one_near, own_cell}
 use Rattle.flux_trial.proofs.Ones.{Rises, ones_of-is, ones_rise, ones_within}
 use Rattle.flux_trial.proofs.Parts.{length-cells_after, all_parts, ones-before, ones-end, ones-rest, ones-turn}
 use Rattle.flux_trial.proofs.Passing.{on_ring, reach-later}
-use Rattle.flux_trial.proofs.Sound.{Follows, IsUsual, LATEST, first-few, first-small, passed-sound, passed_all-sound, reach-all, seen-after, seen-first, seen-in-order, started-sound, time-late}
+use Rattle.flux_trial.proofs.Sound.{Follows, IsUsual, LATEST, first-few, first-small, passed-sound, passed_all-sound, reach-all, reach-near, seen-after, seen-first, seen-in-order, started-sound, time-late}
 use Rattle.flux_trial.proofs.Turns.{index-at}
 
 -- a cell that is a one is among the ones
@@ -240,6 +243,32 @@ module _ (d : Drive) (ring : List Bool) (usual : IsUsual d) (is : IsTrialRing ri
       (passing-follows turns (length ring) (turn-fits turns (omega (arith, few)))) (let b = before-turn turns in omega (arith, b)) (omega (arith, next)) inside in
       omega (arith, way, next)
 
+  -- a turn is as long as its slowest and its fastest cells let it be
+  turn-near : (turns : ℕ) → turns < 3
+      → (reach (heads turns) (turn_cell ring turns) + length ring * (base d - most_drift d) ≤ reach (heads (suc turns)) (turn_cell ring (suc turns)))
+      × (reach (heads (suc turns)) (turn_cell ring (suc turns)) ≤ reach (heads turns) (turn_cell ring turns) + length ring * (base d + most_drift d))
+  unfolding heads
+  turn-near turns few =
+      let h : Head = heads turns in
+      let product : suc turns * length ring ≡ turns * length ring + length ring = grind arith in
+      let next : turn_cell ring (suc turns) ≡ turn_cell ring turns + length ring = omega (arith, product) in
+      let inside = All-weaker (λ x. (turn_cell ring turns ≤ x) × (x < turn_cell ring turns + length (take (length ring - 0) (drop 0 ring))))
+      (λ x. (turn_cell ring turns ≤ x) × (x ≤ turn_cell ring (suc turns))) (λ x at. (at.0, omega (arith, at.1, part-size (length ring), next)))
+      (passing turns) (ones_within (turn_cell ring turns) (take (length ring - 0) (drop 0 ring))) in
+      let way = reach-near (heads turns) (passing turns) (turn_cell ring turns) (turn_cell ring (suc turns)) (turn-sound turns (omega (arith, few)))
+      (passing-follows turns (length ring) (turn-fits turns (omega (arith, few)))) (let b = before-turn turns in omega (arith, b)) (omega (arith, next)) inside in
+      let at = at-turn turns in
+      let cells : turn_cell ring (suc turns) - turn_cell ring turns ≡ length ring = omega (arith, next) in
+      let slow : (turn_cell ring (suc turns) - turn_cell ring turns) * (h.base - h.most_drift) ≡ length ring * (base d - most_drift d) =
+      ap (λ (n : ℕ). n * (h.base - h.most_drift)) cells ∙ ap (λ (b : ℕ). length ring * (b - h.most_drift)) at.base_is
+      ∙ ap (λ (m : ℕ). length ring * (base d - m)) at.drift_is in
+      let fast : (turn_cell ring (suc turns) - turn_cell ring turns) * (h.base + h.most_drift) ≡ length ring * (base d + most_drift d) =
+      ap (λ (n : ℕ). n * (h.base + h.most_drift)) cells ∙ ap (λ (b : ℕ). length ring * (b + h.most_drift)) at.base_is
+      ∙ ap (λ (m : ℕ). length ring * (base d + m)) at.drift_is in (
+        subst (λ (n : ℕ). reach (heads turns) (turn_cell ring turns) + n ≤ reach (heads (suc turns)) (turn_cell ring (suc turns))) slow way.0,
+        subst (λ (n : ℕ). reach (heads (suc turns)) (turn_cell ring (suc turns)) ≤ reach (heads turns) (turn_cell ring turns) + n) fast way.1,
+      )
+
   abbrev whole : List ℕ
   whole = ones_of (track_cells ring)
 
@@ -261,6 +290,19 @@ module _ (d : Drive) (ring : List Bool) (usual : IsUsual d) (is : IsTrialRing ri
   indexes-rise (suc zero) within = index-rises 1 (quarter ring + length ring) (quarter ring + 2 * length ring) (omega arith) (omega arith) (omega arith)
   indexes-rise (suc (suc zero)) within = index-rises 2 (quarter ring + 2 * length ring) (quarter ring + 3 * length ring) (omega arith) (omega arith) (omega arith)
   indexes-rise (suc (suc (suc k))) within = absurd (omega (arith, within))
+
+  -- the mean cell of the first turn is near the first local period
+  pub first-turn : 64 * abs_diff (1024 * turn_length (trial_indexes d ring) 1 / length ring) (base d) ≤ d.nominal
+  unfolding trial_indexes
+  first-turn =
+      let a : ℕ = reach (heads 0) (turn_cell ring 0) in
+      let b : ℕ = reach (heads 1) (turn_cell ring 1) in
+      let ticks : turn_length (trial_indexes d ring) 1 ≡ b / 1024 - a / 1024 =
+      ap (λ (n : ℕ). n - index_time d whole (quarter ring)) (index-value 1 (quarter ring + length ring) (omega arith) (omega arith))
+      ∙ ap (λ (n : ℕ). b / 1024 - n) (index-value 0 (quarter ring) (omega arith) (omega arith)) in
+      let near = turn-near 0 (omega arith) in
+      subst (λ (n : ℕ). 64 * abs_diff (1024 * n / length ring) (base d) ≤ d.nominal) (sym ticks)
+      (mean-near d (length ring) a b usual (omega (arith, is.least)) near.0 near.1)
 
   -- the transitions after the first one
   abbrev rest1 : List ℕ

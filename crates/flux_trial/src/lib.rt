@@ -7,12 +7,14 @@ mod head;
 mod hole;
 mod image;
 mod kept;
+mod laws;
 mod room;
 mod source;
 mod trial;
 
 pub use flux::trial_flux;
 pub use image::trial_image;
+pub use laws::{trials_are_captured, whole_trials_have_one_line};
 pub use room::TrialRoom;
 pub use trial::run_trial;
 
