@@ -1,7 +1,6 @@
 -- A head that passes over several transitions.
 use Rattle.std.proofs.Common.{◌≡◌, ◌≤◌, ◌<◌, ◌+◌, ◌-◌, ◌*◌, ◌/◌, ◌%◌, ◌++◌, All, ℕ, List, [], ◌∷◌, ap, refl, ◌∙◌, sym, arith, append_assoc, append-nil}
 use Rattle.std.proofs.Math.Nat.{add-mul-mod_self_right, mod-eq_of_lt, mul-le-mul_left, mul-le-mul_right}
-use Rattle.flux_trial.specs.Drive.{ideal, most_way, period}
 use Rattle.flux_trial.specs.Hole.{ring_cell}
 use Rattle.flux_trial.specs.declared.head.Head.{Head}
 use Rattle.flux_trial.specs.declared.hole.Hole.{Hole}

@@ -1,4 +1,4 @@
-use Rattle.std.proofs.Common.{◌<◌, ◌+◌, ◌-◌, ◌/◌, ◌++◌, ℕ, List, ap, sym, ◌∙◌, arith}
+use Rattle.std.proofs.Common.{◌<◌, ◌-◌, ◌/◌, ◌++◌, ℕ, List, ap, sym, ◌∙◌, arith}
 use Rattle.flux_trial.specs.Drive.{Drive}
 use Rattle.flux_trial.specs.inside.Heads.{seen_time}
 use Rattle.flux_trial.proofs.Near.{one_near, own_cell}
