@@ -1,4 +1,4 @@
-//! What the definition after `from_g64` comes to, also of the files that `to_g64` writes.
+//! What the definition of `from_g64` comes to, also of the files that `to_g64` writes.
 
 ghost use Rattle.g64_image.specs.Laws.{GoodIsRightInFiles, OneFileDisk, WrittenFilesComeBack, WrittenFilesHaveNoFault, WrittenTracksAreRings};
 
