@@ -1,6 +1,6 @@
 use Rattle.std.specs.Prelude.{ℕ}
 use Rattle.flux_base.specs.declared.status.Status.{Status}
-use Rattle.flux_base.specs.declared.status.Status.TheVariants.{AllGood, NotAllGood, Refused, Usage, ReadFault, ImageFault, NotesFault, Memory}
+use Rattle.flux_base.specs.declared.status.Status.TheVariants.{AllGood, NotAllGood, Refused, Usage, ReadFault, ImageFault, NotesFault, Memory, ShelfFault}
 
 -- the program's exit code
 abbrev pub code_of : Status → ℕ
@@ -12,3 +12,4 @@ code_of ReadFault = 4
 code_of ImageFault = 5
 code_of NotesFault = 6
 code_of Memory = 7
+code_of ShelfFault = 8

@@ -8,7 +8,7 @@ mod status;
 mod track;
 mod word;
 
-pub use memory::{CountingSink, MemorySink, MemorySource, PlainSource};
+pub use memory::{CountingSink, MemorySink, MemorySource, PlainSource, copy_front};
 pub use outside::{Failed, Memory, Sink, Source, write_whole};
 pub use status::Status;
 pub use track::TrackId;

@@ -8,8 +8,8 @@ use crate::outside::{Failed, Memory, Sink, Source};
 use std::alloc::Global;
 use std::marker::Model;
 
-// Copies as many bytes as fit to the buffer's front, and says how many.
-fn copy_front(bytes: &[u8], buffer: &mut [u8]) -> usize
+/// Copies as many bytes as fit to the buffer's front, and says how many.
+pub fn copy_front(bytes: &[u8], buffer: &mut [u8]) -> usize
     ensures count { result ≡ min (length buffer.old) (length bytes.now) }
     ensures front { take result buffer.new ≡ take result bytes.now }
     ensures len { length buffer.new ≡ length buffer.old }

@@ -1,7 +1,8 @@
-ghost use Rattle.std.specs.Prelude.{◌≡◌, ℕ, ◌<◌, ◌≤◌, List, None, length, IfOk, OnOk, OnErr, Option};
+ghost use Rattle.std.specs.Prelude.{ℕ, ◌<◌, ◌≤◌, List, None, length, IfOk, OnErr, Option};
 ghost use Rattle.std.specs.Io.{ReadsAtMost, WritesAtMost};
-ghost use Rattle.std.specs.Io.KnownBytes.{Appends, ReadConsumes, WriteAppends};
-ghost use Rattle.flux_base.specs.Outside.{Rose, AppendsPart, GivesPiece};
+ghost use Rattle.std.specs.Io.KnownBytes.{ReadConsumes, WriteAppends};
+ghost use Rattle.flux_base.specs.Moments.{Puts, moment};
+ghost use Rattle.flux_base.specs.Outside.{Rose, GivesPiece};
 
 use std::alloc::{AllocError, AllocFailed};
 
@@ -70,10 +71,7 @@ pub trait Sink {
 /// Writes until the whole piece is taken. After `Failed` a prefix of the piece was taken that is shorter
 /// than the piece.
 pub fn write_whole<W: Sink>(sink: &mut W, piece: &[u8]) -> Result<(), Failed>
-    ensures ok { OnOk result (Appends (W.written sink.old) (W.written sink.new) piece.now) }
-    ensures err { OnErr result (AppendsPart (W.written sink.old) (W.written sink.new) piece.now) }
-    ensures later { W.faults sink.old ≤ W.faults sink.new }
-    ensures cause { OnErr result (Rose (W.faults sink.old) (W.faults sink.new)) }
+    ensures { Puts (moment W.written W.faults sink.old) (moment W.written W.faults sink.new) piece.now result }
 {
     let mut rest = piece;
     while !rest.is_empty() {

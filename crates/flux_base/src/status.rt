@@ -20,10 +20,12 @@ pub enum Status {
     NotesFault,
     /// There was not enough memory to begin.
     Memory,
+    /// The shelf failed.
+    ShelfFault,
 }
 
 impl Status {
-    /// The program's exit code, 0 to 7 in the order of the variants.
+    /// The program's exit code, 0 to 8 in the order of the variants.
     pub fn code(self) -> u8
         ensures { result ≡ code_of self }
     {
@@ -36,6 +38,7 @@ impl Status {
             Status::ImageFault => 5,
             Status::NotesFault => 6,
             Status::Memory => 7,
+            Status::ShelfFault => 8,
         }
     }
 }

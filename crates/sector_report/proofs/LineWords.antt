@@ -1,8 +1,8 @@
 -- The words of a line: what stands between its blanks, its point and its end. They determine the line's numbers.
-use Rattle.std.specs.Prelude.{◌≡◌, ◌≢◌, ◌==◌, ◌||◌, ◌<◌, ◌^◌, ℕ, zero, suc, ◌+◌, ◌*◌, ◌/◌, ◌%◌, All, Bool, true, false, cond, List, [], ◌∷◌, ◌++◌, codes, count_by, decimal, get_or, length, nat_eq, nat_lt, if◌then◌else◌, refl}
+use Rattle.std.specs.Prelude.{◌≡◌, ◌≢◌, ◌==◌, ◌||◌, ◌<◌, ◌^◌, ℕ, zero, suc, ◌+◌, ◌/◌, ◌%◌, All, Bool, true, false, cond, List, [], ◌∷◌, ◌++◌, codes, count_by, decimal, get_or, length, nat_eq, nat_lt, if◌then◌else◌, refl}
 use Rattle.std.specs.Fmt.{digits, digits_onto, digit_glyph}
 use Rattle.std.specs.List.{slice_split}
-use Rattle.std.proofs.Common.{ap, sym, ◌∙◌, arith, append_assoc, drop, eq-eqb, lit<}
+use Rattle.std.proofs.Common.{ap, sym, ◌∙◌, arith, append_assoc, drop, eq-eqb, length-append, lit<}
 use Rattle.std.proofs.Math.Nat.{div-add-mod, div-lt_iff_lt-mul, mod-lt}
 use Rattle.std.proofs.lemmas.Bool.{ne_eqb}
 use Rattle.std.proofs.lemmas.Fmt.{decimal_digit, decimal_injective}
@@ -13,7 +13,7 @@ use Rattle.flux_base.specs.declared.track.TrackId.{TrackId}
 use Rattle.turn_merge.specs.declared.verdict.Place.{Place}
 use Rattle.turn_merge.specs.declared.verdict.Verdict.{Verdict}
 use Rattle.turn_merge.specs.declared.verdict.Verdict.TheVariants.{Good, Contradictory, Bad, Missing}
-use Rattle.sector_report.specs.LineLaws.{LineFits, PlaceFits, SectorLinesTell, TotalsAreNoSectors, VerdictFits}
+use Rattle.sector_report.specs.LineLaws.{PlaceFits, SectorLinesTell, TotalsAreNoSectors, VerdictFits}
 use Rattle.sector_report.specs.Lines.{place_text, sector_name, sector_text, total_text, two_digits, verdict_text}
 use Rattle.sector_report.specs.declared.totals.Totals.{Totals}
 
@@ -175,14 +175,32 @@ two-is n low =
     let tens : n / 10 < 10 = (div-lt_iff_lt-mul (lit< tt)).1 low in
     ap (λ d. d ++ decimal (n % 10)) (decimal_digit (n / 10) tens) ∙ ap (λ d. (48 + n / 10) ∷ d) (decimal_digit (n % 10) (mod-lt n (lit< tt)))
 
-two-same : (m n : ℕ) → m < 100 → n < 100 → two_digits m ≡ two_digits n → m ≡ n
+-- lists that are the same have the same last element, and the same ones before it
+last-same : (xs ys : List ℕ) (a b : ℕ) → xs ++ a ∷ [] ≡ ys ++ b ∷ [] → (a ≡ b) × (xs ≡ ys)
+last-same [] [] a b same = (ap (λ zs. get_or zs 0 0) same, refl)
+last-same [] (y ∷ []) a b same = absurd (let sizes = ap length same in omega (arith, sizes))
+last-same [] (y ∷ z ∷ ys) a b same = absurd (let sizes = ap length same in omega (arith, sizes, length-append ys (b ∷ [])))
+last-same (x ∷ []) [] a b same = absurd (let sizes = ap length same in omega (arith, sizes))
+last-same (x ∷ z ∷ xs) [] a b same = absurd (let sizes = ap length same in omega (arith, sizes, length-append xs (a ∷ [])))
+last-same (x ∷ xs) (y ∷ ys) a b same =
+    let later = last-same xs ys a b (ap (λ zs. drop 1 zs) same) in
+    let first : x ≡ y = ap (λ zs. get_or zs 0 0) same in
+    (later.0, ap (λ z. z ∷ xs) first ∙ ap (λ zs. y ∷ zs) later.1)
+
+-- as many as a number has determine it too
+last-is : (n : ℕ) → two_digits n ≡ decimal (n / 10) ++ (48 + n % 10) ∷ []
+unfolding two_digits
+last-is n = ap (λ d. decimal (n / 10) ++ d) (decimal_digit (n % 10) (mod-lt n (lit< tt)))
+
+two-same : (m n : ℕ) → m < 2 ^ 64 → n < 2 ^ 64 → two_digits m ≡ two_digits n → m ≡ n
 two-same m n low low' same =
-    let both = sym (two-is m low) ∙ same ∙ two-is n low' in
-    let tens : 48 + m / 10 ≡ 48 + n / 10 = ap (λ ds. get_or ds 0 0) both in
-    let ones : 48 + m % 10 ≡ 48 + n % 10 = ap (λ ds. get_or ds 1 0) both in
+    let both = sym (last-is m) ∙ same ∙ last-is n in
+    let ends : (48 + m % 10 ≡ 48 + n % 10) × (decimal (m / 10) ≡ decimal (n / 10)) =
+    last-same (decimal (m / 10)) (decimal (n / 10)) (48 + m % 10) (48 + n % 10) both in
+    let tens = decimal_injective (m / 10) (n / 10) (omega (arith, low)) (omega (arith, low')) ends.1 in
     let is-m = div-add-mod m 10 in
     let is-n = div-add-mod n 10 in
-    omega (arith, tens, ones, is-m, is-n)
+    omega (arith, tens, ends.0, is-m, is-n)
 
 place-same : (a b : Place) → PlaceFits a → PlaceFits b → decimal a.turn ≡ decimal b.turn → decimal a.cell ≡ decimal b.cell → a ≡ b
 place-same a b fits fits' turn cell =
@@ -233,7 +251,7 @@ pub sector_lines_tell : SectorLinesTell
 sector_lines_tell track track' sector sector' verdict verdict' fits fits' same =
     let all = sym (sector_words track sector verdict) ∙ ap words same ∙ sector_words track' sector' verdict' in
     let of_numbers : ℕ → ℕ → TrackId = λ c h. record { cylinder = c; head = h } in (
-      ap (λ c. of_numbers c track.head) (two-same track.cylinder track'.cylinder fits.cylinder_fits fits'.cylinder_fits (ap (λ ws. word_at ws 0) all))
+      ap (λ c. of_numbers c track.head) (two-same track.cylinder track'.cylinder (omega (arith, fits.cylinder_fits)) (omega (arith, fits'.cylinder_fits)) (ap (λ ws. word_at ws 0) all))
           ∙ ap (of_numbers track'.cylinder) (decimal_injective track.head track'.head fits.head_fits fits'.head_fits (ap (λ ws. word_at ws 1) all)),
       two-same sector sector' fits.sector_fits fits'.sector_fits (ap (λ ws. word_at ws 2) all),
       verdict-same verdict verdict' fits.verdict_fits fits'.verdict_fits (ap behind_name all),

@@ -35,11 +35,11 @@ VerdictFits (Contradictory good bad first other) = (good < 2 ^ 64) × (bad < 2 ^
 VerdictFits (Bad bad first) = (bad < 2 ^ 64) × PlaceFits first
 VerdictFits Missing = Unit {0}
 
--- the cylinder and the sector have two digits at most, and all other numbers of a sector's line fit in 64 bits
+-- the cylinder has two digits at most, and all other numbers of a sector's line fit in 64 bits
 pub record LineFits (track : TrackId) (sector : ℕ) (verdict : Verdict) : Type 0 where
   pub cylinder_fits : track.cylinder < 100
   pub head_fits : track.head < 2 ^ 64
-  pub sector_fits : sector < 100
+  pub sector_fits : sector < 2 ^ 64
   pub verdict_fits : VerdictFits verdict
 
 -- a sector's line tells its track, its sector and its verdict: no two have the same line

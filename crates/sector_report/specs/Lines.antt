@@ -11,7 +11,7 @@ use Rattle.turn_merge.specs.declared.verdict.Verdict.TheVariants.{Good, Contradi
 use Rattle.sector_report.specs.declared.totals.Totals.{Totals}
 
 unfoldable pub usage_text : List ℕ
-usage_text = codes "usage: flux turns | decode FORMAT | report FORMAT | write FORMAT | trial FORMAT SEED | to-g64 FORMAT | from-g64 FORMAT\n"
+usage_text = codes "usage: flux turns | decode FORMAT | report FORMAT | write FORMAT | trial FORMAT SEED | to-g64 FORMAT | from-g64 FORMAT | decode-set FORMAT COUNT | decode-folder FORMAT FOLDER\n"
 
 unfoldable pub transitions_text : ℕ → List ℕ
 transitions_text count = codes "transitions " ++ decimal count ++ codes "\n"
@@ -40,7 +40,7 @@ refused_text track block fault =
 unfoldable pub image_text : ℕ → ℕ → List ℕ
 image_text read wanted = codes "refused image " ++ decimal read ++ codes " wanted " ++ decimal wanted ++ codes "\n"
 
--- two digits of a number below 100
+-- a number in two digits, or in as many as it has: its tens and its ones
 unfoldable pub two_digits : ℕ → List ℕ
 two_digits number = decimal (number / 10) ++ decimal (number % 10)
 

@@ -1,7 +1,6 @@
-ghost use Rattle.std.specs.Prelude.{◌≡◌, ◌+◌, ◌≤◌, ◌++◌, length, decimal, OnOk, OnErr};
-ghost use Rattle.std.specs.Io.KnownBytes.{Appends};
+ghost use Rattle.std.specs.Prelude.{◌≡◌, ◌+◌, ◌≤◌, ◌++◌, length, decimal};
 ghost use Rattle.arrayvec.specs.ArrayString.{array_string_len};
-ghost use Rattle.flux_base.specs.Outside.{Rose, AppendsPart};
+ghost use Rattle.flux_base.specs.Moments.{Puts, moment};
 
 use arrayvec::ArrayString;
 use flux_base::{Failed, Sink, write_whole};
@@ -12,10 +11,7 @@ pub type Line = ArrayString<192>;
 
 /// Hands a line to a sink, in one piece. After `Failed` a part of it was written.
 pub fn write_line<W: Sink>(sink: &mut W, line: &Line) -> Result<(), Failed>
-    ensures ok { OnOk result (Appends (W.written sink.old) (W.written sink.new) line.now.bytes) }
-    ensures err { OnErr result (AppendsPart (W.written sink.old) (W.written sink.new) line.now.bytes) }
-    ensures later { W.faults sink.old ≤ W.faults sink.new }
-    ensures cause { OnErr result (Rose (W.faults sink.old) (W.faults sink.new)) }
+    ensures { Puts (moment W.written W.faults sink.old) (moment W.written W.faults sink.new) line.now.bytes result }
 {
     write_whole(sink, line.as_str().as_bytes())
 }

@@ -36,7 +36,7 @@ pub fn image_line(read: u32, wanted: u32) -> Line
 
 #[tactic(auto, unfolding(crate::specs::Lines::fault_text))]
 /// Appends the fault's name and its numbers.
-fn put_fault(line: &mut Line, fault: &StreamFault)
+pub fn put_fault(line: &mut Line, fault: &StreamFault)
     requires { array_string_len line.old + 40 ≤ 192 }
     ensures bytes { line.new.bytes ≡ line.old.bytes ++ fault_text fault.now }
     ensures len { array_string_len line.new ≤ array_string_len line.old + 40 }

@@ -8,11 +8,10 @@ use flux_base::TrackId;
 use turn_merge::{Place, Verdict};
 
 /// What is said of one sector: `CC.H SS` and the verdict, with the numbers of good and of bad readings and
-/// the turn and cell of the readings that it names. Cylinder and sector are below 100.
+/// the turn and cell of the readings that it names. The cylinder is below 100; a sector of three digits has three.
 #[tactic(auto, unfolding(crate::specs::Lines::sector_text))]
 pub fn sector_line(track: TrackId, sector: u8, verdict: &Verdict) -> Line
-    requires cylinder { track.cylinder < 100 }
-    requires sector { sector < 100 }
+    requires { track.cylinder < 100 }
     ensures { result.bytes ≡ sector_text track sector verdict.now }
 {
     let mut line = Line::new();
@@ -37,11 +36,10 @@ pub fn total_line(totals: &Totals) -> Line
     line
 }
 
-/// Appends `CC.H SS ` for a sector of a track.
+/// Appends `CC.H SS ` for a sector of a track, which may have three digits.
 #[tactic(auto, unfolding(crate::specs::Lines::sector_name))]
-fn put_sector(line: &mut Line, track: TrackId, sector: u8)
+pub fn put_sector(line: &mut Line, track: TrackId, sector: u8)
     requires cylinder { track.cylinder < 100 }
-    requires sector { sector < 100 }
     requires room { array_string_len line.old + 63 ≤ 192 }
     ensures bytes { line.new.bytes ≡ line.old.bytes ++ sector_name track sector }
     ensures len { array_string_len line.new ≤ array_string_len line.old + 53 }
@@ -54,10 +52,9 @@ fn put_sector(line: &mut Line, track: TrackId, sector: u8)
     put(line, " ");
 }
 
-/// Appends a number below 100 in two digits.
+/// Appends a number in two digits, or in three where it has so many.
 #[tactic(auto, unfolding(crate::specs::Lines::two_digits))]
-fn put_two_digits(line: &mut Line, number: u8)
-    requires below { number < 100 }
+pub fn put_two_digits(line: &mut Line, number: u8)
     requires room { array_string_len line.old + 20 ≤ 192 }
     ensures bytes { line.new.bytes ≡ line.old.bytes ++ two_digits number }
     ensures len { array_string_len line.new ≤ array_string_len line.old + 20 }
@@ -97,7 +94,7 @@ fn put_verdict(line: &mut Line, verdict: &Verdict)
 }
 
 /// Appends a verdict's name and the numbers of good and of bad readings.
-fn put_counts(line: &mut Line, name: &str, good: u32, bad: u32)
+pub fn put_counts(line: &mut Line, name: &str, good: u32, bad: u32)
     requires { array_string_len line.old + length name.now + 21 ≤ 192 }
     ensures bytes { line.new.bytes ≡ line.old.bytes ++ (name.now ++ decimal good ++ codes " " ++ decimal bad) }
     ensures len { array_string_len line.new ≤ array_string_len line.old + length name.now + 21 }

@@ -121,8 +121,8 @@ fn the_longest_lines(rt: HostRuntime) {
         other: most,
     };
     assert_eq!(rt;
-        sector_line(track, 99, &verdict).as_str(),
-        "99.255 99 contradictory 4294967295 4294967295 4294967295 18446744073709551615 4294967295 18446744073709551615\n"
+        sector_line(track, 255, &verdict).as_str(),
+        "99.255 255 contradictory 4294967295 4294967295 4294967295 18446744073709551615 4294967295 18446744073709551615\n"
     );
     let totals = Totals {
         sectors: u32::MAX,

@@ -3,7 +3,7 @@ ghost use Rattle.sector_report.specs.Lines.{usage_text};
 
 /// The text for words that are not a command.
 pub const USAGE: &str =
-    "usage: flux turns | decode FORMAT | report FORMAT | write FORMAT | trial FORMAT SEED | to-g64 FORMAT | from-g64 FORMAT\n";
+    "usage: flux turns | decode FORMAT | report FORMAT | write FORMAT | trial FORMAT SEED | to-g64 FORMAT | from-g64 FORMAT | decode-set FORMAT COUNT | decode-folder FORMAT FOLDER\n";
 
 #[tactic(auto, unfolding(crate::specs::Lines::usage_text))]
 /// `USAGE`, as contracts see it.

@@ -1,10 +1,12 @@
 -- Laws of bytes that are written in several pieces, for proofs about callers of `write_whole`.
-use Rattle.std.proofs.Common.{ℕ, ◌+◌, ◌≤◌, ◌<◌, List, ◌++◌, length, take, Option, arith, sym, subst, length-append}
+use Rattle.std.proofs.Common.{ℕ, ◌+◌, ◌≤◌, ◌<◌, List, ◌++◌, length, take, Option, Result, Ok, Err, arith, sym, subst, length-append}
 use Rattle.std.proofs.lemmas.List.{take-append-le}
 use Rattle.std.proofs.Math.Seq.{take-append-add}
 use Rattle.std.proofs.KnownBytes.{Appends-trans}
 use Rattle.std.specs.Io.KnownBytes.{Appends}
+use Rattle.flux_base.specs.Moments.{Moment, Puts}
 use Rattle.flux_base.specs.Outside.{AppendsPart}
+use Rattle.flux_base.specs.declared.outside.Failed.{Failed}
 
 -- a part of the first piece is a part of both
 pub AppendsPart-first : (old new : Option (List ℕ)) (piece more : List ℕ) → AppendsPart old new piece → AppendsPart old new (piece ++ more)
@@ -19,3 +21,29 @@ pub AppendsPart-second : (old mid new : Option (List ℕ)) (piece more : List �
 AppendsPart-second old mid new piece more first (n, within, appended) =
     let whole : length piece + n < length (piece ++ more) = omega (arith, within, length-append piece more) in
     (length piece + n, whole, subst (Appends old new) (sym (take-append-add piece more n)) (Appends-trans old mid new piece (take n more) first appended))
+
+-- a call after one that was whole
+pub Puts-then : {A T U : Type 0} {old mid new : Moment A} {first rest : List ℕ} {u : U} (answer : Result T Failed) → Puts old mid first (Ok u)
+    → Puts mid new rest answer → Puts old new (first ++ rest) answer
+Puts-then {old = old} {mid = mid} {new = new} {first = first} {rest = rest} (Ok v) p q = record {
+  ok = Appends-trans old.bytes mid.bytes new.bytes first rest p.ok q.ok;
+  err = tt;
+  later = omega (arith, p.later, q.later);
+  cause = tt;
+}
+Puts-then {old = old} {mid = mid} {new = new} {first = first} {rest = rest} (Err failed) p q = record {
+  ok = tt;
+  err = AppendsPart-second old.bytes mid.bytes new.bytes first rest p.ok q.err;
+  later = omega (arith, p.later, q.later);
+  cause = omega (arith, p.later, q.cause);
+}
+
+-- a part of some bytes is a part of more
+pub Puts-cut : {A T U : Type 0} {old new : Moment A} {first : List ℕ} {failed failed' : Failed} (rest : List ℕ) → Puts {T = T} old new first (Err failed)
+    → Puts {T = U} old new (first ++ rest) (Err failed')
+Puts-cut {old = old} {new = new} {first = first} rest p = record {
+  ok = tt;
+  err = AppendsPart-first old.bytes new.bytes first rest p.err;
+  later = p.later;
+  cause = p.cause;
+}
