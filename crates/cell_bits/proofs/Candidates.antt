@@ -19,7 +19,7 @@ to_digit value place e = grind (arith, nat_tests)
 to_no_digit : (value place : ℕ) → bit_at value place ≡ 0 → digit value place ≡ false
 to_no_digit value place e = grind (arith, nat_tests)
 
-from_no_digit : (value place : ℕ) → digit value place ≡ false → bit_at value place ≡ 0
+pub from_no_digit : (value place : ℕ) → digit value place ≡ false → bit_at value place ≡ 0
 from_no_digit value place e = let low : bit_at value place < 2 = bit_at-lt value place in grind (arith, nat_tests)
 
 pub digit-tested : (value place : ℕ) → (bit_and (value / 2 ^ place) 1 == 1) ≡ digit value place

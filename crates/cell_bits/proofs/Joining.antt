@@ -6,7 +6,7 @@ use Rattle.std.proofs.lemmas.Bool.Decides.{nat_tests}
 use Rattle.std.proofs.lemmas.Nat.{pow_pos, shr-shr, shr_split}
 use Rattle.std.proofs.lemmas.Nat.Bits.{bit_at_above, bit_at_cat_low, bit_at_cat_high, bit_at_or, shr_and_one}
 use Rattle.cell_bits.specs.Word.{digit}
-use Rattle.cell_bits.specs.inside.Window.{cell_of_two, IsJoined, IsWindow}
+use Rattle.cell_bits.specs.inside.Window.{cell_of_two, IsJoined, IsRest, IsWindow}
 
 bit_at-mod : (value width place : ℕ) → place < width → bit_at (value % 2 ^ width) place ≡ bit_at value place
 bit_at-mod value width place low =
@@ -23,11 +23,14 @@ bit_at-shl_high value k place high =
     let e : value * 2 ^ k ≡ value * 2 ^ k + 0 = omega arith in
     ap (λ n. bit_at n place) e ∙ bit_at_cat_high value k 0 place (pow_pos k) high
 
-bit_at-shr : (value k place : ℕ) → bit_at (value / 2 ^ k) place ≡ bit_at value (k + place)
+pub bit_at-shr : (value k place : ℕ) → bit_at (value / 2 ^ k) place ≡ bit_at value (k + place)
 bit_at-shr value k place = ap (λ n. n % 2) (shr-shr value k place)
 
 pub digit-shr : (value k place : ℕ) → digit (value / 2 ^ k) place ≡ digit value (k + place)
 digit-shr value k place = ap (λ bit. bit == 1) (bit_at-shr value k place)
+
+pub digit-mod : (value width place : ℕ) → place < width → digit (value % 2 ^ width) place ≡ digit value place
+digit-mod value width place low = ap (λ bit. bit == 1) (bit_at-mod value width place low)
 
 cell_of_two-high : (high low k : ℕ) → k < 64 → cell_of_two high low k ≡ digit high (63 - k)
 cell_of_two-high high low k within = grind (arith, nat_tests)
@@ -62,6 +65,33 @@ joined-shifted high low shift some few high_fits low_fits k within = by_place (c
         let none : bit_at (high * 2 ^ shift) (63 - k) ≡ 0 = bit_at-shl_low high shift (63 - k) (omega arith) in
         let all : max (bit_at (high * 2 ^ shift) (63 - k)) (bit_at low (64 - shift + (63 - k))) ≡ bit_at low (64 - shift + (63 - k)) = omega arith in
         ap (λ bit. bit == 1) (either ∙ all ∙ ap (bit_at low) e) ∙ sym (cell_of_two-low high low (shift + k) second)
+
+pub rest-none : (low : ℕ) → IsRest low 0 low
+rest-none low k within =
+    let at : k ≡ 0 + k = omega arith in
+    ap (λ n. digit low (63 - n)) at
+
+-- a block that moves over two blocks takes in the next cell of the second, and of this one less is left
+module _ (high low moved cells rest : ℕ) (few : moved < 64) (shown : IsJoined high low moved cells) (left : IsRest low moved rest) where
+  pub joined-next : (next : ℕ) → IsJoined cells rest 1 next → IsJoined high low (moved + 1) next
+  joined-next next joint k within = joint k within ∙ by_place (cases_lt (1 + k) 64)
+    where
+      by_place : (1 + k < 64) ⊎ (64 ≤ 1 + k) → cell_of_two cells rest (1 + k) ≡ cell_of_two high low (moved + 1 + k)
+      by_place (inl here) =
+          let at : moved + (1 + k) ≡ moved + 1 + k = omega arith in
+          cell_of_two-high cells rest (1 + k) here ∙ shown (1 + k) here ∙ ap (cell_of_two high low) at
+      by_place (inr last) =
+          let first : 127 - (1 + k) ≡ 63 - 0 = omega arith in
+          let at : 63 - (moved + 0) ≡ 127 - (moved + 1 + k) = omega arith in
+          cell_of_two-low cells rest (1 + k) last ∙ ap (digit rest) first ∙ left 0 (omega arith) ∙ ap (digit low) at
+          ∙ sym (cell_of_two-low high low (moved + 1 + k) (omega arith))
+
+  pub rest-next : IsRest low (moved + 1) (rest * 2 ^ 1 % 2 ^ 64)
+  rest-next k within =
+      let at : 63 - k - 1 ≡ 63 - (k + 1) = omega arith in
+      let there : 63 - (moved + (k + 1)) ≡ 63 - (moved + 1 + k) = omega arith in
+      ap (λ bit. bit == 1) (bit_at-mod (rest * 2 ^ 1) 64 (63 - k) (omega arith) ∙ bit_at-shl_high rest 1 (63 - k) (omega arith))
+      ∙ ap (digit rest) at ∙ left (k + 1) (omega arith) ∙ ap (digit low) there
 
 -- two blocks of the list, one after the other
 pub two_windows : (cells : List Bool) (place high low : ℕ) → IsWindow cells place high → IsWindow cells (place + 64) low

@@ -1,6 +1,8 @@
 pub mod Appending
 pub mod Runs
 pub mod Candidates
+pub mod Dense
+pub mod FourRuns
 pub mod Joining
 pub mod Packing
 pub mod Searching

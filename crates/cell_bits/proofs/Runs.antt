@@ -36,7 +36,7 @@ runs-after counts place number =
     ∙ flat_map-append run_cells (take place counts) (take number (drop place counts))
 
 -- a run has as many cells as its count says
-length-run : (count : ℕ) → 1 ≤ count → length (run_cells count) ≡ count
+pub length-run : (count : ℕ) → 1 ≤ count → length (run_cells count) ≡ count
 length-run count some = omega (arith, length-append (replicate (count - 1) false) (true ∷ []), length-replicate (count - 1) false)
 
 -- short runs have four cells each at most

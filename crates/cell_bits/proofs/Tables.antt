@@ -1,5 +1,5 @@
 -- Rules for bytes that are shown by a look at each of the 256 bytes.
-use Rattle.std.proofs.Common.{◌≡◌, ℕ, zero, suc, ◌+◌, ◌-◌, ◌*◌, ◌/◌, ◌%◌, ◌<◌, ◌≤◌, Bool, true, false, ◌==◌, ◌&&◌, ◌⊎◌, inl, inr, length, refl, sym, ap, ◌∙◌, subst, arith, bit_and, bit_or, ◌^◌, ◌++◌, List, replicate}
+use Rattle.std.proofs.Common.{◌≡◌, ℕ, zero, suc, ◌+◌, ◌-◌, ◌*◌, ◌/◌, ◌%◌, ◌<◌, ◌≤◌, Bool, true, false, ◌==◌, ◌&&◌, ◌⊎◌, inl, inr, length, refl, sym, ap, ◌∙◌, subst, arith, bit_and, bit_or, ◌^◌, ◌++◌, List, replicate, get_or}
 use mir.Val.{bool_byte}
 use Rattle.std.proofs.lemmas.Nat.{shr_split, or_shifted}
 use Rattle.std.proofs.lemmas.Bool.{cases_lt, eqb-true}
@@ -8,9 +8,10 @@ use Rattle.cell_bits.specs.lemmas.WordLaws.{word_cells-number_of, number_of-word
 use Rattle.cell_bits.specs.Bytes.{fm, mfm, fm_cells, mfm_cells, data_cells}
 use Rattle.cell_bits.specs.Marks.{woven}
 use Rattle.cell_bits.specs.inside.Spread.{spread_of}
+use Rattle.cell_bits.specs.declared.cells.reads.TheConstants.{NIBBLES}
 
 -- the check holds of each number below n
-each_below : (ℕ → Bool) → ℕ → Bool
+unfoldable pub each_below : (ℕ → Bool) → ℕ → Bool
 each_below check zero = true
 each_below check (suc n) = check n && each_below check n
 
@@ -22,7 +23,7 @@ second_holds : (a b : Bool) → (a && b) ≡ true → b ≡ true
 second_holds true b e = e
 second_holds false b e = cc
 
-from_each : (check : ℕ → Bool) (n : ℕ) → each_below check n ≡ true → (k : ℕ) → k < n → check k ≡ true
+pub from_each : (check : ℕ → Bool) (n : ℕ) → each_below check n ≡ true → (k : ℕ) → k < n → check k ≡ true
 unfolding each_below
 from_each check zero all k within = absurd (omega arith)
 from_each check (suc n) all k within = by_place (from_each check n (second_holds (check n) (each_below check n) all) k) (cases_lt k n)
@@ -87,14 +88,8 @@ pub spread-lt : (byte : ℕ) → spread_of byte < 2 ^ 16
 unfolding spread_of woven word_cells
 spread-lt byte = number_of-lt (woven (replicate 8 false) (word_cells 8 byte))
 
--- the code's way to take the second bit of each pair
-abbrev odd_bits : ℕ → ℕ
-odd_bits cells = bit_and (bit_or (bit_and cells 85) (bit_and cells 85 / 2)) 51
-
-abbrev pub gathered_bits : ℕ → ℕ
-gathered_bits cells = bit_and (bit_or (odd_bits cells) (odd_bits cells / 4)) 15
-
-gathered_table : each_below (λ cells. gathered_bits cells == number_of (data_cells (word_cells 8 cells))) 256 ≡ true
+-- the table of the second bits of each pair
+gathered_table : each_below (λ cells. get_or NIBBLES cells 0 == number_of (data_cells (word_cells 8 cells))) 256 ≡ true
 unfolding each_below number_of word_cells data_cells
 gathered_table = refl
 
@@ -102,12 +97,18 @@ length-gathered : (cells : ℕ) → length (data_cells (word_cells 8 cells)) ≡
 unfolding data_cells word_cells
 length-gathered cells = refl
 
-pub gathered-is : (cells : ℕ) → cells < 256 → word_cells 4 (gathered_bits cells) ≡ data_cells (word_cells 8 cells)
+gathered-number : (cells : ℕ) → cells < 256 → get_or NIBBLES cells 0 ≡ number_of (data_cells (word_cells 8 cells))
+gathered-number cells within = eqb-true _ _ (from_each (λ c. get_or NIBBLES c 0 == number_of (data_cells (word_cells 8 c))) 256 gathered_table cells within)
+
+pub gathered-is : (cells : ℕ) → cells < 256 → word_cells 4 (get_or NIBBLES cells 0) ≡ data_cells (word_cells 8 cells)
 gathered-is cells within =
-    let same : gathered_bits cells ≡ number_of (data_cells (word_cells 8 cells)) =
-    eqb-true _ _ (from_each (λ c. gathered_bits c == number_of (data_cells (word_cells 8 c))) 256 gathered_table cells within) in
-    ap (word_cells 4) same ∙ ap (λ n. word_cells n (number_of (data_cells (word_cells 8 cells)))) (sym (length-gathered cells))
+    ap (word_cells 4) (gathered-number cells within) ∙ ap (λ n. word_cells n (number_of (data_cells (word_cells 8 cells)))) (sym (length-gathered cells))
     ∙ word_cells-number_of (data_cells (word_cells 8 cells))
+
+pub gathered-lt : (cells : ℕ) → cells < 256 → get_or NIBBLES cells 0 < 16
+gathered-lt cells within =
+    subst (λ n. n < 16) (sym (gathered-number cells within))
+    (subst (λ n. number_of (data_cells (word_cells 8 cells)) < 2 ^ n) (length-gathered cells) (number_of-lt (data_cells (word_cells 8 cells))))
 
 -- the bits of two bytes, one after the other
 data_cells-append : (high low : ℕ) → data_cells (word_cells 8 high ++ word_cells 8 low) ≡ data_cells (word_cells 8 high) ++ data_cells (word_cells 8 low)

@@ -1,8 +1,8 @@
 -- What a window of 64 cells says of the list.
-use Rattle.std.proofs.Common.{◌≡◌, ℕ, zero, suc, ◌+◌, ◌-◌, ◌*◌, ◌/◌, ◌%◌, ◌^◌, ◌<◌, ◌≤◌, Bool, false, cond, List, ◌∷◌, length, take, drop, get_or, sym, ap, ◌∙◌, subst, arith, length-take-le, length-drop, get_or-take, get_or-drop, ext_get_or, take-add, drop-drop, mod-eq_of_lt, lt_of_lt_of_le, length-take, lit≤, lit<}
+use Rattle.std.proofs.Common.{◌≡◌, ℕ, zero, suc, ◌+◌, ◌-◌, ◌*◌, ◌/◌, ◌%◌, ◌^◌, ◌<◌, ◌≤◌, Bool, false, cond, List, ◌∷◌, length, take, drop, get_or, sym, ap, ◌∙◌, subst, arith, length-take-le, length-drop, get_or-take, get_or-drop, ext_get_or, take-add, drop-drop, mod-eq_of_lt, lt_of_lt_of_le, length-take, lit≤, lit<, bit_and}
 use Rattle.std.specs.Int.{bit_at}
 use Rattle.std.specs.Int.Count.{ones as count_of, ones-ones}
-use Rattle.std.proofs.lemmas.Nat.{pow_pos, shr_below, mod-pow-add, ones_cat}
+use Rattle.std.proofs.lemmas.Nat.{and_mask, pow_pos, shr_below, mod-pow-add, ones_cat}
 use Rattle.std.proofs.lemmas.List.Sums.{sum_by-append, sum_by-cons, count_by-le-length}
 use Rattle.std.proofs.lemmas.Nat.Bits.{bit_at-lt}
 use Rattle.std.proofs.Math.Nat.{pow-le-pow_right}
@@ -11,7 +11,7 @@ use Rattle.cell_bits.specs.lemmas.WordLaws.{digit-number, length-word_cells, get
 use Rattle.cell_bits.specs.Bytes.{data_byte, data_cells}
 use Rattle.cell_bits.specs.Ones.{ones, ones_from_to}
 use Rattle.cell_bits.specs.inside.Window.{IsWindow}
-use Rattle.cell_bits.proofs.Joining.{digit-shr}
+use Rattle.cell_bits.proofs.Joining.{digit-mod, digit-shr}
 
 -- the first cells of a window are those cells of the list
 pub window-cells : (cells : List Bool) (place block count : ℕ) → IsWindow cells place block → count ≤ 64 → place + count ≤ length cells
@@ -40,6 +40,31 @@ pub data_byte-is : (cells : List Bool) (place block : ℕ) → IsWindow cells pl
 unfolding data_byte
 data_byte-is cells place block shown within =
     ap (λ list. number_of (data_cells list)) (sym (window-cells cells place block 16 shown (lit≤ tt) within))
+
+-- a quarter of a window, from the cell so many places on
+quarter-cells : (cells : List Bool) (place block skip : ℕ) → IsWindow cells place block → skip ≤ 48 → place + skip + 16 ≤ length cells
+    → take 16 (drop (place + skip) cells) ≡ word_cells 16 (bit_and (block / 2 ^ (48 - skip)) 65535)
+quarter-cells cells place block skip shown near within =
+    let low : ℕ = bit_and (block / 2 ^ (48 - skip)) 65535 in
+    let long : length (take 16 (drop (place + skip) cells)) ≡ 16 = length-take-le 16 (drop (place + skip) cells) (omega (arith, length-drop (place + skip) cells)) in
+    ext_get_or false (take 16 (drop (place + skip) cells)) (word_cells 16 low) (long ∙ sym (length-word_cells 16 low))
+    (λ k small. each k (omega (arith, long)))
+  where
+    each : (k : ℕ) → k < 16 → get_or (take 16 (drop (place + skip) cells)) k false ≡ get_or (word_cells 16 (bit_and (block / 2 ^ (48 - skip)) 65535)) k false
+    each k below =
+        let at : 48 - skip + (15 - k) ≡ 63 - (skip + k) = omega arith in
+        let there : place + (skip + k) ≡ place + skip + k = omega arith in
+        get_or-take 16 (drop (place + skip) cells) k false below ∙ get_or-drop (place + skip) cells k false
+        ∙ ap (λ n. get_or cells n false) (sym there) ∙ sym (shown (skip + k) (omega arith)) ∙ ap (digit block) (sym at)
+        ∙ sym (digit-shr block (48 - skip) (15 - k)) ∙ sym (digit-mod (block / 2 ^ (48 - skip)) 16 (15 - k) (omega arith))
+        ∙ ap (λ n. digit n (15 - k)) (sym (and_mask (block / 2 ^ (48 - skip)) 16))
+        ∙ sym (get_or-word_cells 16 (bit_and (block / 2 ^ (48 - skip)) 65535) k below)
+
+pub quarter_byte-is : (cells : List Bool) (place block skip : ℕ) → IsWindow cells place block → skip ≤ 48 → place + skip + 16 ≤ length cells
+    → number_of (data_cells (word_cells 16 (bit_and (block / 2 ^ (48 - skip)) 65535))) ≡ data_byte cells (place + skip)
+unfolding data_byte
+quarter_byte-is cells place block skip shown near within =
+    ap (λ list. number_of (data_cells list)) (sym (quarter-cells cells place block skip shown near within))
 
 -- a word of at most 32 cells
 pub word-lt : (block count : ℕ) → block < 2 ^ 64 → count ≤ 32 → block / 2 ^ (64 - count) < 2 ^ 32

@@ -83,6 +83,7 @@ fn pushes_across_the_border_of_a_word(rt: HostRuntime) -> Result<(), Fail> {
     assert_eq!(rt; cells.word_at(116, 16), 0x1254);
     assert_eq!(rt; cells.data_byte_at(116), 0x4E);
     assert_eq!(rt; cells.word_at(132, 16), 0x44A9);
+    assert_eq!(rt; cells.data_bytes_at(84), [0xC1, 0xFF, 0x4E, 0xA1]);
     Ok(())
 }
 

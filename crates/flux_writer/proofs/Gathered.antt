@@ -1,10 +1,12 @@
 -- Bytes that are gathered in several steps.
-use Rattle.std.proofs.Common.{◌≡◌, ◌++◌, ℕ, List, [], Option, sym, ap, ◌∙◌, subst, append_assoc, append-nil}
+use Rattle.std.proofs.Common.{◌≡◌, ◌≤◌, ◌++◌, ℕ, List, [], Option, Result, Ok, Err, sym, ap, ◌∙◌, subst, arith, append_assoc, append-nil}
 use Rattle.std.specs.Io.KnownBytes.{Appends}
 use Rattle.std.proofs.KnownBytes.{Appends-nil, Appends-trans}
+use Rattle.flux_base.specs.Moments.{Moment, Puts}
 use Rattle.flux_base.specs.Outside.{AppendsPart}
+use Rattle.flux_base.specs.declared.outside.Failed.{Failed}
 use Rattle.flux_base.specs.lemmas.Parts.{AppendsPart-first, AppendsPart-second}
-use Rattle.flux_writer.specs.inside.Gathering.{Gathers}
+use Rattle.flux_writer.specs.inside.Gathering.{Gathers, Holds}
 
 pub Gathers-nothing : (a : Option (List ℕ)) (held : List ℕ) → Gathers a a held held []
 Gathers-nothing a held = record { taken = []; appended = Appends-nil a; whole = append-nil held }
@@ -39,8 +41,44 @@ pub AppendsPart-longer : (a b : Option (List ℕ)) (held first then : List ℕ) 
 AppendsPart-longer a b held first then part =
     subst (AppendsPart a b) (append_assoc held first then) (AppendsPart-first a b (held ++ first) then part)
 
--- the sink took a part of what was held at the end
-pub Gathers-given : (a b c : Option (List ℕ)) (held held' more : List ℕ) → Gathers a b held held' more → AppendsPart b c held'
-    → AppendsPart a c (held ++ more)
-Gathers-given a b c held held' more g part =
-    subst (AppendsPart a c) (sym g.whole) (AppendsPart-second a b c g.taken held' g.appended part)
+-- the sink is given all that is held at the end
+pub Gathers-given : {A T : Type 0} {old mid new : Moment A} {held held' more : List ℕ} (answer : Result T Failed)
+    → Gathers old.bytes mid.bytes held held' more → old.faults ≤ mid.faults → Puts mid new held' answer → Puts old new (held ++ more) answer
+Gathers-given {old = old} {mid = mid} {new = new} {held' = held'} (Ok v) g later p = record {
+  ok = subst (Appends old.bytes new.bytes) (sym g.whole) (Appends-trans old.bytes mid.bytes new.bytes g.taken held' g.appended p.ok);
+  err = tt;
+  later = omega (arith, later, p.later);
+  cause = tt;
+}
+Gathers-given {old = old} {mid = mid} {new = new} {held' = held'} (Err failed) g later p = record {
+  ok = tt;
+  err = subst (AppendsPart old.bytes new.bytes) (sym g.whole) (AppendsPart-second old.bytes mid.bytes new.bytes g.taken held' g.appended p.err);
+  later = omega (arith, later, p.later);
+  cause = omega (arith, later, p.cause);
+}
+
+-- a call after one that was whole
+pub Holds-then : {A T U : Type 0} {old mid new : Moment A} {held held' held'' first rest : List ℕ} {u : U} (answer : Result T Failed)
+    → Holds old mid held held' first (Ok u) → Holds mid new held' held'' rest answer → Holds old new held held'' (first ++ rest) answer
+Holds-then {old = old} {mid = mid} {new = new} {held = held} {held' = held'} {held'' = held''} {first = first} {rest = rest} (Ok v) p q = record {
+  ok = Gathers-more old.bytes mid.bytes new.bytes held held' first rest p.ok held'' q.ok;
+  err = tt;
+  later = omega (arith, p.later, q.later);
+  cause = tt;
+}
+Holds-then {old = old} {mid = mid} {new = new} {held = held} {held' = held'} {first = first} {rest = rest} (Err failed) p q = record {
+  ok = tt;
+  err = Gathers-part old.bytes mid.bytes new.bytes held held' first rest p.ok q.err;
+  later = omega (arith, p.later, q.later);
+  cause = omega (arith, p.later, q.cause);
+}
+
+-- a part of some bytes is a part of more
+pub Holds-cut : {A T U : Type 0} {old new : Moment A} {held held' held'' first : List ℕ} {failed failed' : Failed} (rest : List ℕ)
+    → Holds {T = T} old new held held' first (Err failed) → Holds {T = U} old new held held'' (first ++ rest) (Err failed')
+Holds-cut {old = old} {new = new} {held = held} {first = first} rest p = record {
+  ok = tt;
+  err = AppendsPart-longer old.bytes new.bytes held first rest p.err;
+  later = p.later;
+  cause = p.cause;
+}

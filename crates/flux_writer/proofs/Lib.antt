@@ -13,3 +13,4 @@ pub mod ReadIndexes
 pub mod ReadsBack
 pub mod Sizes
 pub mod CellsRead
+pub mod Words

@@ -72,3 +72,28 @@ module _ (cells : List Bool) (from number nominal place one to : ℕ) (start : f
       (IsWritten-part old mid new held position time indexes held' position' time' indexes' (times_between cells from place number nominal) w
       (cell_time nominal (number + (one - from)) ∷ [])
       (part_of_one mid new held' position' time' (cell_time nominal (number + (one - from))) indexes' part)))
+
+-- one more word of the part
+module _ (cells : List Bool) (from number nominal place end : ℕ) (start : from ≤ place) (order : place ≤ end)
+    (old mid new : Option (List ℕ)) (held : List ℕ) (position time : ℕ) (indexes held' : List ℕ) (position' time' : ℕ) (indexes' : List ℕ)
+    (w : IsWritten old mid held position time indexes held' position' time' indexes' (times_between cells from place number nominal)) where
+  pub next_word : end ≤ length cells → (held'' : List ℕ) (position'' time'' : ℕ) (indexes'' : List ℕ)
+      → IsWritten mid new held' position' time' indexes' held'' position'' time'' indexes'' (times_between cells place end (number + (place - from)) nominal)
+      → IsWritten old new held position time indexes held'' position'' time'' indexes'' (times_between cells from end number nominal)
+  next_word within held'' position'' time'' indexes'' m =
+      subst (IsWritten old new held position time indexes held'' position'' time'' indexes'')
+      (sym (times_between-split cells from place end number nominal start order within))
+      (IsWritten-more old mid new held position time indexes held' position' time' indexes' (times_between cells from place number nominal) w
+      (times_between cells place end (number + (place - from)) nominal) held'' position'' time'' indexes'' m)
+
+  pub next_word_fails : (to : ℕ) → end ≤ to → to ≤ length cells
+      → AppendsPart mid new (held' ++ spellings (many_blocks position' time' (times_between cells place end (number + (place - from)) nominal) indexes'))
+      → AppendsPart old new (held ++ spellings (many_blocks position time (times_between cells from to number nominal) indexes))
+  next_word_fails to before within part =
+      part_of_more old new held position time (times_between cells from to number nominal) (times_between cells from end number nominal)
+      (times_between cells end to (number + (end - from)) nominal) indexes
+      (sym (times_between-split cells from end to number nominal (omega arith) before within))
+      (subst (λ times. AppendsPart old new (held ++ spellings (many_blocks position time times indexes)))
+      (sym (times_between-split cells from place end number nominal start order (omega (arith, before, within))))
+      (IsWritten-part old mid new held position time indexes held' position' time' indexes' (times_between cells from place number nominal) w
+      (times_between cells place end (number + (place - from)) nominal) part))

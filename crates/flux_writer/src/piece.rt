@@ -1,7 +1,6 @@
-ghost use Rattle.std.specs.Prelude.{◌≡◌, ◌<◌, ◌≤◌, ◌+◌, ◌++◌, [], ◌∷◌, length, take, OnOk, OnErr};
-ghost use Rattle.std.specs.Io.KnownBytes.{Appends};
-ghost use Rattle.flux_base.specs.Outside.{AppendsPart, Rose};
-ghost use Rattle.flux_writer.specs.inside.Gathering.{Gathers};
+ghost use Rattle.std.specs.Prelude.{◌≡◌, ◌<◌, ◌≤◌, ◌+◌, ◌++◌, [], ◌∷◌, length, take, OnOk};
+ghost use Rattle.flux_base.specs.Moments.{Puts, moment};
+ghost use Rattle.flux_writer.specs.inside.Gathering.{Holds};
 
 use flux_base::{Failed, Sink, write_whole};
 use std::marker::Model;
@@ -40,10 +39,8 @@ impl OutputPiece {
     /// Puts bytes after those that are held, of which the sink is given all first where there is no room.
     pub(crate) fn put<W: Sink>(&mut self, bytes: &[u8], sink: &mut W) -> Result<(), Failed>
         requires { length bytes.now ≤ 4096 }
-        ensures ok { OnOk result (Gathers (W.written sink.old) (W.written sink.new) self.old self.new bytes.now) }
-        ensures err { OnErr result (AppendsPart (W.written sink.old) (W.written sink.new) (self.old ++ bytes.now)) }
-        ensures later { W.faults sink.old ≤ W.faults sink.new }
-        ensures cause { OnErr result (Rose (W.faults sink.old) (W.faults sink.new)) }
+        ensures { Holds (moment W.written W.faults sink.old) (moment W.written W.faults sink.new) self.old self.new
+            bytes.now result }
     {
         if ROOM - self.filled < bytes.len() {
             match self.give(sink) {
@@ -58,10 +55,8 @@ impl OutputPiece {
     /// Puts one byte after those that are held, as `put` does.
     #[inline]
     pub(crate) fn put_byte<W: Sink>(&mut self, byte: u8, sink: &mut W) -> Result<(), Failed>
-        ensures ok { OnOk result (Gathers (W.written sink.old) (W.written sink.new) self.old self.new (byte ∷ [])) }
-        ensures err { OnErr result (AppendsPart (W.written sink.old) (W.written sink.new) (self.old ++ byte ∷ [])) }
-        ensures later { W.faults sink.old ≤ W.faults sink.new }
-        ensures cause { OnErr result (Rose (W.faults sink.old) (W.faults sink.new)) }
+        ensures { Holds (moment W.written W.faults sink.old) (moment W.written W.faults sink.new) self.old self.new
+            (byte ∷ []) result }
     {
         if self.filled == ROOM {
             match self.give(sink) {
@@ -95,11 +90,8 @@ impl OutputPiece {
 
     /// Gives the sink all bytes that are held.
     pub(crate) fn give<W: Sink>(&mut self, sink: &mut W) -> Result<(), Failed>
-        ensures ok { OnOk result (Appends (W.written sink.old) (W.written sink.new) self.old) }
+        ensures puts { Puts (moment W.written W.faults sink.old) (moment W.written W.faults sink.new) self.old result }
         ensures empty { OnOk result (self.new ≡ []) }
-        ensures err { OnErr result (AppendsPart (W.written sink.old) (W.written sink.new) self.old) }
-        ensures later { W.faults sink.old ≤ W.faults sink.new }
-        ensures cause { OnErr result (Rose (W.faults sink.old) (W.faults sink.new)) }
     {
         let answer = write_whole(sink, &self.bytes[..self.filled]);
         self.filled = 0;

@@ -1,8 +1,7 @@
-ghost use Rattle.std.specs.Prelude.{◌≡◌, ◌<◌, ◌≤◌, ◌+◌, ◌-◌, ◌/◌, ◌^◌, ◌++◌, [], ◌∷◌, All, length, map, replicate, OnOk, OnErr};
-ghost use Rattle.std.specs.Io.KnownBytes.{Appends};
-ghost use Rattle.flux_base.specs.Outside.{AppendsPart, Rose};
+ghost use Rattle.std.specs.Prelude.{◌≡◌, ◌<◌, ◌≤◌, ◌+◌, ◌-◌, ◌/◌, ◌^◌, ◌++◌, [], All, length, map, replicate, OnOk};
+ghost use Rattle.flux_base.specs.Moments.{Puts, moment};
 ghost use Rattle.kryo_stream.specs.Spelling.{spelling, flux_spelling};
-ghost use Rattle.flux_writer.specs.inside.Gathering.{Gathers};
+ghost use Rattle.flux_writer.specs.inside.Gathering.{Holds};
 ghost use Rattle.kryo_stream.specs.Sequence.{spellings};
 ghost use Rattle.flux_writer.specs.Written.{index_block, interval_blocks};
 ghost use Rattle.flux_writer.specs.inside.Writing.{ticks_of, AreCounted, indexes_before, indexes_from, next_blocks, last_blocks};
@@ -56,16 +55,12 @@ impl<'a> StreamWriter<'a> {
         requires order { self.old.time ≤ time }
         requires begun { All (λ index. self.old.time ≤ index) self.old.indexes }
         requires few { self.old.position + (time - self.old.time) / 65536 + 3 < 2 ^ 32 }
-        ensures ok { OnOk result (Gathers (W.written sink.old) (W.written sink.new) self.old.piece self.new.piece
-            (spellings (next_blocks self.old.position self.old.time time self.old.indexes))) }
+        ensures holds { Holds (moment W.written W.faults sink.old) (moment W.written W.faults sink.new) self.old.piece self.new.piece
+            (spellings (next_blocks self.old.position self.old.time time self.old.indexes)) result }
         ensures position { OnOk result (self.new.position ≡ self.old.position
             + length (spellings (interval_blocks (time - self.old.time)))) }
         ensures time { OnOk result (self.new.time ≡ time) }
         ensures indexes { OnOk result (self.new.indexes ≡ indexes_from time self.old.indexes) }
-        ensures err { OnErr result (AppendsPart (W.written sink.old) (W.written sink.new)
-            (self.old.piece ++ spellings (next_blocks self.old.position self.old.time time self.old.indexes))) }
-        ensures later { W.faults sink.old ≤ W.faults sink.new }
-        ensures cause { OnErr result (Rose (W.faults sink.old) (W.faults sink.new)) }
     {
         if self.indexes.next_before(time).is_none() {
             return self.write_interval(time, sink);
@@ -78,12 +73,8 @@ impl<'a> StreamWriter<'a> {
 
     /// Writes what stands after the last interval.
     pub(crate) fn finish<W: Sink>(&mut self, sink: &mut W) -> Result<(), Failed>
-        ensures ok { OnOk result (Appends (W.written sink.old) (W.written sink.new)
-            (self.old.piece ++ spellings (last_blocks self.old.position))) }
-        ensures err { OnErr result (AppendsPart (W.written sink.old) (W.written sink.new)
-            (self.old.piece ++ spellings (last_blocks self.old.position))) }
-        ensures later { W.faults sink.old ≤ W.faults sink.new }
-        ensures cause { OnErr result (Rose (W.faults sink.old) (W.faults sink.new)) }
+        ensures { Puts (moment W.written W.faults sink.old) (moment W.written W.faults sink.new)
+            (self.old.piece ++ spellings (last_blocks self.old.position)) result }
     {
         match self.piece.put(&end_bytes(self.position), sink) {
             Ok(()) => self.piece.give(sink),
@@ -96,15 +87,11 @@ impl<'a> StreamWriter<'a> {
     fn write_indexes<W: Sink>(&mut self, end: u64, sink: &mut W) -> Result<(), Failed>
         requires begun { All (λ index. self.old.time ≤ index) self.old.indexes }
         requires few { self.old.position + (end - self.old.time) / 65536 < 2 ^ 32 }
-        ensures ok { OnOk result (Gathers (W.written sink.old) (W.written sink.new) self.old.piece self.new.piece
-            (spellings (map (index_block self.old.position self.old.time) (indexes_before end self.old.indexes)))) }
+        ensures holds { Holds (moment W.written W.faults sink.old) (moment W.written W.faults sink.new) self.old.piece self.new.piece
+            (spellings (map (index_block self.old.position self.old.time) (indexes_before end self.old.indexes))) result }
         ensures position { self.new.position ≡ self.old.position }
         ensures time { self.new.time ≡ self.old.time }
         ensures indexes { OnOk result (self.new.indexes ≡ indexes_from end self.old.indexes) }
-        ensures err { OnErr result (AppendsPart (W.written sink.old) (W.written sink.new) (self.old.piece
-            ++ spellings (map (index_block self.old.position self.old.time) (indexes_before end self.old.indexes)))) }
-        ensures later { W.faults sink.old ≤ W.faults sink.new }
-        ensures cause { OnErr result (Rose (W.faults sink.old) (W.faults sink.new)) }
     {
         while let Some(index) = self.indexes.next_before(end) {
             let bytes = index_bytes(self.position, self.time, index);
@@ -121,16 +108,12 @@ impl<'a> StreamWriter<'a> {
     fn write_interval<W: Sink>(&mut self, time: u64, sink: &mut W) -> Result<(), Failed>
         requires order { self.old.time ≤ time }
         requires few { self.old.position + (time - self.old.time) / 65536 + 3 < 2 ^ 32 }
-        ensures ok { OnOk result (Gathers (W.written sink.old) (W.written sink.new) self.old.piece self.new.piece
-            (spellings (interval_blocks (time - self.old.time)))) }
+        ensures holds { Holds (moment W.written W.faults sink.old) (moment W.written W.faults sink.new) self.old.piece self.new.piece
+            (spellings (interval_blocks (time - self.old.time))) result }
         ensures position { OnOk result (self.new.position ≡ self.old.position
             + length (spellings (interval_blocks (time - self.old.time)))) }
         ensures time { OnOk result (self.new.time ≡ time) }
         ensures indexes { self.new.indexes ≡ self.old.indexes }
-        ensures err { OnErr result (AppendsPart (W.written sink.old) (W.written sink.new)
-            (self.old.piece ++ spellings (interval_blocks (time - self.old.time)))) }
-        ensures later { W.faults sink.old ≤ W.faults sink.new }
-        ensures cause { OnErr result (Rose (W.faults sink.old) (W.faults sink.new)) }
     {
         let ticks = time - self.time;
         self.position += interval_length(ticks);
@@ -157,12 +140,8 @@ fn interval_length(ticks: u64) -> u32
 #[inline]
 fn write_blocks<W: Sink>(piece: &mut OutputPiece, ticks: u64, sink: &mut W) -> Result<(), Failed>
     requires few { ticks / 65536 < 2 ^ 32 }
-    ensures ok { OnOk result (Gathers (W.written sink.old) (W.written sink.new) piece.old piece.new
-        (spellings (interval_blocks ticks))) }
-    ensures err { OnErr result (AppendsPart (W.written sink.old) (W.written sink.new)
-        (piece.old ++ spellings (interval_blocks ticks))) }
-    ensures later { W.faults sink.old ≤ W.faults sink.new }
-    ensures cause { OnErr result (Rose (W.faults sink.old) (W.faults sink.new)) }
+    ensures { Holds (moment W.written W.faults sink.old) (moment W.written W.faults sink.new) piece.old piece.new
+        (spellings (interval_blocks ticks)) result }
 {
     match ticks {
         0x0E..=0xFF => piece.put_byte(ticks as u8, sink),
@@ -178,12 +157,8 @@ fn write_any_blocks<W: Sink>(
     sink: &mut W,
 ) -> Result<(), Failed>
     requires few { ticks / 65536 < 2 ^ 32 }
-    ensures ok { OnOk result (Gathers (W.written sink.old) (W.written sink.new) piece.old piece.new
-        (spellings (interval_blocks ticks))) }
-    ensures err { OnErr result (AppendsPart (W.written sink.old) (W.written sink.new)
-        (piece.old ++ spellings (interval_blocks ticks))) }
-    ensures later { W.faults sink.old ≤ W.faults sink.new }
-    ensures cause { OnErr result (Rose (W.faults sink.old) (W.faults sink.new)) }
+    ensures { Holds (moment W.written W.faults sink.old) (moment W.written W.faults sink.new) piece.old piece.new
+        (spellings (interval_blocks ticks)) result }
 {
     match write_overflows(piece, (ticks / OVERFLOW_TICKS) as u32, sink) {
         Ok(()) => write_flux(piece, (ticks % OVERFLOW_TICKS) as u16, sink),
@@ -193,10 +168,8 @@ fn write_any_blocks<W: Sink>(
 
 /// Writes so many Overflow blocks.
 fn write_overflows<W: Sink>(piece: &mut OutputPiece, count: u32, sink: &mut W) -> Result<(), Failed>
-    ensures ok { OnOk result (Gathers (W.written sink.old) (W.written sink.new) piece.old piece.new (replicate count 11)) }
-    ensures err { OnErr result (AppendsPart (W.written sink.old) (W.written sink.new) (piece.old ++ replicate count 11)) }
-    ensures later { W.faults sink.old ≤ W.faults sink.new }
-    ensures cause { OnErr result (Rose (W.faults sink.old) (W.faults sink.new)) }
+    ensures { Holds (moment W.written W.faults sink.old) (moment W.written W.faults sink.new) piece.old piece.new
+        (replicate count 11) result }
 {
     for _ in 0..count {
         match piece.put_byte(0x0B, sink) {
@@ -209,10 +182,8 @@ fn write_overflows<W: Sink>(piece: &mut OutputPiece, count: u32, sink: &mut W) -
 
 /// Writes a flux value, in as few bytes as it fits.
 fn write_flux<W: Sink>(piece: &mut OutputPiece, ticks: u16, sink: &mut W) -> Result<(), Failed>
-    ensures ok { OnOk result (Gathers (W.written sink.old) (W.written sink.new) piece.old piece.new (flux_spelling ticks)) }
-    ensures err { OnErr result (AppendsPart (W.written sink.old) (W.written sink.new) (piece.old ++ flux_spelling ticks)) }
-    ensures later { W.faults sink.old ≤ W.faults sink.new }
-    ensures cause { OnErr result (Rose (W.faults sink.old) (W.faults sink.new)) }
+    ensures { Holds (moment W.written W.faults sink.old) (moment W.written W.faults sink.new) piece.old piece.new
+        (flux_spelling ticks) result }
 {
     let high = (ticks / 256) as u8;
     let low = (ticks % 256) as u8;

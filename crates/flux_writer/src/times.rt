@@ -1,6 +1,5 @@
-ghost use Rattle.std.specs.Prelude.{◌≤◌, ◌+◌, ◌^◌, All, length, OnOk, OnErr};
-ghost use Rattle.std.specs.Io.KnownBytes.{Appends};
-ghost use Rattle.flux_base.specs.Outside.{AppendsPart, Rose};
+ghost use Rattle.std.specs.Prelude.{◌≤◌, ◌+◌, ◌^◌, All, length};
+ghost use Rattle.flux_base.specs.Moments.{Puts, moment};
 ghost use Rattle.flux_writer.specs.Reading.{EndsWithTransition};
 ghost use Rattle.flux_writer.specs.Written.{stream_of_times};
 
@@ -17,12 +16,7 @@ pub fn write_times<W: Sink>(flux: &TrackFlux, sink: &mut W) -> Result<(), Failed
     requires last { EndsWithTransition flux.now.times flux.now.indexes }
     requires few { length flux.now.times + length flux.now.indexes ≤ 1048576 }
     requires early { All (λ time. time ≤ 2 ^ 39) flux.now.times }
-    ensures ok { OnOk result (Appends (W.written sink.old) (W.written sink.new)
-        (stream_of_times flux.now.times flux.now.indexes)) }
-    ensures err { OnErr result (AppendsPart (W.written sink.old) (W.written sink.new)
-        (stream_of_times flux.now.times flux.now.indexes)) }
-    ensures later { W.faults sink.old ≤ W.faults sink.new }
-    ensures cause { OnErr result (Rose (W.faults sink.old) (W.faults sink.new)) }
+    ensures { Puts (moment W.written W.faults sink.old) (moment W.written W.faults sink.new) (stream_of_times flux.now.times flux.now.indexes) result }
 {
     let mut stream = StreamWriter::new(flux.indexes(), IndexUnit::Ticks);
     for time in flux.times() {

@@ -1,6 +1,6 @@
 ghost use Rattle.std.specs.Prelude.{◌≡◌, ◌<◌, ◌≤◌, ◌+◌, ◌-◌, ◌++◌, [], All, length, OnOk, OnErr};
 ghost use Rattle.std.specs.List.Sorted.{IsStrictlyIncreasing};
-ghost use Rattle.std.specs.Io.KnownBytes.{Appends};
+ghost use Rattle.flux_base.specs.Moments.{Puts, moment};
 ghost use Rattle.flux_base.specs.Outside.{AppendsPart, Rose};
 ghost use Rattle.flux_writer.specs.Reading.{MOST_RING_CELLS, HasOneAfter, HasEarlyOne};
 ghost use Rattle.flux_writer.specs.inside.Writing.{IsReadyAt, IsWritten, many_blocks, times_between, track_times};
@@ -11,6 +11,9 @@ use crate::indexes::IndexUnit;
 use crate::stream::StreamWriter;
 use cell_bits::Cells;
 use flux_base::{Failed, Sink};
+
+/// How many cells are read together.
+const WORD: usize = 32;
 
 /// Writes the stream of a list of cells, of which each takes `nominal` fine units of 1/1024 tick: a transition
 /// for each one, and an index at the time of each of the index cells `turns`. The nominal cell is 16384 to
@@ -28,12 +31,7 @@ pub fn write_turns<W: Sink>(
     requires few { length cells.now.cells ≤ 2097152 }
     requires order { IsStrictlyIncreasing turns.now }
     requires ones { All (HasOneAfter cells.now.cells) turns.now }
-    ensures ok { OnOk result (Appends (W.written sink.old) (W.written sink.new)
-        (stream_of_turns cells.now.cells turns.now nominal)) }
-    ensures err { OnErr result (AppendsPart (W.written sink.old) (W.written sink.new)
-        (stream_of_turns cells.now.cells turns.now nominal)) }
-    ensures later { W.faults sink.old ≤ W.faults sink.new }
-    ensures cause { OnErr result (Rose (W.faults sink.old) (W.faults sink.new)) }
+    ensures { Puts (moment W.written W.faults sink.old) (moment W.written W.faults sink.new) (stream_of_turns cells.now.cells turns.now nominal) result }
 {
     let mut stream = StreamWriter::new(turns, IndexUnit::Cells { nominal });
     let whole = RingPart {
@@ -57,12 +55,7 @@ pub fn write_track<W: Sink>(ring: &Cells, nominal: u32, sink: &mut W) -> Result<
     requires most { nominal ≤ 131072 }
     requires few { length ring.now.cells ≤ MOST_RING_CELLS }
     requires one { HasEarlyOne ring.now.cells }
-    ensures ok { OnOk result (Appends (W.written sink.old) (W.written sink.new)
-        (stream_of ring.now.cells nominal)) }
-    ensures err { OnErr result (AppendsPart (W.written sink.old) (W.written sink.new)
-        (stream_of ring.now.cells nominal)) }
-    ensures later { W.faults sink.old ≤ W.faults sink.new }
-    ensures cause { OnErr result (Rose (W.faults sink.old) (W.faults sink.new)) }
+    ensures { Puts (moment W.written W.faults sink.old) (moment W.written W.faults sink.new) (stream_of ring.now.cells nominal) result }
 {
     let length = ring.len();
     let quarter = length / 4;
@@ -164,11 +157,61 @@ fn write_part<W: Sink>(
     ensures cause { OnErr result (Rose (W.faults sink.old) (W.faults sink.new)) }
 {
     let mut place = part.from;
-    while let Some(one) = cells.find_one(place, part.to) {
+    while place < part.to {
+        let count = WORD.min(part.to - place);
+        let word = RingPart {
+            from: place,
+            to: place + count,
+            number: part.number + (place - part.from) as u64,
+        };
+        match write_word(stream, cells, word, nominal, sink) {
+            Ok(()) => place += count,
+            Err(failed) => return Err(failed),
+        }
+    }
+    Ok(())
+}
+
+/// Writes the transitions of at most 32 cells. They are read as one word, of which the first one that is left is taken
+/// away, again and again.
+fn write_word<W: Sink>(
+    stream: &mut StreamWriter<'_>,
+    cells: &Cells,
+    part: RingPart,
+    nominal: u32,
+    sink: &mut W,
+) -> Result<(), Failed>
+    requires order { part.from ≤ part.to }
+    requires within { part.to ≤ length cells.now.cells }
+    requires word { part.to - part.from ≤ 32 }
+    requires few { part.number + (part.to - part.from) ≤ 2097152 }
+    requires nominal { nominal ≤ 131072 }
+    requires ready { IsReadyAt nominal stream.old.position stream.old.time part.number stream.old.indexes }
+    ensures ok { OnOk result (IsWritten (W.written sink.old) (W.written sink.new)
+        stream.old.piece stream.old.position stream.old.time stream.old.indexes
+        stream.new.piece stream.new.position stream.new.time stream.new.indexes
+        (times_between cells.now.cells part.from part.to part.number nominal)) }
+    ensures ready { OnOk result (IsReadyAt nominal stream.new.position stream.new.time
+        (part.number + (part.to - part.from)) stream.new.indexes) }
+    ensures err { OnErr result (AppendsPart (W.written sink.old) (W.written sink.new) (stream.old.piece
+        ++ spellings (many_blocks stream.old.position stream.old.time
+        (times_between cells.now.cells part.from part.to part.number nominal) stream.old.indexes))) }
+    ensures later { W.faults sink.old ≤ W.faults sink.new }
+    ensures cause { OnErr result (Rose (W.faults sink.old) (W.faults sink.new)) }
+{
+    let mut left = part.to - part.from;
+    if left == 0 {
+        return Ok(());
+    }
+    let mut ahead = cells.word_at(part.from, left as u8);
+    while ahead != 0 {
+        // how many cells stand behind the first one
+        left = 31 - ahead.leading_zeros() as usize;
+        let one = part.to - 1 - left;
         let number = part.number + (one - part.from) as u64;
         let time = (number + 1) * nominal as u64 / 1024;
         match stream.transition(time, sink) {
-            Ok(()) => place = one + 1,
+            Ok(()) => ahead -= 1 << left,
             Err(failed) => return Err(failed),
         }
     }

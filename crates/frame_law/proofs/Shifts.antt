@@ -1,5 +1,5 @@
 -- What is read in the cells from a place on, and in the whole list.
-use Rattle.std.proofs.Common.{◌≡◌, ℕ, ◌+◌, ◌-◌, Bool, List, take, drop, ap, sym, ◌∙◌, arith}
+use Rattle.std.proofs.Common.{◌≡◌, ℕ, ◌+◌, ◌-◌, Bool, List, [], ◌∷◌, take, drop, ap, sym, ◌∙◌, arith}
 use Rattle.std.proofs.lemmas.List.{drop-drop}
 use Rattle.cell_bits.specs.Broken.{Unbroken}
 use Rattle.cell_bits.specs.Bytes.{data_byte, data_cells}
@@ -9,6 +9,21 @@ pub data_byte-drop : (place : ℕ) (cells : List Bool) (offset : ℕ) → data_b
 unfolding data_byte
 data_byte-drop place cells offset =
     ap (λ (rest : List Bool). number_of (data_cells (take 16 rest))) (drop-drop offset place cells)
+
+pub data_bytes-drop : (place : ℕ) (cells : List Bool) (offset : ℕ)
+    → data_byte cells (place + offset) ∷ data_byte cells (place + offset + 16) ∷ data_byte cells (place + offset + 32) ∷ data_byte cells (place + offset + 48) ∷ []
+    ≡ data_byte (drop place cells) offset ∷ data_byte (drop place cells) (offset + 16) ∷ data_byte (drop place cells) (offset + 32) ∷ data_byte (drop place cells) (offset + 48) ∷ []
+data_bytes-drop place cells offset =
+    let first = data_byte-drop place cells offset in
+    let second = further 16 in
+    let third = further 32 in
+    let fourth = further 48 in
+    cc
+  where
+    further : (more : ℕ) → data_byte cells (place + offset + more) ≡ data_byte (drop place cells) (offset + more)
+    further more =
+        let at : place + offset + more ≡ place + (offset + more) = omega arith in
+        ap (data_byte cells) at ∙ sym (data_byte-drop place cells (offset + more))
 
 pub word-drop : (place : ℕ) (cells : List Bool) (offset count : ℕ) → word (drop place cells) offset count ≡ word cells (place + offset) count
 unfolding word

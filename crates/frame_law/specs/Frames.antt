@@ -1,17 +1,17 @@
 -- A sector on a track, said once for every recording: its header, and after it its data. What a header names and what data hold
 -- each recording says for itself.
-use Rattle.std.specs.Prelude.{ℕ, ◌+◌, ◌^◌, ◌<◌, ◌≤◌, Bool, List, length}
+use Rattle.std.specs.Prelude.{◌≡◌, ℕ, ◌+◌, ◌^◌, ◌<◌, ◌≤◌, Bool, List, length}
 use Rattle.cell_bits.specs.Broken.{Unbroken}
 use Rattle.cell_bits.specs.Word.{Stands}
 use Rattle.track_rings.specs.Rings.{IsSectorNumber}
 
--- A header of so many cells: it begins with the sync, names a sector of the track, and is unbroken.
-pub record HeaderStands (sync sync_cells header_cells first sectors : ℕ) (names : List Bool → ℕ → Type 0) (cells : List Bool) (sector : ℕ) : Type 0 where
+-- A header: it begins with the sync, names a sector of the track, and is whole and unbroken to its end.
+pub record HeaderStands (sync sync_cells : ℕ) (header_end : List Bool → ℕ) (first sectors : ℕ) (names : List Bool → ℕ → Type 0) (cells : List Bool) (sector : ℕ) : Type 0 where
   pub begins : Stands cells sync sync_cells 0
-  pub whole : header_cells ≤ length cells
+  pub whole : header_end cells ≤ length cells
   pub named : names cells sector
   pub known : IsSectorNumber first sectors sector
-  pub unbroken : Unbroken cells 0 header_cells
+  pub unbroken : Unbroken cells 0 (header_end cells)
 
 -- the data's sync begins less than this number of cells after the header
 abbrev pub DATA_REACH : ℕ
@@ -24,15 +24,14 @@ pub record IsDataSync (header_cells : ℕ) (is_sync : ℕ → Type 0) (sync : �
   pub stands : is_sync sync
   pub first : (place : ℕ) → header_cells ≤ place → place < sync → ¬ is_sync place
 
--- The data after a header, of so many cells from their sync on: they hold these bytes, and all cells from the header's begin to
--- their end are unbroken.
-pub record DataStand (header_cells data_cells : ℕ) (is_sync : List Bool → ℕ → Type 0) (hold : List Bool → ℕ → List ℕ → Type 0)
-    (cells : List Bool) (bytes : List ℕ) : Type 0 where
+-- The data after a header: they hold these bytes, and all cells from the header's begin to their end are unbroken.
+pub record DataStand (header_end : List Bool → ℕ) (data_end : List Bool → ℕ → ℕ) (is_sync : List Bool → ℕ → Type 0)
+    (hold : List Bool → ℕ → List ℕ → Type 0) (cells : List Bool) (bytes : List ℕ) : Type 0 where
   pub sync : ℕ
-  pub first_sync : IsDataSync header_cells (is_sync cells) sync
-  pub whole : sync + data_cells ≤ length cells
+  pub first_sync : IsDataSync (header_end cells) (is_sync cells) sync
+  pub whole : data_end cells sync ≤ length cells
   pub held : hold cells sync bytes
-  pub unbroken : Unbroken cells 0 (sync + data_cells)
+  pub unbroken : Unbroken cells 0 (data_end cells sync)
 
 -- a sector: its header and its data
 pub record SectorStands (Header Content : Type 0) : Type 0 where
@@ -48,6 +47,11 @@ pub record FrameStands (sync sync_cells header_cells data_place : ℕ) (names : 
   pub opens : is_sync cells data_place
   pub first : (place : ℕ) → header_cells ≤ place → place < data_place → ¬ is_sync cells place
   pub held : hold cells data_place bytes
+
+-- where a frame ends that is written: its header after so many cells, and its data, whose sync stands at the data's place, after so many
+pub record EndsAt (header_cells data_cells data_place : ℕ) (header_end : List Bool → ℕ) (data_end : List Bool → ℕ → ℕ) (cells : List Bool) : Type 0 where
+  pub header_ends : header_end cells ≡ header_cells
+  pub data_ends : data_end cells data_place ≡ data_place + data_cells
 
 -- the distances of ones, the cells of a sync and of a header, and how many zeros may stand last in a row
 pub record AreSizes (shortest longest sync_cells header_cells zeros : ℕ) : Type 0 where

@@ -1,4 +1,4 @@
-ghost use Rattle.std.specs.Prelude.{◌≡◌, ℕ, ◌+◌, ◌*◌, ◌^◌, ◌<◌, ◌≤◌, List, Bool, length, drop, IsTrue, ◌↔◌};
+ghost use Rattle.std.specs.Prelude.{◌≡◌, ℕ, ◌+◌, ◌*◌, ◌^◌, ◌<◌, ◌≤◌, List, [], ◌∷◌, Bool, length, drop, IfNone, IfSome, IsTrue, ◌↔◌};
 ghost use Rattle.cell_bits.specs.Broken.{Unbroken};
 ghost use Rattle.cell_bits.specs.Bytes.{data_byte};
 ghost use Rattle.cell_bits.specs.Search.{IsFirstWord};
@@ -42,6 +42,17 @@ impl<'a> CellsFrom<'a> {
         self.cells.len() - self.place
     }
 
+    /// The offset, which is None where the cells end before it.
+    pub fn end_within(&self, offset: usize) -> Option<usize>
+        ensures some { IfSome result (λ end. (end ≡ offset) × (end ≤ length self.now)) }
+        ensures none { IfNone result (length self.now < offset) }
+    {
+        if self.len() < offset {
+            return None;
+        }
+        Some(offset)
+    }
+
     /// Whether the low `count` bits of the word, 1 to 32, stand whole at the offset, high bit first.
     pub fn stands_at(&self, offset: usize, word: u32, count: u8) -> bool
         requires some { 1 ≤ count }
@@ -83,6 +94,15 @@ impl<'a> CellsFrom<'a> {
         ensures { result ≡ data_byte self.now offset }
     {
         self.cells.data_byte_at(self.place + offset)
+    }
+
+    /// The four bytes in the data cells of the 64 cells at the offset, which lie in the list.
+    pub fn bytes_at(&self, offset: usize) -> [u8; 4]
+        requires { offset + 64 ≤ length self.now }
+        ensures { result ≡ data_byte self.now offset ∷ data_byte self.now (offset + 16)
+            ∷ data_byte self.now (offset + 32) ∷ data_byte self.now (offset + 48) ∷ [] }
+    {
+        self.cells.data_bytes_at(self.place + offset)
     }
 
     /// Whether no eight zeros in a row lie in the first `count` cells, which lie in the list.

@@ -18,8 +18,8 @@ pub(crate) fn read_frame<L: Layout>(
 ) -> Reading
     requires track { L.has_track layout.now track }
     requires sync { Stands frame.now L.SYNC L.SYNC_CELLS 0 }
-    ensures { let header : (s : ℕ) → Type 0 = λ s. HeaderStands L.SYNC L.SYNC_CELLS L.HEADER_CELLS (L.lowest_sector layout.now) (L.sector_count layout.now track) (L.names_sector layout.now track) frame.now s in
-        let content : List ℕ → Type 0 = λ bytes. DataStand L.HEADER_CELLS (L.data_cells layout.now) (L.is_sync layout.now) (L.hold layout.now) frame.now bytes in
+    ensures { let header : (s : ℕ) → Type 0 = λ s. HeaderStands L.SYNC L.SYNC_CELLS (L.header_end layout.now) (L.lowest_sector layout.now) (L.sector_count layout.now track) (L.names_sector layout.now track) frame.now s in
+        let content : List ℕ → Type 0 = λ bytes. DataStand (L.header_end layout.now) (L.data_end layout.now) (L.is_sync layout.now) (L.hold layout.now) frame.now bytes in
         Reads header (λ s bytes. SectorStands (header s) (content bytes)) result buffer.new.items }
 {
     buffer.clear();
@@ -37,12 +37,10 @@ pub(crate) fn read_frame<L: Layout>(
 fn header_sector<L: Layout>(layout: &L, frame: &CellsFrom, track: TrackId) -> Option<u8>
     requires track { L.has_track layout.now track }
     requires sync { Stands frame.now L.SYNC L.SYNC_CELLS 0 }
-    ensures stands { IfSome result (λ s. HeaderStands L.SYNC L.SYNC_CELLS L.HEADER_CELLS (L.lowest_sector layout.now) (L.sector_count layout.now track) (L.names_sector layout.now track) frame.now s) }
-    ensures none { IfNone result ((s : ℕ) → ¬ HeaderStands L.SYNC L.SYNC_CELLS L.HEADER_CELLS (L.lowest_sector layout.now) (L.sector_count layout.now track) (L.names_sector layout.now track) frame.now s) }
+    ensures stands { IfSome result (λ s. HeaderStands L.SYNC L.SYNC_CELLS (L.header_end layout.now) (L.lowest_sector layout.now) (L.sector_count layout.now track) (L.names_sector layout.now track) frame.now s) }
+    ensures none { IfNone result ((s : ℕ) → ¬ HeaderStands L.SYNC L.SYNC_CELLS (L.header_end layout.now) (L.lowest_sector layout.now) (L.sector_count layout.now track) (L.names_sector layout.now track) frame.now s) }
 {
-    if frame.len() < L::HEADER_CELLS {
-        return None;
-    }
+    let header_end = layout.header_end(frame)?;
     let sector = layout.read_header(frame, track)?;
     let first = layout.lowest_sector();
     if sector < first {
@@ -51,7 +49,7 @@ fn header_sector<L: Layout>(layout: &L, frame: &CellsFrom, track: TrackId) -> Op
     if sector - first >= layout.sector_count(track) {
         return None;
     }
-    if !frame.unbroken_to(L::HEADER_CELLS) {
+    if !frame.unbroken_to(header_end) {
         return None;
     }
     Some(sector)
@@ -59,17 +57,17 @@ fn header_sector<L: Layout>(layout: &L, frame: &CellsFrom, track: TrackId) -> Op
 
 /// Whether data stand after the header at the front of the cells. Then the buffer, which was empty, has them.
 fn read_content<L: Layout>(layout: &L, frame: &CellsFrom, buffer: &mut SectorBuffer) -> bool
-    requires { buffer.old.items ≡ [] }
-    ensures good { IsTrue result → DataStand L.HEADER_CELLS (L.data_cells layout.now) (L.is_sync layout.now) (L.hold layout.now) frame.now buffer.new.items }
-    ensures bad { result ≡ false → (bytes : List ℕ) → ¬ DataStand L.HEADER_CELLS (L.data_cells layout.now) (L.is_sync layout.now) (L.hold layout.now) frame.now bytes }
+    requires header { L.header_end layout.now frame.now ≤ length frame.now }
+    requires empty { buffer.old.items ≡ [] }
+    ensures good { IsTrue result → DataStand (L.header_end layout.now) (L.data_end layout.now) (L.is_sync layout.now) (L.hold layout.now) frame.now buffer.new.items }
+    ensures bad { result ≡ false → (bytes : List ℕ) → ¬ DataStand (L.header_end layout.now) (L.data_end layout.now) (L.is_sync layout.now) (L.hold layout.now) frame.now bytes }
 {
     let Some(sync) = layout.find_data(frame) else {
         return false;
     };
-    let end = sync + layout.data_cells();
-    if frame.len() < end {
+    let Some(end) = layout.data_end(frame, sync) else {
         return false;
-    }
+    };
     if !frame.unbroken_to(end) {
         return false;
     }

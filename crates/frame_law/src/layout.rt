@@ -1,8 +1,8 @@
 ghost use Rattle.std.specs.Prelude.{◌≡◌, ℕ, ◌+◌, ◌*◌, ◌^◌, ◌<◌, ◌≤◌, ◌⊎◌, ◌&&◌, List, [], ◌++◌, Bool, false, length, IfSome, IfNone, IsTrue};
 ghost use Rattle.cell_bits.specs.Bytes.{last_cell};
 ghost use Rattle.flux_base.specs.declared.track.TrackId.{TrackId};
-ghost use Rattle.frame_law.specs.Frames.{AreSizes, FrameStands, IsDataSync, IsWithinReach};
-ghost use Rattle.frame_law.specs.lemmas.OwnFrames.{HasOwnSyncs, TellsEarly};
+ghost use Rattle.frame_law.specs.Frames.{AreSizes, EndsAt, FrameStands, IsDataSync, IsWithinReach};
+ghost use Rattle.frame_law.specs.lemmas.OwnFrames.{HasOwnSyncs, TellsEarly, TellsEnds};
 ghost use Rattle.frame_law.specs.Writing.{AppendsCells};
 ghost use Rattle.track_rings.specs.Rings.{AreSectors, IsSectorNumber, AreBytes};
 ghost use Rattle.track_rings.specs.Rows.{IsContent, Rows, frame_size, last_of, place_of, ring_of, ring_size, rows_cells, sector_rows};
@@ -31,8 +31,6 @@ pub trait Layout {
     const SYNC: u32;
     /// How many cells these are, 1 to 32.
     const SYNC_CELLS: u8;
-    /// The cells of a header, from the begin of its sync to its end.
-    const HEADER_CELLS: usize;
 
     ghost SHORTEST: { ℕ };
 
@@ -42,7 +40,8 @@ pub trait Layout {
 
     ghost SYNC_CELLS: { ℕ };
 
-    ghost HEADER_CELLS: { ℕ };
+    /// How many cells a header has that is written, from the begin of its sync to its end. None that is read has fewer.
+    ghost header_cells: { ℕ };
 
     /// The track is one of the recording's.
     ghost has_track: { Self → TrackId → Type 0 };
@@ -55,7 +54,10 @@ pub trait Layout {
 
     ghost track_cells: { Self → TrackId → ℕ };
 
-    /// The header at the front of the cells, which are as many as one has, names this sector of this track.
+    /// Where the header at the front of the cells ends.
+    ghost header_end: { Self → List Bool → ℕ };
+
+    /// The header at the front of the cells, which is whole, names this sector of this track.
     ghost names_sector: { Self → TrackId → List Bool → ℕ → Type 0 };
 
     /// A sync for data, whether it opens them or not, stands at this place of the cells.
@@ -64,7 +66,10 @@ pub trait Layout {
     /// The data of the frame at the front of the cells, whose sync stands at this place, hold these bytes.
     ghost hold: { Self → List Bool → ℕ → List ℕ → Type 0 };
 
-    /// How many cells data have, from the begin of their sync on.
+    /// Where the data of the frame at the front of the cells end, whose sync stands at this place.
+    ghost data_end: { Self → List Bool → ℕ → ℕ };
+
+    /// How many cells data have that are written, from the begin of their sync on. None that are read have fewer.
     ghost data_cells: { Self → ℕ };
 
     /// The rows of a track.
@@ -103,10 +108,6 @@ pub trait Layout {
         requires { has_track self.now track }
         ensures { result ≡ track_cells self.now track };
 
-    /// How many cells data have, from the begin of their sync on.
-    fn data_cells(&self) -> usize
-        ensures { result ≡ data_cells self.now };
-
     /// The rows before the track's first sector.
     fn lead_in(&self, track: TrackId) -> &[Self::Row]
         requires { has_track self.now track }
@@ -138,35 +139,47 @@ pub trait Layout {
         ensures { let before = asks && last_cell cells.old.cells in
             AppendsCells cells.old cells.new (row_cells self.now track before sector bytes.now row) result };
 
+    /// Where the header at the front of the cells ends. None where it is not whole.
+    fn header_end(&self, frame: &CellsFrom) -> Option<usize>
+        ensures some { IfSome result (λ end. (end ≡ header_end self.now frame.now) × (end ≤ length frame.now)) }
+        ensures none { IfNone result (length frame.now < header_end self.now frame.now) };
+
     /// The sector of this track that the header at the front of the cells names.
     fn read_header(&self, frame: &CellsFrom, track: TrackId) -> Option<u8>
         requires track { has_track self.now track }
-        requires whole { HEADER_CELLS ≤ length frame.now }
+        requires whole { header_end self.now frame.now ≤ length frame.now }
         ensures named { IfSome result (λ sector. names_sector self.now track frame.now sector) }
         ensures none { IfNone result ((sector : ℕ) → ¬ names_sector self.now track frame.now sector) };
 
     /// The place of the first sync after the header at the front of the cells, where it is within reach.
     fn find_data(&self, frame: &CellsFrom) -> Option<usize>
-        ensures first { IfSome result (λ sync. IsDataSync HEADER_CELLS (is_sync self.now frame.now) sync) }
-        ensures none { IfNone result ((sync : ℕ) → ¬ IsDataSync HEADER_CELLS (is_sync self.now frame.now) sync) };
+        requires whole { header_end self.now frame.now ≤ length frame.now }
+        ensures first { IfSome result (λ sync. IsDataSync (header_end self.now frame.now) (is_sync self.now frame.now) sync) }
+        ensures none { IfNone result ((sync : ℕ) → ¬ IsDataSync (header_end self.now frame.now) (is_sync self.now frame.now) sync) };
+
+    /// Where the data end whose sync stands at the place. None where they are not whole.
+    fn data_end(&self, frame: &CellsFrom, sync: usize) -> Option<usize>
+        requires { IsDataSync (header_end self.now frame.now) (is_sync self.now frame.now) sync }
+        ensures some { IfSome result (λ end. (end ≡ data_end self.now frame.now sync) × (end ≤ length frame.now)) }
+        ensures none { IfNone result (length frame.now < data_end self.now frame.now sync) };
 
     /// Whether the data whose sync stands at the place hold bytes. Then the buffer, which was empty, has them.
     fn read_data(&self, frame: &CellsFrom, sync: usize, buffer: &mut SectorBuffer) -> bool
-        requires sync { IsDataSync HEADER_CELLS (is_sync self.now frame.now) sync }
-        requires whole { sync + data_cells self.now ≤ length frame.now }
+        requires sync { IsDataSync (header_end self.now frame.now) (is_sync self.now frame.now) sync }
+        requires whole { data_end self.now frame.now sync ≤ length frame.now }
         requires empty { buffer.old.items ≡ [] }
         ensures good { IsTrue result → hold self.now frame.now sync buffer.new.items }
         ensures bad { result ≡ false → (bytes : List ℕ) → ¬ hold self.now frame.now sync bytes };
 
     /// The distances of ones are 1 to 4 cells, a sync has 1 to 32, and a header has four at least.
-    ghost sizes: { AreSizes SHORTEST LONGEST SYNC_CELLS HEADER_CELLS last_zeros };
+    ghost sizes: { AreSizes SHORTEST LONGEST SYNC_CELLS header_cells last_zeros };
 
     /// A sector's number has 8 bits, and its bytes fit the buffer.
     ghost counts: { (r : Self) (track : TrackId) → has_track r track →
         (1 ≤ sector_count r track) × (lowest_sector r + sector_count r track ≤ 256) × (sector_bytes r ≤ 512) };
 
     /// The data of a frame that is written begin within reach of its header.
-    ghost reach: { (r : Self) → IsWithinReach HEADER_CELLS (data_place r) (data_cells r) };
+    ghost reach: { (r : Self) → IsWithinReach header_cells (data_place r) (data_cells r) };
 
     /// The rows of a frame end where its data do, and all rows together are the track's ring.
     ghost sums: { (r : Self) (track : TrackId) → has_track r track →
@@ -203,16 +216,26 @@ pub trait Layout {
     ghost frame_stands: { (r : Self) (track : TrackId) (s : ℕ) (bytes : List ℕ) (before : Bool) (rest : List Bool) →
         has_track r track → IsSectorNumber (lowest_sector r) (sector_count r track) s →
         AreBytes bytes → length bytes ≡ sector_bytes r →
-        FrameStands SYNC SYNC_CELLS HEADER_CELLS (data_place r) (names_sector r track) (is_sync r) (hold r)
+        FrameStands SYNC SYNC_CELLS header_cells (data_place r) (names_sector r track) (is_sync r) (hold r)
         (rows_cells asks (row_cells r track) before s bytes (rows r track).frame ++ rest) s bytes };
+
+    /// A frame that is written ends after the cells of its header and of its data.
+    ghost frame_ends: { (r : Self) (track : TrackId) (s : ℕ) (bytes : List ℕ) (before : Bool) (rest : List Bool) →
+        has_track r track → IsSectorNumber (lowest_sector r) (sector_count r track) s →
+        AreBytes bytes → length bytes ≡ sector_bytes r →
+        EndsAt header_cells (data_cells r) (data_place r) (header_end r) (data_end r)
+        (rows_cells asks (row_cells r track) before s bytes (rows r track).frame ++ rest) };
+
+    /// Where a header and data end is told by their own cells.
+    ghost tells_ends: { (r : Self) → TellsEnds header_cells (data_cells r) (header_end r) (data_end r) };
 
     /// What a header names, and what data hold, is told by their own cells, and by all of these but the last seven.
     ghost tells: { (r : Self) (track : TrackId) →
-        TellsEarly SYNC_CELLS HEADER_CELLS (data_cells r) (names_sector r track) (is_sync r) (hold r) };
+        TellsEarly SYNC_CELLS header_cells (data_cells r) (header_end r) (data_end r) (names_sector r track) (is_sync r) (hold r) };
 
     /// The first cells of a header stand in a ring only where a header begins.
     ghost own_syncs: { (r : Self) (track : TrackId) → has_track r track →
-        HasOwnSyncs SYNC SYNC_CELLS HEADER_CELLS (lowest_sector r) (sector_count r track) (names_sector r track)
+        HasOwnSyncs SYNC SYNC_CELLS header_cells (lowest_sector r) (sector_count r track) (names_sector r track)
         (place_of (row_size r track) (lowest_sector r) (sector_bytes r) (rows r track))
         (AreSectors (sector_count r track) (sector_bytes r))
         (λ bytes. ring_of asks (row_cells r track) (lowest_sector r) (sector_count r track) (sector_bytes r) bytes (rows r track)) };

@@ -30,12 +30,12 @@ impl<L: Layout> Recording for L {
     ghost has_track = { λ r track. L.has_track r track };
 
     ghost header_at = { λ r track cells s.
-        HeaderStands L.SYNC L.SYNC_CELLS L.HEADER_CELLS (L.lowest_sector r) (L.sector_count r track) (L.names_sector r track) cells s };
+        HeaderStands L.SYNC L.SYNC_CELLS (L.header_end r) (L.lowest_sector r) (L.sector_count r track) (L.names_sector r track) cells s };
 
     ghost sector_at = { λ r track cells s bytes.
         SectorStands
-        (HeaderStands L.SYNC L.SYNC_CELLS L.HEADER_CELLS (L.lowest_sector r) (L.sector_count r track) (L.names_sector r track) cells s)
-        (DataStand L.HEADER_CELLS (L.data_cells r) (L.is_sync r) (L.hold r) cells bytes) };
+        (HeaderStands L.SYNC L.SYNC_CELLS (L.header_end r) (L.lowest_sector r) (L.sector_count r track) (L.names_sector r track) cells s)
+        (DataStand (L.header_end r) (L.data_end r) (L.is_sync r) (L.hold r) cells bytes) };
 
     ghost ring = { λ r track bytes.
         ring_of L.asks (L.row_cells r track) (L.lowest_sector r) (L.sector_count r track) (L.sector_bytes r) bytes (L.rows r track) };
@@ -118,7 +118,7 @@ impl<L: Layout> Recording for L {
     ghost one_header = { λ r track cells s t first second. L.one_name r track cells s t first.named second.named };
 
     ghost one_content = { λ r track cells s t xs ys first second.
-        one_content L.HEADER_CELLS (L.data_cells r) (L.is_sync r) (L.hold r) cells xs ys (L.one_content r cells)
+        one_content (L.header_end r) (L.data_end r) (L.is_sync r) (L.hold r) cells xs ys (L.one_content r cells)
         first.content second.content };
 
     ghost header_of_sector = { λ r track cells s xs sector. sector.header };
@@ -141,7 +141,7 @@ impl<L: Layout> Recording for L {
     ghost ring_spaced = { λ r track bytes known given.
         ring_spaced L.asks (L.row_cells r track) (L.row_size r track) (L.row_length r track)
         (L.lowest_sector r) (L.sector_count r track) (L.sector_bytes r) (L.rows r track)
-        L.SHORTEST L.LONGEST L.last_zeros L.SYNC_CELLS L.HEADER_CELLS L.sizes
+        L.SHORTEST L.LONGEST L.last_zeros L.SYNC_CELLS L.header_cells L.sizes
         (λ s content row. L.row_follows r track s content row known)
         bytes (L.data_place r) (L.data_cells r) (L.counts r track known).0 (L.reach r) given (L.sums r track known).0
         (λ before. L.ends r track before known) };
@@ -149,17 +149,20 @@ impl<L: Layout> Recording for L {
     ghost sector_stands = { λ r track bytes s from count place known given number lies.
         sector_stands L.asks (L.row_cells r track) (L.row_size r track) (L.row_length r track)
         (L.lowest_sector r) (L.sector_count r track) (L.sector_bytes r) (L.rows r track)
-        L.SHORTEST L.LONGEST L.last_zeros L.SYNC_CELLS L.HEADER_CELLS L.sizes
+        L.SHORTEST L.LONGEST L.last_zeros L.SYNC_CELLS L.header_cells L.sizes
         (λ n content row. L.row_follows r track n content row known)
-        (L.data_cells r) L.SYNC (L.data_place r) (L.is_sync r) (L.hold r) (L.names_sector r track)
+        (L.data_cells r) L.SYNC (L.data_place r) (L.header_end r) (L.data_end r) (L.is_sync r) (L.hold r) (L.names_sector r track)
         bytes s from count place (L.track_cells r track) given number
-        (λ content before rest fit long. L.frame_stands r track s content before rest known number fit long)
+        (λ content before rest fit long. (
+          L.frame_stands r track s content before rest known number fit long,
+          L.frame_ends r track s content before rest known number fit long,
+        ))
         (L.sums r track known).0 (L.sums r track known).1 (L.reach r) lies };
 
     ghost frame_whole = { λ r track bytes s known given number.
         frame_within L.asks (L.row_cells r track) (L.row_size r track) (L.row_length r track)
         (L.lowest_sector r) (L.sector_count r track) (L.sector_bytes r) (L.rows r track)
-        L.SHORTEST L.LONGEST L.last_zeros L.SYNC_CELLS L.HEADER_CELLS L.sizes
+        L.SHORTEST L.LONGEST L.last_zeros L.SYNC_CELLS L.header_cells L.sizes
         (λ n content row. L.row_follows r track n content row known)
         bytes s (L.track_cells r track) (L.data_place r + L.data_cells r) (L.counts r track known).0 given number
         (L.sums r track known).0 (L.sums r track known).1 };
@@ -167,18 +170,18 @@ impl<L: Layout> Recording for L {
     ghost frame_some = { λ r. some_cells L.sizes (L.reach r) };
 
     ghost header_alone = { λ r track cells s header.
-        header_alone L.HEADER_CELLS (L.data_cells r) (L.is_sync r) (L.hold r) L.SYNC L.SYNC_CELLS (L.data_place r)
-        (L.lowest_sector r) (L.sector_count r track) (L.names_sector r track) (L.tells r track)
+        header_alone L.header_cells (L.data_cells r) (L.header_end r) (L.data_end r) (L.is_sync r) (L.hold r) L.SYNC L.SYNC_CELLS (L.data_place r)
+        (L.lowest_sector r) (L.sector_count r track) (L.names_sector r track) (L.tells_ends r) (L.tells r track)
         cells s (some_header L.sizes) header };
 
     ghost sector_alone = { λ r track cells s xs sector.
-        sector_alone L.HEADER_CELLS (L.data_cells r) (L.is_sync r) (L.hold r) L.SYNC L.SYNC_CELLS (L.data_place r)
-        (L.lowest_sector r) (L.sector_count r track) (L.names_sector r track) (L.tells r track)
+        sector_alone L.header_cells (L.data_cells r) (L.header_end r) (L.data_end r) (L.is_sync r) (L.hold r) L.SYNC L.SYNC_CELLS (L.data_place r)
+        (L.lowest_sector r) (L.sector_count r track) (L.names_sector r track) (L.tells_ends r) (L.tells r track)
         cells s xs (some_header L.sizes) sector };
 
     ghost header_own = { λ r track bytes s zeros from count behind place known given header.
-        header_own L.HEADER_CELLS (L.data_cells r) (L.is_sync r) (L.hold r) L.SYNC L.SYNC_CELLS (L.data_place r)
-        (L.lowest_sector r) (L.sector_count r track) (L.names_sector r track) (L.tells r track)
+        header_own L.header_cells (L.data_cells r) (L.header_end r) (L.data_end r) (L.is_sync r) (L.hold r) L.SYNC L.SYNC_CELLS (L.data_place r)
+        (L.lowest_sector r) (L.sector_count r track) (L.names_sector r track) (L.tells_ends r) (L.tells r track)
         (place_of (L.row_size r track) (L.lowest_sector r) (L.sector_bytes r) (L.rows r track))
         (AreSectors (L.sector_count r track) (L.sector_bytes r))
         (λ content. ring_of L.asks (L.row_cells r track) (L.lowest_sector r) (L.sector_count r track) (L.sector_bytes r) content (L.rows r track))
@@ -191,7 +194,7 @@ impl<L: Layout> Recording for L {
         (λ n number.
         (frame_within L.asks (L.row_cells r track) (L.row_size r track) (L.row_length r track)
         (L.lowest_sector r) (L.sector_count r track) (L.sector_bytes r) (L.rows r track)
-        L.SHORTEST L.LONGEST L.last_zeros L.SYNC_CELLS L.HEADER_CELLS L.sizes
+        L.SHORTEST L.LONGEST L.last_zeros L.SYNC_CELLS L.header_cells L.sizes
         (λ m content row. L.row_follows r track m content row known)
         bytes n (L.track_cells r track) (L.data_place r + L.data_cells r) (L.counts r track known).0 given number
         (L.sums r track known).0 (L.sums r track known).1).0)
@@ -201,17 +204,20 @@ impl<L: Layout> Recording for L {
         (λ n n_from n_count n_place number lies.
         sector_stands L.asks (L.row_cells r track) (L.row_size r track) (L.row_length r track)
         (L.lowest_sector r) (L.sector_count r track) (L.sector_bytes r) (L.rows r track)
-        L.SHORTEST L.LONGEST L.last_zeros L.SYNC_CELLS L.HEADER_CELLS L.sizes
+        L.SHORTEST L.LONGEST L.last_zeros L.SYNC_CELLS L.header_cells L.sizes
         (λ m content row. L.row_follows r track m content row known)
-        (L.data_cells r) L.SYNC (L.data_place r) (L.is_sync r) (L.hold r) (L.names_sector r track)
+        (L.data_cells r) L.SYNC (L.data_place r) (L.header_end r) (L.data_end r) (L.is_sync r) (L.hold r) (L.names_sector r track)
         bytes n n_from n_count n_place (L.track_cells r track) given number
-        (λ content before rest fit long. L.frame_stands r track n content before rest known number fit long)
+        (λ content before rest fit long. (
+          L.frame_stands r track n content before rest known number fit long,
+          L.frame_ends r track n content before rest known number fit long,
+        ))
         (L.sums r track known).0 (L.sums r track known).1 (L.reach r) lies)
         s zeros from count behind place header };
 
     ghost sector_own = { λ r track bytes s zeros from count behind place xs known given sector.
-        sector_own L.HEADER_CELLS (L.data_cells r) (L.is_sync r) (L.hold r) L.SYNC L.SYNC_CELLS (L.data_place r)
-        (L.lowest_sector r) (L.sector_count r track) (L.names_sector r track) (L.tells r track)
+        sector_own L.header_cells (L.data_cells r) (L.header_end r) (L.data_end r) (L.is_sync r) (L.hold r) L.SYNC L.SYNC_CELLS (L.data_place r)
+        (L.lowest_sector r) (L.sector_count r track) (L.names_sector r track) (L.tells_ends r) (L.tells r track)
         (place_of (L.row_size r track) (L.lowest_sector r) (L.sector_bytes r) (L.rows r track))
         (AreSectors (L.sector_count r track) (L.sector_bytes r))
         (λ content. ring_of L.asks (L.row_cells r track) (L.lowest_sector r) (L.sector_count r track) (L.sector_bytes r) content (L.rows r track))
@@ -224,7 +230,7 @@ impl<L: Layout> Recording for L {
         (λ n number.
         (frame_within L.asks (L.row_cells r track) (L.row_size r track) (L.row_length r track)
         (L.lowest_sector r) (L.sector_count r track) (L.sector_bytes r) (L.rows r track)
-        L.SHORTEST L.LONGEST L.last_zeros L.SYNC_CELLS L.HEADER_CELLS L.sizes
+        L.SHORTEST L.LONGEST L.last_zeros L.SYNC_CELLS L.header_cells L.sizes
         (λ m content row. L.row_follows r track m content row known)
         bytes n (L.track_cells r track) (L.data_place r + L.data_cells r) (L.counts r track known).0 given number
         (L.sums r track known).0 (L.sums r track known).1).0)
@@ -234,17 +240,20 @@ impl<L: Layout> Recording for L {
         (λ n n_from n_count n_place number lies.
         sector_stands L.asks (L.row_cells r track) (L.row_size r track) (L.row_length r track)
         (L.lowest_sector r) (L.sector_count r track) (L.sector_bytes r) (L.rows r track)
-        L.SHORTEST L.LONGEST L.last_zeros L.SYNC_CELLS L.HEADER_CELLS L.sizes
+        L.SHORTEST L.LONGEST L.last_zeros L.SYNC_CELLS L.header_cells L.sizes
         (λ m content row. L.row_follows r track m content row known)
-        (L.data_cells r) L.SYNC (L.data_place r) (L.is_sync r) (L.hold r) (L.names_sector r track)
+        (L.data_cells r) L.SYNC (L.data_place r) (L.header_end r) (L.data_end r) (L.is_sync r) (L.hold r) (L.names_sector r track)
         bytes n n_from n_count n_place (L.track_cells r track) given number
-        (λ content before rest fit long. L.frame_stands r track n content before rest known number fit long)
+        (λ content before rest fit long. (
+          L.frame_stands r track n content before rest known number fit long,
+          L.frame_ends r track n content before rest known number fit long,
+        ))
         (L.sums r track known).0 (L.sums r track known).1 (L.reach r) lies)
         s zeros from count behind place xs sector };
 
     ghost no_header = { λ r track count s known header.
-        no_header L.HEADER_CELLS (L.data_cells r) (L.is_sync r) (L.hold r) L.SYNC L.SYNC_CELLS (L.data_place r)
-        (L.lowest_sector r) (L.sector_count r track) (L.names_sector r track) (L.tells r track)
+        no_header L.header_cells (L.data_cells r) (L.header_end r) (L.data_end r) (L.is_sync r) (L.hold r) L.SYNC L.SYNC_CELLS (L.data_place r)
+        (L.lowest_sector r) (L.sector_count r track) (L.names_sector r track) (L.tells_ends r) (L.tells r track)
         (place_of (L.row_size r track) (L.lowest_sector r) (L.sector_bytes r) (L.rows r track))
         (AreSectors (L.sector_count r track) (L.sector_bytes r))
         (λ content. ring_of L.asks (L.row_cells r track) (L.lowest_sector r) (L.sector_count r track) (L.sector_bytes r) content (L.rows r track))

@@ -1,5 +1,5 @@
 -- What contracts see of the transitions and index moments of one captured track.
-use Rattle.std.specs.Prelude.{ℕ, ◌+◌, ◌-◌, ◌≤◌, List, length, count_by, nat_le, slice_index}
+use Rattle.std.specs.Prelude.{ℕ, ◌+◌, ◌-◌, ◌≤◌, List, [], ◌∷◌, length, count_by, nat_le, slice_index}
 
 -- the times of the transitions, the index times, both in ticks, and how many more of each fit without
 -- taking memory
@@ -21,6 +21,11 @@ room_of_indexes t = length t.indexes + t.spare_indexes
 pub record KeepsRoom (old new : TrackState) : Type 0 where
   pub times : room_of_times old ≤ room_of_times new
   pub indexes : room_of_indexes old ≤ room_of_indexes new
+
+-- the times of transitions that follow one another at these intervals, the first of them so long after `start`
+abbrev pub times_after : ℕ → List ℕ → List ℕ
+times_after start [] = []
+times_after start (interval ∷ intervals) = (start + interval) ∷ times_after (start + interval) intervals
 
 -- the turn in which a time lies: how many index times are at or before it
 abbrev pub turn_at : List ℕ → ℕ → ℕ

@@ -1,10 +1,13 @@
-ghost use Rattle.std.specs.Prelude.{◌≡◌, ℕ, ◌+◌, ◌*◌, ◌-◌, ◌^◌, ◌<◌, ◌≤◌, [], ◌∷◌, ◌++◌, length, All, OnOk, OnErr, IsOk};
+ghost use Rattle.std.specs.Prelude.{◌≡◌, ℕ, ◌+◌, ◌*◌, ◌-◌, ◌^◌, ◌<◌, ◌≤◌, [], ◌∷◌, ◌++◌, length, All, IfOk, OnOk, OnErr, IsOk, vec_len};
+ghost use Rattle.std.specs.List.{sum};
 ghost use Rattle.std.specs.List.Sorted.{IsNonDecreasing, IsStrictlyIncreasing};
-ghost use Rattle.index_turns.specs.Track.{KeepsRoom, turn_at, turn_length};
+ghost use Rattle.std.specs.Vec.{vec_capacity};
+ghost use Rattle.index_turns.specs.Track.{KeepsRoom, times_after, turn_at, turn_length};
 
 use flux_base::Memory;
 use std::alloc::Global;
 use std::marker::Model;
+use std::mem;
 
 /// What was captured of one track: the times of the transitions, which never fall from one to the next,
 /// and the index times, which rise strictly. All are in ticks.
@@ -73,6 +76,27 @@ impl TrackFlux {
         self.times.try_reserve(1)?;
         self.times.push_reserved(time);
         Ok(())
+    }
+
+    /// Appends the times of transitions that follow one another at these intervals, in ticks, the first of them so
+    /// long after `start`. Gives the time of the last, or `start` where there is none.
+    pub fn push_run(&mut self, start: u64, intervals: &[u8]) -> Result<u64, Memory>
+        requires order { All (λ earlier. earlier ≤ start) self.old.times }
+        requires within { start + 255 * length intervals.now < 2 ^ 64 }
+        ensures times { OnOk result (self.new.times ≡ self.old.times ++ times_after start intervals.now) }
+        ensures end { IfOk result (λ end. end ≡ start + sum intervals.now) }
+        ensures indexes { self.new.indexes ≡ self.old.indexes }
+        ensures room { KeepsRoom self.old self.new }
+        ensures spare_indexes { self.new.spare_indexes ≡ self.old.spare_indexes }
+        ensures succeeds { length intervals.now ≤ self.old.spare_times → IsOk result }
+        ensures err { OnErr result (self.new ≡ self.old) }
+    {
+        self.times.try_reserve(intervals.len())?;
+        let nothing = Vec::new(*self.times.allocator());
+        let times = mem::replace(&mut self.times, nothing);
+        let (times, end) = append_run(times, start, intervals);
+        self.times = times;
+        Ok(end)
     }
 
     /// Appends an index time, in ticks.
@@ -148,6 +172,23 @@ impl TrackFlux {
     }
 }
 
+/// Appends the times of a run of transitions to a list that has room for them, and gives the last of them. The list
+/// is handed over by value, so that its place and its length stay in registers.
+fn append_run(mut times: Vec<u64>, start: u64, intervals: &[u8]) -> (Vec<u64>, u64)
+    requires room { vec_len times + length intervals.now ≤ vec_capacity times }
+    requires within { start + 255 * length intervals.now < 2 ^ 64 }
+    ensures items { result.0.items ≡ times.items ++ times_after start intervals.now }
+    ensures capacity { vec_capacity result.0 ≡ vec_capacity times }
+    ensures end { result.1 ≡ start + sum intervals.now }
+{
+    let mut time = start;
+    for interval in intervals {
+        time += u64::from(*interval);
+        times.push_reserved(time);
+    }
+    (times, time)
+}
+
 #[cfg(test)]
 mod tests {
     use super::*;
@@ -170,6 +211,16 @@ mod tests {
         assert_eq!(rt; flux.turn_ticks(2), 303);
         flux.clear();
         assert_eq!(rt; flux.indexes().len(), 0);
+        Ok(())
+    }
+
+    #[test]
+    fn appends_a_run(rt: HostRuntime) -> Result<(), Memory> {
+        let mut flux = TrackFlux::new(rt.alloc());
+        flux.push_time(96)?;
+        assert_eq!(rt; flux.push_run(100, &[14, 255, 96]), Ok(465));
+        assert_eq!(rt; flux.push_run(465, &[]), Ok(465));
+        assert_eq!(rt; flux.times(), [96, 114, 369, 465].as_slice());
         Ok(())
     }
 }

@@ -21,7 +21,7 @@ use Rattle.kryo_stream.specs.Stream.{total_bytes, ticks, marks, index_time, bloc
 use Rattle.kryo_stream.specs.Outcome.{Answer, Says, IsTruncated, IsCut, IsRead, IsReadOfInput, DoNotTell, input_of, HasFullRoom, IsSmall, IsNotMemory, TrackCause}
 use Rattle.kryo_stream.specs.Tally.{at_start, behind, new_times, IsWithin, MayFollow, IsTally}
 use Rattle.kryo_stream.specs.Reads.{SourceMoment, Takes}
-use Rattle.kryo_stream.specs.Progress.{TakesOpenly, IsReading, Progress, IsBlockOpen, TakesBlock}
+use Rattle.kryo_stream.specs.Progress.{TakesOpenly, IsReading, ReadsOn, Progress, IsBlockOpen, TakesBlock}
 use Rattle.kryo_stream.proofs.BenchLemmas.{marks-length, marks-samples}
 use Rattle.kryo_stream.proofs.Pieces.{piece_at-follows}
 use Rattle.kryo_stream.proofs.Progressing.{IsReading-start, IsReading-more, IsReading-push, first_fault-here, first_fault-later, IsEnding, end-later}
@@ -66,6 +66,12 @@ Progress-push {old} {mid} {new} {held} {now} {next} {n} {b} {ts} {bench} p bench
           (subst (λ k. IsReading (held ++ here.taken) k (drop p.bytes (now ++ t.taken)) (behind b p) (ts ++ new_times b.time p.block) bench')
           one (IsReading-push (held ++ here.taken) n (now ++ t.taken) b ts bench bench' p here.reading t.says.0 going within more));
     }
+
+-- more blocks of what is held are read
+pub Progress-on : {old new : SourceMoment} {held now next : List ℕ} {n : ℕ} {b b' : Before} {ts ts' : List ℕ} {bench bench' : BenchState} (count : ℕ)
+    → Progress old new held now n b ts bench → ReadsOn count now next b b' ts ts' bench bench'
+    → Progress old new held next (n + count) b' ts' bench'
+Progress-on {held = held} {n = n} count r on = record { taken = r.taken; takes = r.takes; reading = on (held ++ r.taken) n r.reading }
 
 -- the bytes at hand are few, since the blocks that were read are within the limit
 pub few_at_hand : {old new : SourceMoment} {held rest : List ℕ} {n : ℕ} {b : Before} {ts : List ℕ} {bench : BenchState}
@@ -112,6 +118,18 @@ read_memory {old} {mid} {new} {held} {now} {next} {n} {b} {ts} {bench} flux answ
       ended = λ never. absurd never;
       cut = tt;
     }
+
+-- where memory is wanted for a run, nothing is said
+pub run_memory : {old new : SourceMoment} {held now next : List ℕ} {n : ℕ} {b : Before} {ts : List ℕ} {bench : BenchState} (flux : TrackState)
+    → Progress old new held now n b ts bench → length now ≤ 4096 → IsRead old.left new.left false held next flux (Err Memory)
+run_memory {b = b} flux r few = record {
+  taken = r.taken;
+  consumed = r.takes.consumed;
+  few = few_at_hand r (omega (arith, few, r.reading.tally.within.offset));
+  says = λ later none. tt;
+  ended = λ never. absurd never;
+  cut = tt;
+}
 
 -- what was taken for a block was needed
 pub taken_for_block : {old mid new : SourceMoment} {held now next : List ℕ} {n : ℕ} {b : Before} {ts : List ℕ} {bench : BenchState} {answer : Result BlockOrFault Failed}

@@ -7,7 +7,7 @@ use Rattle.std.proofs.Math.ListN.{get_or-eq_default}
 use Rattle.kryo_stream.specs.declared.block.SpelledBlock.{SpelledBlock}
 use Rattle.kryo_stream.specs.declared.fault.StreamFault.{StreamFault}
 use Rattle.kryo_stream.specs.declared.fault.StreamFault.TheVariants.{Truncated}
-use Rattle.kryo_stream.specs.Growth.{PaddingStays, StreamsAreShort, StreamsStay}
+use Rattle.kryo_stream.specs.Growth.{PaddingStays, StreamsAreShort, StreamsKeepTheLimit, StreamsStay}
 use Rattle.kryo_stream.specs.Protocol.{LIMIT}
 use Rattle.kryo_stream.specs.Padding.{is_padding, padding_of, unpadded}
 use Rattle.kryo_stream.specs.Pieces.{BlockOrFault}
@@ -118,6 +118,16 @@ streams_are_short x none =
       omega (arith, within, bytes, few, count),
       omega (arith, within, bytes, few, count', same),
     )
+
+pub streams_keep_the_limit : StreamsKeepTheLimit
+streams_keep_the_limit x none =
+    let n : ℕ = last_block x in
+    let read = read-whole x n (piece_behind x (pieces x n)) none in
+    let one_more : n + 1 ≡ suc n = omega arith in
+    let all : stream x ≡ pieces x n ++ read.0 ∷ [] = ap (pieces x) one_more ∙ ap (with_piece (pieces x n)) read.1 in
+    let within = limit-of x (pieces x n) read.0 read.1 in
+    let bytes = ap total_bytes all ∙ sum_by-push (λ q. q.bytes) (pieces x n) read.0 in
+    omega (arith, within, bytes)
 
 -- nothing is no stream
 nothing : first_fault [] ≡ Some (0, Truncated)

@@ -5,6 +5,7 @@ pub mod FindLemmas
 pub mod Growing
 pub mod IndexLemmas
 pub mod Joining
+pub mod Lanes
 pub mod Lists
 pub mod PaddingLemmas
 pub mod Pieces
@@ -13,6 +14,7 @@ pub mod ReadingLaws
 pub mod Readings
 pub mod ResolveLemmas
 pub mod Rows
+pub mod Runs
 pub mod Sequences
 pub mod Skipping
 pub mod SpellingLaws

@@ -9,7 +9,7 @@ use Rattle.std.specs.List.{filter_map, cons_option, range_with_len}
 pub sum_by-push : {X : Type 0} (f : X → ℕ) (xs : List X) (x : X) → sum_by f (xs ++ x ∷ []) ≡ sum_by f xs + f x
 sum_by-push f xs x = sum_by-append f xs (x ∷ []) ∙ ap (λ n. sum_by f xs + n) (omega arith)
 
-range_with_len-push : (a n : ℕ) → range_with_len a (suc n) ≡ range_with_len a n ++ (a + n) ∷ []
+pub range_with_len-push : (a n : ℕ) → range_with_len a (suc n) ≡ range_with_len a n ++ (a + n) ∷ []
 range_with_len-push a zero = ap (λ k. k ∷ []) (sym (add-zero a))
 range_with_len-push a (suc n) =
     let e : (a + 1) + n ≡ a + suc n = omega arith in

@@ -20,3 +20,7 @@ PaddingStays = (x later : List ℕ) → first_fault (unpadded x) ≡ None → un
 -- a stream has no more transitions, and no more index times, than it may have bytes
 abbrev pub StreamsAreShort : Type 0
 StreamsAreShort = (x : List ℕ) → first_fault x ≡ None → (length (times x) ≤ LIMIT) × (length (indexes x) ≤ LIMIT)
+
+-- nor has it more bytes
+abbrev pub StreamsKeepTheLimit : Type 0
+StreamsKeepTheLimit = (x : List ℕ) → first_fault x ≡ None → stream_length x ≤ LIMIT

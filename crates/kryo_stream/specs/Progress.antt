@@ -28,6 +28,11 @@ pub record IsReading (x : List ℕ) (n : ℕ) (rest : List ℕ) (b : Before) (ti
   pub tally : IsTally (pieces x n) b times
   pub noted : IsNoted (pieces x n) bench
 
+-- so many blocks more are read of what is held, whatever was read before them
+abbrev pub ReadsOn : ℕ → List ℕ → List ℕ → Before → Before → List ℕ → List ℕ → BenchState → BenchState → Type 0
+ReadsOn count rest rest' b b' times times' bench bench' = (x : List ℕ) (n : ℕ) → IsReading x n rest b times bench
+    → IsReading x (n + count) rest' b' times' bench'
+
 -- the same of the bytes that were held and taken
 pub record Progress (old new : SourceMoment) (held held' : List ℕ) (n : ℕ) (b : Before) (times : List ℕ) (bench : BenchState)
     : Type 0 where

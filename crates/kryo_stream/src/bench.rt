@@ -1,5 +1,7 @@
-ghost use Rattle.std.specs.Prelude.{◌≡◌, ◌≤◌, ◌<◌, ◌+◌, ◌-◌, ◌^◌, ◌++◌, ℕ, List, [], ◌∷◌, length, All, OnOk, OnErr, IfErr, IsOk, count_by, get_or, nat_lt, nat_le, slice_index};
+ghost use Rattle.std.specs.Prelude.{◌≡◌, ◌≤◌, ◌<◌, ◌+◌, ◌-◌, ◌^◌, ◌++◌, ℕ, List, [], ◌∷◌, length, All, OnOk, OnErr, IfErr, IsOk, count_by, get_or, nat_lt, nat_le, slice_index, vec_len};
+ghost use Rattle.std.specs.List.{range_with_len};
 ghost use Rattle.std.specs.List.Sorted.{IsNonDecreasing};
+ghost use Rattle.std.specs.Vec.{vec_capacity};
 ghost use Rattle.kryo_stream.specs.Protocol.{LIMIT};
 ghost use Rattle.kryo_stream.specs.Stream.{in_stream_bytes, total_bytes, turn_fault, indexes_of};
 ghost use Rattle.index_turns.specs.Track.{KeepsRoom};
@@ -11,6 +13,7 @@ use flux_base::Memory;
 use index_turns::TrackFlux;
 use std::alloc::Global;
 use std::marker::Model;
+use std::mem;
 
 /// The most transitions of one stream, and the most in-stream blocks: each takes a byte at least.
 pub const MOST_TIMES: usize = 4_194_304;
@@ -122,6 +125,22 @@ impl StreamBench {
         }
     }
 
+    /// Takes note of a run of transitions of one byte, the first of which begins at the stream position `position`.
+    pub(crate) fn note_run(&mut self, position: u32, count: u32) -> Result<(), Memory>
+        requires end { position + count < 2 ^ 32 }
+        ensures ends { OnOk result (self.new.ends ≡ self.old.ends ++ range_with_len (position + 1) count) }
+        ensures overflows { self.new.overflows ≡ self.old.overflows }
+        ensures indexes { self.new.indexes ≡ self.old.indexes }
+        ensures room { KeepsBenchRoom self.old self.new }
+        ensures succeeds { count ≤ self.old.spare_ends → IsOk result }
+    {
+        self.ends.try_reserve(count as usize)?;
+        let nothing = Vec::new(*self.ends.allocator());
+        let ends = mem::replace(&mut self.ends, nothing);
+        self.ends = append_ends(ends, position, count);
+        Ok(())
+    }
+
     /// Looks up the positions of the Index blocks, once all blocks of the stream are noted, and gives the
     /// index times to `flux`, which holds the times of the transitions. `total` is the number of all
     /// in-stream bytes, `end` the number of the End block.
@@ -205,7 +224,8 @@ impl StreamBench {
         time_before(times, count) + OVERFLOW_TICKS * (behind - before) as u64
     }
 
-    fn push_end(&mut self, end: u32) -> Result<(), Memory>
+    /// Takes note of a transition that ends at this stream position.
+    pub(crate) fn push_end(&mut self, end: u32) -> Result<(), Memory>
         ensures ends { OnOk result (self.new.ends ≡ self.old.ends ++ end ∷ []) }
         ensures overflows { self.new.overflows ≡ self.old.overflows }
         ensures indexes { self.new.indexes ≡ self.old.indexes }
@@ -240,6 +260,20 @@ impl StreamBench {
         self.indexes.push_reserved(mark);
         Ok(())
     }
+}
+
+/// Appends the positions at which the transitions of a run end to a list that has room for them. The list is handed
+/// over by value, so that its place and its length stay in registers.
+fn append_ends(mut ends: Vec<u32>, position: u32, count: u32) -> Vec<u32>
+    requires room { vec_len ends + count ≤ vec_capacity ends }
+    requires end { position + count < 2 ^ 32 }
+    ensures items { result.items ≡ ends.items ++ range_with_len (position + 1) count }
+    ensures capacity { vec_capacity result ≡ vec_capacity ends }
+{
+    for number in 0..count {
+        ends.push_reserved(position + 1 + number);
+    }
+    ends
 }
 
 /// How many numbers of a rising list are at most the limit.

@@ -1,6 +1,7 @@
-ghost use Rattle.std.specs.Prelude.{◌≡◌, ◌≤◌, ℕ, length, drop, slice_index, IfOk, IfSome, IfNone};
+ghost use Rattle.std.specs.Prelude.{◌≡◌, ◌≤◌, ◌<◌, ◌+◌, ◌^◌, ℕ, false, length, take, drop, slice_index, All, IsTrue, IfOk, IfSome, IfNone};
 ghost use Rattle.byteorder.specs.Endian.{little_number};
 ghost use Rattle.kryo_stream.specs.Bench.{IsSized};
+ghost use Rattle.kryo_stream.specs.Blocks.{IsShortFlux};
 ghost use Rattle.kryo_stream.specs.declared.block.Block.TheVariants.{Flux};
 ghost use Rattle.kryo_stream.specs.Pieces.{piece, has, in_stream_piece, info_piece, stream_info_piece, index_piece, stream_end_piece, out_of_band_piece, piece_at, IsText};
 
@@ -8,6 +9,7 @@ use crate::before::Before;
 use crate::block::{Block, SpelledBlock};
 use crate::fault::StreamFault;
 use byteorder::{ByteOrder, LittleEndian};
+use std::simd::prelude::*;
 
 /// The byte that begins each out-of-band block.
 const OUT_OF_BAND: u8 = 0x0D;
@@ -17,6 +19,9 @@ const INFO: u8 = 0x04;
 
 /// How many bytes the header of an out-of-band block takes: 0D, the type, and the size.
 const HEADER: u32 = 4;
+
+/// How many bytes are looked at at once.
+const LANES: usize = 16;
 
 /// The most bytes of one stream.
 pub const LIMIT: u32 = 4194304;
@@ -38,23 +43,69 @@ pub fn front(before: &Before, bytes: &[u8]) -> Result<SpelledBlock, StreamFault>
     in_stream(before.offset, bytes)
 }
 
-/// The ticks of the block at the front of the bytes, if it is a transition of one byte, within the limit and
-/// before the end of the stream.
-pub fn short_flux(before: &Before, bytes: &[u8]) -> Option<u16>
-    ensures reading { IfSome result (λ ticks. piece_at before.now.offset before.now.counted before.now.ended bytes.now ≡ piece (Flux ticks) 1) }
-    ensures inside { IfSome result (λ _. 1 ≤ length bytes.now) }
+/// How many transitions of one byte the bytes begin with, within the limit and before the end of the stream.
+pub fn short_run(before: &Before, bytes: &[u8]) -> usize
+    requires offset { before.now.offset ≤ 4194304 }
+    ensures inside { result ≤ length bytes.now }
+    ensures short { All IsShortFlux (take result bytes.now) }
+    ensures room { before.now.offset + result ≤ 4194304 }
+    ensures going { 0 < result → before.now.ended ≡ false }
 {
-    let Some(first) = bytes.first() else {
-        return None;
-    };
-    let first = *first;
-    if first <= OUT_OF_BAND {
-        return None;
+    if before.ended {
+        return 0;
     }
-    if before.offset >= LIMIT || before.ended {
-        return None;
+    let most = bytes.len().min((LIMIT - before.offset) as usize);
+    let mut count = whole_lanes(&bytes[..most]);
+    while count < most {
+        if bytes[count] <= OUT_OF_BAND {
+            return count;
+        }
+        count += 1;
     }
-    Some(u16::from(first))
+    most
+}
+
+/// How many transitions of one byte the bytes begin with, as far as they fill 16 lanes.
+fn whole_lanes(bytes: &[u8]) -> usize
+    ensures inside { result ≤ length bytes.now }
+    ensures short { All IsShortFlux (take result bytes.now) }
+{
+    let mut count = 0;
+    while bytes.len() - count >= LANES {
+        if !are_short(&bytes[count..]) {
+            return count;
+        }
+        count += LANES;
+    }
+    count
+}
+
+/// Whether the first 16 bytes are transitions of one byte each, all looked at at once.
+#[inline]
+fn are_short(bytes: &[u8]) -> bool
+    requires { 16 ≤ length bytes.now }
+    ensures { IsTrue result → All IsShortFlux (take 16 bytes.now) }
+{
+    u8x16::from_slice(bytes)
+        .simd_le(u8x16::splat(OUT_OF_BAND))
+        .to_bitmask()
+        == 0
+}
+
+/// The ticks of the block at the front of the bytes, if it is a transition of two bytes that are there, within the
+/// limit and before the end of the stream.
+pub fn two_byte_flux(before: &Before, bytes: &[u8]) -> Option<u16>
+    requires offset { before.now.offset ≤ 4194304 }
+    ensures reading { IfSome result (λ ticks. piece_at before.now.offset before.now.counted before.now.ended bytes.now ≡ piece (Flux ticks) 2) }
+    ensures inside { IfSome result (λ _. 2 ≤ length bytes.now) }
+    ensures small { IfSome result (λ ticks. ticks < 2 ^ 16) }
+{
+    match bytes {
+        [first @ 0x00..=0x07, second, ..] if before.offset + 2 <= LIMIT && !before.ended => {
+            Some(u16::from(*first) * 256 + u16::from(*second))
+        }
+        _ => None,
+    }
 }
 
 /// The size of the Info block at the front of the bytes, if its header is there and it ends within the

@@ -2,7 +2,7 @@ ghost use Rattle.std.specs.Prelude.{◌≡◌, ◌<◌, ◌++◌, ℕ, List, All
 ghost use Rattle.kryo_stream.specs.declared.block.Block.{Block};
 ghost use Rattle.kryo_stream.specs.declared.block.SpelledBlock.{SpelledBlock};
 ghost use Rattle.kryo_stream.specs.Blocks.{Spells};
-ghost use Rattle.kryo_stream.specs.Growth.{PaddingStays, StreamsAreShort, StreamsStay};
+ghost use Rattle.kryo_stream.specs.Growth.{PaddingStays, StreamsAreShort, StreamsKeepTheLimit, StreamsStay};
 ghost use Rattle.kryo_stream.specs.Joined.{PaddingIsPassed};
 ghost use Rattle.kryo_stream.specs.Padding.{IsPadding, padding_of};
 ghost use Rattle.kryo_stream.specs.Sequence.{AreInOrder, IsStreamOf, spellings, transitions_from};
@@ -47,9 +47,10 @@ pub fn joined_law()
 {}
 
 /// A stream without a fault stays the one that is read when more bytes follow, and so does the padding before it.
-/// It has no more transitions, and no more index times, than it may have bytes.
+/// It has no more transitions, and no more index times, than it may have bytes, and no more bytes than that.
 pub fn growth_law()
     ensures streams { StreamsStay }
     ensures padding { PaddingStays }
     ensures short { StreamsAreShort }
+    ensures limit { StreamsKeepTheLimit }
 {}

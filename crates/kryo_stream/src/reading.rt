@@ -7,7 +7,7 @@ ghost use Rattle.kryo_stream.specs.Bench.{HasFullBench, KeepsBenchRoom, IsNoted,
 ghost use Rattle.kryo_stream.specs.Held.{Took};
 ghost use Rattle.kryo_stream.specs.Outcome.{IsRead, IsReadOfInput, IsReadWhereNeeded, IsNotMemory, TrackCause, HasFullRoom, IsSmall, input_of};
 ghost use Rattle.kryo_stream.specs.Pieces.{piece_at, IsText};
-ghost use Rattle.kryo_stream.specs.Progress.{TakesOpenly, IsBlockOpen, TakesBlock, IsSkipped, IsUnpadded};
+ghost use Rattle.kryo_stream.specs.Progress.{TakesOpenly, IsReading, ReadsOn, IsBlockOpen, TakesBlock, IsSkipped, IsUnpadded};
 ghost use Rattle.kryo_stream.specs.Reads.{source_at};
 ghost use Rattle.kryo_stream.specs.Stream.{in_stream_bytes, total_bytes};
 ghost use Rattle.kryo_stream.specs.Tally.{IsWithin, MayFollow, new_times};
@@ -16,7 +16,7 @@ use crate::before::Before;
 use crate::bench::StreamBench;
 use crate::block::{Block, SpelledBlock};
 use crate::fault::{StreamFault, TrackFault};
-use crate::front::{LIMIT, front, short_flux, text_size};
+use crate::front::{LIMIT, front, short_run, text_size, two_byte_flux};
 use crate::intake::{Intake, More};
 use crate::padding::padding_at_hand;
 use flux_base::{Failed, Memory, Source};
@@ -129,6 +129,7 @@ fn read_stream<S: Source>(
 ) -> Result<(), TrackFault>
     requires times { flux.old.times ≡ [] }
     requires indexes { flux.old.indexes ≡ [] }
+    requires bound { length intake.old.held ≤ 4096 }
     ensures small { OnOk result (IsSmall flux.new) }
     ensures takes { (taken : List ℕ) × TakesOpenly false intake.old.held (source_at S.left S.given S.faults source.old) (source_at S.left S.given S.faults source.new) taken }
     ensures read { IsRead (S.left source.old) (S.left source.new) false intake.old.held intake.new.held flux.new result }
@@ -142,19 +143,12 @@ fn read_stream<S: Source>(
 {
     bench.clear();
     let mut before = Before::start();
-    for number in 0..LIMIT + 1 {
-        // Nearly all blocks of a track are transitions of one byte. Their way is written out, since one way for
-        // all blocks takes four times as long.
-        if let Some(ticks) = short_flux(&before, intake.bytes()) {
-            let block = Block::Flux { ticks };
-            let piece = SpelledBlock { block, bytes: 1 };
-            intake.pass(1);
-            match note(number, &piece, &before, flux, bench) {
-                Ok(()) => {}
-                Err(Memory) => return Err(TrackFault::Memory),
-            }
-            before = before.behind(&piece);
-            continue;
+    let mut number = 0;
+    // Each round passes over one block, and over the transitions before it, which are nearly all blocks of a track.
+    for _ in 0..LIMIT + 1 {
+        match pass_transitions(&mut before, intake, flux, bench) {
+            Ok(count) => number += count,
+            Err(Memory) => return Err(TrackFault::Memory),
         }
         // A copy, so that the other numbers can stay in registers.
         let stands = before;
@@ -176,8 +170,109 @@ fn read_stream<S: Source>(
             return bench.resolve(before.counted, number, flux);
         }
         before = before.behind(&piece);
+        number += 1;
     }
     unreachable!()
+}
+
+/// Passes over the transitions of one and of two bytes that the bytes at hand begin with, and keeps them. Gives how
+/// many they are. Their way is written out, since the way of all blocks takes many times as long.
+fn pass_transitions(
+    before: &mut Before,
+    intake: &mut Intake,
+    flux: &mut TrackFlux,
+    bench: &mut StreamBench,
+) -> Result<u32, Memory>
+    requires read { (x : List ℕ) × (n : ℕ) × IsReading x n intake.old.held before.old flux.old.times bench.old }
+    ensures reading { IfOk result (λ count. ReadsOn count intake.old.held intake.new.held before.old before.new flux.old.times flux.new.times bench.old bench.new) }
+    ensures bound { length intake.new.held ≤ 4096 }
+    ensures used { intake.new.used ≡ intake.old.used }
+    ensures indexes { flux.new.indexes ≡ flux.old.indexes }
+    ensures room { KeepsRoom flux.old flux.new }
+    ensures bench { KeepsBenchRoom bench.old bench.new }
+    ensures succeeds { HasFullRoom flux.old → HasFullBench bench.old → IsOk result }
+{
+    let mut count = 0;
+    loop {
+        count += pass_run(before, intake, flux, bench)?;
+        let more = pass_two_bytes(before, intake, flux, bench)?;
+        if more == 0 {
+            return Ok(count);
+        }
+        count += more;
+    }
+}
+
+/// Passes over the transitions of one byte that the bytes at hand begin with, and keeps them. Gives how many they are.
+fn pass_run(
+    before: &mut Before,
+    intake: &mut Intake,
+    flux: &mut TrackFlux,
+    bench: &mut StreamBench,
+) -> Result<u32, Memory>
+    requires within { IsWithin before.old }
+    requires times { All (λ time. time ≤ before.old.time) flux.old.times }
+    ensures reading { IfOk result (λ count. ReadsOn count intake.old.held intake.new.held before.old before.new flux.old.times flux.new.times bench.old bench.new) }
+    ensures fewer { IfOk result (λ count. length intake.new.held + count ≤ length intake.old.held) }
+    ensures held { OnErr result (intake.new.held ≡ intake.old.held) }
+    ensures bound { length intake.new.held ≤ 4096 }
+    ensures used { intake.new.used ≡ intake.old.used }
+    ensures indexes { flux.new.indexes ≡ flux.old.indexes }
+    ensures room { KeepsRoom flux.old flux.new }
+    ensures bench { KeepsBenchRoom bench.old bench.new }
+    ensures succeeds { length flux.old.times ≤ before.old.offset → HasFullRoom flux.old
+        → length bench.old.ends ≤ before.old.offset → HasFullBench bench.old → IsOk result }
+{
+    let run = intake.bytes();
+    let count = short_run(before, run);
+    if count == 0 {
+        return Ok(0);
+    }
+    let end = flux.push_run(before.time, &run[..count])?;
+    bench.note_run(before.counted, count as u32)?;
+    intake.pass(count);
+    *before = Before {
+        offset: before.offset + count as u32,
+        counted: before.counted + count as u32,
+        ended: before.ended,
+        time: end,
+    };
+    Ok(count as u32)
+}
+
+/// Passes over the transition of two bytes that the bytes at hand begin with, if one stands there, and keeps it. Gives
+/// how many it is.
+fn pass_two_bytes(
+    before: &mut Before,
+    intake: &mut Intake,
+    flux: &mut TrackFlux,
+    bench: &mut StreamBench,
+) -> Result<u32, Memory>
+    requires within { IsWithin before.old }
+    requires times { All (λ time. time ≤ before.old.time) flux.old.times }
+    ensures reading { IfOk result (λ count. ReadsOn count intake.old.held intake.new.held before.old before.new flux.old.times flux.new.times bench.old bench.new) }
+    ensures fewer { IfOk result (λ count. length intake.new.held + count ≤ length intake.old.held) }
+    ensures held { OnErr result (intake.new.held ≡ intake.old.held) }
+    ensures bound { length intake.new.held ≤ 4096 }
+    ensures used { intake.new.used ≡ intake.old.used }
+    ensures indexes { flux.new.indexes ≡ flux.old.indexes }
+    ensures room { KeepsRoom flux.old flux.new }
+    ensures bench { KeepsBenchRoom bench.old bench.new }
+    ensures succeeds { length flux.old.times ≤ before.old.offset → HasFullRoom flux.old
+        → length bench.old.ends ≤ before.old.offset → HasFullBench bench.old → IsOk result }
+{
+    let Some(ticks) = two_byte_flux(before, intake.bytes()) else {
+        return Ok(0);
+    };
+    let piece = SpelledBlock {
+        block: Block::Flux { ticks },
+        bytes: 2,
+    };
+    flux.push_time(before.time + u64::from(ticks))?;
+    bench.push_end(before.counted + 2)?;
+    intake.pass(2);
+    *before = before.behind(&piece);
+    Ok(1)
 }
 
 /// Passes over the block that the input goes on with, or gives its fault. A call, so that the way of the usual

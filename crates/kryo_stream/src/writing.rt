@@ -1,8 +1,7 @@
-ghost use Rattle.std.specs.Prelude.{◌≡◌, ◌≤◌, ◌<◌, ◌+◌, ◌-◌, ◌/◌, ◌%◌, ◌++◌, ℕ, List, [], ◌∷◌, OnOk, OnErr, Option};
-ghost use Rattle.std.specs.Io.KnownBytes.{Appends};
+ghost use Rattle.std.specs.Prelude.{◌≡◌, ◌<◌, ◌+◌, ◌-◌, ◌/◌, ◌%◌, ◌++◌};
 ghost use Rattle.std.proofs.Math.ListN.{replicate};
 ghost use Rattle.byteorder.specs.Endian.{little_bytes};
-ghost use Rattle.flux_base.specs.Outside.{AppendsPart, Rose};
+ghost use Rattle.flux_base.specs.Moments.{Puts, moment};
 ghost use Rattle.kryo_stream.specs.declared.block.Block.TheVariants.{Index};
 ghost use Rattle.kryo_stream.specs.Blocks.{Spells, out_of_band};
 ghost use Rattle.kryo_stream.specs.Spelling.{spelling, flux_spelling, HasNopBytes};
@@ -19,10 +18,7 @@ const BLANKS: [u8; 256] = [0x20; 256];
 pub fn write_block<W: Sink>(block: &Block, sink: &mut W) -> Result<(), Failed>
     requires nop { HasNopBytes block.now }
     ensures spelled { Spells (spelling block.now) block.now }
-    ensures ok { OnOk result (Appends (W.written sink.old) (W.written sink.new) (spelling block.now)) }
-    ensures err { OnErr result (AppendsPart (W.written sink.old) (W.written sink.new) (spelling block.now)) }
-    ensures later { W.faults sink.old ≤ W.faults sink.new }
-    ensures cause { OnErr result (Rose (W.faults sink.old) (W.faults sink.new)) }
+    ensures puts { Puts (moment W.written W.faults sink.old) (moment W.written W.faults sink.new) (spelling block.now) result }
 {
     match *block {
         Block::Flux { ticks } => write_flux(ticks, sink),
@@ -42,10 +38,7 @@ pub fn write_block<W: Sink>(block: &Block, sink: &mut W) -> Result<(), Failed>
 
 /// Writes a flux value, in as few bytes as it fits.
 fn write_flux<W: Sink>(ticks: u16, sink: &mut W) -> Result<(), Failed>
-    ensures ok { OnOk result (Appends (W.written sink.old) (W.written sink.new) (flux_spelling ticks)) }
-    ensures err { OnErr result (AppendsPart (W.written sink.old) (W.written sink.new) (flux_spelling ticks)) }
-    ensures later { W.faults sink.old ≤ W.faults sink.new }
-    ensures cause { OnErr result (Rose (W.faults sink.old) (W.faults sink.new)) }
+    ensures { Puts (moment W.written W.faults sink.old) (moment W.written W.faults sink.new) (flux_spelling ticks) result }
 {
     let high = (ticks / 256) as u8;
     let low = (ticks % 256) as u8;
@@ -79,10 +72,7 @@ pub fn index_spelling(position: u32, sample: u32, counter: u32) -> [u8; 16]
 
 /// Writes an Info of `length` blanks.
 fn write_info<W: Sink>(length: u16, sink: &mut W) -> Result<(), Failed>
-    ensures ok { OnOk result (Appends (W.written sink.old) (W.written sink.new) (out_of_band 4 length ++ replicate length 32)) }
-    ensures err { OnErr result (AppendsPart (W.written sink.old) (W.written sink.new) (out_of_band 4 length ++ replicate length 32)) }
-    ensures later { W.faults sink.old ≤ W.faults sink.new }
-    ensures cause { OnErr result (Rose (W.faults sink.old) (W.faults sink.new)) }
+    ensures { Puts (moment W.written W.faults sink.old) (moment W.written W.faults sink.new) (out_of_band 4 length ++ replicate length 32) result }
 {
     let mut header = [0x0D, 4, 0, 0];
     LittleEndian::write_u16(&mut header[2..], length);
@@ -94,10 +84,7 @@ fn write_info<W: Sink>(length: u16, sink: &mut W) -> Result<(), Failed>
 
 /// Writes so many blanks.
 fn write_blanks<W: Sink>(count: usize, sink: &mut W) -> Result<(), Failed>
-    ensures ok { OnOk result (Appends (W.written sink.old) (W.written sink.new) (replicate count 32)) }
-    ensures err { OnErr result (AppendsPart (W.written sink.old) (W.written sink.new) (replicate count 32)) }
-    ensures later { W.faults sink.old ≤ W.faults sink.new }
-    ensures cause { OnErr result (Rose (W.faults sink.old) (W.faults sink.new)) }
+    ensures { Puts (moment W.written W.faults sink.old) (moment W.written W.faults sink.new) (replicate count 32) result }
 {
     let mut rest = count;
     while rest > 0 {

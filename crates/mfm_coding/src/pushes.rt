@@ -21,7 +21,7 @@ pub fn push_symbol(cells: &mut Cells, symbol: Symbol) -> Result<(), Memory>
 }
 
 /// Appends the symbol so many times. `Memory` cannot come where there was room for all its cells.
-pub fn push_run(cells: &mut Cells, count: u8, symbol: Symbol) -> Result<(), Memory>
+pub fn push_run(cells: &mut Cells, count: u16, symbol: Symbol) -> Result<(), Memory>
     ensures { AppendsSymbols cells.old cells.new (replicate count symbol) result }
 {
     for _ in 0..count {

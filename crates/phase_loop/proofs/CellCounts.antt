@@ -1,12 +1,12 @@
 -- How many cells are recovered at most.
-use Rattle.std.specs.Prelude.{◌≡◌, ℕ, zero, suc, ◌+◌, ◌-◌, ◌*◌, ◌≤◌, All, Bool, List, [], ◌∷◌, ◌++◌, drop, length, map, replicate, false, true, nat_lt, refl, slice_index}
+use Rattle.std.specs.Prelude.{◌≡◌, ℕ, zero, suc, ◌+◌, ◌-◌, ◌*◌, ◌≤◌, All, List, [], ◌∷◌, drop, length, map, replicate, false, true, slice_index}
 use Rattle.std.specs.List.{flat_map}
 use Rattle.std.proofs.Common.{arith, inl, inr, length-append, length-drop}
 use Rattle.std.proofs.lemmas.List.{length-replicate}
 use Rattle.std.proofs.lemmas.Bool.{cases_lt, le-ltb, lt-ltb}
 use Rattle.std.proofs.lemmas.List.Elements.{All-append, All-cons, All-drop, All-head, All-nil, All-tail}
 use Rattle.cell_bits.specs.Run.{run_cells}
-use Rattle.phase_loop.specs.Rows.{Row, counts, last_row, next_row, periods_since, recovered, row_at_distance, rows_of, rows_to}
+use Rattle.phase_loop.specs.Rows.{Row, last_row, next_row, periods_since, recovered, row_at_distance, rows_to}
 use Rattle.phase_loop.specs.Sizes.{CellsAreFew}
 use Rattle.phase_loop.specs.Start.{FINE_PER_TICK}
 use Rattle.phase_loop.specs.declared.start.LoopStart.{LoopStart}

@@ -1,5 +1,5 @@
 -- 64 cells in one number, high bit first: what the calls that read look at.
-use Rattle.std.specs.Prelude.{◌≡◌, ℕ, ◌+◌, ◌-◌, ◌<◌, Bool, true, false, ◌↔◌, List, get_or, nat_lt, if◌then◌else◌}
+use Rattle.std.specs.Prelude.{◌≡◌, ℕ, ◌+◌, ◌-◌, ◌<◌, Bool, true, false, ◌↔◌, ◌*◌, List, get_or, nat_lt, if◌then◌else◌}
 use Rattle.cell_bits.specs.Word.{digit}
 
 -- the 64 cells from a place on, with zeros past the list's end
@@ -21,3 +21,11 @@ MeetsAt high low value count met k = (i : ℕ) → i < met → cell_of_two high 
 -- the places of the first block from which the first cells of the word stand
 abbrev pub AreCandidates : ℕ → ℕ → ℕ → ℕ → ℕ → ℕ → Type 0
 AreCandidates high low value count met places = (k : ℕ) → k < 64 → (digit places (63 - k) ≡ true) ↔ MeetsAt high low value count met k
+
+-- the block is what is left of another behind its first cells, so many of them
+abbrev pub IsRest : (low moved block : ℕ) → Type 0
+IsRest low moved block = (k : ℕ) → moved + k < 64 → digit block (63 - k) ≡ digit low (63 - (moved + k))
+
+-- no four digits that stand together are zeros alone: 16 times four of them
+abbrev pub FoursHaveOnes : ℕ → Type 0
+FoursHaveOnes block = (four : ℕ) → four < 16 → ¬ ((k : ℕ) → k < 4 → digit block (4 * four + k) ≡ false)

@@ -1,7 +1,7 @@
 ghost use Rattle.std.specs.Prelude.{◌≡◌, ℕ, ◌-◌, ◌<◌, ◌≤◌, length, ◌↔◌, true, IsTrue};
 ghost use Rattle.cell_bits.specs.Search.{IsFirstWord, IsFirstOne};
 ghost use Rattle.cell_bits.specs.Word.{digit};
-ghost use Rattle.cell_bits.specs.inside.Window.{AreCandidates};
+ghost use Rattle.cell_bits.specs.inside.Window.{AreCandidates, FoursHaveOnes};
 ghost use Rattle.cell_bits.specs.Broken.{Unbroken};
 
 use super::{Cells, joined};
@@ -54,7 +54,8 @@ impl Cells {
         None
     }
 
-    /// Whether no eight zeros in a row lie at places from `from` to below `to`, for `from` <= `to` <= length.
+    /// Whether no eight zeros in a row lie at places from `from` to below `to`, for `from` <= `to` <= length. Where a track is
+    /// recorded, a look at each word tells.
     pub fn unbroken(&self, from: usize, to: usize) -> bool
         requires order { from ≤ to }
         requires within { to ≤ length self.now.cells }
@@ -63,8 +64,37 @@ impl Cells {
         if to - from < 8 {
             return true;
         }
+        if self.is_dense(from, to) {
+            return true;
+        }
         self.find_word(from, to - 7, 0, 8).is_none()
     }
+
+    /// Whether each word that has cells at these places has a one among each four cells. Eight zeros in a row have such
+    /// four among them.
+    fn is_dense(&self, from: usize, to: usize) -> bool
+        requires { to ≤ length self.now.cells }
+        ensures { IsTrue result → Unbroken self.now.cells from to }
+    {
+        for index in from / 64..to / 64 + 1 {
+            if !fours_have_ones(self.block(index)) {
+                return false;
+            }
+        }
+        true
+    }
+}
+
+/// The lowest bit of each four.
+const LOWEST_OF_FOUR: u64 = 0x1111_1111_1111_1111;
+
+/// Whether none of a block's 16 times four cells are zeros alone.
+fn fours_have_ones(block: u64) -> bool
+    ensures { IsTrue result → FoursHaveOnes block }
+{
+    let pairs = block | block >> 1;
+    let fours = pairs | pairs >> 2;
+    fours & LOWEST_OF_FOUR == LOWEST_OF_FOUR
 }
 
 /// The places of the first of two blocks from which the low `count` bits of the word stand, 1 to 32, high bit
@@ -75,13 +105,16 @@ fn candidates(high: u64, low: u64, word: u32, count: u8) -> u64
     ensures { AreCandidates high low word count count result }
 {
     let mut places = u64::MAX;
+    let mut cells = high;
+    let mut behind = low;
     for offset in 0..count as u32 {
-        let cells = joined(high, low, offset);
         let one = (word >> (count as u32 - 1 - offset)) & 1 == 1;
         places &= equal_cells(cells, one);
         if places == 0 {
             return 0;
         }
+        cells = joined(cells, behind, 1);
+        behind <<= 1;
     }
     places
 }

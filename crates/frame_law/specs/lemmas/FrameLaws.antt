@@ -7,7 +7,7 @@ use Rattle.track_rings.specs.Rings.{AreSectors, IsSectorNumber, IsSpaced, LiesAt
 use Rattle.track_rings.specs.Rows.{IsContent, Rows, frame_size, last_of, place_of, ring_of, ring_size, rows_cells, total}
 use Rattle.track_rings.specs.Spaced.{MayFollow}
 use Rattle.track_rings.specs.lemmas.TrackLaws.{content_of, frame-at, frame-within, length-bytes_of, length-ring_of, length-rows_cells, ring-spaced, ring-unbroken, rows-unbroken}
-use Rattle.frame_law.specs.Frames.{AreSizes, DATA_REACH, DataStand, FrameStands, HeaderStands, IsDataSync, IsWithinReach, SectorStands}
+use Rattle.frame_law.specs.Frames.{AreSizes, DATA_REACH, DataStand, EndsAt, FrameStands, HeaderStands, IsDataSync, IsWithinReach, SectorStands}
 
 -- the data's sync is one
 pub one_sync : (header_cells : ℕ) (is_sync : ℕ → Type 0) (p q : ℕ) → IsDataSync header_cells is_sync p → IsDataSync header_cells is_sync q → p ≡ q
@@ -17,40 +17,47 @@ one_sync header_cells is_sync p q first second =
 pub unbroken-less : (cells : List Bool) (count most : ℕ) → Unbroken cells 0 most → count ≤ most → Unbroken cells 0 count
 unbroken-less cells count most whole less place above below = whole place above (omega arith)
 
-module _ (header_cells data_cells : ℕ) (is_sync : List Bool → ℕ → Type 0) (hold : List Bool → ℕ → List ℕ → Type 0) where
+module _ (header_end : List Bool → ℕ) (data_end : List Bool → ℕ → ℕ) (is_sync : List Bool → ℕ → Type 0)
+    (hold : List Bool → ℕ → List ℕ → Type 0) where
   -- data hold one thing
   pub one_content : (cells : List Bool) (xs ys : List ℕ)
       → ((sync : ℕ) (us vs : List ℕ) → hold cells sync us → hold cells sync vs → us ≡ vs)
-      → DataStand header_cells data_cells is_sync hold cells xs → DataStand header_cells data_cells is_sync hold cells ys → xs ≡ ys
+      → DataStand header_end data_end is_sync hold cells xs → DataStand header_end data_end is_sync hold cells ys → xs ≡ ys
   one_content cells xs ys one first second =
-      let same = one_sync header_cells (is_sync cells) first.sync second.sync first.first_sync second.first_sync in
+      let same = one_sync (header_end cells) (is_sync cells) first.sync second.sync first.first_sync second.first_sync in
       one second.sync xs ys (subst (λ (sync : ℕ). hold cells sync xs) same first.held) second.held
 
   module _ (sync sync_cells data_place first sectors : ℕ) (names : List Bool → ℕ → Type 0) where
     abbrev pub IsWhole : List Bool → ℕ → List ℕ → Type 0
     IsWhole cells sector bytes =
-        SectorStands (HeaderStands sync sync_cells header_cells first sectors names cells sector)
-        (DataStand header_cells data_cells is_sync hold cells bytes)
+        SectorStands (HeaderStands sync sync_cells header_end first sectors names cells sector)
+        (DataStand header_end data_end is_sync hold cells bytes)
 
     -- a frame as it is written is a whole sector
-    pub frame_whole : (cells : List Bool) (sector : ℕ) (bytes : List ℕ)
-        → FrameStands sync sync_cells header_cells data_place names is_sync hold cells sector bytes → IsSectorNumber first sectors sector
+    pub frame_whole : (header_cells data_cells : ℕ) (cells : List Bool) (sector : ℕ) (bytes : List ℕ)
+        → FrameStands sync sync_cells header_cells data_place names is_sync hold cells sector bytes
+        → EndsAt header_cells data_cells data_place header_end data_end cells → IsSectorNumber first sectors sector
         → data_place + data_cells ≤ length cells → Unbroken cells 0 (data_place + data_cells) → header_cells ≤ data_place
         → data_place < header_cells + DATA_REACH → IsWhole cells sector bytes
-    frame_whole cells sector bytes frame number long whole after near = record {
+    frame_whole header_cells data_cells cells sector bytes frame ends number long whole after near = record {
       header = record {
         begins = frame.begins;
-        whole = omega arith;
+        whole = omega (arith, ends.header_ends, after, long);
         named = frame.named;
         known = number;
-        unbroken = unbroken-less cells header_cells (data_place + data_cells) whole (omega arith);
+        unbroken = unbroken-less cells (header_end cells) (data_place + data_cells) whole (omega (arith, ends.header_ends, after));
       };
       content = record {
         sync = data_place;
-        first_sync = record { after = after; near = near; stands = frame.opens; first = frame.first };
-        whole = long;
+        first_sync = record {
+          after = omega (arith, ends.header_ends, after);
+          near = omega (arith, ends.header_ends, near);
+          stands = frame.opens;
+          first = λ place above below. frame.first place (omega (arith, ends.header_ends, above)) below;
+        };
+        whole = omega (arith, ends.data_ends, long);
         held = frame.held;
-        unbroken = whole;
+        unbroken = unbroken-less cells (data_end cells data_place) (data_place + data_cells) whole (omega (arith, ends.data_ends));
       };
     }
 
@@ -89,16 +96,17 @@ module _ {Row : Type 0} (asks : Bool) (cells_of : Bool → ℕ → List ℕ → 
               (omega (arith, sizes.apart, sizes.order)) (omega (arith, sizes.near)) sizes.last sector given,
         )
 
-    module _ (data_cells sync data_place : ℕ) (is_sync : List Bool → ℕ → Type 0) (hold : List Bool → ℕ → List ℕ → Type 0)
-        (names : List Bool → ℕ → Type 0) where
+    module _ (data_cells sync data_place : ℕ) (header_end : List Bool → ℕ) (data_end : List Bool → ℕ → ℕ)
+        (is_sync : List Bool → ℕ → Type 0) (hold : List Bool → ℕ → List ℕ → Type 0) (names : List Bool → ℕ → Type 0) where
       -- in every stretch of the repeated ring, where a sector's frame lies whole, the sector stands
       pub sector_stands : (bytes : List ℕ) (s from count place cells : ℕ) → AreSectors sectors size bytes → IsSectorNumber first sectors s
           → ((content : List ℕ) (before : Bool) (rest : List Bool) → AreBytes content → length content ≡ size
-          → FrameStands sync sync_cells header_cells data_place names is_sync hold (rows_cells asks cells_of before s content rows.frame ++ rest) s content)
+          → FrameStands sync sync_cells header_cells data_place names is_sync hold (rows_cells asks cells_of before s content rows.frame ++ rest) s content
+          × EndsAt header_cells data_cells data_place header_end data_end (rows_cells asks cells_of before s content rows.frame ++ rest))
           → frame_size size_of size rows ≡ data_place + data_cells → ring_size size_of sectors size rows ≡ cells
           → IsWithinReach header_cells data_place data_cells
           → LiesAt cells (place_of size_of first size rows s) (data_place + data_cells) from count place
-          → IsWhole header_cells data_cells is_sync hold sync sync_cells data_place first sectors names
+          → IsWhole header_end data_end is_sync hold sync sync_cells data_place first sectors names
           (drop place (stretch (ring_of asks cells_of first sectors size bytes rows) from count)) s (bytes_of first size bytes s)
       sector_stands bytes s from count place cells given number stands sum all reach lies =
           let content = bytes_of first size bytes s in
@@ -115,9 +123,10 @@ module _ {Row : Type 0} (asks : Bool) (cells_of : Bool → ℕ → List ℕ → 
           let frame = rows_cells asks cells_of at.0 s content rows.frame in
           let own = length-rows_cells asks cells_of size_of sized at.0 s content rows.frame in
           let both = length-append frame at.1 in
-          subst (λ (some : List Bool). IsWhole header_cells data_cells is_sync hold sync sync_cells data_place first sectors names some s content) (sym at.3)
-          (frame_whole header_cells data_cells is_sync hold sync sync_cells data_place first sectors names (frame ++ at.1) s content
-          (stands content at.0 at.1 is_content.fit long) number (omega (arith, own, both, total_is))
+          let read = stands content at.0 at.1 is_content.fit long in
+          subst (λ (some : List Bool). IsWhole header_end data_end is_sync hold sync sync_cells data_place first sectors names some s content) (sym at.3)
+          (frame_whole header_end data_end is_sync hold sync sync_cells data_place first sectors names header_cells data_cells (frame ++ at.1) s content
+          read.0 read.1 number (omega (arith, own, both, total_is))
           (rows-unbroken asks cells_of size_of sized shortest longest most first sectors size follows at.0 s content rows.frame at.1
           (data_place + data_cells) at.2 sizes.last (omega (arith, sizes.apart, sizes.order)) (omega (arith, sizes.near)) is_content
           (omega (arith, total_is)))

@@ -1,8 +1,9 @@
 -- What stands depends on its own cells alone, and in a stretch of a track's ring between zeros it is one of the track's own
 -- sectors: of what a header names, what data hold, and where the sync stands.
-use Rattle.std.specs.Prelude.{◌≡◌, ℕ, suc, ◌+◌, ◌-◌, ◌%◌, ◌<◌, ◌≤◌, Bool, true, false, List, ◌∷◌, ◌++◌, length, take, drop, replicate, Option, Some}
+use Rattle.std.specs.Prelude.{◌≡◌, ℕ, suc, ◌+◌, ◌-◌, ◌%◌, ◌<◌, ◌≤◌, Bool, true, false, List, ◌∷◌, ◌++◌, length, take, drop, replicate, Option, Some, refl}
 use Rattle.std.proofs.Common.{sym, subst, ◌∙◌, arith}
 use Rattle.std.proofs.Math.Nat.{mod-eq_of_lt}
+use Rattle.cell_bits.specs.Broken.{Unbroken}
 use Rattle.cell_bits.specs.Word.{Stands}
 use Rattle.track_rings.specs.lemmas.Fronts.{AgreeTo, agree-front, agree-length, agree-less, agree-stands, agree-unbroken}
 use Rattle.track_rings.specs.OwnSectors.{IsAlone, IsOwnPlace, between_zeros}
@@ -15,17 +16,35 @@ use Rattle.track_rings.specs.lemmas.TrackLaws.{frame-within}
 use Rattle.frame_law.specs.lemmas.FrameLaws.{IsWhole, one_sync}
 use Rattle.frame_law.specs.Frames.{AreSizes, HeaderStands, IsDataSync, IsWithinReach}
 
+-- Where headers and data end: not before so many cells, and where their own cells up to the end tell.
+pub record TellsEnds (header_cells data_cells : ℕ) (header_end : List Bool → ℕ) (data_end : List Bool → ℕ → ℕ) : Type 0 where
+  pub some : 7 ≤ data_cells
+  pub header_least : (cells : List Bool) → header_cells ≤ header_end cells
+  pub header_told : (cells others : List Bool) → AgreeTo (header_end cells) cells others → header_end others ≡ header_end cells
+  pub data_least : (cells : List Bool) (sync : ℕ) → sync + data_cells ≤ data_end cells sync
+  pub data_told : (cells others : List Bool) (sync : ℕ) → AgreeTo (data_end cells sync) cells others → data_end others sync ≡ data_end cells sync
+
+-- where they have so many cells, whatever these are
+pub fixed_ends : (header_cells data_cells : ℕ) → 7 ≤ data_cells → TellsEnds header_cells data_cells (λ cells. header_cells) (λ cells sync. sync + data_cells)
+fixed_ends header_cells data_cells some = record {
+  some = some;
+  header_least = λ cells. omega arith;
+  header_told = λ cells others same. refl;
+  data_least = λ cells sync. omega arith;
+  data_told = λ cells others sync same. refl;
+}
+
 -- What a header names, and what data hold, is told by their own cells, and by all of these but the last seven: they name and hold
 -- nothing else where the last seven are others. A sync is told by fewer cells than data have.
-pub record TellsEarly (sync_cells header_cells data_cells : ℕ) (names : List Bool → ℕ → Type 0) (is_sync : List Bool → ℕ → Type 0)
-    (hold : List Bool → ℕ → List ℕ → Type 0) : Type 0 where
+pub record TellsEarly (sync_cells header_cells data_cells : ℕ) (header_end : List Bool → ℕ) (data_end : List Bool → ℕ → ℕ)
+    (names : List Bool → ℕ → Type 0) (is_sync : List Bool → ℕ → Type 0) (hold : List Bool → ℕ → List ℕ → Type 0) : Type 0 where
   pub sync_within : sync_cells ≤ header_cells
-  pub named : (cells others : List Bool) (s : ℕ) → AgreeTo header_cells cells others → names cells s → names others s
-  pub named_early : (cells others : List Bool) (s t : ℕ) → AgreeTo (header_cells - 7) cells others → names cells s → names others t → s ≡ t
+  pub named : (cells others : List Bool) (s : ℕ) → AgreeTo (header_end cells) cells others → names cells s → names others s
+  pub named_early : (cells others : List Bool) (s t : ℕ) → AgreeTo (header_end cells - 7) cells others → names cells s → names others t → s ≡ t
   pub synced : (cells others : List Bool) (place : ℕ) → AgreeTo (place + data_cells - 7) cells others → is_sync cells place → is_sync others place
-  pub held : (cells others : List Bool) (sync : ℕ) (bytes : List ℕ) → AgreeTo (sync + data_cells) cells others → hold cells sync bytes
+  pub held : (cells others : List Bool) (sync : ℕ) (bytes : List ℕ) → AgreeTo (data_end cells sync) cells others → hold cells sync bytes
       → hold others sync bytes
-  pub held_early : (cells others : List Bool) (sync : ℕ) (xs ys : List ℕ) → AgreeTo (sync + data_cells - 7) cells others → hold cells sync xs
+  pub held_early : (cells others : List Bool) (sync : ℕ) (xs ys : List ℕ) → AgreeTo (data_end cells sync - 7) cells others → hold cells sync xs
       → hold others sync ys → xs ≡ ys
 
 -- Each header begins with some zeros, a one and what more is known of its first cells, and in the ring of given bytes, where
@@ -56,66 +75,78 @@ header_within asks cells_of size_of sized first sectors size rows bytes cells so
     let within = frame-within asks cells_of size_of sized first sectors size rows bytes given.whole first number in
     omega (arith, within, sum, all, reach.after)
 
-module _ (header_cells data_cells : ℕ) (is_sync : List Bool → ℕ → Type 0) (hold : List Bool → ℕ → List ℕ → Type 0)
+module _ (header_cells data_cells : ℕ) (header_end : List Bool → ℕ) (data_end : List Bool → ℕ → ℕ)
+    (is_sync : List Bool → ℕ → Type 0) (hold : List Bool → ℕ → List ℕ → Type 0)
     (sync sync_cells data_place first sectors : ℕ) (names : List Bool → ℕ → Type 0)
-    (tells : TellsEarly sync_cells header_cells data_cells names is_sync hold) where
+    (ends : TellsEnds header_cells data_cells header_end data_end)
+    (tells : TellsEarly sync_cells header_cells data_cells header_end data_end names is_sync hold) where
   abbrev Header : List Bool → ℕ → Type 0
-  Header cells s = HeaderStands sync sync_cells header_cells first sectors names cells s
+  Header cells s = HeaderStands sync sync_cells header_end first sectors names cells s
 
   abbrev Sector : List Bool → ℕ → List ℕ → Type 0
-  Sector cells s bytes = IsWhole header_cells data_cells is_sync hold sync sync_cells data_place first sectors names cells s bytes
+  Sector cells s bytes = IsWhole header_end data_end is_sync hold sync sync_cells data_place first sectors names cells s bytes
 
   -- what stands in cells that agree
-  agree-header : (total : ℕ) (cells others : List Bool) (s : ℕ) → AgreeTo total cells others → header_cells ≤ total → Header cells s → Header others s
+  agree-header : (total : ℕ) (cells others : List Bool) (s : ℕ) → AgreeTo total cells others → header_end cells ≤ total → Header cells s → Header others s
   agree-header total cells others s same long header =
-      let own = agree-less total cells others same header_cells long in record {
-        begins = agree-stands total cells others same sync sync_cells 0 (omega (arith, tells.sync_within, long)) header.begins;
-        whole = agree-length header_cells cells others own header.whole;
+      let own = agree-less total cells others same (header_end cells) long in
+      let told = ends.header_told cells others own in
+      record {
+        begins = agree-stands total cells others same sync sync_cells 0 (omega (arith, tells.sync_within, ends.header_least cells, long)) header.begins;
+        whole = omega (arith, told, agree-length (header_end cells) cells others own header.whole);
         named = tells.named cells others s own header.named;
         known = header.known;
-        unbroken = agree-unbroken total cells others same 0 header_cells long header.unbroken;
+        unbroken = subst (Unbroken others 0) (sym told) (agree-unbroken total cells others same 0 (header_end cells) long header.unbroken);
       }
 
   agree-data_sync : (total : ℕ) (cells others : List Bool) (place : ℕ) → AgreeTo total cells others → place + data_cells - 7 ≤ total
-      → IsDataSync header_cells (is_sync cells) place → IsDataSync header_cells (is_sync others) place
-  agree-data_sync total cells others place same long at = record {
-    after = at.after;
-    near = at.near;
-    stands = tells.synced cells others place (agree-less total cells others same (place + data_cells - 7) long) at.stands;
-    first = λ other above below stands. at.first other above below
-        (tells.synced others cells other (sym (agree-less total cells others same (other + data_cells - 7) (omega arith))) stands);
-  }
+      → IsDataSync (header_end cells) (is_sync cells) place → IsDataSync (header_end others) (is_sync others) place
+  agree-data_sync total cells others place same long at =
+      let told = ends.header_told cells others (agree-less total cells others same (header_end cells) (omega (arith, ends.some, at.after, long))) in
+      record {
+        after = omega (arith, told, at.after);
+        near = omega (arith, told, at.near);
+        stands = tells.synced cells others place (agree-less total cells others same (place + data_cells - 7) long) at.stands;
+        first = λ other above below stands. at.first other (omega (arith, told, above)) below
+            (tells.synced others cells other (sym (agree-less total cells others same (other + data_cells - 7) (omega arith))) stands);
+      }
 
   pub header_alone : (cells : List Bool) (s : ℕ) → 0 < header_cells → Header cells s → IsAlone (λ others. Header others s) cells
-  header_alone cells s some header = record {
-    end = header_cells;
-    some = some;
-    within = header.whole;
-    unbroken = header.unbroken;
-    alone = λ more. agree-header header_cells cells (take header_cells cells ++ more) s (agree-front header_cells cells more header.whole) (omega arith) header;
-  }
+  header_alone cells s some header =
+      let end = header_end cells in
+      record {
+        end = end;
+        some = omega (arith, some, ends.header_least cells);
+        within = header.whole;
+        unbroken = header.unbroken;
+        alone = λ more. agree-header end cells (take end cells ++ more) s (agree-front end cells more header.whole) (omega arith) header;
+      }
 
   pub sector_alone : (cells : List Bool) (s : ℕ) (bytes : List ℕ) → 0 < header_cells → Sector cells s bytes
       → IsAlone (λ others. Sector others s bytes) cells
   sector_alone cells s bytes some sector =
       let content = sector.content in
       let place = content.sync in
-      let end = place + data_cells in
-      let after : header_cells ≤ place = content.first_sync.after in record {
+      let end = data_end cells place in
+      let after = content.first_sync.after in
+      let past = ends.data_least cells place in
+      record {
         end = end;
-        some = omega (arith, some, after);
+        some = omega (arith, some, after, past, ends.header_least cells);
         within = content.whole;
         unbroken = content.unbroken;
         alone = λ more.
             let others = take end cells ++ more in
-            let same = agree-front end cells more content.whole in record {
-              header = agree-header end cells others s same (omega (arith, after)) sector.header;
+            let same = agree-front end cells more content.whole in
+            let told = ends.data_told cells others place same in
+            record {
+              header = agree-header end cells others s same (omega (arith, after, past)) sector.header;
               content = record {
                 sync = place;
-                first_sync = agree-data_sync end cells others place same (omega arith) content.first_sync;
-                whole = agree-length end cells others same content.whole;
+                first_sync = agree-data_sync end cells others place same (omega (arith, past)) content.first_sync;
+                whole = omega (arith, told, agree-length end cells others same content.whole);
                 held = tells.held cells others place bytes same content.held;
-                unbroken = agree-unbroken end cells others same 0 end (omega arith) content.unbroken;
+                unbroken = subst (Unbroken others 0) (sym told) (agree-unbroken end cells others same 0 end (omega arith) content.unbroken);
               };
             };
       }
@@ -132,10 +163,10 @@ module _ (header_cells data_cells : ℕ) (is_sync : List Bool → ℕ → Type 0
 
     header_early : (cells : List Bool) (s : ℕ) → Header cells s → Early (λ others. (t : ℕ) (bytes : List ℕ) → Sector others t bytes → s ≡ t) cells
     header_early cells s header = record {
-      end = header_cells;
+      end = header_end cells;
       within = header.whole;
       unbroken = header.unbroken;
-      long = own_syncs.short;
+      long = omega (arith, own_syncs.short, ends.header_least cells);
       says = λ others same t bytes sector. tells.named_early cells others s t same header.named sector.header.named;
     }
 
@@ -143,14 +174,18 @@ module _ (header_cells data_cells : ℕ) (is_sync : List Bool → ℕ → Type 0
         → Early (λ others. (t : ℕ) (others_bytes : List ℕ) → Sector others t others_bytes → bytes ≡ others_bytes) cells
     sector_early cells s bytes sector =
         let data_sync = sector.content.first_sync in
-        let place = sector.content.sync in record {
-          end = place + data_cells;
+        let place = sector.content.sync in
+        let end = data_end cells place in
+        let past = ends.data_least cells place in
+        record {
+          end = end;
           within = sector.content.whole;
           unbroken = sector.content.unbroken;
-          long = omega (arith, own_syncs.short, data_sync.after);
+          long = omega (arith, own_syncs.short, data_sync.after, ends.header_least cells, past);
           says = λ others same t others_bytes other.
-              let there = agree-data_sync (place + data_cells - 7) cells others place same (omega arith) data_sync in
-              let one : other.content.sync ≡ place = one_sync header_cells (is_sync others) other.content.sync place other.content.first_sync there in
+              let there = agree-data_sync (end - 7) cells others place same (omega (arith, past)) data_sync in
+              let one : other.content.sync ≡ place =
+              one_sync (header_end others) (is_sync others) other.content.sync place other.content.first_sync there in
               tells.held_early cells others place bytes others_bytes same sector.content.held
               (subst (λ (n : ℕ). hold others n others_bytes) one other.content.held);
         }

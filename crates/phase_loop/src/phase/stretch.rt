@@ -21,6 +21,12 @@ const SHORT_STRETCH: usize = 128;
 /// How many transitions no stretch is tried after a short one.
 const PAUSE: usize = 256;
 
+/// A stretch of fewer transitions ended at once, as on a track without a format.
+const NO_STRETCH: usize = 16;
+
+/// How many transitions no stretch is tried after one that ended at once.
+const LONG_PAUSE: usize = 1024;
+
 /// What a step of a loop with a full window changes, without the intervals: few enough numbers to stay in the
 /// processor's registers.
 #[derive(Clone, Copy, Debug, PartialEq, Eq)]
@@ -60,6 +66,32 @@ impl Loop {
         if last < self.next_stretch || !self.window.is_full() {
             return Ok(last);
         }
+        self.follow_stretch(times, last, cells)
+    }
+
+    /// What `follow` does where it tries a stretch. A call, so that a transition with no stretch does not wait for the row of
+    /// counts.
+    #[inline(never)]
+    fn follow_stretch(
+        &mut self,
+        times: &[u64],
+        last: usize,
+        cells: &mut Cells,
+    ) -> Result<usize, Memory>
+        requires rising { IsNonDecreasing times.now }
+        requires within { All (λ time. time ≤ 2 ^ 39) times.now }
+        requires last { last < length times.now }
+        requires here { self.old.fine ≡ 1024 * slice_index times.now last }
+        requires full { length self.old.recent ≡ 64 }
+        requires window { AreBetween times.now last self.old.recent }
+        requires short { length cells.old.cells ≤ 32 * last + 1 }
+        ensures forward { IfOk result (λ next. last ≤ next) }
+        ensures inside { IfOk result (λ next. next < length times.now) }
+        ensures carries { IfOk result (λ next. Carries times.now last next self.old self.new cells.old cells.new) }
+        ensures kept { OnErr result (self.new ≡ self.old) }
+        ensures room { room cells.old ≤ room cells.new }
+        ensures succeeds { 32 * length times.now ≤ room cells.old → IsOk result }
+    {
         let mut counts = [0; INTERVALS + STRETCH];
         self.window.put_counts(&mut counts);
         let (stand, next) = self.stretch(times, last, &mut counts, cells)?;
@@ -78,7 +110,7 @@ impl Loop {
         Ok(next)
     }
 
-    /// The stretch of `follow`. The first of `counts` are those of the window, and the stretch puts its own after
+    /// The stretch of `follow_stretch`. The first of `counts` are those of the window, and the stretch puts its own after
     /// them.
     fn stretch(
         &self,
@@ -134,11 +166,13 @@ impl Loop {
         ensures stretch { TakesRuns times.now last result.1 self.now result.0 counts.new }
     {
         let nominal = self.start.nominal;
+        let slack = self.slack();
         let mut stand = self.stand();
         for taken in 0..most {
             let number = last + taken + 1;
             let fine = FINE_PER_TICK * times[number];
-            let Some((count, length)) = stand.near(fine, counts[INTERVALS + taken]) else {
+            let guess = counts[INTERVALS + taken];
+            let Some((count, length)) = stand.near(fine, guess, slack) else {
                 return (stand, taken);
             };
             let ticks = times[number] - times[number - INTERVALS];
@@ -161,16 +195,26 @@ impl Loop {
             count: self.window.cells(),
         }
     }
+
+    /// How far a time may lie from where a count of cells puts it, so that no other count is as near: half a period, where
+    /// that is the shortest one that a stretch can have.
+    fn slack(&self) -> u64
+        ensures first { 2 * result ≤ self.now.period }
+        ensures later { 2 * result ≤ 3 * self.now.nominal / 4 }
+    {
+        u64::from(3 * self.start.nominal / 4).min(self.period) / 2
+    }
 }
 
 /// From which transition on a stretch is tried again, where the last one took so many and ended at this one. A short one
 /// is a sign of noise.
 fn next_stretch_behind(last: usize, taken: usize) -> usize {
-    if taken < SHORT_STRETCH {
-        last.saturating_add(PAUSE)
-    } else {
-        last
-    }
+    let pause = match taken {
+        0..NO_STRETCH => LONG_PAUSE,
+        NO_STRETCH..SHORT_STRETCH => PAUSE,
+        _ => 0,
+    };
+    last.saturating_add(pause)
 }
 
 /// The 64 intervals up to a transition, by their counts.
@@ -198,27 +242,28 @@ fn intervals_to(times: &[u64], last: usize, counts: &[u8]) -> [Interval; INTERVA
 
 impl Stand {
     /// The count of cells to a time that is not before the place and has no more than four, and their length: the guess,
-    /// where it is the right one.
-    fn near(self, fine: u64, guess: u8) -> Option<(u64, u64)>
+    /// where it puts the time nearly right. A guess further off than the slack may be right as well, and is counted anew.
+    fn near(self, fine: u64, guess: u8, slack: u64) -> Option<(u64, u64)>
         requires fine { fine ≤ 2 ^ 49 }
+        requires place { self.place ≤ 2 ^ 50 }
         requires shortest { 1 ≤ self.period }
         requires longest { self.period ≤ 163840 }
+        requires slack { 2 * slack ≤ self.period }
         requires guess { IsShortRun guess }
         ensures count { IfSome result (λ r. r.0 ≡ max 1 ((2 * (fine - self.place) + self.period) / (2 * self.period))) }
         ensures length { IfSome result (λ r. r.1 ≡ r.0 * self.period) }
         ensures near { IfSome result (λ r. 2 * (fine - self.place) < 9 * self.period) }
         ensures few { IfSome result (λ r. r.0 ≤ 4) }
     {
+        let count = u64::from(guess);
+        let length = count * self.period;
+        if lie_within(self.place + length, fine, slack) {
+            return Some((count, length));
+        }
         if fine < self.place {
             return None;
         }
-        let way = fine - self.place;
-        let count = u64::from(guess);
-        let length = count * self.period;
-        if is_nearest(length, way, self.period) {
-            return Some((count, length));
-        }
-        let count = count_of_few(way, self.period)?;
+        let count = count_of_few(fine - self.place, self.period)?;
         Some((count, count * self.period))
     }
 
@@ -257,13 +302,13 @@ fn count_of_few(way: u64, period: u64) -> Option<u64>
     }
 }
 
-/// Whether cells of this length are the nearest to a way, or one less is as near.
-fn is_nearest(length: u64, way: u64, period: u64) -> bool
-    requires length { length ≤ 4 * 163840 }
-    requires way { way ≤ 2 ^ 50 }
-    requires period { period ≤ 163840 }
-    ensures { IsTrue result ↔ (2 * length ≤ 2 * way + period) × (2 * way < 2 * length + period) }
+/// Whether a place and a time are no further apart than the slack.
+fn lie_within(place: u64, fine: u64, slack: u64) -> bool
+    requires place { place ≤ 2 ^ 51 }
+    requires fine { fine ≤ 2 ^ 49 }
+    requires slack { slack ≤ 163840 }
+    ensures { IsTrue result ↔ (place ≤ fine + slack) × (fine < place + slack) }
 {
-    // Where the way is shorter by more than half a period, the difference wraps round, far above a period.
-    (way + period / 2).wrapping_sub(length) < period
+    // Where the place is too far ahead, the difference wraps round, far above twice the slack.
+    (fine + slack).wrapping_sub(place) < 2 * slack
 }

@@ -12,8 +12,8 @@ loop-preserved g c = record {
   later = omega (arith, c.loop.invariant.later, c.put_byte.ensures.later);
 }
 
-pub returns-in-Err-clause-err : goal.returns-in-Err-clause-err
-returns-in-Err-clause-err g c =
+pub returns-in-Err : goal.returns-in-Err
+returns-in-Err g c =
     let rest : ℕ = c.args.count - c.loop.counter - 1 in
     let all : replicate c.loop.counter 11 ++ (11 ∷ [] ++ replicate rest 11) ≡ replicate c.args.count 11 =
     ap (λ bytes. replicate c.loop.counter 11 ++ bytes) (replicate-append-replicate 1 rest 11)
@@ -21,6 +21,11 @@ returns-in-Err-clause-err g c =
     let start = g.W.Sink.written c.args.sink.now in
     let before = g.W.Sink.written c.loop.sink in
     let end = g.W.Sink.written c.put_byte.new.sink in
-    subst (λ bytes. AppendsPart start end (c.args.piece.now ++ bytes)) all
-    (Gathers-part start before end c.args.piece.now c.loop.piece (replicate c.loop.counter 11) (11 ∷ [] ++ replicate rest 11) c.loop.invariant.bytes
-    (AppendsPart-longer before end c.loop.piece (11 ∷ []) (replicate rest 11) c.in-Err.ensures.err))
+    record {
+      ok = tt;
+      err = subst (λ bytes. AppendsPart start end (c.args.piece.now ++ bytes)) all
+          (Gathers-part start before end c.args.piece.now c.loop.piece (replicate c.loop.counter 11) (11 ∷ [] ++ replicate rest 11) c.loop.invariant.bytes
+          (AppendsPart-longer before end c.loop.piece (11 ∷ []) (replicate rest 11) c.in-Err.ensures.err));
+      later = omega (arith, c.loop.invariant.later, c.in-Err.ensures.later);
+      cause = omega (arith, c.loop.invariant.later, c.in-Err.ensures.cause);
+    }

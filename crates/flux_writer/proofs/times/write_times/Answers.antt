@@ -33,12 +33,16 @@ transition-requires-clause-few g c =
     c.loop-time-test.true c.loop-time.stream.time c.times-time-items.ensures.order c.loop-time.invariant.written.time_is)
     (rw value early) (omega (arith, inside, c.requires.few))
 
-pub returns-in-Err-clause-err : goal.returns-in-Err-clause-err
-returns-in-Err-clause-err g c =
-    IsWritten-fails c.args.flux.now.times c.times-time-items.result.now c.loop-time.time-index c.times-time-items.ensures.value
-    c.loop-time-test.true (g.W.Sink.written c.args.sink.now) (g.W.Sink.written c.loop-time.sink) (g.W.Sink.written c.transition.new.sink)
-    c.args.flux.now.indexes c.loop-time.stream.piece c.loop-time.stream.position c.loop-time.stream.time c.loop-time.stream.indexes
-    c.loop-time.invariant.written c.indexes.ensures.order c.in-Err.ensures.err
+pub returns-in-Err : goal.returns-in-Err
+returns-in-Err g c = record {
+  ok = tt;
+  err = IsWritten-fails c.args.flux.now.times c.times-time-items.result.now c.loop-time.time-index c.times-time-items.ensures.value
+      c.loop-time-test.true (g.W.Sink.written c.args.sink.now) (g.W.Sink.written c.loop-time.sink) (g.W.Sink.written c.transition.new.sink)
+      c.args.flux.now.indexes c.loop-time.stream.piece c.loop-time.stream.position c.loop-time.stream.time c.loop-time.stream.indexes
+      c.loop-time.invariant.written c.indexes.ensures.order c.in-Err.ensures.holds.err;
+  later = omega (arith, c.loop-time.invariant.later, c.in-Err.ensures.holds.later);
+  cause = omega (arith, c.loop-time.invariant.later, c.in-Err.ensures.holds.cause);
+}
 
 pub loop-time-preserved : goal.loop-time-preserved
 loop-time-preserved g c =
@@ -52,9 +56,9 @@ loop-time-preserved g c =
           c.loop-time-test.true (g.W.Sink.written c.args.sink.now) (g.W.Sink.written c.loop-time.sink) (g.W.Sink.written c.transition.new.sink)
           c.args.flux.now.indexes c.loop-time.stream.piece c.loop-time.stream.position c.loop-time.stream.time c.loop-time.stream.indexes
           c.loop-time.invariant.written c.transition.new.self.piece c.transition.new.self.position c.transition.new.self.time
-          c.transition.new.self.indexes c.in-Ok.ensures.ok c.in-Ok.ensures.position c.in-Ok.ensures.time c.in-Ok.ensures.indexes;
+          c.transition.new.self.indexes c.in-Ok.ensures.holds.ok c.in-Ok.ensures.position c.in-Ok.ensures.time c.in-Ok.ensures.indexes;
       ready = rw (c.in-Ok.ensures.position, c.in-Ok.ensures.time, c.in-Ok.ensures.indexes) ready;
-      later = omega (arith, c.loop-time.invariant.later, c.transition.ensures.later);
+      later = omega (arith, c.loop-time.invariant.later, c.transition.ensures.holds.later);
     }
 
 pub returns : goal.returns

@@ -2,8 +2,8 @@ use Rattle.std.proofs.Common.{◌≤◌, ◌+◌, ◌-◌}
 use Rattle.flux_writer.specs.inside.Writing.{IsReadyAt, IsWritten, times_between}
 use Rattle.flux_writer.proofs.track.write_part.Given as goal
 
-abbrev pub invariant-loop-one : goal.invariant-loop-one
-invariant-loop-one g l = record {
+abbrev pub invariant-loop-place : goal.invariant-loop-place
+invariant-loop-place g l = record {
   from : l.part.from ≤ l.place;
   to : l.place ≤ l.part.to;
   written : IsWritten (g.W.Sink.written l.initial.sink) (g.W.Sink.written l.sink)
@@ -14,5 +14,5 @@ invariant-loop-one g l = record {
   later : g.W.Sink.faults l.initial.sink ≤ g.W.Sink.faults l.sink;
 }
 
-abbrev pub decreases-loop-one : goal.decreases-loop-one
-decreases-loop-one g l = l.part.to - l.place
+abbrev pub decreases-loop-place : goal.decreases-loop-place
+decreases-loop-place g l = l.part.to - l.place

@@ -44,13 +44,18 @@ returns-in-Ok g c =
       cause = search rules;
     }
 
-pub returns-in-Err-clause-err : goal.returns-in-Err-clause-err
-returns-in-Err-clause-err g c =
+pub returns-in-Err : goal.returns-in-Err
+returns-in-Err g c =
     let ring = c.args.ring.now.cells in
     let nominal = c.args.nominal in
     let start = g.W.Sink.written c.args.sink.now in
     let end = g.W.Sink.written c.write_ring.new.sink in
     let some : 0 < length ring = omega (arith, c.requires.one.1, c.requires.one.2) in
     let made = made_turns nominal c.len-length.result (length ring) c.new-stream.result.indexes c.len-length.ensures.length c.new-stream.ensures.indexes in
-    cells_fail (track_cells ring) (track_turns ring) nominal (omega (arith, c.requires.least)) (turns_rise ring some) start start end
-    (subst (λ l. AppendsPart start end (spellings (many_blocks 0 0 (track_times ring nominal) l))) made c.in-Err.ensures.err)
+    record {
+      ok = tt;
+      err = cells_fail (track_cells ring) (track_turns ring) nominal (omega (arith, c.requires.least)) (turns_rise ring some) start start end
+          (subst (λ l. AppendsPart start end (spellings (many_blocks 0 0 (track_times ring nominal) l))) made c.in-Err.ensures.err);
+      later = c.in-Err.ensures.later;
+      cause = c.in-Err.ensures.cause;
+    }

@@ -40,8 +40,8 @@ returns-in-Ok g c =
       cause = search rules;
     }
 
-pub returns-in-Err-clause-err : goal.returns-in-Err-clause-err
-returns-in-Err-clause-err g c =
+pub returns-in-Err : goal.returns-in-Err
+returns-in-Err g c =
     let e = c.new-stream.ensures in
     let s = c.new-stream.result in
     let start = g.W.Sink.written c.args.sink.now in
@@ -49,8 +49,13 @@ returns-in-Err-clause-err g c =
     let cells = c.args.cells.now.cells in
     let turns = c.args.turns.now in
     let nominal = c.args.nominal in
-    cells_fail cells turns nominal (omega (arith, c.requires.least)) c.requires.order start start end
-    (cells_part nominal [] cells 0 refl start start end (map (cell_time nominal) turns) s.piece s.position s.time s.indexes
-    (IsWritten-start start s.piece s.position s.time s.indexes (map (cell_time nominal) turns) e.piece e.position e.time e.indexes)
-    (times_between cells 0 c.len.result 0 nominal) [] cells (times_of_turn cells c.len.result c.len.ensures.length 0 nominal)
-    (append-nil cells) c.in-Err.ensures.err)
+    record {
+      ok = tt;
+      err = cells_fail cells turns nominal (omega (arith, c.requires.least)) c.requires.order start start end
+          (cells_part nominal [] cells 0 refl start start end (map (cell_time nominal) turns) s.piece s.position s.time s.indexes
+          (IsWritten-start start s.piece s.position s.time s.indexes (map (cell_time nominal) turns) e.piece e.position e.time e.indexes)
+          (times_between cells 0 c.len.result 0 nominal) [] cells (times_of_turn cells c.len.result c.len.ensures.length 0 nominal)
+          (append-nil cells) c.in-Err.ensures.err);
+      later = c.in-Err.ensures.later;
+      cause = c.in-Err.ensures.cause;
+    }

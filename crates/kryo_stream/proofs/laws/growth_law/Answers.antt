@@ -1,4 +1,4 @@
-use Rattle.kryo_stream.proofs.Growing.{padding_stays, streams_are_short, streams_stay}
+use Rattle.kryo_stream.proofs.Growing.{padding_stays, streams_are_short, streams_keep_the_limit, streams_stay}
 use Rattle.kryo_stream.proofs.laws.growth_law.Goals as goal
 
 pub returns-clause-streams : goal.returns-clause-streams
@@ -9,3 +9,6 @@ returns-clause-padding c = padding_stays
 
 pub returns-clause-short : goal.returns-clause-short
 returns-clause-short c = streams_are_short
+
+pub returns-clause-limit : goal.returns-clause-limit
+returns-clause-limit c = streams_keep_the_limit

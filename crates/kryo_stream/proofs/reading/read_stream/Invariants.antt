@@ -1,12 +1,14 @@
-use Rattle.std.proofs.Common.{◌≡◌, ◌≤◌, []}
+use Rattle.std.proofs.Common.{◌≡◌, ◌≤◌, [], length}
 use Rattle.index_turns.specs.Track.{KeepsRoom}
 use Rattle.kryo_stream.specs.Bench.{KeepsBenchRoom}
 use Rattle.kryo_stream.specs.Progress.{Progress}
 use Rattle.kryo_stream.specs.Reads.{source_at}
 use Rattle.kryo_stream.proofs.reading.read_stream.Given as goal
 
-abbrev pub invariant-loop-number : goal.invariant-loop-number
-invariant-loop-number g l = record {
+abbrev pub invariant-loop : goal.invariant-loop
+invariant-loop g l = record {
+  rounds : l.counter ≤ l.number;
+  bound : length l.intake.held ≤ 4096;
   progress : Progress (source_at g.S.Source.left g.S.Source.given g.S.Source.faults l.initial.source)
       (source_at g.S.Source.left g.S.Source.given g.S.Source.faults l.source) l.initial.intake.held l.intake.held l.number l.before l.flux.times l.bench;
   indexes : l.flux.indexes ≡ [];

@@ -1,4 +1,4 @@
-use Rattle.std.proofs.Common.{◌≡◌, ◌-◌, take, arith, subst}
+use Rattle.std.proofs.Common.{◌≡◌, ◌-◌, take, arith, rules, subst}
 use Rattle.std.proofs.lemmas.List.{take-replicate}
 use Rattle.std.proofs.Math.ListN.{replicate}
 use Rattle.std.specs.Io.KnownBytes.{Appends}
@@ -17,9 +17,14 @@ loop-rest-preserved g c =
       later = omega (arith, c.write_whole.ensures.later);
     }
 
-pub returns-in-Err-clause-err : goal.returns-in-Err-clause-err
-returns-in-Err-clause-err g c =
+pub returns-in-Err : goal.returns-in-Err
+returns-in-Err g c =
     let piece : take c.min-piece.result (replicate 256 32) ≡ replicate c.min-piece.result 32 =
     take-replicate c.min-piece.result 256 32 (omega arith) in
-    AppendsPart-more _ _ _ (c.args.count - c.loop-rest.rest) c.min-piece.result _ 32 c.loop-rest.invariant.appended
-    (subst (AppendsPart (g.W.Sink.written c.loop-rest.sink) (g.W.Sink.written c.write_whole.new.sink)) piece c.in-Err.ensures.err) (omega arith)
+    record {
+      ok = tt;
+      err = AppendsPart-more _ _ _ (c.args.count - c.loop-rest.rest) c.min-piece.result _ 32 c.loop-rest.invariant.appended
+          (subst (AppendsPart (g.W.Sink.written c.loop-rest.sink) (g.W.Sink.written c.write_whole.new.sink)) piece c.in-Err.ensures.err) (omega arith);
+      later = search rules;
+      cause = search rules;
+    }

@@ -23,10 +23,15 @@ loop-index-preserved g c =
       later = omega (arith, i.later, c.put.ensures.later);
     }
 
-pub returns-in-Err-clause-err : goal.returns-in-Err-clause-err
-returns-in-Err-clause-err g c =
+pub returns-in-Err-clause-holds : goal.returns-in-Err-clause-holds
+returns-in-Err-clause-holds g c =
     let first = first_of c.loop-index.self.indexes c.in-Some.index c.in-Some.ensures.some.0 in
     let i = c.loop-index.invariant in
-    IndexesWritten-part (g.W.Sink.written c.args.sink.now) (g.W.Sink.written c.loop-index.sink) (g.W.Sink.written c.put.new.sink)
-    _ _ _ _ _ _ _ c.in-Some.index (drop 1 c.loop-index.self.indexes) c.index_bytes-bytes.result i.written
-    first c.in-Some.ensures.some.1 (spelled c.loop-index.self.position c.loop-index.self.time c.args.self.now.position c.args.self.now.time c.in-Some.index c.index_bytes-bytes.result i.position i.time c.index_bytes-bytes.ensures) c.in-Err.ensures.err
+    record {
+      ok = tt;
+      err = IndexesWritten-part (g.W.Sink.written c.args.sink.now) (g.W.Sink.written c.loop-index.sink) (g.W.Sink.written c.put.new.sink)
+          _ _ _ _ _ _ _ c.in-Some.index (drop 1 c.loop-index.self.indexes) c.index_bytes-bytes.result i.written
+          first c.in-Some.ensures.some.1 (spelled c.loop-index.self.position c.loop-index.self.time c.args.self.now.position c.args.self.now.time c.in-Some.index c.index_bytes-bytes.result i.position i.time c.index_bytes-bytes.ensures) c.in-Err.ensures.err;
+      later = omega (arith, i.later, c.in-Err.ensures.later);
+      cause = omega (arith, i.later, c.in-Err.ensures.cause);
+    }

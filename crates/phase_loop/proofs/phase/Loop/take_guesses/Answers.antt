@@ -16,6 +16,7 @@ loop-taken-init c =
     record {
       whole = omega arith;
       guesses = c.requires.guesses;
+      slack = omega (arith, c.slack-slack.ensures.first, c.stand-stand.ensures.place.1);
       stretch = λ cells short.
           rw here (stretch_with _ _ _ _ _ _ _ _ _
           (stretch_begins _ _ _ _ _ cells c.requires.rising (omega (arith, c.requires.inside)) c.requires.here c.requires.full c.requires.window c.requires.counts
@@ -29,6 +30,12 @@ near-requires-clause-shortest c = let s = c.loop-taken.invariant.stretch no_cell
 
 pub near-requires-clause-longest : goal.near-requires-clause-longest
 near-requires-clause-longest c = let s = c.loop-taken.invariant.stretch no_cells (omega arith) in s.longest
+
+pub near-requires-clause-place : goal.near-requires-clause-place
+near-requires-clause-place c =
+    let s = c.loop-taken.invariant.stretch no_cells (omega arith) in
+    let time = c.requires.within (c.args.last + c.loop-taken.taken) 0 s.inside in
+    omega (arith, time, s.place)
 
 pub near-requires-clause-guess : goal.near-requires-clause-guess
 near-requires-clause-guess c =
@@ -111,6 +118,7 @@ loop-taken-preserved c =
     record {
       whole = omega (arith, c.loop-taken.invariant.whole, length-set c.loop-taken.counts (64 + c.loop-taken.taken) c.in-Some.count);
       guesses = guess_right c.args.most c.loop-taken.counts c.loop-taken.taken c.in-Some.count c.loop-taken.invariant.guesses (omega (arith, c.in-Some.ensures.count), c.in-Some.ensures.few);
+      slack = rw (c.after-stand.ensures c.in-Some.count c.in-Some.ensures.length, nominal_is) (omega (arith, c.slack-slack.ensures.later));
       stretch = λ cells short.
           let now : CellsState = with_runs cells (take c.loop-taken.taken (drop 64 c.loop-taken.counts)) in
           let longer : CellsState = with_runs cells (take (c.loop-taken.taken + 1) (drop 64 counts)) in

@@ -1,4 +1,4 @@
-use Rattle.std.proofs.Common.{◌≡◌, length}
+use Rattle.std.proofs.Common.{◌≡◌, ◌≤◌, ◌*◌, length}
 use Rattle.phase_loop.specs.Stretch.{AreGuessed, TakesRuns}
 use Rattle.phase_loop.proofs.phase.Loop.take_guesses.Given as goal
 
@@ -6,5 +6,6 @@ abbrev pub invariant-loop-taken : goal.invariant-loop-taken
 invariant-loop-taken l = record {
   whole : length l.counts ≡ 576;
   guesses : AreGuessed l.most l.counts;
+  slack : 2 * l.slack ≤ l.stand.period;
   stretch : TakesRuns l.times l.last l.taken l.self l.stand l.counts;
 }
