@@ -1,3 +1,6 @@
 pub mod Bytes
 pub mod Content
+pub mod DiskZeros
+pub mod NextOnes
 pub mod Values
+pub mod Walk

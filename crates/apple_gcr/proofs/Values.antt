@@ -1,5 +1,5 @@
 -- Values that are read from nibbles, one after another.
-use Rattle.std.proofs.Common.{◌≡◌, ℕ, zero, suc, ◌+◌, ◌*◌, ◌<◌, ◌≤◌, Bool, List, [], ◌∷◌, ◌++◌, length, get_or, ap, sym, subst, ◌∙◌, arith, inl, inr, lit<, refl, length-append, add-one, map, ◌%◌, Option, Some, None, IfNone}
+use Rattle.std.proofs.Common.{◌≡◌, ℕ, zero, suc, ◌+◌, ◌<◌, ◌≤◌, List, [], ◌∷◌, ◌++◌, length, get_or, ap, sym, subst, ◌∙◌, arith, inl, inr, lit<, refl, length-append, add-one, map, ◌%◌, Option, Some, None, IfNone}
 use Rattle.std.proofs.lemmas.Bool.{cases_lt}
 use Rattle.std.proofs.lemmas.List.{get_or_past}
 use Rattle.std.proofs.lemmas.Nat.{xor_comm, xor_lt}
@@ -10,7 +10,7 @@ use Rattle.std.specs.List.{range_with_len}
 use Rattle.std.proofs.Math.Nat.{mod-lt}
 use Rattle.apple_gcr.specs.declared.nibbles.TheConstants.{VALUES_BY_BYTE}
 use Rattle.apple_gcr.specs.lemmas.FieldLaws.{agree-below, one_value}
-use Rattle.apple_gcr.specs.Nibbles.{disk_byte, nibble}
+use Rattle.apple_gcr.specs.Nibbles.{nibble}
 use Rattle.apple_gcr.specs.SixAndTwo.{AreCoded, code_at}
 use Rattle.apple_gcr.specs.lemmas.ValueLaws.{AreSixBits, FirstStand, code-fits, same_value, xor-undo}
 
@@ -24,15 +24,15 @@ value-fits place within =
     (mod-lt (get_or VALUES_BY_BYTE place 0) (lit< tt))
 
 -- the first values, so many, the last of which is given
-pub record AreRead (cells : List Bool) (place : ℕ) (values : List ℕ) (count last : ℕ) : Type 0 where
+pub record AreRead (bytes : ℕ → ℕ) (values : List ℕ) (count last : ℕ) : Type 0 where
   pub size : length values ≡ count
   pub fit : AreSixBits values
   pub is_last : last ≡ get_or (0 ∷ values) count 0
   pub last_fits : last < 64
-  pub stand : FirstStand cells place values count
+  pub stand : FirstStand bytes values count
 
-pub none-read : (cells : List Bool) (place : ℕ) → AreRead cells place [] 0 0
-none-read cells place = record {
+pub none-read : (bytes : ℕ → ℕ) → AreRead bytes [] 0 0
+none-read bytes = record {
   size = refl;
   fit = λ k. lit< tt;
   is_last = refl;
@@ -70,10 +70,10 @@ fit-more values value fit low k =
     ]
 
 -- one more
-pub more-read : (cells : List Bool) (place : ℕ) (values : List ℕ) (count last code : ℕ) → AreRead cells place values count last
-    → code < 64 → nibble code ≡ disk_byte cells (place + 8 * count)
-    → AreRead cells place (values ++ bit_xor last code ∷ []) (count + 1) (bit_xor last code)
-more-read cells place values count last code read low is =
+pub more-read : (bytes : ℕ → ℕ) (values : List ℕ) (count last code : ℕ) → AreRead bytes values count last
+    → code < 64 → nibble code ≡ bytes count
+    → AreRead bytes (values ++ bit_xor last code ∷ []) (count + 1) (bit_xor last code)
+more-read bytes values count last code read low is =
     let value = bit_xor last code in
     let fits : value < 64 = xor_lt 6 last code read.last_fits low in
     let more = values ++ value ∷ [] in
@@ -88,7 +88,7 @@ more-read cells place values count last code read low is =
         | inl before ↦ read.stand k before ∙ ap nibble (sym (before-more values value k (omega (arith, read.size, before))))
         | inr here ↦
             let e : count ≡ k = omega arith in
-            subst (λ (n : ℕ). disk_byte cells (place + 8 * n) ≡ nibble (code_at more n)) e
+            subst (λ (n : ℕ). bytes n ≡ nibble (code_at more n)) e
             (sym is
             ∙ ap nibble
             (sym (ap (code_at more) (sym read.size) ∙ last-more values value
@@ -98,9 +98,9 @@ more-read cells place values count last code read low is =
     }
 
 -- a byte that is no nibble stands where values' nibbles do not
-pub no_values : (cells : List Bool) (place k : ℕ) (values : List ℕ) → k < 343
-    → ((code : ℕ) → code < 64 → ¬ (nibble code ≡ disk_byte cells (place + 8 * k))) → ¬ AreCoded cells place values
-no_values cells place k values within none coded =
+pub no_values : (bytes : ℕ → ℕ) (k : ℕ) (values : List ℕ) → k < 343
+    → ((code : ℕ) → code < 64 → ¬ (nibble code ≡ bytes k)) → ¬ AreCoded bytes values
+no_values bytes k values within none coded =
     none (code_at values k) (code-fits values k coded.fit) (sym (coded.stand k within))
 
 -- the check value is the last value
@@ -110,31 +110,36 @@ check_code values last size is =
     ∙ xor_zero_l (get_or (0 ∷ values) 342 0) ∙ sym is
 
 -- all values with the check value
-pub all-read : (cells : List Bool) (place : ℕ) (values : List ℕ) (last check : ℕ) → AreRead cells place values 342 last
-    → nibble check ≡ disk_byte cells (place + 8 * 342) → check ≡ last → AreCoded cells place values
-all-read cells place values last check read is same = record {
+pub all-read : (bytes : ℕ → ℕ) (values : List ℕ) (last check : ℕ) → AreRead bytes values 342 last
+    → nibble check ≡ bytes 342 → check ≡ last → AreCoded bytes values
+all-read bytes values last check read is same = record {
   count = read.size;
   fit = read.fit;
   stand = λ k within. elim (cases_lt k 342) [
     | inl before ↦ read.stand k before
     | inr here ↦
         let e : 342 ≡ k = omega arith in
-        subst (λ (n : ℕ). disk_byte cells (place + 8 * n) ≡ nibble (code_at values n)) e
+        subst (λ (n : ℕ). bytes n ≡ nibble (code_at values n)) e
         (sym is ∙ ap nibble (same ∙ sym (check_code values last read.size read.is_last)))
   ];
 }
 
 -- another check value
-pub wrong_check : (cells : List Bool) (place : ℕ) (values others : List ℕ) (last check : ℕ) → AreRead cells place values 342 last
-    → check < 64 → nibble check ≡ disk_byte cells (place + 8 * 342) → AreCoded cells place others → check ≡ last
-wrong_check cells place values others last check read low is coded =
+pub wrong_check : (bytes : ℕ → ℕ) (values others : List ℕ) (last check : ℕ) → AreRead bytes values 342 last
+    → check < 64 → nibble check ≡ bytes 342 → AreCoded bytes others → check ≡ last
+wrong_check bytes values others last check read low is coded =
     let code : check ≡ code_at others 342 =
     one_value check (code_at others 342) low (code-fits others 342 coded.fit) (is ∙ coded.stand 342 (lit< tt)) in
     let same : get_or others 341 0 ≡ get_or values 341 0 =
-    same_value cells place others values 342 coded.fit read.fit (λ k within. coded.stand k (omega arith)) read.stand 341 (lit< tt) in
+    same_value bytes others values 342 coded.fit read.fit (λ k within. coded.stand k (omega arith)) read.stand 341 (lit< tt) in
     code ∙ check_code others (get_or others 341 0) coded.count refl ∙ same ∙ sym read.is_last
 
 -- what holds whether or not there is a value
 pub in_any_case : {X P : Type 0} (found : Option X) → P → IfNone found P
 in_any_case None p = p
 in_any_case (Some x) p = tt
+
+-- and what follows where there is none
+pub none-also : {X P Q : Type 0} (found : Option X) → IfNone found P → (P → Q) → IfNone found Q
+none-also None p then_q = then_q p
+none-also (Some x) p then_q = tt

@@ -3,9 +3,11 @@ use Rattle.std.specs.Prelude.{◌≡◌, ℕ, ◌+◌, ◌<◌, Bool, List, [], 
 use Rattle.flux_base.specs.declared.track.TrackId.{TrackId}
 use Rattle.cell_bits.specs.Word.{Stands}
 use Rattle.check_values.specs.Sums.{xor}
-use Rattle.apple_gcr.specs.FourAndFour.{FourAndFourAt}
-use Rattle.apple_gcr.specs.Nibbles.{disk_byte}
-use Rattle.apple_gcr.specs.SixAndTwo.{AreCoded, Carries}
+use Rattle.frame_law.specs.Frames.{DataStand, HeaderStands as Header, SectorStands as Sector}
+use Rattle.apple_gcr.specs.DiskBytes.{byte_place, byte_read, bytes_end}
+use Rattle.apple_gcr.specs.FourAndFour.{AreHalves}
+use Rattle.apple_gcr.specs.Nibbles.{BYTE_CELLS, disk_byte}
+use Rattle.apple_gcr.specs.SixAndTwo.{AreCoded, Carries, NIBBLES}
 
 -- the tracks: 35 cylinders of one side
 pub record IsAppleTrack (track : TrackId) : Type 0 where
@@ -41,44 +43,57 @@ DATA_SYNC_CELLS = 16
 abbrev pub check_of : ℕ → ℕ → ℕ → ℕ
 check_of volume cylinder sector = xor (volume ∷ cylinder ∷ sector ∷ [])
 
--- where the fields of a header, four bytes in 4-and-4, begin, in cells from its begin
-abbrev pub VOLUME_PLACE : ℕ
-VOLUME_PLACE = 24
-
-abbrev pub TRACK_PLACE : ℕ
-TRACK_PLACE = 40
-
-abbrev pub SECTOR_PLACE : ℕ
-SECTOR_PLACE = 56
-
-abbrev pub CHECK_PLACE : ℕ
-CHECK_PLACE = 72
-
--- a header names a sector: any volume, this track, this sector, and their check value
-pub record NamesSector (track : TrackId) (cells : List Bool) (sector : ℕ) : Type 0 where
+-- an address, which is eight disk bytes: any volume, this track, this sector, and their check value, each in 4-and-4
+pub record IsAddress (track : TrackId) (read : ℕ → ℕ) (sector : ℕ) : Type 0 where
   pub volume : ℕ
-  pub has_volume : FourAndFourAt cells VOLUME_PLACE volume
-  pub has_track : FourAndFourAt cells TRACK_PLACE track.cylinder
-  pub has_sector : FourAndFourAt cells SECTOR_PLACE sector
-  pub has_check : FourAndFourAt cells CHECK_PLACE (check_of volume track.cylinder sector)
+  pub has_volume : AreHalves (read 0) (read 1) volume
+  pub has_track : AreHalves (read 2) (read 3) track.cylinder
+  pub has_sector : AreHalves (read 4) (read 5) sector
+  pub has_check : AreHalves (read 6) (read 7) (check_of volume track.cylinder sector)
+
+abbrev pub ADDRESS_BYTES : ℕ
+ADDRESS_BYTES = 8
+
+-- In all that follows `passed` is how many zeros before a byte are passed over at most.
+
+-- a header names a sector: the bytes that are read after its mark are the sector's address
+abbrev pub NamesSector : (passed : ℕ) → TrackId → List Bool → ℕ → Type 0
+NamesSector passed track cells sector = IsAddress track (byte_read passed cells MARK_CELLS) sector
+
+-- it ends after them
+abbrev pub header_end : (passed : ℕ) → List Bool → ℕ
+header_end passed cells = bytes_end passed cells MARK_CELLS ADDRESS_BYTES
 
 -- after a header D5 AA is a sync, whatever comes after it
 abbrev pub IsSync : List Bool → ℕ → Type 0
 IsSync cells place = Stands cells DATA_SYNC DATA_SYNC_CELLS place
 
--- the byte after their sync, and where it and the nibbles begin, in cells from the sync
+-- the byte after it that opens data
 abbrev pub DATA_BYTE : ℕ
 DATA_BYTE = 0xAD
 
-abbrev pub DATA_BYTE_PLACE : ℕ
-DATA_BYTE_PLACE = 16
+-- the place of the byte that is read after a sync, and the place after that byte
+abbrev pub opening_place : (passed : ℕ) → List Bool → ℕ → ℕ
+opening_place passed cells sync = byte_place passed cells (sync + DATA_SYNC_CELLS)
 
-abbrev pub NIBBLES_PLACE : ℕ
-NIBBLES_PLACE = 24
+abbrev pub opening_end : (passed : ℕ) → List Bool → ℕ → ℕ
+opening_end passed cells sync = opening_place passed cells sync + BYTE_CELLS
 
--- data hold bytes: AD comes after their sync, and then the nibbles of values that carry the bytes
-pub record Hold (cells : List Bool) (sync : ℕ) (bytes : List ℕ) : Type 0 where
-  pub opens : disk_byte cells (sync + DATA_BYTE_PLACE) ≡ DATA_BYTE
+-- data hold bytes: AD is read after their sync, and then the nibbles of values that carry the bytes
+pub record Hold (passed : ℕ) (cells : List Bool) (sync : ℕ) (bytes : List ℕ) : Type 0 where
+  pub opens : disk_byte cells (opening_place passed cells sync) ≡ DATA_BYTE
   pub values : List ℕ
-  pub coded : AreCoded cells (sync + NIBBLES_PLACE) values
+  pub coded : AreCoded (byte_read passed cells (opening_end passed cells sync)) values
   pub carried : Carries values bytes
+
+-- they end after these
+abbrev pub data_end : (passed : ℕ) → List Bool → ℕ → ℕ
+data_end passed cells sync = bytes_end passed cells (opening_end passed cells sync) NIBBLES
+
+-- a header, and a sector: its header and the data at the first sync after it
+abbrev pub HeaderStands : (passed : ℕ) → TrackId → List Bool → ℕ → Type 0
+HeaderStands passed track cells sector = Header ADDRESS_MARK MARK_CELLS (header_end passed) 0 SECTORS (NamesSector passed track) cells sector
+
+abbrev pub SectorStands : (passed : ℕ) → TrackId → List Bool → ℕ → List ℕ → Type 0
+SectorStands passed track cells sector bytes =
+    Sector (HeaderStands passed track cells sector) (DataStand (header_end passed) (data_end passed) IsSync (Hold passed) cells bytes)

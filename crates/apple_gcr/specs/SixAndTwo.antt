@@ -1,8 +1,8 @@
 -- 6-and-2, the coding of Apple's data fields (DOS 3.3): 256 bytes are carried by 342 values of six bits, and these stand as 343
 -- nibbles, of which each has a value exclusive-or the one before.
-use Rattle.std.specs.Prelude.{◌≡◌, ℕ, ◌+◌, ◌-◌, ◌*◌, ◌/◌, ◌%◌, ◌<◌, Bool, List, ◌∷◌, length, get_or, map, bit_xor, if◌then◌else◌, nat_lt}
+use Rattle.std.specs.Prelude.{◌≡◌, ℕ, ◌+◌, ◌-◌, ◌*◌, ◌/◌, ◌%◌, ◌<◌, List, ◌∷◌, length, get_or, map, bit_xor, if◌then◌else◌, nat_lt}
 use Rattle.std.specs.List.{range_with_len}
-use Rattle.apple_gcr.specs.Nibbles.{BYTE_CELLS, disk_byte, nibble}
+use Rattle.apple_gcr.specs.Nibbles.{nibble}
 
 -- the values of a sector, and its nibbles, one more for the check value
 abbrev pub VALUES : ℕ
@@ -45,11 +45,11 @@ values_of bytes = map (value_at bytes) (range_with_len 0 VALUES)
 abbrev pub code_at : List ℕ → ℕ → ℕ
 code_at values k = bit_xor (get_or values k 0) (get_or (0 ∷ values) k 0)
 
--- The nibbles of the values stand at the place, the check value last.
-pub record AreCoded (cells : List Bool) (place : ℕ) (values : List ℕ) : Type 0 where
+-- The disk bytes that are read are the nibbles of the values, the check value last.
+pub record AreCoded (read : ℕ → ℕ) (values : List ℕ) : Type 0 where
   pub count : length values ≡ VALUES
   pub fit : (k : ℕ) → get_or values k 0 < 64
-  pub stand : (k : ℕ) → k < NIBBLES → disk_byte cells (place + BYTE_CELLS * k) ≡ nibble (code_at values k)
+  pub stand : (k : ℕ) → k < NIBBLES → read k ≡ nibble (code_at values k)
 
 -- the nibbles of a sector's bytes
 unfoldable pub data_nibbles : List ℕ → List ℕ

@@ -1,58 +1,79 @@
-ghost use Rattle.std.specs.Prelude.{◌≡◌, ℕ, ◌+◌, ◌^◌, ◌<◌, ◌≤◌, [], List, false, length, IfNone, IfSome, IsTrue};
+ghost use Rattle.std.specs.Prelude.{◌≡◌, ℕ, ◌^◌, ◌<◌, ◌≤◌, [], List, false, length, IfNone, IfSome, IsTrue};
 ghost use Rattle.frame_law.specs.Frames.{IsDataSync};
-ghost use Rattle.apple_gcr.specs.Sectors.{Hold, IsSync};
+ghost use Rattle.apple_gcr.specs.DiskBytes.{byte_read, bytes_end, zeros_passed};
+ghost use Rattle.apple_gcr.specs.Sectors.{Hold, IsSync, data_end};
 ghost use Rattle.apple_gcr.specs.SixAndTwo.{AreCoded};
 
+use crate::disk_bytes::{ByteRule, byte_place, bytes_end};
 use crate::layout::{
-    BYTE_CELLS, DATA_BYTE, DATA_BYTE_PLACE, DATA_REACH, DATA_SYNC, DATA_SYNC_CELLS, HEADER_CELLS,
-    NIBBLES_PLACE,
+    BYTE_CELLS, DATA_BYTE, DATA_BYTE_PLACE, DATA_REACH, DATA_SYNC, DATA_SYNC_CELLS, NIBBLES,
 };
 use crate::nibbles::{disk_byte_at, value_of};
 use crate::six_and_two::{VALUES, Values, take_bytes};
 use frame_law::{CellsFrom, SectorBuffer};
 
-/// The first sync after the header, within reach.
-pub(crate) fn first_sync(frame: &CellsFrom) -> Option<usize>
-    ensures first { IfSome result (λ sync. IsDataSync 88 (IsSync frame.now) sync) }
-    ensures none { IfNone result ((sync : ℕ) → ¬ IsDataSync 88 (IsSync frame.now) sync) }
+/// The first sync after the header, which ends at this offset, within reach.
+pub(crate) fn first_sync(frame: &CellsFrom, header_end: usize) -> Option<usize>
+    requires { header_end < 2 ^ 31 }
+    ensures first { IfSome result (λ sync. IsDataSync header_end (IsSync frame.now) sync) }
+    ensures none { IfNone result ((sync : ℕ) → ¬ IsDataSync header_end (IsSync frame.now) sync) }
 {
-    let end = HEADER_CELLS + DATA_REACH;
-    frame.find_word(HEADER_CELLS, end, DATA_SYNC, DATA_SYNC_CELLS)
+    let end = header_end + DATA_REACH;
+    frame.find_word(header_end, end, DATA_SYNC, DATA_SYNC_CELLS)
+}
+
+/// Where the data end whose sync stands at the offset. None where they are not whole.
+pub(crate) fn data_end(rule: ByteRule, frame: &CellsFrom, sync: usize) -> Option<usize>
+    requires { sync < 2 ^ 31 }
+    ensures some { IfSome result (λ end. (end ≡ data_end (zeros_passed rule) frame.now sync) × (end ≤ length frame.now)) }
+    ensures none { IfNone result (length frame.now < data_end (zeros_passed rule) frame.now sync) }
+{
+    let opening_end = bytes_end(rule, frame, sync + DATA_BYTE_PLACE, 1)?;
+    bytes_end(rule, frame, opening_end, NIBBLES)
 }
 
 /// Whether the sync at the place opens data, and they hold bytes. Then the buffer, which was empty, has them.
-pub(crate) fn read_field(frame: &CellsFrom, sync: usize, buffer: &mut SectorBuffer) -> bool
+pub(crate) fn read_field(
+    rule: ByteRule,
+    frame: &CellsFrom,
+    sync: usize,
+    buffer: &mut SectorBuffer,
+) -> bool
     requires near { sync < 2 ^ 31 }
-    requires whole { sync + 2768 ≤ length frame.now }
+    requires whole { data_end (zeros_passed rule) frame.now sync ≤ length frame.now }
     requires empty { buffer.old.items ≡ [] }
-    ensures good { IsTrue result → Hold frame.now sync buffer.new.items }
-    ensures bad { result ≡ false → (bytes : List ℕ) → ¬ Hold frame.now sync bytes }
+    ensures good { IsTrue result → Hold (zeros_passed rule) frame.now sync buffer.new.items }
+    ensures bad { result ≡ false → (bytes : List ℕ) → ¬ Hold (zeros_passed rule) frame.now sync bytes }
 {
-    if disk_byte_at(frame, sync + DATA_BYTE_PLACE) != DATA_BYTE {
+    let opening = byte_place(rule, frame, sync + DATA_BYTE_PLACE);
+    if disk_byte_at(frame, opening) != DATA_BYTE {
         return false;
     }
-    let Some(values) = values_at(frame, sync + NIBBLES_PLACE) else {
+    let Some(values) = values_from(rule, frame, opening + BYTE_CELLS) else {
         return false;
     };
     take_bytes(&values, buffer);
     true
 }
 
-/// The values whose nibbles, each exclusive-or the value before it, and whose check value stand at the offset.
-/// None where a byte is no nibble or the check value is another.
-fn values_at(frame: &CellsFrom, offset: usize) -> Option<Values>
-    requires near { offset < 2 ^ 32 }
-    requires whole { offset + 2744 ≤ length frame.now }
-    ensures some { IfSome result (λ values. AreCoded frame.now offset values.items) }
-    ensures none { IfNone result ((values : List ℕ) → ¬ AreCoded frame.now offset values) }
+/// The values whose nibbles, each exclusive-or the value before it, and whose check value are read from the offset
+/// on. None where a byte is no nibble or the check value is another.
+fn values_from(rule: ByteRule, frame: &CellsFrom, from: usize) -> Option<Values>
+    requires near { from < 2 ^ 32 }
+    requires whole { bytes_end (zeros_passed rule) frame.now from 343 ≤ length frame.now }
+    ensures some { IfSome result (λ values. AreCoded (byte_read (zeros_passed rule) frame.now from) values.items) }
+    ensures none { IfNone result ((values : List ℕ) → ¬ AreCoded (byte_read (zeros_passed rule) frame.now from) values) }
 {
     let mut values = Values::new();
     let mut value = 0;
-    for index in 0..VALUES {
-        value ^= value_of(disk_byte_at(frame, offset + BYTE_CELLS * index))?;
+    let mut place = from;
+    for _ in 0..VALUES {
+        let begin = byte_place(rule, frame, place);
+        value ^= value_of(disk_byte_at(frame, begin))?;
         values.push(value);
+        place = begin + BYTE_CELLS;
     }
-    let check = value_of(disk_byte_at(frame, offset + BYTE_CELLS * VALUES))?;
+    let check = value_of(disk_byte_at(frame, byte_place(rule, frame, place)))?;
     if check != value {
         return None;
     }

@@ -1,9 +1,5 @@
-ghost use Rattle.std.specs.Prelude.{◌≡◌, ℕ, ◌+◌, ◌^◌, ◌<◌, ◌≤◌, length, IfNone, IfSome};
-ghost use Rattle.apple_gcr.specs.FourAndFour.{FourAndFourAt, first_half, second_half};
-
-use crate::layout::BYTE_CELLS;
-use crate::nibbles::disk_byte_at;
-use frame_law::CellsFrom;
+ghost use Rattle.std.specs.Prelude.{◌≡◌, ℕ, IfNone, IfSome};
+ghost use Rattle.apple_gcr.specs.FourAndFour.{AreHalves, first_half, second_half};
 
 /// The bits that each half of a byte in 4-and-4 has set, whatever the byte.
 const CLOCK_BITS: u8 = 0xAA;
@@ -16,16 +12,12 @@ pub(crate) fn halves(byte: u8) -> (u8, u8)
     ((byte >> 1) | CLOCK_BITS, byte | CLOCK_BITS)
 }
 
-/// The byte that stands in 4-and-4 at the offset. None where none does, since a half lacks a bit that all have.
-#[tactic(auto, using(crate::specs::lemmas::StandLaws::byte_read))]
-pub(crate) fn byte_at(frame: &CellsFrom, offset: usize) -> Option<u8>
-    requires near { offset < 2 ^ 32 }
-    requires whole { offset + 16 ≤ length frame.now }
-    ensures some { IfSome result (λ byte. FourAndFourAt frame.now offset byte) }
-    ensures none { IfNone result ((byte : ℕ) → ¬ FourAndFourAt frame.now offset byte) }
+/// The byte whose halves these are. None where they are no byte's, since one lacks a bit that all have.
+#[tactic(auto, using(crate::specs::lemmas::StandLaws::byte_read_from))]
+pub(crate) fn byte_of(first: u8, second: u8) -> Option<u8>
+    ensures some { IfSome result (λ byte. AreHalves first second byte) }
+    ensures none { IfNone result ((byte : ℕ) → ¬ AreHalves first second byte) }
 {
-    let first = disk_byte_at(frame, offset);
-    let second = disk_byte_at(frame, offset + BYTE_CELLS);
     let byte = ((first << 1) | 1) & second;
     let (high, low) = halves(byte);
     if high != first {

@@ -91,17 +91,11 @@ pub(crate) const BYTE_CELLS: usize = 8;
 /// A mark is a word of so many cells.
 pub(crate) const MARK_CELLS: u8 = 24;
 
-/// The mark and eight bytes.
-pub(crate) const HEADER_CELLS: usize = 88;
+/// The bytes of a header after its mark: volume, track, sector and check value, of two halves each.
+pub(crate) const ADDRESS_BYTES: usize = 8;
 
-/// Where the fields of a header begin, in cells from its begin.
-pub(crate) const VOLUME_PLACE: usize = 24;
-
-pub(crate) const TRACK_PLACE: usize = 40;
-
-pub(crate) const SECTOR_PLACE: usize = 56;
-
-pub(crate) const CHECK_PLACE: usize = 72;
+/// Where they are read from, in cells from the header's begin.
+pub(crate) const ADDRESS_PLACE: usize = 24;
 
 /// D5 AA, with which the mark of a data field begins.
 pub(crate) const DATA_SYNC: u32 = 0xD5AA;
@@ -111,14 +105,11 @@ pub(crate) const DATA_SYNC_CELLS: u8 = 16;
 /// The third byte of that mark.
 pub(crate) const DATA_BYTE: u8 = 0xAD;
 
-/// Where it begins, in cells from the data sync.
+/// Where it is read from, in cells from the data sync.
 pub(crate) const DATA_BYTE_PLACE: usize = 16;
 
-/// Where the nibbles begin, in cells from the data sync.
-pub(crate) const NIBBLES_PLACE: usize = 24;
+/// The nibbles after it.
+pub(crate) const NIBBLES: usize = 343;
 
 /// The data sync begins less than this number of cells after the header.
 pub(crate) const DATA_REACH: usize = 1024;
-
-/// The mark and 343 nibbles.
-pub(crate) const DATA_CELLS: usize = 2768;

@@ -2,14 +2,18 @@
 #![tactic(auto)]
 
 mod data_field;
+mod disk_bytes;
 mod four_and_four;
 mod header;
+mod laws;
 mod layout;
 mod nibbles;
 mod recording;
 mod rows;
 mod six_and_two;
 
+pub use disk_bytes::ByteRule;
+pub use laws::rules_agree;
 pub use recording::AppleGcr;
 
 #[cfg(test)]

@@ -1,17 +1,20 @@
 ghost use Rattle.std.specs.Prelude.{◌≡◌, ℕ, ◌+◌, false, refl};
 ghost use Rattle.std.proofs.Common.{lit≤};
-ghost use Rattle.apple_gcr.specs.lemmas.FrameLaws.{frame_stands};
+ghost use Rattle.apple_gcr.specs.lemmas.FrameLaws.{frame_ends, frame_stands};
 ghost use Rattle.apple_gcr.specs.Layout.{row_cells, row_size, rows};
 ghost use Rattle.apple_gcr.specs.lemmas.RowLaws.{row_follows, row_length};
-ghost use Rattle.apple_gcr.specs.Sectors.{Hold, IsSync, IsAppleTrack, NamesSector};
-ghost use Rattle.apple_gcr.specs.lemmas.StandLaws.{one_content, one_name, sizes, sums, tells, within_reach};
+ghost use Rattle.apple_gcr.specs.DiskBytes.{zeros_passed};
+ghost use Rattle.apple_gcr.specs.Sectors.{Hold, IsSync, IsAppleTrack, NamesSector, data_end, header_end};
+ghost use Rattle.apple_gcr.specs.lemmas.ByteLaws.{zeros-few};
+ghost use Rattle.apple_gcr.specs.lemmas.StandLaws.{one_content, one_name, sizes, sums, tells, tells_ends, within_reach};
 ghost use Rattle.apple_gcr.specs.lemmas.Syncs.{own_syncs};
 
-use crate::data_field::{first_sync, read_field};
-use crate::header::named_sector;
+use crate::data_field::{data_end, first_sync, read_field};
+use crate::disk_bytes::ByteRule;
+use crate::header::{header_end, named_sector};
 use crate::layout::{
-    ADDRESS_MARK, DATA_CELLS, FIRST_SECTOR, HEADER_CELLS, LEAD_IN, LEAD_OUT, MARK_CELLS,
-    RING_CELLS, Row, SECTOR, SECTOR_SIZE, SECTORS,
+    ADDRESS_MARK, FIRST_SECTOR, LEAD_IN, LEAD_OUT, MARK_CELLS, RING_CELLS, Row, SECTOR,
+    SECTOR_SIZE, SECTORS,
 };
 use crate::rows::push_row;
 use cell_bits::Cells;
@@ -21,7 +24,21 @@ use frame_law::{CellsFrom, Layout, SectorBuffer};
 /// The recording of Apple DOS 3.3 and ProDOS disks. Its tracks are the cylinders 0 to 34 with head 0. Its sectors
 /// are numbered 0 to 15 as their headers name them, which is the order in which they pass.
 #[derive(Clone, Copy, Debug, PartialEq, Eq)]
-pub struct AppleGcr;
+pub struct AppleGcr {
+    /// By which rule it is read. It is written in one way.
+    pub rule: ByteRule,
+}
+
+impl AppleGcr {
+    /// Read exactly to the cell.
+    pub const STRICT: AppleGcr = AppleGcr {
+        rule: ByteRule::Strict,
+    };
+    /// Read as Apple's controller does.
+    pub const CONTROLLER: AppleGcr = AppleGcr {
+        rule: ByteRule::Controller,
+    };
+}
 
 impl Layout for AppleGcr {
     type Row = Row;
@@ -34,8 +51,6 @@ impl Layout for AppleGcr {
 
     const SYNC_CELLS: u8 = MARK_CELLS;
 
-    const HEADER_CELLS: usize = HEADER_CELLS;
-
     ghost SHORTEST = { 1 };
 
     ghost LONGEST = { 3 };
@@ -44,7 +59,7 @@ impl Layout for AppleGcr {
 
     ghost SYNC_CELLS = { 24 };
 
-    ghost HEADER_CELLS = { 88 };
+    ghost header_cells = { 88 };
 
     ghost has_track = { λ r track. IsAppleTrack track };
 
@@ -56,13 +71,17 @@ impl Layout for AppleGcr {
 
     ghost track_cells = { λ r track. 49994 };
 
-    ghost names_sector = { λ r track cells s. NamesSector track cells s };
+    ghost names_sector = { λ r track cells s. NamesSector (zeros_passed r.rule) track cells s };
 
     ghost is_sync = { λ r cells place. IsSync cells place };
 
-    ghost hold = { λ r cells sync bytes. Hold cells sync bytes };
+    ghost hold = { λ r cells sync bytes. Hold (zeros_passed r.rule) cells sync bytes };
 
     ghost data_cells = { λ r. 2768 };
+
+    ghost header_end = { λ r cells. header_end (zeros_passed r.rule) cells };
+
+    ghost data_end = { λ r cells sync. data_end (zeros_passed r.rule) cells sync };
 
     ghost data_place = { λ r. 172 };
 
@@ -92,10 +111,6 @@ impl Layout for AppleGcr {
         RING_CELLS
     }
 
-    fn data_cells(&self) -> usize {
-        DATA_CELLS
-    }
-
     fn lead_in(&self, _track: TrackId) -> &[Row] {
         &LEAD_IN
     }
@@ -119,16 +134,24 @@ impl Layout for AppleGcr {
         push_row(cells, row, track, sector, bytes)
     }
 
+    fn header_end(&self, frame: &CellsFrom) -> Option<usize> {
+        header_end(self.rule, frame)
+    }
+
     fn read_header(&self, frame: &CellsFrom, track: TrackId) -> Option<u8> {
-        named_sector(frame, track)
+        named_sector(self.rule, frame, track)
     }
 
     fn find_data(&self, frame: &CellsFrom) -> Option<usize> {
-        first_sync(frame)
+        first_sync(frame, header_end(self.rule, frame)?)
+    }
+
+    fn data_end(&self, frame: &CellsFrom, sync: usize) -> Option<usize> {
+        data_end(self.rule, frame, sync)
     }
 
     fn read_data(&self, frame: &CellsFrom, sync: usize, buffer: &mut SectorBuffer) -> bool {
-        read_field(frame, sync, buffer)
+        read_field(self.rule, frame, sync, buffer)
     }
 
     ghost sizes = { sizes };
@@ -146,17 +169,23 @@ impl Layout for AppleGcr {
 
     ghost ends = { λ r track before known. refl };
 
-    ghost one_name = { λ r track cells s t first second. one_name track cells s t first second };
+    ghost one_name = { λ r track cells s t first second.
+        one_name (zeros_passed r.rule) track cells s t first second };
 
     ghost one_content = { λ r cells sync xs ys first second.
-        one_content cells sync xs ys first second };
+        one_content (zeros_passed r.rule) cells sync xs ys first second };
 
     ghost content_size = { λ r cells sync xs held. held.carried.size };
 
     ghost frame_stands = { λ r track s bytes before rest known number fit long.
-        frame_stands track s bytes before rest known number fit long };
+        frame_stands (zeros_passed r.rule) track s bytes before rest known number fit long };
 
-    ghost tells = { λ r track. tells track };
+    ghost frame_ends = { λ r track s bytes before rest known number fit long.
+        frame_ends (zeros_passed r.rule) track s bytes before rest known number fit long };
 
-    ghost own_syncs = { λ r track known. own_syncs track known };
+    ghost tells_ends = { λ r. tells_ends (zeros_passed r.rule) (zeros-few r.rule) };
+
+    ghost tells = { λ r track. tells (zeros_passed r.rule) (zeros-few r.rule) track };
+
+    ghost own_syncs = { λ r track known. own_syncs (zeros_passed r.rule) track known };
 }

@@ -21,6 +21,21 @@ struct Frame {
     mark: u32,
     /// The data's bytes are zeros, whose nibbles are 96, but for one of the 343, by its index and its byte.
     changed: (u16, u32),
+    /// So many zeros stand before a byte.
+    late: (Late, u16),
+}
+
+/// A byte that zeros may stand before.
+#[derive(Clone, Copy, PartialEq, Eq)]
+enum Late {
+    /// The second byte of D5 AA 96.
+    AddressMark,
+    /// One of the eight bytes after it.
+    Address(u32),
+    /// The third byte of the data's mark.
+    Opening,
+    /// One of the 343 nibbles.
+    Nibble(u16),
 }
 
 /// What stands in the middle of the gap.
@@ -39,6 +54,7 @@ const PLAIN: Frame = Frame {
     middle: Middle::Zeros(1),
     mark: 0xD5_AAAD,
     changed: (0, 0x96),
+    late: (Late::Opening, 0),
 };
 
 /// Cells of which each second one is a one.
@@ -49,10 +65,30 @@ fn push_gap(cells: &mut Cells, count: u16) -> Result<(), Memory> {
     Ok(())
 }
 
+/// The zeros that the frame has before a byte, if any.
+fn push_zeros(cells: &mut Cells, frame: &Frame, before: Late) -> Result<(), Memory> {
+    if frame.late.0 == before {
+        for _ in 0..frame.late.1 {
+            cells.push_cell(false)?;
+        }
+    }
+    Ok(())
+}
+
 fn push_header(cells: &mut Cells, frame: &Frame) -> Result<(), Memory> {
-    cells.push_word(0xD5_AA96, 24)?;
-    cells.push_word(frame.address.0, 32)?;
-    cells.push_word(frame.address.1, 32)
+    cells.push_word(0xD5, 8)?;
+    push_zeros(cells, frame, Late::AddressMark)?;
+    cells.push_word(0xAA96, 16)?;
+    for index in 0..8u32 {
+        push_zeros(cells, frame, Late::Address(index))?;
+        let bytes = if index < 4 {
+            frame.address.0
+        } else {
+            frame.address.1
+        };
+        cells.push_word(bytes >> (24 - 8 * (index % 4)), 8)?;
+    }
+    Ok(())
 }
 
 fn push_frame(cells: &mut Cells, frame: &Frame) -> Result<(), Memory> {
@@ -69,14 +105,76 @@ fn push_frame(cells: &mut Cells, frame: &Frame) -> Result<(), Memory> {
         }
     }
     push_gap(cells, frame.gap - frame.gap / 2)?;
-    cells.push_word(frame.mark, 24)?;
+    cells.push_word(frame.mark >> 8, 16)?;
+    push_zeros(cells, frame, Late::Opening)?;
+    cells.push_word(frame.mark, 8)?;
     for index in 0..343u16 {
         let byte = if index == frame.changed.0 {
             frame.changed.1
         } else {
             0x96
         };
+        push_zeros(cells, frame, Late::Nibble(index))?;
         cells.push_word(byte, 8)?;
+    }
+    Ok(())
+}
+
+/// What both rules read in the frame where so many zeros stand before a byte.
+fn read_late(cells: &mut Cells, byte: Late, count: u16, rule: AppleGcr) -> Result<Reading, Memory> {
+    cells.clear();
+    push_frame(
+        cells,
+        &Frame {
+            late: (byte, count),
+            ..PLAIN
+        },
+    )?;
+    Ok(rule.read_at(cells, 0, TRACK, &mut SectorBuffer::new()))
+}
+
+#[test]
+fn passes_over_zeros_as_the_controller_does(rt: HostRuntime) -> Result<(), Fail> {
+    let bad = Reading::Bad { sector: 7 };
+    let nothing = Reading::Nothing;
+    // So many zeros are passed over before these bytes, seven where the byte before ends with a one. One more is
+    // the eighth in a row.
+    let rows = [
+        (Late::Opening, 6, bad),
+        (Late::Nibble(0), 7, bad),
+        (Late::Nibble(1), 6, bad),
+        (Late::Nibble(171), 6, bad),
+        (Late::Nibble(342), 6, bad),
+        (Late::Address(0), 6, nothing),
+        (Late::Address(1), 7, nothing),
+        (Late::Address(2), 6, nothing),
+        (Late::Address(3), 6, nothing),
+        (Late::Address(4), 6, nothing),
+        (Late::Address(5), 7, nothing),
+        (Late::Address(6), 7, nothing),
+        (Late::Address(7), 6, nothing),
+        // The mark stands without a gap.
+        (Late::AddressMark, 0, nothing),
+    ];
+    let mut cells = Cells::new(rt.alloc());
+    for (row, (byte, most, broken)) in rows.into_iter().enumerate() {
+        for count in [1, 2, most, 8] {
+            let want = if count <= most {
+                Reading::Good { sector: 7 }
+            } else {
+                broken
+            };
+            let read = read_late(&mut cells, byte, count, AppleGcr::CONTROLLER)?;
+            assert_eq!(rt; read, want, "row {row}, {count} zeros");
+            if count > 0 {
+                let strict = read_late(&mut cells, byte, count, AppleGcr::STRICT)?;
+                assert_eq!(rt; strict, broken, "row {row}, {count} zeros, strictly");
+            }
+        }
+    }
+    for byte in [Late::Opening, Late::Nibble(1), Late::Address(4)] {
+        let read = read_late(&mut cells, byte, 7, AppleGcr::CONTROLLER)?;
+        assert!(rt; read == bad || read == nothing, "seven zeros after one");
     }
     Ok(())
 }
@@ -224,9 +322,11 @@ fn reads_frames_made_by_hand(rt: HostRuntime) -> Result<(), Fail> {
     for (name, frame, want) in rows {
         cells.clear();
         push_frame(&mut cells, &frame)?;
-        let reading = AppleGcr.read_at(&cells, 0, TRACK, &mut buffer);
+        let reading = AppleGcr::STRICT.read_at(&cells, 0, TRACK, &mut buffer);
         assert_eq!(rt; reading, want, "{name}");
         assert_eq!(rt; buffer.is_empty(), want != good, "{name}");
+        let read = AppleGcr::CONTROLLER.read_at(&cells, 0, TRACK, &mut buffer);
+        assert_eq!(rt; read, want, "{name}, as the controller reads");
     }
     Ok(())
 }
@@ -244,9 +344,9 @@ fn reads_headers_without_their_data(rt: HostRuntime) -> Result<(), Fail> {
     let mut buffer = SectorBuffer::new();
 
     // The second header stands before the first one's data, which are its own.
-    let first = next_reading(&AppleGcr, &whole, 0, TRACK, &mut buffer);
+    let first = next_reading(&AppleGcr::STRICT, &whole, 0, TRACK, &mut buffer);
     assert_eq!(rt; first, Some((0, Reading::Bad { sector: 7 })));
-    let second = next_reading(&AppleGcr, &whole, 1, TRACK, &mut buffer);
+    let second = next_reading(&AppleGcr::STRICT, &whole, 1, TRACK, &mut buffer);
     assert_eq!(rt; second, Some((88, Reading::Good { sector: 8 })));
 
     // Without its last cell the frame is not whole.
@@ -254,7 +354,7 @@ fn reads_headers_without_their_data(rt: HostRuntime) -> Result<(), Fail> {
     for place in 1..whole.len() {
         cut.push_cell(whole.cell(place - 1))?;
     }
-    let second = next_reading(&AppleGcr, &cut, 1, TRACK, &mut buffer);
+    let second = next_reading(&AppleGcr::STRICT, &cut, 1, TRACK, &mut buffer);
     assert_eq!(rt; second, Some((88, Reading::Bad { sector: 8 })));
     Ok(())
 }
@@ -291,7 +391,7 @@ fn push_twice(
 fn reads_two_joined_rings(rt: HostRuntime) -> Result<(), Fail> {
     let bytes = vec![in rt.alloc(); 0u8; 4096]?;
     let mut ring = Cells::new(rt.alloc());
-    AppleGcr.ring(TRACK, &bytes, &mut ring)?;
+    AppleGcr::STRICT.ring(TRACK, &bytes, &mut ring)?;
     assert_eq!(rt; ring.len(), 49994);
 
     // A self-sync, the first address field, and the nibbles of zeros.
@@ -320,7 +420,7 @@ fn reads_two_joined_rings(rt: HostRuntime) -> Result<(), Fail> {
             (96885, None),
         ];
         for (from, want) in rows {
-            let found = next_reading(&AppleGcr, &cells, from, TRACK, &mut buffer);
+            let found = next_reading(&AppleGcr::STRICT, &cells, from, TRACK, &mut buffer);
             assert_eq!(rt; found, want, "{name}, from {from}");
             assert!(rt; buffer.iter().all(|byte| *byte == 0), "{name}, from {from}");
         }
@@ -348,7 +448,7 @@ fn reads_each_sector_back(rt: HostRuntime) -> Result<(), Fail> {
     }
     assert_eq!(rt; bytes.len(), 4096);
     let mut ring = Cells::new(rt.alloc());
-    AppleGcr.ring(track, &bytes, &mut ring)?;
+    AppleGcr::STRICT.ring(track, &bytes, &mut ring)?;
     assert_eq!(rt; ring.len(), 49994);
 
     // So the values 0, 1, 2 and 341 are 02, 04, 30 and 20, and the first nibbles code 02, 02 ^ 04, 04 ^ 30, 30.
@@ -369,7 +469,7 @@ fn reads_each_sector_back(rt: HostRuntime) -> Result<(), Fail> {
     let mut buffer = SectorBuffer::new();
     let mut from = 0;
     for sector in 0..16u8 {
-        match next_reading(&AppleGcr, &ring, from, track, &mut buffer) {
+        match next_reading(&AppleGcr::STRICT, &ring, from, track, &mut buffer) {
             Some((place, reading)) => {
                 assert_eq!(rt; reading, Reading::Good { sector }, "at {place}");
                 assert_eq!(rt; place, 330 + 3104 * sector as usize);
@@ -382,7 +482,7 @@ fn reads_each_sector_back(rt: HostRuntime) -> Result<(), Fail> {
             None => panic!(rt; "no sector {sector}"),
         }
     }
-    let other = next_reading(&AppleGcr, &ring, 0, TRACK, &mut buffer);
+    let other = next_reading(&AppleGcr::STRICT, &ring, 0, TRACK, &mut buffer);
     assert_eq!(rt; other, None, "another track's headers");
     Ok(())
 }

@@ -1,5 +1,5 @@
 -- The bytes that fields are made of: nibbles, each of one value, and the halves of bytes in 4-and-4; and that they read back in a row.
-use Rattle.std.specs.Prelude.{◌≡◌, ℕ, ◌*◌, ◌%◌, ◌<◌, Bool, true, ◌&&◌, nat_lt, bit_and, bit_or, List, [], ◌∷◌, get_or, map, Option, Some, None, refl, ◌+◌, ◌++◌, length, flat_map}
+use Rattle.std.specs.Prelude.{◌≡◌, ℕ, ◌*◌, ◌%◌, ◌<◌, ◌≤◌, Bool, true, ◌&&◌, nat_le, nat_lt, bit_and, bit_or, List, [], ◌∷◌, get_or, map, Option, Some, None, refl, ◌+◌, ◌++◌, length, flat_map}
 use Rattle.std.specs.List.{range_with_len}
 use Rattle.std.proofs.Common.{ap, sym, ◌∙◌, arith}
 use Rattle.std.proofs.lemmas.Bool.Decides.{nat_tests}
@@ -65,23 +65,32 @@ one_byte = Some true ∷ None ∷ None ∷ None ∷ None ∷ None ∷ None ∷ N
 -- A byte that a field is made of: its first cell is a one, it has no three zeros in a row, and no address mark begins with it.
 pub record IsFieldByte (byte : ℕ) : Type 0 where
   pub fit : byte < 256
+  pub high : 128 ≤ byte
   pub spaced : is_spaced 1 3 2 (word_cells 8 byte) ≡ true
   pub begins : fits one_byte (word_cells 8 byte) ≡ true
   pub other : clashes (Some true ∷ sync_rest) (all_known (word_cells 8 byte)) ≡ true
 
 unfoldable is_field_byte : ℕ → Bool
 is_field_byte byte =
-    (nat_lt byte 256 && is_spaced 1 3 2 (word_cells 8 byte))
+    (nat_lt byte 256 && (nat_le 128 byte && is_spaced 1 3 2 (word_cells 8 byte)))
     && (fits one_byte (word_cells 8 byte) && clashes (Some true ∷ sync_rest) (all_known (word_cells 8 byte)))
 
 field_byte : (byte : ℕ) → is_field_byte byte ≡ true → IsFieldByte byte
 unfolding is_field_byte
 field_byte byte is =
-    let both = both_true (nat_lt byte 256 && is_spaced 1 3 2 (word_cells 8 byte)) _ is in
+    let both = both_true (nat_lt byte 256 && (nat_le 128 byte && is_spaced 1 3 2 (word_cells 8 byte))) _ is in
     let first = both_true (nat_lt byte 256) _ both.0 in
+    let more = both_true (nat_le 128 byte) _ first.1 in
     let second = both_true (fits one_byte (word_cells 8 byte)) _ both.1 in
     let low : nat_lt byte 256 ≡ true = first.0 in
-    record { fit = grind (arith, nat_tests); spaced = first.1; begins = second.0; other = second.1 }
+    let least : nat_le 128 byte ≡ true = more.0 in
+    record {
+      fit = grind (arith, nat_tests);
+      high = grind (arith, nat_tests);
+      spaced = more.1;
+      begins = second.0;
+      other = second.1;
+    }
 
 -- so is each nibble
 nibble_table : map (λ value. is_field_byte (get_or NIBBLES value 0)) (range_with_len 0 64) ≡ map (λ value. true) (range_with_len 0 64)

@@ -8,13 +8,16 @@ use Rattle.track_rings.specs.lemmas.Gaps.{begins, free_of, gap-free}
 use Rattle.track_rings.specs.lemmas.Parts.{drop-past, take-first}
 use Rattle.track_rings.specs.Rings.{IsSectorNumber, AreBytes}
 use Rattle.track_rings.specs.Rows.{coded, rows_cells}
-use Rattle.frame_law.specs.Frames.{FrameStands}
+use Rattle.frame_law.specs.Frames.{EndsAt, FrameStands}
 use Rattle.apple_gcr.specs.declared.layout.Row.TheVariants.{Address}
+use Rattle.apple_gcr.specs.DiskBytes.{byte_read}
+use Rattle.apple_gcr.specs.lemmas.ByteLaws.{strict-place, strict-read}
+use Rattle.apple_gcr.specs.lemmas.RuleLaws.{header_ends, hold_by, names_by, data_ends}
 use Rattle.apple_gcr.specs.lemmas.FieldLaws.{AreFieldBytes-halves, address_cells, bytes-read, disk_byte-past, in_halves, length-bytes_cells}
 use Rattle.apple_gcr.specs.Layout.{EPILOGUE, VOLUME, address_of, row_cells, rows, self_syncs}
 use Rattle.apple_gcr.specs.Nibbles.{bytes_cells, disk_byte}
 use Rattle.apple_gcr.specs.lemmas.RowLaws.{address-fits}
-use Rattle.apple_gcr.specs.Sectors.{ADDRESS_MARK, DATA_MARK, DATA_SYNC, Hold, IsSync, IsAppleTrack, NamesSector}
+use Rattle.apple_gcr.specs.Sectors.{ADDRESS_MARK, DATA_MARK, DATA_SYNC, Hold, IsSync, IsAppleTrack, NamesSector, data_end, header_end, opening_end, opening_place}
 use Rattle.apple_gcr.specs.SixAndTwo.{data_nibbles, values_of}
 use Rattle.apple_gcr.specs.lemmas.ValueLaws.{data_nibbles-are, get_or-data_nibbles, length-data_nibbles, length-values_of, values_of-carry, values_of-fit}
 
@@ -46,16 +49,17 @@ length-gap_and_mark : length gap_and_mark ≡ 108
 unfolding gap_and_mark word_cells
 length-gap_and_mark = refl
 
--- a header names its sector
+-- a header names its sector by the strict rule
 names-sector : (track : TrackId) (sector : ℕ) (rest : List Bool) → IsAppleTrack track → sector < 16
-    → NamesSector track (word_cells 24 ADDRESS_MARK ++ (bytes_cells (address_bytes track sector) ++ rest)) sector
+    → NamesSector 0 track (word_cells 24 ADDRESS_MARK ++ (bytes_cells (address_bytes track sector) ++ rest)) sector
 unfolding AreBytes
 names-sector track sector rest known few =
     let mark = word_cells 24 ADDRESS_MARK in
     let bytes = address_bytes track sector in
     let fit = address-fits track sector known few in
-    let at : (k : ℕ) → k < 8 → disk_byte (mark ++ (bytes_cells bytes ++ rest)) (24 + 8 * k) ≡ get_or bytes k 0 =
-    λ k within. bytes-read mark bytes rest 24 k (length-word_cells 24 ADDRESS_MARK) (AreFieldBytes-halves (address_of track sector) fit) within in
+    let cells = mark ++ (bytes_cells bytes ++ rest) in
+    let at : (k : ℕ) → k < 8 → byte_read 0 cells 24 k ≡ get_or bytes k 0 =
+    λ k within. strict-read cells 24 k ∙ bytes-read mark bytes rest 24 k (length-word_cells 24 ADDRESS_MARK) (AreFieldBytes-halves (address_of track sector) fit) within in
     record {
       volume = VOLUME;
       has_volume = record { fits = fit.0; first = at 0 (lit< tt); second = at 1 (lit< tt) };
@@ -72,32 +76,36 @@ gap : (rest : List Bool)
 unfolding free_of begins gap_and_mark word_cells disk_byte word number_of
 gap rest = (refl, refl, refl)
 
--- data hold their bytes
+-- data hold their bytes by the strict rule
 holds : (header : List Bool) (bytes : List ℕ) (rest : List Bool) → length header ≡ 88 → AreBytes bytes → length bytes ≡ 256
-    → Hold (header ++ (gap_and_mark ++ (bytes_cells (data_nibbles bytes) ++ rest))) 172 bytes
+    → Hold 0 (header ++ (gap_and_mark ++ (bytes_cells (data_nibbles bytes) ++ rest))) 172 bytes
 holds header bytes rest header_size fit size =
     let last = bytes_cells (data_nibbles bytes) ++ rest in
     let front = header ++ gap_and_mark in
     let front_size : length front ≡ 196 = omega (arith, length-append header gap_and_mark, header_size, length-gap_and_mark) in
+    let cells = header ++ (gap_and_mark ++ last) in
+    let at : opening_place 0 cells 172 ≡ 188 = strict-place cells 188 in
+    let from : opening_end 0 cells 172 ≡ 196 = ap (λ (n : ℕ). n + 8) at in
     record {
-      opens = disk_byte-past header (gap_and_mark ++ last) 88 100 header_size ∙ (gap last).2;
+      opens = ap (disk_byte cells) at ∙ disk_byte-past header (gap_and_mark ++ last) 88 100 header_size ∙ (gap last).2;
       values = values_of bytes;
       coded = record {
         count = length-values_of bytes;
         fit = λ k. values_of-fit bytes k fit;
         stand = λ k within.
-            ap (λ (cells : List Bool). disk_byte cells (196 + 8 * k)) (sym (append_assoc header gap_and_mark last))
+            ap (λ (n : ℕ). byte_read 0 cells n k) from ∙ strict-read cells 196 k
+            ∙ ap (λ (cells : List Bool). disk_byte cells (196 + 8 * k)) (sym (append_assoc header gap_and_mark last))
             ∙ bytes-read front (data_nibbles bytes) rest 196 k front_size (data_nibbles-are bytes fit) (omega (arith, length-data_nibbles bytes, within))
             ∙ get_or-data_nibbles bytes k within;
       };
       carried = values_of-carry bytes size;
     }
 
--- the rows of a frame are read back
-pub frame_stands : (track : TrackId) (sector : ℕ) (bytes : List ℕ) (before : Bool) (rest : List Bool) → IsAppleTrack track → IsSectorNumber 0 16 sector
+-- the rows of a frame are read back by the strict rule
+frame_strict : (track : TrackId) (sector : ℕ) (bytes : List ℕ) (before : Bool) (rest : List Bool) → IsAppleTrack track → IsSectorNumber 0 16 sector
     → AreBytes bytes → length bytes ≡ 256
-    → FrameStands 0xD5AA96 24 88 172 (NamesSector track) IsSync Hold (rows_cells false (row_cells track) before sector bytes rows.frame ++ rest) sector bytes
-frame_stands track sector bytes before rest known number fit size =
+    → FrameStands 0xD5AA96 24 88 172 (NamesSector 0 track) IsSync (Hold 0) (rows_cells false (row_cells track) before sector bytes rows.frame ++ rest) sector bytes
+frame_strict track sector bytes before rest known number fit size =
     let mark = word_cells 24 ADDRESS_MARK in
     let field = bytes_cells (address_bytes track sector) in
     let header = mark ++ field in
@@ -105,7 +113,7 @@ frame_stands track sector bytes before rest known number fit size =
     let header_size : length header ≡ 88 =
     omega (arith, length-append mark field, length-word_cells 24 ADDRESS_MARK, length-bytes_cells (address_bytes track sector)) in
     let grouped : frame_of track sector bytes rest ≡ header ++ (gap_and_mark ++ behind) = sym (append_assoc mark field (gap_and_mark ++ behind)) in
-    subst (λ (cells : List Bool). FrameStands 0xD5AA96 24 88 172 (NamesSector track) IsSync Hold cells sector bytes)
+    subst (λ (cells : List Bool). FrameStands 0xD5AA96 24 88 172 (NamesSector 0 track) IsSync (Hold 0) cells sector bytes)
     (sym (frame-cells track sector bytes before rest))
     (record {
       begins = take-first mark (field ++ (gap_and_mark ++ behind)) 24 (length-word_cells 24 ADDRESS_MARK);
@@ -115,5 +123,32 @@ frame_stands track sector bytes before rest known number fit size =
       first = λ place above below.
           subst (λ (cells : List Bool). ¬ IsSync cells place) (sym grouped)
           (gap-free DATA_SYNC 16 84 header (gap_and_mark ++ behind) 88 place (lit≤ tt) (gap behind).0 header_size above below);
-      held = subst (λ (cells : List Bool). Hold cells 172 bytes) (sym grouped) (holds header bytes rest header_size fit size);
+      held = subst (λ (cells : List Bool). Hold 0 cells 172 bytes) (sym grouped) (holds header bytes rest header_size fit size);
     })
+
+-- and so by every rule
+pub frame_stands : (passed : ℕ) (track : TrackId) (sector : ℕ) (bytes : List ℕ) (before : Bool) (rest : List Bool) → IsAppleTrack track
+    → IsSectorNumber 0 16 sector → AreBytes bytes → length bytes ≡ 256
+    → FrameStands 0xD5AA96 24 88 172 (NamesSector passed track) IsSync (Hold passed) (rows_cells false (row_cells track) before sector bytes rows.frame ++ rest) sector bytes
+frame_stands passed track sector bytes before rest known number fit size =
+    let cells = rows_cells false (row_cells track) before sector bytes rows.frame ++ rest in
+    let strict = frame_strict track sector bytes before rest known number fit size in
+    record {
+      begins = strict.begins;
+      named = names_by passed track cells sector strict.named;
+      opens = strict.opens;
+      first = strict.first;
+      held = hold_by passed cells 172 bytes strict.held;
+    }
+
+-- and ends where it does by the strict rule
+pub frame_ends : (passed : ℕ) (track : TrackId) (sector : ℕ) (bytes : List ℕ) (before : Bool) (rest : List Bool) → IsAppleTrack track
+    → IsSectorNumber 0 16 sector → AreBytes bytes → length bytes ≡ 256
+    → EndsAt 88 2768 172 (header_end passed) (data_end passed) (rows_cells false (row_cells track) before sector bytes rows.frame ++ rest)
+frame_ends passed track sector bytes before rest known number fit size =
+    let cells = rows_cells false (row_cells track) before sector bytes rows.frame ++ rest in
+    let strict = frame_strict track sector bytes before rest known number fit size in
+    record {
+      header_ends = header_ends passed track cells sector strict.named;
+      data_ends = data_ends passed cells 172 bytes strict.held;
+    }

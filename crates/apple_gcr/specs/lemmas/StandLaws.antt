@@ -1,18 +1,21 @@
 -- What cells name and hold is one thing, and is told by their own cells and by all of these but the last seven; and the numbers of
 -- the recording.
-use Rattle.std.specs.Prelude.{◌≡◌, ℕ, ◌+◌, ◌*◌, ◌%◌, Bool, List, bit_and, bit_or, refl, ◌-◌, ◌≤◌}
+use Rattle.std.specs.Prelude.{◌≡◌, ℕ, suc, ◌+◌, ◌-◌, ◌*◌, ◌%◌, ◌<◌, ◌≤◌, Bool, List, bit_and, bit_or, refl}
 use Rattle.std.proofs.Common.{ap, sym, ◌∙◌, arith, lit<, lit≤}
 use Rattle.flux_base.specs.declared.track.TrackId.{TrackId}
 use Rattle.frame_law.specs.Frames.{AreSizes, IsWithinReach}
 use Rattle.track_rings.specs.Rows.{frame_size, ring_size, total}
-use Rattle.apple_gcr.specs.FourAndFour.{FourAndFourAt}
+use Rattle.apple_gcr.specs.DiskBytes.{byte_read, bytes_end}
+use Rattle.apple_gcr.specs.FourAndFour.{AreHalves}
 use Rattle.apple_gcr.specs.Layout.{row_size, rows}
+use Rattle.apple_gcr.specs.lemmas.ByteLaws.{end-least, end-more, place-least, same_end, same_place, same_read}
 use Rattle.apple_gcr.specs.lemmas.FieldLaws.{halves-read}
 use Rattle.apple_gcr.specs.Nibbles.{disk_byte}
-use Rattle.apple_gcr.specs.Sectors.{Hold, NamesSector, IsSync}
-use Rattle.apple_gcr.specs.lemmas.ValueLaws.{one_carried, one_list, FirstStand}
+use Rattle.apple_gcr.specs.Sectors.{Hold, IsAddress, IsSync, NamesSector, data_end, header_end, opening_end, opening_place}
+use Rattle.apple_gcr.specs.SixAndTwo.{AreCoded}
+use Rattle.apple_gcr.specs.lemmas.ValueLaws.{one_carried, one_list}
 use Rattle.track_rings.specs.lemmas.Fronts.{AgreeTo, agree-stands, agree-word}
-use Rattle.frame_law.specs.lemmas.OwnFrames.{TellsEarly}
+use Rattle.frame_law.specs.lemmas.OwnFrames.{TellsEarly, TellsEnds}
 
 pub sizes : AreSizes 1 3 24 88 2
 sizes = record {
@@ -33,94 +36,163 @@ pub sums : (frame_size row_size 256 rows ≡ 2940) × (ring_size row_size 16 256
 unfolding total
 sums = (refl, refl)
 
--- the byte that stands in 4-and-4, from its halves
-pub byte_read : (cells : List Bool) (place byte : ℕ) → FourAndFourAt cells place byte
-    → bit_and (bit_or (disk_byte cells place * 2 % 256) 1) (disk_byte cells (place + 8)) ≡ byte
-byte_read cells place byte stands =
-    ap (λ (first : ℕ). bit_and (bit_or (first * 2 % 256) 1) (disk_byte cells (place + 8))) stands.first
-    ∙ ap (bit_and _) stands.second ∙ halves-read byte stands.fits
+-- the byte whose halves these are
+pub byte_read_from : (high low byte : ℕ) → AreHalves high low byte → bit_and (bit_or (high * 2 % 256) 1) low ≡ byte
+byte_read_from high low byte halves =
+    ap (λ (first : ℕ). bit_and (bit_or (first * 2 % 256) 1) low) halves.first ∙ ap (bit_and _) halves.second ∙ halves-read byte halves.fits
 
-pub one_byte : (cells : List Bool) (place x y : ℕ) → FourAndFourAt cells place x → FourAndFourAt cells place y → x ≡ y
-one_byte cells place x y first second = sym (byte_read cells place x first) ∙ byte_read cells place y second
+pub one_byte : (high low x y : ℕ) → AreHalves high low x → AreHalves high low y → x ≡ y
+one_byte high low x y first second = sym (byte_read_from high low x first) ∙ byte_read_from high low y second
 
-pub one_name : (track : TrackId) (cells : List Bool) (s t : ℕ) → NamesSector track cells s → NamesSector track cells t → s ≡ t
-one_name track cells s t first second = one_byte cells 56 s t first.has_sector second.has_sector
+pub one_name : (passed : ℕ) (track : TrackId) (cells : List Bool) (s t : ℕ) → NamesSector passed track cells s → NamesSector passed track cells t → s ≡ t
+one_name passed track cells s t first second = one_byte _ _ s t first.has_sector second.has_sector
 
-pub one_content : (cells : List Bool) (sync : ℕ) (xs ys : List ℕ) → Hold cells sync xs → Hold cells sync ys → xs ≡ ys
-one_content cells sync xs ys first second =
+pub one_content : (passed : ℕ) (cells : List Bool) (sync : ℕ) (xs ys : List ℕ) → Hold passed cells sync xs → Hold passed cells sync ys → xs ≡ ys
+one_content passed cells sync xs ys first second =
     let a = first.coded in
     let b = second.coded in
     one_carried first.values second.values xs ys
-    (one_list cells (sync + 24) first.values second.values a.count b.count a.fit b.fit (λ k within. a.stand k (omega arith)) (λ k within. b.stand k (omega arith)))
+    (one_list (byte_read passed cells (opening_end passed cells sync)) first.values second.values a.count b.count a.fit b.fit
+    (λ k within. a.stand k (omega arith)) (λ k within. b.stand k (omega arith)))
     first.carried second.carried
 
-module _ (total : ℕ) (cells others : List Bool) (same : AgreeTo total cells others) where
-  same_byte : (place : ℕ) → place + 8 ≤ total → disk_byte others place ≡ disk_byte cells place
-  unfolding disk_byte
-  same_byte place long = sym (agree-word total cells others same place 8 long)
+-- an address of bytes that are the same
+pub same_address : (track : TrackId) (read other : ℕ → ℕ) (s : ℕ) → ((k : ℕ) → k < 8 → other k ≡ read k) → IsAddress track read s → IsAddress track other s
+same_address track read other s same address = record {
+  volume = address.volume;
+  has_volume = same_halves 0 1 address.volume (lit< tt) (lit< tt) address.has_volume;
+  has_track = same_halves 2 3 track.cylinder (lit< tt) (lit< tt) address.has_track;
+  has_sector = same_halves 4 5 s (lit< tt) (lit< tt) address.has_sector;
+  has_check = same_halves 6 7 _ (lit< tt) (lit< tt) address.has_check;
+}
+  where
+    same_halves : (i j byte : ℕ) → i < 8 → j < 8 → AreHalves (read i) (read j) byte → AreHalves (other i) (other j) byte
+    same_halves i j byte first second halves =
+        record { fits = halves.fits; first = same i first ∙ halves.first; second = same j second ∙ halves.second }
 
-  field : (place byte : ℕ) → place + 16 ≤ total → FourAndFourAt cells place byte → FourAndFourAt others place byte
-  field place byte long at = record {
-    fits = at.fits;
-    first = same_byte place (omega arith) ∙ at.first;
-    second = same_byte (place + 8) (omega arith) ∙ at.second;
-  }
-
-  -- so many nibbles stand in them
-  nibbles : (place : ℕ) (values : List ℕ) (count fewer : ℕ) → fewer ≤ count → place + 8 * fewer ≤ total → FirstStand cells place values count
-      → FirstStand others place values fewer
-  nibbles place values count fewer less long stand k within =
-      same_byte (place + 8 * k) (omega (arith, long, within)) ∙ stand k (omega (arith, less, within))
-
-named : (track : TrackId) (cells others : List Bool) (s : ℕ) → AgreeTo 88 cells others → NamesSector track cells s → NamesSector track others s
-named track cells others s same names = record {
-  volume = names.volume;
-  has_volume = field 88 cells others same 24 names.volume (omega arith) names.has_volume;
-  has_track = field 88 cells others same 40 track.cylinder (omega arith) names.has_track;
-  has_sector = field 88 cells others same 56 s (omega arith) names.has_sector;
-  has_check = field 88 cells others same 72 _ (omega arith) names.has_check;
+-- and values of such
+pub same_coded : (read other : ℕ → ℕ) (values : List ℕ) → ((k : ℕ) → k < 343 → other k ≡ read k) → AreCoded read values → AreCoded other values
+same_coded read other values same coded = record {
+  count = coded.count;
+  fit = coded.fit;
+  stand = λ k within. same k within ∙ coded.stand k within;
 }
 
--- the sector's number stands before the last seven cells
-named_early : (track : TrackId) (cells others : List Bool) (s t : ℕ) → AgreeTo 81 cells others → NamesSector track cells s
-    → NamesSector track others t → s ≡ t
-named_early track cells others s t same first second =
-    one_byte others 56 s t (field 81 cells others same 56 s (omega arith) first.has_sector) second.has_sector
+-- headers and data end after so many cells at least
+header_least : (passed : ℕ) (cells : List Bool) → 88 ≤ header_end passed cells
+header_least passed cells = omega (arith, end-least passed cells 24 8)
+
+pub data_least : (passed : ℕ) (cells : List Bool) (sync : ℕ) → sync + 2768 ≤ data_end passed cells sync
+data_least passed cells sync =
+    omega (arith, end-least passed cells (opening_end passed cells sync) 343, place-least passed cells (sync + 16))
+
+same_byte : (total : ℕ) (cells others : List Bool) → AgreeTo total cells others → (place : ℕ) → place + 8 ≤ total
+    → disk_byte others place ≡ disk_byte cells place
+unfolding disk_byte
+same_byte total cells others same place long = sym (agree-word total cells others same place 8 long)
 
 synced : (cells others : List Bool) (place : ℕ) → AgreeTo (place + 2768 - 7) cells others → IsSync cells place → IsSync others place
 synced cells others place same stands = agree-stands (place + 2768 - 7) cells others same 0xD5AA 16 place (omega arith) stands
 
-held : (cells others : List Bool) (sync : ℕ) (bytes : List ℕ) → AgreeTo (sync + 2768) cells others → Hold cells sync bytes → Hold others sync bytes
-held cells others sync bytes same hold =
-    let total = sync + 2768 in record {
-      opens = same_byte total cells others same (sync + 16) (omega arith) ∙ hold.opens;
-      values = hold.values;
-      coded = record {
-        count = hold.coded.count;
-        fit = hold.coded.fit;
-        stand = nibbles total cells others same (sync + 24) hold.values 343 343 (omega arith) (omega arith) hold.coded.stand;
-      };
-      carried = hold.carried;
-    }
+module _ (passed : ℕ) (few : passed ≤ 7) where
+  module _ (total : ℕ) (cells others : List Bool) (same : AgreeTo total cells others) where
+    -- the header's bytes, so many
+    header_bytes : (count k : ℕ) → bytes_end passed cells 24 count ≤ total → k < count → byte_read passed others 24 k ≡ byte_read passed cells 24 k
+    header_bytes count k within below =
+        let e : suc k + (count - suc k) ≡ count = omega arith in
+        let all = ap (bytes_end passed cells 24) e in
+        let more = end-more passed cells 24 (suc k) (count - suc k) in
+        same_read passed few total cells others same 24 k (omega (arith, all, more, within))
 
--- so do all nibbles but that of the check value
-held_early : (cells others : List Bool) (sync : ℕ) (xs ys : List ℕ) → AgreeTo (sync + 2768 - 7) cells others → Hold cells sync xs
-    → Hold others sync ys → xs ≡ ys
-held_early cells others sync xs ys same first second =
-    let a = first.coded in
-    let b = second.coded in
-    let total = sync + 2768 - 7 in
-    one_carried first.values second.values xs ys
-    (one_list others (sync + 24) first.values second.values a.count b.count a.fit b.fit
-    (nibbles total cells others same (sync + 24) first.values 343 342 (omega arith) (omega arith) a.stand) (λ k within. b.stand k (omega arith)))
-    first.carried second.carried
+    opening : (sync : ℕ) → opening_end passed cells sync ≤ total → opening_place passed others sync ≡ opening_place passed cells sync
+    opening sync within =
+        same_place passed few total cells others same (sync + 16) (omega (arith, place-least passed cells (sync + 16), within))
 
-pub tells : (track : TrackId) → TellsEarly 24 88 2768 (NamesSector track) IsSync Hold
-tells track = record {
-  sync_within = lit≤ tt;
-  named = named track;
-  named_early = named_early track;
-  synced = synced;
-  held = held;
-  held_early = held_early;
-}
+    opening_same : (sync : ℕ) → opening_end passed cells sync ≤ total → opening_end passed others sync ≡ opening_end passed cells sync
+    opening_same sync within = ap (λ (n : ℕ). n + 8) (opening sync within)
+
+    -- and the data's
+    data_bytes : (sync count k : ℕ) → bytes_end passed cells (opening_end passed cells sync) count ≤ total → k < count
+        → byte_read passed others (opening_end passed others sync) k ≡ byte_read passed cells (opening_end passed cells sync) k
+    data_bytes sync count k within below =
+        let from = opening_end passed cells sync in
+        let e : suc k + (count - suc k) ≡ count = omega arith in
+        let all = ap (bytes_end passed cells from) e in
+        let more = end-more passed cells from (suc k) (count - suc k) in
+        let least = end-least passed cells from count in
+        ap (λ (n : ℕ). byte_read passed others n k) (opening_same sync (omega (arith, least, within)))
+        ∙ same_read passed few total cells others same from k (omega (arith, all, more, within))
+
+  named : (track : TrackId) (cells others : List Bool) (s : ℕ) → AgreeTo (header_end passed cells) cells others
+      → NamesSector passed track cells s → NamesSector passed track others s
+  named track cells others s same names =
+      same_address track (byte_read passed cells 24) (byte_read passed others 24) s
+      (λ k below. header_bytes (header_end passed cells) cells others same 8 k (omega arith) below) names
+
+  -- the sector's number stands before the last seven cells
+  named_early : (track : TrackId) (cells others : List Bool) (s t : ℕ) → AgreeTo (header_end passed cells - 7) cells others
+      → NamesSector passed track cells s → NamesSector passed track others t → s ≡ t
+  named_early track cells others s t same first second =
+      let total = header_end passed cells - 7 in
+      let more = end-more passed cells 24 6 2 in
+      let at : (k : ℕ) → k < 6 → byte_read passed others 24 k ≡ byte_read passed cells 24 k =
+      λ k below. header_bytes total cells others same 6 k (omega (arith, more)) below in
+      one_byte (byte_read passed others 24 4) (byte_read passed others 24 5) s t
+      (record {
+        fits = first.has_sector.fits;
+        first = at 4 (lit< tt) ∙ first.has_sector.first;
+        second = at 5 (lit< tt) ∙ first.has_sector.second;
+      })
+      second.has_sector
+
+  held : (cells others : List Bool) (sync : ℕ) (bytes : List ℕ) → AgreeTo (data_end passed cells sync) cells others
+      → Hold passed cells sync bytes → Hold passed others sync bytes
+  held cells others sync bytes same hold =
+      let total = data_end passed cells sync in
+      let least = end-least passed cells (opening_end passed cells sync) 343 in
+      record {
+        opens = ap (disk_byte others) (opening total cells others same sync (omega (arith, least)))
+            ∙ same_byte total cells others same (opening_place passed cells sync) (omega (arith, least)) ∙ hold.opens;
+        values = hold.values;
+        coded = same_coded (byte_read passed cells (opening_end passed cells sync)) (byte_read passed others (opening_end passed others sync)) hold.values
+            (λ k below. data_bytes total cells others same sync 343 k (omega arith) below) hold.coded;
+        carried = hold.carried;
+      }
+
+  -- so do all nibbles but that of the check value
+  held_early : (cells others : List Bool) (sync : ℕ) (xs ys : List ℕ) → AgreeTo (data_end passed cells sync - 7) cells others
+      → Hold passed cells sync xs → Hold passed others sync ys → xs ≡ ys
+  held_early cells others sync xs ys same first second =
+      let a = first.coded in
+      let b = second.coded in
+      let total = data_end passed cells sync - 7 in
+      let from = opening_end passed cells sync in
+      let more = end-more passed cells from 342 1 in
+      one_carried first.values second.values xs ys
+      (one_list (byte_read passed others (opening_end passed others sync)) first.values second.values a.count b.count a.fit b.fit
+      (λ k within. data_bytes total cells others same sync 342 k (omega (arith, more)) within ∙ a.stand k (omega arith)) (λ k within. b.stand k (omega arith)))
+      first.carried second.carried
+
+  pub tells_ends : TellsEnds 88 2768 (header_end passed) (data_end passed)
+  tells_ends = record {
+    some = lit≤ tt;
+    header_least = header_least passed;
+    header_told = λ cells others same. same_end passed few (header_end passed cells) cells others same 24 8 (omega arith);
+    data_least = data_least passed;
+    data_told = λ cells others sync same.
+        let total = data_end passed cells sync in
+        let from = opening_end passed cells sync in
+        let least = end-least passed cells from 343 in
+        ap (λ (n : ℕ). bytes_end passed others n 343) (opening_same total cells others same sync (omega (arith, least)))
+        ∙ same_end passed few total cells others same from 343 (omega arith);
+  }
+
+  pub tells : (track : TrackId) → TellsEarly 24 88 2768 (header_end passed) (data_end passed) (NamesSector passed track) IsSync (Hold passed)
+  tells track = record {
+    sync_within = lit≤ tt;
+    named = named track;
+    named_early = named_early track;
+    synced = synced;
+    held = held;
+    held_early = held_early;
+  }

@@ -158,10 +158,10 @@ unfolding Follows ring_of_rows track_parts coded word_cells fits
 ring_follows track bytes = inr refl
 
 -- so in the ring it begins where headers do
-pub own_syncs : (track : TrackId) → IsAppleTrack track
-    → HasOwnSyncs 0xD5AA96 24 88 0 16 (NamesSector track) (place_of row_size 0 256 rows) (AreSectors 16 256) (ring_of track)
+pub own_syncs : (passed : ℕ) (track : TrackId) → IsAppleTrack track
+    → HasOwnSyncs 0xD5AA96 24 88 0 16 (NamesSector passed track) (place_of row_size 0 256 rows) (AreSectors 16 256) (ring_of track)
 unfolding total IsOther AreOthers AreBytes
-own_syncs track known = record {
+own_syncs passed track known = record {
   lead = 0;
   rest = sync_rest;
   short = omega (arith, length-sync_rest);

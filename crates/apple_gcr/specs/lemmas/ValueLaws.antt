@@ -1,6 +1,6 @@
 -- The values of 6-and-2: those that are written carry the bytes, and nibbles that stand have one list of values, which carries
 -- one list of bytes.
-use Rattle.std.specs.Prelude.{◌≡◌, ℕ, zero, suc, ◌+◌, ◌-◌, ◌*◌, ◌/◌, ◌<◌, ◌≤◌, Bool, List, [], ◌∷◌, length, get_or, bit_xor}
+use Rattle.std.specs.Prelude.{◌≡◌, ℕ, zero, suc, ◌+◌, ◌-◌, ◌*◌, ◌/◌, ◌<◌, ◌≤◌, List, [], ◌∷◌, length, get_or, bit_xor}
 use Rattle.std.proofs.Common.{ap, sym, subst, ◌∙◌, arith, inl, inr, lit<}
 use Rattle.std.proofs.lemmas.Bool.{cases_lt}
 use Rattle.std.proofs.lemmas.Bool.Decides.{nat_tests}
@@ -9,10 +9,9 @@ use Rattle.std.proofs.lemmas.List.FromFn.{get_or-map-range_with_len, length-rang
 use Rattle.std.proofs.lemmas.Nat.{xor_lt}
 use Rattle.std.specs.Int.Bits.{xor_assoc, xor_self, xor_zero_r}
 use Rattle.std.specs.List.{range_with_len}
-use Rattle.frame_law.specs.WordRows.{StandInRow}
 use Rattle.track_rings.specs.Rings.{AreBytes}
 use Rattle.apple_gcr.specs.lemmas.FieldLaws.{AreFieldBytes, AreFieldBytes-map, IsFieldByte-nibble, one_value}
-use Rattle.apple_gcr.specs.Nibbles.{disk_byte, nibble}
+use Rattle.apple_gcr.specs.Nibbles.{nibble}
 use Rattle.apple_gcr.specs.SixAndTwo.{Carries, code_at, data_nibbles, swapped, value_at, values_of}
 
 -- each of a list of bytes
@@ -92,15 +91,15 @@ get_or-data_nibbles bytes k within =
 pub xor-undo : (a b : ℕ) → bit_xor (bit_xor a b) b ≡ a
 xor-undo a b = xor_assoc a b b ∙ ap (bit_xor a) (xor_self b) ∙ xor_zero_r a
 
--- the first nibbles, so many, stand at the place
-abbrev pub FirstStand : List Bool → ℕ → List ℕ → ℕ → Type 0
-FirstStand cells place values count = StandInRow 8 (λ some here byte. disk_byte some here ≡ byte) cells place count (λ k. nibble (code_at values k))
+-- the first disk bytes that are read, so many, are the nibbles of the values
+abbrev pub FirstStand : (ℕ → ℕ) → List ℕ → ℕ → Type 0
+FirstStand read values count = (k : ℕ) → k < count → read k ≡ nibble (code_at values k)
 
 abbrev pub AreSixBits : List ℕ → Type 0
 AreSixBits values = (k : ℕ) → get_or values k 0 < 64
 
-module _ (cells : List Bool) (place : ℕ) (xs ys : List ℕ) (count : ℕ) (fit : AreSixBits xs) (also : AreSixBits ys)
-    (first : FirstStand cells place xs count) (second : FirstStand cells place ys count) where
+module _ (read : ℕ → ℕ) (xs ys : List ℕ) (count : ℕ) (fit : AreSixBits xs) (also : AreSixBits ys)
+    (first : FirstStand read xs count) (second : FirstStand read ys count) where
   one_code : (k : ℕ) → k < count → code_at xs k ≡ code_at ys k
   one_code k within =
       one_value (code_at xs k) (code_at ys k) (code-fits xs k fit) (code-fits ys k also) (sym (first k within) ∙ second k within)
@@ -116,10 +115,10 @@ module _ (cells : List Bool) (place : ℕ) (xs ys : List ℕ) (count : ℕ) (fit
       ∙ xor-undo (get_or ys (suc k) 0) (get_or ys k 0)
 
 -- one list of values, which all nibbles but that of the check value tell
-pub one_list : (cells : List Bool) (place : ℕ) (xs ys : List ℕ) → length xs ≡ 342 → length ys ≡ 342 → AreSixBits xs → AreSixBits ys
-    → FirstStand cells place xs 342 → FirstStand cells place ys 342 → xs ≡ ys
-one_list cells place xs ys size same fit also first second =
-    ext_get_or 0 xs ys (size ∙ sym same) (λ k within. same_value cells place xs ys 342 fit also first second k (omega (arith, size, within)))
+pub one_list : (read : ℕ → ℕ) (xs ys : List ℕ) → length xs ≡ 342 → length ys ≡ 342 → AreSixBits xs → AreSixBits ys
+    → FirstStand read xs 342 → FirstStand read ys 342 → xs ≡ ys
+one_list read xs ys size same fit also first second =
+    ext_get_or 0 xs ys (size ∙ sym same) (λ k within. same_value read xs ys 342 fit also first second k (omega (arith, size, within)))
 
 same_byte : (x y : ℕ) → x / 4 ≡ y / 4 → swapped x ≡ swapped y → x ≡ y
 same_byte x y high low = omega arith

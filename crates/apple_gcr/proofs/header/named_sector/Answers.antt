@@ -1,26 +1,12 @@
-use Rattle.std.proofs.Common.{◌≡◌, ◌∙◌, ℕ, ap, sym}
-use Rattle.apple_gcr.specs.Sectors.{check_of}
-use Rattle.apple_gcr.specs.lemmas.StandLaws.{one_byte}
+use Rattle.std.proofs.Common.{◌∙◌, ℕ, List, ap, get_or}
+use Rattle.apple_gcr.specs.DiskBytes.{byte_read, zeros_passed}
+use Rattle.apple_gcr.specs.lemmas.StandLaws.{same_address}
+use Rattle.apple_gcr.proofs.Values.{none-also}
 use Rattle.apple_gcr.proofs.header.named_sector.Goals as goal
 
-pub returns-then-cylinder-track-clause-none : goal.returns-then-cylinder-track-clause-none
-returns-then-cylinder-track-clause-none c = λ s names.
-    c.if-cylinder-track.true
-    (one_byte c.args.frame.now 40 c.in_ok-cylinder.cylinder c.args.track.cylinder c.in_ok-cylinder.ensures.some names.has_track)
-
-pub returns-then-check-xor_bytes-clause-none : goal.returns-then-check-xor_bytes-clause-none
-returns-then-check-xor_bytes-clause-none c = λ s names.
-    let frame = c.args.frame.now in
-    let volume : names.volume ≡ c.in_ok-volume.volume =
-    one_byte frame 24 names.volume c.in_ok-volume.volume names.has_volume c.in_ok-volume.ensures.some in
-    let cylinder : c.args.track.cylinder ≡ c.in_ok-cylinder.cylinder =
-    one_byte frame 40 c.args.track.cylinder c.in_ok-cylinder.cylinder names.has_track c.in_ok-cylinder.ensures.some in
-    let sector : s ≡ c.in_ok-sector.sector = one_byte frame 56 s c.in_ok-sector.sector names.has_sector c.in_ok-sector.ensures.some in
-    let check : c.in_ok-check.check ≡ check_of names.volume c.args.track.cylinder s =
-    one_byte frame 72 c.in_ok-check.check (check_of names.volume c.args.track.cylinder s) c.in_ok-check.ensures.some names.has_check in
-    c.if-check-xor_bytes.true
-    (check
-    ∙ ap (λ (n : ℕ). check_of n c.args.track.cylinder s) volume
-    ∙ ap (λ (n : ℕ). check_of c.in_ok-volume.volume n s) cylinder
-    ∙ ap (check_of c.in_ok-volume.volume c.in_ok-cylinder.cylinder) sector
-    ∙ sym c.xor_bytes.ensures)
+pub returns-clause-none : goal.returns-clause-none
+returns-clause-none c =
+    none-also c.sector_of.result c.sector_of.ensures.none
+    (λ no s names. no s
+    (same_address c.args.track (byte_read (zeros_passed c.args.rule) c.args.frame.now 24) (λ k. get_or c.deref.result.now k 0) s
+    (λ k below. ap (λ (items : List ℕ). get_or items k 0) c.deref.ensures.0 ∙ c.address_bytes-address.ensures.read k below) names))

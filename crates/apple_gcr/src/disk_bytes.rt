@@ -1,0 +1,78 @@
+//! Disk bytes, read from the cells one after another.
+
+ghost use Rattle.std.specs.Prelude.{◌≡◌, ℕ, ◌+◌, ◌^◌, ◌<◌, ◌≤◌, length, take, IfNone, IfSome};
+ghost use Rattle.cell_bits.specs.Word.{word_cells};
+ghost use Rattle.apple_gcr.specs.DiskBytes.{byte_place, bytes_end, zeros_first, zeros_passed};
+
+use crate::layout::BYTE_CELLS;
+use crate::nibbles::disk_byte_at;
+use frame_law::CellsFrom;
+
+/// By which rule disk bytes are read from the cells.
+#[derive(Clone, Copy, Debug, PartialEq, Eq)]
+pub enum ByteRule {
+    /// Each byte begins at the cell after the one before: for what is to be exact to the cell.
+    Strict,
+    /// As Apple's controller reads: each byte begins at the next one, and the zeros before it are passed over. DOS
+    /// 3.3 and ProDOS write one zero more between the mark of a data field and its first nibble.
+    Controller,
+}
+
+/// Where the byte begins that is read from the offset on.
+pub(crate) fn byte_place(rule: ByteRule, frame: &CellsFrom, from: usize) -> usize
+    requires near { from < 2 ^ 40 }
+    requires within { from + 8 ≤ length frame.now }
+    ensures place { result ≡ byte_place (zeros_passed rule) frame.now from }
+    ensures near { result ≤ from + 7 }
+{
+    match rule {
+        ByteRule::Strict => from,
+        ByteRule::Controller => from + zeros_before_one(disk_byte_at(frame, from)),
+    }
+}
+
+/// How many zeros stand before the first one of a byte's first seven cells.
+fn zeros_before_one(byte: u8) -> usize
+    ensures zeros { result ≡ zeros_first (take 7 (word_cells 8 byte)) }
+    ensures few { result ≤ 7 }
+{
+    byte.leading_zeros().min(MOST_ZEROS) as usize
+}
+
+/// Where `count` bytes end that are read from the offset on. None where they do not lie in the cells.
+pub(crate) fn bytes_end(
+    rule: ByteRule,
+    frame: &CellsFrom,
+    from: usize,
+    count: usize,
+) -> Option<usize>
+    requires near { from < 2 ^ 32 }
+    requires few { count < 2 ^ 32 }
+    ensures some { IfSome result (λ end. (end ≡ bytes_end (zeros_passed rule) frame.now from count) × (end ≤ length frame.now)) }
+    ensures none { IfNone result (length frame.now < bytes_end (zeros_passed rule) frame.now from count) }
+{
+    match rule {
+        ByteRule::Strict => frame.end_within(from + BYTE_CELLS * count),
+        ByteRule::Controller => controller_end(frame, from, count),
+    }
+}
+
+/// The same by the controller's rule, byte by byte.
+fn controller_end(frame: &CellsFrom, from: usize, count: usize) -> Option<usize>
+    requires near { from < 2 ^ 32 }
+    requires few { count < 2 ^ 32 }
+    ensures some { IfSome result (λ end. (end ≡ bytes_end 7 frame.now from count) × (end ≤ length frame.now)) }
+    ensures none { IfNone result (length frame.now < bytes_end 7 frame.now from count) }
+{
+    let mut end = from;
+    for _ in 0..count {
+        if frame.len() < end + BYTE_CELLS {
+            return None;
+        }
+        end = byte_place(ByteRule::Controller, frame, end) + BYTE_CELLS;
+    }
+    frame.end_within(end)
+}
+
+/// The most zeros that an unbroken frame has in a row.
+const MOST_ZEROS: u32 = 7;
