@@ -80,8 +80,8 @@ pub record Hold (cells : List Bool) (place : ℕ) (bytes : List ℕ) : Type 0 wh
 
 -- a header and a sector stand, as on any track
 abbrev pub HeaderStands : TrackId → List Bool → ℕ → Type 0
-HeaderStands track cells sector = Header SYNC SYNC_CELLS HEADER_CELLS 0 SECTORS (NamesSector track) cells sector
+HeaderStands track cells sector = Header SYNC SYNC_CELLS (λ some. HEADER_CELLS) 0 SECTORS (NamesSector track) cells sector
 
 abbrev pub SectorStands : TrackId → List Bool → ℕ → List ℕ → Type 0
 SectorStands track cells sector bytes =
-    Sector (HeaderStands track cells sector) (DataStand HEADER_CELLS DATA_CELLS IsDataPlace Hold cells bytes)
+    Sector (HeaderStands track cells sector) (DataStand (λ some. HEADER_CELLS) (λ some sync. sync + DATA_CELLS) IsDataPlace Hold cells bytes)

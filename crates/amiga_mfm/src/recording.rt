@@ -1,7 +1,8 @@
-ghost use Rattle.std.specs.Prelude.{◌≡◌, ℕ, [], true};
+ghost use Rattle.std.specs.Prelude.{◌≡◌, ℕ, ◌+◌, [], true, refl};
 ghost use Rattle.std.proofs.Common.{lit<, lit≤, sym, ◌∙◌};
 ghost use Rattle.mfm_coding.specs.lemmas.CodingLaws.{length-coded};
 ghost use Rattle.mfm_coding.specs.lemmas.SymbolRows.{rows-end, symbols-follow};
+ghost use Rattle.frame_law.specs.lemmas.OwnFrames.{fixed_ends};
 ghost use Rattle.amiga_mfm.specs.lemmas.FrameLaws.{frame_stands};
 ghost use Rattle.amiga_mfm.specs.Layout.{row_cells, row_size, row_symbols, rows};
 ghost use Rattle.amiga_mfm.specs.lemmas.OwnLaws.{tells};
@@ -36,8 +37,6 @@ impl Layout for AmigaMfm {
 
     const SYNC_CELLS: u8 = SYNC_CELLS;
 
-    const HEADER_CELLS: usize = HEADER_CELLS;
-
     ghost SHORTEST = { 2 };
 
     ghost LONGEST = { 4 };
@@ -46,7 +45,7 @@ impl Layout for AmigaMfm {
 
     ghost SYNC_CELLS = { 32 };
 
-    ghost HEADER_CELLS = { 480 };
+    ghost header_cells = { 480 };
 
     ghost has_track = { λ r track. IsAmigaTrack track };
 
@@ -65,6 +64,10 @@ impl Layout for AmigaMfm {
     ghost hold = { λ r cells place bytes. Hold cells place bytes };
 
     ghost data_cells = { λ r. 8192 };
+
+    ghost header_end = { λ r cells. 480 };
+
+    ghost data_end = { λ r cells sync. sync + 8192 };
 
     ghost data_place = { λ r. 480 };
 
@@ -94,10 +97,6 @@ impl Layout for AmigaMfm {
         RING_CELLS
     }
 
-    fn data_cells(&self) -> usize {
-        CONTENT_CELLS
-    }
-
     fn lead_in(&self, _track: TrackId) -> &[Row] {
         &[]
     }
@@ -121,12 +120,20 @@ impl Layout for AmigaMfm {
         push_row(cells, row, track, sector, bytes)
     }
 
+    fn header_end(&self, frame: &CellsFrom) -> Option<usize> {
+        frame.end_within(HEADER_CELLS)
+    }
+
     fn read_header(&self, frame: &CellsFrom, track: TrackId) -> Option<u8> {
         named_sector(frame, track)
     }
 
     fn find_data(&self, _frame: &CellsFrom) -> Option<usize> {
         Some(HEADER_CELLS)
+    }
+
+    fn data_end(&self, frame: &CellsFrom, sync: usize) -> Option<usize> {
+        frame.end_within(sync + CONTENT_CELLS)
     }
 
     fn read_data(&self, frame: &CellsFrom, sync: usize, buffer: &mut SectorBuffer) -> bool {
@@ -156,6 +163,11 @@ impl Layout for AmigaMfm {
 
     ghost frame_stands = { λ r track s bytes before rest known number fit long.
         frame_stands track s bytes before rest known number fit long };
+
+    ghost frame_ends = { λ r track s bytes before rest known number fit long.
+        record { header_ends = refl; data_ends = refl } };
+
+    ghost tells_ends = { λ r. fixed_ends 480 8192 (lit≤ tt) };
 
     ghost tells = { λ r track. tells track };
 

@@ -28,7 +28,7 @@ pub(crate) fn push_row(
     ensures { AppendsSymbols cells.old cells.new (row_symbols track sector bytes.now row) result }
 {
     match row {
-        Row::Run(count, symbol) => push_run(cells, count, symbol),
+        Row::Run(count, symbol) => push_run(cells, u16::from(count), symbol),
         Row::Header => push_header(cells, info(track, sector)),
         Row::Content => push_content(cells, longs_in(bytes).as_slice()),
     }

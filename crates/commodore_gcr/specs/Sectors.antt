@@ -85,8 +85,8 @@ pub record Hold (cells : List Bool) (sync : ℕ) (bytes : List ℕ) : Type 0 whe
 
 -- a header and a sector stand, as on any track
 abbrev pub HeaderStands : TrackId → List Bool → ℕ → Type 0
-HeaderStands track cells sector = Header SYNC SYNC_CELLS HEADER_CELLS 0 (sectors_of track) (NamesSector track) cells sector
+HeaderStands track cells sector = Header SYNC SYNC_CELLS (λ some. HEADER_CELLS) 0 (sectors_of track) (NamesSector track) cells sector
 
 abbrev pub SectorStands : TrackId → List Bool → ℕ → List ℕ → Type 0
 SectorStands track cells sector bytes =
-    Sector (HeaderStands track cells sector) (DataStand HEADER_CELLS DATA_CELLS IsSync Hold cells bytes)
+    Sector (HeaderStands track cells sector) (DataStand (λ some. HEADER_CELLS) (λ some sync. sync + DATA_CELLS) IsSync Hold cells bytes)

@@ -1,4 +1,6 @@
 ghost use Rattle.std.specs.Prelude.{◌≡◌, ℕ, ◌+◌, false, refl};
+ghost use Rattle.std.proofs.Common.{lit≤};
+ghost use Rattle.frame_law.specs.lemmas.OwnFrames.{fixed_ends};
 ghost use Rattle.commodore_gcr.specs.lemmas.FrameLaws.{frame_stands};
 ghost use Rattle.commodore_gcr.specs.Layout.{ring_cells_of, row_cells, row_size, rows};
 ghost use Rattle.commodore_gcr.specs.lemmas.OwnLaws.{one_content, one_name, sizes, tells, within_reach};
@@ -43,8 +45,6 @@ impl Layout for CommodoreGcr {
 
     const SYNC_CELLS: u8 = SYNC_CELLS;
 
-    const HEADER_CELLS: usize = HEADER_CELLS;
-
     ghost SHORTEST = { 1 };
 
     ghost LONGEST = { 3 };
@@ -53,7 +53,7 @@ impl Layout for CommodoreGcr {
 
     ghost SYNC_CELLS = { 11 };
 
-    ghost HEADER_CELLS = { 70 };
+    ghost header_cells = { 70 };
 
     ghost has_track = { λ r track. IsCommodoreTrack track };
 
@@ -72,6 +72,10 @@ impl Layout for CommodoreGcr {
     ghost hold = { λ r cells sync bytes. Hold cells sync bytes };
 
     ghost data_cells = { λ r. 2590 };
+
+    ghost header_end = { λ r cells. 70 };
+
+    ghost data_end = { λ r cells sync. sync + 2590 };
 
     ghost data_place = { λ r. 192 };
 
@@ -101,10 +105,6 @@ impl Layout for CommodoreGcr {
         zone_of(track).ring_cells
     }
 
-    fn data_cells(&self) -> usize {
-        DATA_CELLS
-    }
-
     fn lead_in(&self, _track: TrackId) -> &[Row] {
         &LEAD_IN
     }
@@ -128,12 +128,20 @@ impl Layout for CommodoreGcr {
         push_row(cells, row, *self, track, sector, bytes)
     }
 
+    fn header_end(&self, frame: &CellsFrom) -> Option<usize> {
+        frame.end_within(HEADER_CELLS)
+    }
+
     fn read_header(&self, frame: &CellsFrom, track: TrackId) -> Option<u8> {
         named_sector(frame, track)
     }
 
     fn find_data(&self, frame: &CellsFrom) -> Option<usize> {
         first_sync(frame)
+    }
+
+    fn data_end(&self, frame: &CellsFrom, sync: usize) -> Option<usize> {
+        frame.end_within(sync + DATA_CELLS)
     }
 
     fn read_data(&self, frame: &CellsFrom, sync: usize, buffer: &mut SectorBuffer) -> bool {
@@ -162,6 +170,11 @@ impl Layout for CommodoreGcr {
 
     ghost frame_stands = { λ r track s bytes before rest known number fit long.
         frame_stands r track s bytes before rest known number fit long };
+
+    ghost frame_ends = { λ r track s bytes before rest known number fit long.
+        record { header_ends = refl; data_ends = refl } };
+
+    ghost tells_ends = { λ r. fixed_ends 70 2590 (lit≤ tt) };
 
     ghost tells = { λ r track. tells track };
 

@@ -1,7 +1,7 @@
 -- The recording of each format is one for the format.
 use Rattle.std.proofs.Common.{arith, rules}
 use Rattle.sector_images.specs.declared.format.Format.{Format}
-use Rattle.sector_images.specs.declared.format.Format.TheVariants.{Ibm3740, Ibm360, Ibm720, Ibm1440, Amiga, C1541, C1541Forty, AppleDo, ApplePo}
+use Rattle.sector_images.specs.declared.format.Format.TheVariants.{Ibm3740, Ibm360, Ibm720, Ibm1440, Amiga, C1541, C1541Forty, AppleDo, ApplePo, Ibm160, Ibm180, Ibm320, Ibm1200, AtariSt800, CpcData, CpcSystem, AcornDfs40, AcornDfs80, AppleDos33, AppleProdos}
 use Rattle.disk_recordings.specs.Agreement.{Agrees}
 use Rattle.disk_recordings.specs.Recordings.{recording_of}
 use Rattle.disk_recordings.specs.declared.disk_id.DiskId.{DiskId}
@@ -17,3 +17,14 @@ agrees C1541 id = search (rules, arith, cells_same, sectors_same)
 agrees C1541Forty id = search (rules, arith, cells_same, sectors_same)
 agrees AppleDo id = search (rules, arith)
 agrees ApplePo id = search (rules, arith)
+agrees Ibm160 id = search (rules, arith)
+agrees Ibm180 id = search (rules, arith)
+agrees Ibm320 id = search (rules, arith)
+agrees Ibm1200 id = search (rules, arith)
+agrees AtariSt800 id = search (rules, arith)
+agrees CpcData id = search (rules, arith)
+agrees CpcSystem id = search (rules, arith)
+agrees AcornDfs40 id = search (rules, arith)
+agrees AcornDfs80 id = search (rules, arith)
+agrees AppleDos33 id = search (rules, arith)
+agrees AppleProdos id = search (rules, arith)

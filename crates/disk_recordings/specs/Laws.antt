@@ -1,5 +1,5 @@
 -- What the laws of the recordings come to for the formats.
-use Rattle.std.specs.Prelude.{◌≡◌, ◌≤◌, ℕ, ◌+◌, List, length, drop}
+use Rattle.std.specs.Prelude.{◌≡◌, ◌≤◌, ℕ, ◌+◌, Bool, List, length, drop}
 use Rattle.cell_bits.specs.Broken.{Unbroken}
 use Rattle.flux_base.specs.declared.track.TrackId.{TrackId}
 use Rattle.frame_law.specs.Laws.{HasOnlyOwn, HasOnlyOwnBetweenZeros, ReadingsAreAll, ReadingsAreOne, SectorsAreTold, StandsAlone}
@@ -64,3 +64,8 @@ StretchesHaveOnlyOwn = (format : Format) (id : DiskId) (track : TrackId) (bytes 
     → HasOnlyOwn (header_at format track) (sector_at format track) (ring_at format id track bytes)
     (zone format track.cylinder).ring_cells (place_in_ring format track)
     (bytes_of (row format).first_sector (row format).sector_size bytes) (frame_cells format) from count
+
+-- what stands on the tracks of one format stands on those of another, with the same bytes
+pub record AreReadToo (format other : Format) : Type 0 where
+  pub headers : (track : TrackId) (cells : List Bool) (s : ℕ) → header_at format track cells s → header_at other track cells s
+  pub sectors : (track : TrackId) (cells : List Bool) (s : ℕ) (bytes : List ℕ) → sector_at format track cells s bytes → sector_at other track cells s bytes

@@ -1,8 +1,10 @@
 //! What the laws of the recordings come to for the formats: for all tracks, ids, bytes and cells.
 
-ghost use Rattle.disk_recordings.specs.Laws.{FramesAreWhole, FramesHaveCells, OnlyOwnStand, RingsHaveCells, SectorsStand, StandAlone, StretchesHaveOnlyOwn, TracksAreRead};
+ghost use Rattle.sector_images.specs.declared.format.Format.TheVariants.{AppleDo, ApplePo, AppleDos33, AppleProdos};
+ghost use Rattle.disk_recordings.specs.Laws.{AreReadToo, FramesAreWhole, FramesHaveCells, OnlyOwnStand, RingsHaveCells, SectorsStand, StandAlone, StretchesHaveOnlyOwn, TracksAreRead};
 
 use crate::recordings::DiskRecording;
+use apple_gcr::rules_agree;
 use frame_law::{only_own, readings_are_all, rings_hold_sectors, sectors_are_told};
 
 /// The cells of a format's track tell what stands in them, and repeated searches find all of it, as one list.
@@ -31,4 +33,12 @@ pub fn tracks_have_only_own()
     ensures stretches { StretchesHaveOnlyOwn }
 {
     only_own::<DiskRecording>()
+}
+
+/// What stands on an Apple disk exactly to the cell stands there, with the same bytes, as Apple's controller reads it.
+pub fn apple_disks_are_read_too()
+    ensures dos { AreReadToo AppleDo AppleDos33 }
+    ensures prodos { AreReadToo ApplePo AppleProdos }
+{
+    rules_agree()
 }

@@ -8,5 +8,7 @@ mod meaning;
 mod recordings;
 
 pub use disk_id::DiskId;
-pub use laws::{tracks_are_read, tracks_have_only_own, tracks_have_rings};
+pub use laws::{
+    apple_disks_are_read_too, tracks_are_read, tracks_have_only_own, tracks_have_rings,
+};
 pub use recordings::{DiskRecording, has_id, recording_of};

@@ -26,15 +26,24 @@ pub fn recording_of(format: Format, id: DiskId) -> DiskRecording
     ensures agrees { Agrees format result }
 {
     match format {
-        Format::Ibm3740 => Left(IbmFm),
-        Format::Ibm360 | Format::Ibm720 => Right(Left(IbmMfm { sectors: 9 })),
-        Format::Ibm1440 => Right(Left(IbmMfm { sectors: 18 })),
+        Format::Ibm3740 => Left(IbmFm::Ibm3740),
+        Format::Ibm160 | Format::Ibm320 => Right(Left(IbmMfm::Pc8)),
+        Format::Ibm180 | Format::Ibm360 | Format::Ibm720 => Right(Left(IbmMfm::Pc9)),
+        Format::Ibm1200 => Right(Left(IbmMfm::Pc15)),
+        Format::Ibm1440 => Right(Left(IbmMfm::Pc18)),
+        Format::AtariSt800 => Right(Left(IbmMfm::Atari10)),
+        Format::CpcData => Right(Left(IbmMfm::CpcData)),
+        Format::CpcSystem => Right(Left(IbmMfm::CpcSystem)),
+        Format::AcornDfs40 | Format::AcornDfs80 => Left(IbmFm::Acorn),
         Format::Amiga => Right(Right(Left(AmigaMfm))),
         Format::C1541 | Format::C1541Forty => Right(Right(Right(Left(CommodoreGcr {
             id1: id.first,
             id2: id.second,
         })))),
-        Format::AppleDo | Format::ApplePo => Right(Right(Right(Right(AppleGcr)))),
+        Format::AppleDo | Format::ApplePo => Right(Right(Right(Right(AppleGcr::STRICT)))),
+        Format::AppleDos33 | Format::AppleProdos => {
+            Right(Right(Right(Right(AppleGcr::CONTROLLER))))
+        }
     }
 }
 

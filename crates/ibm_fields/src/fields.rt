@@ -1,4 +1,4 @@
-ghost use Rattle.std.specs.Prelude.{◌≡◌, ℕ, ◌+◌, ◌*◌, ◌^◌, ◌<◌, ◌≤◌, [], length};
+ghost use Rattle.std.specs.Prelude.{◌≡◌, ℕ, ◌+◌, ◌*◌, ◌^◌, ◌<◌, ◌≤◌, ◌++◌, [], length};
 ghost use Rattle.ibm_fields.specs.Fields.{bytes_at, number_at as number_of_bytes};
 
 use frame_law::{CellsFrom, SectorBuffer};
@@ -35,7 +35,24 @@ pub fn take_bytes(frame: &CellsFrom, offset: usize, count: u16, buffer: &mut Sec
     requires whole { offset + 16 * count ≤ length frame.now }
     ensures { buffer.new.items ≡ bytes_at frame.now offset count }
 {
-    for index in 0..count as usize {
+    let count = count as usize;
+    let fours = count / 4;
+    for four in 0..fours {
+        push_four(buffer, frame.bytes_at(offset + 64 * four));
+    }
+    for index in 4 * fours..count {
         buffer.push(frame.byte_at(offset + 16 * index));
     }
+}
+
+/// Appends four bytes.
+fn push_four(buffer: &mut SectorBuffer, bytes: [u8; 4])
+    requires { length buffer.old.items + 4 ≤ 512 }
+    ensures { buffer.new.items ≡ buffer.old.items ++ bytes }
+{
+    let [first, second, third, fourth] = bytes;
+    buffer.push(first);
+    buffer.push(second);
+    buffer.push(third);
+    buffer.push(fourth);
 }

@@ -1,3 +1,4 @@
+pub mod Disks
 pub mod Layout
 pub mod Sectors
 pub mod lemmas

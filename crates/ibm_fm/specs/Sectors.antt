@@ -1,28 +1,10 @@
--- The sectors of the IBM 3740 diskette, single density (FM): what a header names and what data hold. A byte takes 16 cells. Clock cells are looked at in marks alone.
-use Rattle.std.specs.Prelude.{◌≡◌, ℕ, ◌+◌, ◌<◌, Bool, List, ◌∷◌, ◌⊎◌}
+-- The sectors of single density (IBM 3740, FM): what a header names and what data hold. A byte takes 16 cells. Clock cells are looked at in marks alone.
+use Rattle.std.specs.Prelude.{◌≡◌, ℕ, ◌+◌, ◌*◌, Bool, List, ◌∷◌, ◌⊎◌}
 use Rattle.flux_base.specs.declared.track.TrackId.{TrackId}
 use Rattle.cell_bits.specs.Bytes.{data_byte}
 use Rattle.cell_bits.specs.Word.{Stands}
 use Rattle.check_values.specs.Crc.{crc}
-use Rattle.frame_law.specs.Frames.{DataStand, HeaderStands as Header, SectorStands as Sector}
 use Rattle.ibm_fields.specs.Fields.{CHECK_START, ID_BYTE, address, bytes_at, number_at}
-
--- the tracks: 77 cylinders of one side
-pub record IsFmTrack (track : TrackId) : Type 0 where
-  pub cylinder : track.cylinder < 77
-  pub head : track.head ≡ 0
-
--- the sectors of a track
-abbrev pub SECTORS : ℕ
-SECTORS = 26
-
--- the bytes of a sector
-abbrev pub SECTOR_SIZE : ℕ
-SECTOR_SIZE = 128
-
--- the code of that length in an address
-abbrev pub SIZE_CODE : ℕ
-SIZE_CODE = 0
 
 -- the address marks by their cells: the ID mark is the byte FE, the data mark FB and the deleted data mark F8, with clock
 -- C7, and the index mark FC with clock D7
@@ -45,9 +27,9 @@ MarkAt cells mark place = Stands cells mark 16 place
 abbrev pub check_of : ℕ → List ℕ → ℕ
 check_of mark bytes = crc CHECK_START (mark ∷ bytes)
 
--- the address of a sector
-abbrev pub address_of : TrackId → ℕ → List ℕ
-address_of track sector = address track sector SIZE_CODE
+-- the address of a sector, with the code of its length
+abbrev pub address_of : ℕ → TrackId → ℕ → List ℕ
+address_of size_code track sector = address track sector size_code
 
 -- the cells of a header: mark, address, check value
 abbrev pub HEADER_CELLS : ℕ
@@ -61,9 +43,9 @@ abbrev pub ADDRESS_CHECK_PLACE : ℕ
 ADDRESS_CHECK_PLACE = 80
 
 -- a header names a sector: the address of this sector of this track, and the address's check value
-pub record NamesSector (track : TrackId) (cells : List Bool) (sector : ℕ) : Type 0 where
-  pub address : bytes_at cells ADDRESS_PLACE 4 ≡ address_of track sector
-  pub check : number_at cells ADDRESS_CHECK_PLACE ≡ check_of ID_BYTE (address_of track sector)
+pub record NamesSector (size_code : ℕ) (track : TrackId) (cells : List Bool) (sector : ℕ) : Type 0 where
+  pub address : bytes_at cells ADDRESS_PLACE 4 ≡ address_of size_code track sector
+  pub check : number_at cells ADDRESS_CHECK_PLACE ≡ check_of ID_BYTE (address_of size_code track sector)
 
 -- the marks that open data: the data mark and the deleted data mark
 abbrev pub DataMarkAt : List Bool → ℕ → Type 0
@@ -77,27 +59,19 @@ OtherMarkAt cells place = MarkAt cells ID_MARK place ⊎ MarkAt cells INDEX_MARK
 abbrev pub IsSync : List Bool → ℕ → Type 0
 IsSync cells place = DataMarkAt cells place ⊎ OtherMarkAt cells place
 
--- the cells of the data: mark, bytes, check value
-abbrev pub DATA_CELLS : ℕ
-DATA_CELLS = 2096
+-- the cells of the data: mark, so many bytes, check value
+abbrev pub DATA_CELLS : ℕ → ℕ
+DATA_CELLS size = 16 * (size + 3)
 
 -- where the bytes and their check value begin, in cells from the data's mark
 abbrev pub CONTENT_PLACE : ℕ
 CONTENT_PLACE = 16
 
-abbrev pub CONTENT_CHECK_PLACE : ℕ
-CONTENT_CHECK_PLACE = 2064
+abbrev pub CONTENT_CHECK_PLACE : ℕ → ℕ
+CONTENT_CHECK_PLACE size = 16 * (size + 1)
 
--- data hold bytes: a mark that opens them, the bytes, and the check value of the mark's byte and of them
-pub record Hold (cells : List Bool) (sync : ℕ) (bytes : List ℕ) : Type 0 where
+-- data hold so many bytes: a mark that opens them, the bytes, and the check value of the mark's byte and of them
+pub record Hold (size : ℕ) (cells : List Bool) (sync : ℕ) (bytes : List ℕ) : Type 0 where
   pub opens : DataMarkAt cells sync
-  pub content : bytes_at cells (sync + CONTENT_PLACE) SECTOR_SIZE ≡ bytes
-  pub check : number_at cells (sync + CONTENT_CHECK_PLACE) ≡ check_of (data_byte cells sync) bytes
-
--- a header and a sector stand, as on any track
-abbrev pub HeaderStands : TrackId → List Bool → ℕ → Type 0
-HeaderStands track cells sector = Header ID_MARK 16 HEADER_CELLS 1 SECTORS (NamesSector track) cells sector
-
-abbrev pub SectorStands : TrackId → List Bool → ℕ → List ℕ → Type 0
-SectorStands track cells sector bytes =
-    Sector (HeaderStands track cells sector) (DataStand HEADER_CELLS DATA_CELLS IsSync Hold cells bytes)
+  pub content : bytes_at cells (sync + CONTENT_PLACE) size ≡ bytes
+  pub check : number_at cells (sync + CONTENT_CHECK_PLACE size) ≡ check_of (data_byte cells sync) bytes

@@ -1,9 +1,9 @@
 ghost use Rattle.std.specs.Prelude.{◌≡◌, ℕ, ◌+◌, ◌^◌, ◌<◌, ◌≤◌, [], List, false, length, IfNone, IfSome, IsTrue, ◌↔◌};
 ghost use Rattle.cell_bits.specs.Search.{StandsNowhere};
 ghost use Rattle.frame_law.specs.Frames.{IsDataSync};
-ghost use Rattle.ibm_fm.specs.Sectors.{DataMarkAt, Hold, IsSync, MarkAt};
+ghost use Rattle.ibm_fm.specs.Sectors.{DATA_CELLS, DataMarkAt, Hold, IsSync, MarkAt};
 
-use crate::layout::{CONTENT_CHECK_PLACE, CONTENT_PLACE, HEADER_CELLS, MARK_CELLS, SECTOR_SIZE};
+use crate::layout::{CONTENT_PLACE, HEADER_CELLS, MARK_CELLS, content_check_place};
 use crate::rows::field_check;
 use cell_bits::{FM_DATA_MARK, FM_DELETED_DATA_MARK, FM_ID_MARK, FM_INDEX_MARK};
 use frame_law::{CellsFrom, SectorBuffer};
@@ -39,20 +39,27 @@ fn first_mark(frame: &CellsFrom, end: usize, mark: u32) -> usize
         .unwrap_or(end)
 }
 
-/// Whether the mark at the place opens data, and they hold bytes. Then the buffer, which was empty, has them.
-pub(crate) fn read_field(frame: &CellsFrom, sync: usize, buffer: &mut SectorBuffer) -> bool
+/// Whether the mark at the place opens data, and they hold so many bytes. Then the buffer, which was empty, has them.
+pub(crate) fn read_field(
+    frame: &CellsFrom,
+    sync: usize,
+    size: u16,
+    buffer: &mut SectorBuffer,
+) -> bool
     requires near { sync < 2 ^ 31 }
-    requires whole { sync + 2096 ≤ length frame.now }
+    requires most { size ≤ 512 }
+    requires whole { sync + DATA_CELLS size ≤ length frame.now }
     requires empty { buffer.old.items ≡ [] }
-    ensures good { IsTrue result → Hold frame.now sync buffer.new.items }
-    ensures bad { result ≡ false → (bytes : List ℕ) → ¬ Hold frame.now sync bytes }
+    ensures good { IsTrue result → Hold size frame.now sync buffer.new.items }
+    ensures bad { result ≡ false → (bytes : List ℕ) → ¬ Hold size frame.now sync bytes }
 {
     if !opens_data(frame, sync) {
         return false;
     }
     let mark = frame.byte_at(sync);
-    take_bytes(frame, sync + CONTENT_PLACE, SECTOR_SIZE, buffer);
-    field_check(mark, buffer.as_slice()) == number_at(frame, sync + CONTENT_CHECK_PLACE)
+    take_bytes(frame, sync + CONTENT_PLACE, size, buffer);
+    let check = number_at(frame, sync + content_check_place(size));
+    field_check(mark, buffer.as_slice()) == check
 }
 
 /// Whether a mark that opens data stands at the place.

@@ -1,7 +1,54 @@
-ghost use Rattle.std.specs.Prelude.{◌≡◌};
+ghost use Rattle.std.specs.Prelude.{◌≡◌, ◌*◌, ◌+◌};
+ghost use Rattle.ibm_fm.specs.Disks.{disk_of as numbers_of};
 ghost use Rattle.ibm_fm.specs.Layout.{word_of};
 
+use crate::recording::IbmFm;
 use cell_bits::{FM_DATA_MARK, FM_ID_MARK, FM_INDEX_MARK};
+
+/// What the tracks of a disk have of their own.
+#[derive(Clone, Copy)]
+pub(crate) struct Disk {
+    /// How many sectors a track has.
+    pub(crate) sectors: u8,
+    /// The number of the first of them.
+    pub(crate) first_sector: u8,
+    /// The bytes of a sector.
+    pub(crate) sector_size: u16,
+    /// The code of that size in a header.
+    pub(crate) size_code: u8,
+    /// The bytes of the gap after each sector.
+    pub(crate) sector_gap: u8,
+    /// The bytes of the gap after the last sector, which fills the track.
+    pub(crate) track_gap: u8,
+    /// The cells of a track, 16 a byte.
+    pub(crate) cells: u32,
+}
+
+/// The numbers of a disk.
+pub(crate) fn disk_of(recording: IbmFm) -> Disk
+    ensures { result ≡ numbers_of recording }
+{
+    match recording {
+        IbmFm::Ibm3740 => Disk {
+            sectors: 26,
+            first_sector: 1,
+            sector_size: 128,
+            size_code: 0,
+            sector_gap: 27,
+            track_gap: 247,
+            cells: 83328,
+        },
+        IbmFm::Acorn => Disk {
+            sectors: 10,
+            first_sector: 0,
+            sector_size: 256,
+            size_code: 1,
+            sector_gap: 21,
+            track_gap: 9,
+            cells: 50000,
+        },
+    }
+}
 
 /// A row of a track.
 #[derive(Clone, Copy)]
@@ -13,6 +60,10 @@ pub enum Row {
     Address,
     /// A sector's bytes and their check value.
     Content,
+    /// The gap after a sector, as long as the disk has it.
+    SectorGap,
+    /// The gap after the last sector, as long as the disk has it.
+    TrackGap,
 }
 
 /// An address mark that is written.
@@ -36,42 +87,34 @@ impl Mark {
     }
 }
 
-/// Before the first sector: a gap with the index mark.
+/// The byte of the gaps.
+pub(crate) const GAP: u8 = 0xFF;
+
+/// Before the first sector of the 3740: a gap with the index mark.
 pub(crate) const LEAD_IN: [Row; 4] = [
-    Row::Run(40, 0xFF),
+    Row::Run(40, GAP),
     Row::Run(6, 0x00),
     Row::Mark(Mark::Index),
-    Row::Run(26, 0xFF),
+    Row::Run(26, GAP),
 ];
+
+/// Before Acorn's first sector: a gap alone.
+pub(crate) const ACORN_LEAD_IN: [Row; 1] = [Row::Run(16, GAP)];
 
 /// A sector: header, gap, data, gap.
 pub(crate) const SECTOR: [Row; 8] = [
     Row::Run(6, 0x00),
     Row::Mark(Mark::Id),
     Row::Address,
-    Row::Run(11, 0xFF),
+    Row::Run(11, GAP),
     Row::Run(6, 0x00),
     Row::Mark(Mark::Data),
     Row::Content,
-    Row::Run(27, 0xFF),
+    Row::SectorGap,
 ];
 
-/// After the last sector: the gap that fills the track up to 5208 bytes.
-pub(crate) const LEAD_OUT: [Row; 1] = [Row::Run(247, 0xFF)];
-
-pub(crate) const FIRST_SECTOR: u8 = 1;
-
-/// The sectors of a track.
-pub(crate) const SECTORS: u8 = 26;
-
-/// The bytes of a sector.
-pub(crate) const SECTOR_SIZE: u16 = 128;
-
-/// The code of that size in a header.
-pub(crate) const SIZE_CODE: u8 = 0;
-
-/// The cells of a track: 5208 bytes of 16 cells.
-pub(crate) const RING_CELLS: u32 = 83328;
+/// After the last sector: a gap.
+pub(crate) const LEAD_OUT: [Row; 1] = [Row::TrackGap];
 
 /// A mark is a word of so many cells.
 pub(crate) const MARK_CELLS: u8 = 16;
@@ -84,10 +127,19 @@ pub(crate) const ADDRESS_PLACE: usize = 16;
 
 pub(crate) const ADDRESS_CHECK_PLACE: usize = 80;
 
-/// The data mark, 128 bytes and their check value.
-pub(crate) const DATA_CELLS: usize = 2096;
+/// The cells of data: their mark, so many bytes and their check value.
+pub(crate) fn data_cells(size: u16) -> usize
+    ensures { result ≡ 16 * (size + 3) }
+{
+    16 * (usize::from(size) + 3)
+}
 
-/// Where the bytes and their check value begin, in cells from the data's mark.
+/// Where the bytes begin, in cells from the data's mark.
 pub(crate) const CONTENT_PLACE: usize = 16;
 
-pub(crate) const CONTENT_CHECK_PLACE: usize = 2064;
+/// Where the check value of so many bytes begins, in cells from the data's mark.
+pub(crate) fn content_check_place(size: u16) -> usize
+    ensures { result ≡ 16 * (size + 1) }
+{
+    16 * (usize::from(size) + 1)
+}

@@ -1,28 +1,36 @@
 ghost use Rattle.std.specs.Prelude.{◌≡◌, ℕ, ◌+◌, false, refl};
 ghost use Rattle.std.proofs.Common.{lit≤, sym, ◌∙◌};
+ghost use Rattle.frame_law.specs.lemmas.OwnFrames.{fixed_ends};
 ghost use Rattle.ibm_fm.specs.lemmas.FrameLaws.{frame_stands};
-ghost use Rattle.ibm_fm.specs.Layout.{row_cells, row_size, rows};
-ghost use Rattle.ibm_fm.specs.lemmas.OwnLaws.{tells};
+ghost use Rattle.ibm_fm.specs.Disks.{IsFmTrack, disk_of as numbers_of, rows_of};
+ghost use Rattle.ibm_fm.specs.lemmas.DiskLaws.{counts, sums, within_reach};
+ghost use Rattle.ibm_fm.specs.Layout.{row_cells, row_size};
+ghost use Rattle.ibm_fm.specs.lemmas.OwnLaws.{data_long, tells};
 ghost use Rattle.ibm_fm.specs.lemmas.RowLaws.{row_follows, row_length};
-ghost use Rattle.ibm_fm.specs.Sectors.{Hold, IsSync, IsFmTrack, NamesSector};
-ghost use Rattle.ibm_fm.specs.lemmas.StandLaws.{bytes_held, one_name, sizes, sums, within_reach};
+ghost use Rattle.ibm_fm.specs.Sectors.{DATA_CELLS, Hold, IsSync, NamesSector};
+ghost use Rattle.ibm_fm.specs.lemmas.StandLaws.{bytes_held, one_name, sizes};
 ghost use Rattle.ibm_fm.specs.lemmas.Syncs.{own_syncs};
 
 use crate::data_field::{first_sync, read_field};
 use crate::header::named_sector;
 use crate::layout::{
-    DATA_CELLS, FIRST_SECTOR, HEADER_CELLS, LEAD_IN, LEAD_OUT, MARK_CELLS, RING_CELLS, Row, SECTOR,
-    SECTOR_SIZE, SECTORS,
+    ACORN_LEAD_IN, HEADER_CELLS, LEAD_IN, LEAD_OUT, MARK_CELLS, Row, SECTOR, data_cells, disk_of,
 };
 use crate::rows::push_row;
 use cell_bits::{Cells, FM_ID_MARK};
 use flux_base::{Memory, TrackId};
 use frame_law::{CellsFrom, Layout, SectorBuffer};
 
-/// The single density recording of the IBM 3740 diskette. Its tracks are the cylinders 0 to 76 with head 0, its
-/// sectors are numbered 1 to 26.
+/// The single density recording of the IBM 3740 diskette, with its numbers or with those of another disk that has
+/// it.
 #[derive(Clone, Copy, Debug, PartialEq, Eq)]
-pub struct IbmFm;
+pub enum IbmFm {
+    /// The IBM 3740 diskette: the cylinders 0 to 76 with head 0, and sectors 1 to 26 of 128 bytes.
+    Ibm3740,
+    /// Acorn's disk (DFS): the cylinders 0 to 79 with head 0, and sectors 0 to 9 of 256 bytes, without an index
+    /// mark.
+    Acorn,
+}
 
 impl Layout for IbmFm {
     type Row = Row;
@@ -35,8 +43,6 @@ impl Layout for IbmFm {
 
     const SYNC_CELLS: u8 = MARK_CELLS;
 
-    const HEADER_CELLS: usize = HEADER_CELLS;
-
     ghost SHORTEST = { 1 };
 
     ghost LONGEST = { 2 };
@@ -45,60 +51,63 @@ impl Layout for IbmFm {
 
     ghost SYNC_CELLS = { 16 };
 
-    ghost HEADER_CELLS = { 112 };
+    ghost header_cells = { 112 };
 
-    ghost has_track = { λ r track. IsFmTrack track };
+    ghost has_track = { λ r track. IsFmTrack r track };
 
-    ghost lowest_sector = { λ r. 1 };
+    ghost lowest_sector = { λ r. (numbers_of r).first_sector };
 
-    ghost sector_count = { λ r track. 26 };
+    ghost sector_count = { λ r track. (numbers_of r).sectors };
 
-    ghost sector_bytes = { λ r. 128 };
+    ghost sector_bytes = { λ r. (numbers_of r).sector_size };
 
-    ghost track_cells = { λ r track. 83328 };
+    ghost track_cells = { λ r track. (numbers_of r).cells };
 
-    ghost names_sector = { λ r track cells s. NamesSector track cells s };
+    ghost names_sector = { λ r track cells s. NamesSector (numbers_of r).size_code track cells s };
 
     ghost is_sync = { λ r cells place. IsSync cells place };
 
-    ghost hold = { λ r cells sync bytes. Hold cells sync bytes };
+    ghost hold = { λ r cells sync bytes. Hold (numbers_of r).sector_size cells sync bytes };
 
-    ghost data_cells = { λ r. 2096 };
+    ghost data_cells = { λ r. DATA_CELLS (numbers_of r).sector_size };
+
+    ghost header_end = { λ r cells. 112 };
+
+    ghost data_end = { λ r cells sync. sync + DATA_CELLS (numbers_of r).sector_size };
 
     ghost data_place = { λ r. 384 };
 
-    ghost rows = { λ r track. rows };
+    ghost rows = { λ r track. rows_of r };
 
     ghost asks = { false };
 
-    ghost row_cells = { λ r track before s bytes row. row_cells track before s bytes row };
+    ghost row_cells = { λ r track before s bytes row. row_cells (numbers_of r) track before s bytes row };
 
-    ghost row_size = { λ r track count row. row_size count row };
+    ghost row_size = { λ r track count row. row_size (numbers_of r) count row };
 
     ghost last_zeros = { 1 };
 
     fn lowest_sector(&self) -> u8 {
-        FIRST_SECTOR
+        disk_of(*self).first_sector
     }
 
     fn sector_count(&self, _track: TrackId) -> u8 {
-        SECTORS
+        disk_of(*self).sectors
     }
 
     fn sector_bytes(&self) -> u16 {
-        SECTOR_SIZE
+        disk_of(*self).sector_size
     }
 
     fn track_cells(&self, _track: TrackId) -> u32 {
-        RING_CELLS
-    }
-
-    fn data_cells(&self) -> usize {
-        DATA_CELLS
+        disk_of(*self).cells
     }
 
     fn lead_in(&self, _track: TrackId) -> &[Row] {
-        &LEAD_IN
+        match self {
+            IbmFm::Ibm3740 => &LEAD_IN,
+            IbmFm::Acorn => &ACORN_LEAD_IN,
+        }
     }
 
     fn sector_rows(&self, _track: TrackId) -> &[Row] {
@@ -117,45 +126,58 @@ impl Layout for IbmFm {
         row: Row,
         cells: &mut Cells,
     ) -> Result<(), Memory> {
-        push_row(cells, row, track, sector, bytes)
+        push_row(cells, row, disk_of(*self), track, sector, bytes)
+    }
+
+    fn header_end(&self, frame: &CellsFrom) -> Option<usize> {
+        frame.end_within(HEADER_CELLS)
     }
 
     fn read_header(&self, frame: &CellsFrom, track: TrackId) -> Option<u8> {
-        named_sector(frame, track)
+        named_sector(frame, track, disk_of(*self).size_code)
     }
 
     fn find_data(&self, frame: &CellsFrom) -> Option<usize> {
         first_sync(frame)
     }
 
+    fn data_end(&self, frame: &CellsFrom, sync: usize) -> Option<usize> {
+        frame.end_within(sync + data_cells(disk_of(*self).sector_size))
+    }
+
     fn read_data(&self, frame: &CellsFrom, sync: usize, buffer: &mut SectorBuffer) -> bool {
-        read_field(frame, sync, buffer)
+        read_field(frame, sync, disk_of(*self).sector_size, buffer)
     }
 
     ghost sizes = { sizes };
 
-    ghost counts = { λ r track known. (lit≤ tt, lit≤ tt, lit≤ tt) };
+    ghost counts = { λ r track known. counts r };
 
-    ghost reach = { λ r. within_reach };
+    ghost reach = { λ r. within_reach r };
 
-    ghost sums = { λ r track known. (sums.0, sums.1, lit≤ tt) };
+    ghost sums = { λ r track known. sums r };
 
-    ghost row_length = { λ r track before s bytes row. row_length track before s bytes row };
+    ghost row_length = { λ r track before s bytes row. row_length (numbers_of r) track before s bytes row };
 
-    ghost row_follows = { λ r track s bytes row known content. row_follows track s bytes row };
+    ghost row_follows = { λ r track s bytes row known content. row_follows (numbers_of r) track s bytes row };
 
     ghost ends = { λ r track before known. refl };
 
-    ghost one_name = { λ r track cells s t first second. one_name track cells s t first second };
+    ghost one_name = { λ r track cells s t first second. one_name (numbers_of r).size_code track cells s t first second };
 
     ghost one_content = { λ r cells sync xs ys first second. sym first.content ∙ second.content };
 
-    ghost content_size = { λ r cells sync xs held. bytes_held cells sync xs held };
+    ghost content_size = { λ r cells sync xs held. bytes_held (numbers_of r).sector_size cells sync xs held };
 
     ghost frame_stands = { λ r track s bytes before rest known number fit long.
-        frame_stands track s bytes before rest known number fit long };
+        frame_stands r track s bytes before rest known number fit long };
 
-    ghost tells = { λ r track. tells track };
+    ghost frame_ends = { λ r track s bytes before rest known number fit long.
+        record { header_ends = refl; data_ends = refl } };
 
-    ghost own_syncs = { λ r track known. own_syncs track };
+    ghost tells_ends = { λ r. fixed_ends 112 (DATA_CELLS (numbers_of r).sector_size) (data_long (numbers_of r).sector_size) };
+
+    ghost tells = { λ r track. tells (numbers_of r).size_code (numbers_of r).sector_size track };
+
+    ghost own_syncs = { λ r track known. own_syncs r track };
 }

@@ -6,30 +6,33 @@ ghost use Rattle.ibm_fields.specs.Fields.{high_first};
 ghost use Rattle.ibm_fm.specs.Layout.{field_cells, fm_bytes, row_cells, word_of};
 ghost use Rattle.ibm_fm.specs.Sectors.{check_of};
 
-use crate::layout::{MARK_CELLS, Mark, Row, SIZE_CODE};
+use crate::layout::{Disk, GAP, MARK_CELLS, Mark, Row};
 use cell_bits::Cells;
 use check_values::crc16;
 use flux_base::{Memory, TrackId};
 use ibm_fields::{CHECK_START, DATA_BYTE, ID_BYTE};
 
-/// Appends a row for this sector with these bytes.
+/// Appends a row of the disk's track for this sector with these bytes.
 pub(crate) fn push_row(
     cells: &mut Cells,
     row: Row,
+    disk: Disk,
     track: TrackId,
     sector: u8,
     bytes: &[u8],
 ) -> Result<(), Memory>
-    ensures { AppendsCells cells.old cells.new (row_cells track false sector bytes.now row) result }
+    ensures { AppendsCells cells.old cells.new (row_cells disk track false sector bytes.now row) result }
 {
     match row {
         Row::Run(count, byte) => push_run(cells, count, byte),
         Row::Mark(mark) => push_mark(cells, mark),
         Row::Address => {
-            let address = [track.cylinder, track.head, sector, SIZE_CODE];
+            let address = [track.cylinder, track.head, sector, disk.size_code];
             push_field(cells, ID_BYTE, &address)
         }
         Row::Content => push_field(cells, DATA_BYTE, bytes),
+        Row::SectorGap => push_run(cells, disk.sector_gap, GAP),
+        Row::TrackGap => push_run(cells, disk.track_gap, GAP),
     }
 }
 

@@ -3,6 +3,8 @@ use cell_bits::{Cells, FM_DATA_MARK, FM_DELETED_DATA_MARK, FM_ID_MARK, FM_INDEX_
 use check_values::{Crc16, crc16};
 use flux_base::{Memory, TrackId};
 use frame_law::{Reading, Recording, SectorBuffer, next_reading};
+use std::alloc::Global;
+use std::process::Abort;
 use std::test::Fail;
 
 const TRACK: TrackId = TrackId {
@@ -227,7 +229,7 @@ fn reads_frames_made_by_hand(rt: HostRuntime) -> Result<(), Fail> {
     for (name, frame, want) in rows {
         cells.clear();
         push_frame(&mut cells, &frame)?;
-        let reading = IbmFm.read_at(&cells, 0, TRACK, &mut buffer);
+        let reading = IbmFm::Ibm3740.read_at(&cells, 0, TRACK, &mut buffer);
         assert_eq!(rt; reading, want, "{name}");
         assert_eq!(rt; buffer.is_empty(), want != good, "{name}");
     }
@@ -242,9 +244,9 @@ fn reads_headers_without_their_data(rt: HostRuntime) -> Result<(), Fail> {
     let mut buffer = SectorBuffer::new();
 
     // The second header stands before the first one's data, which are its own.
-    let first = next_reading(&IbmFm, &whole, 0, TRACK, &mut buffer);
+    let first = next_reading(&IbmFm::Ibm3740, &whole, 0, TRACK, &mut buffer);
     assert_eq!(rt; first, Some((0, Reading::Bad { sector: 7 })));
-    let second = next_reading(&IbmFm, &whole, 1, TRACK, &mut buffer);
+    let second = next_reading(&IbmFm::Ibm3740, &whole, 1, TRACK, &mut buffer);
     assert_eq!(rt; second, Some((112, Reading::Good { sector: 8 })));
 
     // Without its last cell the frame is not whole.
@@ -252,7 +254,7 @@ fn reads_headers_without_their_data(rt: HostRuntime) -> Result<(), Fail> {
     for place in 1..whole.len() {
         cut.push_cell(whole.cell(place - 1))?;
     }
-    let second = next_reading(&IbmFm, &cut, 1, TRACK, &mut buffer);
+    let second = next_reading(&IbmFm::Ibm3740, &cut, 1, TRACK, &mut buffer);
     assert_eq!(rt; second, Some((112, Reading::Bad { sector: 8 })));
     Ok(())
 }
@@ -261,7 +263,7 @@ fn reads_headers_without_their_data(rt: HostRuntime) -> Result<(), Fail> {
 fn reads_two_joined_rings(rt: HostRuntime) -> Result<(), Fail> {
     let bytes = vec![in rt.alloc(); 0xF6u8; 3328]?;
     let mut ring = Cells::new(rt.alloc());
-    IbmFm.ring(TRACK, &bytes, &mut ring)?;
+    IbmFm::Ibm3740.ring(TRACK, &bytes, &mut ring)?;
     assert_eq!(rt; ring.len(), 83328);
 
     // The first header: FE 00 00 01 00 and the check value D2 C3.
@@ -288,43 +290,163 @@ fn reads_two_joined_rings(rt: HostRuntime) -> Result<(), Fail> {
         (159793, None),
     ];
     for (from, want) in rows {
-        let found = next_reading(&IbmFm, &cells, from, TRACK, &mut buffer);
+        let found = next_reading(&IbmFm::Ibm3740, &cells, from, TRACK, &mut buffer);
         assert_eq!(rt; found, want, "from {from}");
     }
     assert_eq!(rt; buffer.len(), 0);
     Ok(())
 }
 
+/// What the tracks of a disk have of their own.
+#[derive(Clone, Copy)]
+struct Numbers {
+    disk: IbmFm,
+    sectors: u8,
+    first: u8,
+    size: u16,
+    code: u8,
+    /// The cells of a ring, where its first header begins, and how many lie between neighbouring headers.
+    cells: usize,
+    place: usize,
+    step: usize,
+    /// The check value of the first header of cylinder 0.
+    check: u16,
+}
+
+/// A gap of 40 bytes, six of 00, the index mark, a gap of 26 and six of 00 stand before the first header.
+const IBM_3740: Numbers = Numbers {
+    disk: IbmFm::Ibm3740,
+    sectors: 26,
+    first: 1,
+    size: 128,
+    code: 0,
+    cells: 83328,
+    place: 1264,
+    step: 3008,
+    check: 0xD2C3,
+};
+
+/// A gap of 16 bytes and six of 00 stand before the first header.
+const ACORN: Numbers = Numbers {
+    disk: IbmFm::Acorn,
+    sectors: 10,
+    first: 0,
+    size: 256,
+    code: 1,
+    cells: 50000,
+    place: 352,
+    step: 4960,
+    check: 0xF1D3,
+};
+
+/// Bytes as by chance: the high ones of numbers that follow from one another.
+fn bytes_by_chance(alloc: Global, count: usize) -> Result<Vec<u8>, Fail> {
+    let mut bytes = Vec::new(alloc);
+    let mut number = 1u32;
+    for _ in 0..count {
+        number = number.wrapping_mul(1_103_515_245).wrapping_add(12345);
+        bytes.push((number >> 24) as u8)?;
+    }
+    Ok(bytes)
+}
+
+/// The ring of the first track has the disk's cells and its first header where and as it is to be, and all its
+/// sectors come back.
+fn reads_track_back(rt: &impl Abort, alloc: Global, numbers: &Numbers) -> Result<(), Fail> {
+    let size = usize::from(numbers.size);
+    let bytes = bytes_by_chance(alloc, usize::from(numbers.sectors) * size)?;
+    assert!(rt;
+        bytes.len()
+            == usize::from(numbers.disk.sectors(TRACK)) * usize::from(numbers.disk.sector_size())
+    );
+    let mut ring = Cells::new(alloc);
+    numbers.disk.ring(TRACK, &bytes, &mut ring)?;
+    assert_eq!(rt; ring.len(), numbers.cells);
+    assert!(rt; ring.len() >= 50000);
+    assert!(rt; numbers.place < 1300);
+
+    let check = [(numbers.check >> 8) as u8, (numbers.check % 256) as u8];
+    let header = [
+        0xFE,
+        0x00,
+        0x00,
+        numbers.first,
+        numbers.code,
+        check[0],
+        check[1],
+    ];
+    for (index, byte) in header.iter().enumerate() {
+        let place = numbers.place + 16 * index;
+        assert_eq!(rt; ring.data_byte_at(place), *byte, "byte {index}");
+    }
+
+    let mut buffer = SectorBuffer::new();
+    let mut from = 0;
+    let mut place = numbers.place;
+    for index in 0..numbers.sectors {
+        let sector = numbers.first.wrapping_add(index);
+        let found = next_reading(&numbers.disk, &ring, from, TRACK, &mut buffer);
+        assert_eq!(rt; found, Some((place, Reading::Good { sector })));
+        let at = usize::from(index) * size;
+        assert!(rt;
+            bytes.get(at..at + size) == Some(buffer.as_slice()),
+            "sector {sector}"
+        );
+        from = place.wrapping_add(1);
+        place = place.wrapping_add(numbers.step);
+    }
+    let last = next_reading(&numbers.disk, &ring, from, TRACK, &mut buffer);
+    assert_eq!(rt; last, None);
+    Ok(())
+}
+
 #[test]
-fn reads_each_sector_back(rt: HostRuntime) -> Result<(), Fail> {
+fn reads_each_disk_s_sectors_back(rt: HostRuntime) -> Result<(), Fail> {
+    reads_track_back(&rt, rt.alloc(), &IBM_3740)?;
+    reads_track_back(&rt, rt.alloc(), &ACORN)
+}
+
+#[test]
+fn acorn_s_headers_have_their_own_numbers(rt: HostRuntime) -> Result<(), Fail> {
+    // A header without its data is bad.
+    let rows = [
+        (0, 1, Reading::Bad { sector: 0 }),
+        (9, 1, Reading::Bad { sector: 9 }),
+        (10, 1, Reading::Nothing),
+        (9, 0, Reading::Nothing),
+        (9, 2, Reading::Nothing),
+    ];
+    let mut cells = Cells::new(rt.alloc());
+    let mut buffer = SectorBuffer::new();
+    for (sector, size, want) in rows {
+        cells.clear();
+        push_header(
+            &mut cells,
+            &Frame {
+                sector,
+                size,
+                ..PLAIN
+            },
+        )?;
+        let reading = IbmFm::Acorn.read_at(&cells, 0, TRACK, &mut buffer);
+        assert_eq!(rt; reading, want, "sector {sector} of size {size}");
+    }
+    Ok(())
+}
+
+#[test]
+fn reads_no_headers_of_another_track(rt: HostRuntime) -> Result<(), Fail> {
     let track = TrackId {
         cylinder: 76,
         head: 0,
     };
-    let mut bytes = Vec::new(rt.alloc());
-    for index in 0..3328u16 {
-        bytes.push((index % 251) as u8)?;
-    }
-    assert_eq!(rt; bytes.len(), 3328);
+    let bytes = vec![in rt.alloc(); 0xF6u8; 3328]?;
     let mut ring = Cells::new(rt.alloc());
-    IbmFm.ring(track, &bytes, &mut ring)?;
+    IbmFm::Ibm3740.ring(track, &bytes, &mut ring)?;
     let mut buffer = SectorBuffer::new();
-    let mut from = 0;
-    for sector in 1..27u8 {
-        match next_reading(&IbmFm, &ring, from, track, &mut buffer) {
-            Some((place, reading)) => {
-                assert_eq!(rt; reading, Reading::Good { sector }, "at {place}");
-                assert_eq!(rt; place, 1264 + 3008 * (sector as usize - 1));
-                for (index, byte) in buffer.iter().enumerate() {
-                    let want = ((sector as usize - 1) * 128 + index) % 251;
-                    assert_eq!(rt; *byte as usize, want, "byte {index} of sector {sector}");
-                }
-                from = place + 1;
-            }
-            None => panic!(rt; "no sector {sector}"),
-        }
-    }
-    let other = next_reading(&IbmFm, &ring, 0, TRACK, &mut buffer);
-    assert_eq!(rt; other, None, "another track's headers");
+    let own = next_reading(&IbmFm::Ibm3740, &ring, 0, track, &mut buffer);
+    assert_eq!(rt; own, Some((1264, Reading::Good { sector: 1 })));
+    let other = next_reading(&IbmFm::Ibm3740, &ring, 0, TRACK, &mut buffer);
+    assert_eq!(rt; other, None);
     Ok(())
 }

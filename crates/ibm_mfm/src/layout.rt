@@ -1,6 +1,7 @@
 ghost use Rattle.std.specs.Prelude.{◌≡◌};
-ghost use Rattle.ibm_mfm.specs.Disks.{disk_of as disk_with};
+ghost use Rattle.ibm_mfm.specs.Disks.{disk_of as numbers_of};
 
+use crate::recording::IbmMfm;
 use mfm_coding::Symbol;
 
 /// What the tracks of a disk have of their own.
@@ -13,47 +14,66 @@ pub(crate) struct Disk {
     /// The bytes of the gap after each sector.
     pub(crate) sector_gap: u8,
     /// The bytes of the gap after the last sector, which fills the track.
-    pub(crate) track_gap: u8,
+    pub(crate) track_gap: u16,
     /// The cells of a track, 16 a byte.
     pub(crate) cells: u32,
 }
 
-/// The disks: those of 360 and 720 KB, with 6250 bytes a track, and those of 1440 KB, with 12500.
-const DISKS: [Disk; 2] = [
-    Disk {
-        sectors: 9,
-        first_sector: 1,
-        sector_gap: 80,
-        track_gap: 218,
-        cells: 100_000,
-    },
-    Disk {
-        sectors: 18,
-        first_sector: 1,
-        sector_gap: 108,
-        track_gap: 78,
-        cells: 200_000,
-    },
-];
-
-/// What stands for a disk where there is none: it has no tracks.
-const NO_DISK: Disk = Disk {
-    sectors: 0,
-    first_sector: 1,
-    sector_gap: 0,
-    track_gap: 0,
-    cells: 0,
-};
-
-/// The disk that has so many sectors a track.
-pub(crate) fn disk_of(sectors: u8) -> Disk
-    ensures { result ≡ disk_with sectors }
+/// The numbers of a disk.
+pub(crate) fn disk_of(recording: IbmMfm) -> Disk
+    ensures { result ≡ numbers_of recording }
 {
-    DISKS
-        .iter()
-        .find(|disk| disk.sectors == sectors)
-        .copied()
-        .unwrap_or(NO_DISK)
+    match recording {
+        IbmMfm::Pc8 => Disk {
+            sectors: 8,
+            first_sector: 1,
+            sector_gap: 80,
+            track_gap: 872,
+            cells: 100_000,
+        },
+        IbmMfm::Pc9 => Disk {
+            sectors: 9,
+            first_sector: 1,
+            sector_gap: 80,
+            track_gap: 218,
+            cells: 100_000,
+        },
+        IbmMfm::Pc15 => Disk {
+            sectors: 15,
+            first_sector: 1,
+            sector_gap: 84,
+            track_gap: 400,
+            cells: 166_656,
+        },
+        IbmMfm::Pc18 => Disk {
+            sectors: 18,
+            first_sector: 1,
+            sector_gap: 108,
+            track_gap: 78,
+            cells: 200_000,
+        },
+        IbmMfm::Atari10 => Disk {
+            sectors: 10,
+            first_sector: 1,
+            sector_gap: 30,
+            track_gap: 64,
+            cells: 100_000,
+        },
+        IbmMfm::CpcData => Disk {
+            sectors: 9,
+            first_sector: 0xC1,
+            sector_gap: 82,
+            track_gap: 200,
+            cells: 100_000,
+        },
+        IbmMfm::CpcSystem => Disk {
+            sectors: 9,
+            first_sector: 0x41,
+            sector_gap: 82,
+            track_gap: 200,
+            cells: 100_000,
+        },
+    }
 }
 
 /// A row of a track.

@@ -1,7 +1,8 @@
 ghost use Rattle.std.specs.Prelude.{◌≡◌, ℕ, ◌+◌, true, refl};
 ghost use Rattle.std.proofs.Common.{lit≤, sym, ◌∙◌};
+ghost use Rattle.frame_law.specs.lemmas.OwnFrames.{fixed_ends};
 ghost use Rattle.ibm_mfm.specs.lemmas.DiskLaws.{counts, ends, sums};
-ghost use Rattle.ibm_mfm.specs.Disks.{IsMfmTrack, disk_of as disk_with};
+ghost use Rattle.ibm_mfm.specs.Disks.{IsMfmTrack, disk_of as numbers_of};
 ghost use Rattle.ibm_mfm.specs.lemmas.FrameLaws.{frame_stands};
 ghost use Rattle.ibm_mfm.specs.lemmas.HeaderSyncs.{own_syncs};
 ghost use Rattle.ibm_mfm.specs.Layout.{row_cells, row_size, rows};
@@ -21,13 +22,25 @@ use cell_bits::Cells;
 use flux_base::{Memory, TrackId};
 use frame_law::{CellsFrom, Layout, SectorBuffer};
 
-/// The double density recording of the PC's disks, in the form of the IBM System 34. Its tracks are the
-/// cylinders 0 to 79 with the heads 0 and 1. There are two: with 9 sectors a track (360 and 720 KB), and with
-/// 18 (1440 KB); one with another number has no track. Sectors are numbered from 1.
+/// The double density recording of the PC's disks, in the form of the IBM System 34, with the numbers of one of
+/// the disks that have it. The tracks are the cylinders 0 to 79 with the heads 0 and 1. Sectors are numbered from
+/// 1, but for the CPC's.
 #[derive(Clone, Copy, Debug, PartialEq, Eq)]
-pub struct IbmMfm {
-    /// How many sectors a track has, 9 or 18.
-    pub sectors: u8,
+pub enum IbmMfm {
+    /// The PC's with 8 sectors a track (160 and 320 KB).
+    Pc8,
+    /// The PC's with 9 sectors a track (180, 360 and 720 KB), which the Atari ST and MSX have too.
+    Pc9,
+    /// The PC's with 15 sectors a track (1200 KB).
+    Pc15,
+    /// The PC's with 18 sectors a track (1440 KB).
+    Pc18,
+    /// The Atari ST's with 10 sectors a track (800 KB).
+    Atari10,
+    /// The Amstrad CPC's for data: 9 sectors a track, the first of which is C1 hexadecimal.
+    CpcData,
+    /// The Amstrad CPC's with a system: the same with 41 hexadecimal.
+    CpcSystem,
 }
 
 impl Layout for IbmMfm {
@@ -41,8 +54,6 @@ impl Layout for IbmMfm {
 
     const SYNC_CELLS: u8 = TWO_MARKS_CELLS;
 
-    const HEADER_CELLS: usize = HEADER_CELLS;
-
     ghost SHORTEST = { 2 };
 
     ghost LONGEST = { 4 };
@@ -51,17 +62,17 @@ impl Layout for IbmMfm {
 
     ghost SYNC_CELLS = { 32 };
 
-    ghost HEADER_CELLS = { 160 };
+    ghost header_cells = { 160 };
 
-    ghost has_track = { λ r track. IsMfmTrack r.sectors track };
+    ghost has_track = { λ r track. IsMfmTrack track };
 
-    ghost lowest_sector = { λ r. (disk_with r.sectors).first_sector };
+    ghost lowest_sector = { λ r. (numbers_of r).first_sector };
 
-    ghost sector_count = { λ r track. r.sectors };
+    ghost sector_count = { λ r track. (numbers_of r).sectors };
 
     ghost sector_bytes = { λ r. 512 };
 
-    ghost track_cells = { λ r track. (disk_with r.sectors).cells };
+    ghost track_cells = { λ r track. (numbers_of r).cells };
 
     ghost names_sector = { λ r track cells s. NamesSector track cells s };
 
@@ -71,24 +82,28 @@ impl Layout for IbmMfm {
 
     ghost data_cells = { λ r. 8288 };
 
+    ghost header_end = { λ r cells. 160 };
+
+    ghost data_end = { λ r cells sync. sync + 8288 };
+
     ghost data_place = { λ r. 704 };
 
     ghost rows = { λ r track. rows };
 
     ghost asks = { true };
 
-    ghost row_cells = { λ r track before s bytes row. row_cells (disk_with r.sectors) track before s bytes row };
+    ghost row_cells = { λ r track before s bytes row. row_cells (numbers_of r) track before s bytes row };
 
-    ghost row_size = { λ r track count row. row_size (disk_with r.sectors) count row };
+    ghost row_size = { λ r track count row. row_size (numbers_of r) count row };
 
     ghost last_zeros = { 2 };
 
     fn lowest_sector(&self) -> u8 {
-        disk_of(self.sectors).first_sector
+        disk_of(*self).first_sector
     }
 
     fn sector_count(&self, _track: TrackId) -> u8 {
-        self.sectors
+        disk_of(*self).sectors
     }
 
     fn sector_bytes(&self) -> u16 {
@@ -96,11 +111,7 @@ impl Layout for IbmMfm {
     }
 
     fn track_cells(&self, _track: TrackId) -> u32 {
-        disk_of(self.sectors).cells
-    }
-
-    fn data_cells(&self) -> usize {
-        DATA_CELLS
+        disk_of(*self).cells
     }
 
     fn lead_in(&self, _track: TrackId) -> &[Row] {
@@ -123,7 +134,11 @@ impl Layout for IbmMfm {
         row: Row,
         cells: &mut Cells,
     ) -> Result<(), Memory> {
-        push_row(cells, row, disk_of(self.sectors), track, sector, bytes)
+        push_row(cells, row, disk_of(*self), track, sector, bytes)
+    }
+
+    fn header_end(&self, frame: &CellsFrom) -> Option<usize> {
+        frame.end_within(HEADER_CELLS)
     }
 
     fn read_header(&self, frame: &CellsFrom, track: TrackId) -> Option<u8> {
@@ -134,23 +149,27 @@ impl Layout for IbmMfm {
         first_sync(frame)
     }
 
+    fn data_end(&self, frame: &CellsFrom, sync: usize) -> Option<usize> {
+        frame.end_within(sync + DATA_CELLS)
+    }
+
     fn read_data(&self, frame: &CellsFrom, sync: usize, buffer: &mut SectorBuffer) -> bool {
         read_field(frame, sync, buffer)
     }
 
     ghost sizes = { sizes };
 
-    ghost counts = { λ r track known. counts r.sectors known.disk };
+    ghost counts = { λ r track known. counts r };
 
     ghost reach = { λ r. within_reach };
 
-    ghost sums = { λ r track known. sums r.sectors known.disk };
+    ghost sums = { λ r track known. sums r };
 
-    ghost row_length = { λ r track before s bytes row. row_length (disk_with r.sectors) track before s bytes row };
+    ghost row_length = { λ r track before s bytes row. row_length (numbers_of r) track before s bytes row };
 
-    ghost row_follows = { λ r track s bytes row known content. row_follows (disk_with r.sectors) track s bytes row };
+    ghost row_follows = { λ r track s bytes row known content. row_follows (numbers_of r) track s bytes row };
 
-    ghost ends = { λ r track before known. ends r.sectors known.disk track before };
+    ghost ends = { λ r track before known. ends r track before };
 
     ghost one_name = { λ r track cells s t first second. one_name track cells s t first second };
 
@@ -159,9 +178,14 @@ impl Layout for IbmMfm {
     ghost content_size = { λ r cells sync xs held. bytes_held cells sync xs held };
 
     ghost frame_stands = { λ r track s bytes before rest known number fit long.
-        frame_stands r.sectors track s bytes before rest known number fit long };
+        frame_stands r track s bytes before rest known number fit long };
+
+    ghost frame_ends = { λ r track s bytes before rest known number fit long.
+        record { header_ends = refl; data_ends = refl } };
+
+    ghost tells_ends = { λ r. fixed_ends 160 8288 (lit≤ tt) };
 
     ghost tells = { λ r track. tells track };
 
-    ghost own_syncs = { λ r track known. own_syncs r.sectors track known };
+    ghost own_syncs = { λ r track known. own_syncs r track };
 }

@@ -24,13 +24,13 @@ pub(crate) fn push_row(
     ensures { AppendsSymbols cells.old cells.new (row_symbols disk track sector bytes.now row) result }
 {
     match row {
-        Row::Run(count, symbol) => push_run(cells, count, symbol),
+        Row::Run(count, symbol) => push_run(cells, u16::from(count), symbol),
         Row::Address => {
             let address = [track.cylinder, track.head, sector, SIZE_CODE];
             push_field(cells, ID_BYTE, &address)
         }
         Row::Content => push_field(cells, DATA_BYTE, bytes),
-        Row::SectorGap => push_run(cells, disk.sector_gap, GAP),
+        Row::SectorGap => push_run(cells, u16::from(disk.sector_gap), GAP),
         Row::TrackGap => push_run(cells, disk.track_gap, GAP),
     }
 }

@@ -3,9 +3,11 @@ use cell_bits::{Cells, MFM_A1_MARK, MFM_C2_MARK};
 use check_values::{Crc16, crc16};
 use flux_base::{Memory, TrackId};
 use frame_law::{Reading, Recording, SectorBuffer, next_reading};
+use std::alloc::Global;
+use std::process::Abort;
 use std::test::Fail;
 
-const DISK: IbmMfm = IbmMfm { sectors: 9 };
+const DISK: IbmMfm = IbmMfm::Pc9;
 
 const TRACK: TrackId = TrackId {
     cylinder: 0,
@@ -310,38 +312,186 @@ fn reads_two_joined_rings(rt: HostRuntime) -> Result<(), Fail> {
     Ok(())
 }
 
+/// What the tracks of a disk have of their own.
+#[derive(Clone, Copy)]
+struct Numbers {
+    disk: IbmMfm,
+    sectors: u8,
+    first: u8,
+    /// The cells of a ring, and how many lie between the beginnings of neighbouring headers.
+    cells: usize,
+    step: usize,
+    /// The check value of the first header of cylinder 0 and head 0.
+    check: u16,
+}
+
+const NUMBERS: [Numbers; 7] = [
+    Numbers {
+        disk: IbmMfm::Pc8,
+        sectors: 8,
+        first: 1,
+        cells: 100_000,
+        step: 10464,
+        check: 0xCA6F,
+    },
+    Numbers {
+        disk: IbmMfm::Pc9,
+        sectors: 9,
+        first: 1,
+        cells: 100_000,
+        step: 10464,
+        check: 0xCA6F,
+    },
+    Numbers {
+        disk: IbmMfm::Pc15,
+        sectors: 15,
+        first: 1,
+        cells: 166_656,
+        step: 10528,
+        check: 0xCA6F,
+    },
+    Numbers {
+        disk: IbmMfm::Pc18,
+        sectors: 18,
+        first: 1,
+        cells: 200_000,
+        step: 10912,
+        check: 0xCA6F,
+    },
+    Numbers {
+        disk: IbmMfm::Atari10,
+        sectors: 10,
+        first: 1,
+        cells: 100_000,
+        step: 9664,
+        check: 0xCA6F,
+    },
+    Numbers {
+        disk: IbmMfm::CpcData,
+        sectors: 9,
+        first: 0xC1,
+        cells: 100_000,
+        step: 10496,
+        check: 0xDC3B,
+    },
+    Numbers {
+        disk: IbmMfm::CpcSystem,
+        sectors: 9,
+        first: 0x41,
+        cells: 100_000,
+        step: 10496,
+        check: 0xC7A3,
+    },
+];
+
+/// Bytes as by chance: the high ones of numbers that follow from one another.
+fn bytes_by_chance(alloc: Global, count: usize) -> Result<Vec<u8>, Fail> {
+    let mut bytes = Vec::new(alloc);
+    let mut number = 1u32;
+    for _ in 0..count {
+        number = number.wrapping_mul(1_103_515_245).wrapping_add(12345);
+        bytes.push((number >> 24) as u8)?;
+    }
+    Ok(bytes)
+}
+
+/// The ring of the first track has the disk's cells and its first header where and as it is to be, and all its
+/// sectors come back.
+fn reads_track_back(rt: &impl Abort, alloc: Global, numbers: &Numbers) -> Result<(), Fail> {
+    let count = usize::from(numbers.sectors) * 512;
+    let bytes = bytes_by_chance(alloc, count)?;
+    assert!(rt; bytes.len() == count);
+    assert!(rt; numbers.disk.sectors(TRACK) == numbers.sectors);
+    let mut ring = Cells::new(alloc);
+    numbers.disk.ring(TRACK, &bytes, &mut ring)?;
+    assert_eq!(rt; ring.len(), numbers.cells);
+    assert!(rt; ring.len() >= 100_000);
+
+    // A gap of 80 bytes, twelve of 00, four of the index mark, a gap of 50 and twelve of 00 stand before the marks.
+    let check = [(numbers.check >> 8) as u8, (numbers.check % 256) as u8];
+    let header = [0xFE, 0x00, 0x00, numbers.first, 0x02, check[0], check[1]];
+    for (index, byte) in header.iter().enumerate() {
+        assert_eq!(rt; ring.data_byte_at(2576 + 16 * index), *byte, "byte {index}");
+    }
+
+    let mut buffer = SectorBuffer::new();
+    let mut from = 0;
+    let mut place = 2528usize;
+    for index in 0..numbers.sectors {
+        let sector = numbers.first.wrapping_add(index);
+        let found = next_reading(&numbers.disk, &ring, from, TRACK, &mut buffer);
+        assert_eq!(rt; found, Some((place, Reading::Good { sector })));
+        let at = usize::from(index) * 512;
+        assert!(rt;
+            bytes.get(at..at + 512) == Some(buffer.as_slice()),
+            "sector {sector}"
+        );
+        from = place.wrapping_add(1);
+        place = place.wrapping_add(numbers.step);
+    }
+    let last = next_reading(&numbers.disk, &ring, from, TRACK, &mut buffer);
+    assert_eq!(rt; last, None);
+    Ok(())
+}
+
 #[test]
-fn reads_each_of_18_sectors_back(rt: HostRuntime) -> Result<(), Fail> {
-    let disk = IbmMfm { sectors: 18 };
+fn reads_each_disk_s_sectors_back(rt: HostRuntime) -> Result<(), Fail> {
+    for numbers in &NUMBERS {
+        reads_track_back(&rt, rt.alloc(), numbers)?;
+    }
+    Ok(())
+}
+
+#[test]
+fn reads_no_sectors_of_other_disks(rt: HostRuntime) -> Result<(), Fail> {
+    let mut cells = Cells::new(rt.alloc());
+    let mut buffer = SectorBuffer::new();
+    for numbers in &NUMBERS {
+        let last = numbers.first.wrapping_add(numbers.sectors - 1);
+        let rows = [
+            (
+                numbers.first,
+                2,
+                Reading::Good {
+                    sector: numbers.first,
+                },
+            ),
+            (last, 2, Reading::Good { sector: last }),
+            (last, 1, Reading::Nothing),
+            (last, 3, Reading::Nothing),
+            (numbers.first.wrapping_sub(1), 2, Reading::Nothing),
+            (last.wrapping_add(1), 2, Reading::Nothing),
+        ];
+        for (sector, size, want) in rows {
+            cells.clear();
+            push_frame(
+                &mut cells,
+                &Frame {
+                    sector,
+                    size,
+                    ..PLAIN
+                },
+            )?;
+            let reading = numbers.disk.read_at(&cells, 0, TRACK, &mut buffer);
+            assert_eq!(rt; reading, want, "sector {sector} of size {size}");
+        }
+    }
+    Ok(())
+}
+
+#[test]
+fn reads_no_headers_of_another_track(rt: HostRuntime) -> Result<(), Fail> {
     let track = TrackId {
         cylinder: 79,
         head: 1,
     };
-    let mut bytes = Vec::new(rt.alloc());
-    for index in 0..9216u16 {
-        bytes.push((index % 251) as u8)?;
-    }
-    assert_eq!(rt; bytes.len(), 9216);
+    let bytes = vec![in rt.alloc(); 0xF6u8; 9216]?;
     let mut ring = Cells::new(rt.alloc());
-    disk.ring(track, &bytes, &mut ring)?;
-    assert_eq!(rt; ring.len(), 200000);
+    IbmMfm::Pc18.ring(track, &bytes, &mut ring)?;
     let mut buffer = SectorBuffer::new();
-    let mut from = 0;
-    for sector in 1..19u8 {
-        match next_reading(&disk, &ring, from, track, &mut buffer) {
-            Some((place, reading)) => {
-                assert_eq!(rt; reading, Reading::Good { sector }, "at {place}");
-                assert_eq!(rt; place, 2528 + 10912 * (sector as usize - 1));
-                for (index, byte) in buffer.iter().enumerate() {
-                    let want = ((sector as usize - 1) * 512 + index) % 251;
-                    assert_eq!(rt; *byte as usize, want, "byte {index} of sector {sector}");
-                }
-                from = place + 1;
-            }
-            None => panic!(rt; "no sector {sector}"),
-        }
-    }
-    let other = next_reading(&disk, &ring, 0, TRACK, &mut buffer);
-    assert_eq!(rt; other, None, "another track's headers");
+    let own = next_reading(&IbmMfm::Pc18, &ring, 0, track, &mut buffer);
+    assert_eq!(rt; own, Some((2528, Reading::Good { sector: 1 })));
+    let other = next_reading(&IbmMfm::Pc18, &ring, 0, TRACK, &mut buffer);
+    assert_eq!(rt; other, None);
     Ok(())
 }

@@ -171,7 +171,10 @@ keep_bounds f t known = record {
   cylinder = ltb-true _ _ (bounds (λ g c. nat_lt c 100) refl f t known);
   head = (let two = some_heads f in omega (arith, two.1, known.1));
   sectors =
-      (let least : (row f).first_sector + (zone f t.cylinder).sectors < 101 = ltb-true _ _ (bounds (λ g c. nat_lt ((row g).first_sector + (zone g c).sectors) 101) refl f t known) in
+      (let least : (zone f t.cylinder).sectors < 101 = ltb-true _ _ (bounds (λ g c. nat_lt (zone g c).sectors 101) refl f t known) in
+      omega (arith, least));
+  numbers =
+      (let least : (row f).first_sector + (zone f t.cylinder).sectors < 257 = ltb-true _ _ (bounds (λ g c. nat_lt ((row g).first_sector + (zone g c).sectors) 257) refl f t known) in
       omega (arith, least));
   size =
       (let least : (row f).sector_size < 513 = ltb-true _ _ (bounds (λ g c. nat_lt (row g).sector_size 513) refl f t known) in

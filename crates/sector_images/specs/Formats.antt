@@ -2,11 +2,14 @@
 use Rattle.std.specs.Prelude.{◌≡◌, ℕ, ◌+◌, ◌-◌, ◌*◌, ◌/◌, List, [], ◌∷◌, codes, Contains, get_or, refl, nat_lt, if◌then◌else◌, Option, Some, None}
 use Rattle.std.proofs.Common.{arith}
 use Rattle.sector_images.specs.declared.format.Format.{Format}
-use Rattle.sector_images.specs.declared.format.Format.TheVariants.{Ibm3740, Ibm360, Ibm720, Ibm1440, Amiga, C1541, C1541Forty, AppleDo, ApplePo}
+use Rattle.sector_images.specs.declared.format.Format.TheVariants.{Ibm3740, Ibm360, Ibm720, Ibm1440, Amiga, C1541, C1541Forty, AppleDo, ApplePo, Ibm160, Ibm180, Ibm320, Ibm1200, AtariSt800, CpcData, CpcSystem, AcornDfs40, AcornDfs80, AppleDos33, AppleProdos}
 
 -- all formats
 abbrev pub formats : List Format
-formats = Ibm3740 ∷ Ibm360 ∷ Ibm720 ∷ Ibm1440 ∷ Amiga ∷ C1541 ∷ C1541Forty ∷ AppleDo ∷ ApplePo ∷ []
+formats =
+    Ibm3740 ∷ Ibm360 ∷ Ibm720 ∷ Ibm1440 ∷ Amiga ∷ C1541 ∷ C1541Forty ∷ AppleDo ∷ ApplePo
+    ∷ Ibm160 ∷ Ibm180 ∷ Ibm320 ∷ Ibm1200 ∷ AtariSt800 ∷ CpcData ∷ CpcSystem ∷ AcornDfs40 ∷ AcornDfs80
+    ∷ AppleDos33 ∷ AppleProdos ∷ []
 
 -- each is among them
 unfoldable pub is_listed : (f : Format) → Contains formats f
@@ -19,6 +22,17 @@ is_listed C1541 = (5, omega arith, refl)
 is_listed C1541Forty = (6, omega arith, refl)
 is_listed AppleDo = (7, omega arith, refl)
 is_listed ApplePo = (8, omega arith, refl)
+is_listed Ibm160 = (9, omega arith, refl)
+is_listed Ibm180 = (10, omega arith, refl)
+is_listed Ibm320 = (11, omega arith, refl)
+is_listed Ibm1200 = (12, omega arith, refl)
+is_listed AtariSt800 = (13, omega arith, refl)
+is_listed CpcData = (14, omega arith, refl)
+is_listed CpcSystem = (15, omega arith, refl)
+is_listed AcornDfs40 = (16, omega arith, refl)
+is_listed AcornDfs80 = (17, omega arith, refl)
+is_listed AppleDos33 = (18, omega arith, refl)
+is_listed AppleProdos = (19, omega arith, refl)
 
 -- a cell of so many quarters of a microsecond, in fine units, which are 1/1024 of a period of the capture's clock of
 -- 168192000/7 Hz
@@ -128,6 +142,105 @@ row ApplePo = record {
   image_size = 143360;
   order = Some prodos_order;
 }
+row Ibm160 = record {
+  word = codes "ibm-160";
+  cylinders = 40;
+  heads = 1;
+  first_sector = 1;
+  sector_size = 512;
+  image_size = 163840;
+  order = None;
+}
+row Ibm180 = record {
+  word = codes "ibm-180";
+  cylinders = 40;
+  heads = 1;
+  first_sector = 1;
+  sector_size = 512;
+  image_size = 184320;
+  order = None;
+}
+row Ibm320 = record {
+  word = codes "ibm-320";
+  cylinders = 40;
+  heads = 2;
+  first_sector = 1;
+  sector_size = 512;
+  image_size = 327680;
+  order = None;
+}
+row Ibm1200 = record {
+  word = codes "ibm-1200";
+  cylinders = 80;
+  heads = 2;
+  first_sector = 1;
+  sector_size = 512;
+  image_size = 1228800;
+  order = None;
+}
+row AtariSt800 = record {
+  word = codes "atari-st-800";
+  cylinders = 80;
+  heads = 2;
+  first_sector = 1;
+  sector_size = 512;
+  image_size = 819200;
+  order = None;
+}
+row CpcData = record {
+  word = codes "cpc-data";
+  cylinders = 40;
+  heads = 1;
+  first_sector = 0xC1;
+  sector_size = 512;
+  image_size = 184320;
+  order = None;
+}
+row CpcSystem = record {
+  word = codes "cpc-system";
+  cylinders = 40;
+  heads = 1;
+  first_sector = 0x41;
+  sector_size = 512;
+  image_size = 184320;
+  order = None;
+}
+row AcornDfs40 = record {
+  word = codes "acorn-dfs-40";
+  cylinders = 40;
+  heads = 1;
+  first_sector = 0;
+  sector_size = 256;
+  image_size = 102400;
+  order = None;
+}
+row AcornDfs80 = record {
+  word = codes "acorn-dfs-80";
+  cylinders = 80;
+  heads = 1;
+  first_sector = 0;
+  sector_size = 256;
+  image_size = 204800;
+  order = None;
+}
+row AppleDos33 = record {
+  word = codes "apple-dos33";
+  cylinders = 35;
+  heads = 1;
+  first_sector = 0;
+  sector_size = 256;
+  image_size = 143360;
+  order = Some dos_order;
+}
+row AppleProdos = record {
+  word = codes "apple-prodos";
+  cylinders = 35;
+  heads = 1;
+  first_sector = 0;
+  sector_size = 256;
+  image_size = 143360;
+  order = Some prodos_order;
+}
 
 -- the sectors of a track, its nominal cell in fine units and the cells of its ring
 pub record Zone : Type 0 where
@@ -154,6 +267,17 @@ zone C1541 cylinder = commodore_zone cylinder
 zone C1541Forty cylinder = commodore_zone cylinder
 zone AppleDo cylinder = record { sectors = 16; nominal = fine_units 16; ring_cells = 49994 }
 zone ApplePo cylinder = record { sectors = 16; nominal = fine_units 16; ring_cells = 49994 }
+zone Ibm160 cylinder = record { sectors = 8; nominal = fine_units 8; ring_cells = 100000 }
+zone Ibm180 cylinder = record { sectors = 9; nominal = fine_units 8; ring_cells = 100000 }
+zone Ibm320 cylinder = record { sectors = 8; nominal = fine_units 8; ring_cells = 100000 }
+zone Ibm1200 cylinder = record { sectors = 15; nominal = fine_units 4; ring_cells = 166656 }
+zone AtariSt800 cylinder = record { sectors = 10; nominal = fine_units 8; ring_cells = 100000 }
+zone CpcData cylinder = record { sectors = 9; nominal = fine_units 8; ring_cells = 100000 }
+zone CpcSystem cylinder = record { sectors = 9; nominal = fine_units 8; ring_cells = 100000 }
+zone AcornDfs40 cylinder = record { sectors = 10; nominal = fine_units 16; ring_cells = 50000 }
+zone AcornDfs80 cylinder = record { sectors = 10; nominal = fine_units 16; ring_cells = 50000 }
+zone AppleDos33 cylinder = record { sectors = 16; nominal = fine_units 16; ring_cells = 49994 }
+zone AppleProdos cylinder = record { sectors = 16; nominal = fine_units 16; ring_cells = 49994 }
 
 -- the first of the neighbouring cylinders whose tracks have as many bytes, and where it begins in the image
 pub record Begin : Type 0 where

@@ -70,12 +70,13 @@ abbrev pub SectorsLieInImages : Type 0
 SectorsLieInImages = (format : Format) (track : TrackId) (sector : ℕ) → IsTrack format track → IsSector format track sector
     → sector_place format track sector + (row format).sector_size ≤ (row format).image_size
 
--- What all tracks of all formats keep to: cylinders and sectors are numbered by two digits, heads by 0 and 1, a sector has at
--- most 512 bytes, no track has more sectors than its format's first, and cells and rings are neither very short nor very long.
+-- What all tracks of all formats keep to: cylinders are numbered by two digits, heads by 0 and 1, sectors by 8 bits, a track has at most
+-- a hundred sectors of at most 512 bytes, no track has more sectors than its format's first, and cells and rings are neither very short nor very long.
 pub record KeepsBounds (format : Format) (track : TrackId) : Type 0 where
   pub cylinder : track.cylinder < 100
   pub head : track.head < 2
-  pub sectors : (row format).first_sector + (zone format track.cylinder).sectors ≤ 100
+  pub sectors : (zone format track.cylinder).sectors ≤ 100
+  pub numbers : (row format).first_sector + (zone format track.cylinder).sectors ≤ 256
   pub size : (row format).sector_size ≤ 512
   pub most : (first : TrackId) → slice_get (tracks format) 0 ≡ Some first → (zone format track.cylinder).sectors ≤ (zone format first.cylinder).sectors
   pub shortest_cell : 16384 ≤ (zone format track.cylinder).nominal

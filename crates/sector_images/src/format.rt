@@ -1,5 +1,6 @@
-ghost use Rattle.std.specs.Prelude.{◌≡◌, ◌≢◌, ◌<◌, ◌≤◌, MatchOption, option_map};
-ghost use Rattle.sector_images.specs.Formats.{begin_of, commodore_begin, commodore_zone, row, zone};
+ghost use Rattle.std.specs.Prelude.{◌≡◌, ◌≢◌, ◌<◌, ◌≤◌, MatchOption, find, option_map};
+ghost use Rattle.std.specs.Str.{bytes_eq};
+ghost use Rattle.sector_images.specs.Formats.{begin_of, commodore_begin, commodore_zone, formats, row, zone};
 
 /// A format of sector images.
 #[derive(Clone, Copy, Debug, PartialEq, Eq)]
@@ -22,6 +23,59 @@ pub enum Format {
     AppleDo,
     /// The same disk in the order of ProDOS.
     ApplePo,
+    /// The PC's first disk: 40 cylinders of one head, 8 sectors of 512 bytes, double density (MFM).
+    Ibm160,
+    /// The PC's 180 KB disk: 40 cylinders of one head, 9 sectors of 512 bytes, double density (MFM).
+    Ibm180,
+    /// The PC's 320 KB disk: 40 cylinders of two heads, 8 sectors of 512 bytes, double density (MFM).
+    Ibm320,
+    /// The PC's 1200 KB disk: 80 cylinders of two heads, 15 sectors of 512 bytes, high density (MFM).
+    Ibm1200,
+    /// The Atari ST's 800 KB disk: 80 cylinders of two heads, 10 sectors of 512 bytes (MFM).
+    AtariSt800,
+    /// The Amstrad CPC's disk for data: 40 cylinders of one head, 9 sectors of 512 bytes from number 193 (MFM).
+    CpcData,
+    /// The Amstrad CPC's disk with a system: the same from number 65.
+    CpcSystem,
+    /// Acorn's DFS disk: 40 cylinders of one head, 10 sectors of 256 bytes, single density (FM).
+    AcornDfs40,
+    /// The same with 80 cylinders.
+    AcornDfs80,
+    /// Apple's disk as DOS 3.3 itself wrote it, read as Apple's controller reads, in the order of DOS 3.3.
+    AppleDos33,
+    /// Apple's disk as ProDOS itself wrote it, read so, in the order of ProDOS.
+    AppleProdos,
+}
+
+/// All formats.
+const FORMATS: [Format; 20] = [
+    Format::Ibm3740,
+    Format::Ibm360,
+    Format::Ibm720,
+    Format::Ibm1440,
+    Format::Amiga,
+    Format::C1541,
+    Format::C1541Forty,
+    Format::AppleDo,
+    Format::ApplePo,
+    Format::Ibm160,
+    Format::Ibm180,
+    Format::Ibm320,
+    Format::Ibm1200,
+    Format::AtariSt800,
+    Format::CpcData,
+    Format::CpcSystem,
+    Format::AcornDfs40,
+    Format::AcornDfs80,
+    Format::AppleDos33,
+    Format::AppleProdos,
+];
+
+/// All formats, in the order of their table.
+pub fn all_formats() -> &'static [Format]
+    ensures { result.now ≡ formats }
+{
+    &FORMATS
 }
 
 impl Format {
@@ -29,18 +83,13 @@ impl Format {
     pub fn of_word(word: &[u8]) -> Option<Format>
         ensures { MatchOption result ((f : Format) → (row f).word ≢ word.now) (λ f. (row f).word ≡ word.now) }
     {
-        match word {
-            b"ibm-3740" => Some(Format::Ibm3740),
-            b"ibm-360" => Some(Format::Ibm360),
-            b"ibm-720" => Some(Format::Ibm720),
-            b"ibm-1440" => Some(Format::Ibm1440),
-            b"amiga" => Some(Format::Amiga),
-            b"c1541" => Some(Format::C1541),
-            b"c1541-40" => Some(Format::C1541Forty),
-            b"apple-do" => Some(Format::AppleDo),
-            b"apple-po" => Some(Format::ApplePo),
-            _ => None,
-        }
+        first_named(&FORMATS, word)
+    }
+
+    fn has_word(self, word: &[u8]) -> bool
+        ensures { result ≡ bytes_eq (row self).word word.now }
+    {
+        self.word().as_bytes() == word
     }
 
     /// The format's word of the command line.
@@ -52,13 +101,36 @@ impl Format {
             Format::Ibm360 => "ibm-360",
             Format::Ibm720 => "ibm-720",
             Format::Ibm1440 => "ibm-1440",
+            Format::Ibm160 => "ibm-160",
+            Format::Ibm180 => "ibm-180",
+            Format::Ibm320 => "ibm-320",
+            Format::Ibm1200 => "ibm-1200",
+            Format::AtariSt800 => "atari-st-800",
+            Format::CpcData => "cpc-data",
+            Format::CpcSystem => "cpc-system",
+            Format::AcornDfs40 => "acorn-dfs-40",
+            Format::AcornDfs80 => "acorn-dfs-80",
             Format::Amiga => "amiga",
             Format::C1541 => "c1541",
             Format::C1541Forty => "c1541-40",
             Format::AppleDo => "apple-do",
             Format::ApplePo => "apple-po",
+            Format::AppleDos33 => "apple-dos33",
+            Format::AppleProdos => "apple-prodos",
         }
     }
+}
+
+/// The first of these formats that has this word.
+fn first_named(formats: &[Format], word: &[u8]) -> Option<Format>
+    ensures { result ≡ find (λ f. bytes_eq (row f).word word.now) formats.now }
+{
+    for format in formats {
+        if format.has_word(word) {
+            return Some(*format);
+        }
+    }
+    None
 }
 
 /// What holds of all tracks of a format.
@@ -167,7 +239,7 @@ impl Format {
                 image_size: 196608,
                 order: None,
             },
-            Format::AppleDo => Geometry {
+            Format::AppleDo | Format::AppleDos33 => Geometry {
                 cylinders: 35,
                 heads: 1,
                 first_sector: 0,
@@ -175,13 +247,85 @@ impl Format {
                 image_size: 143360,
                 order: Some(&DOS_ORDER),
             },
-            Format::ApplePo => Geometry {
+            Format::ApplePo | Format::AppleProdos => Geometry {
                 cylinders: 35,
                 heads: 1,
                 first_sector: 0,
                 sector_size: 256,
                 image_size: 143360,
                 order: Some(&PRODOS_ORDER),
+            },
+            Format::Ibm160 => Geometry {
+                cylinders: 40,
+                heads: 1,
+                first_sector: 1,
+                sector_size: 512,
+                image_size: 163840,
+                order: None,
+            },
+            Format::Ibm180 => Geometry {
+                cylinders: 40,
+                heads: 1,
+                first_sector: 1,
+                sector_size: 512,
+                image_size: 184320,
+                order: None,
+            },
+            Format::Ibm320 => Geometry {
+                cylinders: 40,
+                heads: 2,
+                first_sector: 1,
+                sector_size: 512,
+                image_size: 327680,
+                order: None,
+            },
+            Format::Ibm1200 => Geometry {
+                cylinders: 80,
+                heads: 2,
+                first_sector: 1,
+                sector_size: 512,
+                image_size: 1228800,
+                order: None,
+            },
+            Format::AtariSt800 => Geometry {
+                cylinders: 80,
+                heads: 2,
+                first_sector: 1,
+                sector_size: 512,
+                image_size: 819200,
+                order: None,
+            },
+            Format::CpcData => Geometry {
+                cylinders: 40,
+                heads: 1,
+                first_sector: 0xC1,
+                sector_size: 512,
+                image_size: 184320,
+                order: None,
+            },
+            Format::CpcSystem => Geometry {
+                cylinders: 40,
+                heads: 1,
+                first_sector: 0x41,
+                sector_size: 512,
+                image_size: 184320,
+                order: None,
+            },
+            Format::AcornDfs40 => Geometry {
+                cylinders: 40,
+                heads: 1,
+                first_sector: 0,
+                sector_size: 256,
+                image_size: 102400,
+                order: None,
+            },
+            Format::AcornDfs80 => Geometry {
+                cylinders: 80,
+                heads: 1,
+                first_sector: 0,
+                sector_size: 256,
+                image_size: 204800,
+                order: None,
             },
         }
     }
@@ -204,7 +348,11 @@ impl Format {
                 nominal: 49208,
                 ring_cells: 83328,
             },
-            Format::Ibm360 | Format::Ibm720 => Zone {
+            Format::Ibm360
+            | Format::Ibm720
+            | Format::Ibm180
+            | Format::CpcData
+            | Format::CpcSystem => Zone {
                 first_cylinder: 0,
                 place: 0,
                 sectors: 9,
@@ -226,12 +374,40 @@ impl Format {
                 ring_cells: 100000,
             },
             Format::C1541 | Format::C1541Forty => commodore_zone(cylinder),
-            Format::AppleDo | Format::ApplePo => Zone {
+            Format::AppleDo | Format::ApplePo | Format::AppleDos33 | Format::AppleProdos => Zone {
                 first_cylinder: 0,
                 place: 0,
                 sectors: 16,
                 nominal: 98416,
                 ring_cells: 49994,
+            },
+            Format::Ibm160 | Format::Ibm320 => Zone {
+                first_cylinder: 0,
+                place: 0,
+                sectors: 8,
+                nominal: 49208,
+                ring_cells: 100000,
+            },
+            Format::Ibm1200 => Zone {
+                first_cylinder: 0,
+                place: 0,
+                sectors: 15,
+                nominal: 24604,
+                ring_cells: 166656,
+            },
+            Format::AtariSt800 => Zone {
+                first_cylinder: 0,
+                place: 0,
+                sectors: 10,
+                nominal: 49208,
+                ring_cells: 100000,
+            },
+            Format::AcornDfs40 | Format::AcornDfs80 => Zone {
+                first_cylinder: 0,
+                place: 0,
+                sectors: 10,
+                nominal: 98416,
+                ring_cells: 50000,
             },
         }
     }

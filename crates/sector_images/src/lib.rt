@@ -6,7 +6,7 @@ mod format;
 mod laws;
 mod places;
 
-pub use format::Format;
+pub use format::{Format, all_formats};
 pub use laws::{
     sectors_fill_tracks, sectors_lie_in_images, tracks_fill_images, tracks_keep_bounds,
     words_name_formats,

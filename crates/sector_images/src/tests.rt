@@ -21,6 +21,17 @@ fn words(rt: HostRuntime) {
     assert_eq!(rt; Format::of_word(b"c1541-40"), Some(Format::C1541Forty));
     assert_eq!(rt; Format::of_word(b"apple-do"), Some(Format::AppleDo));
     assert_eq!(rt; Format::of_word(b"apple-po"), Some(Format::ApplePo));
+    assert_eq!(rt; Format::of_word(b"ibm-160"), Some(Format::Ibm160));
+    assert_eq!(rt; Format::of_word(b"ibm-180"), Some(Format::Ibm180));
+    assert_eq!(rt; Format::of_word(b"ibm-320"), Some(Format::Ibm320));
+    assert_eq!(rt; Format::of_word(b"ibm-1200"), Some(Format::Ibm1200));
+    assert_eq!(rt; Format::of_word(b"atari-st-800"), Some(Format::AtariSt800));
+    assert_eq!(rt; Format::of_word(b"cpc-data"), Some(Format::CpcData));
+    assert_eq!(rt; Format::of_word(b"cpc-system"), Some(Format::CpcSystem));
+    assert_eq!(rt; Format::of_word(b"acorn-dfs-40"), Some(Format::AcornDfs40));
+    assert_eq!(rt; Format::of_word(b"acorn-dfs-80"), Some(Format::AcornDfs80));
+    assert_eq!(rt; Format::of_word(b"apple-dos33"), Some(Format::AppleDos33));
+    assert_eq!(rt; Format::of_word(b"apple-prodos"), Some(Format::AppleProdos));
     assert_eq!(rt; Format::Ibm3740.word(), "ibm-3740");
     assert_eq!(rt; Format::Ibm1440.word(), "ibm-1440");
     for word in [
@@ -65,6 +76,29 @@ fn ibm_disks_of_the_pc(rt: HostRuntime) {
     assert_eq!(rt; nominal(Format::Ibm1440, track(0, 1)), 24604);
     assert_eq!(rt; ring_cells(Format::Ibm720, track(0, 1)), 100000);
     assert_eq!(rt; ring_cells(Format::Ibm1440, track(0, 1)), 200000);
+}
+
+#[test]
+fn disks_with_numbers_of_their_own(rt: HostRuntime) {
+    let first = track(0, 0);
+    assert_eq!(rt; image_size(Format::Ibm160), 40 * 8 * 512);
+    assert_eq!(rt; image_size(Format::Ibm180), 40 * 9 * 512);
+    assert_eq!(rt; image_size(Format::Ibm320), 40 * 2 * 8 * 512);
+    assert_eq!(rt; image_size(Format::Ibm1200), 80 * 2 * 15 * 512);
+    assert_eq!(rt; image_place(Format::Ibm1200, track(79, 1), 15), 1228288);
+    assert_eq!(rt; nominal(Format::Ibm1200, first), 24604);
+    assert_eq!(rt; ring_cells(Format::Ibm1200, first), 166656);
+    assert_eq!(rt; image_size(Format::AtariSt800), 80 * 2 * 10 * 512);
+    assert_eq!(rt; image_size(Format::CpcData), 40 * 9 * 512);
+    assert_eq!(rt; image_place(Format::CpcData, first, 0xC2), 512);
+    assert_eq!(rt; image_sector(Format::CpcData, first, 8), 0xC9);
+    assert_eq!(rt; image_place(Format::CpcSystem, track(39, 0), 0x49), 183808);
+    assert_eq!(rt; track_count(Format::CpcSystem), 40);
+    assert_eq!(rt; image_size(Format::AcornDfs40), 40 * 10 * 256);
+    assert_eq!(rt; image_size(Format::AcornDfs80), 80 * 10 * 256);
+    assert_eq!(rt; image_place(Format::AcornDfs80, track(79, 0), 9), 204544);
+    assert_eq!(rt; nominal(Format::AcornDfs40, first), 98416);
+    assert_eq!(rt; ring_cells(Format::AcornDfs80, first), 50000);
 }
 
 #[test]
@@ -119,6 +153,8 @@ fn apple_orders(rt: HostRuntime) {
     assert_eq!(rt; image_place(Format::ApplePo, first, 1), 2048);
     assert_eq!(rt; image_place(Format::ApplePo, first, 2), 256);
     assert_eq!(rt; image_sector(Format::ApplePo, first, 1), 2);
+    assert_eq!(rt; image_place(Format::AppleDos33, first, 1), 1792);
+    assert_eq!(rt; image_place(Format::AppleProdos, first, 1), 2048);
     assert_eq!(rt; track_count(Format::ApplePo), 35);
     assert_eq!(rt; nominal(Format::AppleDo, first), 98416);
     assert_eq!(rt; ring_cells(Format::ApplePo, first), 49994);

@@ -99,7 +99,7 @@ held_early cells others place xs ys same first second =
     (longs-read cells place 128 (raw_longs others place 128) (raw_longs others (place + 4096) 128) (length-raw others place 128) all)
     ∙ second.content
 
-pub tells : (track : TrackId) → TellsEarly 32 480 8192 (NamesSector track) IsDataPlace Hold
+pub tells : (track : TrackId) → TellsEarly 32 480 8192 (λ cells. 480) (λ cells sync. sync + 8192) (NamesSector track) IsDataPlace Hold
 tells track = record {
   sync_within = lit≤ tt;
   named = named track;

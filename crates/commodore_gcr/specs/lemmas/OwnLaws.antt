@@ -33,7 +33,7 @@ one_content cells sync xs ys first second =
     one_list_at cells (sync + 20) xs ys (first.size ∙ sym second.size) first.content second.content
 
 -- a header's number and the bytes of data stand before the last seven cells
-pub tells : (track : TrackId) → TellsEarly 11 70 2590 (NamesSector track) IsSync Hold
+pub tells : (track : TrackId) → TellsEarly 11 70 2590 (λ cells. 70) (λ cells sync. sync + 2590) (NamesSector track) IsSync Hold
 tells track = record {
   sync_within = lit≤ tt;
   named = λ cells others s same names. record {

@@ -1,6 +1,6 @@
 -- What is read after a part of known length, and bytes in a row.
 use Rattle.std.specs.Prelude.{◌≡◌, ℕ, zero, suc, ◌+◌, ◌*◌, ◌/◌, ◌%◌, Bool, List, [], ◌∷◌, ◌++◌, length, take, refl}
-use Rattle.std.proofs.Common.{ap, ◌∙◌, arith, add-one}
+use Rattle.std.proofs.Common.{ap, ◌∙◌, arith, add-one, sym}
 use Rattle.cell_bits.specs.Bytes.{data_byte, data_cells}
 use Rattle.cell_bits.specs.Word.{number_of}
 use Rattle.track_rings.specs.lemmas.Parts.{drop-past}
@@ -77,3 +77,29 @@ bytes_at-four cells place =
     let fourth : place + 16 + 16 + 16 ≡ place + 48 = omega arith in
     ap (λ (p : ℕ). data_byte cells place ∷ data_byte cells (place + 16) ∷ data_byte cells p ∷ data_byte cells (place + 16 + 16 + 16) ∷ []) third
     ∙ ap (λ (p : ℕ). data_byte cells place ∷ data_byte cells (place + 16) ∷ data_byte cells (place + 32) ∷ data_byte cells p ∷ []) fourth
+
+-- some bytes, and those after them
+bytes_at-add : (cells : List Bool) (place m n : ℕ) → bytes_at cells place (m + n) ≡ bytes_at cells place m ++ bytes_at cells (place + 16 * m) n
+unfolding bytes_at
+bytes_at-add cells place zero n =
+    let none : 0 + n ≡ n = omega arith in
+    let here : place ≡ place + 16 * 0 = omega arith in
+    ap (bytes_at cells place) none ∙ ap (λ (p : ℕ). bytes_at cells p n) here
+bytes_at-add cells place (suc m) n =
+    let more : suc m + n ≡ suc (m + n) = omega arith in
+    let there : place + 16 + 16 * m ≡ place + 16 * suc m = omega arith in
+    ap (bytes_at cells place) more
+    ∙ ap (λ (rest : List ℕ). data_byte cells place ∷ rest)
+    (bytes_at-add cells (place + 16) m n ∙ ap (λ (p : ℕ). bytes_at cells (place + 16) m ++ bytes_at cells p n) there)
+
+-- four more bytes
+pub bytes_at-four_more : (cells : List Bool) (place fours : ℕ) (four : List ℕ)
+    → four ≡ data_byte cells (place + 64 * fours) ∷ data_byte cells (place + 64 * fours + 16)
+    ∷ data_byte cells (place + 64 * fours + 32) ∷ data_byte cells (place + 64 * fours + 48) ∷ []
+    → bytes_at cells place (4 * fours) ++ four ≡ bytes_at cells place (4 * (fours + 1))
+bytes_at-four_more cells place fours four is =
+    let there : place + 16 * (4 * fours) ≡ place + 64 * fours = omega arith in
+    let more : 4 * fours + 4 ≡ 4 * (fours + 1) = omega arith in
+    ap (λ (bytes : List ℕ). bytes_at cells place (4 * fours) ++ bytes)
+    (is ∙ sym (bytes_at-four cells (place + 64 * fours)) ∙ ap (λ (p : ℕ). bytes_at cells p 4) (sym there))
+    ∙ sym (bytes_at-add cells place (4 * fours) 4) ∙ ap (bytes_at cells place) more

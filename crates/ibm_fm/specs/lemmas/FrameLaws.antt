@@ -10,31 +10,35 @@ use Rattle.track_rings.specs.lemmas.Parts.{drop-past, take-first}
 use Rattle.track_rings.specs.Rings.{IsSectorNumber, AreBytes}
 use Rattle.track_rings.specs.Rows.{coded, rows_cells}
 use Rattle.frame_law.specs.Frames.{FrameStands}
-use Rattle.ibm_fields.specs.Fields.{bytes_at, high_first, number_at}
+use Rattle.ibm_fields.specs.Fields.{high_first, number_at}
 use Rattle.ibm_fields.specs.lemmas.FieldLaws.{bytes_at-past, data_byte-past, number_at-past}
 use Rattle.ibm_fields.specs.lemmas.Numbers.{crc-lt}
-use Rattle.ibm_fm.specs.Layout.{field_cells, fm_bytes, row_cells, rows}
+use Rattle.ibm_fm.specs.declared.recording.IbmFm.{IbmFm}
+use Rattle.ibm_fm.specs.Disks.{IsFmTrack, disk_of, rows_of}
+use Rattle.ibm_fm.specs.lemmas.DiskLaws.{sound}
+use Rattle.ibm_fm.specs.Layout.{field_cells, fm_bytes, row_cells}
 use Rattle.ibm_fm.specs.lemmas.ReadLaws.{number_at-after, reads-first}
 use Rattle.ibm_fm.specs.lemmas.RowLaws.{length-fm_bytes}
-use Rattle.ibm_fm.specs.Sectors.{Hold, IsSync, IsFmTrack, NamesSector, address_of, check_of}
+use Rattle.ibm_fm.specs.Sectors.{Hold, IsSync, NamesSector, address_of, check_of}
 
 -- the gap from a header to the data, and the data mark
 unfoldable gap_and_mark : List Bool
 gap_and_mark = fm_bytes (replicate 11 0xFF) ++ (fm_bytes (replicate 6 0x00) ++ word_cells 16 0xF56F)
 
 -- a frame's cells, and what comes after them
-abbrev frame_of : TrackId → ℕ → List ℕ → List Bool → List Bool
-frame_of track sector bytes rest = word_cells 16 0xF57E ++ (field_cells 0xFE (address_of track sector) ++ (gap_and_mark ++ (field_cells 0xFB bytes ++ rest)))
+abbrev frame_of : ℕ → TrackId → ℕ → List ℕ → List Bool → List Bool
+frame_of code track sector bytes rest = word_cells 16 0xF57E ++ (field_cells 0xFE (address_of code track sector) ++ (gap_and_mark ++ (field_cells 0xFB bytes ++ rest)))
 
 regroup : (i a g z m f rest : List Bool) → (i ++ (a ++ (g ++ (z ++ (m ++ (f ++ [])))))) ++ rest ≡ i ++ (a ++ ((g ++ (z ++ m)) ++ (f ++ rest)))
 regroup i a g z m f rest = simp (append_assoc, append-nil)
 
-frame-cells : (track : TrackId) (sector : ℕ) (bytes : List ℕ) (before : Bool) (rest : List Bool)
-    → rows_cells false (row_cells track) before sector bytes rows.frame ++ rest ≡ frame_of track sector bytes rest
+frame-cells : (recording : IbmFm) (track : TrackId) (sector : ℕ) (bytes : List ℕ) (before : Bool) (rest : List Bool)
+    → rows_cells false (row_cells (disk_of recording) track) before sector bytes (rows_of recording).frame ++ rest
+    ≡ frame_of (disk_of recording).size_code track sector bytes rest
 unfolding rows_cells coded gap_and_mark
-frame-cells track sector bytes before rest =
-    regroup (word_cells 16 0xF57E) (field_cells 0xFE (address_of track sector)) (fm_bytes (replicate 11 0xFF)) (fm_bytes (replicate 6 0x00))
-    (word_cells 16 0xF56F) (field_cells 0xFB bytes) rest
+frame-cells recording track sector bytes before rest =
+    regroup (word_cells 16 0xF57E) (field_cells 0xFE (address_of (disk_of recording).size_code track sector)) (fm_bytes (replicate 11 0xFF))
+    (fm_bytes (replicate 6 0x00)) (word_cells 16 0xF56F) (field_cells 0xFB bytes) rest
 
 length-field_cells : (mark : ℕ) (bytes : List ℕ) → length (field_cells mark bytes) ≡ 16 * (length bytes + 2)
 length-field_cells mark bytes =
@@ -50,17 +54,16 @@ mark-begins : (rest : List Bool) → Stands (word_cells 16 0xF57E ++ rest) 0xF57
 mark-begins rest = take-first (word_cells 16 0xF57E) rest 16 (length-word_cells 16 0xF57E)
 
 -- a header names its sector
-names-sector : (track : TrackId) (sector : ℕ) (rest : List Bool) → IsFmTrack track → IsSectorNumber 1 26 sector
-    → NamesSector track (word_cells 16 0xF57E ++ (field_cells 0xFE (address_of track sector) ++ rest)) sector
+names-sector : (code : ℕ) (track : TrackId) (sector : ℕ) (rest : List Bool) → code < 256 → track.cylinder < 256 → track.head < 256 → sector < 256
+    → NamesSector code track (word_cells 16 0xF57E ++ (field_cells 0xFE (address_of code track sector) ++ rest)) sector
 unfolding AreBytes
-names-sector track sector rest known number =
+names-sector code track sector rest of_code of_cylinder of_head of_sector =
     let mark = word_cells 16 0xF57E in
-    let address = address_of track sector in
+    let address = address_of code track sector in
     let check = high_first (check_of 0xFE address) in
     let behind = field_cells 0xFE address ++ rest in
     let size : length mark ≡ 16 = length-word_cells 16 0xF57E in
-    let low : sector < 256 = omega (arith, number.most) in
-    let fit : AreBytes address = (omega (arith, known.cylinder), (omega (arith, known.head), (low, (lit< tt, tt)))) in
+    let fit : AreBytes address = (of_cylinder, (of_head, (of_sector, (of_code, tt)))) in
     record {
       address = bytes_at-past mark behind 16 0 4 size ∙ reads-first address check rest fit;
       check = number_at-past mark behind 16 64 size ∙ number_at-after address (check_of 0xFE address) rest (crc-lt 0xFFFF (0xFE ∷ address) (lit< tt));
@@ -101,46 +104,53 @@ no-mark header rest place size above below some =
     ]
 
 -- data hold their bytes
-holds : (header : List Bool) (bytes : List ℕ) (rest : List Bool) → length header ≡ 112 → AreBytes bytes → length bytes ≡ 128
-    → Hold (header ++ (gap_and_mark ++ (field_cells 0xFB bytes ++ rest))) 384 bytes
-holds header bytes rest header_size fit size =
+holds : (header : List Bool) (bytes : List ℕ) (rest : List Bool) → length header ≡ 112 → AreBytes bytes
+    → Hold (length bytes) (header ++ (gap_and_mark ++ (field_cells 0xFB bytes ++ rest))) 384 bytes
+holds header bytes rest header_size fit =
+    let size = length bytes in
     let check = high_first (check_of 0xFB bytes) in
     let behind = field_cells 0xFB bytes ++ rest in
     let gap = gap_and_mark ++ behind in
     let byte : data_byte (header ++ gap) 384 ≡ 0xFB = data_byte-past header gap 112 272 header_size ∙ gap_byte behind in
+    let place : 384 + 16 * (size + 1) ≡ 112 + (288 + 16 * size) = omega arith in
     record {
       opens = inl (ap (take 16) (drop-past header gap 112 272 header_size) ∙ gap_mark behind);
-      content = bytes_at-past header gap 112 288 128 header_size
-          ∙ bytes_at-past gap_and_mark behind 288 0 128 length-gap_and_mark
-          ∙ ap (bytes_at behind 0) (sym size)
+      content = bytes_at-past header gap 112 288 size header_size
+          ∙ bytes_at-past gap_and_mark behind 288 0 size length-gap_and_mark
           ∙ reads-first bytes check rest fit;
-      check = number_at-past header gap 112 2336 header_size
-          ∙ number_at-past gap_and_mark behind 288 2048 length-gap_and_mark
-          ∙ ap (λ (n : ℕ). number_at behind (16 * n)) (sym size)
+      check = ap (number_at (header ++ gap)) place
+          ∙ number_at-past header gap 112 (288 + 16 * size) header_size
+          ∙ number_at-past gap_and_mark behind 288 (16 * size) length-gap_and_mark
           ∙ number_at-after bytes (check_of 0xFB bytes) rest (crc-lt 0xFFFF (0xFB ∷ bytes) (lit< tt))
           ∙ ap (λ (mark : ℕ). check_of mark bytes) (sym byte);
     }
 
 -- the rows of a frame are read back
-pub frame_stands : (track : TrackId) (sector : ℕ) (bytes : List ℕ) (before : Bool) (rest : List Bool) → IsFmTrack track → IsSectorNumber 1 26 sector
-    → AreBytes bytes → length bytes ≡ 128
-    → FrameStands 0xF57E 16 112 384 (NamesSector track) IsSync Hold (rows_cells false (row_cells track) before sector bytes rows.frame ++ rest) sector bytes
-frame_stands track sector bytes before rest known number fit size =
+pub frame_stands : (recording : IbmFm) (track : TrackId) (sector : ℕ) (bytes : List ℕ) (before : Bool) (rest : List Bool) → IsFmTrack recording track
+    → IsSectorNumber (disk_of recording).first_sector (disk_of recording).sectors sector
+    → AreBytes bytes → length bytes ≡ (disk_of recording).sector_size
+    → FrameStands 0xF57E 16 112 384 (NamesSector (disk_of recording).size_code track) IsSync (Hold (disk_of recording).sector_size)
+    (rows_cells false (row_cells (disk_of recording) track) before sector bytes (rows_of recording).frame ++ rest) sector bytes
+frame_stands recording track sector bytes before rest known number fit size =
+    let code = (disk_of recording).size_code in
+    let numbers = sound recording in
     let mark = word_cells 16 0xF57E in
-    let field = field_cells 0xFE (address_of track sector) in
+    let field = field_cells 0xFE (address_of code track sector) in
     let header = mark ++ field in
     let behind = field_cells 0xFB bytes ++ rest in
     let header_size : length header ≡ 112 =
-    omega (arith, length-append mark field, length-word_cells 16 0xF57E, length-field_cells 0xFE (address_of track sector)) in
-    let grouped : frame_of track sector bytes rest ≡ header ++ (gap_and_mark ++ behind) = sym (append_assoc mark field (gap_and_mark ++ behind)) in
-    let data_held = holds header bytes rest header_size fit size in
-    subst (λ (cells : List Bool). FrameStands 0xF57E 16 112 384 (NamesSector track) IsSync Hold cells sector bytes)
-    (sym (frame-cells track sector bytes before rest))
+    omega (arith, length-append mark field, length-word_cells 16 0xF57E, length-field_cells 0xFE (address_of code track sector)) in
+    let grouped : frame_of code track sector bytes rest ≡ header ++ (gap_and_mark ++ behind) = sym (append_assoc mark field (gap_and_mark ++ behind)) in
+    let data_held = holds header bytes rest header_size fit in
+    subst (λ (cells : List Bool). FrameStands 0xF57E 16 112 384 (NamesSector code track) IsSync (Hold (disk_of recording).sector_size) cells sector bytes)
+    (sym (frame-cells recording track sector bytes before rest))
     (record {
       begins = mark-begins (field ++ (gap_and_mark ++ behind));
-      named = names-sector track sector (gap_and_mark ++ behind) known number;
+      named = names-sector code track sector (gap_and_mark ++ behind) numbers.code (omega (arith, known.cylinder, numbers.cylinders))
+          (omega (arith, known.head)) (omega (arith, number.most, numbers.few));
       opens = subst (λ (cells : List Bool). IsSync cells 384) (sym grouped) (inl data_held.opens);
       first = λ place above below.
           subst (λ (cells : List Bool). ¬ IsSync cells place) (sym grouped) (no-mark header behind place header_size above below);
-      held = subst (λ (cells : List Bool). Hold cells 384 bytes) (sym grouped) data_held;
+      held = subst (λ (cells : List Bool). Hold (disk_of recording).sector_size cells 384 bytes) (sym grouped)
+          (subst (λ (n : ℕ). Hold n (header ++ (gap_and_mark ++ behind)) 384 bytes) size data_held);
     })

@@ -1,5 +1,5 @@
 -- Where the ID mark stands in a ring: only where a sector's header begins.
-use Rattle.std.specs.Prelude.{◌≡◌, ℕ, ◌+◌, Bool, true, false, List, [], ◌∷◌, ◌++◌, length, replicate, Option, Some, None, refl}
+use Rattle.std.specs.Prelude.{◌≡◌, ℕ, suc, ◌+◌, Bool, true, false, List, [], ◌∷◌, ◌++◌, length, replicate, Option, Some, None, refl}
 use Rattle.std.specs.List.{flat_map, range_with_len}
 use Rattle.std.proofs.Common.{sym, subst, arith, append_assoc}
 use Rattle.flux_base.specs.declared.track.TrackId.{TrackId}
@@ -9,14 +9,18 @@ use Rattle.cell_bits.specs.lemmas.WordLaws.{length-word_cells}
 use Rattle.track_rings.specs.lemmas.Owning.{Leads}
 use Rattle.track_rings.specs.Rings.{AreSectors, bytes_of}
 use Rattle.track_rings.specs.lemmas.RowSyncs.{syncs-in_ring}
-use Rattle.track_rings.specs.Rows.{TrackRow, coded, part_cells, parts_of, place_of, ring_of as ring_of_rows, rows_cells, sector_parts, sector_rows, total, track_parts}
+use Rattle.track_rings.specs.Rows.{TrackRow, coded, part_cells, parts_of, place_of, ring_of, rows_cells, sector_parts, sector_rows, total, track_parts}
 use Rattle.track_rings.specs.lemmas.Syncs.{QuietPart, SyncPart, Syncs, all_known, clashes, clashes_at_all, fits, fits-front, fits-known, fits-word, nowhere-known, only-first, part-skip, part-then, quiet-all, quiet-append, quiet-none}
 use Rattle.frame_law.specs.lemmas.OwnFrames.{HasOwnSyncs}
 use Rattle.ibm_fields.specs.Fields.{high_first}
+use Rattle.ibm_fm.specs.declared.layout.Disk.{Disk}
 use Rattle.ibm_fm.specs.declared.layout.Mark.TheVariants.{Index}
 use Rattle.ibm_fm.specs.declared.layout.Row.{Row}
 use Rattle.ibm_fm.specs.declared.layout.Row.TheVariants.{Run, Mark as AMark}
-use Rattle.ibm_fm.specs.Layout.{field_cells, fm_bytes, ring_of, row_cells, row_size, rows}
+use Rattle.ibm_fm.specs.declared.recording.IbmFm.{IbmFm}
+use Rattle.ibm_fm.specs.declared.recording.IbmFm.TheVariants.{Ibm3740, Acorn}
+use Rattle.ibm_fm.specs.Disks.{disk_of, rows_of}
+use Rattle.ibm_fm.specs.Layout.{field_cells, fm_bytes, row_cells, row_size}
 use Rattle.ibm_fm.specs.lemmas.RowLaws.{length-fm_bytes, row_length}
 use Rattle.ibm_fm.specs.Sectors.{NamesSector, address_of, check_of}
 
@@ -106,81 +110,112 @@ id_mark_first rest clocked = (
   tt,
 )
 
-lead_in_quiet : (track : TrackId) → QuietPart IdMark Clocked Clocked (rows_cells false (row_cells track) false 1 [] rows.lead_in)
-unfolding rows_cells coded
-lead_in_quiet track =
-    quiet-append IdMark Clocked Clocked Clocked (fm_bytes (replicate 40 0xFF))
-    (fm_bytes (replicate 6 0x00) ++ (word_cells 16 0xF77A ++ (fm_bytes (replicate 26 0xFF) ++ []))) (bytes_quiet (replicate 40 0xFF))
-    (quiet-append IdMark Clocked Anything Clocked (fm_bytes (replicate 6 0x00)) (word_cells 16 0xF77A ++ (fm_bytes (replicate 26 0xFF) ++ [])) zeros_quiet
-    (quiet-append IdMark Clocked Clocked Anything (word_cells 16 0xF77A) (fm_bytes (replicate 26 0xFF) ++ []) index_mark_quiet
-    (quiet-append IdMark Clocked Clocked Clocked (fm_bytes (replicate 26 0xFF)) [] (bytes_quiet (replicate 26 0xFF)) (quiet-none IdMark Clocked))))
+run_quiet : (count : ℕ) → QuietPart IdMark Clocked Clocked (fm_bytes (replicate count 0xFF))
+run_quiet count = bytes_quiet (replicate count 0xFF)
 
-lead_out_quiet : (track : TrackId) (before : Bool) → QuietPart IdMark Clocked Clocked (rows_cells false (row_cells track) before 1 [] rows.lead_out)
+-- a run that stands last
+last_quiet : (count : ℕ) → QuietPart IdMark Clocked Clocked (fm_bytes (replicate count 0xFF) ++ [])
+last_quiet count = quiet-append IdMark Clocked Clocked Clocked (fm_bytes (replicate count 0xFF)) [] (run_quiet count) (quiet-none IdMark Clocked)
+
+lead_in_quiet : (recording : IbmFm) (track : TrackId) (s : ℕ)
+    → QuietPart IdMark Clocked Clocked (rows_cells false (row_cells (disk_of recording) track) false s [] (rows_of recording).lead_in)
 unfolding rows_cells coded
-lead_out_quiet track before =
-    quiet-append IdMark Clocked Clocked Clocked (fm_bytes (replicate 247 0xFF)) [] (bytes_quiet (replicate 247 0xFF)) (quiet-none IdMark Clocked)
+lead_in_quiet Ibm3740 track s =
+    quiet-append IdMark Clocked Clocked Clocked (fm_bytes (replicate 40 0xFF))
+    (fm_bytes (replicate 6 0x00) ++ (word_cells 16 0xF77A ++ (fm_bytes (replicate 26 0xFF) ++ []))) (run_quiet 40)
+    (quiet-append IdMark Clocked Anything Clocked (fm_bytes (replicate 6 0x00)) (word_cells 16 0xF77A ++ (fm_bytes (replicate 26 0xFF) ++ [])) zeros_quiet
+    (quiet-append IdMark Clocked Clocked Anything (word_cells 16 0xF77A) (fm_bytes (replicate 26 0xFF) ++ []) index_mark_quiet (last_quiet 26)))
+lead_in_quiet Acorn track s = last_quiet 16
 
 -- what follows a sector's ID mark
-after_mark : TrackId → List ℕ → ℕ → List Bool
-after_mark track content sector =
-    field_cells 0xFE (address_of track sector)
+after_mark : Disk → TrackId → List ℕ → ℕ → List Bool
+after_mark disk track content sector =
+    field_cells 0xFE (address_of disk.size_code track sector)
     ++ (fm_bytes (replicate 11 0xFF)
-    ++ (fm_bytes (replicate 6 0x00) ++ (word_cells 16 0xF56F ++ (field_cells 0xFB content ++ (fm_bytes (replicate 27 0xFF) ++ [])))))
-
-after_mark_quiet : (track : TrackId) (content : List ℕ) (sector : ℕ) → QuietPart IdMark Clocked Clocked (after_mark track content sector)
-unfolding after_mark
-after_mark_quiet track content sector =
-    let last = fm_bytes (replicate 27 0xFF) ++ [] in
-    let filled = field_cells 0xFB content ++ last in
-    let marked = word_cells 16 0xF56F ++ filled in
-    let zeros = fm_bytes (replicate 6 0x00) ++ marked in
-    quiet-append IdMark Clocked Clocked Clocked (field_cells 0xFE (address_of track sector)) (fm_bytes (replicate 11 0xFF) ++ zeros)
-    (field_quiet 0xFE (address_of track sector))
-    (quiet-append IdMark Clocked Clocked Clocked (fm_bytes (replicate 11 0xFF)) zeros (bytes_quiet (replicate 11 0xFF))
-    (quiet-append IdMark Clocked Anything Clocked (fm_bytes (replicate 6 0x00)) marked zeros_quiet
-    (quiet-append IdMark Clocked Clocked Anything (word_cells 16 0xF56F) filled data_mark_quiet
-    (quiet-append IdMark Clocked Clocked Clocked (field_cells 0xFB content) last (field_quiet 0xFB content)
-    (quiet-append IdMark Clocked Clocked Clocked (fm_bytes (replicate 27 0xFF)) [] (bytes_quiet (replicate 27 0xFF)) (quiet-none IdMark Clocked))))))
-
-sector_part : (track : TrackId) (before : Bool) (sector : ℕ) (content : List ℕ)
-    → SyncPart IdMark (λ place. place ≡ 96) Clocked Clocked (rows_cells false (row_cells track) before sector content (sector_rows rows))
-unfolding rows_cells coded after_mark
-sector_part track before sector content =
-    let zeros = fm_bytes (replicate 6 0x00) in
-    let after = after_mark track content sector in
-    let size : length zeros ≡ 96 = length-fm_bytes (replicate 6 0x00) in
-    part-skip IdMark (λ place. place ≡ 96) Clocked Anything Clocked zeros (word_cells 16 0xF57E ++ after) zeros_quiet
-    (part-then IdMark (λ place. length zeros + place ≡ 96) Clocked Clocked Anything (word_cells 16 0xF57E) after
-    (λ rest clocked. (let one = id_mark_first rest clocked in ((λ place within test. (let e = one.0 place within test in omega (arith, e, size))), one.1)))
-    (after_mark_quiet track content sector))
+    ++ (fm_bytes (replicate 6 0x00) ++ (word_cells 16 0xF56F ++ (field_cells 0xFB content ++ (fm_bytes (replicate disk.sector_gap 0xFF) ++ [])))))
 
 -- a byte has clocks, whatever follows
 byte_clocked : (byte : ℕ) (rest : List Bool) → Clocked (fm byte ++ rest)
 unfolding Clocked eight_clocks fits fm fm_cells word_cells
 byte_clocked byte rest = refl
 
-lead_in_clocked : (track : TrackId) (parts : List (TrackRow Row))
-    → Clocked (coded false (part_cells (row_cells track)) false (parts_of 1 [] rows.lead_in ++ parts))
-unfolding coded
-lead_in_clocked track parts =
-    let others = parts_of 1 [] (Run 6 0x00 ∷ AMark Index ∷ Run 26 0xFF ∷ []) ++ parts in
-    let rest = coded false (part_cells (row_cells track)) false others in
-    subst Clocked (sym (append_assoc (fm 0xFF) (fm_bytes (replicate 39 0xFF)) rest)) (byte_clocked 0xFF (fm_bytes (replicate 39 0xFF) ++ rest))
+-- a disk's track
+module _ (disk : Disk) (track : TrackId) where
+  lead_out_quiet : (recording : IbmFm) (before : Bool) (s : ℕ)
+      → QuietPart IdMark Clocked Clocked (rows_cells false (row_cells disk track) before s [] (rows_of recording).lead_out)
+  unfolding rows_cells coded
+  lead_out_quiet recording before s = last_quiet disk.track_gap
 
-ring_clocked : (track : TrackId) (bytes : List ℕ) → Clocked (ring_of track bytes)
-unfolding ring_of_rows track_parts
-ring_clocked track bytes = lead_in_clocked track (flat_map (sector_parts 1 128 bytes rows) (range_with_len 1 26) ++ parts_of 1 [] rows.lead_out)
+  after_mark_quiet : (content : List ℕ) (sector : ℕ) → QuietPart IdMark Clocked Clocked (after_mark disk track content sector)
+  unfolding after_mark
+  after_mark_quiet content sector =
+      let last = fm_bytes (replicate disk.sector_gap 0xFF) ++ [] in
+      let filled = field_cells 0xFB content ++ last in
+      let marked = word_cells 16 0xF56F ++ filled in
+      let zeros = fm_bytes (replicate 6 0x00) ++ marked in
+      let address = address_of disk.size_code track sector in
+      quiet-append IdMark Clocked Clocked Clocked (field_cells 0xFE address) (fm_bytes (replicate 11 0xFF) ++ zeros) (field_quiet 0xFE address)
+      (quiet-append IdMark Clocked Clocked Clocked (fm_bytes (replicate 11 0xFF)) zeros (run_quiet 11)
+      (quiet-append IdMark Clocked Anything Clocked (fm_bytes (replicate 6 0x00)) marked zeros_quiet
+      (quiet-append IdMark Clocked Clocked Anything (word_cells 16 0xF56F) filled data_mark_quiet
+      (quiet-append IdMark Clocked Clocked Clocked (field_cells 0xFB content) last (field_quiet 0xFB content) (last_quiet disk.sector_gap)))))
+
+  sector_part : (recording : IbmFm) (before : Bool) (sector : ℕ) (content : List ℕ)
+      → SyncPart IdMark (λ place. place ≡ 96) Clocked Clocked (rows_cells false (row_cells disk track) before sector content (sector_rows (rows_of recording)))
+  unfolding rows_cells coded after_mark
+  sector_part recording before sector content =
+      let zeros = fm_bytes (replicate 6 0x00) in
+      let after = after_mark disk track content sector in
+      let size : length zeros ≡ 96 = length-fm_bytes (replicate 6 0x00) in
+      part-skip IdMark (λ place. place ≡ 96) Clocked Anything Clocked zeros (word_cells 16 0xF57E ++ after) zeros_quiet
+      (part-then IdMark (λ place. length zeros + place ≡ 96) Clocked Clocked Anything (word_cells 16 0xF57E) after
+      (λ rest clocked. (let one = id_mark_first rest clocked in ((λ place within test. (let e = one.0 place within test in omega (arith, e, size))), one.1)))
+      (after_mark_quiet content sector))
+
+  -- cells that begin with a row of bytes
+  run_clocked : (count s : ℕ) (others : List Row) (parts : List (TrackRow Row))
+      → Clocked (coded false (part_cells (row_cells disk track)) false (parts_of s [] (Run (suc count) 0xFF ∷ others) ++ parts))
+  unfolding coded
+  run_clocked count s others parts =
+      let bytes = fm_bytes (replicate count 0xFF) in
+      let rest = coded false (part_cells (row_cells disk track)) false (parts_of s [] others ++ parts) in
+      subst Clocked (sym (append_assoc (fm 0xFF) bytes rest)) (byte_clocked 0xFF (bytes ++ rest))
+
+lead_in_clocked : (recording : IbmFm) (track : TrackId) (s : ℕ) (parts : List (TrackRow Row))
+    → Clocked (coded false (part_cells (row_cells (disk_of recording) track)) false (parts_of s [] (rows_of recording).lead_in ++ parts))
+lead_in_clocked Ibm3740 track s parts = run_clocked (disk_of Ibm3740) track 39 s (Run 6 0x00 ∷ AMark Index ∷ Run 26 0xFF ∷ []) parts
+lead_in_clocked Acorn track s parts = run_clocked (disk_of Acorn) track 15 s [] parts
+
+-- a ring
+abbrev ring : IbmFm → TrackId → List ℕ → List Bool
+ring recording track bytes =
+    let disk = disk_of recording in
+    ring_of false (row_cells disk track) disk.first_sector disk.sectors disk.sector_size bytes (rows_of recording)
+
+ring_clocked : (recording : IbmFm) (track : TrackId) (bytes : List ℕ) → Clocked (ring recording track bytes)
+unfolding ring_of track_parts
+ring_clocked recording track bytes =
+    let disk = disk_of recording in
+    let rows = rows_of recording in
+    lead_in_clocked recording track disk.first_sector
+    (flat_map (sector_parts disk.first_sector disk.sector_size bytes rows) (range_with_len disk.first_sector disk.sectors)
+    ++ parts_of disk.first_sector [] rows.lead_out)
 
 -- so in the ring it begins where headers do
-pub own_syncs : (track : TrackId) → HasOwnSyncs 0xF57E 16 112 1 26 (NamesSector track) (place_of row_size 1 128 rows) (AreSectors 26 128) (ring_of track)
+pub own_syncs : (recording : IbmFm) (track : TrackId) → let disk = disk_of recording in
+    HasOwnSyncs 0xF57E 16 112 disk.first_sector disk.sectors (NamesSector disk.size_code track)
+    (place_of (row_size disk) disk.first_sector disk.sector_size (rows_of recording)) (AreSectors disk.sectors disk.sector_size) (ring recording track)
 unfolding total
-own_syncs track = record {
-  lead = 0;
-  rest = sync_rest;
-  short = omega (arith, length-sync_rest);
-  leads = λ cells s stands named. leads cells stands;
-  only = λ bytes given.
-      syncs-in_ring false (row_cells track) row_size (row_length track) 1 26 128 rows bytes given.whole IdMark Clocked 0
-      (λ before s number. sector_part track before s (bytes_of 1 128 bytes s))
-      (lead_in_quiet track) (lead_out_quiet track) (ring_clocked track bytes);
-}
+own_syncs recording track =
+    let disk = disk_of recording in record {
+      lead = 0;
+      rest = sync_rest;
+      short = omega (arith, length-sync_rest);
+      leads = λ cells s stands named. leads cells stands;
+      only = λ bytes given.
+          syncs-in_ring false (row_cells disk track) (row_size disk) (row_length disk track) disk.first_sector disk.sectors disk.sector_size
+          (rows_of recording) bytes given.whole IdMark Clocked 0
+          (λ before s number. sector_part disk track recording before s (bytes_of disk.first_sector disk.sector_size bytes s))
+          (lead_in_quiet recording track disk.first_sector)
+          (λ before. lead_out_quiet disk track recording before disk.first_sector) (ring_clocked recording track bytes);
+    }

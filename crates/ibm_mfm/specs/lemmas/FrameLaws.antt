@@ -19,6 +19,7 @@ use Rattle.mfm_coding.specs.Coding.{bytes_as_data, coded, symbol_cells}
 use Rattle.mfm_coding.specs.lemmas.CodingLaws.{coded-append, last_bit, length-coded}
 use Rattle.mfm_coding.specs.lemmas.SymbolRows.{rows-coded, rows_symbols}
 use Rattle.ibm_mfm.specs.declared.layout.Disk.{Disk}
+use Rattle.ibm_mfm.specs.declared.recording.IbmMfm.{IbmMfm}
 use Rattle.ibm_mfm.specs.lemmas.DiskLaws.{counts}
 use Rattle.ibm_mfm.specs.Disks.{IsMfmTrack, disk_of}
 use Rattle.ibm_mfm.specs.Layout.{field, row_cells, row_symbols, rows}
@@ -117,13 +118,13 @@ holds track sector bytes before rest fit size =
     }
 
 -- the rows of a frame are read back
-pub frame_stands : (sectors : ℕ) (track : TrackId) (sector : ℕ) (bytes : List ℕ) (before : Bool) (rest : List Bool) → IsMfmTrack sectors track
-    → IsSectorNumber (disk_of sectors).first_sector sectors sector → AreBytes bytes → length bytes ≡ 512
+pub frame_stands : (recording : IbmMfm) (track : TrackId) (sector : ℕ) (bytes : List ℕ) (before : Bool) (rest : List Bool) → IsMfmTrack track
+    → IsSectorNumber (disk_of recording).first_sector (disk_of recording).sectors sector → AreBytes bytes → length bytes ≡ 512
     → FrameStands 0x44894489 32 160 704 (NamesSector track) SyncAt Hold
-    (rows_cells true (row_cells (disk_of sectors) track) before sector bytes rows.frame ++ rest) sector bytes
-frame_stands sectors track sector bytes before rest known number fit size =
-    let disk = disk_of sectors in
-    let few = (counts sectors known.disk).1 in
+    (rows_cells true (row_cells (disk_of recording) track) before sector bytes rows.frame ++ rest) sector bytes
+frame_stands recording track sector bytes before rest known number fit size =
+    let disk = disk_of recording in
+    let few = (counts recording).1 in
     let some = header track sector in
     let after = gap ++ content bytes in
     let first = coded before some in

@@ -22,7 +22,8 @@ use Rattle.mfm_coding.specs.lemmas.MarkPlaces.{FollowsBit, QuietSymbols, SyncSym
 use Rattle.mfm_coding.specs.lemmas.SymbolRows.{rows_symbols, syncs-in_symbols, track_symbols}
 use Rattle.ibm_mfm.specs.declared.layout.Disk.{Disk}
 use Rattle.ibm_mfm.specs.lemmas.DiskLaws.{last_zero}
-use Rattle.ibm_mfm.specs.Disks.{IsMfmTrack, disk_of}
+use Rattle.ibm_mfm.specs.declared.recording.IbmMfm.{IbmMfm}
+use Rattle.ibm_mfm.specs.Disks.{disk_of}
 use Rattle.ibm_mfm.specs.lemmas.FrameLaws.{three_marks}
 use Rattle.ibm_mfm.specs.Layout.{field, row_cells, row_size, row_symbols, rows}
 use Rattle.ibm_mfm.specs.lemmas.RowLaws.{row_sized}
@@ -219,20 +220,20 @@ module _ (disk : Disk) (track : TrackId) where
   ring_follows sectors bytes = (Data 0x4E, _, refl)
 
 -- so in the ring it begins where headers do, after the zero with which the first mark begins
-pub own_syncs : (sectors : ℕ) (track : TrackId) → IsMfmTrack sectors track → let disk = disk_of sectors in
-    HasOwnSyncs 0x44894489 32 160 disk.first_sector sectors (NamesSector track) (place_of (row_size disk) disk.first_sector 512 rows)
-    (AreSectors sectors 512) (λ bytes. ring_of true (row_cells disk track) disk.first_sector sectors 512 bytes rows)
+pub own_syncs : (recording : IbmMfm) (track : TrackId) → let disk = disk_of recording in
+    HasOwnSyncs 0x44894489 32 160 disk.first_sector disk.sectors (NamesSector track) (place_of (row_size disk) disk.first_sector 512 rows)
+    (AreSectors disk.sectors 512) (λ bytes. ring_of true (row_cells disk track) disk.first_sector disk.sectors 512 bytes rows)
 unfolding total
-own_syncs sectors track known =
-    let disk = disk_of sectors in record {
+own_syncs recording track =
+    let disk = disk_of recording in record {
       lead = 1;
       rest = sync_rest;
       short = omega (arith, length-sync_rest);
       leads = leads track;
       only = λ bytes given.
-          syncs-in_symbols (row_symbols disk track) disk.first_sector sectors 512 rows bytes (row_size disk)
+          syncs-in_symbols (row_symbols disk track) disk.first_sector disk.sectors 512 rows bytes (row_size disk)
           (λ s content row. row_sized disk track s content row) given.whole HeaderSync 1
           (λ s number. sector_part disk track s (bytes_of disk.first_sector 512 bytes s))
           (lead_in_quiet disk track disk.first_sector) (lead_out_quiet disk track disk.first_sector)
-          (last_zero sectors known.disk track) (ring_follows disk track sectors bytes);
+          (last_zero recording track) (ring_follows disk track disk.sectors bytes);
     }

@@ -67,7 +67,7 @@ held_early : (cells others : List Bool) (sync : ℕ) (xs ys : List ℕ) → Agre
 held_early cells others sync xs ys same first second =
     sym first.content ∙ agree-bytes_at (sync + 8288 - 7) cells others same (sync + 64) 512 (omega arith) ∙ second.content
 
-pub tells : (track : TrackId) → TellsEarly 32 160 8288 (NamesSector track) SyncAt Hold
+pub tells : (track : TrackId) → TellsEarly 32 160 8288 (λ cells. 160) (λ cells sync. sync + 8288) (NamesSector track) SyncAt Hold
 tells track = record {
   sync_within = lit≤ tt;
   named = named track;
