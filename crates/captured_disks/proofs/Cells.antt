@@ -12,7 +12,7 @@ use Rattle.phase_loop.specs.Pieces.{Piece, cells_of_piece, cells_of_pieces}
 use Rattle.sector_images.specs.Places.{IsTrack}
 use Rattle.sector_images.specs.declared.format.Format.{Format}
 use Rattle.captured_disks.specs.Frames.{ring_piece}
-use Rattle.captured_disks.proofs.Streams.{IsStreamNumber}
+use Rattle.captured_disks.specs.lemmas.Streams.{IsStreamNumber}
 
 later_same : (ring : List Bool) (later : List Piece)
     → flat_map (λ (piece : Piece). replicate 31 false ++ cells_of_piece ring piece) later

@@ -28,10 +28,10 @@ use Rattle.captured_disks.specs.Headline.{CapturedDisksDecode, DecodesRest, Deco
 use Rattle.captured_disks.specs.Inputs.{IsCapturedDisk, IsErasedDisk}
 use Rattle.captured_disks.proofs.Cells.{cells_are}
 use Rattle.captured_disks.proofs.Images.{images-same}
-use Rattle.captured_disks.proofs.Readings.{are_readings_of}
+use Rattle.captured_disks.specs.lemmas.Readings.{are_readings_of}
 use Rattle.captured_disks.proofs.Sectors.{DisksAreRight, either, kept, of_one}
 use Rattle.captured_disks.proofs.Stops.{no_stop}
-use Rattle.captured_disks.proofs.Streams.{IsStreamNumber, is_stream_number}
+use Rattle.captured_disks.specs.lemmas.Streams.{IsStreamNumber, is_stream_number}
 use Rattle.captured_disks.specs.lemmas.Totals.{all_counted, totals_good}
 use Rattle.captured_disks.specs.lemmas.TrackBytes.{are_sectors, own_bytes}
 

@@ -20,7 +20,7 @@ use Rattle.flux_engine.specs.Streams.{stream_at}
 use Rattle.flux_engine.specs.Tracks.{readings_of}
 use Rattle.captured_disks.specs.Frames.{written_track}
 use Rattle.captured_disks.specs.Headline.{IsKept, IsLost, IsSectorOf}
-use Rattle.captured_disks.proofs.Readings.{are_readings_of}
+use Rattle.captured_disks.specs.lemmas.Readings.{are_readings_of}
 
 -- what the engine says of the sectors of a decoded disk
 pub record DisksAreRight : Type 0 where

@@ -1,2 +1,5 @@
 pub mod Totals
 pub mod TrackBytes
+pub mod Readings
+pub mod Streams
+pub mod Owning

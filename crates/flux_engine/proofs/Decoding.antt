@@ -1,87 +1,114 @@
--- From a stream that was read, and a track that was written out, to what decoding the track says.
-use Rattle.std.specs.Prelude.{◌≡◌, ℕ, Bool, List, Option, Result, Ok, Err, map, refl}
-use Rattle.std.proofs.Common.{subst}
-use Rattle.std.specs.Io.KnownBytes.{Appends}
-use Rattle.flux_base.specs.Outside.{AppendsPart}
+-- From a track's one stream that was read, and the track that was written out, to what decoding the track says.
+use Rattle.std.specs.Prelude.{◌≡◌, ℕ, Bool, List, [], ◌∷◌, map, Option, Result, Ok, Err, refl}
+use Rattle.std.proofs.Common.{ap, sym, subst, ◌∙◌, add-zero}
 use Rattle.flux_base.specs.declared.track.TrackId.{TrackId}
-use Rattle.index_turns.specs.Track.{TrackState}
 use Rattle.sector_images.specs.declared.format.Format.{Format}
 use Rattle.sector_report.specs.declared.totals.Totals.{Totals}
 use Rattle.turn_merge.specs.Book.{Knowledge, StandsFor}
-use Rattle.turn_merge.specs.Readings.{NotedReading, verdict}
-use Rattle.flux_engine.specs.Answers.{DecodesTrack}
-use Rattle.flux_engine.specs.Reading.{ReadsTrack, HasGathered}
-use Rattle.flux_engine.specs.Recordings.{sectors_of}
-use Rattle.flux_engine.specs.Tracks.{part_of, image_of, lines_of, totals_of, numbers}
-use Rattle.flux_engine.specs.declared.sectors.Sectors.{Sectors}
-use Rattle.flux_engine.specs.declared.fault.EngineFault.{EngineFault}
+use Rattle.turn_merge.specs.Readings.{NotedReading}
+use Rattle.flux_engine.specs.Answers.{Answer, CaptureAnswer, DecodesTrack, ReadsCapture, of_capture}
+use Rattle.flux_engine.specs.Captured.{AreReadingsAt, moved}
+use Rattle.flux_engine.specs.Recordings.{cells_of, track_at}
+use Rattle.flux_engine.specs.Room.{RoomState}
+use Rattle.flux_engine.specs.lemmas.OneCapture.{one_capture}
+use Rattle.flux_engine.specs.TrackParts.{WritesPart}
+use Rattle.flux_engine.specs.Tracks.{IsPart, part_of, readings_of}
+use Rattle.flux_engine.specs.declared.fault.CaptureFault.{CaptureFault}
+use Rattle.flux_engine.specs.declared.fault.CaptureFault.TheVariants.{ReadFault as UnreadCapture, Refused as RefusedCapture}
 use Rattle.flux_engine.specs.declared.fault.EngineFault.TheVariants.{ImageFault, NotesFault}
+use Rattle.flux_engine.specs.declared.track_part.PartFault.{PartFault}
+use Rattle.flux_engine.specs.declared.track_part.PartFault.TheVariants.{ImageFault as PartImageFault, NotesFault as PartNotesFault}
 
-module _ (format : Format) (track : TrackId) (number : ℕ) (left left' : Option (List ℕ)) (used : Bool) (held held' : List ℕ) (flux : TrackState)
-    (image image' notes notes' : Option (List ℕ)) where
-  abbrev Reads : Result (Unit {0}) EngineFault → Type 0
-  Reads answer = ReadsTrack number left left' used held held' flux answer
+-- what writing the track answers
+abbrev pub of_part : Result Totals PartFault → Answer
+of_part (Ok totals) = Ok totals
+of_part (Err PartImageFault) = Err ImageFault
+of_part (Err PartNotesFault) = Err NotesFault
 
-  pub decodes_image_fault : (u : Unit {0}) (book : Knowledge)
-      → Reads (Ok u) → HasGathered format track flux.times flux.indexes book
-      → ((readings : List NotedReading) → StandsFor book readings → AppendsPart image image' (image_of format track readings))
-      → DecodesTrack format track number left left' used held held' image image' notes notes (Err ImageFault)
-  decodes_image_fault u book r h part = record {
-    taken = r.taken;
-    consumed = r.consumed;
-    few = r.few;
-    times = flux.times;
-    indexes = flux.indexes;
-    stream = λ later only. r.stream later (λ cannot. absurd cannot);
-    ended = λ cannot. absurd cannot;
-    wrote = (
-      part_of format track h.readings,
-      h.is,
-      part h.readings h.stands,
-      refl,
-    );
+module _ (format : Format) (track : TrackId) (number : ℕ) (left left' : Option (List ℕ)) (used : Bool) (held held' : List ℕ) (old new : Knowledge) where
+  pub decodes_fault : (image notes : Option (List ℕ)) (fault : CaptureFault) → ReadsCapture format track 0 left left' used held held' old new (Err fault)
+      → DecodesTrack format track number left left' used held held' image image notes notes (Err (of_capture number fault))
+  decodes_fault image notes UnreadCapture c = record {
+    taken = c.read.taken;
+    consumed = c.read.consumed;
+    few = c.read.few;
+    times = c.times;
+    indexes = c.indexes;
+    stream = λ later only. c.read.stream later only;
+    ended = c.read.ended;
+    wrote = (refl, refl);
+  }
+  decodes_fault image notes (RefusedCapture block fault) c = record {
+    taken = c.read.taken;
+    consumed = c.read.consumed;
+    few = c.read.few;
+    times = c.times;
+    indexes = c.indexes;
+    stream = λ later only. (refl, c.read.stream later only);
+    ended = c.read.ended;
+    wrote = (refl, refl);
   }
 
-  pub decodes_notes_fault : (u : Unit {0}) (book : Knowledge) (sectors : Sectors) → sectors ≡ sectors_of format track
-      → Reads (Ok u) → HasGathered format track flux.times flux.indexes book
-      → ((readings : List NotedReading) → StandsFor book readings → Appends image image' (image_of format track readings))
-      → ((readings : List NotedReading) → StandsFor book readings → AppendsPart notes notes' (lines_of track sectors readings))
-      → DecodesTrack format track number left left' used held held' image image' notes notes' (Err NotesFault)
-  decodes_notes_fault u book sectors same r h whole part = record {
-    taken = r.taken;
-    consumed = r.consumed;
-    few = r.few;
-    times = flux.times;
-    indexes = flux.indexes;
-    stream = λ later only. r.stream later (λ cannot. absurd cannot);
-    ended = λ cannot. absurd cannot;
-    wrote = (
-      part_of format track h.readings,
-      h.is,
-      whole h.readings h.stands,
-      subst (λ (s : Sectors). AppendsPart notes notes' (lines_of track s h.readings)) same (part h.readings h.stands),
-    );
-  }
+  pub decodes_part : (image image' notes notes' : Option (List ℕ)) (u : Unit {0}) (answer : Result Totals PartFault)
+      → ReadsCapture format track 0 left left' used held held' old new (Ok u) → StandsFor old []
+      → ((readings : List NotedReading) → StandsFor new readings → WritesPart (part_of format track readings) image image' notes notes' answer)
+      → DecodesTrack format track number left left' used held held' image image' notes notes' (of_part answer)
+  decodes_part image image' notes notes' u (Ok totals) c empty wrote =
+      let readings = c.noted.0 in
+      let w = wrote readings (c.noted.2 [] empty) in
+      record {
+        taken = c.read.taken;
+        consumed = c.read.consumed;
+        few = c.read.few;
+        times = c.times;
+        indexes = c.indexes;
+        stream = λ later only. c.read.stream later (λ cannot. absurd cannot);
+        ended = λ cannot. absurd cannot;
+        wrote = (part_of format track readings, one_capture format track c.times c.indexes readings c.noted.1, w.0, w.1, w.2);
+      }
+  decodes_part image image' notes notes' u (Err PartImageFault) c empty wrote =
+      let readings = c.noted.0 in
+      let w = wrote readings (c.noted.2 [] empty) in
+      record {
+        taken = c.read.taken;
+        consumed = c.read.consumed;
+        few = c.read.few;
+        times = c.times;
+        indexes = c.indexes;
+        stream = λ later only. c.read.stream later (λ cannot. absurd cannot);
+        ended = λ cannot. absurd cannot;
+        wrote = (part_of format track readings, one_capture format track c.times c.indexes readings c.noted.1, w.0, w.1);
+      }
+  decodes_part image image' notes notes' u (Err PartNotesFault) c empty wrote =
+      let readings = c.noted.0 in
+      let w = wrote readings (c.noted.2 [] empty) in
+      record {
+        taken = c.read.taken;
+        consumed = c.read.consumed;
+        few = c.read.few;
+        times = c.times;
+        indexes = c.indexes;
+        stream = λ later only. c.read.stream later (λ cannot. absurd cannot);
+        ended = λ cannot. absurd cannot;
+        wrote = (part_of format track readings, one_capture format track c.times c.indexes readings c.noted.1, w.0, w.1);
+      }
 
-  pub decodes_whole : (u : Unit {0}) (book : Knowledge) (sectors : Sectors) (totals : Totals) → sectors ≡ sectors_of format track
-      → Reads (Ok u) → HasGathered format track flux.times flux.indexes book
-      → ((readings : List NotedReading) → StandsFor book readings → Appends image image' (image_of format track readings))
-      → ((readings : List NotedReading) → StandsFor book readings → Appends notes notes' (lines_of track sectors readings))
-      → ((readings : List NotedReading) → StandsFor book readings → totals ≡ totals_of (map (verdict readings) (numbers sectors)))
-      → DecodesTrack format track number left left' used held held' image image' notes notes' (Ok totals)
-  decodes_whole u book sectors totals same r h whole lines counted = record {
-    taken = r.taken;
-    consumed = r.consumed;
-    few = r.few;
-    times = flux.times;
-    indexes = flux.indexes;
-    stream = λ later only. r.stream later (λ cannot. absurd cannot);
-    ended = λ cannot. absurd cannot;
-    wrote = (
-      part_of format track h.readings,
-      h.is,
-      whole h.readings h.stands,
-      subst (λ (s : Sectors). Appends notes notes' (lines_of track s h.readings)) same (lines h.readings h.stands),
-      subst (λ (s : Sectors). totals ≡ totals_of (map (verdict h.readings) (numbers s))) same (counted h.readings h.stands),
-    );
-  }
+module _ (old start : RoomState) (number : ℕ) (is : start ≡ record old { started = number; captures = 0; book = start.book }) (left left' : Option (List ℕ)) where
+  -- nothing but the book is another one where a track was started
+  pub from_start : (held' : List ℕ) (book : Knowledge) (answer : CaptureAnswer)
+      → ReadsCapture start.format (track_at start.format number) 0 left left' start.used start.held held' start.book book answer
+      → ReadsCapture old.format (track_at old.format number) 0 left left' old.used old.held held' start.book book answer
+  from_start held' book answer c =
+      subst (λ (f : Format). ReadsCapture f (track_at f number) 0 left left' old.used old.held held' start.book book answer) (ap (λ (r : RoomState). r.format) is)
+      (subst (λ (u : Bool). ReadsCapture start.format (track_at start.format number) 0 left left' u old.held held' start.book book answer) (ap (λ (r : RoomState). r.used) is)
+      (subst (λ (h : List ℕ). ReadsCapture start.format (track_at start.format number) 0 left left' start.used h held' start.book book answer) (ap (λ (r : RoomState). r.held) is) c))
+
+  pub decodes_started : (read : RoomState) → read.format ≡ start.format → (image image' notes notes' : Option (List ℕ)) (u : Unit {0}) (answer : Result Totals PartFault)
+      → ReadsCapture start.format (track_at start.format number) 0 left left' start.used start.held read.held start.book read.book (Ok u) → StandsFor start.book []
+      → ((readings : List NotedReading) → StandsFor read.book readings → WritesPart (part_of read.format (track_at read.format number) readings) image image' notes notes' answer)
+      → DecodesTrack old.format (track_at old.format number) number left left' old.used old.held read.held image image' notes notes' (of_part answer)
+  decodes_started read same image image' notes notes' u answer c empty wrote =
+      decodes_part old.format (track_at old.format number) number left left' old.used old.held read.held start.book read.book image image' notes notes' u answer
+      (from_start read.held read.book (Ok u) c) empty
+      (subst (λ (f : Format). (readings : List NotedReading) → StandsFor read.book readings → WritesPart (part_of f (track_at f number) readings) image image' notes notes' answer)
+      (same ∙ ap (λ (r : RoomState). r.format) is) wrote)

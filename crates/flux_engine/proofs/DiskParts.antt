@@ -20,8 +20,8 @@ use Rattle.disk_recordings.specs.Members.{header_at, sector_at}
 use Rattle.flux_engine.specs.Recordings.{cells_of, sectors_of, track_at}
 use Rattle.flux_engine.specs.Streams.{has_fault, stream_at}
 use Rattle.flux_engine.specs.Tracks.{TrackPart, IsPart, image_of}
-use Rattle.flux_engine.proofs.Finding.{find-below}
-use Rattle.flux_engine.proofs.GoodSectors.{lengths}
+use Rattle.flux_engine.specs.lemmas.Finding.{find-below}
+use Rattle.flux_engine.specs.lemmas.GoodSectors.{lengths}
 use Rattle.flux_engine.proofs.Outcomes.{stop_track}
 
 -- a part of what stands after a list, and before another, is that part of it

@@ -23,7 +23,7 @@ use Rattle.flux_engine.specs.Recordings.{sectors_of, track_at}
 use Rattle.flux_engine.specs.Streams.{stream_at}
 use Rattle.flux_engine.specs.Tracks.{Found, IsPart, TrackPart, image_bytes, image_of, is_good, line_of, lines_of, part_of, readings_of}
 use Rattle.flux_engine.proofs.DiskParts.{few_parts, image_is, image_split, lines_split, piece_within, place_is, size_at, stop_is}
-use Rattle.flux_engine.proofs.GoodSectors.{in_image}
+use Rattle.flux_engine.specs.lemmas.GoodSectors.{in_image}
 use Rattle.flux_engine.proofs.LineNumbers.{Skips, line-first, sectors_on, skips-append, skips-lines, skips-tracks}
 use Rattle.flux_engine.proofs.Outcomes.{good_is_right, one_found, one_part}
 use Rattle.flux_engine.specs.lemmas.Pieces.{pieces-at}

@@ -27,7 +27,7 @@ use Rattle.flux_engine.specs.Tracks.{TrackPart, IsPart}
 use Rattle.flux_engine.specs.Writing.{sum_of}
 use Rattle.flux_engine.specs.declared.fault.EngineFault.{EngineFault}
 use Rattle.flux_engine.specs.declared.fault.EngineFault.TheVariants.{ReadFault, ImageFault, NotesFault, Refused}
-use Rattle.flux_engine.proofs.Finding.{find-first, find-none}
+use Rattle.flux_engine.specs.lemmas.Finding.{find-first, find-none}
 
 no_part : TrackPart
 no_part = record { image = []; lines = []; totals = no_totals }

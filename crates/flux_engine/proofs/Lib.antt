@@ -4,11 +4,9 @@ pub mod ImagePieces
 pub mod RecoveredCells
 pub mod Streams
 pub mod Decoding
-pub mod Finding
+pub mod Noting
 pub mod Counting
 pub mod Disks
-pub mod Each
-pub mod GoodSectors
 pub mod Outcomes
 pub mod DiskParts
 pub mod LineNumbers

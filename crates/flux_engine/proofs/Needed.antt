@@ -1,4 +1,4 @@
--- Reads that are made one after the other, each where the answer was open.
+-- The reads of a disk, and of an image.
 use Rattle.std.specs.Prelude.{◌≡◌, ◌≤◌, ◌<◌, ℕ, zero, suc, ◌+◌, ◌-◌, List, [], ◌∷◌, ◌++◌, length, take, nat_lt, Option, Some, None, refl}
 use Rattle.std.specs.List.{concat}
 use Rattle.std.specs.Io.KnownBytes.{Consumes, Keeps}
@@ -21,63 +21,7 @@ use Rattle.flux_engine.specs.Reading.{HasDecoded}
 use Rattle.flux_engine.specs.Room.{RoomState}
 use Rattle.flux_engine.specs.Streams.{stream_at}
 use Rattle.flux_engine.proofs.Disks.{stop_is}
-use Rattle.flux_engine.proofs.Telling.{rest_of, some_same}
-
-Gives-nil : (given : Option (List (List ℕ))) → Gives given given []
-Gives-nil None = tt
-Gives-nil (Some pieces) = sym (append-nil pieces)
-
-Gives-trans : (old mid new : Option (List (List ℕ))) (ps qs : List (List ℕ)) → Gives old mid ps → Gives mid new qs → Gives old new (ps ++ qs)
-Gives-trans None None None ps qs first second = tt
-Gives-trans None None (Some zs) ps qs first second = absurd second
-Gives-trans None (Some ys) new ps qs first second = absurd first
-Gives-trans (Some xs) None None ps qs first second = tt
-Gives-trans (Some xs) None (Some zs) ps qs first second = absurd second
-Gives-trans (Some xs) (Some ys) None ps qs first second = tt
-Gives-trans (Some xs) (Some ys) (Some zs) ps qs first second = second ∙ ap (λ x. x ++ qs) first ∙ append_assoc xs ps qs
-
-both_none : (ps qs : List (List ℕ)) → ps ++ qs ≡ [] → (ps ≡ []) × (qs ≡ [])
-both_none [] qs none = (refl, none)
-both_none (p ∷ ps) qs none = absurd (some none)
-  where
-    some : {x : List ℕ} {xs : List (List ℕ)} → x ∷ xs ≡ [] → ⊥
-    some same = cc
-
-pub no_reads : (IsOpen : List ℕ → Type 0) (m : SourceMoment) → ReadsWhereOpen IsOpen m m
-no_reads IsOpen m = record {
-  pieces = [];
-  gave = Gives-nil m.given;
-  consumed = Consumes-nil m.left;
-  needed = λ k below. absurd (omega (arith, below));
-  still = λ _. refl;
-}
-
--- these pieces were given after others
-abbrev GaveMore : (IsOpen : List ℕ → Type 0) (old new : SourceMoment) (before : List ℕ) (qs : List (List ℕ)) → Type 0
-GaveMore IsOpen old new before qs =
-    Gives old.given new.given qs × Consumes old.left new.left (concat qs) × ((k : ℕ) → k < length qs → IsOpen (before ++ concat (take k qs)))
-    × (qs ≡ [] → new.faults ≡ old.faults)
-
-pub reads_more : (IsOpen : List ℕ → Type 0) (old mid new : SourceMoment) (r : ReadsWhereOpen IsOpen old mid) (qs : List (List ℕ))
-    → GaveMore IsOpen mid new (concat r.pieces) qs → ReadsWhereOpen IsOpen old new
-reads_more IsOpen old mid new r qs more = record {
-  pieces = r.pieces ++ qs;
-  gave = Gives-trans old.given mid.given new.given r.pieces qs r.gave more.0;
-  consumed = subst (Consumes old.left new.left) (sym (concat-append r.pieces qs))
-      (Consumes-trans old.left mid.left new.left (concat r.pieces) (concat qs) r.consumed more.1);
-  needed = λ k below.
-      elim (cases_lt k (length r.pieces)) [
-        | inl before ↦ subst IsOpen (ap concat (sym (take-append-le k r.pieces qs (omega (arith, before))))) (r.needed k before)
-        | inr least ↦
-            let j : ℕ = k - length r.pieces in
-            let at : k ≡ length r.pieces + j = omega (arith, least) in
-            let low : j < length qs = omega (arith, at, below, length-append r.pieces qs) in
-            let same : concat (take k (r.pieces ++ qs)) ≡ concat r.pieces ++ concat (take j qs) =
-            ap (λ n. concat (take n (r.pieces ++ qs))) at ∙ ap concat (take-append-add r.pieces qs j) ∙ concat-append r.pieces (take j qs) in
-            subst IsOpen (sym same) (more.2 j low)
-      ];
-  still = λ none. let each = both_none r.pieces qs none in more.3 each.1 ∙ r.still each.0;
-}
+use Rattle.flux_engine.specs.lemmas.ReadLaws.{no_reads, reads_more, rest_of, some_same}
 
 one_some : (piece : List ℕ) → piece ∷ [] ≡ [] → ⊥
 one_some piece same = cc

@@ -19,7 +19,7 @@ use Rattle.disk_recordings.specs.Members.{header_at, sector_at}
 use Rattle.flux_engine.specs.Recordings.{track_at, sectors_of, cells_of}
 use Rattle.flux_engine.specs.Streams.{stream_at, has_fault}
 use Rattle.flux_engine.specs.Tracks.{Found, TrackPart, IsPart, image_of, part_of, readings_of}
-use Rattle.flux_engine.proofs.GoodSectors.{head_of, head_holds, all_agree, good_image}
+use Rattle.flux_engine.specs.lemmas.GoodSectors.{head_of, head_holds, all_agree, good_image}
 
 abbrev pub stop_track : Option Stop → ℕ
 stop_track None = 0

@@ -149,7 +149,7 @@ module _ (one : SectorsHaveOneLine) (total_one : TotalsHaveOneLine) (format : Fo
             record {
               cylinder_fits = bounds.cylinder;
               head_fits = omega (arith, bounds.head);
-              sector_fits = omega (arith, known.1, bounds.sectors);
+              sector_fits = omega (arith, known.1, bounds.numbers);
               verdict_fits = subst VerdictFits has.is (verdict_fits read cells_few format (track_at format n) (times (stream_at x n)) (indexes (stream_at x n)) has.found s few.0 few.1 has.all);
             }
 

@@ -12,8 +12,9 @@ use Rattle.kryo_stream.specs.declared.block.SpelledBlock.{SpelledBlock}
 use Rattle.kryo_stream.specs.declared.fault.StreamFault.{StreamFault}
 use Rattle.kryo_stream.specs.declared.fault.StreamFault.TheVariants.{NoTurn}
 use Rattle.kryo_stream.specs.declared.fault.TrackFault.TheVariants.{ReadFault as Unread, Refused as NotAStream}
-use Rattle.flux_engine.specs.Reading.{ReadsTrack, IsBounded}
-use Rattle.flux_engine.specs.declared.fault.EngineFault.TheVariants.{ReadFault, Refused}
+use Rattle.flux_engine.specs.Answers.{CaptureAnswer, ReadsStream}
+use Rattle.flux_engine.specs.Reading.{IsBounded}
+use Rattle.flux_engine.specs.declared.fault.CaptureFault.TheVariants.{ReadFault, Refused}
 
 few_bytes : (used : Bool) (n : ℕ) → n ≤ most_padding used + 4198400 → n ≤ 4198416
 few_bytes true n few = omega (arith, few)
@@ -45,8 +46,11 @@ two_turns x none =
     let same = length-map (marks (stream x)) (index_time (stream x)) in
     omega (arith, least, same)
 
-module _ (number : ℕ) (left left' : Option (List ℕ)) (used : Bool) (held held' : List ℕ) (flux : TrackState) where
-  pub read_failed : IsRead left left' used held held' flux (Err Unread) → ReadsTrack number left left' used held held' flux (Err ReadFault)
+module _ (left left' : Option (List ℕ)) (used : Bool) (held held' : List ℕ) (flux : TrackState) where
+  abbrev Reads : CaptureAnswer → Type 0
+  Reads answer = ReadsStream left left' used held held' flux.times flux.indexes answer
+
+  pub read_failed : IsRead left left' used held held' flux (Err Unread) → Reads (Err ReadFault)
   read_failed r = record {
     taken = r.taken;
     consumed = r.consumed;
@@ -58,16 +62,16 @@ module _ (number : ℕ) (left left' : Option (List ℕ)) (used : Bool) (held hel
   }
 
   pub read_refused : (block : ℕ) (fault : StreamFault) → IsRead left left' used held held' flux (Err (NotAStream block fault))
-      → ReadsTrack number left left' used held held' flux (Err (Refused number block fault))
+      → Reads (Err (Refused block fault))
   read_refused block fault r = record {
     taken = r.taken;
     consumed = r.consumed;
     few = few_bytes used (length (held ++ r.taken)) r.few;
-    stream = λ (later : List ℕ) only. (refl, r.says later only);
+    stream = λ (later : List ℕ) only. r.says later only;
     ended = r.ended;
   }
 
-  pub read_whole : (u : Unit {0}) → IsRead left left' used held held' flux (Ok u) → ReadsTrack number left left' used held held' flux (Ok u)
+  pub read_whole : (u : Unit {0}) → IsRead left left' used held held' flux (Ok u) → Reads (Ok u)
   read_whole u r = record {
     taken = r.taken;
     consumed = r.consumed;

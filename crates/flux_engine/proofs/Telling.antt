@@ -4,20 +4,8 @@ use Rattle.std.specs.Io.KnownBytes.{Consumes, IsAtEnd}
 use Rattle.std.proofs.Common.{sym, subst, ◌∙◌, arith, append-nil}
 use Rattle.sector_images.specs.declared.format.Format.{Format}
 use Rattle.flux_engine.specs.Answers.{Answer, DecodesDisk, SaysOfDisk, SaysOfInput, IsOfBytesAtHand, EngineCause, Stayed, IsWholeOrRefused}
+use Rattle.flux_engine.specs.lemmas.ReadLaws.{Rest, rest_of, some_same}
 use Rattle.flux_engine.specs.declared.fault.EngineFault.TheVariants.{ReadFault, ImageFault, NotesFault, Refused}
-
--- the told bytes are those taken and those left
-pub record Rest (x : List ℕ) (left' : Option (List ℕ)) (taken : List ℕ) : Type 0 where
-  pub rest : List ℕ
-  pub left : left' ≡ Some rest
-  pub all : x ≡ taken ++ rest
-
-pub rest_of : (x taken : List ℕ) (left' : Option (List ℕ)) → Consumes (Some x) left' taken → Rest x left' taken
-rest_of x taken None consumed = absurd consumed
-rest_of x taken (Some rest) consumed = record { rest = rest; left = refl; all = consumed }
-
-pub some_same : (a b : List ℕ) → Some a ≡ Some b → a ≡ b
-some_same a b same = cc
 
 at_end : (x taken : List ℕ) (left' : Option (List ℕ)) → IsAtEnd left' → (r : Rest x left' taken) → r.rest ≡ []
 at_end x taken None end r = absurd (cc)

@@ -19,7 +19,7 @@ use Rattle.disk_recordings.specs.Members.{header_at, sector_at}
 use Rattle.frame_law.specs.Laws.{places}
 use Rattle.flux_engine.specs.Recordings.{cells_of, start_of}
 use Rattle.flux_engine.specs.Tracks.{Found, place_at, readings_at, readings_of, time_of_place}
-use Rattle.flux_engine.proofs.Each.{Each, each-filter, each-flat, each-map}
+use Rattle.flux_engine.specs.lemmas.Each.{Each, each-filter, each-flat, each-map}
 
 -- there are no more readings than cells, and each lies in them
 record FoundFit (cells : List Bool) (from : ℕ) (found : List Found) : Type 0 where

@@ -1,5 +1,5 @@
 -- What the calls that decode may answer, and what that says of the input and of the bytes that were written.
-use Rattle.std.specs.Prelude.{◌≡◌, ◌≤◌, ◌<◌, ◌⊎◌, ℕ, ◌+◌, Bool, List, [], ◌∷◌, ◌++◌, length, take, Option, Some, None, Result, Ok, Err}
+use Rattle.std.specs.Prelude.{◌≡◌, ◌≤◌, ◌<◌, ◌⊎◌, ℕ, ◌+◌, Bool, List, [], ◌∷◌, ◌++◌, length, take, Option, Some, None, Result, Ok, Err, OnOk}
 use Rattle.std.specs.Io.KnownBytes.{Appends, Consumes, IsAtEnd}
 use Rattle.flux_base.specs.Outside.{GREATEST_COUNT, Rose, AppendsPart}
 use Rattle.flux_base.specs.declared.track.TrackId.{TrackId}
@@ -10,9 +10,14 @@ use Rattle.sector_images.specs.Places.{tracks}
 use Rattle.sector_images.specs.declared.format.Format.{Format}
 use Rattle.sector_report.specs.Lines.{total_text}
 use Rattle.sector_report.specs.declared.totals.Totals.{Totals}
+use Rattle.turn_merge.specs.Book.{Knowledge}
+use Rattle.turn_merge.specs.Readings.{NotedReading}
+use Rattle.flux_engine.specs.Captured.{AppendsReadings, AreReadingsAt}
 use Rattle.flux_engine.specs.Disks.{Stop, Decoded, IsDecoded, AreParts, images, lines, totals_over}
 use Rattle.flux_engine.specs.Streams.{behind, behind_stream}
 use Rattle.flux_engine.specs.Tracks.{TrackPart, IsPart}
+use Rattle.flux_engine.specs.declared.fault.CaptureFault.{CaptureFault}
+use Rattle.flux_engine.specs.declared.fault.CaptureFault.TheVariants.{ReadFault as UnreadCapture, Refused as RefusedCapture}
 use Rattle.flux_engine.specs.declared.fault.EngineFault.{EngineFault}
 use Rattle.flux_engine.specs.declared.fault.EngineFault.TheVariants.{ReadFault, ImageFault, NotesFault, Refused}
 
@@ -51,6 +56,55 @@ SaysOfStream number (Err (Refused track block fault)) x times' indexes' stays =
     (track ≡ number) × (first_fault x ≡ Some (block, fault))
 SaysOfStream number (Err ReadFault) x times' indexes' stays = (block : ℕ) × (first_fault x ≡ Some (block, Truncated))
 SaysOfStream number _ x times' indexes' stays = IsTrackStream x times' indexes' stays
+
+abbrev pub CaptureAnswer : Type 0
+CaptureAnswer = Result (Unit {0}) CaptureFault
+
+-- the answer for one stream says that the input ends inside a block
+abbrev pub IsTruncatedCapture : CaptureAnswer → Type 0
+IsTruncatedCapture (Err (RefusedCapture _ fault)) = fault ≡ Truncated
+IsTruncatedCapture _ = ⊥
+
+-- it is right for the bytes at hand alone
+abbrev pub IsOfCaptureAtHand : CaptureAnswer → Type 0
+IsOfCaptureAtHand (Err (RefusedCapture _ fault)) = fault ≡ Truncated
+IsOfCaptureAtHand (Err UnreadCapture) = Unit {0}
+IsOfCaptureAtHand (Ok _) = ⊥
+
+-- what it says of the input x
+abbrev pub SaysOfCapture : CaptureAnswer → (x times' indexes' stays : List ℕ) → Type 0
+SaysOfCapture (Ok _) x times' indexes' stays = IsTrackStream x times' indexes' stays
+SaysOfCapture (Err (RefusedCapture block fault)) x times' indexes' stays = first_fault x ≡ Some (block, fault)
+SaysOfCapture (Err UnreadCapture) x times' indexes' stays = (block : ℕ) × (first_fault x ≡ Some (block, Truncated))
+
+-- the source fails only where its count rose
+abbrev pub CaptureCause : (source source' : ℕ) → CaptureAnswer → Type 0
+CaptureCause source source' (Err UnreadCapture) = Rose source source'
+CaptureCause source source' _ = Unit {0}
+
+-- the fault of a track's one stream, among those of decoding
+abbrev pub of_capture : (number : ℕ) → CaptureFault → EngineFault
+of_capture number UnreadCapture = ReadFault
+of_capture number (RefusedCapture block fault) = Refused number block fault
+
+-- A call that reads a stream: it took these bytes, which with the held ones are no more than padding, a stream and an
+-- intake can be, and what it says of the stream is right whatever follows the bytes at hand, unless it is of them alone.
+pub record ReadsStream (left left' : Option (List ℕ)) (used : Bool) (held held' times indexes : List ℕ) (answer : CaptureAnswer) : Type 0 where
+  pub taken : List ℕ
+  pub consumed : Consumes left left' taken
+  pub few : length (held ++ taken) ≤ 4198416
+  pub stream : (later : List ℕ) → (IsOfCaptureAtHand answer → later ≡ [])
+      → SaysOfCapture answer (input_of used ((held ++ taken) ++ later)) times indexes (held' ++ later)
+  pub ended : IsTruncatedCapture answer → IsAtEnd left'
+
+-- A call that reads one of the streams that capture a track: where the stream has no fault, all its readings were noted after
+-- those before, with the offset added to each cell.
+pub record ReadsCapture (format : Format) (track : TrackId) (offset : ℕ) (left left' : Option (List ℕ)) (used : Bool) (held held' : List ℕ)
+    (old new : Knowledge) (answer : CaptureAnswer) : Type 0 where
+  pub times : List ℕ
+  pub indexes : List ℕ
+  pub read : ReadsStream left left' used held held' times indexes answer
+  pub noted : OnOk answer ((readings : List NotedReading) × AreReadingsAt format track times indexes offset readings × AppendsReadings old new readings)
 
 -- what the answer says of the bytes that were written: the track's part of the image, and after it its lines
 abbrev pub SaysOfSinks : (TrackPart → Type 0) → (image image' notes notes' : Option (List ℕ)) → Answer → Type 0

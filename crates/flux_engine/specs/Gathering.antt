@@ -1,10 +1,15 @@
 -- The readings of a track, gathered in a book.
-use Rattle.std.specs.Prelude.{◌≡◌, ◌<◌, ◌≤◌, ℕ, ◌+◌, Bool, List, [], ◌++◌, length, take}
+use Rattle.std.specs.Prelude.{◌≡◌, ◌<◌, ◌≤◌, ℕ, ◌+◌, Bool, List, [], ◌++◌, length, map, take}
 use Rattle.cell_bits.specs.Ones.{ones}
 use Rattle.frame_law.specs.declared.reading.Reading.{Reading as Frame}
 use Rattle.frame_law.specs.declared.reading.Reading.TheVariants.{Nothing, Bad, Good}
 use Rattle.frame_law.specs.Readings.{AreReadings}
+use Rattle.flux_base.specs.declared.track.TrackId.{TrackId}
+use Rattle.sector_images.specs.declared.format.Format.{Format}
 use Rattle.turn_merge.specs.Book.{Knowledge, IsKnown, StandsFor, SameShape}
+use Rattle.turn_merge.specs.Readings.{NotedReading}
+use Rattle.flux_engine.specs.Captured.{AppendsReadings, AreReadingsAt, moved}
+use Rattle.flux_engine.specs.Room.{MOST_READINGS}
 use Rattle.flux_engine.specs.Tracks.{Found, readings_of}
 use Rattle.flux_engine.specs.declared.sectors.Sectors.{Sectors}
 
@@ -21,27 +26,42 @@ pub record IsEmptyBook (sectors : Sectors) (book : Knowledge) : Type 0 where
   pub count : length book.found ≡ sectors.count
   pub size : book.size ≡ sectors.size
 
+-- the book knows of these sectors and keeps the bytes of each
+pub record IsBookFor (sectors : Sectors) (book : Knowledge) : Type 0 where
+  pub first : book.first_sector ≡ sectors.first
+  pub count : length book.found ≡ sectors.count
+  pub size : book.size ≡ sectors.size
+
 -- what is read can be noted in the book
 abbrev pub CanBeNoted : Knowledge → Frame → List ℕ → Type 0
 CanBeNoted book Nothing bytes = Unit {0}
 CanBeNoted book (Bad sector) bytes = IsKnown book sector
 CanBeNoted book (Good sector) bytes = IsKnown book sector × (length bytes ≡ book.size)
 
--- all that can be read in the cells was noted in the book
+-- all that can be read in the cells was noted in the book, with the offset added to each cell
 pub record Gathers (header : List Bool → ℕ → Type 0) (sector : List Bool → ℕ → List ℕ → Type 0)
-    (times indexes : List ℕ) (cells : List Bool) (old new : Knowledge) : Type 0 where
+    (times indexes : List ℕ) (cells : List Bool) (offset : ℕ) (old new : Knowledge) : Type 0 where
   pub found : List Found
   pub all : AreReadings header sector cells 0 found
-  pub noted : StandsFor new (readings_of times indexes cells found)
+  pub noted : AppendsReadings old new (map (moved offset) (readings_of times indexes cells found))
   pub shape : SameShape old new
+  pub few : new.notes ≤ old.notes + length cells
 
 -- The walk has come to a place: what was found before it is noted, and with what will be found from there on it is all.
 pub record IsWalk (header : List Bool → ℕ → Type 0) (sector : List Bool → ℕ → List ℕ → Type 0)
-    (times indexes : List ℕ) (cells : List Bool) (from passed : ℕ) (old new : Knowledge) : Type 0 where
+    (times indexes : List ℕ) (cells : List Bool) (offset from passed : ℕ) (old new : Knowledge) : Type 0 where
   pub found : List Found
   pub before : (rest : List Found) → AreReadings header sector cells from rest → AreReadings header sector cells 0 (found ++ rest)
-  pub noted : StandsFor new (readings_of times indexes cells found)
+  pub noted : AppendsReadings old new (map (moved offset) (readings_of times indexes cells found))
   pub shape : SameShape old new
-  pub few : new.notes ≤ from
+  pub few : new.notes ≤ old.notes + from
   pub within : from ≤ length cells
   pub passed_are : passed ≡ ones (take from cells)
+
+-- All readings of a track with these transitions and index times were noted in its book, no more than the track has cells.
+pub record HasNoted (format : Format) (track : TrackId) (times indexes : List ℕ) (offset : ℕ) (old new : Knowledge) : Type 0 where
+  pub readings : List NotedReading
+  pub are : AreReadingsAt format track times indexes offset readings
+  pub noted : AppendsReadings old new readings
+  pub shape : SameShape old new
+  pub few : new.notes ≤ old.notes + MOST_READINGS

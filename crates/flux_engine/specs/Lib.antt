@@ -2,6 +2,7 @@ pub mod Streams
 pub mod Recordings
 pub mod Tracks
 pub mod TrackParts
+pub mod Captured
 pub mod Gathering
 pub mod Writing
 pub mod Disks

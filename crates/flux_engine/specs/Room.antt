@@ -1,24 +1,50 @@
 -- What contracts see of the room in which disks are decoded.
-use Rattle.std.specs.Prelude.{◌≡◌, ◌≤◌, ℕ, Bool, false, List, []}
+use Rattle.std.specs.Prelude.{◌≡◌, ◌≤◌, ◌<◌, ℕ, ◌*◌, Bool, false, List, [], length, replicate, None}
 use Rattle.cell_bits.specs.State.{CellsState, room}
 use Rattle.flux_base.specs.declared.track.TrackId.{TrackId}
 use Rattle.sector_images.specs.Formats.{row, zone}
-use Rattle.sector_images.specs.Places.{IsTrack}
+use Rattle.sector_images.specs.Places.{IsTrack, tracks}
 use Rattle.sector_images.specs.declared.format.Format.{Format}
 use Rattle.turn_merge.specs.Book.{Knowledge}
+use Rattle.turn_merge.specs.declared.verdict.Verdict.TheVariants.{Missing}
+use Rattle.flux_engine.specs.Recordings.{sectors_of, track_at}
+use Rattle.flux_engine.specs.Writing.{Knows}
 
 -- the format, the bytes that were taken from a source and not used yet, whether a stream was read, the number of the
--- next track, and whether a call answered a fault
+-- next track, the number of the track that was started, how many streams were read since, what the book knows of its
+-- sectors by them, and whether a call answered a fault
 pub record RoomState : Type 0 where
   pub format : Format
   pub held : List ℕ
   pub used : Bool
   pub next : ℕ
+  pub started : ℕ
+  pub captures : ℕ
+  pub book : Knowledge
   pub failed : Bool
 
--- a room of this format that nothing was done with
+-- a book for the first track of a format's disks, without a reading
+abbrev pub empty_book : Format → Knowledge
+empty_book format = record {
+  first_sector = (sectors_of format (track_at format 0)).first;
+  most = (sectors_of format (track_at format 0)).count;
+  size = (sectors_of format (track_at format 0)).size;
+  notes = 0;
+  found = replicate (sectors_of format (track_at format 0)).count (record { verdict = Missing; bytes = None });
+}
+
+-- a room of this format that nothing was done with: its first track is started
 abbrev pub fresh : Format → RoomState
-fresh format = record { format = format; held = []; used = false; next = 0; failed = false }
+fresh format = record {
+  format = format;
+  held = [];
+  used = false;
+  next = 0;
+  started = 0;
+  captures = 0;
+  book = empty_book format;
+  failed = false;
+}
 
 -- the book is one for the sectors of the format's tracks
 pub record IsBookOf (format : Format) (book : Knowledge) : Type 0 where
@@ -30,3 +56,13 @@ pub record IsBookOf (format : Format) (book : Knowledge) : Type 0 where
 pub record IsRoomy (format : Format) (cells : CellsState) (book : Knowledge) : Type 0 where
   pub for_cells : 134217728 ≤ room cells
   pub for_book : IsBookOf format book
+
+-- the most readings of one stream: no more than a track has cells
+abbrev pub MOST_READINGS : ℕ
+MOST_READINGS = 134217728
+
+-- the book is one for this track of the format, and has the readings of so many streams
+pub record IsStarted (format : Format) (number captures : ℕ) (book : Knowledge) : Type 0 where
+  pub low : number < length (tracks format)
+  pub knows : Knows (sectors_of format (track_at format number)) book
+  pub few : book.notes ≤ MOST_READINGS * captures

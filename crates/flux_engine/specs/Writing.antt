@@ -4,9 +4,9 @@ use Rattle.sector_report.specs.declared.totals.Totals.{Totals}
 use Rattle.turn_merge.specs.Book.{Knowledge}
 use Rattle.flux_engine.specs.declared.sectors.Sectors.{Sectors}
 
--- the numbers of the sectors have two digits, and a sector has at most 512 bytes
+-- the numbers of the sectors have 8 bits, and a sector has at most 512 bytes
 pub record AreFew (sectors : Sectors) : Type 0 where
-  pub below : sectors.first + sectors.count ≤ 100
+  pub below : sectors.first + sectors.count ≤ 256
   pub size : sectors.size ≤ 512
 
 -- the book knows of these sectors

@@ -2,3 +2,8 @@
 pub mod NoteLaws
 pub mod PartLaws
 pub mod Pieces
+pub mod Finding
+pub mod ReadLaws
+pub mod OneCapture
+pub mod Each
+pub mod GoodSectors

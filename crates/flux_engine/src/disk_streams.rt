@@ -1,8 +1,9 @@
 //! The streams of a disk's tracks, written from an image.
 
-ghost use Rattle.std.specs.Prelude.{◌≡◌, ℕ, ◌≤◌, ◌<◌, List, Some, length, take, IfOk, OnOk, OnErr};
-ghost use Rattle.std.specs.Io.KnownBytes.{Appends, Consumes, IsAtEnd};
-ghost use Rattle.flux_base.specs.Outside.{Rose, AppendsPart};
+ghost use Rattle.std.specs.Prelude.{◌≡◌, ℕ, ◌≤◌, ◌<◌, List, Some, length, take, IfOk, OnErr};
+ghost use Rattle.std.specs.Io.KnownBytes.{Consumes, IsAtEnd};
+ghost use Rattle.flux_base.specs.Moments.{Puts, moment};
+ghost use Rattle.flux_base.specs.Outside.{Rose};
 ghost use Rattle.cell_bits.specs.State.{room};
 ghost use Rattle.kryo_stream.specs.Reads.{source_at};
 ghost use Rattle.sector_images.specs.Formats.{row};
@@ -93,11 +94,8 @@ fn write_tracks<W: Sink>(
 ) -> Result<(), Failed>
     requires image { length image.now ≡ (row format).image_size }
     requires room { HasRoomForRings format ring.old }
-    ensures ok { OnOk result (Appends (W.written sink.old) (W.written sink.new) (streams_of format image.now)) }
-    ensures err { OnErr result (AppendsPart (W.written sink.old) (W.written sink.new) (streams_of format image.now)) }
+    ensures puts { Puts (moment W.written W.faults sink.old) (moment W.written W.faults sink.new) (streams_of format image.now) result }
     ensures room { room ring.old ≤ room ring.new }
-    ensures later { W.faults sink.old ≤ W.faults sink.new }
-    ensures cause { OnErr result (Rose (W.faults sink.old) (W.faults sink.new)) }
 {
     tracks_keep_bounds();
     for number in 0..track_count(format) {

@@ -1,10 +1,11 @@
 //! One walk over the cells of a track, which notes each reading as it comes.
 
-ghost use Rattle.std.specs.Prelude.{◌≡◌, ◌<◌, ◌≤◌, ◌+◌, ◌-◌, ◌^◌, ◌++◌, List, length, slice_index};
+ghost use Rattle.std.specs.Prelude.{◌≡◌, ◌<◌, ◌≤◌, ◌+◌, ◌-◌, ◌*◌, ◌^◌, ◌++◌, List, length, slice_index};
 ghost use Rattle.index_turns.specs.Track.{turn_at};
 ghost use Rattle.turn_merge.specs.Book.{StandsFor, SameShape};
 ghost use Rattle.turn_merge.specs.Readings.{NotedReading};
-ghost use Rattle.flux_engine.specs.Gathering.{AreCellsOf, IsEmptyBook, CanBeNoted, Gathers};
+ghost use Rattle.flux_engine.specs.Gathering.{AreCellsOf, IsBookFor, CanBeNoted, Gathers};
+ghost use Rattle.flux_engine.specs.Room.{MOST_READINGS};
 ghost use Rattle.flux_engine.specs.Tracks.{readings_at};
 
 use cell_bits::Cells;
@@ -13,20 +14,23 @@ use frame_law::{Reading, Recording, SectorBuffer, next_reading};
 use index_turns::TrackFlux;
 use turn_merge::{Book, Place};
 
-/// Notes all readings of a track of the recording in a book that has none yet. Each cell is looked at once,
-/// and its ones are counted once.
+/// Notes all readings of a track of the recording in a book, after those that it has, each with the offset added to its
+/// cell. Each cell is looked at once, and its ones are counted once.
 pub(crate) fn gather<R: Recording>(
     recording: &R,
     track: TrackId,
     flux: &TrackFlux,
     cells: &Cells,
+    offset: u64,
     book: &mut Book,
 )
     requires track { R.has_track recording.now track }
     requires cells { AreCellsOf flux.now.times cells.now.cells }
     requires indexes { length flux.now.indexes ≤ 262144 }
-    requires book { IsEmptyBook (record { first = R.first_sector recording.now; count = R.sectors recording.now track; size = R.sector_size recording.now }) book.old }
-    ensures { Gathers (R.header_at recording.now track) (R.sector_at recording.now track) flux.now.times flux.now.indexes cells.now.cells book.old book.new }
+    requires offset { offset ≤ 15 * 2 ^ 32 }
+    requires book { IsBookFor (record { first = R.first_sector recording.now; count = R.sectors recording.now track; size = R.sector_size recording.now }) book.old }
+    requires few { book.old.notes + MOST_READINGS ≤ 2 ^ 31 }
+    ensures { Gathers (R.header_at recording.now track) (R.sector_at recording.now track) flux.now.times flux.now.indexes cells.now.cells offset book.old book.new }
 {
     let mut buffer = SectorBuffer::new();
     let mut from = 0;
@@ -36,25 +40,27 @@ pub(crate) fn gather<R: Recording>(
         note_reading(
             book,
             reading,
-            place_of(flux, passed, cell),
+            place_of(flux, passed, cell, offset),
             buffer.as_slice(),
         );
         from = cell + 1;
     }
 }
 
-/// The place of a cell. So many ones stand at the places up to it: the last of them is the transition whose
-/// time says in which turn the cell lies.
-fn place_of(flux: &TrackFlux, ones_to: usize, cell: usize) -> Place
+/// The place of a cell, with the offset added. So many ones stand at the places up to it: the last of them is the
+/// transition whose time says in which turn the cell lies.
+fn place_of(flux: &TrackFlux, ones_to: usize, cell: usize, offset: u64) -> Place
     requires some { 1 ≤ ones_to }
     requires within { ones_to ≤ length flux.now.times }
     requires indexes { length flux.now.indexes ≤ 262144 }
-    ensures { result ≡ record { turn = turn_at flux.now.indexes (slice_index flux.now.times (ones_to - 1)); cell = cell } }
+    requires cell { cell < MOST_READINGS }
+    requires offset { offset ≤ 15 * 2 ^ 32 }
+    ensures { result ≡ record { turn = turn_at flux.now.indexes (slice_index flux.now.times (ones_to - 1)); cell = cell + offset } }
 {
     let time = flux.times()[ones_to - 1];
     Place {
         turn: flux.turn_of(time),
-        cell: cell as u64,
+        cell: cell as u64 + offset,
     }
 }
 

@@ -10,6 +10,7 @@
 //! recordings), and the ring's stream (`flux_writer`).
 #![tactic(auto)]
 
+mod capture;
 mod disk;
 mod disk_streams;
 mod fault;
@@ -26,22 +27,25 @@ mod write_laws;
 mod write_room;
 mod writing;
 
+pub use capture::{bytes, read_capture, room_format, start_track, verdict, write_started_image};
 pub use disk::{add_totals, decode_disk};
 pub use disk_streams::{fill, write_disk};
-pub use fault::EngineFault;
+pub use fault::{CaptureFault, EngineFault};
 pub use gathering::note_reading;
 pub use laws::{
     good_is_right, good_is_right_on_disks, lines_tell_verdicts, outcomes_are_one,
     parts_fill_images, parts_stay,
 };
+pub use recordings::sectors_of;
 pub use ring_making::track_ring;
 pub use room::DiskRoom;
+pub use sectors::Sectors;
 pub use track::decode_track;
 pub use track_part::{PartFault, write_part};
 pub use write_fault::WriteFault;
 pub use write_laws::{captures_are_recovered, images_have_rings, streams_are_captures};
 pub use write_room::WriteRoom;
-pub use writing::no_totals;
+pub use writing::{count_verdict, no_totals};
 
 #[cfg(test)]
 mod tests;

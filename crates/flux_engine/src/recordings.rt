@@ -11,7 +11,7 @@ use frame_law::Recording;
 use sector_images::Format;
 
 /// The sectors of one of the format's tracks.
-pub(crate) fn sectors_of(format: Format, track: TrackId) -> Sectors
+pub fn sectors_of(format: Format, track: TrackId) -> Sectors
     requires { IsTrack format track }
     ensures { result ≡ sectors_in format track }
 {

@@ -24,24 +24,38 @@ pub(crate) struct Tools {
 /// All that decoding a disk of one format needs, less than 128 MiB: no answer of a call on it is for want of memory.
 ///
 /// Contracts see the format, the bytes that were taken from the source and not used yet, whether a stream was
-/// read, the number of the next track, and whether a call answered a fault.
+/// read, the number of the next track, the track whose readings are gathered, how many of its streams were read
+/// and what its book knows, and whether a call answered a fault.
 #[derive(Drop)]
 pub struct DiskRoom {
     pub(crate) format: Format,
     pub(crate) stream: StreamRoom,
     pub(crate) tools: Tools,
     pub(crate) next: u32,
+    /// The track whose readings the book has.
+    pub(crate) started: u32,
+    /// The streams that were read for it.
+    pub(crate) captures: u32,
     pub(crate) failed: bool,
 }
 
 impl Model for DiskRoom {
-    ghost use Rattle.flux_engine.specs.Room.{RoomState, IsRoomy};
+    ghost use Rattle.flux_engine.specs.Room.{RoomState, IsRoomy, IsStarted};
 
     ghost Value = { RoomState };
 
-    ghost view = { λ a. record { format = a.format; held = a.stream.held; used = a.stream.used; next = a.next; failed = a.failed } };
+    ghost view = { λ a. record {
+      format = a.format;
+      held = a.stream.held;
+      used = a.stream.used;
+      next = a.next;
+      started = a.started;
+      captures = a.captures;
+      book = a.tools.book;
+      failed = a.failed;
+    } };
 
-    ghost invariant = { λ a. IsRoomy a.format a.tools.cells a.tools.book };
+    ghost invariant = { λ a. IsRoomy a.format a.tools.cells a.tools.book × IsStarted a.format a.started a.captures a.tools.book };
 }
 
 impl DiskRoom {
@@ -58,17 +72,21 @@ impl DiskRoom {
             stream,
             tools,
             next: 0,
+            started: 0,
+            captures: 0,
             failed: false,
         })
     }
 }
 
 impl Tools {
-    ghost use Rattle.flux_engine.specs.Room.{IsRoomy};
+    ghost use Rattle.flux_engine.specs.Room.{IsRoomy, IsStarted, empty_book};
 
-    /// Room for the most cells, and a book for the format's tracks.
+    /// Room for the most cells, and a book for the format's tracks, of which the first is started.
     fn reserve(alloc: Global, format: Format) -> Result<Tools, Memory>
-        ensures { IfOk result (λ tools. IsRoomy format tools.cells tools.book) }
+        ensures roomy { IfOk result (λ tools. IsRoomy format tools.cells tools.book) }
+        ensures started { IfOk result (λ tools. IsStarted format 0 0 tools.book) }
+        ensures empty { IfOk result (λ tools. tools.book ≡ empty_book format) }
     {
         let clock = Loop::new(alloc)?;
         let mut cells = Cells::new(alloc);

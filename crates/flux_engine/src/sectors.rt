@@ -1,6 +1,6 @@
 /// The sectors of a track.
 #[derive(Clone, Copy, Debug)]
-pub(crate) struct Sectors {
+pub struct Sectors {
     /// The number of the first.
     pub first: u8,
     /// How many there are.

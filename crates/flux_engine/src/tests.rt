@@ -98,7 +98,7 @@ fn decode_first(alloc: Global, format: Format, bytes: Vec<u8>) -> Result<Decoded
 fn a_track_comes_to_its_image_and_lines(rt: HostRuntime) -> Result<(), Fail> {
     let alloc = rt.alloc();
     let mut ring = Cells::new(alloc);
-    IbmFm.ring(TRACK, &[0xE5; 3328], &mut ring)?;
+    IbmFm::Ibm3740.ring(TRACK, &[0xE5; 3328], &mut ring)?;
     let track = decode_first(alloc, Format::Ibm3740, three_turns(alloc, &ring, 48)?)?;
     assert!(rt; matches!(track.totals, Ok(totals) if totals.good == 26 && totals.sectors == 26));
     assert_eq!(rt; track.image.bytes().len(), 3328);
@@ -117,7 +117,7 @@ fn a_track_comes_to_its_image_and_lines(rt: HostRuntime) -> Result<(), Fail> {
 fn a_track_of_a_pc_disk(rt: HostRuntime) -> Result<(), Fail> {
     let alloc = rt.alloc();
     let mut ring = Cells::new(alloc);
-    IbmMfm { sectors: 18 }.ring(TRACK, &[0xF6; 9216], &mut ring)?;
+    IbmMfm::Pc18.ring(TRACK, &[0xF6; 9216], &mut ring)?;
     let track = decode_first(alloc, Format::Ibm1440, three_turns(alloc, &ring, 24)?)?;
     assert!(rt; matches!(track.totals, Ok(totals) if totals.good == 18 && totals.sectors == 18));
     assert_eq!(rt; track.image.bytes().len(), 9216);
@@ -168,7 +168,7 @@ fn apple_tracks_come_to_the_order_of_their_image(rt: HostRuntime) -> Result<(), 
         content[place] = (place / 256) as u8;
     }
     let mut ring = Cells::new(alloc);
-    AppleGcr.ring(TRACK, &content, &mut ring)?;
+    AppleGcr::STRICT.ring(TRACK, &content, &mut ring)?;
     is_in_order(&rt, alloc, Format::AppleDo, &ring, 13, 2)?;
     is_in_order(&rt, alloc, Format::ApplePo, &ring, 2, 13)
 }
@@ -177,7 +177,7 @@ fn apple_tracks_come_to_the_order_of_their_image(rt: HostRuntime) -> Result<(), 
 fn a_disk_comes_to_all_its_tracks(rt: HostRuntime) -> Result<(), Fail> {
     let alloc = rt.alloc();
     let mut ring = Cells::new(alloc);
-    IbmFm.ring(TRACK, &[0xE5; 3328], &mut ring)?;
+    IbmFm::Ibm3740.ring(TRACK, &[0xE5; 3328], &mut ring)?;
     let mut bytes = three_turns(alloc, &ring, 48)?;
     for _ in 1..77 {
         bytes.push(0x0D)?;

@@ -1,25 +1,16 @@
-ghost use Rattle.std.specs.Prelude.{◌≡◌, ℕ, ◌+◌, ◌≤◌, ◌<◌, ◌^◌, All, List, length, IfOk, OnOk, OnErr, true, false};
-ghost use Rattle.flux_engine.specs.Answers.{DecodesTrack, EngineCause};
-ghost use Rattle.flux_engine.specs.Reading.{ReadsTrack, IsBounded, HasGathered};
-ghost use Rattle.flux_engine.specs.Recordings.{track_at, sectors_of as sectors_in};
-ghost use Rattle.flux_engine.specs.Room.{IsRoomy};
+ghost use Rattle.std.specs.Prelude.{◌≡◌, ◌+◌, ◌≤◌, ◌<◌, length, OnOk, OnErr, true, false};
+ghost use Rattle.flux_engine.specs.Answers.{DecodesTrack, EngineCause, of_capture};
+ghost use Rattle.flux_engine.specs.Recordings.{track_at};
 ghost use Rattle.kryo_stream.specs.Outcome.{IsReadWhereNeeded};
 ghost use Rattle.kryo_stream.specs.Reads.{source_at};
-ghost use Rattle.sector_images.specs.Places.{IsTrack, tracks};
-ghost use Rattle.turn_merge.specs.Book.{StandsFor};
+ghost use Rattle.sector_images.specs.Places.{tracks};
 
-use crate::fault::EngineFault;
-use crate::gathering::gather;
-use crate::recordings::sectors_of;
-use crate::room::{DiskRoom, Tools};
-use crate::sectors::Sectors;
-use crate::writing::{write_image, write_lines};
-use disk_recordings::{DiskId, recording_of};
-use flux_base::{Sink, Source, TrackId};
-use index_turns::TrackFlux;
-use kryo_stream::{RoomFault, StreamRoom};
-use phase_loop::{LoopStart, recover};
-use sector_images::{Format, nominal, ring_cells, track_id, tracks_keep_bounds};
+use crate::capture::{read_capture, start_track};
+use crate::fault::{CaptureFault, EngineFault};
+use crate::room::DiskRoom;
+use crate::track_part::{PartFault, write_part};
+use flux_base::{Sink, Source};
+use sector_images::{track_id, tracks_keep_bounds};
 use sector_report::Totals;
 
 /// Decodes the next track of a disk: reads its stream, writes its part of the image, a piece for each
@@ -57,72 +48,35 @@ pub fn decode_track<S: Source, W: Sink, N: Sink>(
     ensures image_later { W.faults image.old ≤ W.faults image.new }
     ensures notes_later { N.faults notes.old ≤ N.faults notes.new }
 {
+    start_track(room, number);
+    match read_capture(room, number, 0, source) {
+        Ok(()) => {}
+        Err(fault) => return Err(of_track(number, fault)),
+    }
+    room.failed = true;
     tracks_keep_bounds();
     let track = track_id(room.format, number);
-    room.failed = true;
-    match read_stream(number, source, &mut room.stream) {
-        Ok(()) => {}
-        Err(fault) => return Err(fault),
-    }
-    let sectors = read_sectors(room.format, track, room.stream.flux(), &mut room.tools);
-    match write_image(room.format, track, &room.tools.book, image) {
-        Ok(()) => {}
-        Err(_) => return Err(EngineFault::ImageFault),
-    }
-    match write_lines(track, sectors, &room.tools.book, notes) {
+    match write_part(room.format, track, &room.tools.book, image, notes) {
         Ok(totals) => {
             room.next += 1;
             room.failed = false;
             Ok(totals)
         }
-        Err(_) => Err(EngineFault::NotesFault),
+        Err(PartFault::ImageFault) => Err(EngineFault::ImageFault),
+        Err(PartFault::NotesFault) => Err(EngineFault::NotesFault),
     }
 }
 
-/// Reads the stream of track `number`.
-fn read_stream<S: Source>(
-    number: u32,
-    source: &mut S,
-    stream: &mut StreamRoom,
-) -> Result<(), EngineFault>
-    ensures read { ReadsTrack number (S.left source.old) (S.left source.new) stream.old.used stream.old.held stream.new.held stream.new.flux result }
-    ensures needed { IsReadWhereNeeded (source_at S.left S.given S.faults source.old) (source_at S.left S.given S.faults source.new) stream.old.used stream.old.held }
-    ensures bounded { OnOk result (IsBounded stream.new.flux) }
-    ensures held { length stream.new.held ≤ 4096 }
-    ensures used { stream.new.used ≡ true }
-    ensures cause { EngineCause (S.faults source.old) (S.faults source.new) 0 0 0 0 result }
-    ensures later { S.faults source.old ≤ S.faults source.new }
+/// The fault of a track's one stream.
+fn of_track(track: u32, fault: CaptureFault) -> EngineFault
+    ensures { result ≡ of_capture track fault }
 {
-    match stream.read(source) {
-        Ok(()) => Ok(()),
-        Err(RoomFault::Refused { block, fault }) => Err(EngineFault::Refused {
-            track: number,
+    match fault {
+        CaptureFault::ReadFault => EngineFault::ReadFault,
+        CaptureFault::Refused { block, fault } => EngineFault::Refused {
+            track,
             block,
             fault,
-        }),
-        Err(RoomFault::ReadFault) => Err(EngineFault::ReadFault),
+        },
     }
-}
-
-/// Recovers the cells of a track and notes all readings of its sectors in the book.
-fn read_sectors(format: Format, track: TrackId, flux: &TrackFlux, tools: &mut Tools) -> Sectors
-    requires track { IsTrack format track }
-    requires bounded { IsBounded flux.now }
-    requires roomy { IsRoomy format tools.old.cells tools.old.book }
-    ensures sectors { result ≡ sectors_in format track }
-    ensures gathered { HasGathered format track flux.now.times flux.now.indexes tools.new.book }
-    ensures roomy { IsRoomy format tools.new.cells tools.new.book }
-{
-    let sectors = sectors_of(format, track);
-    let turn = flux.first_turn_ticks();
-    let start = LoopStart::for_turn(nominal(format, track), turn, ring_cells(format, track));
-    match recover(flux, start, &mut tools.clock, &mut tools.cells) {
-        Ok(()) => {}
-        // There is room for 32 cells of each transition.
-        Err(_) => unreachable!(),
-    }
-    tools.book.clear(sectors.count);
-    let recording = recording_of(format, DiskId::ANY);
-    gather(&recording, track, flux, &tools.cells, &mut tools.book);
-    sectors
 }

@@ -25,10 +25,10 @@ fn a_ring_has_its_sectors_bytes(rt: HostRuntime) -> Result<(), Fail> {
     track_ring(Format::AppleDo, 0, &image, &mut ring)?;
     assert_eq!(rt; ring.len(), 49994);
     let mut buffer = SectorBuffer::new();
-    let read = AppleGcr.read_at(&ring, 34474, TRACK, &mut buffer);
+    let read = AppleGcr::STRICT.read_at(&ring, 34474, TRACK, &mut buffer);
     assert!(rt; matches!(read, Reading::Good { sector: 11 }));
     assert!(rt; buffer.as_slice().iter().all(|byte| *byte == 0x5A));
-    let read = AppleGcr.read_at(&ring, 330, TRACK, &mut buffer);
+    let read = AppleGcr::STRICT.read_at(&ring, 330, TRACK, &mut buffer);
     assert!(rt; matches!(read, Reading::Good { sector: 0 }));
     assert!(rt; buffer.as_slice().iter().all(|byte| *byte == 0));
     Ok(())

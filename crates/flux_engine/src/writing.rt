@@ -82,7 +82,7 @@ pub(crate) fn write_lines<N: Sink>(
         let verdict = book.verdict(sector);
         let line = sector_line(track, sector, &verdict);
         match write_line(notes, &line) {
-            Ok(()) => count(&mut totals, verdict),
+            Ok(()) => count_verdict(&mut totals, verdict),
             Err(failed) => return Err(failed),
         }
     }
@@ -104,7 +104,7 @@ pub fn no_totals() -> Totals
 }
 
 /// Counts a sector of this verdict.
-fn count(totals: &mut Totals, verdict: Verdict)
+pub fn count_verdict(totals: &mut Totals, verdict: Verdict)
     requires sum { IsSum totals.old }
     requires few { totals.old.sectors < 1000 }
     ensures sum { IsSum totals.new }

@@ -13,7 +13,7 @@ use Rattle.kryo_stream.specs.Sequence.{IsStreamOf}
 use Rattle.sector_images.specs.Formats.{Zone, commodore_zone, fine_units, row, zone}
 use Rattle.sector_images.specs.Places.{IsTrack, NumbersNameTracks, TracksKeepBounds, tracks}
 use Rattle.sector_images.specs.declared.format.Format.{Format}
-use Rattle.sector_images.specs.declared.format.Format.TheVariants.{Ibm3740, Ibm360, Ibm720, Ibm1440, Amiga, C1541, C1541Forty, AppleDo, ApplePo}
+use Rattle.sector_images.specs.declared.format.Format.TheVariants.{Ibm3740, Ibm360, Ibm720, Ibm1440, Amiga, C1541, C1541Forty, AppleDo, ApplePo, Ibm160, Ibm180, Ibm320, Ibm1200, AtariSt800, CpcData, CpcSystem, AcornDfs40, AcornDfs80, AppleDos33, AppleProdos}
 use Rattle.flux_trial.specs.Image.{image_byte, trial_image}
 use Rattle.flux_trial.specs.Times.{IsTrialRing, trial_indexes, trial_times}
 use Rattle.flux_trial.specs.Tracks.{drive_at, trial_ring, trial_stream}
@@ -45,6 +45,17 @@ rings-long C1541 cylinder = commodore-long cylinder
 rings-long C1541Forty cylinder = commodore-long cylinder
 rings-long AppleDo cylinder = omega arith
 rings-long ApplePo cylinder = omega arith
+rings-long Ibm160 cylinder = omega arith
+rings-long Ibm180 cylinder = omega arith
+rings-long Ibm320 cylinder = omega arith
+rings-long Ibm1200 cylinder = omega arith
+rings-long AtariSt800 cylinder = omega arith
+rings-long CpcData cylinder = omega arith
+rings-long CpcSystem cylinder = omega arith
+rings-long AcornDfs40 cylinder = omega arith
+rings-long AcornDfs80 cylinder = omega arith
+rings-long AppleDos33 cylinder = omega arith
+rings-long AppleProdos cylinder = omega arith
 
 -- the track of a number
 pub is_track_at : (format : Format) (number : ℕ) (track : TrackId) → slice_get (tracks format) number ≡ Some track → track_at format number ≡ track

@@ -11,7 +11,7 @@ use Rattle.kryo_stream.specs.Stream.{first_fault}
 use Rattle.sector_images.specs.Formats.{row}
 use Rattle.sector_images.specs.Places.{tracks}
 use Rattle.sector_images.specs.declared.format.Format.{Format}
-use Rattle.sector_images.specs.declared.format.Format.TheVariants.{Ibm3740, Ibm360, Ibm720, Ibm1440, Amiga, C1541, C1541Forty, AppleDo, ApplePo}
+use Rattle.sector_images.specs.declared.format.Format.TheVariants.{Ibm3740, Ibm360, Ibm720, Ibm1440, Amiga, C1541, C1541Forty, AppleDo, ApplePo, Ibm160, Ibm180, Ibm320, Ibm1200, AtariSt800, CpcData, CpcSystem, AcornDfs40, AcornDfs80, AppleDos33, AppleProdos}
 use Rattle.sector_report.specs.Lines.{trial_text}
 use Rattle.sector_report.specs.declared.totals.Totals.{Totals}
 use Rattle.flux_engine.specs.Answers.{EngineCause, SaysOfInput}
@@ -36,6 +36,17 @@ images-small C1541 = omega arith
 images-small C1541Forty = omega arith
 images-small AppleDo = omega arith
 images-small ApplePo = omega arith
+images-small Ibm160 = omega arith
+images-small Ibm180 = omega arith
+images-small Ibm320 = omega arith
+images-small Ibm1200 = omega arith
+images-small AtariSt800 = omega arith
+images-small CpcData = omega arith
+images-small CpcSystem = omega arith
+images-small AcornDfs40 = omega arith
+images-small AcornDfs80 = omega arith
+images-small AppleDos33 = omega arith
+images-small AppleProdos = omega arith
 
 -- a sink that is not full has not failed
 pub none_failed : (bytes : List ℕ) → length bytes < ROOM → faults_of bytes ≡ 0

@@ -1,6 +1,5 @@
-ghost use Rattle.std.specs.Prelude.{◌≡◌, ℕ, ◌≤◌, List, false, length, sum, OnOk, OnErr};
-ghost use Rattle.std.specs.Io.KnownBytes.{Appends};
-ghost use Rattle.flux_base.specs.Outside.{AppendsPart, Rose};
+ghost use Rattle.std.specs.Prelude.{◌≡◌, ℕ, ◌≤◌, List, false, length, sum};
+ghost use Rattle.flux_base.specs.Moments.{Puts, moment};
 ghost use Rattle.flux_trial.specs.Tracks.{IsTrialLine};
 
 use crate::room::TrialRoom;
@@ -17,10 +16,8 @@ use sector_report::{trial_line, write_line};
 /// `Failed` comes only where the sink's count of faults rose. Then a shorter part of the line was written.
 pub fn run_trial<W: Sink>(room: &mut TrialRoom, seed: u32, sink: &mut W) -> Result<(), Failed>
     requires { room.old.used ≡ false }
-    ensures ok { OnOk result ((line : List ℕ) × IsTrialLine room.old.format seed line × Appends (W.written sink.old) (W.written sink.new) line) }
-    ensures err { OnErr result ((line : List ℕ) × IsTrialLine room.old.format seed line × AppendsPart (W.written sink.old) (W.written sink.new) line) }
-    ensures later { W.faults sink.old ≤ W.faults sink.new }
-    ensures cause { OnErr result (Rose (W.faults sink.old) (W.faults sink.new)) }
+    ensures { (line : List ℕ) × IsTrialLine room.old.format seed line
+        × Puts (moment W.written W.faults sink.old) (moment W.written W.faults sink.new) line result }
 {
     written_law();
     growth_law();

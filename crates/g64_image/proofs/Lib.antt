@@ -1,7 +1,7 @@
-pub mod Results
 pub mod Bytes
 pub mod Tables
 pub mod Sound
+pub mod Told
 pub mod Causes
 pub mod Walks
 pub mod FileParts

@@ -43,7 +43,7 @@ in_file file track offset is sound some =
     (BadOffset (track + 1) offset) (ShortTrack (track + 1) (length_at file offset)) here (some_offset offset some) in
     (not_less (length file) (offset + 2) tests.0, not_less (length file) (offset + 2 + length_at file offset) tests.1)
 
-too_large : (format : Format) (file : List ℕ) → MOST_BYTES < length file → first_fault format file ≡ Some TooLarge
+pub too_large : (format : Format) (file : List ℕ) → MOST_BYTES < length file → first_fault format file ≡ Some TooLarge
 unfolding first_fault table_fault
 too_large format file over = rw (lt-ltb MOST_BYTES (length file) over) refl
 

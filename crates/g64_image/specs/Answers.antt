@@ -137,6 +137,21 @@ pub record ReadsFile (format : Format) (left left' image image' notes notes' : O
   pub consumed : Consumes left left' taken
   pub says : SaysOfFile format taken left' image image' notes notes' answer
 
+-- What the answer says of a source that tells its bytes x: all of a file without a fault, and of other bytes at most one more than
+-- a file may have, are taken.
+abbrev pub SaysOfFileBytes : Format → (x : List ℕ) → (left' image image' notes notes' : Option (List ℕ)) → FromAnswer → Type 0
+SaysOfFileBytes format x left' image image' notes notes' (Ok totals) =
+    (o : FileDisk) × (first_fault format x ≡ None) × (left' ≡ Some []) × WroteAll format x image image' notes notes' o × (totals ≡ o.totals)
+SaysOfFileBytes format x left' image image' notes notes' (Err (Refused fault)) =
+    (first_fault format x ≡ Some fault) × (left' ≡ Some (drop (MOST_BYTES + 1) x)) × (image' ≡ image) × (notes' ≡ notes)
+SaysOfFileBytes format x left' image image' notes notes' (Err ReadFault) =
+    (taken : List ℕ) × Consumes (Some x) left' taken × (length taken ≤ MOST_BYTES) × (image' ≡ image) × (notes' ≡ notes)
+SaysOfFileBytes format x left' image image' notes notes' (Err ImageFault) =
+    (first_fault format x ≡ None) × (left' ≡ Some []) × StoppedInImage format x image image' notes notes'
+SaysOfFileBytes format x left' image image' notes notes' (Err NotesFault) =
+    (first_fault format x ≡ None) × (left' ≡ Some [])
+    × (StoppedInLines format x image image' notes notes' ⊎ StoppedInTotal format x image image' notes notes')
+
 -- the file was read, or has a fault
 abbrev pub IsReadOrRefused : FromAnswer → Type 0
 IsReadOrRefused (Ok _) = Unit {0}

@@ -1,12 +1,12 @@
 //! A file as an image and a report.
 
-ghost use Rattle.std.specs.Prelude.{◌≡◌, ◌≤◌, ◌<◌, ℕ, List, None, Option, length, IfOk};
+ghost use Rattle.std.specs.Prelude.{◌≡◌, ◌≤◌, ◌<◌, ℕ, List, None, Some, Option, length, IfOk};
 ghost use Rattle.flux_engine.specs.Answers.{Stayed};
 ghost use Rattle.flux_engine.specs.Needed.{ReadsUpTo};
 ghost use Rattle.kryo_stream.specs.Reads.{source_at};
 ghost use Rattle.sector_images.specs.Places.{tracks};
 ghost use Rattle.flux_engine.specs.TrackParts.{PartCause};
-ghost use Rattle.g64_image.specs.Answers.{FromCause, IsReadOrRefused, IsTakenFile, ReadsFile, SaysOfFile};
+ghost use Rattle.g64_image.specs.Answers.{FromCause, IsReadOrRefused, IsTakenFile, ReadsFile, SaysOfFile, SaysOfFileBytes};
 ghost use Rattle.g64_image.specs.Faults.{HasTables, first_fault as first_fault_of};
 ghost use Rattle.g64_image.specs.Layout.{IsCommodore};
 ghost use Rattle.g64_image.specs.Progress.{HasRead, WasStopped};
@@ -34,6 +34,7 @@ pub fn from_g64<S: Source, W: Sink, N: Sink>(
     notes: &mut N,
 ) -> Result<Totals, FromStop>
     ensures read { ReadsFile room.old (S.left source.old) (S.left source.new) (W.written image.old) (W.written image.new) (N.written notes.old) (N.written notes.new) result }
+    ensures told { (bytes : List ℕ) → S.left source.old ≡ Some bytes → SaysOfFileBytes room.old bytes (S.left source.new) (W.written image.old) (W.written image.new) (N.written notes.old) (N.written notes.new) result }
 
     // The source is read only where no more bytes than a file may have were given.
     ensures needed { ReadsUpTo 4194305 (source_at S.left S.given S.faults source.old) (source_at S.left S.given S.faults source.new) }

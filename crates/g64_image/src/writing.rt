@@ -1,9 +1,8 @@
 //! An image as a file.
 
-ghost use Rattle.std.specs.Prelude.{◌≡◌, ℕ, ◌≤◌, List, Some, length, OnOk, OnErr};
-ghost use Rattle.std.specs.Io.KnownBytes.{Appends};
+ghost use Rattle.std.specs.Prelude.{◌≡◌, ℕ, ◌≤◌, List, Some, length};
 ghost use Rattle.cell_bits.specs.State.{room};
-ghost use Rattle.flux_base.specs.Outside.{AppendsPart, Rose};
+ghost use Rattle.flux_base.specs.Moments.{Puts, moment};
 ghost use Rattle.flux_engine.specs.Answers.{Stayed};
 ghost use Rattle.flux_engine.specs.Needed.{ReadsUpTo};
 ghost use Rattle.flux_engine.specs.Writes.{most_read};
@@ -74,11 +73,8 @@ fn write_file<W: Sink>(
     requires format { IsCommodore format }
     requires image { length image.now ≡ (row format).image_size }
     requires room { 1048560 ≤ room ring.old }
-    ensures ok { OnOk result (Appends (W.written sink.old) (W.written sink.new) (g64_file format image.now)) }
-    ensures err { OnErr result (AppendsPart (W.written sink.old) (W.written sink.new) (g64_file format image.now)) }
+    ensures puts { Puts (moment W.written W.faults sink.old) (moment W.written W.faults sink.new) (g64_file format image.now) result }
     ensures room { room ring.old ≤ room ring.new }
-    ensures later { W.faults sink.old ≤ W.faults sink.new }
-    ensures cause { OnErr result (Rose (W.faults sink.old) (W.faults sink.new)) }
 {
     let front = front(format);
     match write_whole(sink, front.as_slice()) {
@@ -97,11 +93,8 @@ fn write_tracks<W: Sink>(
     requires format { IsCommodore format }
     requires image { length image.now ≡ (row format).image_size }
     requires room { 1048560 ≤ room ring.old }
-    ensures ok { OnOk result (Appends (W.written sink.old) (W.written sink.new) (records format image.now)) }
-    ensures err { OnErr result (AppendsPart (W.written sink.old) (W.written sink.new) (records format image.now)) }
+    ensures puts { Puts (moment W.written W.faults sink.old) (moment W.written W.faults sink.new) (records format image.now) result }
     ensures room { room ring.old ≤ room ring.new }
-    ensures later { W.faults sink.old ≤ W.faults sink.new }
-    ensures cause { OnErr result (Rose (W.faults sink.old) (W.faults sink.new)) }
 {
     for number in 0..track_count(format) {
         match track_ring(format, number, image, ring) {

@@ -194,7 +194,7 @@ fn written(rt: &impl Abort, alloc: Global, capture: &Capture) -> Result<MemorySi
 fn a_track_with_drift_and_displacement(rt: HostRuntime) -> Result<(), Fail> {
     let alloc = rt.alloc();
     let mut ring = Cells::new(alloc);
-    IbmMfm { sectors: 18 }.ring(TRACK, &[0xF6; 9216], &mut ring)?;
+    IbmMfm::Pc18.ring(TRACK, &[0xF6; 9216], &mut ring)?;
     let capture = captured(alloc, &ring)?;
     assert_eq!(rt; capture.indexes.len(), 4);
     let stream = written(&rt, alloc, &capture)?;

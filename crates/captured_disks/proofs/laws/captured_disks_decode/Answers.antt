@@ -2,7 +2,7 @@ use Rattle.disk_recordings.specs.Recordings.{ANY_ID, recording_of}
 use Rattle.flux_engine.specs.Recordings.{track_at}
 use Rattle.captured_disks.specs.Frames.{TracksAreOwn, written_track}
 use Rattle.captured_disks.proofs.Disks.{Laws, captured_disks_decode, erased_disks_decode}
-use Rattle.captured_disks.proofs.Owning.{tracks_are_own}
+use Rattle.captured_disks.specs.lemmas.Owning.{tracks_are_own}
 use Rattle.captured_disks.proofs.laws.captured_disks_decode.Goals as goal
 
 own : (c : goal.After-parts_fill_images) → TracksAreOwn

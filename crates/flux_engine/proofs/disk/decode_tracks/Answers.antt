@@ -10,7 +10,8 @@ use Rattle.flux_engine.specs.Room.{RoomState}
 use Rattle.flux_engine.proofs.Counting.{part_few, part_sum}
 use Rattle.flux_engine.proofs.RingLaws.{track_known}
 use Rattle.flux_engine.proofs.Disks.{decoded_start, decoded_more, decoded_fault}
-use Rattle.flux_engine.proofs.Needed.{no_reads, track_more}
+use Rattle.flux_engine.proofs.Needed.{track_more}
+use Rattle.flux_engine.specs.lemmas.ReadLaws.{no_reads}
 use Rattle.flux_engine.proofs.disk.decode_tracks.Goals as goal
 
 pub loop-number-init : goal.loop-number-init

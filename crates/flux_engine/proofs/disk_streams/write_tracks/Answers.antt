@@ -19,14 +19,18 @@ write_track-requires-clause-one g c =
     is_early c.tracks_keep_bounds.ensures.bounds c.args.format (track_at c.args.format c.loop-number.number)
     (is_known_at c.args.format c.loop-number.number c.track_id.result c.track_id.ensures.at c.track_id.ensures.track) c.track_ring.new.cells.cells c.in-Ok.ensures.ring
 
-pub returns-in-Err-write_track-clause-err : goal.returns-in-Err-write_track-clause-err
+pub returns-in-Err-write_track-clause-puts : goal.returns-in-Err-write_track-clause-puts
 unfolding streams_of
-returns-in-Err-write_track-clause-err g c =
-    pieces_stop (track_stream c.args.format c.args.image.now) _ _ _ 0 c.loop-number.number (length (tracks c.args.format)) _
-    (omega (arith, c.track_count-number-end.ensures))
-    (is_stream c.args.format c.args.image.now c.loop-number.number c.track_id.result c.track_ring.new.cells.cells c.nominal-cell.result
-    c.track_id.ensures.at c.in-Ok.ensures.ok c.nominal-cell.ensures)
-    c.loop-number.invariant.grew c.in-Err-write_track.ensures.err
+returns-in-Err-write_track-clause-puts g c = record {
+  ok = tt;
+  err = pieces_stop (track_stream c.args.format c.args.image.now) _ _ _ 0 c.loop-number.number (length (tracks c.args.format)) _
+      (omega (arith, c.track_count-number-end.ensures))
+      (is_stream c.args.format c.args.image.now c.loop-number.number c.track_id.result c.track_ring.new.cells.cells c.nominal-cell.result
+      c.track_id.ensures.at c.in-Ok.ensures.ok c.nominal-cell.ensures)
+      c.loop-number.invariant.grew c.in-Err-write_track.ensures.err;
+  later = omega (arith, c.loop-number.invariant.later, c.in-Err-write_track.ensures.later);
+  cause = omega (arith, c.loop-number.invariant.later, c.in-Err-write_track.ensures.cause);
+}
 
 pub loop-number-preserved : goal.loop-number-preserved
 loop-number-preserved g c = record {
@@ -38,9 +42,13 @@ loop-number-preserved g c = record {
   later = omega (arith, c.loop-number.invariant.later, c.in-Ok-write_track.ensures.later);
 }
 
-pub returns-clause-ok : goal.returns-clause-ok
+pub returns-clause-puts : goal.returns-clause-puts
 unfolding streams_of
-returns-clause-ok g c =
-    let all : c.loop-number.number ≡ length (tracks c.args.format) = omega (arith, c.track_count-number-end.ensures) in
-    subst (λ (n : ℕ). Appends (g.W.Sink.written c.args.sink.now) (g.W.Sink.written c.loop-number.sink)
-    (flat_map (track_stream c.args.format c.args.image.now) (range_with_len 0 n))) all c.loop-number.invariant.grew
+returns-clause-puts g c =
+    let all : c.loop-number.number ≡ length (tracks c.args.format) = omega (arith, c.track_count-number-end.ensures) in record {
+      ok = subst (λ (n : ℕ). Appends (g.W.Sink.written c.args.sink.now) (g.W.Sink.written c.loop-number.sink)
+          (flat_map (track_stream c.args.format c.args.image.now) (range_with_len 0 n))) all c.loop-number.invariant.grew;
+      err = tt;
+      later = c.loop-number.invariant.later;
+      cause = tt;
+    }

@@ -1,66 +1,95 @@
-use Rattle.std.proofs.Common.{◌≡◌, Option, Ok, Err, ap, sym, subst, unwrap_or}
+use Rattle.std.proofs.Common.{◌≡◌, List, Option, Ok, Err, ap, sym, subst, unwrap_or}
 use Rattle.flux_base.specs.declared.track.TrackId.{TrackId}
+use Rattle.turn_merge.specs.Book.{StandsFor}
+use Rattle.turn_merge.specs.Readings.{NotedReading}
 use Rattle.flux_engine.specs.Answers.{DecodesTrack}
 use Rattle.flux_engine.specs.Recordings.{track_at}
 use Rattle.flux_engine.specs.Room.{RoomState}
-use Rattle.flux_engine.specs.declared.fault.EngineFault.TheVariants.{ImageFault, NotesFault}
-use Rattle.flux_engine.proofs.Decoding.{decodes_image_fault, decodes_notes_fault, decodes_whole}
+use Rattle.flux_engine.specs.TrackParts.{WritesPart}
+use Rattle.flux_engine.specs.Tracks.{part_of}
+use Rattle.flux_engine.specs.declared.fault.EngineFault.{EngineFault}
+use Rattle.flux_engine.specs.declared.track_part.PartFault.TheVariants.{ImageFault, NotesFault}
+use Rattle.flux_engine.proofs.Decoding.{decodes_fault, decodes_started, from_start, of_part}
 use Rattle.flux_engine.proofs.track.decode_track.Goals as goal
 
-pub returns-in-Err-write_image-clause-decoded : goal.returns-in-Err-write_image-clause-decoded
-returns-in-Err-write_image-clause-decoded g c =
-    let inside = c.room.inside in
+pub returns-in-Err-clause-decoded : goal.returns-in-Err-clause-decoded
+returns-in-Err-clause-decoded g c =
+    let room = c.args.room.now in
+    let n = c.args.number in
     let left = g.S.Source.left c.args.source.now in
-    let left' = g.S.Source.left c.read_stream.new.source in
+    let left' = g.S.Source.left c.read_capture.new.source in
+    let held' = c.read_capture.new.room.held in
     let image = g.W.Sink.written c.args.image.now in
-    let image' = g.W.Sink.written c.write_image.new.image in
     let notes = g.N.Sink.written c.args.notes.now in
-    let held' = c.read_stream.new.stream.held in
-    let is : c.track_id-track.result ≡ track_at inside.format c.args.number =
-    sym (ap (λ (o : Option TrackId). unwrap_or o (record { cylinder = 0; head = 0 })) c.track_id-track.ensures.at) in
-    let whole = decodes_image_fault inside.format c.track_id-track.result c.args.number left left' inside.stream.used inside.stream.held held'
-    c.read_stream.new.stream.flux image image' notes notes c.in-Ok.field-0 c.read_sectors-sectors.new.tools.book
-    c.in-Ok.ensures.read (rw c.flux.ensures at c.read_sectors-sectors.ensures.gathered) c.in-Err-write_image.ensures.err in
-    let track = subst (λ (t : TrackId). DecodesTrack inside.format t c.args.number left left' inside.stream.used inside.stream.held held' image image' notes notes (Err ImageFault)) is whole in
-    subst (λ (r : RoomState). DecodesTrack r.format (track_at r.format c.args.number) c.args.number left left' r.used r.held held' image image' notes notes (Err ImageFault))
-    c.room.view_is track
+    subst (λ (fault : EngineFault). DecodesTrack room.format (track_at room.format n) n left left' room.used room.held held' image image notes notes (Err fault)) (sym c.of_track.ensures)
+    (decodes_fault room.format (track_at room.format n) n left left' room.used room.held held' c.start_track.new.room.book c.read_capture.new.room.book image notes c.in-Err.fault
+    (from_start room c.start_track.new.room n c.start_track.ensures.started left left' held' c.read_capture.new.room.book (Err c.in-Err.fault) c.in-Err.ensures.read))
 
-pub returns-in-Err-write_lines-clause-decoded : goal.returns-in-Err-write_lines-clause-decoded
-returns-in-Err-write_lines-clause-decoded g c =
+pub returns-in-Ok-write_part-clause-decoded : goal.returns-in-Ok-write_part-clause-decoded
+returns-in-Ok-write_part-clause-decoded g c =
     let inside = c.room.inside in
+    let start = c.start_track.new.room in
+    let read = c.read_capture.new.room in
+    let n = c.args.number in
     let left = g.S.Source.left c.args.source.now in
-    let left' = g.S.Source.left c.read_stream.new.source in
+    let left' = g.S.Source.left c.read_capture.new.source in
     let image = g.W.Sink.written c.args.image.now in
-    let image' = g.W.Sink.written c.write_image.new.image in
+    let image' = g.W.Sink.written c.write_part.new.image in
     let notes = g.N.Sink.written c.args.notes.now in
-    let notes' = g.N.Sink.written c.write_lines.new.notes in
-    let held' = c.read_stream.new.stream.held in
-    let is : c.track_id-track.result ≡ track_at inside.format c.args.number =
+    let notes' = g.N.Sink.written c.write_part.new.notes in
+    let is : c.track_id-track.result ≡ track_at inside.format n =
     sym (ap (λ (o : Option TrackId). unwrap_or o (record { cylinder = 0; head = 0 })) c.track_id-track.ensures.at) in
-    let whole = decodes_notes_fault inside.format c.track_id-track.result c.args.number left left' inside.stream.used inside.stream.held held'
-    c.read_stream.new.stream.flux image image' notes notes' c.in-Ok.field-0 c.read_sectors-sectors.new.tools.book c.read_sectors-sectors.result
-    c.read_sectors-sectors.ensures.sectors c.in-Ok.ensures.read (rw c.flux.ensures at c.read_sectors-sectors.ensures.gathered) c.in-Ok-write_image.ensures.ok c.in-Err-write_lines.ensures.err in
-    let track = subst (λ (t : TrackId). DecodesTrack inside.format t c.args.number left left' inside.stream.used inside.stream.held held' image image' notes notes' (Err NotesFault)) is whole in
-    subst (λ (r : RoomState). DecodesTrack r.format (track_at r.format c.args.number) c.args.number left left' r.used r.held held' image image' notes notes' (Err NotesFault))
-    c.room.view_is track
+    let here = subst (λ (t : TrackId). (readings : List NotedReading) → StandsFor inside.tools.book readings → WritesPart (part_of inside.format t readings) image image' notes notes' (Ok c.in-Ok-write_part.totals))
+    is c.in-Ok-write_part.ensures.wrote in
+    let wrote = subst (λ (r : RoomState). (readings : List NotedReading) → StandsFor r.book readings → WritesPart (part_of r.format (track_at r.format n) readings) image image' notes notes' (Ok c.in-Ok-write_part.totals))
+    c.room.view_is here in
+    let whole = decodes_started c.args.room.now start n c.start_track.ensures.started left left' read c.in-Ok.ensures.format image image' notes notes' c.in-Ok.field-0 (Ok c.in-Ok-write_part.totals)
+    c.in-Ok.ensures.read c.start_track.ensures.empty wrote in
+    subst (λ (r : RoomState). DecodesTrack c.args.room.now.format (track_at c.args.room.now.format n) n left left' c.args.room.now.used c.args.room.now.held r.held image image' notes notes' (of_part (Ok c.in-Ok-write_part.totals)))
+    (sym c.room.view_is) whole
 
-pub returns-in-Ok-write_lines-clause-decoded : goal.returns-in-Ok-write_lines-clause-decoded
-returns-in-Ok-write_lines-clause-decoded g c =
+pub returns-in-Err-ImageFault-clause-decoded : goal.returns-in-Err-ImageFault-clause-decoded
+returns-in-Err-ImageFault-clause-decoded g c =
     let inside = c.room.inside in
+    let start = c.start_track.new.room in
+    let read = c.read_capture.new.room in
+    let n = c.args.number in
     let left = g.S.Source.left c.args.source.now in
-    let left' = g.S.Source.left c.read_stream.new.source in
+    let left' = g.S.Source.left c.read_capture.new.source in
     let image = g.W.Sink.written c.args.image.now in
-    let image' = g.W.Sink.written c.write_image.new.image in
+    let image' = g.W.Sink.written c.write_part.new.image in
     let notes = g.N.Sink.written c.args.notes.now in
-    let notes' = g.N.Sink.written c.write_lines.new.notes in
-    let held' = c.read_stream.new.stream.held in
-    let totals = c.in-Ok-write_lines.totals in
-    let is : c.track_id-track.result ≡ track_at inside.format c.args.number =
+    let notes' = g.N.Sink.written c.write_part.new.notes in
+    let is : c.track_id-track.result ≡ track_at inside.format n =
     sym (ap (λ (o : Option TrackId). unwrap_or o (record { cylinder = 0; head = 0 })) c.track_id-track.ensures.at) in
-    let whole = decodes_whole inside.format c.track_id-track.result c.args.number left left' inside.stream.used inside.stream.held held'
-    c.read_stream.new.stream.flux image image' notes notes' c.in-Ok.field-0 c.read_sectors-sectors.new.tools.book c.read_sectors-sectors.result totals
-    c.read_sectors-sectors.ensures.sectors c.in-Ok.ensures.read (rw c.flux.ensures at c.read_sectors-sectors.ensures.gathered) c.in-Ok-write_image.ensures.ok c.in-Ok-write_lines.ensures.ok
-    c.in-Ok-write_lines.ensures.totals in
-    let track = subst (λ (t : TrackId). DecodesTrack inside.format t c.args.number left left' inside.stream.used inside.stream.held held' image image' notes notes' (Ok totals)) is whole in
-    subst (λ (r : RoomState). DecodesTrack r.format (track_at r.format c.args.number) c.args.number left left' r.used r.held held' image image' notes notes' (Ok totals))
-    c.room.view_is track
+    let here = subst (λ (t : TrackId). (readings : List NotedReading) → StandsFor inside.tools.book readings → WritesPart (part_of inside.format t readings) image image' notes notes' (Err ImageFault))
+    is (rw c.in-Err-ImageFault.field-0-is at c.in-Err-ImageFault.ensures.wrote) in
+    let wrote = subst (λ (r : RoomState). (readings : List NotedReading) → StandsFor r.book readings → WritesPart (part_of r.format (track_at r.format n) readings) image image' notes notes' (Err ImageFault))
+    c.room.view_is here in
+    let whole = decodes_started c.args.room.now start n c.start_track.ensures.started left left' read c.in-Ok.ensures.format image image' notes notes' c.in-Ok.field-0 (Err ImageFault)
+    c.in-Ok.ensures.read c.start_track.ensures.empty wrote in
+    subst (λ (r : RoomState). DecodesTrack c.args.room.now.format (track_at c.args.room.now.format n) n left left' c.args.room.now.used c.args.room.now.held r.held image image' notes notes' (of_part (Err ImageFault)))
+    (sym c.room.view_is) whole
+
+pub returns-in-Err-NotesFault-clause-decoded : goal.returns-in-Err-NotesFault-clause-decoded
+returns-in-Err-NotesFault-clause-decoded g c =
+    let inside = c.room.inside in
+    let start = c.start_track.new.room in
+    let read = c.read_capture.new.room in
+    let n = c.args.number in
+    let left = g.S.Source.left c.args.source.now in
+    let left' = g.S.Source.left c.read_capture.new.source in
+    let image = g.W.Sink.written c.args.image.now in
+    let image' = g.W.Sink.written c.write_part.new.image in
+    let notes = g.N.Sink.written c.args.notes.now in
+    let notes' = g.N.Sink.written c.write_part.new.notes in
+    let is : c.track_id-track.result ≡ track_at inside.format n =
+    sym (ap (λ (o : Option TrackId). unwrap_or o (record { cylinder = 0; head = 0 })) c.track_id-track.ensures.at) in
+    let here = subst (λ (t : TrackId). (readings : List NotedReading) → StandsFor inside.tools.book readings → WritesPart (part_of inside.format t readings) image image' notes notes' (Err NotesFault))
+    is (rw c.in-Err-NotesFault.field-0-is at c.in-Err-NotesFault.ensures.wrote) in
+    let wrote = subst (λ (r : RoomState). (readings : List NotedReading) → StandsFor r.book readings → WritesPart (part_of r.format (track_at r.format n) readings) image image' notes notes' (Err NotesFault))
+    c.room.view_is here in
+    let whole = decodes_started c.args.room.now start n c.start_track.ensures.started left left' read c.in-Ok.ensures.format image image' notes notes' c.in-Ok.field-0 (Err NotesFault)
+    c.in-Ok.ensures.read c.start_track.ensures.empty wrote in
+    subst (λ (r : RoomState). DecodesTrack c.args.room.now.format (track_at c.args.room.now.format n) n left left' c.args.room.now.used c.args.room.now.held r.held image image' notes notes' (of_part (Err NotesFault)))
+    (sym c.room.view_is) whole

@@ -29,11 +29,11 @@ loop-index-preserved g c = record {
   counted = λ readings stands.
       let sector : ℕ = c.args.sectors.first + c.loop-index.index in
       let before : List Verdict = map (verdict readings) (range_with_len c.args.sectors.first c.loop-index.index) in
-      c.count.ensures.counted before (c.loop-index.invariant.counted readings stands)
+      c.count_verdict.ensures.counted before (c.loop-index.invariant.counted readings stands)
       ∙ ap (λ (v : Verdict). totals_of (before ++ v ∷ [])) (c.verdict-verdict.ensures readings stands)
       ∙ ap totals_of (sym (map-range_with_len_more (verdict readings) c.args.sectors.first c.loop-index.index sector (omega arith)));
-  sum = c.count.ensures.sum;
-  number = c.count.ensures.one ∙ ap (λ (n : ℕ). n + 1) c.loop-index.invariant.number;
+  sum = c.count_verdict.ensures.sum;
+  number = c.count_verdict.ensures.one ∙ ap (λ (n : ℕ). n + 1) c.loop-index.invariant.number;
   later = omega (arith, c.loop-index.invariant.later, c.write_line.ensures.later);
 }
 

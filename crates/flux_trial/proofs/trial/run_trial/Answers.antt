@@ -1,5 +1,4 @@
 use Rattle.std.proofs.Common.{◌∙◌, ap, refl, subst, sum}
-use Rattle.std.proofs.lemmas.Result.{on_err_weaker, on_ok_weaker}
 use Rattle.flux_engine.specs.Room.{RoomState}
 use Rattle.flux_trial.specs.Room.{TrialState}
 use Rattle.flux_trial.specs.Tracks.{IsTrialLine, trial_input}
@@ -45,8 +44,5 @@ line_is g c =
     (c.start.ensures.left ∙ ap (λ (f : Format). trial_input f c.args.seed) fresh.0) (c.in-Ok.ensures.told _ refl) c.track_count-tracks.ensures
     (c.sum_of-sum.ensures.value ∙ ap sum c.bytes.ensures.value) c.trial_line.ensures)
 
-pub returns-clause-ok : goal.returns-clause-ok
-returns-clause-ok g c = on_ok_weaker c.write_line.result (λ got. (c.trial_line.result.bytes, line_is g c, got)) c.write_line.ensures.ok
-
-pub returns-clause-err : goal.returns-clause-err
-returns-clause-err g c = on_err_weaker c.write_line.result (λ part. (c.trial_line.result.bytes, line_is g c, part)) c.write_line.ensures.err
+pub returns : goal.returns
+returns g c = (c.trial_line.result.bytes, line_is g c, c.write_line.ensures)

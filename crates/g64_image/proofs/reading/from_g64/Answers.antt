@@ -1,8 +1,9 @@
 use Rattle.std.proofs.Common.{◌≡◌, ◌∙◌, List, ℕ, Option, arith, length, subst, take}
 use Rattle.sector_images.specs.declared.format.Format.{Format}
-use Rattle.g64_image.specs.Answers.{IsTakenFile, SaysOfFile}
+use Rattle.g64_image.specs.Answers.{IsTakenFile, ReadsFile, SaysOfFile}
 use Rattle.g64_image.proofs.Causes.{cause_of_sinks, read_or_refused}
 use Rattle.g64_image.proofs.Sound.{take-front, taken_file}
+use Rattle.g64_image.proofs.Told.{told-file}
 use Rattle.g64_image.proofs.reading.from_g64.Goals as goal
 
 pub returns-clause-read : goal.returns-clause-read
@@ -27,6 +28,13 @@ returns-clause-read g c =
       says = subst (λ (f : Format). SaysOfFile f (take read buffer) left' image image' notes notes' c.read_file.result) c.room.view_is
           (says left' (taken_file read buffer left' size c.in-Ok.ensures.bound c.in-Ok.ensures.ended));
     }
+
+pub returns-clause-told : goal.returns-clause-told
+returns-clause-told g c = λ bytes is.
+    told-file c.args.room.now bytes _ _ _ _ _ c.read_file.result
+    (subst (λ (left : Option (List ℕ)). ReadsFile c.args.room.now left (g.S.Source.left c.fill.new.source) (g.W.Sink.written c.args.image.now)
+    (g.W.Sink.written c.read_file.new.image) (g.N.Sink.written c.args.notes.now) (g.N.Sink.written c.read_file.new.notes) c.read_file.result)
+    is (returns-clause-read g c))
 
 pub returns-clause-cause : goal.returns-clause-cause
 returns-clause-cause g c = cause_of_sinks _ _ _ _ _ _ c.read_file.result c.read_file.ensures.cause

@@ -16,13 +16,17 @@ unreachable-requires g c =
     let never = c.in-Err.ensures.succeeds (omega (arith, short, c.requires.room, c.loop-number.invariant.room)) in
     cc
 
-pub returns-in-Err-write_whole-clause-err : goal.returns-in-Err-write_whole-clause-err
-returns-in-Err-write_whole-clause-err g c =
-    let at : c.loop-number.number ≡ 0 + c.loop-number.number = omega arith in
-    pieces_stop (image_record c.args.format c.args.image.now) _ _ _ 0 c.loop-number.number (length (tracks c.args.format)) _
-    (omega (arith, c.track_count-number-end.ensures))
-    (c.as_slice.ensures.value ∙ c.track_record-track.ensures ∙ ap track_record c.in-Ok.ensures.ok ∙ ap (image_record c.args.format c.args.image.now) at)
-    c.loop-number.invariant.grew c.in-Err-write_whole.ensures.err
+pub returns-in-Err-write_whole-clause-puts : goal.returns-in-Err-write_whole-clause-puts
+returns-in-Err-write_whole-clause-puts g c =
+    let at : c.loop-number.number ≡ 0 + c.loop-number.number = omega arith in record {
+      ok = tt;
+      err = pieces_stop (image_record c.args.format c.args.image.now) _ _ _ 0 c.loop-number.number (length (tracks c.args.format)) _
+          (omega (arith, c.track_count-number-end.ensures))
+          (c.as_slice.ensures.value ∙ c.track_record-track.ensures ∙ ap track_record c.in-Ok.ensures.ok ∙ ap (image_record c.args.format c.args.image.now) at)
+          c.loop-number.invariant.grew c.in-Err-write_whole.ensures.err;
+      later = omega (arith, c.loop-number.invariant.later, c.in-Err-write_whole.ensures.later);
+      cause = omega (arith, c.loop-number.invariant.later, c.in-Err-write_whole.ensures.cause);
+    }
 
 pub loop-number-preserved : goal.loop-number-preserved
 loop-number-preserved g c =

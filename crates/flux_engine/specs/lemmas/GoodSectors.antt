@@ -16,10 +16,10 @@ use Rattle.turn_merge.specs.declared.verdict.Place.{Place}
 use Rattle.turn_merge.specs.declared.verdict.Verdict.TheVariants.{Good}
 use Rattle.flux_engine.specs.Tracks.{Found, place_at, readings_at, readings_of, image_bytes}
 use Rattle.flux_engine.specs.declared.sectors.Sectors.{Sectors}
-use Rattle.flux_engine.proofs.Each.{Each, each-at, each-map, each-flat, each-of, each-unflat, each-filter, each-unfilter, each-missed}
+use Rattle.flux_engine.specs.lemmas.Each.{Each, each-at, each-map, each-flat, each-of, each-unflat, each-filter, each-unfilter, each-missed}
 use Rattle.flux_engine.specs.lemmas.Pieces.{pieces-at}
 
-abbrev is_good_of : ℕ → NotedReading → Bool
+abbrev pub is_good_of : ℕ → NotedReading → Bool
 is_good_of sector r = nat_eq r.sector sector && is_some r.bytes
 
 -- the first of the good readings, where the verdict is good
@@ -41,7 +41,7 @@ good_head (r ∷ more) bads good bad first is =
     let by = by_other (length (r ∷ more)) (length bads) r.place (first_other (bytes_of r) more) good bad first is in
     record { head = r; more = more; all = refl; same = by.0; place = by.1 }
 
-agreed_head : (goods : List NotedReading) (first : Place) (h : Head goods first) → agreed_of goods ≡ Some (bytes_of h.head)
+pub agreed_head : (goods : List NotedReading) (first : Place) (h : Head goods first) → agreed_of goods ≡ Some (bytes_of h.head)
 agreed_head goods first h =
     ap agreed_of h.all ∙ ap (λ (o : Option NotedReading). if is_none o then Some (bytes_of h.head) else None) h.same
 
@@ -49,15 +49,15 @@ not_false : (b : Bool) → not b ≡ false → b ≡ true
 not_false true is = refl
 not_false false is = absurd (cc)
 
-and_both : (a b : Bool) → (a && b) ≡ true → (a ≡ true) × (b ≡ true)
+pub and_both : (a b : Bool) → (a && b) ≡ true → (a ≡ true) × (b ≡ true)
 and_both true b is = (refl, is)
 and_both false b is = absurd (cc)
 
-some_bytes : (o : Option (List ℕ)) → is_some o ≡ true → o ≡ Some (unwrap_or o [])
+pub some_bytes : (o : Option (List ℕ)) → is_some o ≡ true → o ≡ Some (unwrap_or o [])
 some_bytes None is = absurd (cc)
 some_bytes (Some xs) is = refl
 
-same_bytes : (goods : List NotedReading) (first : Place) (h : Head goods first) → Each (λ (q : NotedReading). bytes_of q ≡ bytes_of h.head) goods
+pub same_bytes : (goods : List NotedReading) (first : Place) (h : Head goods first) → Each (λ (q : NotedReading). bytes_of q ≡ bytes_of h.head) goods
 same_bytes goods first h =
     let mine = bytes_of h.head in
     let others = each-map (λ (q : NotedReading). not (bytes_eq (bytes_of q) mine) ≡ false) (λ (q : NotedReading). bytes_of q ≡ mine)
@@ -79,11 +79,11 @@ module _ (header : List Bool → ℕ → Type 0) (sector_stands : List Bool → 
   stands_as place (BadFrame s) bytes has = tt
   stands_as place (GoodFrame s) bytes has = (((read cells 0 found).0 all).good place s bytes (omega arith)).0 has
 
-  abbrev of_found : Found → List NotedReading
+  abbrev pub of_found : Found → List NotedReading
   of_found f = readings_at (place_at times indexes cells f.0) f.1 f.2
 
   -- what a good reading says
-  abbrev Named : NotedReading → Type 0
+  abbrev pub Named : NotedReading → Type 0
   Named r = (xs : List ℕ) → r.bytes ≡ Some xs → sector_stands (drop r.place.cell cells) r.sector xs × (r.place ≡ place_at times indexes cells r.place.cell)
 
   named : (place : ℕ) (frame : Frame) (bytes : List ℕ) → StandsAs sector_stands (drop place cells) frame bytes
@@ -93,7 +93,7 @@ module _ (header : List Bool → ℕ → Type 0) (sector_stands : List Bool → 
   named place (GoodFrame s) bytes here =
       ((λ xs is. (let same : bytes ≡ xs = cc in subst (sector_stands (drop place cells) s) same here, refl)), tt)
 
-  each_named : Each Named (readings_of times indexes cells found)
+  pub each_named : Each Named (readings_of times indexes cells found)
   each_named =
       each-flat of_found (λ (f : Found). StandsAs sector_stands (drop f.0 cells) f.1 f.2) Named (λ f here. named f.0 f.1 f.2 here) found
       (each-of (λ (f : Found). StandsAs sector_stands (drop f.0 cells) f.1 f.2) found (λ f has. stands_as f.0 f.1 f.2 has))

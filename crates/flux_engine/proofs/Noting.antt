@@ -1,0 +1,70 @@
+-- What was gathered of a stream is all that can be read on its track.
+use Rattle.std.specs.Prelude.{◌≡◌, ◌≤◌, ◌<◌, ℕ, zero, suc, ◌+◌, ◌-◌, List, [], ◌∷◌, length, replicate, slice_index_or, Option, None, Ok, refl}
+use Rattle.std.proofs.Common.{ap, sym, subst, ◌∙◌, arith}
+use Rattle.std.specs.Prelude.{Bool}
+use Rattle.flux_base.specs.declared.track.TrackId.{TrackId}
+use Rattle.disk_recordings.specs.Members.{header_at, sector_at}
+use Rattle.sector_images.specs.declared.format.Format.{Format}
+use Rattle.turn_merge.specs.Book.{Found, HasShape, IsKnown, Knowledge, StandsFor, found_at}
+use Rattle.turn_merge.specs.Readings.{verdict, agreed}
+use Rattle.turn_merge.specs.declared.verdict.Verdict.{Verdict}
+use Rattle.turn_merge.specs.declared.verdict.Verdict.TheVariants.{Missing}
+use Rattle.index_turns.specs.Track.{TrackState}
+use Rattle.flux_engine.specs.Answers.{ReadsCapture, ReadsStream}
+use Rattle.flux_engine.specs.Gathering.{Gathers, HasNoted}
+use Rattle.flux_engine.specs.Recordings.{cells_of}
+use Rattle.flux_engine.specs.Room.{MOST_READINGS}
+
+pub has_noted : (format : Format) (track : TrackId) (times indexes : List ℕ) (cells : List Bool) (offset : ℕ) (old new : Knowledge)
+    → cells ≡ cells_of format track times indexes → length cells ≤ MOST_READINGS
+    → Gathers (header_at format track) (sector_at format track) times indexes cells offset old new
+    → HasNoted format track times indexes offset old new
+has_noted format track times indexes cells offset old new is few g =
+    let h = subst (λ (cs : List Bool). Gathers (header_at format track) (sector_at format track) times indexes cs offset old new) is g in
+    record {
+      readings = _;
+      are = record { found = h.found; all = h.all; are = refl };
+      noted = h.noted;
+      shape = g.shape;
+      few = omega (arith, g.few, few);
+    }
+
+pub reads_capture : (format : Format) (track : TrackId) (offset : ℕ) (left left' : Option (List ℕ)) (used : Bool) (held held' : List ℕ) (flux : TrackState) (old new : Knowledge)
+    (u : Unit {0}) → ReadsStream left left' used held held' flux.times flux.indexes (Ok u) → HasNoted format track flux.times flux.indexes offset old new
+    → ReadsCapture format track offset left left' used held held' old new (Ok u)
+reads_capture format track offset left left' used held held' flux old new u read n =
+    record { times = flux.times; indexes = flux.indexes; read = read; noted = (n.readings, n.are, n.noted) }
+
+-- what is known of a sector without a reading
+abbrev nothing : Found
+nothing = record { verdict = Missing; bytes = None }
+
+found-same : (a : Found) → a.verdict ≡ Missing → a.bytes ≡ None → a ≡ nothing
+found-same a v b =
+    ap (λ (x : Verdict). let f : Found = record { verdict = x; bytes = a.bytes } in f) v
+    ∙ ap (λ x. let f : Found = record { verdict = Missing; bytes = x } in f) b
+
+all-nothing : (found : List Found) → ((i : ℕ) → i < length found → slice_index_or found i nothing ≡ nothing) → found ≡ replicate (length found) nothing
+all-nothing [] each = refl
+all-nothing (f ∷ fs) each =
+    ap (λ (x : Found). x ∷ fs) (each 0 (omega arith))
+    ∙ ap (λ (xs : List Found). nothing ∷ xs) (all-nothing fs (λ i below. each (suc i) (omega (arith, below))))
+
+-- a book without a reading is known by its shape
+pub empty_is : (book : Knowledge) (first most size sectors : ℕ) → StandsFor book [] → HasShape book first most size sectors
+    → book ≡ record { first_sector = first; most = most; size = size; notes = 0; found = replicate sectors nothing }
+unfolding verdict agreed
+empty_is book first most size sectors stands shape =
+    let each : (i : ℕ) → i < length book.found → slice_index_or book.found i nothing ≡ nothing =
+    λ i below.
+    let known : IsKnown book (book.first_sector + i) = (omega arith, omega (arith, below)) in
+    let at : book.first_sector + i - book.first_sector ≡ i = omega arith in
+    let here : found_at book (book.first_sector + i) ≡ slice_index_or book.found i nothing = ap (λ (k : ℕ). slice_index_or book.found k nothing) at in
+    sym here ∙ found-same (found_at book (book.first_sector + i)) (stands.verdicts (book.first_sector + i) known) (stands.bytes (book.first_sector + i) known) in
+    let found : book.found ≡ replicate sectors nothing =
+    all-nothing book.found each ∙ ap (λ (n : ℕ). replicate n nothing) shape.sectors_are in
+    ap (λ (n : ℕ). let k : Knowledge = record { first_sector = n; most = book.most; size = book.size; notes = book.notes; found = book.found } in k) shape.first_is
+    ∙ ap (λ (n : ℕ). let k : Knowledge = record { first_sector = first; most = n; size = book.size; notes = book.notes; found = book.found } in k) shape.most_is
+    ∙ ap (λ (n : ℕ). let k : Knowledge = record { first_sector = first; most = most; size = n; notes = book.notes; found = book.found } in k) shape.size_is
+    ∙ ap (λ (n : ℕ). let k : Knowledge = record { first_sector = first; most = most; size = size; notes = n; found = book.found } in k) stands.notes
+    ∙ ap (λ (fs : List Found). let k : Knowledge = record { first_sector = first; most = most; size = size; notes = 0; found = fs } in k) found

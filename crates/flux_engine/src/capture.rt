@@ -1,0 +1,179 @@
+//! A track by the streams that capture it, one or several: their readings are gathered in one book.
+
+ghost use Rattle.std.specs.Prelude.{◌≡◌, ◌+◌, ◌*◌, ◌^◌, ◌≤◌, ◌<◌, [], List, length, OnOk, OnErr, true, false};
+ghost use Rattle.std.specs.Io.KnownBytes.{Appends};
+ghost use Rattle.std.specs.Option.{option_copied};
+ghost use Rattle.flux_base.specs.Outside.{AppendsPart, Rose};
+ghost use Rattle.flux_engine.specs.Answers.{CaptureCause, ReadsCapture, ReadsStream};
+ghost use Rattle.flux_engine.specs.Gathering.{HasNoted, IsBookFor};
+ghost use Rattle.flux_engine.specs.Reading.{IsBounded};
+ghost use Rattle.flux_engine.specs.Recordings.{track_at, sectors_of as sectors_in};
+ghost use Rattle.flux_engine.specs.Room.{IsRoomy, MOST_READINGS};
+ghost use Rattle.flux_engine.specs.Tracks.{image_of};
+ghost use Rattle.flux_engine.specs.Writing.{Knows};
+ghost use Rattle.kryo_stream.specs.Outcome.{IsReadWhereNeeded};
+ghost use Rattle.kryo_stream.specs.Reads.{source_at};
+ghost use Rattle.sector_images.specs.Places.{IsTrack, tracks};
+ghost use Rattle.turn_merge.specs.Book.{IsKnown, SameShape, StandsFor};
+ghost use Rattle.turn_merge.specs.Readings.{NotedReading, agreed, verdict as verdict_over};
+
+use crate::fault::CaptureFault;
+use crate::gathering::gather;
+use crate::recordings::sectors_of;
+use crate::room::{DiskRoom, Tools};
+use crate::writing::write_image;
+use disk_recordings::{DiskId, recording_of};
+use flux_base::{Failed, Sink, Source, TrackId};
+use index_turns::TrackFlux;
+use kryo_stream::{RoomFault, StreamRoom};
+use phase_loop::{LoopStart, recover};
+use sector_images::{Format, nominal, ring_cells, track_id, tracks_keep_bounds};
+use turn_merge::Verdict;
+
+/// Begins a track: what was gathered before is forgotten.
+pub fn start_track(room: &mut DiskRoom, number: u32)
+    requires { number < length (tracks room.old.format) }
+    ensures started { room.new ≡ record room.old { started = number; captures = 0; book = room.new.book } }
+    ensures empty { StandsFor room.new.book [] }
+    ensures knows { Knows (sectors_in room.old.format (track_at room.old.format number)) room.new.book }
+{
+    tracks_keep_bounds();
+    let sectors = sectors_of(room.format, track_id(room.format, number));
+    room.tools.book.clear(sectors.count);
+    room.started = number;
+    room.captures = 0;
+}
+
+/// Reads the next stream as one more that captures the started track, and notes all its readings after those before, with
+/// `offset` added to each cell. No answer is for want of memory.
+///
+/// At most 16 streams are read for one track, and a room is not used again for reading after a fault.
+pub fn read_capture<S: Source>(
+    room: &mut DiskRoom,
+    number: u32,
+    offset: u64,
+    source: &mut S,
+) -> Result<(), CaptureFault>
+    requires started { number ≡ room.old.started }
+    requires few { room.old.captures < 16 }
+    requires offset { offset ≤ 15 * 2 ^ 32 }
+    requires sound { room.old.failed ≡ false }
+    ensures read { ReadsCapture room.old.format (track_at room.old.format number) offset (S.left source.old) (S.left source.new) room.old.used room.old.held room.new.held room.old.book room.new.book result }
+
+    // The source is read only where the bytes at hand do not tell the answer.
+    ensures needed { IsReadWhereNeeded (source_at S.left S.given S.faults source.old) (source_at S.left S.given S.faults source.new) room.old.used room.old.held }
+
+    // The room after the call.
+    ensures format { room.new.format ≡ room.old.format }
+    ensures held { length room.new.held ≤ 4096 }
+    ensures used { room.new.used ≡ true }
+    ensures next { room.new.next ≡ room.old.next }
+    ensures started { room.new.started ≡ number }
+    ensures captures { OnOk result (room.new.captures ≡ room.old.captures + 1) }
+    ensures shape { SameShape room.old.book room.new.book }
+    ensures sound { OnOk result (room.new.failed ≡ false) }
+    ensures failed { OnErr result (room.new.failed ≡ true) }
+
+    ensures cause { CaptureCause (S.faults source.old) (S.faults source.new) result }
+    ensures later { S.faults source.old ≤ S.faults source.new }
+{
+    tracks_keep_bounds();
+    let track = track_id(room.format, number);
+    room.failed = true;
+    match read_stream(source, &mut room.stream) {
+        Ok(()) => {}
+        Err(fault) => return Err(fault),
+    }
+    note_readings(
+        room.format,
+        track,
+        offset,
+        room.stream.flux(),
+        &mut room.tools,
+    );
+    room.captures += 1;
+    room.failed = false;
+    Ok(())
+}
+
+/// The format of the disks that the room is for.
+pub fn room_format(room: &DiskRoom) -> Format
+    ensures { result ≡ room.now.format }
+{
+    room.format
+}
+
+/// What the readings of a sector of the started track say together.
+pub fn verdict(room: &DiskRoom, sector: u8) -> Verdict
+    requires { IsKnown room.now.book sector }
+    ensures { (readings : List NotedReading) → StandsFor room.now.book readings → result ≡ verdict_over readings sector }
+{
+    room.tools.book.verdict(sector)
+}
+
+/// The data of a sector of the started track, where its verdict is `Good`.
+pub fn bytes(room: &DiskRoom, sector: u8) -> Option<&[u8]>
+    requires { IsKnown room.now.book sector }
+    ensures { (readings : List NotedReading) → StandsFor room.now.book readings → option_copied result ≡ agreed readings sector }
+{
+    room.tools.book.bytes(sector)
+}
+
+/// Writes the started track's part of the image, a piece for each sector, in the order of their places there. After
+/// `Failed` a part of it was written.
+pub fn write_started_image<W: Sink>(room: &DiskRoom, image: &mut W) -> Result<(), Failed>
+    ensures ok { OnOk result ((readings : List NotedReading) → StandsFor room.now.book readings → Appends (W.written image.old) (W.written image.new) (image_of room.now.format (track_at room.now.format room.now.started) readings)) }
+    ensures err { OnErr result ((readings : List NotedReading) → StandsFor room.now.book readings → AppendsPart (W.written image.old) (W.written image.new) (image_of room.now.format (track_at room.now.format room.now.started) readings)) }
+    ensures later { W.faults image.old ≤ W.faults image.new }
+    ensures cause { OnErr result (Rose (W.faults image.old) (W.faults image.new)) }
+{
+    tracks_keep_bounds();
+    let track = track_id(room.format, room.started);
+    write_image(room.format, track, &room.tools.book, image)
+}
+
+/// Reads the next stream.
+fn read_stream<S: Source>(source: &mut S, stream: &mut StreamRoom) -> Result<(), CaptureFault>
+    ensures read { ReadsStream (S.left source.old) (S.left source.new) stream.old.used stream.old.held stream.new.held stream.new.flux.times stream.new.flux.indexes result }
+    ensures needed { IsReadWhereNeeded (source_at S.left S.given S.faults source.old) (source_at S.left S.given S.faults source.new) stream.old.used stream.old.held }
+    ensures bounded { OnOk result (IsBounded stream.new.flux) }
+    ensures held { length stream.new.held ≤ 4096 }
+    ensures used { stream.new.used ≡ true }
+    ensures cause { CaptureCause (S.faults source.old) (S.faults source.new) result }
+    ensures later { S.faults source.old ≤ S.faults source.new }
+{
+    match stream.read(source) {
+        Ok(()) => Ok(()),
+        Err(RoomFault::Refused { block, fault }) => Err(CaptureFault::Refused { block, fault }),
+        Err(RoomFault::ReadFault) => Err(CaptureFault::ReadFault),
+    }
+}
+
+/// Recovers the cells of a track and notes all readings of its sectors in the book, with the offset added to each cell.
+fn note_readings(format: Format, track: TrackId, offset: u64, flux: &TrackFlux, tools: &mut Tools)
+    requires track { IsTrack format track }
+    requires bounded { IsBounded flux.now }
+    requires offset { offset ≤ 15 * 2 ^ 32 }
+    requires roomy { IsRoomy format tools.old.cells tools.old.book }
+    requires knows { Knows (sectors_in format track) tools.old.book }
+    requires few { tools.old.book.notes + MOST_READINGS ≤ 2 ^ 31 }
+    ensures noted { HasNoted format track flux.now.times flux.now.indexes offset tools.old.book tools.new.book }
+    ensures roomy { IsRoomy format tools.new.cells tools.new.book }
+{
+    let turn = flux.first_turn_ticks();
+    let start = LoopStart::for_turn(nominal(format, track), turn, ring_cells(format, track));
+    match recover(flux, start, &mut tools.clock, &mut tools.cells) {
+        Ok(()) => {}
+        // There is room for 32 cells of each transition.
+        Err(_) => unreachable!(),
+    }
+    let recording = recording_of(format, DiskId::ANY);
+    gather(
+        &recording,
+        track,
+        flux,
+        &tools.cells,
+        offset,
+        &mut tools.book,
+    );
+}
