@@ -1,0 +1,6 @@
+pub mod Coming
+pub mod Parts
+pub mod Decoding
+pub mod Telling
+pub mod Outcomes
+pub mod GoodSets

@@ -1,0 +1,21 @@
+use Rattle.std.proofs.Common.{◌≡◌, ◌≤◌, List}
+use Rattle.std.specs.Prelude.{map}
+use Rattle.std.specs.List.{flat_map, range_with_len}
+use Rattle.std.specs.Io.KnownBytes.{Appends}
+use Rattle.turn_merge.specs.Book.{StandsFor}
+use Rattle.turn_merge.specs.Readings.{NotedReading, verdict}
+use Rattle.flux_engine.specs.Tracks.{totals_of}
+use Rattle.flux_engine.specs.Writing.{IsSum}
+use Rattle.capture_set.specs.Sets.{set_line_of}
+use Rattle.capture_set.proofs.track.write_set_lines.Given as goal
+
+abbrev pub invariant-loop-index : goal.invariant-loop-index
+invariant-loop-index g l = record {
+  grew : (readings : List NotedReading) → StandsFor l.room.book readings
+      → Appends (g.N.Sink.written l.initial.notes) (g.N.Sink.written l.notes) (flat_map (set_line_of l.track readings) (range_with_len l.sectors.first l.index));
+  counted : (readings : List NotedReading) → StandsFor l.room.book readings
+      → l.totals ≡ totals_of (map (verdict readings) (range_with_len l.sectors.first l.index));
+  sum : IsSum l.totals;
+  number : l.totals.sectors ≡ l.index;
+  later : g.N.Sink.faults l.initial.notes ≤ g.N.Sink.faults l.notes;
+}

@@ -1,0 +1,5 @@
+pub mod Lines
+pub mod Sets
+pub mod Answers
+pub mod Progress
+pub mod Laws

@@ -1,0 +1,4 @@
+pub mod Verdicts
+pub mod Images
+pub mod Lines
+pub mod Sets
