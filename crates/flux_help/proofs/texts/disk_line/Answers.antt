@@ -1,0 +1,10 @@
+use Rattle.std.proofs.Common.{codes, decimal}
+use Rattle.flux_help.specs.Pages.{disk_text}
+use Rattle.flux_help.proofs.Joined.{joined}
+use Rattle.flux_help.proofs.texts.disk_line.Goals as goal
+
+pub returns : goal.returns
+unfolding disk_text
+returns c =
+    rw (c.put-3.ensures.bytes, c.put_named-2.ensures.bytes, c.put_named.ensures.bytes, c.put-2.ensures.bytes, c.put.ensures.bytes, c.new-line.ensures)
+    (joined (codes "   ") c.args.word.now (codes "\t") (decimal c.args.tracks) (codes " tracks, an image of ") (decimal c.args.bytes) (codes " bytes\n"))

@@ -1,0 +1,158 @@
+-- What is still to come of the wanted files.
+use Rattle.std.proofs.Common.{◌≡◌, ◌<◌, ◌≤◌, ◌+◌, ℕ, List, [], ◌∷◌, ◌++◌, length, take, drop, map, get_or, arith, refl, sym, ◌∙◌, ap, append_assoc, length-drop, length-take, min, Bool, false, Option, None, if◌then◌else◌}
+use Rattle.std.proofs.lemmas.List.{drop_all, drop_more, drop-drop, take-append-drop, take-take}
+use Rattle.std.specs.List.{concat, flat_map}
+use Rattle.flux_base.specs.Memory.{is_failing, next_count}
+use Rattle.flux_base.specs.declared.track.TrackId.{TrackId}
+use Rattle.sector_images.specs.Places.{tracks}
+use Rattle.sector_images.specs.declared.format.Format.{Format}
+use Rattle.track_shelf.specs.Files.{File, first_missing, joined, track_bytes}
+use Rattle.track_shelf.specs.Memory.{NO_TRACK, ShelfState, after_begin, ahead_by, ahead_from, bytes_at, cut_first, failed, first_piece, folder_at, with_bytes}
+
+-- pieces without those that are empty have the same bytes
+pub concat-with_bytes : (pieces : List (List ℕ)) → concat (with_bytes pieces) ≡ concat pieces
+unfolding with_bytes
+concat-with_bytes [] = refl
+concat-with_bytes ([] ∷ rest) = concat-with_bytes rest
+concat-with_bytes ((byte ∷ bytes) ∷ rest) = ap (λ later. (byte ∷ bytes) ++ later) (concat-with_bytes rest)
+
+pub with_bytes-again : (pieces : List (List ℕ)) → with_bytes (with_bytes pieces) ≡ with_bytes pieces
+unfolding with_bytes
+with_bytes-again [] = refl
+with_bytes-again ([] ∷ rest) = with_bytes-again rest
+with_bytes-again ((byte ∷ bytes) ∷ rest) = ap (λ later. (byte ∷ bytes) ∷ later) (with_bytes-again rest)
+
+cut-none : (pieces : List (List ℕ)) → cut_first 0 pieces ≡ pieces
+cut-none [] = refl
+cut-none (piece ∷ rest) = refl
+
+with-nil : (rest : List (List ℕ)) → with_bytes ([] ∷ rest) ≡ with_bytes rest
+unfolding with_bytes
+with-nil rest = refl
+
+pub with-none : with_bytes [] ≡ []
+unfolding with_bytes
+with-none = refl
+
+with-empty : (piece : List ℕ) (rest : List (List ℕ)) → piece ≡ [] → with_bytes (piece ∷ rest) ≡ with_bytes rest
+with-empty piece rest none = ap (λ (p : List ℕ). with_bytes (p ∷ rest)) none ∙ with-nil rest
+
+with-some : (piece : List ℕ) (rest : List (List ℕ)) → 0 < length piece → with_bytes (piece ∷ rest) ≡ piece ∷ with_bytes rest
+unfolding with_bytes
+with-some [] rest some = absurd (omega (arith, some))
+with-some (byte ∷ bytes) rest some = refl
+
+cleared-before : (p : List ℕ) (rest : List (List ℕ)) → with_bytes (p ∷ rest) ≡ with_bytes (p ∷ with_bytes rest)
+unfolding with_bytes
+cleared-before [] rest = sym (with_bytes-again rest)
+cleared-before (byte ∷ bytes) rest = ap (λ (later : List (List ℕ)). (byte ∷ bytes) ∷ later) (sym (with_bytes-again rest))
+
+-- the first piece cut, and then all that have bytes: the others may have been cleared of those without before
+cut-again : (n start : ℕ) (piece : List ℕ) (rest : List (List ℕ))
+    → with_bytes (drop (start + n) piece ∷ rest) ≡ with_bytes (drop n (drop start piece) ∷ with_bytes rest)
+cut-again n start piece rest =
+    ap (λ (p : List ℕ). with_bytes (p ∷ rest)) (sym (drop-drop n start piece)) ∙ cleared-before (drop n (drop start piece)) rest
+
+module _ {X : Type 0} (content : X → List ℕ) (items : List X) (n : ℕ) (d : X) (below : n < length items) where
+  here : map content (drop n items) ≡ content (get_or items n d) ∷ map content (drop (n + 1) items)
+  here = ap (map content) (drop_more items n d below)
+
+  -- the file at hand is taken to its end: the next one is at hand
+  pub pass : (start : ℕ) → length (content (get_or items n d)) ≤ start
+      → with_bytes (cut_first 0 (map content (drop (n + 1) items))) ≡ with_bytes (cut_first start (map content (drop n items)))
+  pass start taken =
+      let rest = map content (drop (n + 1) items) in
+      ap with_bytes (cut-none rest)
+      ∙ sym (ap (λ pieces. with_bytes (cut_first start pieces)) here ∙ with-empty (drop start (content (get_or items n d))) rest (drop_all start (content (get_or items n d)) taken))
+
+  -- the file at hand has bytes, and so many of them are taken
+  pub record AtHand (start : ℕ) : Type 0 where
+    pub rest : List (List ℕ)
+    pub is : with_bytes (cut_first start (map content (drop n items))) ≡ drop start (content (get_or items n d)) ∷ rest
+    pub after : (m : ℕ) → with_bytes (cut_first (start + m) (map content (drop n items))) ≡ with_bytes (drop m (drop start (content (get_or items n d))) ∷ rest)
+
+  pub at-hand : (start : ℕ) → 0 < length (drop start (content (get_or items n d))) → AtHand start
+  at-hand start some = record {
+    rest = with_bytes (map content (drop (n + 1) items));
+    is = ap (λ pieces. with_bytes (cut_first start pieces)) here ∙ with-some (drop start (content (get_or items n d))) _ some;
+    after = λ m. ap (λ pieces. with_bytes (cut_first (start + m) pieces)) here ∙ cut-again m start (content (get_or items n d)) (map content (drop (n + 1) items));
+  }
+
+-- all files are passed
+pub none-ahead : {X : Type 0} (content : X → List ℕ) (items : List X) (n start : ℕ) → length items ≤ n → with_bytes (cut_first start (map content (drop n items))) ≡ []
+none-ahead content items n start passed = ap (λ later. with_bytes (cut_first start (map content later))) (drop_all n items passed) ∙ with-none
+
+-- what a read does that gives the first n bytes of the file at hand
+module _ (pieces : List (List ℕ)) (n : ℕ) (buffer : List ℕ) (within : n ≤ length (first_piece pieces)) (front : take n buffer ≡ take n (first_piece pieces)) where
+  pub consumes : concat pieces ≡ take n buffer ++ concat (with_bytes (cut_first n pieces))
+  consumes = by pieces within front
+    where
+      by : (ps : List (List ℕ)) → n ≤ length (first_piece ps) → take n buffer ≡ take n (first_piece ps)
+          → concat ps ≡ take n buffer ++ concat (with_bytes (cut_first n ps))
+      by [] few same =
+          let none : n ≡ 0 = omega (arith, few) in
+          sym (ap (λ (m : ℕ). take m buffer ++ concat (with_bytes [])) none ∙ ap concat with-none)
+      by (piece ∷ rest) few same =
+          let later : concat (with_bytes (drop n piece ∷ rest)) ≡ drop n piece ++ concat rest = concat-with_bytes (drop n piece ∷ rest) in
+          ap (λ (p : List ℕ). p ++ concat rest) (sym (take-append-drop n piece)) ∙ append_assoc (take n piece) (drop n piece) (concat rest)
+          ∙ ap (λ (p : List ℕ). take n piece ++ p) (sym later) ∙ ap (λ (p : List ℕ). p ++ concat (with_bytes (drop n piece ∷ rest))) (sym same)
+
+-- how many bytes are copied of the file at hand
+pub given-count : (given buffer most k : ℕ) (piece : List ℕ) → given ≡ min buffer (length (take k piece)) → k ≡ min (length piece) most
+    → given ≡ min (min most buffer) (length piece)
+given-count given buffer most k piece count least =
+    let size : length (take k piece) ≡ min k (length piece) = length-take k piece in
+    omega (arith, count, least, size)
+
+-- and which they are
+pub given-front : (given buffer most k : ℕ) (piece copied : List ℕ) → given ≡ min buffer (length (take k piece)) → copied ≡ take given (take k piece)
+    → copied ≡ take given piece
+given-front given buffer most k piece copied count front =
+    let size : length (take k piece) ≡ min k (length piece) = length-take k piece in
+    front ∙ take-take given k piece (omega (arith, count, size))
+
+concat-map : {X : Type 0} (content : X → List ℕ) (items : List X) → concat (map content items) ≡ flat_map content items
+concat-map content [] = refl
+concat-map content (item ∷ items) = ap (λ (later : List ℕ). content item ++ later) (concat-map content items)
+
+module _ (files : List File) (folder : List ℕ) (format : Format) (place : ℕ) (in_folder : 0 < length (tracks format) → folder_at files place ≡ folder) where
+  same-content : (ids : List TrackId) → (0 < length ids → folder_at files place ≡ folder) → map (track_bytes files (folder_at files place)) ids ≡ map (track_bytes files folder) ids
+  same-content [] same = refl
+  same-content (id ∷ ids) same = ap (λ (f : List ℕ). map (track_bytes files f) (id ∷ ids)) (same (omega arith))
+
+  -- from the first track on all wanted files are ahead
+  pub all-ahead : ahead_from files place format 0 0 ≡ with_bytes (map (track_bytes files folder) (tracks format))
+  unfolding ahead_from
+  all-ahead = ap with_bytes (cut-none (map (track_bytes files (folder_at files place)) (tracks format)) ∙ same-content (tracks format) in_folder)
+
+  -- and these are their bytes
+  pub all-joined : concat (ahead_from files place format 0 0) ≡ joined files folder format
+  unfolding joined
+  all-joined =
+      ap concat all-ahead ∙ concat-with_bytes (map (track_bytes files folder) (tracks format))
+      ∙ concat-map (track_bytes files folder) (tracks format)
+
+-- the file at hand, and what is ahead after so many of its bytes
+pub record Next (files : List File) (place : ℕ) (format : Format) (number start : ℕ) : Type 0 where
+  pub rest : List (List ℕ)
+  pub is : ahead_from files place format number start ≡ drop start (bytes_at files place format number) ∷ rest
+  pub after : (m : ℕ) → ahead_from files place format number (start + m) ≡ with_bytes (drop m (drop start (bytes_at files place format number)) ∷ rest)
+
+pub next-at : (files : List File) (place : ℕ) (format : Format) (number start : ℕ) → number < length (tracks format) → start < length (bytes_at files place format number)
+    → Next files place format number start
+unfolding ahead_from
+next-at files place format number start below within =
+    let size = length-drop start (bytes_at files place format number) in
+    let h = at-hand (track_bytes files (folder_at files place)) (tracks format) number NO_TRACK below start (omega (arith, within, size)) in
+    record { rest = h.rest; is = h.is; after = h.after }
+
+-- the shelf after a `begin` that found all wanted files
+pub begun : (s : ShelfState) (folder : List ℕ) (format : Format) (ahead : List (List ℕ)) (calls : ℕ) → is_failing s.failing s.calls ≡ false
+    → first_missing s.files folder format ≡ None → ahead ≡ with_bytes (map (track_bytes s.files folder) (tracks format)) → calls ≡ next_count s.calls
+    → record s { ahead = ahead; calls = calls } ≡ after_begin s folder format
+begun s folder format ahead calls works none is count =
+    let wanted = with_bytes (map (track_bytes s.files folder) (tracks format)) in
+    ap (λ (a : List (List ℕ)). record s { ahead = a; calls = calls }) is
+    ∙ ap (λ (n : ℕ). record s { ahead = wanted; calls = n }) count
+    ∙ ap (λ (m : Option ℕ). record s { ahead = ahead_by m s.ahead wanted; calls = next_count s.calls }) (sym none)
+    ∙ ap (λ (b : Bool). if b then failed s else record s { ahead = ahead_by (first_missing s.files folder format) s.ahead wanted; calls = next_count s.calls }) (sym works)

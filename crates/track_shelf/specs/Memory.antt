@@ -1,0 +1,103 @@
+-- A shelf in memory: what it holds, what is still to come of the wanted files, and which of its calls fail.
+use Rattle.std.specs.Prelude.{if◌then◌else◌, ℕ, Bool, true, false, min, List, [], ◌∷◌, length, drop, get_or, map, filter, Option, Some, None, Result, Ok, Err}
+use Rattle.std.specs.List.{slice_get}
+use Rattle.flux_base.specs.Memory.{is_failing, next_count}
+use Rattle.flux_base.specs.declared.outside.Failed.{Failed}
+use Rattle.flux_base.specs.declared.track.TrackId.{TrackId}
+use Rattle.sector_images.specs.Places.{tracks}
+use Rattle.sector_images.specs.declared.format.Format.{Format}
+use Rattle.track_shelf.specs.declared.memory.Ahead.{Ahead}
+use Rattle.track_shelf.specs.Files.{File, first_missing, track_bytes}
+
+pub record ShelfState : Type 0 where
+  pub files : List File
+  -- the bytes still to come of each wanted file that has some
+  pub ahead : List (List ℕ)
+  -- the most bytes of one read
+  pub chunk : ℕ
+  -- the numbers of the calls that fail
+  pub failing : List ℕ
+  -- the number of calls so far
+  pub calls : ℕ
+  -- how many of them failed
+  pub faults : ℕ
+
+abbrev pub has_bytes : List ℕ → Bool
+has_bytes [] = false
+has_bytes (byte ∷ rest) = true
+
+-- the pieces that are not empty
+unfoldable pub with_bytes : List (List ℕ) → List (List ℕ)
+with_bytes pieces = filter has_bytes pieces
+
+-- the first piece
+abbrev pub first_piece : List (List ℕ) → List ℕ
+first_piece [] = []
+first_piece (piece ∷ rest) = piece
+
+-- the pieces without the first n bytes of the first one
+abbrev pub cut_first : ℕ → List (List ℕ) → List (List ℕ)
+cut_first n [] = []
+cut_first n (piece ∷ rest) = drop n piece ∷ rest
+
+-- the call fails: it is counted, and nothing else changes
+abbrev pub failed : ShelfState → ShelfState
+failed s = record s { calls = next_count s.calls; faults = next_count s.faults }
+
+-- how many bytes a read into a buffer of this length gives: those of one file at most
+abbrev pub given_of : ShelfState → ℕ → ℕ
+given_of s buffer = min (min s.chunk buffer) (length (first_piece s.ahead))
+
+-- what a read into a buffer of this length answers
+abbrev pub read_of : ShelfState → ℕ → Result ℕ Failed
+read_of s buffer = if is_failing s.failing s.calls then Err (record {}) else Ok (given_of s buffer)
+
+-- the shelf after that read
+abbrev pub after_read : ShelfState → ℕ → ShelfState
+after_read s buffer =
+    if is_failing s.failing s.calls
+    then failed s
+    else record s { ahead = with_bytes (cut_first (given_of s buffer) s.ahead); calls = next_count s.calls }
+
+-- what `begin` answers
+abbrev pub begin_of : ShelfState → List ℕ → Format → Result (Option ℕ) Failed
+begin_of s folder format = if is_failing s.failing s.calls then Err (record {}) else Ok (first_missing s.files folder format)
+
+-- the pieces ahead where none is missing, or else those that were ahead before
+abbrev pub ahead_by : Option ℕ → (old new : List (List ℕ)) → List (List ℕ)
+ahead_by None old new = new
+ahead_by (Some number) old new = old
+
+-- the shelf after `begin`
+abbrev pub after_begin : ShelfState → List ℕ → Format → ShelfState
+after_begin s folder format =
+    if is_failing s.failing s.calls
+    then failed s
+    else record s {
+      ahead = ahead_by (first_missing s.files folder format) s.ahead (with_bytes (map (track_bytes s.files folder) (tracks format)));
+      calls = next_count s.calls;
+    }
+
+-- the folder of the file at a place
+abbrev pub folder_in : Option File → List ℕ
+folder_in None = []
+folder_in (Some file) = file.folder
+
+abbrev pub folder_at : List File → ℕ → List ℕ
+folder_at files place = folder_in (slice_get files place)
+
+abbrev pub NO_TRACK : TrackId
+NO_TRACK = record { cylinder = 0; head = 0 }
+
+-- the bytes of the file of the track of a number, in the folder of the file at a place
+abbrev pub bytes_at : List File → (place : ℕ) → Format → (number : ℕ) → List ℕ
+bytes_at files place format number = track_bytes files (folder_at files place) (get_or (tracks format) number NO_TRACK)
+
+-- what is ahead, by a file of the folder, the number of the track that comes next, and the byte in its file
+unfoldable pub ahead_from : List File → (place : ℕ) → Format → (number start : ℕ) → List (List ℕ)
+ahead_from files place format number start =
+    with_bytes (cut_first start (map (track_bytes files (folder_at files place)) (drop number (tracks format))))
+
+abbrev pub ahead_at : List File → Option Ahead → List (List ℕ)
+ahead_at files None = []
+ahead_at files (Some next) = ahead_from files next.place next.format next.number next.start
