@@ -2,7 +2,7 @@
 #![tactic(auto)]
 
 use flux_base::{Status, Word};
-use flux_cli::{StdSink, StdSource, run};
+use flux_cli::{StdShelf, StdSink, StdSource, run};
 use std::env;
 use std::process::ExitCode;
 
@@ -22,6 +22,14 @@ fn main(rt: HostRuntime) -> ExitCode {
     let mut source = StdSource::new(rt.stdin());
     let mut image = StdSink::new(rt.stdout());
     let mut notes = StdSink::new(rt.stderr());
-    let status = run(rt.alloc(), &words, &mut source, &mut image, &mut notes);
+    let mut shelf = StdShelf::new(&rt);
+    let status = run(
+        rt.alloc(),
+        &words,
+        &mut source,
+        &mut image,
+        &mut notes,
+        &mut shelf,
+    );
     ExitCode::from(status.code())
 }

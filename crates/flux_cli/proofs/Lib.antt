@@ -1,12 +1,14 @@
 pub mod TurnLemmas
-pub mod Results
 pub mod Inputs
 pub mod DisksRun
 pub mod ImagesRun
 pub mod G64Run
+pub mod SetRun
 pub mod TurnsRun
 pub mod Runs
 pub mod Outcomes
 pub mod Captured
 pub mod TrialRun
+pub mod PagesRun
 pub mod Digits
+pub mod FolderRun

@@ -1,11 +1,14 @@
 -- The words and the input decide the outcome.
-use Rattle.std.proofs.Common.{◌≡◌, ℕ, ◌+◌, ◌*◌, List, [], ◌∷◌, nat_eq, false, Option, Some, None, refl, sym, ap, ◌∙◌, subst}
+use Rattle.std.proofs.Common.{◌≡◌, inl, inr, ℕ, ◌+◌, ◌*◌, List, [], ◌∷◌, nat_eq, false, Option, Some, None, refl, sym, ap, ◌∙◌, subst}
 use Rattle.std.proofs.lemmas.Bool.{eq-eqb}
-use Rattle.std.specs.Prelude.{length, sum}
+use Rattle.std.specs.Prelude.{Bool, true, ◌||◌, codes, length, sum}
 use Rattle.std.specs.Str.Parse.{digits_value}
+use Rattle.capture_set.specs.Laws.{OneSet}
 use Rattle.flux_base.specs.declared.status.Status.TheVariants.{AllGood}
 use Rattle.flux_engine.specs.Disks.{Decoded}
 use Rattle.flux_engine.specs.Laws.{OneOutcome}
+use Rattle.flux_help.specs.declared.page.Page.{Page}
+use Rattle.flux_help.specs.declared.page.Page.TheVariants.{Help, Version}
 use Rattle.flux_trial.specs.Tracks.{IsTrialLine, trial_input}
 use Rattle.g64_image.specs.Laws.{OneFileDisk}
 use Rattle.sector_images.specs.Formats.{WordsNameFormats}
@@ -16,12 +19,13 @@ use Rattle.flux_cli.specs.Commands.{AreWordsOf, AskFor}
 use Rattle.flux_cli.specs.DisksWork.{disk_outcome}
 use Rattle.flux_cli.specs.G64Disks.{format_of}
 use Rattle.flux_cli.specs.G64Work.{from_g64_outcome}
+use Rattle.flux_cli.specs.SetWork.{set_outcome}
 use Rattle.flux_cli.specs.Work.{Outcome}
 use Rattle.flux_cli.specs.Works.{IsOutcome, work_of}
 use Rattle.flux_cli.specs.declared.command.Command.{Command}
 use Rattle.flux_cli.specs.declared.g64_disk.G64Disk.{G64Disk}
 use Rattle.flux_cli.specs.declared.g64_disk.G64Disk.TheVariants.{Tracks35, Tracks40}
-use Rattle.flux_cli.specs.declared.command.Command.TheVariants.{Turns, Decode, Report, Write, Trial, ToG64, FromG64}
+use Rattle.flux_cli.specs.declared.command.Command.TheVariants.{Turns, Decode, Report, Write, Trial, ToG64, FromG64, DecodeSet, Tell}
 use Rattle.flux_cli.specs.declared.command.Output.TheVariants.{ImageAndReport, ReportAlone}
 
 -- the first two letters of the first word, as one number
@@ -31,7 +35,12 @@ letters ([] ∷ words) = 0
 letters ((byte ∷ []) ∷ words) = 0
 letters ((byte ∷ next ∷ bytes) ∷ words) = 256 * byte + next
 
-abbrev format_word : List (List ℕ) → List ℕ
+-- how many letters it has
+abbrev first_size : List (List ℕ) → ℕ
+first_size [] = 0
+first_size (word ∷ words) = length word
+
+abbrev pub format_word : List (List ℕ) → List ℕ
 format_word (word ∷ other ∷ words) = other
 format_word words = []
 
@@ -48,6 +57,40 @@ one_disk Tracks35 Tracks35 same = refl
 one_disk Tracks35 Tracks40 same = absurd (cc)
 one_disk Tracks40 Tracks35 same = absurd (cc)
 one_disk Tracks40 Tracks40 same = refl
+
+-- A word for a page is neither `turns` nor two words or more, and the words for the pages differ in their lengths.
+abbrev first_length : List (List ℕ) → ℕ
+first_length [] = 0
+first_length (word ∷ words) = length word
+
+abbrev is_page_length : ℕ → Bool
+is_page_length n = nat_eq n 2 || nat_eq n 4 || nat_eq n 6 || nat_eq n 9
+
+page_words : (page : Page) (words : List (List ℕ)) → AreWordsOf (Tell page) words → (length words ≡ 1) × (is_page_length (first_length words) ≡ true)
+page_words Help words (inl is) = (ap length is, ap (λ w. is_page_length (first_length w)) is)
+page_words Help words (inr (inl is)) = (ap length is, ap (λ w. is_page_length (first_length w)) is)
+page_words Help words (inr (inr is)) = (ap length is, ap (λ w. is_page_length (first_length w)) is)
+page_words Version words is = (ap length is, ap (λ w. is_page_length (first_length w)) is)
+
+-- no words of a page are these
+no_page : (page : Page) (words others : List (List ℕ)) → nat_eq 1 (length others) ≡ false → AreWordsOf (Tell page) words → words ≡ others → ⊥
+no_page page words others many is same = differ 1 (length others) many (sym (page_words page words is).0 ∙ ap length same)
+
+no_turns : (page : Page) (words : List (List ℕ)) → AreWordsOf (Tell page) words → words ≡ codes "turns" ∷ [] → ⊥
+no_turns page words is same =
+    let no : is_page_length (first_length words) ≡ false = ap (λ w. is_page_length (first_length w)) same in
+    let yes : is_page_length (first_length words) ≡ true = (page_words page words is).1 in
+    cc
+
+one_page : (page other : Page) (words : List (List ℕ)) → AreWordsOf (Tell page) words → AreWordsOf (Tell other) words → page ≡ other
+one_page Help Help words first second = refl
+one_page Version Version words first second = refl
+one_page Help Version words (inl is) second = absurd (differ 4 9 refl (ap first_length (sym is ∙ second)))
+one_page Help Version words (inr (inl is)) second = absurd (differ 6 9 refl (ap first_length (sym is ∙ second)))
+one_page Help Version words (inr (inr is)) second = absurd (differ 2 9 refl (ap first_length (sym is ∙ second)))
+one_page Version Help words first (inl is) = absurd (differ 4 9 refl (ap first_length (sym is ∙ first)))
+one_page Version Help words first (inr (inl is)) = absurd (differ 6 9 refl (ap first_length (sym is ∙ first)))
+one_page Version Help words first (inr (inr is)) = absurd (differ 2 9 refl (ap first_length (sym is ∙ first)))
 
 -- words ask for one command at most
 pub one_command : WordsNameFormats → (words : List (List ℕ)) (a b : Command) → AreWordsOf a words → AreWordsOf b words → a ≡ b
@@ -103,6 +146,41 @@ one_command names words (FromG64 disk) (Write g) first second = absurd (differ 2
 one_command names words (FromG64 disk) (Trial g t) first second = absurd (differ 26226 29810 refl (ap letters (sym first ∙ second.1)))
 one_command names words (FromG64 disk) (ToG64 other) first second = absurd (differ 26226 29807 refl (ap letters (sym first ∙ second)))
 one_command names words (FromG64 disk) (FromG64 other) first second = ap FromG64 (one_disk disk other (names (format_of disk) (format_of other) (ap format_word (sym first ∙ second))))
+one_command names words Turns (DecodeSet g t) first second = absurd (differ 29813 25701 refl (ap letters (sym first ∙ second.1)))
+one_command names words (Decode f) (DecodeSet g t) first second = absurd (differ 6 10 refl (ap first_size (sym first ∙ second.1)))
+one_command names words (Report f) (DecodeSet g t) first second = absurd (differ 29285 25701 refl (ap letters (sym first ∙ second.1)))
+one_command names words (Write f) (DecodeSet g t) first second = absurd (differ 30578 25701 refl (ap letters (sym first ∙ second.1)))
+one_command names words (Trial f s) (DecodeSet g t) first second = absurd (differ 29810 25701 refl (ap letters (sym first.1 ∙ second.1)))
+one_command names words (ToG64 disk) (DecodeSet g t) first second = absurd (differ 29807 25701 refl (ap letters (sym first ∙ second.1)))
+one_command names words (FromG64 disk) (DecodeSet g t) first second = absurd (differ 26226 25701 refl (ap letters (sym first ∙ second.1)))
+one_command names words (DecodeSet f s) Turns first second = absurd (differ 25701 29813 refl (ap letters (sym first.1 ∙ second)))
+one_command names words (DecodeSet f s) (Decode g) first second = absurd (differ 10 6 refl (ap first_size (sym first.1 ∙ second)))
+one_command names words (DecodeSet f s) (Report g) first second = absurd (differ 25701 29285 refl (ap letters (sym first.1 ∙ second)))
+one_command names words (DecodeSet f s) (Write g) first second = absurd (differ 25701 30578 refl (ap letters (sym first.1 ∙ second)))
+one_command names words (DecodeSet f s) (Trial g t) first second = absurd (differ 25701 29810 refl (ap letters (sym first.1 ∙ second.1)))
+one_command names words (DecodeSet f s) (ToG64 other) first second = absurd (differ 25701 29807 refl (ap letters (sym first.1 ∙ second)))
+one_command names words (DecodeSet f s) (FromG64 other) first second = absurd (differ 25701 26226 refl (ap letters (sym first.1 ∙ second)))
+one_command names words (DecodeSet f s) (DecodeSet g t) first second =
+    let same = sym first.1 ∙ second.1 in
+    ap (λ (format : Format). DecodeSet format s) (names f g (ap format_word same))
+    ∙ ap (DecodeSet g) (sym first.2.value ∙ ap (digits_value 10) (ap seed_word same) ∙ second.2.value)
+one_command names words Turns (Tell page) first second = absurd (no_turns page words second first)
+one_command names words (Tell page) Turns first second = absurd (no_turns page words first second)
+one_command names words (Decode g) (Tell page) first second = absurd (no_page page words _ refl second first)
+one_command names words (Tell page) (Decode g) first second = absurd (no_page page words _ refl first second)
+one_command names words (Report g) (Tell page) first second = absurd (no_page page words _ refl second first)
+one_command names words (Tell page) (Report g) first second = absurd (no_page page words _ refl first second)
+one_command names words (Write g) (Tell page) first second = absurd (no_page page words _ refl second first)
+one_command names words (Tell page) (Write g) first second = absurd (no_page page words _ refl first second)
+one_command names words (Trial g t) (Tell page) first second = absurd (no_page page words _ refl second first.1)
+one_command names words (Tell page) (Trial g t) first second = absurd (no_page page words _ refl first second.1)
+one_command names words (ToG64 other) (Tell page) first second = absurd (no_page page words _ refl second first)
+one_command names words (Tell page) (ToG64 other) first second = absurd (no_page page words _ refl first second)
+one_command names words (FromG64 other) (Tell page) first second = absurd (no_page page words _ refl second first)
+one_command names words (Tell page) (FromG64 other) first second = absurd (no_page page words _ refl first second)
+one_command names words (Tell page) (Tell other) first second = ap Tell (one_page page other words first second)
+one_command names words (DecodeSet g t) (Tell page) first second = absurd (no_page page words _ refl second first.1)
+one_command names words (Tell page) (DecodeSet g t) first second = absurd (no_page page words _ refl first second.1)
 
 -- words ask for one thing at most
 one_asked : WordsNameFormats → (words : List (List ℕ)) (a b : Option Command) → AskFor words a → AskFor words b → a ≡ b
@@ -119,7 +197,7 @@ one_line one format seed a b first second =
     (one format (trial_input format seed) first.decoded second.decoded first.is second.is)
     ∙ sym second.line_is
 
-module _ (names : WordsNameFormats) (one : OneOutcome) (one_file : OneFileDisk) where
+module _ (names : WordsNameFormats) (one : OneOutcome) (one_file : OneFileDisk) (one_set : OneSet) where
   one_of : (asked : Option Command) (x : List ℕ) (a b : Outcome) → (work_of asked).gives x a → (work_of asked).gives x b → a ≡ b
   one_of None x a b first second = first ∙ sym second
   one_of (Some Turns) x a b first second = first ∙ sym second
@@ -133,8 +211,11 @@ module _ (names : WordsNameFormats) (one : OneOutcome) (one_file : OneFileDisk) 
   one_of (Some (ToG64 disk)) x a b first second = first ∙ sym second
   one_of (Some (FromG64 disk)) x a b first second =
       first.2 ∙ ap from_g64_outcome (one_file (format_of disk) x first.0 second.0 first.1 second.1) ∙ sym second.2
+  one_of (Some (DecodeSet format count)) x a b first second =
+      first.2 ∙ ap set_outcome (one_set format count x first.0 second.0 first.1 second.1) ∙ sym second.2
+  one_of (Some (Tell page)) x a b first second = first ∙ sym second
 
   pub one_outcome : (words : List (List ℕ)) (x : List ℕ) (a b : Outcome) → IsOutcome words x a → IsOutcome words x b → a ≡ b
   one_outcome words x a b first second =
-      let same = one_asked names words first.0 second.0 first.1 second.1 in
-      one_of second.0 x a b (subst (λ asked. (work_of asked).gives x a) same first.2) second.2
+      let same = one_asked names words first.1 second.1 first.2 second.2 in
+      one_of second.1 x a b (subst (λ asked. (work_of asked).gives x a) same first.3) second.3

@@ -1,6 +1,8 @@
 pub mod G64Disks
 pub mod Seeds
+pub mod Counts
 pub mod Commands
+pub mod FolderWords
 pub mod Turns
 pub mod Work
 pub mod TurnsWork
@@ -8,7 +10,10 @@ pub mod DisksWork
 pub mod ImagesWork
 pub mod G64Work
 pub mod TrialWork
+pub mod PagesWork
+pub mod SetWork
 pub mod Works
 pub mod Runs
 pub mod DisksRuns
+pub mod FolderRuns
 pub mod Captured

@@ -4,7 +4,7 @@ use Rattle.std.specs.Prelude.{◌≡◌, ◌≤◌, ℕ, ◌++◌, List, Option,
 use Rattle.flux_base.specs.Moments.{Moment}
 use Rattle.flux_base.specs.Outside.{Rose}
 use Rattle.flux_base.specs.declared.status.Status.{Status}
-use Rattle.flux_base.specs.declared.status.Status.TheVariants.{AllGood, NotAllGood, Refused, Usage, ReadFault, ImageFault, NotesFault, Memory}
+use Rattle.flux_base.specs.declared.status.Status.TheVariants.{AllGood, NotAllGood, Refused, Usage, ReadFault, ImageFault, NotesFault, Memory, ShelfFault}
 use Rattle.flux_engine.specs.Needed.{ReadsWhereOpen}
 use Rattle.kryo_stream.specs.Reads.{SourceMoment}
 use Rattle.flux_cli.specs.Commands.{AskFor}
@@ -58,6 +58,7 @@ Says asked ReadFault before after = IsCut (work_of asked) ReadFault before after
 Says asked ImageFault before after = IsCut (work_of asked) ImageFault before after × Rose before.image.faults after.image.faults
 Says asked NotesFault before after = IsCut (work_of asked) NotesFault before after × Rose before.notes.faults after.notes.faults
 Says asked Memory before after = IsSome asked × (after ≡ before)
+Says asked ShelfFault before after = ⊥
 
 -- no object's count of faults is lower than it was
 pub record NoCountFell {S W N : Type 0} (before after : Outside S W N) : Type 0 where
@@ -89,8 +90,8 @@ pub record Does {S W N : Type 0} (asked : Option Command) (status : Status) (bef
   pub counts : NoCountFell before after
   pub needed : WasReadWhereNeeded (work_of asked) before after
 
--- what a run with these words did
-pub record Ran {S W N : Type 0} (words : List (List ℕ)) (status : Status) (before after : Outside S W N) : Type 0 where
+-- what a run over the source with these words did
+pub record RanOverSource {S W N : Type 0} (words : List (List ℕ)) (status : Status) (before after : Outside S W N) : Type 0 where
   pub asked : Option Command
   pub asks : AskFor words asked
   pub does : Does asked status before after

@@ -1,10 +1,12 @@
-ghost use Rattle.std.specs.Prelude.{◌≡◌, [], ◌∷◌, codes};
+ghost use Rattle.std.specs.Prelude.{◌≡◌, [], ◌∷◌};
 ghost use Rattle.flux_cli.specs.Commands.{AskFor};
 ghost use Rattle.sector_images.specs.Formats.{row};
 
+use crate::count::count_of;
 use crate::g64_disk::G64Disk;
 use crate::seed::seed_of;
 use flux_base::Word;
+use flux_help::Page;
 use sector_images::{Format, words_name_formats};
 
 /// What the words ask for.
@@ -24,6 +26,10 @@ pub enum Command {
     ToG64(G64Disk),
     /// An image from such a file, and a report in the notes.
     FromG64(G64Disk),
+    /// An image from the streams of a disk of which so many capture each track, and a report in the notes.
+    DecodeSet(Format, u32),
+    /// What the program says of itself.
+    Tell(Page),
 }
 
 /// What comes of the streams of a disk.
@@ -42,7 +48,7 @@ pub fn command_of(words: &[Word]) -> Option<Command>
     match words {
         [verb] => plain_command(verb.bytes()),
         [verb, word] => format_command(verb.bytes(), word.bytes()),
-        [verb, word, seed] => seed_command(verb.bytes(), word.bytes(), seed.bytes()),
+        [verb, word, number] => number_command(verb.bytes(), word.bytes(), number.bytes()),
         _ => None,
     }
 }
@@ -51,9 +57,18 @@ pub fn command_of(words: &[Word]) -> Option<Command>
 fn plain_command(verb: &[u8]) -> Option<Command>
     ensures { AskFor (verb.now ∷ []) result }
 {
-    match verb {
-        b"turns" => Some(Command::Turns),
-        _ => None,
+    if verb == b"turns".as_slice() {
+        Some(Command::Turns)
+    } else if verb == b"help".as_slice() {
+        Some(Command::Tell(Page::Help))
+    } else if verb == b"--help".as_slice() {
+        Some(Command::Tell(Page::Help))
+    } else if verb == b"-h".as_slice() {
+        Some(Command::Tell(Page::Help))
+    } else if verb == b"--version".as_slice() {
+        Some(Command::Tell(Page::Version))
+    } else {
+        None
     }
 }
 
@@ -93,25 +108,32 @@ fn command_over(verb: &[u8], format: Format) -> Option<Command>
     }
 }
 
-/// The command of three words, of which the second is a format's and the third a seed.
-fn seed_command(verb: &[u8], word: &[u8], seed: &[u8]) -> Option<Command>
-    ensures { AskFor (verb.now ∷ word.now ∷ seed.now ∷ []) result }
+/// The command of three words, of which the second is a format's and the third a number.
+fn number_command(verb: &[u8], word: &[u8], number: &[u8]) -> Option<Command>
+    ensures { AskFor (verb.now ∷ word.now ∷ number.now ∷ []) result }
 {
-    if verb != b"trial".as_slice() {
-        return None;
-    }
     match Format::of_word(word) {
-        Some(format) => trial_of(format, seed),
+        Some(format) => command_with(verb, format, number),
         None => None,
     }
 }
 
-/// The trial of a format and a seed.
-fn trial_of(format: Format, seed: &[u8]) -> Option<Command>
-    ensures { AskFor (codes "trial" ∷ (row format).word ∷ seed.now ∷ []) result }
+/// The command of a word, a format and a number.
+fn command_with(verb: &[u8], format: Format, number: &[u8]) -> Option<Command>
+    ensures { AskFor (verb.now ∷ (row format).word ∷ number.now ∷ []) result }
 {
-    match seed_of(seed) {
-        Some(seed) => Some(Command::Trial(format, seed)),
-        None => None,
+    words_name_formats();
+    if verb == b"trial".as_slice() {
+        match seed_of(number) {
+            Some(seed) => Some(Command::Trial(format, seed)),
+            None => None,
+        }
+    } else if verb == b"decode-set".as_slice() {
+        match count_of(number) {
+            Some(count) => Some(Command::DecodeSet(format, count)),
+            None => None,
+        }
+    } else {
+        None
     }
 }

@@ -2,20 +2,26 @@
 #![tactic(auto)]
 
 mod command;
+mod count;
 mod disks;
+mod folder;
 mod g64_disk;
 mod g64_files;
 mod images;
 mod laws;
+mod pages;
 mod program;
 mod seed;
+mod sets;
 mod standard;
+mod std_shelf;
 mod trial;
 mod turns;
 
 pub use laws::outcomes_are_one;
 pub use program::run;
 pub use standard::{StdSink, StdSource};
+pub use std_shelf::StdShelf;
 
 #[cfg(test)]
 mod tests;

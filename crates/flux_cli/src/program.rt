@@ -1,15 +1,19 @@
 ghost use Rattle.std.specs.Prelude.{◌≢◌, Some};
 ghost use Rattle.flux_base.specs.Moments.{moment};
 ghost use Rattle.flux_base.specs.declared.status.Status.{Status};
-ghost use Rattle.flux_cli.specs.Captured.{RunsCaptured, RunsErased};
-ghost use Rattle.flux_cli.specs.Runs.{Does, Ran, outside};
+ghost use Rattle.flux_cli.specs.Captured.{FolderCaptured, FolderErased, RunsCaptured, RunsErased};
+ghost use Rattle.flux_cli.specs.FolderRuns.{Ran, on, shelf_moment, surroundings};
+ghost use Rattle.flux_cli.specs.Runs.{Does, RanOverSource, outside};
 ghost use Rattle.flux_cli.specs.declared.command.Command.TheVariants.{Turns};
 ghost use Rattle.kryo_stream.specs.Room.{IsFresh};
 
 use crate::command::{Command, Output, command_of};
 use crate::disks::decode;
+use crate::folder::{decode_folder, folder_of};
 use crate::g64_files::{from_file, to_file};
 use crate::images::write;
+use crate::pages::tell;
+use crate::sets::decode_captures;
 use crate::trial::trial;
 use crate::turns::write_turns;
 use captured_disks::captured_disks_decode;
@@ -21,23 +25,28 @@ use kryo_stream::{RoomFault, StreamRoom};
 use sector_images::words_name_formats;
 use sector_report::{refused_line, usage_line, write_line};
 use std::alloc::Global;
+use track_shelf::Shelf;
 
 /// Runs the program over its words, without the program's name. Bytes of images go to `image`, and lines
 /// that are about the work to `notes`. All memory is taken before the first read and the first write.
-pub fn run<S: Source, W: Sink, N: Sink>(
+pub fn run<S: Source, W: Sink, N: Sink, H: Shelf>(
     alloc: Global,
     words: &[Word],
     source: &mut S,
     image: &mut W,
     notes: &mut N,
+    shelf: &mut H,
 ) -> Status
     // It finished, and gave all that the input comes to; or a counted fault of one object cut it at a place that the
-    // command's row states; or there was no memory to begin, and source, image and notes are as they were. The source is
+    // command's row states; or there was no memory to begin, and all objects are as they were. The source is
     // read only where the bytes that it gave do not tell what there is to do, so that nothing is awaited on an open pipe
-    // that isn't needed.
+    // that isn't needed. Where the words name a folder, the shelf stands in the source's place, and where a wanted file is
+    // missing, the notes say so and nothing is read; else the shelf is not touched.
     ensures ran { Ran words.now result
-        (outside (moment S.left S.faults source.old) (S.given source.old) (moment W.written W.faults image.old) (moment N.written N.faults notes.old))
-        (outside (moment S.left S.faults source.new) (S.given source.new) (moment W.written W.faults image.new) (moment N.written N.faults notes.new)) }
+        (surroundings (outside (moment S.left S.faults source.old) (S.given source.old) (moment W.written W.faults image.old) (moment N.written N.faults notes.old))
+        (shelf_moment (moment H.left H.faults shelf.old) (H.given shelf.old) (H.files shelf.old)))
+        (surroundings (outside (moment S.left S.faults source.new) (S.given source.new) (moment W.written W.faults image.new) (moment N.written N.faults notes.new))
+        (shelf_moment (moment H.left H.faults shelf.new) (H.given shelf.new) (H.files shelf.new))) }
 
     // From any streams that carry an image's written tracks, disturbed within the bounds, `decode` writes exactly that
     // image, every sector good; or a counted fault cut it, or there was no memory to begin.
@@ -50,21 +59,53 @@ pub fn run<S: Source, W: Sink, N: Sink>(
     ensures erased { RunsErased words.now result
         (outside (moment S.left S.faults source.old) (S.given source.old) (moment W.written W.faults image.old) (moment N.written N.faults notes.old))
         (outside (moment S.left S.faults source.new) (S.given source.new) (moment W.written W.faults image.new) (moment N.written N.faults notes.new)) }
+
+    // The same of `decode-folder`, where the files of a folder are such streams and none is missing.
+    ensures folder_captured { FolderCaptured words.now result
+        (on (shelf_moment (moment H.left H.faults shelf.old) (H.given shelf.old) (H.files shelf.old)) (moment W.written W.faults image.old) (moment N.written N.faults notes.old))
+        (on (shelf_moment (moment H.left H.faults shelf.new) (H.given shelf.new) (H.files shelf.new)) (moment W.written W.faults image.new) (moment N.written N.faults notes.new)) }
+    ensures folder_erased { FolderErased words.now result
+        (on (shelf_moment (moment H.left H.faults shelf.old) (H.given shelf.old) (H.files shelf.old)) (moment W.written W.faults image.old) (moment N.written N.faults notes.old))
+        (on (shelf_moment (moment H.left H.faults shelf.new) (H.given shelf.new) (H.files shelf.new)) (moment W.written W.faults image.new) (moment N.written N.faults notes.new)) }
 {
     words_name_formats();
     captured_disks_decode();
-    run_words(alloc, words, source, image, notes)
+    run_words(alloc, words, source, image, notes, shelf)
 }
 
-/// Does what the words ask for.
-fn run_words<S: Source, W: Sink, N: Sink>(
+/// Does what the words ask for, over the shelf where they name a folder.
+fn run_words<S: Source, W: Sink, N: Sink, H: Shelf>(
+    alloc: Global,
+    words: &[Word],
+    source: &mut S,
+    image: &mut W,
+    notes: &mut N,
+    shelf: &mut H,
+) -> Status
+    ensures { Ran words.now result
+        (surroundings (outside (moment S.left S.faults source.old) (S.given source.old) (moment W.written W.faults image.old) (moment N.written N.faults notes.old))
+        (shelf_moment (moment H.left H.faults shelf.old) (H.given shelf.old) (H.files shelf.old)))
+        (surroundings (outside (moment S.left S.faults source.new) (S.given source.new) (moment W.written W.faults image.new) (moment N.written N.faults notes.new))
+        (shelf_moment (moment H.left H.faults shelf.new) (H.given shelf.new) (H.files shelf.new))) }
+{
+    match folder_of(words) {
+        None => run_over_source(alloc, words, source, image, notes),
+        Some((format, folder)) => match DiskRoom::reserve(alloc, format) {
+            Ok(mut room) => decode_folder(&mut room, format, folder, shelf, image, notes),
+            Err(Memory) => Status::Memory,
+        },
+    }
+}
+
+/// Does what the words ask for over the source.
+fn run_over_source<S: Source, W: Sink, N: Sink>(
     alloc: Global,
     words: &[Word],
     source: &mut S,
     image: &mut W,
     notes: &mut N,
 ) -> Status
-    ensures { Ran words.now result
+    ensures { RanOverSource words.now result
         (outside (moment S.left S.faults source.old) (S.given source.old) (moment W.written W.faults image.old) (moment N.written N.faults notes.old))
         (outside (moment S.left S.faults source.new) (S.given source.new) (moment W.written W.faults image.new) (moment N.written N.faults notes.new)) }
 {
@@ -101,6 +142,11 @@ fn run_words<S: Source, W: Sink, N: Sink>(
             Ok(mut room) => from_file(&mut room, source, image, notes),
             Err(Memory) => Status::Memory,
         },
+        Some(Command::DecodeSet(format, count)) => match DiskRoom::reserve(alloc, format) {
+            Ok(mut room) => decode_captures(&mut room, count, source, image, notes),
+            Err(Memory) => Status::Memory,
+        },
+        Some(Command::Tell(page)) => tell(page, source, image, notes),
     }
 }
 

@@ -22,7 +22,7 @@ pub(crate) fn seed_of(word: &[u8]) -> Option<u32>
 }
 
 /// The number that digits write. None where a byte is no digit.
-fn number_of(word: &[u8]) -> Option<u64>
+pub(crate) fn number_of(word: &[u8]) -> Option<u64>
     requires { length word.now ≤ 10 }
     ensures some { IfSome result (λ number. AllDigits 10 word.now × (number ≡ digits_value 10 word.now)) }
     ensures none { IfNone result (¬ AllDigits 10 word.now) }

@@ -2,8 +2,10 @@
 use super::*;
 use flux_base::{MemorySink, MemorySource, Status, Word};
 use std::alloc::{AllocError, Global};
+use std::fs;
 use std::process::Abort;
 use std::test::Fail;
+use track_shelf::MemoryShelf;
 
 const END: [u8; 4] = [0x0D; 4];
 
@@ -14,7 +16,7 @@ const TWO_TRANSITIONS: [u8; 50] = [
 ];
 
 const USAGE: &str =
-    "usage: flux turns | decode FORMAT | report FORMAT | write FORMAT | trial FORMAT SEED | to-g64 FORMAT | from-g64 FORMAT\n";
+    "usage: flux turns | decode FORMAT | report FORMAT | write FORMAT | trial FORMAT SEED | to-g64 FORMAT | from-g64 FORMAT | decode-set FORMAT COUNT | decode-folder FORMAT FOLDER\n";
 
 /// What a run answered and wrote.
 #[derive(Drop)]
@@ -90,7 +92,15 @@ fn run_over(
     let mut image = MemorySink::new(alloc, 4096, listed(alloc, failing.image)?)?;
     let mut notes = MemorySink::new(alloc, 4096, listed(alloc, failing.notes)?)?;
     let words = words_of(alloc, texts)?;
-    let status = run(alloc, &words, &mut source, &mut image, &mut notes);
+    let mut shelf = MemoryShelf::new(Vec::new(alloc), 1, Vec::new(alloc));
+    let status = run(
+        alloc,
+        &words,
+        &mut source,
+        &mut image,
+        &mut notes,
+        &mut shelf,
+    );
     Ok(Ended {
         status,
         source,
@@ -302,6 +312,10 @@ fn words_that_are_no_command(rt: HostRuntime) -> Result<(), Fail> {
     is_no_command(&rt, alloc, &["trial", "amigo", "1"])?;
     is_no_command(&rt, alloc, &["trail", "amiga", "1"])?;
     is_no_command(&rt, alloc, &["trial", "amiga", "1", "2"])?;
+    is_no_command(&rt, alloc, &["decode-folder", "amiga"])?;
+    is_no_command(&rt, alloc, &["decode-folder", "amiga", ""])?;
+    is_no_command(&rt, alloc, &["decode-folder", "amigo", "dump"])?;
+    is_no_command(&rt, alloc, &["decode-folder", "amiga", "dump", "dump"])?;
     for seed in [
         "",
         "4294967296",
@@ -313,6 +327,12 @@ fn words_that_are_no_command(rt: HostRuntime) -> Result<(), Fail> {
         " 1",
     ] {
         is_no_command(&rt, alloc, &["trial", "amiga", seed])?;
+    }
+    is_no_command(&rt, alloc, &["decode-set", "amiga"])?;
+    is_no_command(&rt, alloc, &["decode-set", "amigo", "2"])?;
+    is_no_command(&rt, alloc, &["decode-sets", "amiga", "2"])?;
+    for count in ["", "0", "00", "17", "001", "+1", "2x"] {
+        is_no_command(&rt, alloc, &["decode-set", "amiga", count])?;
     }
     let failing = Failing {
         notes: Some(0),
@@ -441,6 +461,80 @@ fn trials_of_a_number(rt: HostRuntime) -> Result<(), Fail> {
         ..NONE
     };
     let end = run_over(alloc, &words, Vec::new(alloc), 7, failing)?;
+    assert_eq!(rt; end.status, Status::ImageFault);
+    assert_eq!(rt; end.image.bytes(), b"".as_slice());
+    Ok(())
+}
+
+/// Runs `decode-folder apple-do` over this folder of the system.
+fn decode_folder(rt: &HostRuntime, folder: &str) -> Result<(u8, MemorySink, MemorySink), Fail> {
+    let alloc = rt.alloc();
+    let words = words_of(alloc, &["decode-folder", "apple-do", folder])?;
+    let mut source = MemorySource::new(Vec::new(alloc), 1, Vec::new(alloc));
+    let mut image = MemorySink::new(alloc, 200_000, Vec::new(alloc))?;
+    let mut notes = MemorySink::new(alloc, 20_000, Vec::new(alloc))?;
+    let mut shelf = StdShelf::new(rt);
+    let status = run(
+        alloc,
+        &words,
+        &mut source,
+        &mut image,
+        &mut notes,
+        &mut shelf,
+    );
+    Ok((status.code(), image, notes))
+}
+
+#[test]
+fn a_folder_of_the_system(rt: HostRuntime) -> Result<(), Fail> {
+    let alloc = rt.alloc();
+    let folder = "a dump of träcks";
+    fs::create_dir(&rt, folder)?;
+    for cylinder in 0..35 {
+        let path = format!(in alloc; "{folder}/track{cylinder:02}.0.raw")?;
+        fs::write(&rt, path.as_str(), TWO_TRANSITIONS.as_slice())?;
+    }
+    let (code, image, notes) = decode_folder(&rt, folder)?;
+    fs::remove_file(&rt, "a dump of träcks/track34.0.raw")?;
+    let (missing_code, nothing, line) = decode_folder(&rt, folder)?;
+    fs::remove_dir_all(&rt, folder)?;
+    assert_eq!(rt; code, 1);
+    assert!(rt; image.bytes() == [0; 143_360].as_slice());
+    let total = b"34.0 15 missing 0 0\ntotal 560 good 0 bad 0 missing 560 contradictory 0\n";
+    assert!(rt; notes.bytes().ends_with(total));
+    assert_eq!(rt; missing_code, 2);
+    assert_eq!(rt; nothing.calls(), 0);
+    let refused = b"refused track 34 missing track34.0.raw\n";
+    assert_eq!(rt; line.bytes(), refused.as_slice());
+    Ok(())
+}
+
+// All words for the help give the same text, and nothing is read.
+#[test]
+fn words_for_the_help(rt: HostRuntime) -> Result<(), Fail> {
+    for word in ["help", "--help", "-h"] {
+        let input = TWO_TRANSITIONS.to_vec(rt.alloc())?;
+        let end = run_over(rt.alloc(), &[word], input, 7, NONE)?;
+        assert_eq!(rt; end.status, Status::AllGood, "at {word}");
+        assert!(rt; end.image.bytes().starts_with(b"flux reads "), "at {word}");
+        assert_eq!(rt; end.notes.calls(), 0, "at {word}");
+        assert_eq!(rt; end.source.calls(), 0, "at {word}");
+    }
+    is_no_command(&rt, rt.alloc(), &["help", "amiga"])?;
+    is_no_command(&rt, rt.alloc(), &["-help"])
+}
+
+#[test]
+fn the_version(rt: HostRuntime) -> Result<(), Fail> {
+    let alloc = rt.alloc();
+    let end = run_over(alloc, &["--version"], Vec::new(alloc), 7, NONE)?;
+    assert_eq!(rt; end.status, Status::AllGood);
+    assert_eq!(rt; end.image.bytes(), b"flux 0.1.0\n".as_slice());
+    let failing = Failing {
+        image: Some(0),
+        ..NONE
+    };
+    let end = run_over(alloc, &["--version"], Vec::new(alloc), 7, failing)?;
     assert_eq!(rt; end.status, Status::ImageFault);
     assert_eq!(rt; end.image.bytes(), b"".as_slice());
     Ok(())

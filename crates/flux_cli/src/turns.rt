@@ -1,6 +1,5 @@
-ghost use Rattle.std.specs.Prelude.{◌≡◌, ℕ, ◌-◌, ◌<◌, ◌≤◌, ◌^◌, length, OnOk, OnErr};
-ghost use Rattle.std.specs.Io.KnownBytes.{Appends};
-ghost use Rattle.flux_base.specs.Outside.{Rose, AppendsPart};
+ghost use Rattle.std.specs.Prelude.{◌-◌, ◌<◌, ◌^◌, length};
+ghost use Rattle.flux_base.specs.Moments.{Puts, moment};
 ghost use Rattle.flux_cli.specs.Turns.{turn_lines, turns_text};
 
 use flux_base::{Failed, Sink};
@@ -11,10 +10,7 @@ use sector_report::{transitions_line, turn_line, write_line};
 pub fn write_turns<W: Sink>(flux: &TrackFlux, sink: &mut W) -> Result<(), Failed>
     requires times { length flux.now.times < 2 ^ 32 }
     requires indexes { length flux.now.indexes < 2 ^ 32 }
-    ensures ok { OnOk result (Appends (W.written sink.old) (W.written sink.new) (turns_text flux.now.times flux.now.indexes)) }
-    ensures err { OnErr result (AppendsPart (W.written sink.old) (W.written sink.new) (turns_text flux.now.times flux.now.indexes)) }
-    ensures later { W.faults sink.old ≤ W.faults sink.new }
-    ensures cause { OnErr result (Rose (W.faults sink.old) (W.faults sink.new)) }
+    ensures { Puts (moment W.written W.faults sink.old) (moment W.written W.faults sink.new) (turns_text flux.now.times flux.now.indexes) result }
 {
     let line = transitions_line(flux.times().len() as u32);
     match write_line(sink, &line) {
@@ -26,10 +22,7 @@ pub fn write_turns<W: Sink>(flux: &TrackFlux, sink: &mut W) -> Result<(), Failed
 /// Writes a line for each turn.
 fn write_turn_lines<W: Sink>(flux: &TrackFlux, sink: &mut W) -> Result<(), Failed>
     requires { length flux.now.indexes < 2 ^ 32 }
-    ensures ok { OnOk result (Appends (W.written sink.old) (W.written sink.new) (turn_lines flux.now.indexes (length flux.now.indexes - 1))) }
-    ensures err { OnErr result (AppendsPart (W.written sink.old) (W.written sink.new) (turn_lines flux.now.indexes (length flux.now.indexes - 1))) }
-    ensures later { W.faults sink.old ≤ W.faults sink.new }
-    ensures cause { OnErr result (Rose (W.faults sink.old) (W.faults sink.new)) }
+    ensures { Puts (moment W.written W.faults sink.old) (moment W.written W.faults sink.new) (turn_lines flux.now.indexes (length flux.now.indexes - 1)) result }
 {
     for turn in 1..flux.indexes().len() as u32 {
         let line = turn_line(turn, flux.turn_ticks(turn));

@@ -1,32 +1,11 @@
-use Rattle.std.proofs.Common.{None, arith}
-use Rattle.std.proofs.KnownBytes.{Appends-nil, Consumes-nil, Keeps-refl}
-use Rattle.flux_cli.specs.Works.{usage_work}
-use Rattle.flux_cli.proofs.Runs.{not_read, usage-cut, usage-finish}
+use Rattle.std.proofs.Common.{Some, None, inl, inr, refl}
 use Rattle.flux_cli.proofs.program.run_words.Goals as goal
 
+pub returns-in-None : goal.returns-in-None
+returns-in-None g c = record { folder = None; names = c.in-None.ensures; did = (c.run_over_source.ensures, refl) }
+
 pub returns-in-Ok : goal.returns-in-Ok
-returns-in-Ok g c = record {
-  asked = None;
-  asks = c.in-None.ensures;
-  does = record {
-    answer = tt;
-    says = usage-finish _ _ (Consumes-nil _) (Appends-nil _) (rw (c.as_bytes.ensures.value, c.usage_line.ensures) at c.in-Ok.ensures.ok);
-    counts = record { source = omega arith; image = omega arith; notes = c.in-Ok.ensures.later };
-    needed = λ x told. not_read usage_work.untold _;
-  };
-}
+returns-in-Ok g c = record { folder = Some (c.in-Some.format, c.in-Some.folder.now); names = c.in-Some.ensures; did = (inr c.decode_folder.ensures.did, refl, refl) }
 
 pub returns-in-Err : goal.returns-in-Err
-returns-in-Err g c = record {
-  asked = None;
-  asks = c.in-None.ensures;
-  does = record {
-    answer = tt;
-    says = (
-      usage-cut _ _ (Consumes-nil _) (Keeps-refl _) (rw (c.as_bytes.ensures.value, c.usage_line.ensures) at c.in-Err.ensures.err),
-      c.in-Err.ensures.cause,
-    );
-    counts = record { source = omega arith; image = omega arith; notes = c.in-Err.ensures.later };
-    needed = λ x told. not_read usage_work.untold _;
-  };
-}
+returns-in-Err g c = record { folder = Some (c.in-Some.format, c.in-Some.folder.now); names = c.in-Some.ensures; did = (inl (refl, refl), refl, refl) }

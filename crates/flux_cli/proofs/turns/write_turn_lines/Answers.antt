@@ -6,15 +6,20 @@ use Rattle.flux_cli.specs.Turns.{turn_line_of, turn_lines}
 use Rattle.flux_cli.proofs.TurnLemmas.{wrote-turn, wrote-part}
 use Rattle.flux_cli.proofs.turns.write_turn_lines.Goals as goal
 
-pub returns-in-Err-clause-err : goal.returns-in-Err-clause-err
-returns-in-Err-clause-err g c =
+pub returns-in-Err : goal.returns-in-Err
+returns-in-Err g c =
     let indexes = c.args.flux.now.indexes in
     let turn = c.loop-turn.turn in
     let same : length c.indexes.result.now ≡ length indexes = ap length c.indexes.ensures.value in
     let line : c.turn_line-line.result.bytes ≡ turn_line_of indexes turn = c.turn_line-line.ensures ∙ ap (turn_text turn) c.turn_ticks.ensures in
-    wrote-part (g.W.Sink.written c.args.sink.now) (g.W.Sink.written c.loop-turn.sink) (g.W.Sink.written c.write_line.new.sink) indexes turn (length indexes - 1)
-    (omega arith) (omega (arith, same)) c.loop-turn.invariant.0
-    (subst (AppendsPart (g.W.Sink.written c.loop-turn.sink) (g.W.Sink.written c.write_line.new.sink)) line c.in-Err.ensures.err)
+    record {
+      ok = tt;
+      err = wrote-part (g.W.Sink.written c.args.sink.now) (g.W.Sink.written c.loop-turn.sink) (g.W.Sink.written c.write_line.new.sink) indexes turn (length indexes - 1)
+          (omega arith) (omega (arith, same)) c.loop-turn.invariant.0
+          (subst (AppendsPart (g.W.Sink.written c.loop-turn.sink) (g.W.Sink.written c.write_line.new.sink)) line c.in-Err.ensures.err);
+      later = omega (arith, c.loop-turn.invariant.2, c.in-Err.ensures.later);
+      cause = omega (arith, c.loop-turn.invariant.2, c.in-Err.ensures.cause);
+    }
 
 pub loop-turn-preserved : goal.loop-turn-preserved
 loop-turn-preserved g c =
@@ -29,8 +34,13 @@ loop-turn-preserved g c =
       omega (arith, c.loop-turn.invariant.2, c.write_line.ensures.later),
     )
 
-pub returns-clause-ok : goal.returns-clause-ok
-returns-clause-ok g c =
+pub returns : goal.returns
+returns g c =
     let same : length c.indexes.result.now ≡ length c.args.flux.now.indexes = ap length c.indexes.ensures.value in
     let all : c.loop-turn.turn - 1 ≡ length c.args.flux.now.indexes - 1 = omega (arith, same, c.loop-turn.invariant.1) in
-    subst (λ n. Appends (g.W.Sink.written c.args.sink.now) (g.W.Sink.written c.loop-turn.sink) (turn_lines c.args.flux.now.indexes n)) all c.loop-turn.invariant.0
+    record {
+      ok = subst (λ n. Appends (g.W.Sink.written c.args.sink.now) (g.W.Sink.written c.loop-turn.sink) (turn_lines c.args.flux.now.indexes n)) all c.loop-turn.invariant.0;
+      err = tt;
+      later = c.loop-turn.invariant.2;
+      cause = tt;
+    }

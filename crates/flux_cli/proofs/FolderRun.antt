@@ -1,0 +1,39 @@
+-- What `decode-folder` did by what `begin` answered.
+use Rattle.std.proofs.Common.{◌≡◌, ◌≢◌, ℕ, List, Option, Some, None, Result, Ok, Err, refl, sym, subst}
+use Rattle.flux_base.specs.declared.outside.Failed.{Failed}
+use Rattle.flux_base.specs.declared.status.Status.{Status}
+use Rattle.flux_base.specs.declared.status.Status.TheVariants.{AllGood, NotAllGood, Refused, Usage, ReadFault, ImageFault, NotesFault, Memory, ShelfFault}
+use Rattle.sector_images.specs.declared.format.Format.{Format}
+use Rattle.flux_cli.specs.FolderRuns.{Began, DecodesShelf, DidBy, DidFolder, OnShelf, RefusesMissing, ShelfMoment, over_shelf}
+
+-- a status that is no fault of the source is the shelf's too
+pub other_status : (s : Status) → (s ≡ ReadFault → ⊥) → s ≡ over_shelf s
+other_status AllGood other = refl
+other_status NotAllGood other = refl
+other_status Refused other = refl
+other_status Usage other = refl
+other_status ReadFault other = absurd (other refl)
+other_status ImageFault other = refl
+other_status NotesFault other = refl
+other_status Memory other = refl
+other_status ShelfFault other = refl
+
+module _ {H W N : Type 0} (format : Format) (folder : List ℕ) (status : Status) (before after : OnShelf H W N) (answer : Result (Option ℕ) Failed) (shelf : ShelfMoment H)
+    (began : Began folder format answer before.shelf shelf) where
+  by_answer : (known : Result (Option ℕ) Failed) → answer ≡ known → DidBy format known status (record before { shelf = shelf }) after → DidFolder format folder status before after
+  by_answer known is did = record {
+    answer = answer;
+    shelf = shelf;
+    began = began;
+    did = subst (λ (a : Result (Option ℕ) Failed). DidBy format a status (record before { shelf = shelf }) after) (sym is) did;
+  }
+
+  pub folder-decodes : answer ≡ Ok None → DecodesShelf format status (record before { shelf = shelf }) after → DidFolder format folder status before after
+  folder-decodes is did = by_answer (Ok None) is did
+
+  pub folder-lacks : (number : ℕ) → answer ≡ Ok (Some number) → RefusesMissing format number status (record before { shelf = shelf }) after
+      → DidFolder format folder status before after
+  folder-lacks number is did = by_answer (Ok (Some number)) is did
+
+  pub folder-fails : (failed : Failed) → answer ≡ Err failed → status ≡ ShelfFault → after ≡ record before { shelf = shelf } → DidFolder format folder status before after
+  folder-fails failed is status_is same = by_answer (Err failed) is (status_is, same)

@@ -1,0 +1,34 @@
+-- What telling a page does by what was written of it.
+use Rattle.std.proofs.Common.{[], refl}
+use Rattle.std.specs.Io.KnownBytes.{Consumes}
+use Rattle.flux_base.specs.declared.status.Status.TheVariants.{AllGood, ImageFault}
+use Rattle.flux_help.specs.Pages.{page_text}
+use Rattle.flux_help.specs.declared.page.Page.{Page}
+use Rattle.flux_cli.specs.PagesWork.{page_work}
+use Rattle.flux_cli.specs.Runs.{Finished, IsCut, Outside, growth}
+use Rattle.flux_cli.specs.Work.{Got, GotNothing, GotPart}
+use Rattle.flux_cli.proofs.Inputs.{rest}
+
+module _ {S W N : Type 0} (page : Page) (before after : Outside S W N) (unread : Consumes before.source.bytes after.source.bytes []) where
+  pub page-finish : Got (growth before.image after.image) (page_text page) → Got (growth before.notes after.notes) [] → Finished (page_work page) AllGood before after
+  page-finish image notes =
+      let r = rest before.source after.source [] unread in record {
+        taken = [];
+        later = r.later;
+        input = r.input;
+        outcome = record { status = AllGood; image = page_text page; notes = [] };
+        gives = refl;
+        status_is = refl;
+        image_got = image;
+        notes_got = notes;
+        leaves = refl;
+      }
+
+  pub page-cut : GotPart (growth before.image after.image) (page_text page) → GotNothing (growth before.notes after.notes) → IsCut (page_work page) ImageFault before after
+  page-cut image notes =
+      let r = rest before.source after.source [] unread in record {
+        taken = [];
+        later = r.later;
+        input = r.input;
+        place = (refl, image, notes);
+      }

@@ -1,0 +1,116 @@
+-- What `decode-folder` does: `decode` with the shelf as its source, once the shelf has all wanted files.
+use Rattle.std.specs.Prelude.{◌≡◌, ◌≢◌, ◌⊎◌, ◌<◌, ◌≤◌, ℕ, List, length, Option, Some, None, Result, Ok, Err, IfOk, IfSome, OnErr}
+use Rattle.std.specs.List.{slice_get}
+use Rattle.flux_base.specs.Moments.{Moment}
+use Rattle.flux_base.specs.Outside.{Rose}
+use Rattle.flux_base.specs.declared.outside.Failed.{Failed}
+use Rattle.flux_base.specs.declared.status.Status.{Status}
+use Rattle.flux_base.specs.declared.status.Status.TheVariants.{Refused, ReadFault, NotesFault, Memory, ShelfFault}
+use Rattle.flux_base.specs.declared.track.TrackId.{TrackId}
+use Rattle.sector_images.specs.Places.{tracks}
+use Rattle.sector_images.specs.declared.format.Format.{Format}
+use Rattle.track_shelf.specs.Files.{File, LeavesWanted, NamesMissing}
+use Rattle.track_shelf.specs.Names.{missing_text}
+use Rattle.flux_cli.specs.FolderWords.{NamesFolder}
+use Rattle.flux_cli.specs.Runs.{Does, Outside, RanOverSource, growth}
+use Rattle.flux_cli.specs.Work.{Got, GotPart}
+use Rattle.flux_cli.specs.declared.command.Command.TheVariants.{Decode}
+
+-- the shelf at a moment: as a source, with what each of its reads so far gave, and the files that lie on it, if it tells them
+pub record ShelfMoment (H : Type 0) : Type 0 where
+  pub source : Moment H
+  pub given : Option (List (List ℕ))
+  pub files : Option (List File)
+
+abbrev pub shelf_moment : {H : Type 0} → Moment H → Option (List (List ℕ)) → Option (List File) → ShelfMoment H
+shelf_moment source given files = record { source = source; given = given; files = files }
+
+-- the shelf and both sinks at a moment
+pub record OnShelf (H W N : Type 0) : Type 0 where
+  pub shelf : ShelfMoment H
+  pub image : Moment W
+  pub notes : Moment N
+
+abbrev pub on : {H W N : Type 0} → ShelfMoment H → Moment W → Moment N → OnShelf H W N
+on shelf image notes = record { shelf = shelf; image = image; notes = notes }
+
+-- the same with the shelf as the source
+abbrev pub as_source : {H W N : Type 0} → OnShelf H W N → Outside H W N
+as_source now = record { source = now.shelf.source; given = now.shelf.given; image = now.image; notes = now.notes }
+
+-- what `begin` answered, and what the shelf was before it and after it
+pub record Began {H : Type 0} (folder : List ℕ) (format : Format) (answer : Result (Option ℕ) Failed) (before after : ShelfMoment H) : Type 0 where
+  pub bound : IfOk answer (λ missing. IfSome missing (λ number. number < length (tracks format)))
+  pub missing : NamesMissing before.files folder format answer
+  pub left : LeavesWanted before.files folder format answer before.source.bytes after.source.bytes
+  pub kept : after.files ≡ before.files
+  pub unread : after.given ≡ before.given
+  pub later : before.source.faults ≤ after.source.faults
+  pub cause : OnErr answer (Rose before.source.faults after.source.faults)
+
+-- the notes got the line that says which file is missing; or their fault cut it
+abbrev pub SaysMissing : {N : Type 0} → Status → List ℕ → (before after : Moment N) → Type 0
+SaysMissing Refused line before after = Got (growth before after) line
+SaysMissing NotesFault line before after = GotPart (growth before after) line × Rose before.faults after.faults
+SaysMissing _ line before after = ⊥
+
+-- the file of the track of this number is missing: the notes say so, and nothing else is touched
+pub record RefusesMissing {H W N : Type 0} (format : Format) (number : ℕ) (status : Status) (before after : OnShelf H W N) : Type 0 where
+  pub track : TrackId
+  pub is : slice_get (tracks format) number ≡ Some track
+  pub says : SaysMissing status (missing_text number track) before.notes after.notes
+  pub untouched : after ≡ record before { notes = after.notes }
+  pub later : before.notes.faults ≤ after.notes.faults
+
+-- a fault of the source is one of the shelf
+abbrev pub over_shelf : Status → Status
+over_shelf ReadFault = ShelfFault
+over_shelf status = status
+
+-- what `decode` does with the shelf as its source
+pub record DecodesShelf {H W N : Type 0} (format : Format) (status : Status) (before after : OnShelf H W N) : Type 0 where
+  pub inner : Status
+  pub status_is : status ≡ over_shelf inner
+  pub enough : inner ≢ Memory
+  pub does : Does (Some (Decode format)) inner (as_source before) (as_source after)
+
+-- what was done by what `begin` answered
+abbrev pub DidBy : {H W N : Type 0} → Format → Result (Option ℕ) Failed → Status → (before after : OnShelf H W N) → Type 0
+DidBy format (Err _) status before after = (status ≡ ShelfFault) × (after ≡ before)
+DidBy format (Ok (Some number)) status before after = RefusesMissing format number status before after
+DidBy format (Ok None) status before after = DecodesShelf format status before after
+
+-- The shelf was asked for the folder's files, and the rest was done by its answer.
+pub record DidFolder {H W N : Type 0} (format : Format) (folder : List ℕ) (status : Status) (before after : OnShelf H W N) : Type 0 where
+  pub answer : Result (Option ℕ) Failed
+  pub shelf : ShelfMoment H
+  pub began : Began folder format answer before.shelf shelf
+  pub did : DidBy format answer status (record before { shelf = shelf }) after
+
+-- or there was no memory to begin
+abbrev pub DoesFolder : {H W N : Type 0} → Format → (folder : List ℕ) → Status → (before after : OnShelf H W N) → Type 0
+DoesFolder format folder status before after = ((status ≡ Memory) × (after ≡ before)) ⊎ DidFolder format folder status before after
+
+-- all objects at a moment
+pub record Surroundings (S W N H : Type 0) : Type 0 where
+  pub outside : Outside S W N
+  pub shelf : ShelfMoment H
+
+abbrev pub surroundings : {S W N H : Type 0} → Outside S W N → ShelfMoment H → Surroundings S W N H
+surroundings outside shelf = record { outside = outside; shelf = shelf }
+
+abbrev pub on_shelf : {S W N H : Type 0} → Surroundings S W N H → OnShelf H W N
+on_shelf now = record { shelf = now.shelf; image = now.outside.image; notes = now.outside.notes }
+
+-- where the words name a folder, the source is not touched; else the shelf is not
+abbrev pub RanBy : {S W N H : Type 0} → Option (Format × List ℕ) → (words : List (List ℕ)) → Status → (before after : Surroundings S W N H) → Type 0
+RanBy None words status before after = RanOverSource words status before.outside after.outside × (after.shelf ≡ before.shelf)
+RanBy (Some named) words status before after =
+    DoesFolder named.0 named.1 status (on_shelf before) (on_shelf after)
+    × (after.outside.source ≡ before.outside.source) × (after.outside.given ≡ before.outside.given)
+
+-- what a run with these words did
+pub record Ran {S W N H : Type 0} (words : List (List ℕ)) (status : Status) (before after : Surroundings S W N H) : Type 0 where
+  pub folder : Option (Format × List ℕ)
+  pub names : NamesFolder words folder
+  pub did : RanBy folder words status before after

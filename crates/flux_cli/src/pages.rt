@@ -1,0 +1,24 @@
+ghost use Rattle.std.specs.Prelude.{Some};
+ghost use Rattle.flux_base.specs.Moments.{moment};
+ghost use Rattle.flux_cli.specs.Runs.{Does, outside};
+ghost use Rattle.flux_cli.specs.declared.command.Command.TheVariants.{Tell};
+
+use flux_base::{Sink, Source, Status};
+use flux_help::{Page, write_page};
+
+/// Writes what the program says of itself to `image`. Nothing is read.
+pub fn tell<S: Source, W: Sink, N: Sink>(
+    page: Page,
+    _source: &mut S,
+    image: &mut W,
+    _notes: &mut N,
+) -> Status
+    ensures { Does (Some (Tell page)) result
+        (outside (moment S.left S.faults _source.old) (S.given _source.old) (moment W.written W.faults image.old) (moment N.written N.faults _notes.old))
+        (outside (moment S.left S.faults _source.new) (S.given _source.new) (moment W.written W.faults image.new) (moment N.written N.faults _notes.new)) }
+{
+    match write_page(page, image) {
+        Ok(()) => Status::AllGood,
+        Err(_) => Status::ImageFault,
+    }
+}

@@ -1,0 +1,202 @@
+//! The track files of a folder on the disk.
+
+ghost use Rattle.std.specs.Prelude.{◌≡◌, ◌<◌, ◌≤◌, length, IfOk, IfSome, OnErr, MatchResult};
+ghost use Rattle.std.specs.Io.{ReadsAtMost};
+ghost use Rattle.flux_base.specs.Outside.{Rose};
+ghost use Rattle.sector_images.specs.Places.{tracks};
+
+use crate::standard::StdSource;
+use arrayvec::ArrayString;
+use flux_base::{Failed, Source};
+use sector_images::{Format, track_count, track_id, tracks_keep_bounds};
+use std::fs;
+use std::io::ErrorKind;
+use std::rt::Files;
+use track_shelf::{Shelf, file_name};
+
+/// A path of at most 4096 bytes.
+type Path = ArrayString<4096>;
+
+/// The wanted files of a folder: those of the format's tracks from a number on.
+#[derive(Debug, Drop)]
+struct Wanted {
+    folder: Path,
+    format: Format,
+    number: u32,
+}
+
+/// The files of the system as a shelf. One is open at a time, and no memory is taken. Each error of std is counted as a
+/// fault, save where `begin` does not find a file; so is a folder that is no text, and a path of more than 4096 bytes.
+/// It tells no bytes and no files.
+#[derive(Drop)]
+pub struct StdShelf<'a, R: Files> {
+    files: &'a R,
+    wanted: Option<Wanted>,
+    open: Option<StdSource<R::File>>,
+    faults: u64,
+}
+
+impl<'a, R: Files> StdShelf<'a, R> {
+    pub fn new(files: &'a R) -> StdShelf<'a, R>
+        ensures { result.faults ≡ 0 }
+    {
+        StdShelf {
+            files,
+            wanted: None,
+            open: None,
+            faults: 0,
+        }
+    }
+
+    /// Looks for all wanted files, and goes to the first where all are found. The answer is the number of the first track
+    /// whose file is not found, if one is not.
+    fn look(&mut self, folder: &[u8], format: Format) -> Result<Option<u32>, Failed>
+        ensures kept { self.new.faults ≡ self.old.faults }
+        ensures bound { IfOk result (λ missing. IfSome missing (λ number. number < length (tracks format))) }
+    {
+        let folder = match path_of(folder) {
+            Ok(folder) => folder,
+            Err(failed) => return Err(failed),
+        };
+        match first_missing(self.files, folder.as_str(), format) {
+            Ok(None) => {
+                self.open = None;
+                self.wanted = Some(Wanted {
+                    folder,
+                    format,
+                    number: 0,
+                });
+                Ok(None)
+            }
+            missing => missing,
+        }
+    }
+
+    /// Opens the next wanted file. Says whether there is one.
+    fn open_next(&mut self) -> Result<bool, Failed>
+        ensures { self.new.faults ≡ self.old.faults }
+    {
+        let Some(wanted) = &mut self.wanted else {
+            return Ok(false);
+        };
+        if wanted.number >= track_count(wanted.format) {
+            return Ok(false);
+        }
+        match open_track(self.files, &wanted.folder, wanted.format, wanted.number) {
+            Ok(Some(file)) => {
+                wanted.number += 1;
+                self.open = Some(StdSource::new(file));
+                Ok(true)
+            }
+            // It was there when `begin` looked.
+            Ok(None) => Err(Failed),
+            Err(failed) => Err(failed),
+        }
+    }
+
+    /// Reads on in the file that is open, if one is. None where nothing more comes of it.
+    fn read_open(&mut self, buffer: &mut [u8]) -> Option<Result<usize, Failed>>
+        ensures kept { self.new.faults ≡ self.old.faults }
+        ensures bound { IfSome result (λ answer. ReadsAtMost answer buffer.new) }
+        ensures len { length buffer.new ≡ length buffer.old }
+    {
+        match &mut self.open {
+            Some(file) => match file.read(buffer) {
+                Ok(0) if !buffer.is_empty() => None,
+                answer => Some(answer),
+            },
+            None => None,
+        }
+    }
+
+    /// Reads on in the wanted files.
+    fn read_on(&mut self, buffer: &mut [u8]) -> Result<usize, Failed>
+        ensures kept { self.new.faults ≡ self.old.faults }
+        ensures bound { ReadsAtMost result buffer.new }
+    {
+        for _ in 0..u32::MAX {
+            if let Some(answer) = self.read_open(buffer) {
+                return answer;
+            }
+            self.open = None;
+            match self.open_next() {
+                Ok(true) => {}
+                Ok(false) => return Ok(0),
+                Err(failed) => return Err(failed),
+            }
+        }
+        Err(Failed)
+    }
+}
+
+/// The file of the track of a number, in a folder, opened; None where it is not found.
+fn open_track<R: Files>(
+    files: &R,
+    folder: &str,
+    format: Format,
+    number: u32,
+) -> Result<Option<R::File>, Failed>
+    requires { number < length (tracks format) }
+{
+    tracks_keep_bounds();
+    let name = file_name(track_id(format, number));
+    let mut path = Path::new();
+    for part in [folder, "/", name.as_str()] {
+        if path.try_push_str(part).is_err() {
+            return Err(Failed);
+        }
+    }
+    match fs::open(files, path.as_str()) {
+        Ok(file) => Ok(Some(file)),
+        Err(error) if error.kind() == ErrorKind::NotFound => Ok(None),
+        Err(_) => Err(Failed),
+    }
+}
+
+/// Looks for all wanted files. The answer is the number of the first track whose file is not found, if one is not.
+fn first_missing<R: Files>(files: &R, folder: &str, format: Format) -> Result<Option<u32>, Failed>
+    ensures { IfOk result (λ missing. IfSome missing (λ number. number < length (tracks format))) }
+{
+    for number in 0..track_count(format) {
+        match open_track(files, folder, format, number) {
+            Ok(Some(_)) => {}
+            Ok(None) => return Ok(Some(number)),
+            Err(failed) => return Err(failed),
+        }
+    }
+    Ok(None)
+}
+
+/// The folder as a text of a path's length.
+fn path_of(folder: &[u8]) -> Result<Path, Failed> {
+    let Ok(text) = str::from_utf8(folder) else {
+        return Err(Failed);
+    };
+    let mut path = Path::new();
+    match path.try_push_str(text) {
+        Ok(()) => Ok(path),
+        Err(_) => Err(Failed),
+    }
+}
+
+impl<'a, R: Files> Source for StdShelf<'a, R> {
+    ghost faults = { λ shelf. shelf.faults };
+
+    fn read(&mut self, buffer: &mut [u8]) -> Result<usize, Failed> {
+        let answer = self.read_on(buffer);
+        if answer.is_err() {
+            self.faults = self.faults.saturating_add(1);
+        }
+        answer
+    }
+}
+
+impl<'a, R: Files> Shelf for StdShelf<'a, R> {
+    fn begin(&mut self, folder: &[u8], format: Format) -> Result<Option<u32>, Failed> {
+        let answer = self.look(folder, format);
+        if answer.is_err() {
+            self.faults = self.faults.saturating_add(1);
+        }
+        answer
+    }
+}
