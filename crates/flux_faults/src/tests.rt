@@ -1,3 +1,7 @@
+mod every_call;
+mod short;
+mod small;
+
 use flux_base::TrackId;
 use flux_rows::{
     Disk, Dump, IBM_360, IBM_3740, Run, SHORT, Want, decode, first_bytes, first_lines,
@@ -66,7 +70,7 @@ fn one_good_track(alloc: Global) -> Result<Dump, Fail> {
         cylinder: 0,
         head: 0,
     };
-    let ring = ring_of(alloc, &IbmFm, track, &content)?;
+    let ring = ring_of(alloc, &IbmFm::Ibm3740, track, &content)?;
     let mut dump = Dump::new(alloc, IBM_3740);
     dump.good(alloc, &ring, &content)?;
     dump.missing(alloc, 76)?;

@@ -146,3 +146,103 @@ pub const APPLE_PO: Disk = Disk {
     word: "apple-po",
     ..APPLE_DO
 };
+
+pub const IBM_160: Disk = Disk {
+    word: "ibm-160",
+    heads: 1,
+    ..IBM_320
+};
+
+pub const IBM_180: Disk = Disk {
+    word: "ibm-180",
+    heads: 1,
+    ..IBM_360
+};
+
+pub const IBM_320: Disk = Disk {
+    word: "ibm-320",
+    zones: Zones::One(CylinderZone {
+        sectors: 8,
+        place: 2528,
+        step: 10464,
+        ticks: 48,
+    }),
+    ..IBM_360
+};
+
+pub const IBM_1200: Disk = Disk {
+    word: "ibm-1200",
+    zones: Zones::One(CylinderZone {
+        sectors: 15,
+        place: 2528,
+        step: 10528,
+        ticks: 24,
+    }),
+    ..IBM_720
+};
+
+pub const ATARI_ST_800: Disk = Disk {
+    word: "atari-st-800",
+    zones: Zones::One(CylinderZone {
+        sectors: 10,
+        place: 2528,
+        step: 9664,
+        ticks: 48,
+    }),
+    ..IBM_720
+};
+
+pub const CPC_DATA: Disk = Disk {
+    word: "cpc-data",
+    first_sector: 0xC1,
+    zones: Zones::One(CylinderZone {
+        sectors: 9,
+        place: 2528,
+        step: 10496,
+        ticks: 48,
+    }),
+    ..IBM_180
+};
+
+pub const CPC_SYSTEM: Disk = Disk {
+    word: "cpc-system",
+    first_sector: 0x41,
+    ..CPC_DATA
+};
+
+pub const ACORN_DFS_40: Disk = Disk {
+    word: "acorn-dfs-40",
+    cylinders: 40,
+    heads: 1,
+    first_sector: 0,
+    size: 256,
+    zones: Zones::One(CylinderZone {
+        sectors: 10,
+        place: 352,
+        step: 4960,
+        ticks: 96,
+    }),
+};
+
+pub const ACORN_DFS_80: Disk = Disk {
+    word: "acorn-dfs-80",
+    cylinders: 80,
+    ..ACORN_DFS_40
+};
+
+/// One zero cell more stands in each sector.
+pub const APPLE_DOS33: Disk = Disk {
+    word: "apple-dos33",
+    zones: Zones::One(CylinderZone {
+        sectors: 16,
+        place: 330,
+        step: 3105,
+        ticks: 96,
+    }),
+    ..C1541
+};
+
+pub const APPLE_PRODOS: Disk = Disk {
+    word: "apple-prodos",
+    ..APPLE_DOS33
+};

@@ -7,15 +7,20 @@
 mod disk;
 mod dump;
 mod runs;
+mod short_sink;
 mod streams;
 mod text;
 
 pub use disk::{
-    AMIGA, APPLE_DO, APPLE_PO, C1541, C1541_40, CylinderZone, Disk, IBM_360, IBM_720, IBM_1440,
-    IBM_3740, Zones,
+    ACORN_DFS_40, ACORN_DFS_80, AMIGA, APPLE_DO, APPLE_DOS33, APPLE_PO, APPLE_PRODOS, ATARI_ST_800,
+    C1541, C1541_40, CPC_DATA, CPC_SYSTEM, CylinderZone, Disk, IBM_160, IBM_180, IBM_320, IBM_360,
+    IBM_720, IBM_1200, IBM_1440, IBM_3740, Zones,
 };
 pub use dump::{Dump, short_dump};
-pub use runs::{Mismatch, Run, RunPart, Want, comes_to, decode, gives, report, turns};
+pub use runs::{
+    Ended, Mismatch, Run, RunPart, Want, comes_to, decode, end_of, gives, is_cut, report, turns,
+};
+pub use short_sink::ShortSink;
 pub use streams::{SHORT, content_of, ring_of, short_streams, three_rings, with_word};
 pub use text::{first_bytes, first_lines, first_lines_and, with_line};
 

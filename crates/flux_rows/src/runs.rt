@@ -1,9 +1,11 @@
 //! Runs of the program over objects in memory.
 use crate::disk::Disk;
 use crate::dump::Dump;
+use crate::short_sink::ShortSink;
 use flux_base::{Memory, MemorySink, MemorySource, Word};
 use flux_cli::run;
 use std::alloc::{AllocError, Global};
+use track_shelf::MemoryShelf;
 
 /// More bytes than any image or report of the formats has.
 const ROOM: usize = 2_000_000;
@@ -13,9 +15,12 @@ const ROOM: usize = 2_000_000;
 pub struct Run<'a> {
     pub command: &'a str,
     pub format: Option<&'a str>,
+    /// The number of a trial.
+    pub seed: Option<&'a str>,
     pub input: &'a [u8],
-    /// The most bytes that a read gives.
+    /// The most bytes that a read gives, and that a write takes.
     pub chunk: u32,
+    pub taken: usize,
     pub failing_read: Option<usize>,
     pub failing_image: Option<usize>,
     pub failing_notes: Option<usize>,
@@ -52,8 +57,10 @@ pub fn turns(input: &[u8]) -> Run<'_> {
     Run {
         command: "turns",
         format: None,
+        seed: None,
         input,
         chunk: 4096,
+        taken: ROOM,
         failing_read: None,
         failing_image: None,
         failing_notes: None,
@@ -79,9 +86,20 @@ pub fn report(disk: Disk, input: &[u8]) -> Run<'_> {
 
 /// The run gives what it is to give. The answer is the number of bytes that it left.
 pub fn gives(alloc: Global, row: Run, want: Want) -> Result<usize, Mismatch> {
-    match run_row(alloc, row) {
+    match end_of(alloc, row) {
         Ok(end) => match difference(&end, want) {
             None => Ok(end.source.rest().len()),
+            Some(part) => Err(mismatch_of(part, row)),
+        },
+        Err(Memory) => Err(mismatch_of(RunPart::Memory, row)),
+    }
+}
+
+/// The run ends with this exit code, after a front of what the whole run gives to each sink.
+pub fn is_cut(alloc: Global, row: Run, whole: Want, code: u8) -> Result<(), Mismatch> {
+    match end_of(alloc, row) {
+        Ok(end) => match excess(&end, whole, code) {
+            None => Ok(()),
             Some(part) => Err(mismatch_of(part, row)),
         },
         Err(Memory) => Err(mismatch_of(RunPart::Memory, row)),
@@ -100,39 +118,77 @@ fn mismatch_of(part: RunPart, row: Run) -> Mismatch {
 
 /// What a run answered, and its objects after it.
 #[derive(Drop)]
-struct Ended {
-    code: u8,
-    source: MemorySource,
-    image: MemorySink,
-    notes: MemorySink,
+pub struct Ended {
+    pub code: u8,
+    pub source: MemorySource,
+    pub image: ShortSink,
+    pub notes: ShortSink,
+}
+
+impl Ended {
+    /// What the run gave.
+    pub fn given(&self) -> Want<'_> {
+        Want {
+            code: self.code,
+            image: self.image.sink.bytes(),
+            notes: self.notes.sink.bytes(),
+        }
+    }
 }
 
 fn difference(end: &Ended, want: Want) -> Option<RunPart> {
     if end.code != want.code {
         return Some(RunPart::Code(end.code));
     }
-    if end.image.bytes() != want.image {
+    if end.image.sink.bytes() != want.image {
         return Some(RunPart::Image);
     }
-    if end.notes.bytes() != want.notes {
+    if end.notes.sink.bytes() != want.notes {
         return Some(RunPart::Notes);
     }
     None
 }
 
-fn run_row(alloc: Global, row: Run) -> Result<Ended, Memory> {
+fn excess(end: &Ended, whole: Want, code: u8) -> Option<RunPart> {
+    if end.code != code {
+        return Some(RunPart::Code(end.code));
+    }
+    if !whole.image.starts_with(end.image.sink.bytes()) {
+        return Some(RunPart::Image);
+    }
+    if !whole.notes.starts_with(end.notes.sink.bytes()) {
+        return Some(RunPart::Notes);
+    }
+    None
+}
+
+/// What a run comes to.
+pub fn end_of(alloc: Global, row: Run) -> Result<Ended, Memory> {
     let reads = listed(alloc, row.failing_read)?;
     let mut source = MemorySource::new(row.input.to_vec(alloc)?, row.chunk.max(1), reads);
-    let mut image = MemorySink::new(alloc, ROOM, listed(alloc, row.failing_image)?)?;
-    let mut notes = MemorySink::new(alloc, ROOM, listed(alloc, row.failing_notes)?)?;
+    let mut image = sink_of(alloc, row.failing_image, row.taken)?;
+    let mut notes = sink_of(alloc, row.failing_notes, row.taken)?;
     let words = words_of(alloc, row)?;
-    let status = run(alloc, &words, &mut source, &mut image, &mut notes);
+    let mut shelf = MemoryShelf::new(Vec::new(alloc), 1, Vec::new(alloc));
+    let status = run(
+        alloc,
+        &words,
+        &mut source,
+        &mut image,
+        &mut notes,
+        &mut shelf,
+    );
     Ok(Ended {
         code: status.code(),
         source,
         image,
         notes,
     })
+}
+
+fn sink_of(alloc: Global, failing: Option<usize>, chunk: usize) -> Result<ShortSink, Memory> {
+    let sink = MemorySink::new(alloc, ROOM, listed(alloc, failing)?)?;
+    Ok(ShortSink { sink, chunk })
 }
 
 fn listed(alloc: Global, call: Option<usize>) -> Result<Vec<u64>, AllocError> {
@@ -148,6 +204,9 @@ fn words_of(alloc: Global, row: Run) -> Result<Vec<Word>, AllocError> {
     words.push(Word::new(row.command.to_string(alloc)?))?;
     if let Some(format) = row.format {
         words.push(Word::new(format.to_string(alloc)?))?;
+    }
+    if let Some(seed) = row.seed {
+        words.push(Word::new(seed.to_string(alloc)?))?;
     }
     Ok(words)
 }

@@ -40,7 +40,12 @@ fn a_disk_without_sectors(rt: HostRuntime) -> Result<(), Fail> {
 fn ring(rt: &impl Abort, alloc: Global, cylinder: u8, content: &[u8]) -> Result<Cells, Fail> {
     assert!(rt; cylinder < 77);
     assert_eq!(rt; content.len(), 3328);
-    Ok(ring_of(alloc, &IbmFm, TrackId { cylinder, head: 0 }, content)?)
+    Ok(ring_of(
+        alloc,
+        &IbmFm::Ibm3740,
+        TrackId { cylinder, head: 0 },
+        content,
+    )?)
 }
 
 #[test]

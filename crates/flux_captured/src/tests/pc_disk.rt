@@ -10,6 +10,7 @@ use ibm_mfm::IbmMfm;
 use std::alloc::Global;
 use std::process::Abort;
 use std::test::Fail;
+use track_shelf::MemoryShelf;
 
 /// More bytes than the streams of the disk have.
 const ROOM: usize = 40_000_000;
@@ -30,7 +31,15 @@ fn ends(alloc: Global, command: &str, input: &[u8]) -> Result<Ended, Memory> {
     let mut source = MemorySource::new(input.to_vec(alloc)?, 4096, Vec::new(alloc));
     let mut image = MemorySink::new(alloc, ROOM, Vec::new(alloc))?;
     let mut notes = MemorySink::new(alloc, ROOM, Vec::new(alloc))?;
-    let status = run(alloc, &words, &mut source, &mut image, &mut notes);
+    let mut shelf = MemoryShelf::new(Vec::new(alloc), 1, Vec::new(alloc));
+    let status = run(
+        alloc,
+        &words,
+        &mut source,
+        &mut image,
+        &mut notes,
+        &mut shelf,
+    );
     Ok(Ended {
         code: status.code(),
         image,
@@ -56,7 +65,7 @@ fn first_stream(bytes: &[u8]) -> &[u8] {
 
 /// The first track's stream as `write` makes it, and with the transitions of these cells erased.
 fn first_streams(rt: &impl Abort, alloc: Global) -> Result<(MemorySink, MemorySink), Fail> {
-    let ring = ring_of(alloc, &IbmMfm { sectors: 9 }, TRACK, &[0xF6; 4608])?;
+    let ring = ring_of(alloc, &IbmMfm::Pc9, TRACK, &[0xF6; 4608])?;
     let whole = captured(alloc, &ring, steady(49208))?;
     assert!(rt; is_capture(&ring, 49208, &whole));
     let manner = Manner {

@@ -26,7 +26,7 @@ pub struct Track {
 pub fn single_density(rt: &impl Abort, alloc: Global) -> Result<Track, Fail> {
     let content = content_of(alloc, 3328)?;
     assert_eq!(rt; content.len(), 3328);
-    let ring = ring_of(alloc, &IbmFm, TRACK, &content)?;
+    let ring = ring_of(alloc, &IbmFm::Ibm3740, TRACK, &content)?;
     Ok(Track { ring, content })
 }
 
@@ -34,7 +34,7 @@ pub fn single_density(rt: &impl Abort, alloc: Global) -> Result<Track, Fail> {
 pub fn double_density(rt: &impl Abort, alloc: Global) -> Result<Track, Fail> {
     let content = content_of(alloc, 4608)?;
     assert_eq!(rt; content.len(), 4608);
-    let ring = ring_of(alloc, &IbmMfm { sectors: 9 }, TRACK, &content)?;
+    let ring = ring_of(alloc, &IbmMfm::Pc9, TRACK, &content)?;
     Ok(Track { ring, content })
 }
 

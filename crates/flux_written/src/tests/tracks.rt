@@ -17,7 +17,7 @@ const TRACK: TrackId = TrackId {
     head: 0,
 };
 
-const PC: IbmMfm = IbmMfm { sectors: 9 };
+const PC: IbmMfm = IbmMfm::Pc9;
 
 /// More bytes than a track's stream, its part of the image or its lines have.
 const ROOM: usize = 1_000_000;
@@ -121,7 +121,7 @@ fn a_track_with_a_wrong_mark(rt: HostRuntime) -> Result<(), Fail> {
 fn a_track_with_one_wrong_cell(rt: HostRuntime) -> Result<(), Fail> {
     let alloc = rt.alloc();
     let content = [0xE5; 3328];
-    let ring = ring_of(alloc, &IbmFm, TRACK, &content)?;
+    let ring = ring_of(alloc, &IbmFm::Ibm3740, TRACK, &content)?;
     assert!(rt; ring.len() == 83_328);
     assert_eq!(rt; ring.word_at(1664, 16), 0xFEBB);
     let other = with_word(alloc, &ring, 1664, 0xBEBB)?;
@@ -145,7 +145,7 @@ fn a_track_with_one_wrong_cell(rt: HostRuntime) -> Result<(), Fail> {
 fn a_track_with_unused_bits_set(rt: HostRuntime) -> Result<(), Fail> {
     let alloc = rt.alloc();
     let content = [0; 4096];
-    let ring = ring_of(alloc, &AppleGcr, TRACK, &content)?;
+    let ring = ring_of(alloc, &AppleGcr::STRICT, TRACK, &content)?;
     assert!(rt; ring.len() == 49_994);
     assert_eq!(rt; ring.word_at(1198, 32), 0x9696_9696);
     let ring = with_word(alloc, &ring, 1198, 0xED96)?;
