@@ -54,7 +54,7 @@ def off(chance, kinds, name, content):
 
 
 def ibm_fm_sector(chance, kinds, cylinder, head, number, data):
-    names = ibm_names(chance, kinds, cylinder, head, number, 0, 26)
+    names = ibm_names(chance, kinds, cylinder, head, number, len(data) // 256, 26)
     out = fm(bytes(6)) + word(0xF57E) + fm(off(chance, kinds, "header", recordings.checked(b"\xfe", names)))
     out += gap_of(chance, kinds, fm(b"\xff" * 11 + bytes(6)), "11")
     byte, mark = data_mark(chance, kinds, [(0xFB, 0xF56F), (0xF8, 0xF56A)], [(0xFE, 0xF57E), (0xFC, 0xF77A)])
@@ -169,9 +169,9 @@ def apple_sector(chance, kinds, cylinder, head, number, data):
     if one_in(chance, 12):
         mark = chance.choice([0x96, 0xAA, 0xB5, 0xFF])
         kinds.add("wrong data mark")
-    if one_in(chance, 20):
-        between = "0"
-        kinds.add("a zero cell after the data mark")
+    if one_in(chance, 12):
+        between = "0" * chance.choice([1, 1, 2, 7, 8])
+        kinds.add("zero cells after the data mark")
     out = raw(b"\xd5\xaa\x96" + bytes(field) + chance.choice([b"\xde\xaa\xeb", chance.randbytes(3)]))
     out += gap_of(chance, kinds, "1111111100" * 6, "1111111100")
     if one_in(chance, 20):

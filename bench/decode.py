@@ -22,7 +22,7 @@ TURNS = 5
 def main():
     program = sys.argv[1] if len(sys.argv) > 1 else str(TOP / "crates/flux/out/flux")
     chance = random.Random(1)
-    print(f"{'format':10} {'command':8} {'MB':>7} {'seconds':>9} {'MB/s':>7} {'MiB':>6}")
+    print(f"{'format':12} {'command':8} {'MB':>7} {'seconds':>9} {'MB/s':>7} {'MiB':>6}")
     for word in sys.argv[2:] or FORMATS:
         form = FORMATS[word]
         image = chance.randbytes(form.image_bytes())
@@ -36,7 +36,7 @@ def main():
             for verb in ("decode", "report"):
                 seconds, peak, code = measure([program, verb, word], file.name, out.name)
                 written = Path(out.name).read_bytes()
-                print(f"{word:10} {verb:8} {size:7.1f} {seconds:9.4f} {size / seconds:7.1f} {peak:6.1f}", flush=True)
+                print(f"{word:12} {verb:8} {size:7.1f} {seconds:9.4f} {size / seconds:7.1f} {peak:6.1f}", flush=True)
                 right = written == image if verb == "decode" else written.endswith(total)
                 if code != 0 or not right:
                     sys.exit(f"{verb} {word}: exit code {code}, and not the image that was written")

@@ -59,28 +59,39 @@ def checked(mark, content):
     return content + struct.pack(">H", binascii.crc_hqx(mark + content, 0xFFFF))
 
 
-def ibm_fm(cylinder, head, sectors):
-    out = fm(b"\xff" * 40 + bytes(6)) + f"{0xF77A:016b}" + fm(b"\xff" * 26)
-    for number, data in enumerate(sectors, 1):
-        address = checked(b"\xfe", bytes([cylinder, head, number, 0]))
+def fm_sectors(cylinder, head, sectors, first, code, gap):
+    out = ""
+    for number, data in enumerate(sectors, first):
+        address = checked(b"\xfe", bytes([cylinder, head, number, code]))
         out += fm(bytes(6)) + f"{0xF57E:016b}" + fm(address + b"\xff" * 11 + bytes(6))
-        out += f"{0xF56F:016b}" + fm(checked(b"\xfb", data) + b"\xff" * 27)
-    return out + fm(b"\xff" * 247)
+        out += f"{0xF56F:016b}" + fm(checked(b"\xfb", data) + b"\xff" * gap)
+    return out
 
 
-def ibm_mfm(cylinder, head, sectors):
-    gap, end = {9: (80, 218), 18: (108, 78)}[len(sectors)]
-    out = Mfm()
-    out.bytes(b"\x4e" * 80 + bytes(12))
-    out.mark(0x5224, 3)
-    out.bytes(b"\xfc" + b"\x4e" * 50)
-    for number, data in enumerate(sectors, 1):
-        for mark, content, behind in ((b"\xfe", bytes([cylinder, head, number, 2]), 22), (b"\xfb", data, gap)):
-            out.bytes(bytes(12))
-            out.mark(0x4489, 3)
-            out.bytes(mark + checked(b"\xa1\xa1\xa1" + mark, content) + b"\x4e" * behind)
-    out.bytes(b"\x4e" * end)
-    return out.cells()
+def ibm_fm(cylinder, head, sectors):
+    lead_in = fm(b"\xff" * 40 + bytes(6)) + f"{0xF77A:016b}" + fm(b"\xff" * 26)
+    return lead_in + fm_sectors(cylinder, head, sectors, 1, 0, 27) + fm(b"\xff" * 247)
+
+
+def acorn_fm(cylinder, head, sectors):
+    return fm(b"\xff" * 16) + fm_sectors(cylinder, head, sectors, 0, 1, 21) + fm(b"\xff" * 9)
+
+
+def ibm_mfm(gap, end, first=1):
+    """The rings of a disk with these gaps after a sector and after the last one, and with sectors from this number on."""
+    def ring(cylinder, head, sectors):
+        out = Mfm()
+        out.bytes(b"\x4e" * 80 + bytes(12))
+        out.mark(0x5224, 3)
+        out.bytes(b"\xfc" + b"\x4e" * 50)
+        for number, data in enumerate(sectors, first):
+            for mark, content, behind in ((b"\xfe", bytes([cylinder, head, number, 2]), 22), (b"\xfb", data, gap)):
+                out.bytes(bytes(12))
+                out.mark(0x4489, 3)
+                out.bytes(mark + checked(b"\xa1\xa1\xa1" + mark, content) + b"\x4e" * behind)
+        out.bytes(b"\x4e" * end)
+        return out.cells()
+    return ring
 
 
 # Amiga
@@ -157,13 +168,18 @@ def four_and_four(data):
     return b"".join(bytes([byte >> 1 | 0xAA, byte | 0xAA]) for byte in data)
 
 
-def apple_gcr(cylinder, head, sectors):
+def apple_gcr(cylinder, head, sectors, late=""):
+    """`late` are the zero cells between the mark of a data field and its first nibble."""
     out = SELF_SYNC * 33
     for number, data in enumerate(sectors):
         names = bytes([254, cylinder, number])
         out += bits(b"\xd5\xaa\x96" + four_and_four(names + bytes([xor_of(names)])) + b"\xde\xaa\xeb") + SELF_SYNC * 6
-        out += bits(b"\xd5\xaa\xad" + six_and_two(data) + b"\xde\xaa\xeb") + SELF_SYNC * 14
+        out += bits(b"\xd5\xaa\xad") + late + bits(six_and_two(data) + b"\xde\xaa\xeb") + SELF_SYNC * 14
     return out
+
+
+# as DOS 3.3 and ProDOS write it themselves
+apple_gcr_late = functools.partial(apple_gcr, late="0")
 
 
 # Formats
@@ -190,14 +206,25 @@ PRODOS = (0, 8, 1, 9, 2, 10, 3, 11, 4, 12, 5, 13, 6, 14, 7, 15)
 
 FORMATS = {
     "ibm-3740": Format(ibm_fm, 77, 1, 128, lambda _: 26, lambda _: 2),
-    "ibm-360": Format(ibm_mfm, 40, 2, 512, lambda _: 9, lambda _: 2),
-    "ibm-720": Format(ibm_mfm, 80, 2, 512, lambda _: 9, lambda _: 2),
-    "ibm-1440": Format(ibm_mfm, 80, 2, 512, lambda _: 18, lambda _: 1),
+    "ibm-360": Format(ibm_mfm(80, 218), 40, 2, 512, lambda _: 9, lambda _: 2),
+    "ibm-720": Format(ibm_mfm(80, 218), 80, 2, 512, lambda _: 9, lambda _: 2),
+    "ibm-1440": Format(ibm_mfm(108, 78), 80, 2, 512, lambda _: 18, lambda _: 1),
     "amiga": Format(amiga_mfm, 80, 2, 512, lambda _: 11, lambda _: 2),
     "c1541": Format(commodore_gcr, 35, 1, 256, ZONE_SECTORS, ZONE_CELLS),
     "c1541-40": Format(commodore_gcr, 40, 1, 256, ZONE_SECTORS, ZONE_CELLS),
     "apple-do": Format(apple_gcr, 35, 1, 256, lambda _: 16, lambda _: 4, DOS),
     "apple-po": Format(apple_gcr, 35, 1, 256, lambda _: 16, lambda _: 4, PRODOS),
+    "ibm-160": Format(ibm_mfm(80, 872), 40, 1, 512, lambda _: 8, lambda _: 2),
+    "ibm-180": Format(ibm_mfm(80, 218), 40, 1, 512, lambda _: 9, lambda _: 2),
+    "ibm-320": Format(ibm_mfm(80, 872), 40, 2, 512, lambda _: 8, lambda _: 2),
+    "ibm-1200": Format(ibm_mfm(84, 400), 80, 2, 512, lambda _: 15, lambda _: 1),
+    "atari-st-800": Format(ibm_mfm(30, 64), 80, 2, 512, lambda _: 10, lambda _: 2),
+    "cpc-data": Format(ibm_mfm(82, 200, 0xC1), 40, 1, 512, lambda _: 9, lambda _: 2),
+    "cpc-system": Format(ibm_mfm(82, 200, 0x41), 40, 1, 512, lambda _: 9, lambda _: 2),
+    "acorn-dfs-40": Format(acorn_fm, 40, 1, 256, lambda _: 10, lambda _: 4),
+    "acorn-dfs-80": Format(acorn_fm, 80, 1, 256, lambda _: 10, lambda _: 4),
+    "apple-dos33": Format(apple_gcr_late, 35, 1, 256, lambda _: 16, lambda _: 4, DOS),
+    "apple-prodos": Format(apple_gcr_late, 35, 1, 256, lambda _: 16, lambda _: 4, PRODOS),
 }
 
 

@@ -51,16 +51,30 @@ ZONE_CELLS, ZONE_RINGS = zone((79963, 86114, 92265, 98416)), zone((61488, 57000,
 DOS = [0x0, 0x7, 0xE, 0x6, 0xD, 0x5, 0xC, 0x4, 0xB, 0x3, 0xA, 0x2, 0x9, 0x1, 0x8, 0xF]
 PRODOS = [0x0, 0x8, 0x1, 0x9, 0x2, 0xA, 0x3, 0xB, 0x4, 0xC, 0x5, 0xD, 0x6, 0xE, 0x7, 0xF]
 
+IBM_3740 = IbmFm(first=1, count=26, size=128, code=0, gap=27, end_gap=247, index_mark=True)
+ACORN = IbmFm(first=0, count=10, size=256, code=1, gap=21, end_gap=9, index_mark=False)
+
 FORMATS = {form.word: form for form in (
-    Format("ibm-3740", IbmFm(), 77, 1, always(49208), always(83328)),
-    Format("ibm-360", IbmMfm(9), 40, 2, always(49208), always(100000)),
-    Format("ibm-720", IbmMfm(9), 80, 2, always(49208), always(100000)),
-    Format("ibm-1440", IbmMfm(18), 80, 2, always(24604), always(200000)),
+    Format("ibm-3740", IBM_3740, 77, 1, always(49208), always(83328)),
+    Format("ibm-360", IbmMfm(9, 80, 218), 40, 2, always(49208), always(100000)),
+    Format("ibm-720", IbmMfm(9, 80, 218), 80, 2, always(49208), always(100000)),
+    Format("ibm-1440", IbmMfm(18, 108, 78), 80, 2, always(24604), always(200000)),
     Format("amiga", AmigaMfm(), 80, 2, always(49208), always(100000)),
     Format("c1541", CommodoreGcr(), 35, 1, ZONE_CELLS, ZONE_RINGS),
     Format("apple-do", AppleGcr(), 35, 1, always(98416), always(49994), DOS),
     Format("c1541-40", CommodoreGcr(), 40, 1, ZONE_CELLS, ZONE_RINGS),
     Format("apple-po", AppleGcr(), 35, 1, always(98416), always(49994), PRODOS),
+    Format("ibm-160", IbmMfm(8, 80, 872), 40, 1, always(49208), always(100000)),
+    Format("ibm-180", IbmMfm(9, 80, 218), 40, 1, always(49208), always(100000)),
+    Format("ibm-320", IbmMfm(8, 80, 872), 40, 2, always(49208), always(100000)),
+    Format("ibm-1200", IbmMfm(15, 84, 400), 80, 2, always(24604), always(166656)),
+    Format("atari-st-800", IbmMfm(10, 30, 64), 80, 2, always(49208), always(100000)),
+    Format("cpc-data", IbmMfm(9, 82, 200, 0xC1), 40, 1, always(49208), always(100000)),
+    Format("cpc-system", IbmMfm(9, 82, 200, 0x41), 40, 1, always(49208), always(100000)),
+    Format("acorn-dfs-40", ACORN, 40, 1, always(98416), always(50000)),
+    Format("acorn-dfs-80", ACORN, 80, 1, always(98416), always(50000)),
+    Format("apple-dos33", AppleGcr(waits=True), 35, 1, always(98416), always(49994), DOS),
+    Format("apple-prodos", AppleGcr(waits=True), 35, 1, always(98416), always(49994), PRODOS),
 )}
 
 

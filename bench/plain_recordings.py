@@ -69,34 +69,39 @@ def first_of(cells, start, words):
 # `sector(cells, place, end)` gives the data that stands with it. Both give None where nothing stands.
 
 class IbmFm:
-    first, size, sync = 1, 128, word(0xF57E)
+    sync = word(0xF57E)
     MARKS = {word(0xF57E): 0xFE, word(0xF56F): 0xFB, word(0xF56A): 0xF8, word(0xF77A): 0xFC}
 
+    def __init__(self, first, count, size, code, gap, end_gap, index_mark):
+        self.first, self.count, self.size, self.code = first, count, size, code
+        self.gap, self.end_gap, self.index_mark = gap, end_gap, index_mark
+
     def sectors(self, cylinder):
-        return 26
+        return self.count
 
     def header(self, cells, place, cylinder, head):
         field = data_bytes(cells, place + 16, 6)
         if field is None or not unbroken(cells, place, place + 112) or field != checked(b"\xfe", field[:4]):
             return None
-        named = field[:2] == bytes([cylinder, head]) and 1 <= field[2] <= 26 and field[3] == 0
+        named = field[:2] == bytes([cylinder, head]) and self.first <= field[2] < self.first + self.count and field[3] == self.code
         return (field[2], place + 112) if named else None
 
     def sector(self, cells, place, end):
         q, sync = first_of(cells, end, self.MARKS)
         if q is None or self.MARKS[sync] not in (0xFB, 0xF8):
             return None
-        field = data_bytes(cells, q + 16, 130)
-        if field is None or not unbroken(cells, place, q + 2096):
+        field = data_bytes(cells, q + 16, self.size + 2)
+        if field is None or not unbroken(cells, place, q + 16 * (self.size + 3)):
             return None
-        return field[:128] if field == checked(bytes([self.MARKS[sync]]), field[:128]) else None
+        return field[: self.size] if field == checked(bytes([self.MARKS[sync]]), field[: self.size]) else None
 
     def ring(self, cylinder, head, sectors, ids=None):
-        out = fm(b"\xff" * 40 + bytes(6)) + word(0xF77A) + fm(b"\xff" * 26)
-        for number, data in enumerate(sectors, 1):
-            out += fm(bytes(6)) + word(0xF57E) + fm(checked(b"\xfe", bytes([cylinder, head, number, 0]))) + fm(b"\xff" * 11 + bytes(6))
-            out += word(0xF56F) + fm(checked(b"\xfb", data)) + fm(b"\xff" * 27)
-        return out + fm(b"\xff" * 247)
+        out = fm(b"\xff" * 40 + bytes(6)) + word(0xF77A) + fm(b"\xff" * 26) if self.index_mark else fm(b"\xff" * 16)
+        for number, data in enumerate(sectors, self.first):
+            header = checked(b"\xfe", bytes([cylinder, head, number, self.code]))
+            out += fm(bytes(6)) + word(0xF57E) + fm(header) + fm(b"\xff" * 11 + bytes(6))
+            out += word(0xF56F) + fm(checked(b"\xfb", data)) + fm(b"\xff" * self.gap)
+        return out + fm(b"\xff" * self.end_gap)
 
 
 def fm(data):
@@ -134,11 +139,10 @@ class MfmList:
 
 
 class IbmMfm:
-    first, size, sync = 1, 512, word(0x4489) * 3
-    GAPS = {9: (80, 218), 18: (108, 78)}
+    size, sync = 512, word(0x4489) * 3
 
-    def __init__(self, count):
-        self.count = count
+    def __init__(self, count, gap, end_gap, first=1):
+        self.count, self.gap, self.end_gap, self.first = count, gap, end_gap, first
 
     def sectors(self, cylinder):
         return self.count
@@ -147,7 +151,7 @@ class IbmMfm:
         field = data_bytes(cells, place + 48, 7)
         if field is None or not unbroken(cells, place, place + 160) or field != checked(b"\xa1" * 3, field[:5]):
             return None
-        named = field[:3] == bytes([0xFE, cylinder, head]) and 1 <= field[3] <= self.count and field[4] == 2
+        named = field[:3] == bytes([0xFE, cylinder, head]) and self.first <= field[3] < self.first + self.count and field[4] == 2
         return (field[3], place + 160) if named else None
 
     def sector(self, cells, place, end):
@@ -160,13 +164,12 @@ class IbmMfm:
         return field[1:513] if field == checked(b"\xa1" * 3, field[:513]) else None
 
     def ring(self, cylinder, head, sectors, ids=None):
-        gap, end_gap = self.GAPS[self.count]
         out = MfmList().bytes(b"\x4e" * 80 + bytes(12)).mark(0x5224, 3).bytes(b"\xfc" + b"\x4e" * 50)
-        for number, data in enumerate(sectors, 1):
+        for number, data in enumerate(sectors, self.first):
             header = checked(b"\xa1" * 3, bytes([0xFE, cylinder, head, number, 2]))
             out.bytes(bytes(12)).mark(0x4489, 3).bytes(header + b"\x4e" * 22)
-            out.bytes(bytes(12)).mark(0x4489, 3).bytes(checked(b"\xa1" * 3, b"\xfb" + data) + b"\x4e" * gap)
-        return out.bytes(b"\x4e" * end_gap).cells()
+            out.bytes(bytes(12)).mark(0x4489, 3).bytes(checked(b"\xa1" * 3, b"\xfb" + data) + b"\x4e" * self.gap)
+        return out.bytes(b"\x4e" * self.end_gap).cells()
 
 
 MASK = 0x55555555
@@ -305,20 +308,37 @@ def six_and_two(data, unused=(0, 0)):
 class AppleGcr:
     first, size, sync = 0, 256, word(0xD5AA96, 24)
 
+    def __init__(self, waits=False):
+        # as the controller reads, which waits for the one with which a byte begins
+        self.waits = waits
+
+    def bytes_from(self, cells, place, count):
+        """So many bytes that are read from a place on, and the place after them; None where they do not lie in the list."""
+        field = bytearray()
+        for _ in range(count):
+            if self.waits:
+                place = cells.find("1", place)
+            byte = None if place < 0 else raw_bytes(cells, place, 1)
+            if byte is None:
+                return None, None
+            field += byte
+            place += 8
+        return bytes(field), place
+
     def sectors(self, cylinder):
         return 16
 
     def header(self, cells, place, cylinder, head):
-        field = raw_bytes(cells, place + 24, 8)
-        if field is None or not unbroken(cells, place, place + 88) or any(byte & 0xAA != 0xAA for byte in field):
+        field, end = self.bytes_from(cells, place + 24, 8)
+        if field is None or not unbroken(cells, place, end) or any(byte & 0xAA != 0xAA for byte in field):
             return None
         volume, track, sector, check = ((m << 1 | 1) & n & 0xFF for m, n in zip(field[::2], field[1::2]))
-        return (sector, place + 88) if track == cylinder and sector < 16 and check == volume ^ track ^ sector else None
+        return (sector, end) if track == cylinder and sector < 16 and check == volume ^ track ^ sector else None
 
     def sector(self, cells, place, end):
         q, _ = first_of(cells, end, [word(0xD5AA)])
-        field = None if q is None else raw_bytes(cells, q + 16, 344)
-        if field is None or field[0] != 0xAD or not unbroken(cells, place, q + 2768):
+        field, end = (None, None) if q is None else self.bytes_from(cells, q + 16, 344)
+        if field is None or field[0] != 0xAD or not unbroken(cells, place, end):
             return None
         coded = [NIBBLE_VALUES.get(byte) for byte in field[1:]]
         if None in coded:

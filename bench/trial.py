@@ -18,7 +18,7 @@ SEED = 1
 
 def main():
     program = sys.argv[1] if len(sys.argv) > 1 else str(TOP / "crates/flux/out/flux")
-    print(f"{'format':10} {'seconds':>9} {'MiB':>6}")
+    print(f"{'format':12} {'seconds':>9} {'MiB':>6}")
     for word in sys.argv[2:] or FORMATS:
         form = FORMATS[word]
         sectors = sum(form.sectors(cylinder) for cylinder, _ in form.tracks())
@@ -26,7 +26,7 @@ def main():
         wanted = f"trial {word} {SEED} tracks {len(list(form.tracks()))} sectors {sectors} good {sectors} bad 0 missing 0 contradictory 0 sum {total}\n"
         with tempfile.NamedTemporaryFile() as out:
             seconds, peak, code = measure([program, "trial", word, str(SEED)], "/dev/null", out.name)
-            print(f"{word:10} {seconds:9.4f} {peak:6.1f}", flush=True)
+            print(f"{word:12} {seconds:9.4f} {peak:6.1f}", flush=True)
             if code != 0 or Path(out.name).read_text() != wanted:
                 sys.exit(f"{word}: exit code {code}, not the line that is wanted")
 

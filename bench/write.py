@@ -22,7 +22,7 @@ TOP = Path(__file__).resolve().parent.parent
 def main():
     program = sys.argv[1] if len(sys.argv) > 1 else str(TOP / "crates/flux/out/flux")
     chance = random.Random(1)
-    print(f"{'format':10} {'command':8} {'MB':>7} {'seconds':>9} {'MB/s':>7} {'MiB':>6}")
+    print(f"{'format':12} {'command':8} {'MB':>7} {'seconds':>9} {'MB/s':>7} {'MiB':>6}")
     with tempfile.TemporaryDirectory() as folder:
         image, streams, again = (os.path.join(folder, name) for name in ("image", "streams", "again"))
         for word in sys.argv[2:] or FORMATS:
@@ -31,7 +31,7 @@ def main():
             for verb, source, target in (("write", image, streams), ("decode", streams, again)):
                 seconds, peak, code = measure([program, verb, word], source, target)
                 size = os.path.getsize(streams) / 1e6
-                print(f"{word:10} {verb:8} {size:7.1f} {seconds:9.4f} {size / seconds:7.1f} {peak:6.1f}", flush=True)
+                print(f"{word:12} {verb:8} {size:7.1f} {seconds:9.4f} {size / seconds:7.1f} {peak:6.1f}", flush=True)
                 if code != 0:
                     sys.exit(f"{verb} {word}: exit code {code}")
             if not filecmp.cmp(image, again, shallow=False):

@@ -1,0 +1,124 @@
+#!/usr/bin/env python3
+"""Holds disks against MAME's floptool (Debian's mame-tools), sector by sector. It is no part of the gate.
+
+usage: bench/floptool.py [PROGRAM [FORMAT..]]     (PROGRAM: crates/flux/out/flux; FORMAT: each that floptool knows)
+
+There: floptool makes the disk of an image, PROGRAM decodes it, and every sector has to be good and the image the same. Back: PROGRAM
+writes the streams of an image, floptool reads the disk of their second revolutions, and the image has to be the same. floptool
+does not write back a disk of two formats: those of Atari (it takes a sector more than there are) and files of the CPC.
+"""
+import random
+import struct
+import subprocess
+import sys
+import tempfile
+import zlib
+from pathlib import Path
+
+import disks
+import plain
+from plain_streams import Stream, padding_at
+
+TOP = Path(__file__).resolve().parent.parent
+TURN, TIME = 200_000_000, 0x0FFFFFFF
+# floptool's word, how its file is named, its disk's form and size, and whether it writes the disk back
+KNOWN = {
+    "ibm-160": ("pc", "img", b"525 SSDD", True), "ibm-180": ("pc", "img", b"525 SSDD", True),
+    "ibm-320": ("pc", "img", b"525 DSDD", True), "ibm-360": ("pc", "img", b"525 DSDD", True),
+    "ibm-720": ("pc", "img", b"525 DSQD", True), "ibm-1200": ("pc", "img", b"525 DSHD", True),
+    "ibm-1440": ("pc", "img", b"35  DSHD", True), "atari-st-800": ("st", "st", b"35  DSDD", False),
+    "acorn-dfs-40": ("ssd", "ssd", b"525 SSQD", True), "acorn-dfs-80": ("ssd", "ssd", b"525 DSQD", True),
+    "cpc-data": ("dsk", "dsk", b"", False), "cpc-system": ("dsk", "dsk", b"", False),
+}
+
+
+def cpc_file(image, first):
+    """A disk of the CPC as a file of its emulators, which names each sector."""
+    out = b"MV - CPCEMU Disk-File\r\nDisk-Info\r\n".ljust(0x30, b"\0") + bytes([40, 1]) + struct.pack("<H", 0x1300)
+    out = out.ljust(0x100, b"\0")
+    for cylinder in range(40):
+        track = b"Track-Info\r\n".ljust(16, b"\0") + bytes([cylinder, 0, 0, 0, 2, 9, 0x4E, 0xE5])
+        track += b"".join(bytes([cylinder, 0, first + index, 2, 0, 0]) + struct.pack("<H", 512) for index in range(9))
+        out += track.ljust(0x100, b"\0") + image[4608 * cylinder : 4608 * (cylinder + 1)]
+    return out
+
+
+def tracks_of(data):
+    """The intervals of each track of a file of MAME's own, by cylinder and head."""
+    cylinders, heads = struct.unpack_from("<2I", data, 16)
+    tracks = {}
+    for number in range((cylinders & 0x3FFFFFFF) * heads):
+        place, packed, size, _ = struct.unpack_from("<4I", data, 32 + 16 * number)
+        values = struct.unpack(f"<{size // 4}I", zlib.decompress(data[place : place + packed])) if size else ()
+        tracks[divmod(number, heads)] = [value & TIME for value in values]
+    return tracks
+
+
+def mame_file(form, kind, streams):
+    """A file of MAME's own with the second revolution of each stream."""
+    packed, place = [], 0
+    for _ in form.tracks:
+        place += padding_at(streams, place)
+        stream = Stream(streams, place)
+        place += stream.length
+        begin, end = stream.indexes[1:3]
+        times = [min(TURN - 1, (time - begin) * TURN // (end - begin)) for time in stream.times if begin < time <= end]
+        values = [time - before for before, time in zip([0] + times, times)]
+        content = struct.pack(f"<{len(values)}I", *values)
+        packed.append((zlib.compress(content), len(content)))
+    cylinders, heads = (max(places) + 1 for places in zip(*form.tracks))
+    out = b"MAMEFLOPPYIMAGE\0" + struct.pack("<2I", cylinders, heads) + kind
+    place = 32 + 16 * len(packed)
+    for content, size in packed:
+        out += struct.pack("<4I", place, len(content), size, 0)
+        place += len(content)
+    return out + b"".join(content for content, _ in packed)
+
+
+def convert(given, wanted, source, target):
+    subprocess.run(["floptool", "flopconvert", given, wanted, source, target], check=True, capture_output=True)
+
+
+def there(program, word, folder, image):
+    name, ending, _, _ = KNOWN[word]
+    form, source = plain.FORMATS[word], folder / f"disk.{ending}"
+    source.write_bytes(cpc_file(image, form.recording.first) if name == "dsk" else image)
+    convert(name, "mfi", source, folder / "disk.mfi")
+    tracks, streams = tracks_of((folder / "disk.mfi").read_bytes()), b""
+    ticks = disks.TICKS_A_MICROSECOND * form.nominal(0) / 24604 * form.ring_cells(0) / TURN
+    for track in form.tracks:
+        times, time = [], 0
+        for value in tracks[track] * 2:
+            time += value
+            times.append(round(time * ticks))
+        values = [time - before for before, time in zip([0] + times, times)]
+        turn = disks.spelled(values[: len(values) // 2])
+        parts = b"".join(struct.pack("<HHIII", 0x020D, 12, number * len(turn), 0, number) + turn * (number < 2) for number in range(3))
+        streams += parts + b"\x0d\x03\x08\x00" + struct.pack("<II", 2 * len(turn), 0) + disks.END
+    done = subprocess.run([program, "decode", word], input=streams, capture_output=True)
+    total = done.stderr.decode().splitlines()[-1]
+    return done.stdout == image, total
+
+
+def back(program, word, folder, image):
+    name, ending, kind, writes = KNOWN[word]
+    if not writes:
+        return None
+    streams = subprocess.run([program, "write", word], input=image, capture_output=True, check=True).stdout
+    (folder / "own.mfi").write_bytes(mame_file(plain.FORMATS[word], kind, streams))
+    convert("mfi", name, folder / "own.mfi", folder / f"own.{ending}")
+    return (folder / f"own.{ending}").read_bytes() == image
+
+
+def main():
+    program = sys.argv[1] if len(sys.argv) > 1 else str(TOP / "crates/flux/out/flux")
+    for word in sys.argv[2:] or KNOWN:
+        image = random.Random(word).randbytes(plain.FORMATS[word].image_bytes)
+        with tempfile.TemporaryDirectory() as folder:
+            same, total = there(program, word, Path(folder), image)
+            returned = back(program, word, Path(folder), image)
+        print(f"{word:13} there {'same' if same else 'OTHER'} ({total}) back {({None: '-', True: 'same', False: 'OTHER'})[returned]}", flush=True)
+
+
+if __name__ == "__main__":
+    main()
