@@ -1,19 +1,49 @@
-# Two commands for a newcomer: `make demo` builds the program and runs it, `make test` runs the gate.
+# For a newcomer: `make demo` builds the program and decodes a disk with it, `make test` runs the gate.
 PREFIX ?= /usr/local
+# How many crates are proved side by side at a first build.
+JOBS ?= $(shell nproc)
+
 PROGRAM = crates/flux/out/flux
-SAMPLE = samples/three-turns.raw
+# What the program is made of.
+SOURCES = crates.txt $(shell find crates -name out -prune -o \( -name '*.rt' -o -name '*.antt' \) -print)
 
-.PHONY: demo test install
+# Where the demo's disk is made, and how it is decoded.
+DEMO = out/demo
+DECODE = $(PROGRAM) decode-folder amiga $(DEMO)/disk
 
-# The program is built only once all of it is proved, so a first build takes long.
-demo:
-	cd crates/flux && rt run -- turns < ../../$(SAMPLE)
+.PHONY: demo test check install uninstall
+
+# The program is built only once all of it is proved, so a first build takes long. Later calls start at once.
+demo: $(PROGRAM) $(DEMO)/disk.adf
+	@echo "$(DECODE) > $(DEMO)/decoded.adf 2> $(DEMO)/report.txt"
+	@$(DECODE) > $(DEMO)/decoded.adf 2> $(DEMO)/report.txt; echo "exit code $$?"
+	@echo "the sectors that are not good, those of a worn track, and the total:"
+	@grep -v ' good \|^total' $(DEMO)/report.txt; grep '^12\.0' $(DEMO)/report.txt; tail -n 1 $(DEMO)/report.txt
+	@echo "bytes of the image that differ from what was recorded, all of them in these sectors:"
+	@cmp -l $(DEMO)/decoded.adf $(DEMO)/disk.adf | wc -l
+
+# The streams are made by the program from an image that is made up, and two tracks are then damaged.
+$(DEMO)/disk.adf: $(PROGRAM) samples/demo.py
+	python3 samples/demo.py $(PROGRAM) $(DEMO)
+
+# The crates that do not stand on each other are proved side by side; then the program is linked, and run on a stream.
+$(PROGRAM): $(SOURCES)
+	rt all check --jobs $(JOBS)
+	cd crates/flux && rt run -- turns < ../../samples/three-turns.raw
+	touch $@
+
+# One crate, over what earlier checks kept: make check CRATE=ibm_fm
+check:
+	cd crates/$(CRATE) && rt check
 
 test:
 	.ci/run
 
 install: $(PROGRAM)
 	install -D -m 755 $(PROGRAM) $(DESTDIR)$(PREFIX)/bin/flux
+	install -D -m 644 man/flux.1 $(DESTDIR)$(PREFIX)/share/man/man1/flux.1
+	install -D -m 644 completions/flux.bash $(DESTDIR)$(PREFIX)/share/bash-completion/completions/flux
 
-$(PROGRAM):
-	cd crates/flux && rt run -- turns < ../../$(SAMPLE) > /dev/null
+uninstall:
+	rm -f $(DESTDIR)$(PREFIX)/bin/flux $(DESTDIR)$(PREFIX)/share/man/man1/flux.1
+	rm -f $(DESTDIR)$(PREFIX)/share/bash-completion/completions/flux
