@@ -11,7 +11,6 @@ use Rattle.kryo_stream.specs.Stream.{first_fault}
 use Rattle.sector_images.specs.Formats.{row}
 use Rattle.sector_images.specs.Places.{tracks}
 use Rattle.sector_images.specs.declared.format.Format.{Format}
-use Rattle.sector_images.specs.declared.format.Format.TheVariants.{Ibm3740, Ibm360, Ibm720, Ibm1440, Amiga, C1541, C1541Forty, AppleDo, ApplePo, Ibm160, Ibm180, Ibm320, Ibm1200, AtariSt800, CpcData, CpcSystem, AcornDfs40, AcornDfs80, AppleDos33, AppleProdos}
 use Rattle.sector_report.specs.Lines.{trial_text}
 use Rattle.sector_report.specs.declared.totals.Totals.{Totals}
 use Rattle.flux_engine.specs.Answers.{EngineCause, SaysOfInput}
@@ -25,28 +24,6 @@ use Rattle.flux_trial.specs.Tracks.{IsTrialLine, trial_input, trial_stream}
 use Rattle.flux_trial.specs.inside.Keeping.{faults_of, ROOM}
 use Rattle.flux_trial.proofs.Joined.{no_fault, no_stop}
 use Rattle.flux_trial.proofs.Rings.{Laws, is_stream}
-
-images-small : (format : Format) → (row format).image_size < ROOM
-images-small Ibm3740 = omega arith
-images-small Ibm360 = omega arith
-images-small Ibm720 = omega arith
-images-small Ibm1440 = omega arith
-images-small Amiga = omega arith
-images-small C1541 = omega arith
-images-small C1541Forty = omega arith
-images-small AppleDo = omega arith
-images-small ApplePo = omega arith
-images-small Ibm160 = omega arith
-images-small Ibm180 = omega arith
-images-small Ibm320 = omega arith
-images-small Ibm1200 = omega arith
-images-small AtariSt800 = omega arith
-images-small CpcData = omega arith
-images-small CpcSystem = omega arith
-images-small AcornDfs40 = omega arith
-images-small AcornDfs80 = omega arith
-images-small AppleDos33 = omega arith
-images-small AppleProdos = omega arith
 
 -- a sink that is not full has not failed
 pub none_failed : (bytes : List ℕ) → length bytes < ROOM → faults_of bytes ≡ 0
@@ -86,7 +63,7 @@ module _ (laws : Laws) (stay : StreamsStay) (passed : PaddingIsPassed) (fit : Pa
       let size = ap length grew.2 in
       let front = length-append (images parts) (take grew.0 s.next.image) in
       let cut = length-take-le grew.0 s.next.image (omega (arith, grew.1)) in
-      let few : length image < ROOM = omega (arith, most, both, split, one, size, front, cut, grew.1, images-small format) in
+      let few : length image < ROOM = omega (arith, most, both, split, one, size, front, cut, grew.1, laws.small format) in
       never_rose (faults_of image) (none_failed image few) cause
 
   -- the line of a trial that was decoded whole

@@ -9,7 +9,7 @@ use Rattle.std.proofs.lemmas.Option.{get_or_from_slice_get, slice_get-get_or, sl
 use Rattle.flux_base.specs.declared.track.TrackId.{TrackId}
 use Rattle.sector_images.specs.declared.format.Format.{Format}
 use Rattle.sector_images.specs.Formats.{begin_of, formats, row, zone}
-use Rattle.sector_images.specs.Places.{IsTrack, TracksAreFew, TracksKeepBounds, tracks, bytes_of, place_of}
+use Rattle.sector_images.specs.Places.{ImagesAreSmall, IsTrack, TracksAreFew, TracksKeepBounds, tracks, bytes_of, place_of}
 use Rattle.sector_images.proofs.EachFormat.{each_format, each_track, tracks_pass}
 
 -- the track of a number, where each cylinder has so many heads
@@ -192,9 +192,12 @@ keep_bounds f t known = record {
       (let least : (zone f t.cylinder).nominal < 131073 = ltb-true _ _ (bounds (λ g c. nat_lt (zone g c).nominal 131073) refl f t known) in
       omega (arith, least));
   shortest_ring =
-      (let least : 1023 < (zone f t.cylinder).ring_cells = ltb-true _ _ (bounds (λ g c. nat_lt 1023 (zone g c).ring_cells) refl f t known) in
+      (let least : 32767 < (zone f t.cylinder).ring_cells = ltb-true _ _ (bounds (λ g c. nat_lt 32767 (zone g c).ring_cells) refl f t known) in
       omega (arith, least));
   longest_ring =
       (let least : (zone f t.cylinder).ring_cells < 262145 = ltb-true _ _ (bounds (λ g c. nat_lt (zone g c).ring_cells 262145) refl f t known) in
       omega (arith, least));
 }
+
+pub small_images : ImagesAreSmall
+small_images f = ltb-true _ _ (each_format (λ g. nat_lt (row g).image_size 4194304) refl f)

@@ -81,7 +81,7 @@ pub record KeepsBounds (format : Format) (track : TrackId) : Type 0 where
   pub most : (first : TrackId) → slice_get (tracks format) 0 ≡ Some first → (zone format track.cylinder).sectors ≤ (zone format first.cylinder).sectors
   pub shortest_cell : 16384 ≤ (zone format track.cylinder).nominal
   pub longest_cell : (zone format track.cylinder).nominal ≤ 131072
-  pub shortest_ring : 1024 ≤ (zone format track.cylinder).ring_cells
+  pub shortest_ring : 32768 ≤ (zone format track.cylinder).ring_cells
   pub longest_ring : (zone format track.cylinder).ring_cells ≤ 262144
 
 abbrev pub TracksKeepBounds : Type 0
@@ -90,3 +90,7 @@ TracksKeepBounds = (format : Format) (track : TrackId) → IsTrack format track 
 -- no format has more tracks than a thousand
 abbrev pub TracksAreFew : Type 0
 TracksAreFew = (format : Format) → length (tracks format) ≤ 1000
+
+-- no format's image has 4 MiB
+abbrev pub ImagesAreSmall : Type 0
+ImagesAreSmall = (format : Format) → (row format).image_size < 4194304

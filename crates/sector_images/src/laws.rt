@@ -1,7 +1,7 @@
 //! What the places of sectors come to.
 
 ghost use Rattle.sector_images.specs.Formats.{WordsNameFormats};
-ghost use Rattle.sector_images.specs.Places.{NumbersHoldSectors, NumbersNameTracks, SectorsFillTracks, SectorsLieInImages, TracksAreFew, TracksFillImages, TracksJoin, TracksKeepBounds};
+ghost use Rattle.sector_images.specs.Places.{ImagesAreSmall, NumbersHoldSectors, NumbersNameTracks, SectorsFillTracks, SectorsLieInImages, TracksAreFew, TracksFillImages, TracksJoin, TracksKeepBounds};
 
 /// Each sector of a track stands at one number among those of its track in the image, and is the one that
 /// stands there; and at each of these numbers one stands.
@@ -27,6 +27,7 @@ pub fn tracks_fill_images()
 pub fn tracks_keep_bounds()
     ensures few { TracksAreFew }
     ensures bounds { TracksKeepBounds }
+    ensures images { ImagesAreSmall }
 {}
 
 /// No two formats have one word.

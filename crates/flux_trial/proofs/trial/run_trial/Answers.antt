@@ -16,6 +16,7 @@ unreachable-requires g c =
       read = c.written_law.ensures.reads;
       short = c.written_law.ensures.size;
       keep = c.tracks_keep_bounds.ensures.bounds;
+      small = c.tracks_keep_bounds.ensures.images;
       names = c.sectors_lie_in_images.ensures.numbers;
       rings = c.images_have_rings.ensures;
     } in
@@ -34,6 +35,7 @@ line_is g c =
       read = c.written_law.ensures.reads;
       short = c.written_law.ensures.size;
       keep = c.tracks_keep_bounds.ensures.bounds;
+      small = c.tracks_keep_bounds.ensures.images;
       names = c.sectors_lie_in_images.ensures.numbers;
       rings = c.images_have_rings.ensures;
     } in

@@ -1,4 +1,4 @@
-use Rattle.sector_images.proofs.Computed.{few_tracks, keep_bounds}
+use Rattle.sector_images.proofs.Computed.{few_tracks, keep_bounds, small_images}
 use Rattle.sector_images.proofs.laws.tracks_keep_bounds.Goals as goal
 
 pub returns-clause-few : goal.returns-clause-few
@@ -6,3 +6,6 @@ returns-clause-few c = few_tracks
 
 pub returns-clause-bounds : goal.returns-clause-bounds
 returns-clause-bounds c = keep_bounds
+
+pub returns-clause-images : goal.returns-clause-images
+returns-clause-images c = small_images
