@@ -7,7 +7,7 @@ ghost use Rattle.std.specs.Prelude.{◌^◌, ◌≤◌, All, IfOk};
 use cell_bits::Cells;
 use flux_base::Memory;
 use index_turns::TrackFlux;
-use phase_loop::{Loop, LoopStart, recover};
+use phase_loop::{Band, Loop, LoopStart, recover};
 use std::alloc::Global;
 use std::io;
 
@@ -53,6 +53,7 @@ fn recover_often(
     let start = LoopStart {
         nominal: 49152,
         first: 49152,
+        band: Band::about(49152),
     };
     for _ in 0..recoveries {
         recover(&flux, start, &mut bench, cells)?;

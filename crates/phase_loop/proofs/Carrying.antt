@@ -6,6 +6,7 @@ use Rattle.std.proofs.lemmas.List.Concat.{flat_map-append}
 use Rattle.cell_bits.specs.Run.{run_cells}
 use Rattle.track_rings.specs.Rings.{AreNeighbours, cell_of, stretch}
 use Rattle.track_rings.specs.lemmas.Stretches.{stretch-append}
+use Rattle.phase_loop.specs.Start.{HasWholeBand}
 use Rattle.phase_loop.specs.Rows.{Row, next_row, with_next_row, rows_to, rows_of, recovered}
 use Rattle.phase_loop.specs.declared.start.LoopStart.{LoopStart}
 use Rattle.phase_loop.proofs.Clock.{IsClock}
@@ -59,7 +60,7 @@ neighbours_run ring place distance near =
 
 -- the rows of a list of times from a transition on that begins a clock
 module _ (start : LoopStart) (count : ℕ) (fine place distance local ideal : ℕ → ℕ) (clock : IsClock start.nominal count fine place distance local ideal)
-    (starts : StartsNear start.nominal start.first (local 0)) (ring : List Bool)
+    (starts : StartsNear start.nominal start.first (local 0)) (wide : HasWholeBand start) (ring : List Bool)
     (near : (i : ℕ) → suc i < count → AreNeighbours ring (place i) (distance i))
     (times : List ℕ) (begin : ℕ) (timed : (i : ℕ) → i < count → 1024 * slice_index times (begin + i) ≡ fine i)
     (first : StandsAt start.nominal fine place local ideal (rows_to start times begin) begin 0) where
@@ -88,7 +89,7 @@ module _ (start : LoopStart) (count : ℕ) (fine place distance local ideal : �
       ap (rows_to start times) next ∙ ap (with_next_row start rows) time in
       let row : Row = next_row start rows (fine (suc i)) in
       let counted : row.count ≡ distance i =
-      ap (λ (r : Row). r.count) (next_is start count fine place distance local ideal clock starts rows begin i before.stands within) in
+      ap (λ (r : Row). r.count) (next_is start count fine place distance local ideal clock starts wide rows begin i before.stands within) in
       let f = clock.further i within in
       let way : ℕ = place i - place 0 in
       let longer : place (suc i) - place 0 ≡ way + distance i = omega (arith, before.rises, f) in
@@ -97,7 +98,7 @@ module _ (start : LoopStart) (count : ℕ) (fine place distance local ideal : �
       ap (λ (n : ℕ). stretch ring n (distance i)) there ∙ neighbours_run ring (place i) (distance i) (near i within) in
       let front : List Bool = cells_of_rows (rows_to start times begin) in
       record {
-        stands = rw is (next_stands start count fine place distance local ideal clock starts rows begin i before.stands within);
+        stands = rw is (next_stands start count fine place distance local ideal clock starts wide rows begin i before.stands within);
         rises = omega (arith, before.rises, f);
         cells =
             ap cells_of_rows is

@@ -1,11 +1,12 @@
 -- Worked values of the rule, computed from its definition.
 use Rattle.std.proofs.Common.{◌≡◌, ◌+◌, ◌*◌, [], ◌∷◌, ◌++◌, map, replicate, if◌then◌else◌, nat_lt, refl}
 use Rattle.std.specs.List.{range_with_len}
+use Rattle.phase_loop.specs.Start.{band_of}
 use Rattle.phase_loop.specs.Rows.{rows_to, next_row, counts}
 use Rattle.phase_loop.specs.declared.start.LoopStart.{LoopStart}
 
 abbrev start : LoopStart
-start = record { nominal = 49152; first = 49152 }
+start = record { nominal = 49152; first = 49152; band = band_of 49152 }
 
 just_32 : counts start (48 ∷ 1594 ∷ 1662 ∷ []) ≡ 32 ∷ 2 ∷ []
 unfolding rows_to next_row

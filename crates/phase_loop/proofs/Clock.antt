@@ -1,7 +1,7 @@
 -- A clock within the bounds, transition by transition: how far its local periods drift, and how long its ways are.
 use Rattle.std.proofs.Common.{◌≡◌, ℕ, zero, suc, ◌+◌, ◌-◌, ◌*◌, ◌/◌, ◌<◌, ◌≤◌, arith, ◌∙◌, ap}
 use Rattle.std.proofs.Math.Nat.{mul-le-mul_left}
-use Rattle.phase_loop.specs.Start.{in_band}
+use Rattle.phase_loop.specs.Start.{band_of, in_band}
 use Rattle.phase_loop.proofs.Nearness.{IsLocal, IsTimed, IsPaced, drifted_paced, mean_paced}
 
 -- So many transitions, with their times in fine units, the places of their ones, the distances to the next ones, the local
@@ -81,7 +81,7 @@ module _ (nominal count : ℕ) (fine place distance local ideal : ℕ → ℕ) (
 
   -- the mean of 64 intervals
   pub mean_near : (from last cells : ℕ) → from + 64 ≡ last → last < count → place from + cells ≡ place last
-      → IsPaced nominal (local last) (in_band nominal ((fine last - fine from) / cells))
+      → IsPaced nominal (local last) (in_band (band_of nominal) ((fine last - fine from) / cells))
   mean_near from last cells is within places =
       let nearby : (k : ℕ) → k < 64 → IsNearby (local last) (local (from + k)) = λ k under.
       let steps : ℕ = 64 - k in

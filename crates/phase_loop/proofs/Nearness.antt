@@ -1,7 +1,7 @@
 -- How near the loop's period and place stay to a clock that is within the bounds, in numbers.
 use Rattle.std.proofs.Common.{◌≡◌, ℕ, zero, suc, ◌+◌, ◌-◌, ◌*◌, ◌/◌, ◌<◌, ◌≤◌, max, arith, subst}
 use Rattle.std.proofs.Math.Nat.{div-eq_of_lt-le, div-mul-le_self, lt-div-mul-add, le-div_iff_mul-le, le_of_mul-le-mul_left, mul-le-mul_left}
-use Rattle.phase_loop.specs.Start.{in_band, LONGEST}
+use Rattle.phase_loop.specs.Start.{LONGEST, band_of, in_band}
 
 -- The loop's period is near the local period, and its place near the ideal place, which is counted from one nominal cell
 -- before time 0 on.
@@ -103,7 +103,7 @@ drifted_paced nominal first begin local steps low high back forth few =
 -- are displaced.
 pub mean_paced : (nominal local way cells : ℕ) → IsLocal nominal local → 64 ≤ cells
     → cells * (256 * local) ≤ cells * nominal + (256 * way + 64 * nominal) → 256 * way ≤ cells * (256 * local) + (cells * nominal + 64 * nominal)
-    → IsPaced nominal local (in_band nominal (way / cells))
+    → IsPaced nominal local (in_band (band_of nominal) (way / cells))
 mean_paced nominal local way cells clock many low high =
     let mean : ℕ = way / cells in
     let some : 0 < cells = omega (arith, many) in
@@ -117,5 +117,5 @@ mean_paced nominal local way cells clock many low high =
     le_of_mul-le-mul_left {m = mean * 256} {n = local * 256 + 2 * nominal} {k = cells} (omega arith) some in
     banded mean not_low not_high
   where
-    banded : (mean : ℕ) → local * 256 ≤ mean * 256 + (2 * nominal + 256) → mean * 256 ≤ local * 256 + 2 * nominal → IsPaced nominal local (in_band nominal mean)
+    banded : (mean : ℕ) → local * 256 ≤ mean * 256 + (2 * nominal + 256) → mean * 256 ≤ local * 256 + 2 * nominal → IsPaced nominal local (in_band (band_of nominal) mean)
     banded mean not_low not_high = record { low = omega arith; high = omega arith }

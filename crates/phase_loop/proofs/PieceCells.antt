@@ -7,7 +7,7 @@ use Rattle.std.proofs.lemmas.List.Elements.{All-cons, All-head, All-nil, All-tai
 use Rattle.std.proofs.Math.Seq.{drop-append_seam}
 use Rattle.cell_bits.specs.Run.{run_cells}
 use Rattle.track_rings.specs.Rings.{AreNeighbours, IsSpaced, last_in, stretch}
-use Rattle.phase_loop.specs.Start.{LONGEST, IsNominal, IsStart, in_band, start_for}
+use Rattle.phase_loop.specs.Start.{HasWholeBand, LONGEST, IsNominal, IsStart, band_of, in_band, start_for}
 use Rattle.phase_loop.specs.Rows.{Row, last_row, row_of_start, next_row, rows_to, rows_of, recovered}
 use Rattle.phase_loop.specs.Carried.{AreClose, Carried}
 use Rattle.phase_loop.specs.Pieces.{AreApart, FollowsPieces, FollowsRing, IsPiece, Piece, cells_of_piece, cells_of_pieces}
@@ -78,7 +78,7 @@ record Starts (start : LoopStart) (times : List ℕ) (begin : ℕ) : Type 0 wher
   pub are : rows_to start times begin ≡ rows ++ row_of_start start begin (1024 * slice_index times begin) cells ∷ []
 
 -- a piece at whose first transition the loop starts, with the cells so far
-module _ (start : LoopStart) (is_start : IsStart start) (ring : List Bool) (spaced : IsSpaced 1 4 ring) (times : List ℕ) (piece : Piece)
+module _ (start : LoopStart) (is_start : IsStart start) (wide : HasWholeBand start) (ring : List Bool) (spaced : IsSpaced 1 4 ring) (times : List ℕ) (piece : Piece)
     (is : IsPiece start.nominal start.first ring piece) (rest : List ℕ) (begin : ℕ) (cut : drop begin times ≡ piece.times ++ rest)
     (starts : Starts start times begin) (front : List Bool) (cells : cells_of_rows (rows_to start times begin) ≡ front ++ true ∷ []) where
   abbrev count : ℕ
@@ -118,13 +118,13 @@ module _ (start : LoopStart) (is_start : IsStart start) (ring : List Bool) (spac
       starts.are
       ∙ ap (λ (n : ℕ). starts.rows ++ row_of_start start n (1024 * slice_index times begin) starts.cells ∷ []) (sym starts.number)
       ∙ ap (λ (n : ℕ). starts.rows ++ row_of_start start (length starts.rows) n starts.cells ∷ []) time in
-      let there = first_stands start count fine place distance local ideal clock (starts_near start.nominal start.first (local 0) is.start) starts.rows starts.cells is.some in
+      let there = first_stands start count fine place distance local ideal clock (starts_near start.nominal start.first (local 0) is.start) wide starts.rows starts.cells is.some in
       subst (λ (n : ℕ). StandsAt start.nominal fine place local ideal (rows_to start times begin) n 0) starts.number
       (subst (λ (rows : List Row). StandsAt start.nominal fine place local ideal rows (length starts.rows) 0) (sym are) there)
 
   walked : (i : ℕ) → i < count → HasWalked start count fine place distance local ideal clock
-      (starts_near start.nominal start.first (local 0) is.start) ring (neighbours start.nominal ring piece is_start.nominal.shortest spaced is.carried) times begin time_at first_at i
-  walked = walk start count fine place distance local ideal clock (starts_near start.nominal start.first (local 0) is.start) ring
+      (starts_near start.nominal start.first (local 0) is.start) wide ring (neighbours start.nominal ring piece is_start.nominal.shortest spaced is.carried) times begin time_at first_at i
+  walked = walk start count fine place distance local ideal clock (starts_near start.nominal start.first (local 0) is.start) wide ring
       (neighbours start.nominal ring piece is_start.nominal.shortest spaced is.carried) times begin time_at first_at
 
   last_within : last < count
@@ -209,20 +209,20 @@ first_time piece some = go piece.times some
     go (time ∷ times) more = refl
 
 -- from a piece on
-pieces_cells : (start : LoopStart) (is_start : IsStart start) (ring : List Bool) (spaced : IsSpaced 1 4 ring) (times : List ℕ)
+pieces_cells : (start : LoopStart) (is_start : IsStart start) (wide : HasWholeBand start) (ring : List Bool) (spaced : IsSpaced 1 4 ring) (times : List ℕ)
     (later : List Piece) (piece : Piece) → All (IsPiece start.nominal start.first ring) (piece ∷ later) → AreApart start.nominal piece later
     → (begin : ℕ) → drop begin times ≡ flat_map (λ (p : Piece). p.times) (piece ∷ later) → Starts start times begin
     → (front : List Bool) → cells_of_rows (rows_to start times begin) ≡ front ++ true ∷ []
     → cells_of_rows (rows_of start times) ≡ front ++ cells_of_pieces ring piece later
-pieces_cells start is_start ring spaced times [] piece all apart begin cut starts front cells =
+pieces_cells start is_start wide ring spaced times [] piece all apart begin cut starts front cells =
     let is : IsPiece start.nominal start.first ring piece = All-head (IsPiece start.nominal start.first ring) piece [] all in
     let some = is.some in
     let size = ap length cut ∙ ap length (append-nil piece.times) in
     let end : length times - 1 ≡ begin + (length piece.times - 1) = omega (arith, size, length-drop begin times, some) in
     ap (λ (n : ℕ). cells_of_rows (rows_to start times n)) end
-    ∙ piece_cells start is_start ring spaced times piece is [] begin cut starts front cells
+    ∙ piece_cells start is_start wide ring spaced times piece is [] begin cut starts front cells
     ∙ ap (λ (cs : List Bool). front ++ cs) (sym (append-nil (cells_of_piece ring piece)))
-pieces_cells start is_start ring spaced times (next ∷ later) piece all apart begin cut starts front cells =
+pieces_cells start is_start wide ring spaced times (next ∷ later) piece all apart begin cut starts front cells =
     let P : Piece → Type 0 = IsPiece start.nominal start.first ring in
     let is : P piece = All-head P piece (next ∷ later) all in
     let after : All P (next ∷ later) = All-tail P piece (next ∷ later) all in
@@ -235,11 +235,11 @@ pieces_cells start is_start ring spaced times (next ∷ later) piece all apart b
     let zeros : List Bool = replicate (LONGEST - 1) false in
     let own : List Bool = cells_of_piece ring piece in
     let others : List Bool = flat_map (λ (p : Piece). zeros ++ cells_of_piece ring p) later in
-    let more = pieces_cells start is_start ring spaced times later next after apart.1 begin'
-    (cut_next start is_start ring spaced times piece is rest begin cut starts front cells (slice_index next.times 0) behind follows apart.0 ∙ sym follows)
-    (next_starts start is_start ring spaced times piece is rest begin cut starts front cells (slice_index next.times 0) behind follows apart.0)
+    let more = pieces_cells start is_start wide ring spaced times later next after apart.1 begin'
+    (cut_next start is_start wide ring spaced times piece is rest begin cut starts front cells (slice_index next.times 0) behind follows apart.0 ∙ sym follows)
+    (next_starts start is_start wide ring spaced times piece is rest begin cut starts front cells (slice_index next.times 0) behind follows apart.0)
     (front ++ (own ++ zeros))
-    (next_cells start is_start ring spaced times piece is rest begin cut starts front cells (slice_index next.times 0) behind follows apart.0) in
+    (next_cells start is_start wide ring spaced times piece is rest begin cut starts front cells (slice_index next.times 0) behind follows apart.0) in
     more
     ∙ append_assoc front (own ++ zeros) (cells_of_piece ring next ++ others)
     ∙ ap (λ (cs : List Bool). front ++ cs)
@@ -247,39 +247,39 @@ pieces_cells start is_start ring spaced times (next ∷ later) piece all apart b
     ∙ ap (λ (cs : List Bool). own ++ cs) (sym (append_assoc zeros (cells_of_piece ring next) others)))
 
 -- the recovered cells are those of the pieces
-pub pieces_recovered : (start : LoopStart) (times : List ℕ) → IsStart start → FollowsPieces start.nominal start.first times (recovered start times)
+pub pieces_recovered : (start : LoopStart) (times : List ℕ) → IsStart start → HasWholeBand start → FollowsPieces start.nominal start.first times (recovered start times)
 unfolding rows_to
-pieces_recovered start times is_start ring first later spaced carry =
+pieces_recovered start times is_start wide ring first later spaced carry =
     let is : IsPiece start.nominal start.first ring first = All-head (IsPiece start.nominal start.first ring) first later carry.pieces in
     let some = is.some in
     let size = ap length carry.cut in
     let many : 0 < length times = omega (arith, size, some, length-append first.times (flat_map (λ (p : Piece). p.times) later)) in
     let starts : Starts start times 0 = record { rows = []; cells = 0; number = refl; are = refl } in
     recovered-rows start times many
-    ∙ pieces_cells start is_start ring spaced times later first carry.pieces carry.apart 0 carry.cut starts [] refl
+    ∙ pieces_cells start is_start wide ring spaced times later first carry.pieces carry.apart 0 carry.cut starts [] refl
 
 -- one piece alone
-pub ring_recovered : (start : LoopStart) (times : List ℕ) → IsStart start → FollowsRing start.nominal start.first times (recovered start times)
-ring_recovered start times is_start ring places periods spaced some carried near =
+pub ring_recovered : (start : LoopStart) (times : List ℕ) → IsStart start → HasWholeBand start → FollowsRing start.nominal start.first times (recovered start times)
+ring_recovered start times is_start wide ring places periods spaced some carried near =
     let piece : Piece = record { times = times; places = places; periods = periods } in
     let is : IsPiece start.nominal start.first ring piece = record { some = some; carried = carried; start = near } in
     let P : Piece → Type 0 = IsPiece start.nominal start.first ring in
-    pieces_recovered start times is_start ring piece [] spaced (record { cut = sym (append-nil times); pieces = All-cons P piece [] is (All-nil P); apart = tt })
+    pieces_recovered start times is_start wide ring piece [] spaced (record { cut = sym (append-nil times); pieces = All-cons P piece [] is (All-nil P); apart = tt })
     ∙ append-nil (cells_of_piece ring piece)
 
 -- a first period near the local one stays so in the band
 band_near : (nominal first local : ℕ) → 16384 ≤ nominal → AreClose 8 nominal local nominal → AreClose 64 nominal first local
-    → AreClose 64 nominal (in_band nominal first) local
+    → AreClose 64 nominal (in_band (band_of nominal) first) local
 band_near nominal first local least speed near = omega (arith, speed, near, least)
 
 -- the start in the band
 turn_start : (nominal ticks cells : ℕ) → IsNominal nominal → IsStart (start_for nominal ticks cells)
-turn_start nominal ticks cells is = record { nominal = is; from = omega arith; to = omega arith }
+turn_start nominal ticks cells is = record { nominal = is; low = omega arith; from = omega arith; to = omega arith; high = omega arith }
 
 pub turns_recovered : (nominal ticks cells : ℕ) (times : List ℕ) → IsNominal nominal
     → FollowsPieces nominal (1024 * ticks / cells) times (recovered (start_for nominal ticks cells) times)
 turns_recovered nominal ticks cells times is ring first later spaced carry =
-    pieces_recovered (start_for nominal ticks cells) times (turn_start nominal ticks cells is) ring first later spaced (record {
+    pieces_recovered (start_for nominal ticks cells) times (turn_start nominal ticks cells is) refl ring first later spaced (record {
       cut = carry.cut;
       pieces = λ k d within.
           let piece = carry.pieces k d within in

@@ -25,8 +25,8 @@ pub record IsHistory (rows : List Row) : Type 0 where
 -- the state after one more row
 unfoldable state_with : LoopStart → List Row → Row → LoopState
 state_with start rows row = record {
-  nominal = start.nominal;
   first = start.first;
+  band = start.band;
   fine = row.fine;
   place = row.place;
   period = row.period;
@@ -147,8 +147,8 @@ period-behind start rows fine periods history later =
           let counts : sum_by (λ (r : Row). r.count) (drop (length rows - 63) rows) + periods ≡ count_total recent =
           rw (full, next) (omega (arith, both.count, sum_by_push (λ (i : Interval). i.count) (intervals (drop k rows)) x)) in
           cond-false _ _ _ left
-          ∙ ap (λ (n : ℕ). in_band start.nominal (n / (sum_by (λ (r : Row). r.count) (drop (length rows - 63) rows) + periods))) fines
-          ∙ ap (λ (n : ℕ). in_band start.nominal (fine_total recent / n)) counts
+          ∙ ap (λ (n : ℕ). in_band start.band (n / (sum_by (λ (r : Row). r.count) (drop (length rows - 63) rows) + periods))) fines
+          ∙ ap (λ (n : ℕ). in_band start.band (fine_total recent / n)) counts
           ∙ sym (cond-false _ _ _ right)
     ])
 

@@ -10,12 +10,14 @@ use Rattle.std.proofs.Math.Nat.{div-mul-le_self, mul-le-mul_right}
 use Rattle.circular_buffer.specs.Buffer.{buffer, keep_last}
 use Rattle.cell_bits.specs.State.{CellsState, room}
 use Rattle.cell_bits.specs.Run.{run_cells, IsShortRun}
-use Rattle.phase_loop.specs.Start.{in_band, IsNominal}
+use Rattle.phase_loop.specs.Start.{IsStart, LONGEST_PERIOD, SHORTEST_PERIOD, in_band}
 use Rattle.phase_loop.specs.Window.{WIDEST, IsShort, IsWindow, fine_total, count_total}
 use Rattle.phase_loop.specs.State.{LoopState}
 use Rattle.phase_loop.specs.Step.{periods_to, joined, period_from, state_after, count_after}
 use Rattle.phase_loop.specs.Stretch.{interval_at, intervals_with, counts_of, stand_next, standing, with_runs, AreBetween, AreGuessed, IsStretch}
 use Rattle.phase_loop.specs.Appended.{IsAppended}
+use Rattle.phase_loop.specs.declared.start.Band.{Band}
+use Rattle.phase_loop.specs.declared.start.LoopStart.{LoopStart}
 use Rattle.phase_loop.specs.declared.window.Interval.{Interval}
 use Rattle.phase_loop.specs.declared.window.Totals.{Totals}
 use Rattle.phase_loop.specs.declared.phase.stretch.Stand.{Stand}
@@ -151,15 +153,15 @@ stretch_next times last next state stand counts taken n cells now rising s insid
 standing_next : (times : List ℕ) (next : ℕ) (state : LoopState) (stand : Stand) (totals : Totals) (oldest n : ℕ) (rest : List ℕ)
     → Exchanged times next totals.fine totals.count oldest n rest
     → n ≡ periods_to (standing times next state stand (oldest ∷ rest)) (1024 * slice_index times (next + 1)) → n ≤ 32
-    → standing times (next + 1) state (stand_next state.nominal stand (1024 * slice_index times (next + 1)) n totals.count (totals.fine / totals.count)) (rest ++ n ∷ [])
+    → standing times (next + 1) state (stand_next state.band stand (1024 * slice_index times (next + 1)) n totals.count (totals.fine / totals.count)) (rest ++ n ∷ [])
     ≡ state_after (standing times next state stand (oldest ∷ rest)) (1024 * slice_index times (next + 1))
 standing_next times next state stand totals oldest n rest exchange count few =
     let fine : ℕ = 1024 * slice_index times (next + 1) in
     let s : LoopState = standing times next state stand (oldest ∷ rest) in
     let recent : List Interval = intervals_with times (next + 1 - 64) (rest ++ n ∷ []) in
     let mk : (period : ℕ) → List Interval → LoopState = λ period l. record {
-      nominal = state.nominal;
       first = state.first;
+      band = state.band;
       fine = fine;
       place = (stand.place + n * stand.period + fine) / 2;
       period = period;
@@ -168,10 +170,10 @@ standing_next times next state stand totals oldest n rest exchange count few =
     let near : nat_lt 32 (periods_to s fine) ≡ false = le-ltb _ _ (omega (arith, count, few)) in
     let many : length recent ≡ 64 = length-intervals_with times (next + 1 - 64) (rest ++ n ∷ []) ∙ exchange.full in
     let long : nat_lt (length recent) 64 ≡ false = le-ltb _ _ (omega (arith, many)) in
-    let mean : period_from s recent ≡ in_band state.nominal (totals.fine / totals.count) =
+    let mean : period_from s recent ≡ in_band state.band (totals.fine / totals.count) =
     cond-false _ _ _ long
-    ∙ ap (λ (f : ℕ). in_band state.nominal (f / count_total recent)) (sym exchange.window.fine_is)
-    ∙ ap (λ (m : ℕ). in_band state.nominal (totals.fine / m)) (sym exchange.window.count_is) in
+    ∙ ap (λ (f : ℕ). in_band state.band (f / count_total recent)) (sym exchange.window.fine_is)
+    ∙ ap (λ (m : ℕ). in_band state.band (totals.fine / m)) (sym exchange.window.count_is) in
     sym (
     cond-false _ _ _ near
     ∙ ap (λ (p : ℕ). joined s fine p) (sym count)
@@ -197,20 +199,36 @@ place_within place period fine n some most ahead is =
           omega (arith, way, most, low, two)
     ]
 
+-- the ends of a start's band
+pub record IsBand (band : Band) : Type 0 where
+  pub low : SHORTEST_PERIOD ≤ band.lowest
+  pub rising : band.lowest ≤ band.highest
+  pub high : band.highest ≤ LONGEST_PERIOD
+
+pub start_band : (start : LoopStart) → IsStart start → IsBand start.band
+start_band start is =
+    let least = is.nominal.shortest in
+    let most = is.nominal.longest in
+    record {
+      low = omega (arith, least, is.low);
+      rising = omega (arith, is.from, is.to);
+      high = omega (arith, most, is.high);
+    }
+
 -- one transition more
 pub stretch_more : (times : List ℕ) (last next : ℕ) (state : LoopState) (stand : Stand) (totals : Totals) (oldest n : ℕ) (rest : List ℕ) (cells now longer : CellsState)
-    → IsNonDecreasing times → IsNominal state.nominal
+    → IsNonDecreasing times → IsBand state.band
     → IsStretch times last next state stand (oldest ∷ rest) cells now → next + 1 < length times
     → Exchanged times next totals.fine totals.count oldest n rest
     → totals.fine ≡ 1024 * slice_index times (next + 1) - 1024 * slice_index times (next + 1 - 64)
     → n ≡ max 1 ((2 * (1024 * slice_index times (next + 1) - stand.place) + stand.period) / (2 * stand.period)) → n ≤ 4
     → longer.cells ≡ now.cells ++ run_cells n → room now ≤ room longer
-    → IsStretch times last (next + 1) state (stand_next state.nominal stand (1024 * slice_index times (next + 1)) n totals.count (totals.fine / totals.count)) (rest ++ n ∷ []) cells longer
-stretch_more times last next state stand totals oldest n rest cells now longer rising nominal s inside exchange total_is count few longer_are room_kept =
+    → IsStretch times last (next + 1) state (stand_next state.band stand (1024 * slice_index times (next + 1)) n totals.count (totals.fine / totals.count)) (rest ++ n ∷ []) cells longer
+stretch_more times last next state stand totals oldest n rest cells now longer rising band s inside exchange total_is count few longer_are room_kept =
     let time : ℕ = slice_index times (next + 1) in
     let fine : ℕ = 1024 * time in
     let before : LoopState = standing times next state stand (oldest ∷ rest) in
-    let later_stand : Stand = stand_next state.nominal stand fine n totals.count (totals.fine / totals.count) in
+    let later_stand : Stand = stand_next state.band stand fine n totals.count (totals.fine / totals.count) in
     let up : slice_index times next ≤ time = rising next (next + 1) 0 (omega arith) inside in
     let later : before.fine ≤ fine = omega (arith, up) in
     let after = standing_next times next state stand totals oldest n rest exchange count (omega (arith, few)) in
@@ -232,8 +250,8 @@ stretch_more times last next state stand totals oldest n rest cells now longer r
           some (omega (arith, few)) longer_are room_kept;
       window = window;
       place = place_within stand.place stand.period fine n (omega (arith, s.shortest)) s.longest (omega (arith, s.place, up)) count;
-      shortest = omega (arith, nominal.shortest, nominal.longest);
-      longest = omega (arith, nominal.shortest, nominal.longest);
+      shortest = omega (arith, band.low, band.rising, band.high);
+      longest = omega (arith, band.low, band.rising, band.high);
       short = rw longer_are (omega (arith, length-append now.cells (run_cells n), length-run_cells n some, s.short, few));
       keeps = omega (arith, s.keeps, room_kept);
     }
@@ -269,8 +287,8 @@ stretch_begins times last state stand counts cells rising inside here full betwe
     let total : fine_total state.recent ≡ 1024 * slice_index times last - 1024 * slice_index times first =
     omega (arith, fine_total-intervals_with times first counts rising (omega (arith, end, inside)), ap fine_total recent, ap (λ (k : ℕ). slice_index times k) end) in
     let mk : (fine place period : ℕ) → List Interval → LoopState = λ f p q l. record {
-      nominal = state.nominal;
       first = state.first;
+      band = state.band;
       fine = f;
       place = p;
       period = q;

@@ -105,7 +105,7 @@ stepped state after start times time count holds later next same =
 
 -- what a loop holds at the first transition
 pub first_holds : (state : LoopState) (start : LoopStart) (time : ℕ)
-    → state ≡ record { nominal = start.nominal; first = start.first; fine = 1024 * time; place = 1024 * time; period = start.first; recent = [] }
+    → state ≡ record { first = start.first; band = start.band; fine = 1024 * time; place = 1024 * time; period = start.first; recent = [] }
     → Holds state start (time ∷ [])
 unfolding rows_to state_behind
 first_holds state start time is = record {

@@ -5,8 +5,9 @@ use Rattle.std.specs.List.{sum_by}
 use Rattle.std.proofs.lemmas.Bool.{lt-ltb, le-ltb, cases_lt, cond-true, cond-false}
 use Rattle.std.proofs.lemmas.List.{length_push, get_or_push, get_or_append_left, drop-append-le, drop_all}
 use Rattle.std.proofs.lemmas.List.Sums.{sum_by_push}
-use Rattle.phase_loop.specs.Start.{in_band}
+use Rattle.phase_loop.specs.Start.{HasWholeBand, in_band}
 use Rattle.phase_loop.specs.Rows.{Row, no_row, row_at, last_row, row_of_start, row_at_distance, periods_since, period_behind, next_row, with_next_row}
+use Rattle.phase_loop.specs.declared.start.Band.{Band}
 use Rattle.phase_loop.specs.declared.start.LoopStart.{LoopStart}
 use Rattle.phase_loop.proofs.Intervals.{last_row-push}
 use Rattle.phase_loop.proofs.Nearness.{IsNear, IsPaced, IsTimed, count_right, next_placed, start_near}
@@ -26,7 +27,7 @@ pub record StandsAt (nominal : ℕ) (fine place local ideal : ℕ → ℕ) (rows
   pub tally : (j : ℕ) → j ≤ i → sum_by (λ (row : Row). row.count) (drop (begin + j + 1) rows) + place j ≡ place i
 
 module _ (start : LoopStart) (count : ℕ) (fine place distance local ideal : ℕ → ℕ) (clock : IsClock start.nominal count fine place distance local ideal)
-    (starts : StartsNear start.nominal start.first (local 0)) where
+    (starts : StartsNear start.nominal start.first (local 0)) (wide : HasWholeBand start) where
   -- at the first transition of the clock
   pub first_stands : (rows : List Row) (cells : ℕ) → 0 < count
       → StandsAt start.nominal fine place local ideal (rows ++ row_of_start start (length rows) (fine 0) cells ∷ []) (length rows) 0
@@ -108,7 +109,7 @@ module _ (start : LoopStart) (count : ℕ) (fine place distance local ideal : �
               ≡ (fine (suc i) - fine from) / cells =
               ap (λ (n : ℕ). (fine (suc i) - n) / (sum_by (λ (row : Row). row.count) (drop (length rows - 63) rows) + distance i)) time
               ∙ ap (λ (n : ℕ). (fine (suc i) - fine from) / n) same in
-              subst (IsPaced start.nominal (local (suc i))) (sym (cond-false _ _ _ long ∙ ap (in_band start.nominal) mean))
+              subst (IsPaced start.nominal (local (suc i))) (sym (cond-false _ _ _ long ∙ ap (in_band start.band) mean ∙ ap (λ (b : Band). in_band b ((fine (suc i) - fine from) / cells)) wide))
               (mean_near start.nominal count fine place distance local ideal clock from (suc i) cells e more all)
         ]
 

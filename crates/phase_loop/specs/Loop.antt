@@ -6,8 +6,8 @@ use Rattle.phase_loop.specs.declared.phase.Loop.TheInside.{Inside}
 
 abbrev pub view_of : Inside → LoopState
 view_of inside = record {
-  nominal = inside.start.nominal;
   first = inside.start.first;
+  band = inside.start.band;
   fine = inside.fine;
   place = inside.place;
   period = inside.period;

@@ -1,7 +1,7 @@
 -- Transitions that carry a ring in pieces: between two of them a stretch of the disk is erased, and gives no transitions.
 use Rattle.std.specs.Prelude.{◌≡◌, ◌≤◌, ◌<◌, ℕ, ◌+◌, ◌-◌, ◌*◌, ◌/◌, All, Bool, false, List, [], ◌∷◌, ◌++◌, flat_map, length, replicate, slice_index}
 use Rattle.track_rings.specs.Rings.{IsSpaced, last_in, stretch}
-use Rattle.phase_loop.specs.Start.{FINE_PER_TICK, LONGEST, IsNominal, IsStart, start_for}
+use Rattle.phase_loop.specs.Start.{FINE_PER_TICK, HasWholeBand, LONGEST, IsNominal, IsStart, start_for}
 use Rattle.phase_loop.specs.Rows.{recovered}
 use Rattle.phase_loop.specs.Carried.{AreClose, Carried, OFF_START}
 use Rattle.phase_loop.specs.declared.start.LoopStart.{LoopStart}
@@ -59,9 +59,9 @@ abbrev pub FollowsPieces : (nominal period : ℕ) → List ℕ → List Bool →
 FollowsPieces nominal period times cells = (ring : List Bool) (first : Piece) (later : List Piece) → IsSpaced 1 4 ring
     → CarryPieces nominal period ring times first later → cells ≡ cells_of_pieces ring first later
 
--- the recovered cells, whatever the times are
+-- the recovered cells, whatever the times are, where the period may follow the drive through the whole band
 abbrev pub RecoversPieces : Type 0
-RecoversPieces = (start : LoopStart) (times : List ℕ) → IsStart start → FollowsPieces start.nominal start.first times (recovered start times)
+RecoversPieces = (start : LoopStart) (times : List ℕ) → IsStart start → HasWholeBand start → FollowsPieces start.nominal start.first times (recovered start times)
 
 -- also where the loop starts with the mean cell of the first turn, kept in the band
 abbrev pub RecoversPiecesOfTurns : Type 0
@@ -70,4 +70,4 @@ RecoversPiecesOfTurns = (nominal turn_ticks ring_cells : ℕ) (times : List ℕ)
 
 -- one piece alone
 abbrev pub RecoversRings : Type 0
-RecoversRings = (start : LoopStart) (times : List ℕ) → IsStart start → FollowsRing start.nominal start.first times (recovered start times)
+RecoversRings = (start : LoopStart) (times : List ℕ) → IsStart start → HasWholeBand start → FollowsRing start.nominal start.first times (recovered start times)

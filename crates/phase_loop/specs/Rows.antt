@@ -49,12 +49,12 @@ abbrev pub periods_since : Row → ℕ → ℕ
 periods_since before fine = max 1 ((2 * (fine - before.place) + before.period) / (2 * before.period))
 
 -- The period after the transition that follows these rows: the mean of its last 64 intervals, taken from two
--- times and kept in the band, once 64 intervals have passed since the restart; before that the first period.
+-- times and kept in the start's band, once 64 intervals have passed since the restart; before that the first period.
 abbrev pub period_behind : LoopStart → List Row → (restart fine count : ℕ) → ℕ
 period_behind start rows restart fine count =
     let number = length rows in
     if nat_lt (number - restart) INTERVALS then start.first
-    else in_band start.nominal
+    else in_band start.band
     ((fine - (row_at rows (number - INTERVALS)).fine) / (sum_by (λ row. row.count) (drop (number - (INTERVALS - 1)) rows) + count))
 
 -- The row of the transition that follows these rows, where it lies this many periods after the place. Past 32

@@ -4,13 +4,15 @@ use Rattle.std.specs.List.Sorted.{IsNonDecreasing}
 use Rattle.circular_buffer.specs.Buffer.{keep_last}
 use Rattle.phase_loop.specs.Start.{INTERVALS}
 use Rattle.phase_loop.specs.Rows.{Row, last_row, rows_of}
+use Rattle.phase_loop.specs.declared.start.Band.{Band}
 use Rattle.phase_loop.specs.declared.start.LoopStart.{LoopStart}
 use Rattle.phase_loop.specs.declared.window.Interval.{Interval}
 
--- the last transition's fine time and place, the period, and the last intervals since the restart, at most 64
+-- the first period and the band, the last transition's fine time and place, the period, and the last intervals since the restart, at
+-- most 64
 pub record LoopState : Type 0 where
-  pub nominal : ℕ
   pub first : ℕ
+  pub band : Band
   pub fine : ℕ
   pub place : ℕ
   pub period : ℕ
@@ -33,8 +35,8 @@ intervals (row ∷ rows) = intervals_behind row rows
 -- what a loop holds after the last of these rows
 unfoldable pub state_behind : LoopStart → List Row → LoopState
 state_behind start rows = let last = last_row rows in record {
-  nominal = start.nominal;
   first = start.first;
+  band = start.band;
   fine = last.fine;
   place = last.place;
   period = last.period;

@@ -13,8 +13,8 @@ periods_to state fine = max 1 ((2 * (fine - state.place) + state.period) / (2 * 
 -- the state where the loop starts anew
 abbrev pub restarted : LoopState → ℕ → LoopState
 restarted state fine = record {
-  nominal = state.nominal;
   first = state.first;
+  band = state.band;
   fine = fine;
   place = fine;
   period = state.first;
@@ -29,13 +29,13 @@ recent_after state fine periods = keep_last INTERVALS (state.recent ++ record { 
 abbrev pub period_from : LoopState → List Interval → ℕ
 period_from state recent =
     if nat_lt (length recent) INTERVALS then state.first
-    else in_band state.nominal (fine_total recent / count_total recent)
+    else in_band state.band (fine_total recent / count_total recent)
 
 -- the state where the interval joins the others
 abbrev pub joined : LoopState → (fine periods : ℕ) → LoopState
 joined state fine periods = record {
-  nominal = state.nominal;
   first = state.first;
+  band = state.band;
   fine = fine;
   place = (state.place + periods * state.period + fine) / 2;
   period = period_from state (recent_after state fine periods);

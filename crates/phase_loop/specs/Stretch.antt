@@ -7,6 +7,7 @@ use Rattle.phase_loop.specs.Start.{FINE_PER_TICK, INTERVALS, LONGEST, SHORTEST_P
 use Rattle.phase_loop.specs.Window.{IsWindow}
 use Rattle.phase_loop.specs.State.{LoopState}
 use Rattle.phase_loop.specs.Appended.{IsAppended}
+use Rattle.phase_loop.specs.declared.start.Band.{Band}
 use Rattle.phase_loop.specs.declared.start.LoopStart.{LoopStart}
 use Rattle.phase_loop.specs.declared.window.Interval.{Interval}
 use Rattle.phase_loop.specs.declared.phase.stretch.Stand.{Stand}
@@ -32,18 +33,18 @@ pub record AreBetween (times : List ℕ) (last : ℕ) (intervals : List Interval
   pub are : intervals ≡ intervals_with times (last - INTERVALS) (counts_of intervals)
 
 -- the stand at the next transition, at this time and with this count, where the window has this total and mean
-abbrev pub stand_next : (nominal : ℕ) → Stand → (fine count total mean : ℕ) → Stand
-stand_next nominal stand fine count total mean = record {
+abbrev pub stand_next : Band → Stand → (fine count total mean : ℕ) → Stand
+stand_next band stand fine count total mean = record {
   place = (stand.place + count * stand.period + fine) / 2;
-  period = in_band nominal mean;
+  period = in_band band mean;
   count = total;
 }
 
 -- what a loop would hold at transition number `next`, with this stand and these counts in its window
 abbrev pub standing : List ℕ → ℕ → LoopState → Stand → List ℕ → LoopState
 standing times next state stand counts = record {
-  nominal = state.nominal;
   first = state.first;
+  band = state.band;
   fine = FINE_PER_TICK * slice_index times next;
   place = stand.place;
   period = stand.period;

@@ -13,7 +13,7 @@ pub use laws::disturbed_rings_are_recovered;
 pub use phase::Loop;
 pub use recovery::recover;
 pub use sizes::cells_are_few;
-pub use start::LoopStart;
+pub use start::{Band, LoopStart};
 
 #[cfg(test)]
 mod tests;

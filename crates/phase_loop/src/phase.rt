@@ -4,7 +4,7 @@ ghost use Rattle.std.specs.Prelude.{◌≡◌, ℕ, ◌+◌, ◌*◌, ◌/◌, �
 mod guess;
 mod stretch;
 
-use crate::start::{FINE_PER_TICK, LoopStart, in_band_of};
+use crate::start::{Band, FINE_PER_TICK, LoopStart};
 use crate::window::{Interval, Window};
 use flux_base::Memory;
 use std::alloc::Global;
@@ -41,7 +41,7 @@ impl Model for Loop {
 }
 
 impl Loop {
-    ghost use Rattle.phase_loop.specs.Start.{INTERVALS, IsStart};
+    ghost use Rattle.phase_loop.specs.Start.{INTERVALS, IsStart, band_of};
     ghost use Rattle.phase_loop.specs.Rows.{counts};
     ghost use Rattle.phase_loop.specs.State.{Holds};
     ghost use Rattle.phase_loop.specs.Step.{state_after, count_after, restarted};
@@ -49,13 +49,14 @@ impl Loop {
     /// A loop with room for its 64 intervals. It stands as one that was started at time 0 with a nominal cell
     /// and a period of 16 ticks.
     pub fn new(alloc: Global) -> Result<Loop, Memory>
-        ensures { IfOk result (λ loop. Holds loop (record { nominal = 16384; first = 16384 }) (0 ∷ [])) }
+        ensures { IfOk result (λ loop. Holds loop (record { nominal = 16384; first = 16384; band = band_of 16384 }) (0 ∷ [])) }
     {
         let window = Window::new(alloc)?;
         Ok(Loop {
             start: LoopStart {
                 nominal: 16384,
                 first: 16384,
+                band: Band::about(16384),
             },
             fine: 0,
             place: 0,
@@ -128,7 +129,7 @@ impl Loop {
             count: count as u32,
         });
         self.period = match self.window.mean() {
-            Some(mean) => in_band_of(self.start.nominal, mean),
+            Some(mean) => self.start.band.keep(mean),
             None => u64::from(self.start.first),
         };
         self.place = (self.place + count * period + fine) / 2;

@@ -2,7 +2,7 @@
 ghost use Rattle.std.specs.Prelude.{◌≡◌, ℕ, ◌*◌, ◌^◌, ◌≤◌, [], length, All, OnOk, OnErr, IsOk};
 ghost use Rattle.std.specs.List.Sorted.{IsNonDecreasing};
 ghost use Rattle.cell_bits.specs.State.{room};
-ghost use Rattle.phase_loop.specs.Start.{INTERVALS, IsStart};
+ghost use Rattle.phase_loop.specs.Start.{HasWholeBand, INTERVALS, IsStart};
 ghost use Rattle.phase_loop.specs.Rows.{recovered};
 ghost use Rattle.phase_loop.specs.Pieces.{FollowsRing, FollowsPieces};
 
@@ -16,8 +16,8 @@ use index_turns::TrackFlux;
 /// the one of its count. Times are at most 2^39 ticks. `bench` is the loop that does the work; what it holds
 /// before does not matter, and its window stays bounded. After `Memory` there are no cells.
 ///
-/// Where the times carry a ring within the bounds of disturbance, the cells are the ring's; where they carry it in pieces,
-/// those of the pieces.
+/// Where the period may follow the drive through the whole band, and the times carry a ring within the bounds of disturbance, the
+/// cells are the ring's; where they carry it in pieces, those of the pieces.
 pub fn recover(
     flux: &TrackFlux,
     start: LoopStart,
@@ -27,8 +27,8 @@ pub fn recover(
     requires start { IsStart start }
     requires times { All (λ time. time ≤ 2 ^ 39) flux.now.times }
     ensures ok { OnOk result (cells.new.cells ≡ recovered start flux.now.times) }
-    ensures ring { OnOk result (FollowsRing start.nominal start.first flux.now.times cells.new.cells) }
-    ensures pieces { OnOk result (FollowsPieces start.nominal start.first flux.now.times cells.new.cells) }
+    ensures ring { OnOk result (HasWholeBand start → FollowsRing start.nominal start.first flux.now.times cells.new.cells) }
+    ensures pieces { OnOk result (HasWholeBand start → FollowsPieces start.nominal start.first flux.now.times cells.new.cells) }
     ensures err { OnErr result (cells.new.cells ≡ []) }
     ensures window { length bench.new.recent ≤ INTERVALS }
     ensures room { room cells.old ≤ room cells.new }

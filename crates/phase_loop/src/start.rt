@@ -1,23 +1,61 @@
-ghost use Rattle.std.specs.Prelude.{◌≡◌, ◌*◌, ◌/◌, ◌^◌, ◌<◌, ◌≤◌, min, max};
-ghost use Rattle.phase_loop.specs.Start.{in_band, IsNominal};
+ghost use Rattle.std.specs.Prelude.{◌≡◌, ◌^◌, ◌<◌, ◌≤◌, min, max};
+ghost use Rattle.phase_loop.specs.Start.{IsNominal};
 
 /// Fine units in a tick.
 pub(crate) const FINE_PER_TICK: u64 = 1024;
+
+/// The shortest and the longest period that the loop takes a mean for, in fine units, of which 1024 make a tick.
+#[derive(Clone, Copy, Debug, PartialEq, Eq)]
+pub struct Band {
+    /// The shortest, at most the longest.
+    pub lowest: u32,
+    /// The longest.
+    pub highest: u32,
+}
 
 /// Where the loop starts. All lengths are in fine units, of which 1024 make a tick.
 #[derive(Clone, Copy, Debug, PartialEq, Eq)]
 pub struct LoopStart {
     /// The nominal cell, 16384 to 131072.
     pub nominal: u32,
-    /// The first period, from three to five quarters of the nominal cell, both rounded down.
+    /// The first period, in the band.
     pub first: u32,
+    /// The band of the periods, within three to five quarters of the nominal cell, both rounded down.
+    pub band: Band,
+}
+
+impl Band {
+    ghost use Rattle.phase_loop.specs.Start.{band_of, in_band};
+
+    /// The whole band about a nominal cell: from three to five quarters of it, both rounded down.
+    pub fn about(nominal: u32) -> Band
+        requires { IsNominal nominal }
+        ensures { result ≡ band_of nominal }
+    {
+        Band {
+            lowest: 3 * nominal / 4,
+            highest: 5 * nominal / 4,
+        }
+    }
+
+    /// The period, or the band's end that is nearer to it.
+    pub(crate) fn keep(self, period: u64) -> u64
+        ensures { result ≡ in_band self period }
+    {
+        let lowest = u64::from(self.lowest);
+        let highest = u64::from(self.highest);
+        if period < lowest || highest < period {
+            return end_of_band(lowest, highest, period);
+        }
+        period
+    }
 }
 
 impl LoopStart {
-    ghost use Rattle.phase_loop.specs.Start.{IsStart, start_for};
+    ghost use Rattle.phase_loop.specs.Start.{IsStart, held, start_for};
 
     /// The start for a track whose first turn takes `turn_ticks` ticks and holds `ring_cells` cells: the first
-    /// period is the mean of that turn, kept in the band.
+    /// period is the mean of that turn, kept in the whole band, through which later ones may follow the drive's speed.
     pub fn for_turn(nominal: u32, turn_ticks: u64, ring_cells: u32) -> LoopStart
         requires nominal { IsNominal nominal }
         requires turn { turn_ticks < 2 ^ 40 }
@@ -26,24 +64,29 @@ impl LoopStart {
         ensures bounds { IsStart result }
     {
         let mean = FINE_PER_TICK * turn_ticks / u64::from(ring_cells);
+        let band = Band::about(nominal);
         LoopStart {
             nominal,
-            first: in_band_of(nominal, mean) as u32,
+            first: band.keep(mean) as u32,
+            band,
         }
     }
-}
 
-/// The period, or the nearer end of the band from three to five quarters of the nominal cell.
-pub(crate) fn in_band_of(nominal: u32, period: u64) -> u64
-    requires { IsNominal nominal }
-    ensures { result ≡ in_band nominal period }
-{
-    let lowest = u64::from(3 * nominal / 4);
-    let highest = u64::from(5 * nominal / 4);
-    if period < lowest || highest < period {
-        return end_of_band(lowest, highest, period);
+    /// The same start with its first period held: the band has it as both its ends, so that each period is the first one.
+    pub fn held(self) -> LoopStart
+        requires { IsStart self }
+        ensures start { result ≡ held self }
+        ensures bounds { IsStart result }
+    {
+        LoopStart {
+            nominal: self.nominal,
+            first: self.first,
+            band: Band {
+                lowest: self.first,
+                highest: self.first,
+            },
+        }
     }
-    period
 }
 
 /// The end of the band that is nearer to a period outside it. A call, so that the usual period inside the

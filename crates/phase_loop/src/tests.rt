@@ -1,7 +1,7 @@
 ghost use Rattle.std.specs.Prelude.{◌*◌, ◌^◌, ◌≤◌, All, IfOk};
 ghost use Rattle.phase_loop.specs.Start.{IsStart};
 
-use crate::{Loop, LoopStart, recover};
+use crate::{Band, Loop, LoopStart, recover};
 use cell_bits::Cells;
 use flux_base::Memory;
 use index_turns::TrackFlux;
@@ -14,6 +14,10 @@ const LATEST: u64 = 1 << 39;
 const EVEN: LoopStart = LoopStart {
     nominal: 49152,
     first: 49152,
+    band: Band {
+        lowest: 36864,
+        highest: 61440,
+    },
 };
 
 /// A track with these times, as far as they do not fall and are not too late.
@@ -134,8 +138,8 @@ fn recovers_few_cells(rt: HostRuntime) -> Result<(), Memory> {
     // In fine units the places are 0, then 95346 / 2 = 47673, then 188075 / 2 = 94037 and a half, rounded
     // down: the last time, 167936, lies 1.5 periods after it to the unit, and would not if it were rounded up.
     let start = LoopStart {
-        nominal: 49152,
         first: 49266,
+        ..EVEN
     };
     assert!(rt; gives(rt.alloc(), start, &[0, 45, 89, 164], &[1, 1, 2])?);
     Ok(())
@@ -223,6 +227,22 @@ fn goes_on_behind_a_stretch(rt: HostRuntime) -> Result<(), Memory> {
     assert!(rt; gives(rt.alloc(), EVEN, just_one.as_slice(), &[1; 576])?);
     let one_more = even_times(rt.alloc(), 578, 48)?;
     assert!(rt; gives(rt.alloc(), EVEN, one_more.as_slice(), &[1; 577])?);
+    Ok(())
+}
+
+// 64 pulses half a cell apart pull the mean to the band's lower end of 36 ticks, where intervals of 96 are two and three cells by
+// turns. Where the first period is held they are two of 48 each, as before the burst.
+#[test]
+fn a_held_period_reads_on_behind_a_burst(rt: HostRuntime) -> Result<(), Memory> {
+    let mut times = even_times(rt.alloc(), 101, 96)?;
+    append_even(&mut times, 64, 24)?;
+    append_even(&mut times, 100, 96)?;
+    let mut counts = [2u8; 264];
+    for count in counts[100..164].iter_mut() {
+        *count = 1;
+    }
+    assert!(rt; gives(rt.alloc(), EVEN.held(), &times, &counts)?);
+    assert!(rt; !gives(rt.alloc(), EVEN, &times, &counts)?);
     Ok(())
 }
 

@@ -4,13 +4,12 @@ ghost use Rattle.std.specs.List.Sorted.{IsNonDecreasing};
 ghost use Rattle.cell_bits.specs.State.{room};
 ghost use Rattle.cell_bits.specs.Run.{IsShortRun};
 ghost use Rattle.circular_buffer.specs.Buffer.{buffer};
-ghost use Rattle.phase_loop.specs.Start.{IsNominal};
 ghost use Rattle.phase_loop.specs.Window.{IsShort, IsWindow, fine_total};
 ghost use Rattle.phase_loop.specs.Stretch.{intervals_with, counts_of, stand_next, AreBetween, AreGuessed, Carries, IsStretch, TakesRuns};
 
 use super::guess::Guess;
 use super::{Loop, are_few, few_periods_in};
-use crate::start::{FINE_PER_TICK, in_band_of};
+use crate::start::{Band, FINE_PER_TICK};
 use crate::window::{INTERVALS, Interval, STRETCH, Totals};
 use cell_bits::Cells;
 use flux_base::Memory;
@@ -165,7 +164,7 @@ impl Loop {
         ensures guesses { AreGuessed most counts.new }
         ensures stretch { TakesRuns times.now last result.1 self.now result.0 counts.new }
     {
-        let nominal = self.start.nominal;
+        let band = self.start.band;
         let slack = self.slack();
         let mut stand = self.stand();
         for taken in 0..most {
@@ -179,7 +178,7 @@ impl Loop {
             let total = stand.count - u64::from(counts[taken]) + count;
             counts[INTERVALS + taken] = count as u8;
             let mean = self.window.mean_of(ticks, total);
-            stand = stand.after(nominal, fine, length, total, mean);
+            stand = stand.after(band, fine, length, total, mean);
         }
         (stand, most)
     }
@@ -200,9 +199,9 @@ impl Loop {
     /// that is the shortest one that a stretch can have.
     fn slack(&self) -> u64
         ensures first { 2 * result ≤ self.now.period }
-        ensures later { 2 * result ≤ 3 * self.now.nominal / 4 }
+        ensures later { 2 * result ≤ self.now.band.lowest }
     {
-        u64::from(3 * self.start.nominal / 4).min(self.period) / 2
+        u64::from(self.start.band.lowest).min(self.period) / 2
     }
 }
 
@@ -269,16 +268,15 @@ impl Stand {
 
     /// The stand at the next transition, where the cells to it have this length, and the window gets this total of cells
     /// and this mean.
-    fn after(self, nominal: u32, fine: u64, length: u64, total: u64, mean: u64) -> Stand
-        requires nominal { IsNominal nominal }
+    fn after(self, band: Band, fine: u64, length: u64, total: u64, mean: u64) -> Stand
         requires fine { fine ≤ 2 ^ 49 }
         requires place { self.place ≤ 2 ^ 50 }
         requires length { length ≤ 4 * 163840 }
-        ensures { (count : ℕ) → length ≡ count * self.period → result ≡ stand_next nominal self fine count total mean }
+        ensures { (count : ℕ) → length ≡ count * self.period → result ≡ stand_next band self fine count total mean }
     {
         Stand {
             place: (self.place + length + fine) / 2,
-            period: in_band_of(nominal, mean),
+            period: band.keep(mean),
             count: total,
         }
     }

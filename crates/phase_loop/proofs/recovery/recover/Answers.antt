@@ -9,14 +9,14 @@ pub returns-else-is_err-clause-ring : goal.returns-else-is_err-clause-ring
 returns-else-is_err-clause-ring c =
     let start = c.args.start in
     on_ok_weaker c.append_cells-result.result
-    (λ is. subst (FollowsRing start.nominal start.first c.args.flux.now.times) (sym (is ∙ ap (recovered start) c.times.ensures.value))
-    (ring_recovered start c.args.flux.now.times c.requires.start))
+    (λ is whole. subst (FollowsRing start.nominal start.first c.args.flux.now.times) (sym (is ∙ ap (recovered start) c.times.ensures.value))
+    (ring_recovered start c.args.flux.now.times c.requires.start whole))
     c.append_cells-result.ensures.ok
 
 pub returns-else-is_err-clause-pieces : goal.returns-else-is_err-clause-pieces
 returns-else-is_err-clause-pieces c =
     let start = c.args.start in
     on_ok_weaker c.append_cells-result.result
-    (λ is. subst (FollowsPieces start.nominal start.first c.args.flux.now.times) (sym (is ∙ ap (recovered start) c.times.ensures.value))
-    (pieces_recovered start c.args.flux.now.times c.requires.start))
+    (λ is whole. subst (FollowsPieces start.nominal start.first c.args.flux.now.times) (sym (is ∙ ap (recovered start) c.times.ensures.value))
+    (pieces_recovered start c.args.flux.now.times c.requires.start whole))
     c.append_cells-result.ensures.ok

@@ -21,8 +21,8 @@ replace-requires c =
 pub returns-clause-carries : goal.returns-clause-carries
 returns-clause-carries c start before appended =
     let next : LoopState → LoopState = λ s. record {
-      nominal = s.nominal;
       first = s.first;
+      band = s.band;
       fine = 1024 * slice_index c.args.times.now c.in_ok-stand.next;
       place = c.in_ok-stand.stand.place;
       period = c.in_ok-stand.stand.period;

@@ -3,11 +3,10 @@ use Rattle.std.proofs.lemmas.List.{length-set}
 use Rattle.std.proofs.Math.Nat.{mul-le-mul_right}
 use Rattle.cell_bits.specs.State.{CellsState}
 use Rattle.cell_bits.specs.Run.{run_cells}
-use Rattle.phase_loop.specs.Start.{IsNominal}
 use Rattle.phase_loop.specs.State.{LoopState}
 use Rattle.phase_loop.specs.Stretch.{IsStretch, with_runs}
 use Rattle.phase_loop.specs.declared.window.Totals.{Totals}
-use Rattle.phase_loop.proofs.Stretches.{no_cells, guess_right, guess_short, runs_more, stretch_begins, stretch_next, stretch_more, stretch_with}
+use Rattle.phase_loop.proofs.Stretches.{IsBand, no_cells, guess_right, guess_short, runs_more, start_band, stretch_begins, stretch_next, stretch_more, stretch_with}
 use Rattle.phase_loop.proofs.phase.Loop.take_guesses.Goals as goal
 
 pub loop-taken-init : goal.loop-taken-init
@@ -108,8 +107,8 @@ loop-taken-preserved c =
     let counts : List ℕ = set c.loop-taken.counts (64 + c.loop-taken.taken) c.in-Some.count in
     let room_for : 64 + c.loop-taken.taken < length c.loop-taken.counts = omega (arith, c.loop-taken.invariant.whole, c.loop-taken-test.true, c.requires.most) in
     let number : c.args.last + (c.loop-taken.taken + 1) ≡ here + 1 = omega arith in
-    let nominal_is : c.self.inside.start.nominal ≡ c.args.self.now.nominal = ap (λ (s : LoopState). s.nominal) c.self.view_is in
-    let nominal : IsNominal c.args.self.now.nominal = rw (← nominal_is) c.self.invariant.start.nominal in
+    let band_is : c.self.inside.start.band ≡ c.args.self.now.band = ap (λ (s : LoopState). s.band) c.self.view_is in
+    let band : IsBand c.args.self.now.band = rw (← band_is) (start_band c.self.inside.start c.self.invariant.start) in
     let ticks : 1024 * (slice_index c.args.times.now (here + 1) - slice_index c.args.times.now (here + 1 - 64)) ≡ 1024 * slice_index c.args.times.now (here + 1) - 1024 * slice_index c.args.times.now (here + 1 - 64) = omega arith in
     let totals : Totals = record {
       fine = 1024 * slice_index c.args.times.now (here + 1) - 1024 * slice_index c.args.times.now (here + 1 - 64);
@@ -118,14 +117,14 @@ loop-taken-preserved c =
     record {
       whole = omega (arith, c.loop-taken.invariant.whole, length-set c.loop-taken.counts (64 + c.loop-taken.taken) c.in-Some.count);
       guesses = guess_right c.args.most c.loop-taken.counts c.loop-taken.taken c.in-Some.count c.loop-taken.invariant.guesses (omega (arith, c.in-Some.ensures.count), c.in-Some.ensures.few);
-      slack = rw (c.after-stand.ensures c.in-Some.count c.in-Some.ensures.length, nominal_is) (omega (arith, c.slack-slack.ensures.later));
+      slack = rw (c.after-stand.ensures c.in-Some.count c.in-Some.ensures.length, band_is) (omega (arith, c.slack-slack.ensures.later));
       stretch = λ cells short.
           let now : CellsState = with_runs cells (take c.loop-taken.taken (drop 64 c.loop-taken.counts)) in
           let longer : CellsState = with_runs cells (take (c.loop-taken.taken + 1) (drop 64 counts)) in
           let longer_are = runs_more cells c.loop-taken.counts c.loop-taken.taken c.in-Some.count room_for in
           let P : List ℕ → Type 0 = λ l. IsStretch c.args.times.now c.args.last here c.args.self.now c.loop-taken.stand l cells now in
-          rw (number, c.after-stand.ensures c.in-Some.count c.in-Some.ensures.length, c.mean_of-mean.ensures, ticks, c.from.ensures, nominal_is, next.shift.now)
-          (stretch_more _ _ _ _ _ totals oldest c.in-Some.count next.shift.rest cells now longer c.requires.rising nominal
+          rw (number, c.after-stand.ensures c.in-Some.count c.in-Some.ensures.length, c.mean_of-mean.ensures, ticks, c.from.ensures, band_is, next.shift.now)
+          (stretch_more _ _ _ _ _ totals oldest c.in-Some.count next.shift.rest cells now longer c.requires.rising band
           (subst P next.shift.was (c.loop-taken.invariant.stretch cells short))
           (omega (arith, c.loop-taken-test.true, c.requires.inside)) next.exchange refl
           c.in-Some.ensures.count c.in-Some.ensures.few longer_are
