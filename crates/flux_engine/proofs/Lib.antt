@@ -8,6 +8,7 @@ pub mod Noting
 pub mod Counting
 pub mod Disks
 pub mod Outcomes
+pub mod BothClocks
 pub mod DiskParts
 pub mod LineNumbers
 pub mod DiskSectors

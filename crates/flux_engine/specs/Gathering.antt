@@ -8,9 +8,10 @@ use Rattle.flux_base.specs.declared.track.TrackId.{TrackId}
 use Rattle.sector_images.specs.declared.format.Format.{Format}
 use Rattle.turn_merge.specs.Book.{Knowledge, IsKnown, StandsFor, SameShape}
 use Rattle.turn_merge.specs.Readings.{NotedReading}
-use Rattle.flux_engine.specs.Captured.{AppendsReadings, AreReadingsAt, moved}
+use Rattle.flux_engine.specs.Captured.{AppendsReadings, AreReadingsBy, moved}
 use Rattle.flux_engine.specs.Room.{MOST_READINGS}
 use Rattle.flux_engine.specs.Tracks.{Found, readings_of}
+use Rattle.flux_engine.specs.declared.clock.Clock.{Clock}
 use Rattle.flux_engine.specs.declared.sectors.Sectors.{Sectors}
 
 -- cells that were recovered from these transitions: each has its one, the first cell is a one, and there are few
@@ -58,10 +59,11 @@ pub record IsWalk (header : List Bool → ℕ → Type 0) (sector : List Bool �
   pub within : from ≤ length cells
   pub passed_are : passed ≡ ones (take from cells)
 
--- All readings of a track with these transitions and index times were noted in its book, no more than the track has cells.
-pub record HasNoted (format : Format) (track : TrackId) (times indexes : List ℕ) (offset : ℕ) (old new : Knowledge) : Type 0 where
+-- All readings of a track with these transitions and index times, in the cells that the clock recovers, were noted in its book, no
+-- more than the track has cells.
+pub record HasNoted (clock : Clock) (format : Format) (track : TrackId) (times indexes : List ℕ) (offset : ℕ) (old new : Knowledge) : Type 0 where
   pub readings : List NotedReading
-  pub are : AreReadingsAt format track times indexes offset readings
+  pub are : AreReadingsBy clock format track times indexes offset readings
   pub noted : AppendsReadings old new readings
   pub shape : SameShape old new
   pub few : new.notes ≤ old.notes + MOST_READINGS

@@ -1,13 +1,15 @@
--- The tracks of a format, their sectors, and their recovered cells.
+-- The tracks of a format, their sectors, and their recovered cells by each clock.
 use Rattle.std.specs.Prelude.{ℕ, Bool, List, slice_get, unwrap_or}
 use Rattle.flux_base.specs.declared.track.TrackId.{TrackId}
 use Rattle.index_turns.specs.Track.{turn_length}
 use Rattle.phase_loop.specs.Rows.{recovered}
-use Rattle.phase_loop.specs.Start.{start_for}
+use Rattle.phase_loop.specs.Start.{held, start_for}
 use Rattle.phase_loop.specs.declared.start.LoopStart.{LoopStart}
 use Rattle.sector_images.specs.Formats.{row, zone}
 use Rattle.sector_images.specs.Places.{tracks}
 use Rattle.sector_images.specs.declared.format.Format.{Format}
+use Rattle.flux_engine.specs.declared.clock.Clock.{Clock}
+use Rattle.flux_engine.specs.declared.clock.Clock.TheVariants.{Following, Held}
 use Rattle.flux_engine.specs.declared.sectors.Sectors.{Sectors}
 
 -- track number n of the format, from 0
@@ -27,6 +29,15 @@ abbrev pub start_of : Format → TrackId → List ℕ → LoopStart
 start_of format track indexes =
     start_for (zone format track.cylinder).nominal (turn_length indexes 1) (zone format track.cylinder).ring_cells
 
--- the recovered cells of a track with these transitions and index times
+-- a start as a clock takes it: the held one keeps its first period
+abbrev pub start_by : Clock → LoopStart → LoopStart
+start_by Following start = start
+start_by Held start = held start
+
+-- the cells that a clock recovers of a track with these transitions and index times
+abbrev pub cells_by : Clock → Format → TrackId → List ℕ → List ℕ → List Bool
+cells_by clock format track times indexes = recovered (start_by clock (start_of format track indexes)) times
+
+-- the recovered cells of a track, where nothing else is said: by the clock that follows the drive's speed
 abbrev pub cells_of : Format → TrackId → List ℕ → List ℕ → List Bool
-cells_of format track times indexes = recovered (start_of format track indexes) times
+cells_of format track times indexes = cells_by Following format track times indexes

@@ -11,7 +11,7 @@ use Rattle.flux_engine.specs.Recordings.{sectors_of, track_at}
 use Rattle.flux_engine.specs.Writing.{Knows}
 
 -- the format, the bytes that were taken from a source and not used yet, whether a stream was read, the number of the
--- next track, the number of the track that was started, how many streams were read since, what the book knows of its
+-- next track, the number of the track that was started, how many streams were read since (one that is read by both clocks counts twice), what the book knows of its
 -- sectors by them, and whether a call answered a fault
 pub record RoomState : Type 0 where
   pub format : Format
@@ -61,7 +61,8 @@ pub record IsRoomy (format : Format) (cells : CellsState) (book : Knowledge) : T
 abbrev pub MOST_READINGS : ℕ
 MOST_READINGS = 134217728
 
--- the book is one for this track of the format, and has the readings of so many streams
+-- the book is one for this track of the format, and has the readings of so many streams, where one that is read by both clocks counts
+-- twice
 pub record IsStarted (format : Format) (number captures : ℕ) (book : Knowledge) : Type 0 where
   pub low : number < length (tracks format)
   pub knows : Knows (sectors_of format (track_at format number)) book

@@ -4,19 +4,21 @@ ghost use Rattle.std.specs.Prelude.{◌≡◌, ◌+◌, ◌*◌, ◌^◌, ◌≤
 ghost use Rattle.std.specs.Io.KnownBytes.{Appends};
 ghost use Rattle.std.specs.Option.{option_copied};
 ghost use Rattle.flux_base.specs.Outside.{AppendsPart, Rose};
-ghost use Rattle.flux_engine.specs.Answers.{CaptureCause, ReadsCapture, ReadsStream};
+ghost use Rattle.flux_engine.specs.Answers.{CaptureCause, ReadsByBoth, ReadsCapture, ReadsStream};
 ghost use Rattle.flux_engine.specs.Gathering.{HasNoted, IsBookFor};
 ghost use Rattle.flux_engine.specs.Reading.{IsBounded};
-ghost use Rattle.flux_engine.specs.Recordings.{track_at, sectors_of as sectors_in};
+ghost use Rattle.flux_engine.specs.Recordings.{start_by as start_of_clock, track_at, sectors_of as sectors_in};
 ghost use Rattle.flux_engine.specs.Room.{IsRoomy, MOST_READINGS};
 ghost use Rattle.flux_engine.specs.Tracks.{image_of};
 ghost use Rattle.flux_engine.specs.Writing.{Knows};
 ghost use Rattle.kryo_stream.specs.Outcome.{IsReadWhereNeeded};
 ghost use Rattle.kryo_stream.specs.Reads.{source_at};
+ghost use Rattle.phase_loop.specs.Start.{IsStart};
 ghost use Rattle.sector_images.specs.Places.{IsTrack, tracks};
 ghost use Rattle.turn_merge.specs.Book.{IsKnown, SameShape, StandsFor};
 ghost use Rattle.turn_merge.specs.Readings.{NotedReading, agreed, verdict as verdict_over};
 
+use crate::clock::Clock;
 use crate::fault::CaptureFault;
 use crate::gathering::gather;
 use crate::recordings::sectors_of;
@@ -85,6 +87,7 @@ pub fn read_capture<S: Source>(
         Err(fault) => return Err(fault),
     }
     note_readings(
+        Clock::Following,
         room.format,
         track,
         offset,
@@ -92,6 +95,68 @@ pub fn read_capture<S: Source>(
         &mut room.tools,
     );
     room.captures += 1;
+    room.failed = false;
+    Ok(())
+}
+
+/// Cells by which the readings of the held clock are noted further on than those of the following one, more than a track has.
+const CLOCK_CELLS: u64 = 1 << 32;
+
+/// Reads the next stream as the one of the started track, and notes all its readings by both clocks after those before: first those
+/// by the following clock, then those by the held one with 2^32 added to each cell. No answer is for want of memory.
+///
+/// It counts as two of the at most 16 streams of a track, and a room is not used again for reading after a fault.
+pub fn read_by_both_clocks<S: Source>(
+    room: &mut DiskRoom,
+    number: u32,
+    source: &mut S,
+) -> Result<(), CaptureFault>
+    requires started { number ≡ room.old.started }
+    requires few { room.old.captures ≤ 14 }
+    requires sound { room.old.failed ≡ false }
+    ensures read { ReadsByBoth room.old.format (track_at room.old.format number) (S.left source.old) (S.left source.new) room.old.used room.old.held room.new.held room.old.book room.new.book result }
+
+    // The source is read only where the bytes at hand do not tell the answer.
+    ensures needed { IsReadWhereNeeded (source_at S.left S.given S.faults source.old) (source_at S.left S.given S.faults source.new) room.old.used room.old.held }
+
+    // The room after the call.
+    ensures format { room.new.format ≡ room.old.format }
+    ensures held { length room.new.held ≤ 4096 }
+    ensures used { room.new.used ≡ true }
+    ensures next { room.new.next ≡ room.old.next }
+    ensures started { room.new.started ≡ number }
+    ensures captures { OnOk result (room.new.captures ≡ room.old.captures + 2) }
+    ensures shape { SameShape room.old.book room.new.book }
+    ensures sound { OnOk result (room.new.failed ≡ false) }
+    ensures failed { OnErr result (room.new.failed ≡ true) }
+
+    ensures cause { CaptureCause (S.faults source.old) (S.faults source.new) result }
+    ensures later { S.faults source.old ≤ S.faults source.new }
+{
+    tracks_keep_bounds();
+    let track = track_id(room.format, number);
+    room.failed = true;
+    match read_stream(source, &mut room.stream) {
+        Ok(()) => {}
+        Err(fault) => return Err(fault),
+    }
+    note_readings(
+        Clock::Following,
+        room.format,
+        track,
+        0,
+        room.stream.flux(),
+        &mut room.tools,
+    );
+    note_readings(
+        Clock::Held,
+        room.format,
+        track,
+        CLOCK_CELLS,
+        room.stream.flux(),
+        &mut room.tools,
+    );
+    room.captures += 2;
     room.failed = false;
     Ok(())
 }
@@ -149,19 +214,27 @@ fn read_stream<S: Source>(source: &mut S, stream: &mut StreamRoom) -> Result<(),
     }
 }
 
-/// Recovers the cells of a track and notes all readings of its sectors in the book, with the offset added to each cell.
-fn note_readings(format: Format, track: TrackId, offset: u64, flux: &TrackFlux, tools: &mut Tools)
+/// Recovers the cells of a track by a clock and notes all readings of its sectors in the book, with the offset added to each cell.
+fn note_readings(
+    clock: Clock,
+    format: Format,
+    track: TrackId,
+    offset: u64,
+    flux: &TrackFlux,
+    tools: &mut Tools,
+)
     requires track { IsTrack format track }
     requires bounded { IsBounded flux.now }
     requires offset { offset ≤ 15 * 2 ^ 32 }
     requires roomy { IsRoomy format tools.old.cells tools.old.book }
     requires knows { Knows (sectors_in format track) tools.old.book }
     requires few { tools.old.book.notes + MOST_READINGS ≤ 2 ^ 31 }
-    ensures noted { HasNoted format track flux.now.times flux.now.indexes offset tools.old.book tools.new.book }
+    ensures noted { HasNoted clock format track flux.now.times flux.now.indexes offset tools.old.book tools.new.book }
     ensures roomy { IsRoomy format tools.new.cells tools.new.book }
 {
     let turn = flux.first_turn_ticks();
-    let start = LoopStart::for_turn(nominal(format, track), turn, ring_cells(format, track));
+    let mean = LoopStart::for_turn(nominal(format, track), turn, ring_cells(format, track));
+    let start = start_by(clock, mean);
     match recover(flux, start, &mut tools.clock, &mut tools.cells) {
         Ok(()) => {}
         // There is room for 32 cells of each transition.
@@ -176,4 +249,16 @@ fn note_readings(format: Format, track: TrackId, offset: u64, flux: &TrackFlux, 
         offset,
         &mut tools.book,
     );
+}
+
+/// A start as a clock takes it: the held one keeps its first period.
+fn start_by(clock: Clock, start: LoopStart) -> LoopStart
+    requires { IsStart start }
+    ensures start { result ≡ start_of_clock clock start }
+    ensures bounds { IsStart result }
+{
+    match clock {
+        Clock::Following => start,
+        Clock::Held => start.held(),
+    }
 }

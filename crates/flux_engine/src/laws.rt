@@ -1,5 +1,6 @@
 //! What the definitions behind `decode_track` and `decode_disk` come to.
 
+ghost use Rattle.flux_engine.specs.ClockLaws.{ContradictionsAreNamed, DecodedReadingsLead, DecodedStaysGood, GoodIsRightByBoth, GoodReadingsStandByBoth, ReadingsByBothAreOne};
 ghost use Rattle.flux_engine.specs.DiskLaws.{EachHasOneVerdict, GoodIsRightOnDisks, LinesNameVerdicts, LinesTellVerdicts, OthersAreZeros, PartsFitImages, PartsStandAtTheirPlaces, ReportsHaveNoOtherLines, WholeDisksFillImages};
 ghost use Rattle.flux_engine.specs.Laws.{CutInputsLead, FirstTracksLead, GoodIsRight, OneOutcome, PartsStay};
 
@@ -84,4 +85,21 @@ pub fn lines_tell_verdicts()
     cells_are_few();
     tracks_keep_bounds();
     sectors_lie_in_images()
+}
+
+/// The readings of a stream by both clocks are one list. Each good one names a clock and a place of its cells which hold the sector,
+/// so that a sector is called good or contradictory only where the places that are named hold it; where it is good, all places
+/// of both clocks that hold it hold the bytes that the image has of it.
+///
+/// First of these readings are those from which the track is decoded; so a sector that decoding calls good is good, with the same
+/// place and the same bytes, or contradictory.
+pub fn both_clocks_are_right()
+    ensures one { ReadingsByBothAreOne }
+    ensures stand { GoodReadingsStandByBoth }
+    ensures good { GoodIsRightByBoth }
+    ensures contradictory { ContradictionsAreNamed }
+    ensures decoded { DecodedReadingsLead }
+    ensures stays { DecodedStaysGood }
+{
+    tracks_are_read()
 }

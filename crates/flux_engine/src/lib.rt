@@ -11,6 +11,7 @@
 #![tactic(auto)]
 
 mod capture;
+mod clock;
 mod disk;
 mod disk_streams;
 mod fault;
@@ -27,14 +28,18 @@ mod write_laws;
 mod write_room;
 mod writing;
 
-pub use capture::{bytes, read_capture, room_format, start_track, verdict, write_started_image};
+pub use capture::{
+    bytes, read_by_both_clocks, read_capture, room_format, start_track, verdict,
+    write_started_image,
+};
+pub use clock::Clock;
 pub use disk::{add_totals, decode_disk};
 pub use disk_streams::{fill, write_disk};
 pub use fault::{CaptureFault, EngineFault};
 pub use gathering::note_reading;
 pub use laws::{
-    good_is_right, good_is_right_on_disks, lines_tell_verdicts, outcomes_are_one,
-    parts_fill_images, parts_stay,
+    both_clocks_are_right, good_is_right, good_is_right_on_disks, lines_tell_verdicts,
+    outcomes_are_one, parts_fill_images, parts_stay,
 };
 pub use recordings::sectors_of;
 pub use ring_making::track_ring;

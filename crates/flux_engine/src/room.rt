@@ -34,7 +34,7 @@ pub struct DiskRoom {
     pub(crate) next: u32,
     /// The track whose readings the book has.
     pub(crate) started: u32,
-    /// The streams that were read for it.
+    /// The streams that were read for it; one that is read by both clocks counts twice.
     pub(crate) captures: u32,
     pub(crate) failed: bool,
 }

@@ -19,11 +19,11 @@ pub each-append : {X : Type 0} (P : X → Type 0) (xs ys : List X) → Each P xs
 each-append P [] ys first then = then
 each-append P (x ∷ xs) ys first then = (first.0, each-append P xs ys first.1 then)
 
-each-left : {X : Type 0} (P : X → Type 0) (xs ys : List X) → Each P (xs ++ ys) → Each P xs
+pub each-left : {X : Type 0} (P : X → Type 0) (xs ys : List X) → Each P (xs ++ ys) → Each P xs
 each-left P [] ys all = tt
 each-left P (x ∷ xs) ys all = (all.0, each-left P xs ys all.1)
 
-each-right : {X : Type 0} (P : X → Type 0) (xs ys : List X) → Each P (xs ++ ys) → Each P ys
+pub each-right : {X : Type 0} (P : X → Type 0) (xs ys : List X) → Each P (xs ++ ys) → Each P ys
 each-right P [] ys all = all
 each-right P (x ∷ xs) ys all = each-right P xs ys all.1
 

@@ -9,7 +9,7 @@ use Rattle.flux_engine.specs.Recordings.{cells_of}
 use Rattle.flux_engine.specs.Tracks.{IsPart, part_of, readings_of}
 
 -- readings that are moved by nothing
-moved_by_none : (readings : List NotedReading) → map (moved 0) readings ≡ readings
+pub moved_by_none : (readings : List NotedReading) → map (moved 0) readings ≡ readings
 moved_by_none [] = refl
 moved_by_none (r ∷ rs) =
     let here : moved 0 r ≡ r =

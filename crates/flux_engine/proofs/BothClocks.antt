@@ -1,0 +1,263 @@
+-- What the readings of one stream by both clocks come to.
+use Rattle.std.specs.Prelude.{◌≡◌, ◌⊎◌, ℕ, ◌+◌, Bool, true, false, not, ◌&&◌, cond, Contains, List, [], ◌∷◌, ◌++◌, drop, filter, find, if◌then◌else◌, is_none, is_some, length, map, nat_eq, replicate, unwrap_or, Option, Some, None, refl}
+use Rattle.std.specs.Str.{bytes_eq}
+use Rattle.std.proofs.Common.{ap, sym, subst, ◌∙◌, arith, inl, inr}
+use Rattle.std.proofs.lemmas.Bool.{eqb-true, eq-eqb}
+use Rattle.std.proofs.lemmas.List.Elements.{filter-append}
+use Rattle.std.proofs.lemmas.Slice.Eq.{bytes_eq-Decides}
+use Rattle.disk_recordings.specs.Laws.{TracksAreRead}
+use Rattle.disk_recordings.specs.Members.{header_at, sector_at}
+use Rattle.flux_base.specs.declared.track.TrackId.{TrackId}
+use Rattle.frame_law.specs.declared.reading.Reading.TheVariants.{Good as GoodFrame}
+use Rattle.sector_images.specs.Formats.{row}
+use Rattle.sector_images.specs.declared.format.Format.{Format}
+use Rattle.turn_merge.specs.Readings.{NotedReading, agreed, agreed_of, bad_ones, bytes_of, first_other, good_ones, verdict, verdict_of, verdict_with}
+use Rattle.turn_merge.specs.declared.verdict.Place.{Place}
+use Rattle.turn_merge.specs.declared.verdict.Verdict.{Verdict}
+use Rattle.turn_merge.specs.declared.verdict.Verdict.TheVariants.{Contradictory, Good}
+use Rattle.flux_engine.specs.Captured.{AreReadingsByBoth, moved, offset_of}
+use Rattle.flux_engine.specs.ClockLaws.{ContradictionsAreNamed, DecodedReadingsLead, DecodedStaysGood, GoodIsRightByBoth, GoodReadingsStandByBoth, IsNamedBy, IsRightlyContradictory, IsRightlyGoodByBoth, ReadingsByBothAreOne, StandsBy, StaysGoodOrIsContradicted, place_by}
+use Rattle.flux_engine.specs.Recordings.{cells_by, cells_of, sectors_of}
+use Rattle.flux_engine.specs.Tracks.{Found, readings_of}
+use Rattle.flux_engine.specs.declared.clock.Clock.{Clock}
+use Rattle.flux_engine.specs.declared.clock.Clock.TheVariants.{Following, Held}
+use Rattle.flux_engine.specs.lemmas.Each.{Each, each-append, each-at, each-filter, each-left, each-map, each-right, each-unfilter, each-unflat}
+use Rattle.flux_engine.specs.lemmas.GoodSectors.{Head, Named, agreed_head, and_both, each_named, head_of, is_good_of, of_found, same_bytes, some_bytes}
+use Rattle.flux_engine.specs.lemmas.OneCapture.{moved_by_none}
+
+each-through : {X Y : Type 0} (f : X → Y) (P : X → Type 0) (Q : Y → Type 0) → ((x : X) → P x → Q (f x)) → (xs : List X) → Each P xs → Each Q (map f xs)
+each-through f P Q step [] all = tt
+each-through f P Q step (x ∷ xs) all = (step x all.0, each-through f P Q step xs all.1)
+
+each-before : {X Y : Type 0} (f : X → Y) (Q : Y → Type 0) (xs : List X) → Each Q (map f xs) → Each (λ (x : X). Q (f x)) xs
+each-before f Q [] all = tt
+each-before f Q (x ∷ xs) all = (all.0, each-before f Q xs all.1)
+
+module _ {X : Type 0} (p : X → Bool) (P : X → Type 0) where
+  found_step : (x q : X) (b : Bool) (rest : Option X) → p x ≡ b → cond b (Some x) rest ≡ Some q → P x
+      → (rest ≡ Some q → P q × (p q ≡ true)) → P q × (p q ≡ true)
+  found_step x q true rest test is here later =
+      let same : x ≡ q = cc in
+      subst (λ (y : X). P y × (p y ≡ true)) same (here, test)
+  found_step x q false rest test is here later = later is
+
+  each-found : (xs : List X) (q : X) → Each P xs → find p xs ≡ Some q → P q × (p q ≡ true)
+  each-found [] q all is = absurd (cc)
+  each-found (x ∷ xs) q all is = found_step x q (p x) (find p xs) refl is all.0 (each-found xs q all.1)
+
+-- the first two of the good readings that differ, where the verdict is contradictory
+record Clash (goods : List NotedReading) (first other : Place) : Type 0 where
+  pub head : NotedReading
+  pub more : List NotedReading
+  pub all : goods ≡ head ∷ more
+  pub next : NotedReading
+  pub differs : first_other (bytes_of head) more ≡ Some next
+  pub place : head.place ≡ first
+  pub next_place : next.place ≡ other
+
+-- the place of the reading that differs
+record Differs (o : Option NotedReading) (p first other : Place) : Type 0 where
+  pub next : NotedReading
+  pub is : o ≡ Some next
+  pub place : p ≡ first
+  pub next_place : next.place ≡ other
+
+by_next : (g b : ℕ) (p : Place) (o : Option NotedReading) (good bad : ℕ) (first other : Place) → verdict_with g b p o ≡ Contradictory good bad first other → Differs o p first other
+by_next g b p None good bad first other is = absurd (cc)
+by_next g b p (Some next) good bad first other is = record { next = next; is = refl; place = cc; next_place = cc }
+
+clash : (goods bads : List NotedReading) (good bad : ℕ) (first other : Place) → verdict_of goods bads ≡ Contradictory good bad first other → Clash goods first other
+clash [] [] good bad first other is = absurd (cc)
+clash [] (b ∷ bs) good bad first other is = absurd (cc)
+clash (r ∷ more) bads good bad first other is =
+    let by = by_next (length (r ∷ more)) (length bads) r.place (first_other (bytes_of r) more) good bad first other is in
+    record { head = r; more = more; all = refl; next = by.next; differs = by.is; place = by.place; next_place = by.next_place }
+
+clash_of : (readings : List NotedReading) (sector good bad : ℕ) (first other : Place) → verdict readings sector ≡ Contradictory good bad first other
+    → Clash (good_ones readings sector) first other
+unfolding verdict
+clash_of readings sector good bad first other is = clash (good_ones readings sector) (bad_ones readings sector) good bad first other is
+
+not_true : (b : Bool) → not b ≡ true → b ≡ false
+not_true true is = absurd (cc)
+not_true false is = refl
+
+module _ (read : TracksAreRead) (format : Format) (track : TrackId) (times indexes : List ℕ) (readings : List NotedReading)
+    (both : AreReadingsByBoth format track times indexes readings) where
+  abbrev cells : Clock → List Bool
+  cells clock = cells_by clock format track times indexes
+
+  -- what a good reading by a clock says
+  abbrev Says : Clock → NotedReading → Type 0
+  Says clock r = (xs : List ℕ) → r.bytes ≡ Some xs
+      → (place : ℕ) × StandsBy clock format track times indexes place r.sector xs × (r.place ≡ place_by clock format track times indexes place)
+
+  abbrev NamedHere : Clock → NotedReading → Type 0
+  NamedHere clock r =
+      Named (header_at format track) (sector_at format track) (row format).sector_size (read.told format track) (read.all format track)
+      times indexes (cells clock) (both.each clock).found (both.each clock).all r
+
+  named_moved : (clock : Clock) (r : NotedReading) → NamedHere clock r → Says clock (moved (offset_of clock) r)
+  named_moved clock r says = λ xs is.
+      let here = says xs is in
+      (r.place.cell, here.0, ap (λ (p : Place). let moved_place : Place = record { turn = p.turn; cell = r.place.cell + offset_of clock } in moved_place) here.1)
+
+  clock_says : (clock : Clock) → Each (Says clock) (both.by_clock clock)
+  clock_says clock =
+      subst (Each (Says clock)) (sym (both.each clock).are)
+      (each-through (moved (offset_of clock)) (NamedHere clock) (Says clock) (named_moved clock)
+      (readings_of times indexes (cells clock) (both.each clock).found)
+      (each_named (header_at format track) (sector_at format track) (row format).sector_size (read.told format track) (read.all format track)
+      times indexes (cells clock) (both.each clock).found (both.each clock).all))
+
+  abbrev NamesOne : NotedReading → Type 0
+  NamesOne r = (xs : List ℕ) → r.bytes ≡ Some xs → IsNamedBy format track times indexes r.place r.sector xs
+
+  names_one : (clock : Clock) (r : NotedReading) → Says clock r → NamesOne r
+  names_one clock r says = λ xs is.
+      let here = says xs is in
+      record { clock = clock; place = here.0; is = here.2; stands = here.1 }
+
+  all_name : Each NamesOne readings
+  all_name =
+      subst (Each NamesOne) (sym both.joined)
+      (each-append NamesOne (both.by_clock Following) (both.by_clock Held)
+      (each-map (Says Following) NamesOne (names_one Following) (both.by_clock Following) (clock_says Following))
+      (each-map (Says Held) NamesOne (names_one Held) (both.by_clock Held) (clock_says Held)))
+
+  -- a good reading of a sector names a place where it stands
+  named_good : (sector : ℕ) (r : NotedReading) → NamesOne r → is_good_of sector r ≡ true → IsNamedBy format track times indexes r.place sector (bytes_of r)
+  named_good sector r names test =
+      let sides = and_both (nat_eq r.sector sector) (is_some r.bytes) test in
+      subst (λ (s : ℕ). IsNamedBy format track times indexes r.place s (bytes_of r)) (eqb-true r.sector sector sides.0) (names (bytes_of r) (some_bytes r.bytes sides.1))
+
+  abbrev NamesSector : (sector : ℕ) → NotedReading → Type 0
+  NamesSector sector r = IsNamedBy format track times indexes r.place sector (bytes_of r)
+
+  goods_name : (sector : ℕ) → Each (NamesSector sector) (good_ones readings sector)
+  goods_name sector =
+      each-map (λ (r : NotedReading). NamesOne r × (is_good_of sector r ≡ true)) (NamesSector sector) (λ r says. named_good sector r says.0 says.1) (good_ones readings sector)
+      (each-filter (is_good_of sector) NamesOne readings all_name)
+
+  module _ (sector : ℕ) (first : Place) (h : Head (good_ones readings sector) first) where
+    abbrev mine : List ℕ
+    mine = bytes_of h.head
+
+    abbrev HoldsMine : NotedReading → Type 0
+    HoldsMine r = is_good_of sector r ≡ true → bytes_of r ≡ mine
+
+    all_hold : Each HoldsMine (both.by_clock Following ++ both.by_clock Held)
+    all_hold =
+        subst (Each HoldsMine) both.joined
+        (each-unfilter (is_good_of sector) (λ (r : NotedReading). bytes_of r ≡ mine) readings (same_bytes (good_ones readings sector) first h))
+
+    clock_holds : (clock : Clock) → Each HoldsMine (both.by_clock clock)
+    clock_holds Following = each-left HoldsMine (both.by_clock Following) (both.by_clock Held) all_hold
+    clock_holds Held = each-right HoldsMine (both.by_clock Following) (both.by_clock Held) all_hold
+
+    agrees : (clock : Clock) (place : ℕ) (others : List ℕ) → StandsBy clock format track times indexes place sector others → others ≡ mine
+    agrees clock place others here =
+        let a = both.each clock in
+        let by_one = subst (Each HoldsMine) a.are (clock_holds clock) in
+        let before = each-before (moved (offset_of clock)) HoldsMine (readings_of times indexes (cells clock) a.found) by_one in
+        let found_of = of_found (header_at format track) (sector_at format track) (row format).sector_size (read.told format track) (read.all format track)
+        times indexes (cells clock) a.found a.all in
+        let per_found = each-unflat found_of (λ (r : NotedReading). HoldsMine (moved (offset_of clock) r)) a.found before in
+        let at = each-at (λ (f : Found). Each (λ (r : NotedReading). HoldsMine (moved (offset_of clock) r)) (found_of f)) a.found
+        (place, GoodFrame sector, others) per_found ((((read.all format track (cells clock) 0 a.found).0 a.all).good place sector others (omega arith)).1 here) in
+        at.0 (ap (λ (b : Bool). b && true) (eq-eqb sector sector refl))
+
+    rightly : IsRightlyGoodByBoth format track times indexes readings sector first
+    unfolding agreed
+    rightly =
+        let goods = subst (Each (NamesSector sector)) h.all (goods_name sector) in
+        record {
+          bytes = mine;
+          named = subst (λ (p : Place). IsNamedBy format track times indexes p sector mine) h.place goods.0;
+          in_image = ap (λ (o : Option (List ℕ)). unwrap_or o (replicate (sectors_of format track).size 0)) (agreed_head (good_ones readings sector) first h);
+          agreed = agrees;
+        }
+
+  rightly_contradictory : (sector : ℕ) (first other : Place) → Clash (good_ones readings sector) first other
+      → IsRightlyContradictory format track times indexes sector first other
+  rightly_contradictory sector first other c =
+      let mine : List ℕ = bytes_of c.head in
+      let goods = subst (Each (NamesSector sector)) c.all (goods_name sector) in
+      let next = each-found (λ (r : NotedReading). not (bytes_eq (bytes_of r) mine)) (NamesSector sector) c.more c.next goods.1 c.differs in
+      let unequal : bytes_eq (bytes_of c.next) mine ≡ false = not_true (bytes_eq (bytes_of c.next) mine) next.1 in
+      record {
+        bytes = mine;
+        others = bytes_of c.next;
+        named = subst (λ (p : Place). IsNamedBy format track times indexes p sector mine) c.place goods.0;
+        contradicted = subst (λ (p : Place). IsNamedBy format track times indexes p sector (bytes_of c.next)) c.next_place next.0;
+        differ = λ same.
+            let equal : bytes_eq (bytes_of c.next) mine ≡ true = (bytes_eq-Decides (bytes_of c.next) mine).1 same in
+            absurd (cc (equal, unequal));
+      }
+
+pub good_readings_stand : TracksAreRead → GoodReadingsStandByBoth
+good_readings_stand read format track times indexes readings both reading bytes has is =
+    each-at (NamesOne read format track times indexes readings both) readings reading (all_name read format track times indexes readings both) has bytes is
+
+pub good_by_both : TracksAreRead → GoodIsRightByBoth
+good_by_both read format track times indexes readings both sector good bad first is =
+    rightly read format track times indexes readings both sector first (head_of readings sector good bad first is)
+
+pub contradictions : TracksAreRead → ContradictionsAreNamed
+contradictions read format track times indexes readings both sector good bad first other is =
+    rightly_contradictory read format track times indexes readings both sector first other (clash_of readings sector good bad first other is)
+
+-- one list by each clock
+one_by_clock : TracksAreRead → (format : Format) (track : TrackId) (times indexes : List ℕ) (a b : List NotedReading)
+    → (p : AreReadingsByBoth format track times indexes a) (q : AreReadingsByBoth format track times indexes b) (clock : Clock) → p.by_clock clock ≡ q.by_clock clock
+one_by_clock read format track times indexes a b p q clock =
+    let cells = cells_by clock format track times indexes in
+    (p.each clock).are
+    ∙ ap (λ (found : List Found). map (moved (offset_of clock)) (readings_of times indexes cells found))
+    (read.one format track cells 0 (p.each clock).found (q.each clock).found (p.each clock).all (q.each clock).all)
+    ∙ sym (q.each clock).are
+
+pub one_by_both : TracksAreRead → ReadingsByBothAreOne
+one_by_both read format track times indexes a b p q =
+    p.joined
+    ∙ ap (λ (rs : List NotedReading). rs ++ p.by_clock Held) (one_by_clock read format track times indexes a b p q Following)
+    ∙ ap (λ (rs : List NotedReading). q.by_clock Following ++ rs) (one_by_clock read format track times indexes a b p q Held)
+    ∙ sym q.joined
+
+pub decoded_lead : TracksAreRead → DecodedReadingsLead
+decoded_lead read format track times indexes readings part both is =
+    let cells = cells_of format track times indexes in
+    let a = both.each Following in
+    let following : both.by_clock Following ≡ readings_of times indexes cells is.found =
+    a.are ∙ moved_by_none (readings_of times indexes cells a.found)
+    ∙ ap (λ (found : List Found). readings_of times indexes cells found) (read.one format track cells 0 a.found is.found a.all is.all) in
+    (both.by_clock Held, both.joined ∙ ap (λ (rs : List NotedReading). rs ++ both.by_clock Held) following)
+
+-- by whether another reading differs
+by_other : (g b : ℕ) (p first : Place) (bytes : List ℕ) (o : Option NotedReading) → p ≡ first
+    → ((good bad : ℕ) × (verdict_with g b p o ≡ Good good bad first) × ((if is_none o then Some bytes else None) ≡ Some bytes))
+    ⊎ ((good bad : ℕ) × (other : Place) × (verdict_with g b p o ≡ Contradictory good bad first other))
+by_other g b p first bytes None is = inl (g, b, ap (Good g b) is, refl)
+by_other g b p first bytes (Some q) is = inr (g, b, q.place, ap (λ (f : Place). Contradictory g b f q.place) is)
+
+stays : (xs rest : List NotedReading) (sector good bad : ℕ) (first : Place) → verdict xs sector ≡ Good good bad first
+    → StaysGoodOrIsContradicted xs (xs ++ rest) sector first
+unfolding verdict agreed
+stays xs rest sector good bad first is =
+    let h = head_of xs sector good bad first is in
+    let more : List NotedReading = h.more ++ good_ones rest sector in
+    let bads : List NotedReading = bad_ones (xs ++ rest) sector in
+    let goods : good_ones (xs ++ rest) sector ≡ h.head ∷ more =
+    filter-append (is_good_of sector) xs rest ∙ ap (λ (rs : List NotedReading). rs ++ good_ones rest sector) h.all in
+    let by = by_other (length (h.head ∷ more)) (length bads) h.head.place first (bytes_of h.head) (first_other (bytes_of h.head) more) h.place in
+    elim by [
+      | inl one ↦ inl (one.0, one.1, ap (λ (gs : List NotedReading). verdict_of gs bads) goods ∙ one.2, ap agreed_of goods ∙ one.3 ∙ sym (agreed_head (good_ones xs sector) first h))
+      | inr two ↦ inr (two.0, two.1, two.2, ap (λ (gs : List NotedReading). verdict_of gs bads) goods ∙ two.3)
+    ]
+
+pub decoded_stays : TracksAreRead → DecodedStaysGood
+decoded_stays read format track times indexes readings part both is sector good bad first verdict_is =
+    let cells = cells_of format track times indexes in
+    let lead = decoded_lead read format track times indexes readings part both is in
+    subst (λ (rs : List NotedReading). StaysGoodOrIsContradicted (readings_of times indexes cells is.found) rs sector first) (sym lead.1)
+    (stays (readings_of times indexes cells is.found) lead.0 sector good bad first verdict_is)
