@@ -354,14 +354,60 @@ def track_stream(chance, kinds, form, k, count=None):
     return b"".join(spell(blocks))
 
 
+# The pulses of a burst of noise, and the ticks of a microsecond
+
+BURST, MICROSECOND = 64, 24
+
+
+def with_burst(chance, kinds, times, start):
+    """Times with pulses put in a microsecond apart, as at a splice, dirt or a scratch."""
+    kinds.add("a burst of noise")
+    first = start + chance.randrange(MICROSECOND)
+    return sorted({*times, *range(first, first + BURST * MICROSECOND, MICROSECOND)})
+
+
+def drifting(places, turn, nominal, reach):
+    """Times of ones whose cell grows from the nominal one less `reach` of it to as much more, within a turn, and shrinks in the next."""
+    ideal, at, times = 0, -1, []
+    for place in places:
+        along = abs(place / turn % 2 - 1)
+        ideal += (place - at) * int(nominal * (1 - reach + 2 * reach * along))
+        at = place
+        times.append(ideal // 1024)
+    return times
+
+
+def noisy_track(chance, kinds, form, k):
+    """A track as it is written, with a burst early in each revolution, one in the middle, or drift by a tenth or two over a turn."""
+    cylinder = form.tracks[k][0]
+    nominal = form.nominal(cylinder)
+    ring, cells, turns = written_track(chance, form, k)
+    places = places_of_ones(cells)
+    reach = chance.choice([0.05, 0.1]) if one_in(chance, 3) else 0
+    times = drifting(places, len(ring), nominal, reach)
+    if reach:
+        kinds.add("drift by a tenth" if reach < 0.1 else "drift by a fifth")
+    indexes = [(turn + 1) * nominal // 1024 for turn in turns]
+    if not reach or one_in(chance, 3):
+        early = chance.randrange(2000)
+        for start in chance.choice([indexes[:1], indexes, [index + len(ring) * nominal // 2048 for index in indexes]]):
+            times = with_burst(chance, kinds, times, start + early)
+    return stream_of_times(times, sorted({min(index, times[-1] - 1) for index in indexes}))
+
+
+def written_track(chance, form, k):
+    """The ring of a track with any data, the cells that are written of it, and the places of its indexes."""
+    image = bytearray(form.image_bytes)
+    image[form.places[k] : form.places[k + 1]] = random_data(chance, form.track_bytes(k))
+    ring = form.ring_of(bytes(image), k)
+    return ring, *written_cells(ring)
+
+
 def whole_track(chance, kinds, form, k):
     """A track as it is written, three revolutions and a half, disturbed."""
     kinds.add("a whole track of three revolutions and a half")
     cylinder = form.tracks[k][0]
-    image = bytearray(form.image_bytes)
-    image[form.places[k] : form.places[k + 1]] = random_data(chance, form.track_bytes(k))
-    ring = form.ring_of(bytes(image), k)
-    cells, turns = written_cells(ring)
+    _, cells, turns = written_track(chance, form, k)
     times, period = times_of(chance, kinds, cells, form.nominal(cylinder))
     times = holed(chance, kinds, times, form.nominal(cylinder))
     indexes = [min((turn + 1) * period // 1024, times[-1] - 1) for turn in turns]

@@ -3,7 +3,7 @@ import struct
 
 import plain
 from case_streams import FILLER, SHORTEST, faulty, few_blocks, one_in, spell, too_long
-from case_tracks import random_data, track_stream, whole_track
+from case_tracks import noisy_track, random_data, track_stream, whole_track
 from plain import FORMATS
 from plain_streams import LIMIT
 
@@ -45,7 +45,8 @@ def case_turns(chance, kinds, built):
 def reader(chance, kinds, built):
     """Words that read the streams of a disk, the format, and the captures of a track."""
     form = chance.choice(list(FORMATS.values()))
-    command = chance.choice([b"decode", b"decode", b"report"] + [b"decode-set"] * 2 * (b"decode-set" in built))
+    more = [word for word in (b"decode-set", b"rescue") if word in built]
+    command = chance.choice([b"decode", b"decode", b"report"] + 2 * more)
     kinds.add(f"format {form.word}")
     words, captures = [command, form.word.encode()], 1
     if command == b"decode-set":
@@ -95,6 +96,16 @@ def case_whole_track(chance, kinds, built):
     words, form, captures = reader(chance, kinds, built)
     at = chance.choice([0, len(form.tracks) - 1, chance.randrange(len(form.tracks))])
     data = [FILLER] * (at * captures) + [whole_track(chance, kinds, form, at) for _ in range(captures if captures < 3 else 1)]
+    return words, b"".join(data)
+
+
+def case_noisy_track(chance, kinds, built):
+    """A whole track with bursts of noise, or one whose speed drifts far, mostly by both clocks."""
+    words, form, captures = reader(chance, kinds, built)
+    if b"rescue" in built and not one_in(chance, 4):
+        words, captures = [b"rescue", form.word.encode()], 1
+    at = chance.choice([0, len(form.tracks) - 1, chance.randrange(len(form.tracks))])
+    data = [FILLER] * (at * captures) + [noisy_track(chance, kinds, form, at) for _ in range(captures if captures < 3 else 1)]
     return words, b"".join(data)
 
 
@@ -243,6 +254,7 @@ TABLE = [
     ("few blocks for a disk", 2000, case_small_disk, None),
     ("sectors on tracks", 2900, case_tracks, None),
     ("whole tracks", 150, case_whole_track, None),
+    ("whole tracks with noise or drift", 150, case_noisy_track, None),
     ("noise", 300, case_noise, None),
     ("streams at the limit", 60, case_too_long, None),
     ("images of any size", 360, case_wrong_size, None),

@@ -55,6 +55,9 @@ PROBES = {b"decode": [b"ibm-3740"], b"report": [b"ibm-3740"], b"write": [b"ibm-3
           b"to-g64": [b"c1541"], b"from-g64": [b"c1541"], b"decode-set": [b"apple-do", b"2"],
           b"decode-folder": [b"apple-do", b"/nowhere"]}
 
+# The same of words that the usage line does not name.
+MORE_PROBES = {b"rescue": [b"apple-do"]}
+
 
 def commands_of(program):
     """The usage line, and the commands that it offers and that are built."""
@@ -63,7 +66,8 @@ def commands_of(program):
     if code != 3 or out or usage.decode() not in plain.USAGES:
         sys.exit(f"no usage line of flux: {usage!r}")
     offered = [word for word in PROBES if b"| " + word + b" " in usage]
-    return usage, {word for word in offered if run(program, [word, *PROBES[word]], b"", False)[0] != 3}
+    asked = {word: PROBES[word] for word in offered} | MORE_PROBES
+    return usage, {word for word, rest in asked.items() if run(program, [word, *rest], b"", False)[0] != 3}
 
 
 def one(task):

@@ -138,16 +138,27 @@ def turn_of(stream, cells, place):
     return bisect.bisect_right(stream.indexes, time)
 
 
+def read_by(form, k, stream, clock=0, prefix=""):
+    """The readings of a stream for a track, by one of the two clocks."""
+    cylinder, head = form.tracks[k]
+    cells = recovered(stream, form.nominal(cylinder), form.ring_cells(cylinder), clock)
+    found = readings(form.recording, cells, cylinder, head)
+    return [(f"{prefix}{turn_of(stream, cells, p)} {p}", sector, content) for p, sector, content in found]
+
+
 def capture(form, k, data, place, prefix=""):
     """The stream at a place, and its readings for a track."""
     stream = Stream(data, place)
-    cylinder, head = form.tracks[k]
-    cells = recovered(stream, form.nominal(cylinder), form.ring_cells(cylinder))
-    found = readings(form.recording, cells, cylinder, head)
-    return stream, [(f"{prefix}{turn_of(stream, cells, p)} {p}", sector, content) for p, sector, content in found]
+    return stream, read_by(form, k, stream, 0, prefix)
 
 
-def decoded(form, data, captures=None):
+def rescued(form, k, data, place):
+    """The stream at a place, and its readings for a track by clock 0 and then by clock 1."""
+    stream = Stream(data, place)
+    return stream, read_by(form, k, stream, 0, "0 ") + read_by(form, k, stream, 1, "1 ")
+
+
+def decoded(form, data, captures=None, both_clocks=False):
     """The answer and the refused line's text, or None where nothing is refused."""
     answer, place = Answer(form), 0
     for k in range(len(form.tracks)):
@@ -156,7 +167,10 @@ def decoded(form, data, captures=None):
             if (k, q) != (0, 0):
                 place += padding_at(data, place)
             try:
-                stream, entries = capture(form, k, data, place, f"{q} " if captures else "")
+                if both_clocks:
+                    stream, entries = rescued(form, k, data, place)
+                else:
+                    stream, entries = capture(form, k, data, place, f"{q} " if captures else "")
             except Refused as stop:
                 which = f"track {k} capture {q}" if captures else f"track {k}"
                 return answer, f"refused {which} {stop.text()}\n"
@@ -286,8 +300,8 @@ def is_number(text, digits, least, most):
     return 1 <= len(text) <= digits and all(48 <= byte <= 57 for byte in text) and least <= int(text) <= most
 
 
-def decode(form, data, captures=None):
-    answer, refused = decoded(form, data, captures)
+def decode(form, data, captures=None, both_clocks=False):
+    answer, refused = decoded(form, data, captures, both_clocks)
     code = 2 if refused else answer.end()
     return code, b"".join(answer.image), ("".join(answer.lines) + (refused or "")).encode()
 
@@ -344,6 +358,7 @@ def commodore(form):
 COMMANDS = {
     b"decode": (any_format, None, lambda form, last, data: decode(form, data)),
     b"report": (any_format, None, lambda form, last, data: report(form, data)),
+    b"rescue": (any_format, None, lambda form, last, data: decode(form, data, both_clocks=True)),
     b"write": (any_format, None, lambda form, last, data: write(form, data)),
     b"trial": (any_format, lambda last: is_number(last, 10, 0, 2**32 - 1),
                lambda form, last, data: (0, trial_line(form, int(last)).encode(), b"")),

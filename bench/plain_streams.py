@@ -127,12 +127,12 @@ def padding_at(data, place):
 
 # The loop
 
-def band(value, nominal):
-    return min(max(value, 3 * nominal // 4), 5 * nominal // 4)
+def band(value, ends):
+    return min(max(value, ends[0]), ends[1])
 
 
-def counts(times, nominal, first):
-    """The counts of the intervals. `total` is that of all counts up to each transition."""
+def counts(times, ends, first):
+    """The counts of the intervals. `total` is that of all counts up to each transition, `ends` are those of the period's band."""
     tau = [1024 * time for time in times]
     out, total, period, place, restart = [], [0], first, tau[0] if tau else 0, 0
     for i in range(1, len(tau)):
@@ -143,18 +143,20 @@ def counts(times, nominal, first):
             place = (place + n * period + tau[i]) // 2
         out.append(n)
         total.append(total[-1] + n)
-        period = first if i - restart < 64 else band((tau[i] - tau[i - 64]) // (total[i] - total[i - 64]), nominal)
+        period = first if i - restart < 64 else band((tau[i] - tau[i - 64]) // (total[i] - total[i - 64]), ends)
     return out
 
 
 RUNS = ["0" * (n - 1) + "1" for n in range(33)]
 
 
-def recovered(stream, nominal, ring_cells):
-    first = band(1024 * (stream.indexes[1] - stream.indexes[0]) // ring_cells, nominal)
+def recovered(stream, nominal, ring_cells, clock=0):
+    """The cells by clock 0, or by clock 1, whose band has the first period as both its ends."""
+    ends = 3 * nominal // 4, 5 * nominal // 4
+    first = band(1024 * (stream.indexes[1] - stream.indexes[0]) // ring_cells, ends)
     if not stream.times:
         return ""
-    return "1" + "".join([RUNS[n] for n in counts(stream.times, nominal, first)])
+    return "1" + "".join([RUNS[n] for n in counts(stream.times, (ends, (first, first))[clock], first)])
 
 
 # Written streams
