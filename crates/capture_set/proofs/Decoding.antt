@@ -28,7 +28,7 @@ use Rattle.capture_set.specs.Progress.{HasCaptured, HasCome, HasDecodedSet, Stop
 use Rattle.capture_set.specs.Sets.{AreSetParts, DecodedSet, IsSetPartAt, SetStop, decoded_set_of, joined, set_count, set_part_of, set_stop_of}
 use Rattle.capture_set.specs.declared.fault.SetFault.{SetFault}
 use Rattle.capture_set.specs.declared.fault.SetFault.TheVariants.{ReadFault, ImageFault, NotesFault, Refused}
-use Rattle.capture_set.proofs.Coming.{come_same, come_start, several_behind}
+use Rattle.capture_set.specs.lemmas.Coming.{come_same, come_start, several_behind}
 use Rattle.capture_set.proofs.Parts.{no_set_stop, parts-more, set_stop_is}
 
 pub set_start : (format : Format) (count : ℕ) (left image notes : Option (List ℕ)) (room : RoomState) (totals : Totals)

@@ -1,4 +1,3 @@
-pub mod Coming
 pub mod Parts
 pub mod Decoding
 pub mod Telling

@@ -34,7 +34,7 @@ use Rattle.capture_set.specs.Progress.{HasCaptured, HasCome, StopsAt, WasStopped
 use Rattle.capture_set.specs.Sets.{AreCaptures, AreReadingsOfCapture, AreSetParts, IsSetPartAt, SetStop, joined, set_stop_at, set_stop_of}
 use Rattle.capture_set.specs.declared.fault.SetFault.{SetFault}
 use Rattle.capture_set.specs.declared.fault.SetFault.TheVariants.{ReadFault, Refused}
-use Rattle.capture_set.proofs.Coming.{clean_before, come_more, come_same, stream_is, taken_behind}
+use Rattle.capture_set.specs.lemmas.Coming.{clean_before, come_more, come_same, stream_is, taken_behind}
 
 no_part : TrackPart
 no_part = record { image = []; lines = []; totals = no_totals }

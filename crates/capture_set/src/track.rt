@@ -66,7 +66,7 @@ pub(crate) fn read_captures<S: Source>(
 }
 
 /// Writes what the gathered readings of a track come to: its part of the image, and then its lines.
-pub(crate) fn write_set_part<W: Sink, N: Sink>(
+pub fn write_set_part<W: Sink, N: Sink>(
     room: &DiskRoom,
     number: u32,
     image: &mut W,

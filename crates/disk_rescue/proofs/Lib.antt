@@ -1,0 +1,4 @@
+pub mod Parts
+pub mod Rescuing
+pub mod Telling
+pub mod Outcomes

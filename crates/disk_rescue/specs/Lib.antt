@@ -1,0 +1,4 @@
+pub mod Rescued
+pub mod Answers
+pub mod Progress
+pub mod Laws
