@@ -1,0 +1,3 @@
+mod dumps;
+mod runs;
+mod shelves;
