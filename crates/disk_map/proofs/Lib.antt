@@ -1,0 +1,7 @@
+pub mod Drawing
+pub mod Tracks
+pub mod Telling
+pub mod Joined
+pub mod Reports
+pub mod Outcomes
+pub mod Fields

@@ -1,0 +1,21 @@
+use Rattle.std.proofs.Common.{◌≡◌, ◌≤◌, List}
+use Rattle.std.specs.Prelude.{map}
+use Rattle.std.specs.List.{flat_map, range_with_len}
+use Rattle.std.specs.Io.KnownBytes.{Appends}
+use Rattle.turn_merge.specs.Book.{StandsFor}
+use Rattle.turn_merge.specs.Readings.{NotedReading, verdict}
+use Rattle.flux_engine.specs.Tracks.{totals_of}
+use Rattle.flux_engine.specs.Writing.{IsSum}
+use Rattle.disk_map.specs.Texts.{field_text}
+use Rattle.disk_map.proofs.track.write_fields.Given as goal
+
+abbrev pub invariant-loop-index : goal.invariant-loop-index
+invariant-loop-index g l = record {
+  grew : (readings : List NotedReading) → StandsFor l.room.book readings
+      → Appends (g.P.Sink.written l.initial.picture) (g.P.Sink.written l.picture) (flat_map (λ sector. field_text l.layout l.track sector (verdict readings sector)) (range_with_len l.sectors.first l.index));
+  counted : (readings : List NotedReading) → StandsFor l.room.book readings
+      → l.totals ≡ totals_of (map (verdict readings) (range_with_len l.sectors.first l.index));
+  sum : IsSum l.totals;
+  number : l.totals.sectors ≡ l.index;
+  later : g.P.Sink.faults l.initial.picture ≤ g.P.Sink.faults l.picture;
+}

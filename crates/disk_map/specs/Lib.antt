@@ -1,0 +1,7 @@
+pub mod Looks
+pub mod Places
+pub mod Texts
+pub mod Maps
+pub mod Answers
+pub mod Progress
+pub mod Laws

@@ -1,0 +1,148 @@
+ghost use Rattle.std.specs.Prelude.{◌≡◌, ◌+◌, ◌≤◌, ℕ, List, Some, flat_map, length, OnErr, IfOk};
+ghost use Rattle.std.specs.List.{range_with_len};
+ghost use Rattle.flux_base.specs.Moments.{Puts, moment};
+ghost use Rattle.flux_engine.specs.Answers.{Stayed};
+ghost use Rattle.flux_engine.specs.Needed.{EndsInStreams, ReadsWhereOpen};
+ghost use Rattle.flux_engine.specs.Room.{fresh};
+ghost use Rattle.kryo_stream.specs.Reads.{source_at};
+ghost use Rattle.sector_images.specs.Places.{tracks};
+ghost use Rattle.disk_map.specs.Answers.{IsWholeOrRefused, MapCause, MapsDisk, SaysOfMapInput};
+ghost use Rattle.disk_map.specs.Places.{layout_of};
+ghost use Rattle.disk_map.specs.Progress.{EndsEarly, HasMapped};
+ghost use Rattle.disk_map.specs.Texts.{grid_text, grids_text, top_text};
+
+use crate::fault::MapFault;
+use crate::layout::Layout;
+use crate::text::write_text;
+use crate::texts::{begin_text, foot_text, grid_text, labels};
+use crate::track::map_track;
+use flux_base::{Failed, Sink, Source, write_whole};
+use flux_engine::{DiskRoom, add_totals, no_totals, room_format};
+use sector_images::{Format, track_count, tracks_keep_bounds};
+use sector_report::{Totals, refused_line, total_line};
+
+/// Draws a disk: reads the streams of its tracks in order, as `decode_disk` of the engine does, and writes the picture of what they
+/// come to, the fields of each track as soon as it is read. No answer is for want of memory.
+///
+/// What stands after the last stream is not looked at. After a fault of the source or of the sink nothing more is read or
+/// written. Where a stream is refused, the picture of the tracks before it is brought to its end, and says why.
+pub fn map_disk<S: Source, P: Sink>(
+    room: &mut DiskRoom,
+    source: &mut S,
+    picture: &mut P,
+) -> Result<Totals, MapFault>
+    requires { room.old ≡ fresh room.old.format }
+    ensures mapped { MapsDisk room.old.format (S.left source.old) (S.left source.new) (P.written picture.old) (P.written picture.new) result }
+    ensures told { (bytes : List ℕ) → S.left source.old ≡ Some bytes → SaysOfMapInput room.old.format bytes (S.left source.new) (P.written picture.old) (P.written picture.new) result }
+
+    // A source that tells its bytes is read only where those that it gave before end inside a stream.
+    ensures needed { (bytes : List ℕ) → S.left source.old ≡ Some bytes → ReadsWhereOpen (EndsInStreams room.old.format) (source_at S.left S.given S.faults source.old) (source_at S.left S.given S.faults source.new) }
+
+    ensures cause { MapCause (S.faults source.old) (S.faults source.new) (P.faults picture.old) (P.faults picture.new) result }
+
+    // Over a source and a sink that do not fail there is no other answer.
+    ensures complete { Stayed (S.faults source.old) (S.faults source.new) → Stayed (P.faults picture.old) (P.faults picture.new) → IsWholeOrRefused result }
+    ensures source_later { S.faults source.old ≤ S.faults source.new }
+    ensures picture_later { P.faults picture.old ≤ P.faults picture.new }
+{
+    let format = room_format(room);
+    let totals = match map_tracks(room, format, source, picture) {
+        Ok(totals) => totals,
+        Err(fault) => return Err(fault),
+    };
+    let foot = foot_text(Layout::of_format(format), &totals, &total_line(&totals));
+    match write_text(picture, &foot) {
+        Ok(()) => Ok(totals),
+        Err(_) => Err(MapFault::PictureFault),
+    }
+}
+
+/// Draws what stands before the fields, and all tracks in order, and gives the totals of all. Where a stream is refused, it
+/// draws the foot too.
+fn map_tracks<S: Source, P: Sink>(
+    room: &mut DiskRoom,
+    format: Format,
+    source: &mut S,
+    picture: &mut P,
+) -> Result<Totals, MapFault>
+    requires fresh { room.old ≡ fresh room.old.format }
+    requires format { format ≡ room.old.format }
+    ensures ok { IfOk result (λ totals. HasMapped format (S.left source.old) (S.left source.new) (P.written picture.old) (P.written picture.new) room.new (length (tracks format)) totals) }
+    ensures needed { (bytes : List ℕ) → S.left source.old ≡ Some bytes → ReadsWhereOpen (EndsInStreams format) (source_at S.left S.given S.faults source.old) (source_at S.left S.given S.faults source.new) }
+    ensures err { OnErr result (MapsDisk format (S.left source.old) (S.left source.new) (P.written picture.old) (P.written picture.new) result) }
+    ensures cause { MapCause (S.faults source.old) (S.faults source.new) (P.faults picture.old) (P.faults picture.new) result }
+    ensures source_later { S.faults source.old ≤ S.faults source.new }
+    ensures picture_later { P.faults picture.old ≤ P.faults picture.new }
+{
+    tracks_keep_bounds();
+    match write_top(format, picture) {
+        Ok(()) => {}
+        Err(_) => return Err(MapFault::PictureFault),
+    }
+    let mut totals = no_totals();
+    for number in 0..track_count(format) {
+        match map_track(room, number, source, picture) {
+            Ok(more) => add_totals(&mut totals, more),
+            Err(fault) => return Err(end_early(format, &totals, fault, picture)),
+        }
+    }
+    Ok(totals)
+}
+
+/// Writes the foot of a picture of which a stream was refused. After another fault nothing is written.
+fn end_early<P: Sink>(format: Format, totals: &Totals, fault: MapFault, picture: &mut P) -> MapFault
+    ensures { EndsEarly format totals.now (moment P.written P.faults picture.old) (moment P.written P.faults picture.new) fault result }
+{
+    match fault {
+        MapFault::Refused {
+            track,
+            block,
+            fault: stream_fault,
+        } => {
+            let last = refused_line(track, block, &stream_fault);
+            match write_text(
+                picture,
+                &foot_text(Layout::of_format(format), totals, &last),
+            ) {
+                Ok(()) => fault,
+                Err(_) => MapFault::PictureFault,
+            }
+        }
+        MapFault::ReadFault => MapFault::ReadFault,
+        MapFault::PictureFault => MapFault::PictureFault,
+    }
+}
+
+/// Writes what stands before the fields.
+fn write_top<P: Sink>(format: Format, picture: &mut P) -> Result<(), Failed>
+    ensures { Puts (moment P.written P.faults picture.old) (moment P.written P.faults picture.new) (top_text format) result }
+{
+    let layout = Layout::of_format(format);
+    match write_text(picture, &begin_text(format, layout)) {
+        Ok(()) => write_grids(layout, picture),
+        Err(failed) => Err(failed),
+    }
+}
+
+/// Writes the numbers at the sides, and the empty grid of each head.
+fn write_grids<P: Sink>(layout: Layout, picture: &mut P) -> Result<(), Failed>
+    ensures { Puts (moment P.written P.faults picture.old) (moment P.written P.faults picture.new) (grids_text layout) result }
+{
+    match write_whole(picture, labels().as_bytes()) {
+        Ok(()) => write_each_grid(layout, picture),
+        Err(failed) => Err(failed),
+    }
+}
+
+/// Writes the empty grid of each head.
+fn write_each_grid<P: Sink>(layout: Layout, picture: &mut P) -> Result<(), Failed>
+    ensures { Puts (moment P.written P.faults picture.old) (moment P.written P.faults picture.new) (flat_map (grid_text layout) (range_with_len 0 (layout.last.head + 1))) result }
+{
+    for head in 0..u32::from(layout.last.head) + 1 {
+        match write_text(picture, &grid_text(layout, head)) {
+            Ok(()) => {}
+            Err(failed) => return Err(failed),
+        }
+    }
+    Ok(())
+}

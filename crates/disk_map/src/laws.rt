@@ -1,0 +1,28 @@
+//! What a picture tells.
+
+ghost use Rattle.disk_map.specs.Laws.{ColoursTell, EachSectorHasItsField, MapsAreOfReports, OneMap, ShapesTell};
+
+use disk_recordings::tracks_are_read;
+
+/// A field tells its verdict by its colour, and by its shape alone.
+pub fn fields_tell_verdicts()
+    ensures colours { ColoursTell }
+    ensures shapes { ShapesTell }
+{}
+
+/// Each sector of a track has its field: the colour and the shape of its verdict, at its place, with its line of the report as title.
+pub fn each_sector_has_its_field()
+    ensures { EachSectorHasItsField }
+{}
+
+/// The tracks of a picture are those of the report of the same input, by the same readings, with its totals and its stop.
+pub fn maps_are_of_reports()
+    ensures { MapsAreOfReports }
+{}
+
+/// An input comes to one picture.
+pub fn maps_are_one()
+    ensures { OneMap }
+{
+    tracks_are_read()
+}
