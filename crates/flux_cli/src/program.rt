@@ -1,15 +1,17 @@
-ghost use Rattle.std.specs.Prelude.{◌≢◌, Some};
+ghost use Rattle.std.specs.Prelude.{◌≢◌, ◌≤◌, Some};
 ghost use Rattle.flux_base.specs.Moments.{moment};
 ghost use Rattle.flux_base.specs.declared.status.Status.{Status};
 ghost use Rattle.flux_cli.specs.Captured.{FolderCaptured, FolderErased, RunsCaptured, RunsErased};
+ghost use Rattle.flux_cli.specs.Commands.{command_for};
 ghost use Rattle.flux_cli.specs.FolderRuns.{Ran, on, shelf_moment, surroundings};
 ghost use Rattle.flux_cli.specs.Runs.{Does, RanOverSource, outside};
-ghost use Rattle.flux_cli.specs.declared.command.Command.TheVariants.{Turns};
+ghost use Rattle.flux_cli.specs.declared.command.Command.TheVariants.{DecodeSet, FromG64, ToG64, Trial, Turns, Write};
 ghost use Rattle.kryo_stream.specs.Room.{IsFresh};
 
 use crate::command::{Command, Output, command_of};
 use crate::disks::decode;
 use crate::folder::{decode_folder, folder_of};
+use crate::g64_disk::G64Disk;
 use crate::g64_files::{from_file, to_file};
 use crate::images::write;
 use crate::pages::tell;
@@ -22,7 +24,7 @@ use flux_engine::{DiskRoom, WriteRoom};
 use flux_trial::TrialRoom;
 use g64_image::G64Room;
 use kryo_stream::{RoomFault, StreamRoom};
-use sector_images::words_name_formats;
+use sector_images::{Format, words_name_formats};
 use sector_report::{refused_line, usage_line, write_line};
 use std::alloc::Global;
 use track_shelf::Shelf;
@@ -114,39 +116,151 @@ fn run_over_source<S: Source, W: Sink, N: Sink>(
             Ok(()) => Status::Usage,
             Err(_) => Status::NotesFault,
         },
-        Some(Command::Turns) => match StreamRoom::reserve(alloc) {
-            Ok(mut room) => turns(&mut room, source, image, notes),
-            Err(Memory) => Status::Memory,
-        },
-        Some(Command::Decode(format)) => match DiskRoom::reserve(alloc, format) {
-            Ok(mut room) => decode(&mut room, Output::ImageAndReport, source, image, notes),
-            Err(Memory) => Status::Memory,
-        },
-        Some(Command::Report(format)) => match DiskRoom::reserve(alloc, format) {
-            Ok(mut room) => decode(&mut room, Output::ReportAlone, source, image, notes),
-            Err(Memory) => Status::Memory,
-        },
-        Some(Command::Write(format)) => match WriteRoom::reserve(alloc, format) {
-            Ok(mut room) => write(&mut room, source, image, notes),
-            Err(Memory) => Status::Memory,
-        },
-        Some(Command::Trial(format, seed)) => match TrialRoom::reserve(alloc, format) {
-            Ok(mut room) => trial(&mut room, seed, source, image, notes),
-            Err(Memory) => Status::Memory,
-        },
-        Some(Command::ToG64(disk)) => match G64Room::reserve(alloc, disk.format()) {
-            Ok(mut room) => to_file(&mut room, source, image, notes),
-            Err(Memory) => Status::Memory,
-        },
-        Some(Command::FromG64(disk)) => match G64Room::reserve(alloc, disk.format()) {
-            Ok(mut room) => from_file(&mut room, source, image, notes),
-            Err(Memory) => Status::Memory,
-        },
-        Some(Command::DecodeSet(format, count)) => match DiskRoom::reserve(alloc, format) {
-            Ok(mut room) => decode_captures(&mut room, count, source, image, notes),
-            Err(Memory) => Status::Memory,
-        },
+        Some(Command::Turns) => run_turns(alloc, source, image, notes),
+        Some(Command::Decode(format)) => {
+            run_decode(alloc, format, Output::ImageAndReport, source, image, notes)
+        }
+        Some(Command::Report(format)) => {
+            run_decode(alloc, format, Output::ReportAlone, source, image, notes)
+        }
+        Some(Command::Write(format)) => run_write(alloc, format, source, image, notes),
+        Some(Command::Trial(format, seed)) => run_trial(alloc, format, seed, source, image, notes),
+        Some(Command::ToG64(disk)) => run_to_file(alloc, disk, source, image, notes),
+        Some(Command::FromG64(disk)) => run_from_file(alloc, disk, source, image, notes),
+        Some(Command::DecodeSet(format, count)) => {
+            run_set(alloc, format, count, source, image, notes)
+        }
         Some(Command::Tell(page)) => tell(page, source, image, notes),
+    }
+}
+
+/// Runs the command `turns` in a room of its own.
+fn run_turns<S: Source, W: Sink, N: Sink>(
+    alloc: Global,
+    source: &mut S,
+    image: &mut W,
+    notes: &mut N,
+) -> Status
+    ensures { Does (Some Turns) result
+        (outside (moment S.left S.faults source.old) (S.given source.old) (moment W.written W.faults image.old) (moment N.written N.faults notes.old))
+        (outside (moment S.left S.faults source.new) (S.given source.new) (moment W.written W.faults image.new) (moment N.written N.faults notes.new)) }
+{
+    match StreamRoom::reserve(alloc) {
+        Ok(mut room) => turns(&mut room, source, image, notes),
+        Err(Memory) => Status::Memory,
+    }
+}
+
+/// Runs the command `decode` or `report` in a room of its own.
+fn run_decode<S: Source, W: Sink, N: Sink>(
+    alloc: Global,
+    format: Format,
+    output: Output,
+    source: &mut S,
+    image: &mut W,
+    notes: &mut N,
+) -> Status
+    ensures { Does (Some (command_for output format)) result
+        (outside (moment S.left S.faults source.old) (S.given source.old) (moment W.written W.faults image.old) (moment N.written N.faults notes.old))
+        (outside (moment S.left S.faults source.new) (S.given source.new) (moment W.written W.faults image.new) (moment N.written N.faults notes.new)) }
+{
+    match DiskRoom::reserve(alloc, format) {
+        Ok(mut room) => decode(&mut room, output, source, image, notes),
+        Err(Memory) => Status::Memory,
+    }
+}
+
+/// Runs the command `write` in a room of its own.
+fn run_write<S: Source, W: Sink, N: Sink>(
+    alloc: Global,
+    format: Format,
+    source: &mut S,
+    image: &mut W,
+    notes: &mut N,
+) -> Status
+    ensures { Does (Some (Write format)) result
+        (outside (moment S.left S.faults source.old) (S.given source.old) (moment W.written W.faults image.old) (moment N.written N.faults notes.old))
+        (outside (moment S.left S.faults source.new) (S.given source.new) (moment W.written W.faults image.new) (moment N.written N.faults notes.new)) }
+{
+    match WriteRoom::reserve(alloc, format) {
+        Ok(mut room) => write(&mut room, source, image, notes),
+        Err(Memory) => Status::Memory,
+    }
+}
+
+/// Runs the command `trial` in a room of its own.
+fn run_trial<S: Source, W: Sink, N: Sink>(
+    alloc: Global,
+    format: Format,
+    seed: u32,
+    source: &mut S,
+    image: &mut W,
+    notes: &mut N,
+) -> Status
+    ensures { Does (Some (Trial format seed)) result
+        (outside (moment S.left S.faults source.old) (S.given source.old) (moment W.written W.faults image.old) (moment N.written N.faults notes.old))
+        (outside (moment S.left S.faults source.new) (S.given source.new) (moment W.written W.faults image.new) (moment N.written N.faults notes.new)) }
+{
+    match TrialRoom::reserve(alloc, format) {
+        Ok(mut room) => trial(&mut room, seed, source, image, notes),
+        Err(Memory) => Status::Memory,
+    }
+}
+
+/// Runs the command `to-g64` in a room of its own.
+fn run_to_file<S: Source, W: Sink, N: Sink>(
+    alloc: Global,
+    disk: G64Disk,
+    source: &mut S,
+    image: &mut W,
+    notes: &mut N,
+) -> Status
+    ensures { Does (Some (ToG64 disk)) result
+        (outside (moment S.left S.faults source.old) (S.given source.old) (moment W.written W.faults image.old) (moment N.written N.faults notes.old))
+        (outside (moment S.left S.faults source.new) (S.given source.new) (moment W.written W.faults image.new) (moment N.written N.faults notes.new)) }
+{
+    match G64Room::reserve(alloc, disk.format()) {
+        Ok(mut room) => to_file(&mut room, source, image, notes),
+        Err(Memory) => Status::Memory,
+    }
+}
+
+/// Runs the command `from-g64` in a room of its own.
+fn run_from_file<S: Source, W: Sink, N: Sink>(
+    alloc: Global,
+    disk: G64Disk,
+    source: &mut S,
+    image: &mut W,
+    notes: &mut N,
+) -> Status
+    ensures { Does (Some (FromG64 disk)) result
+        (outside (moment S.left S.faults source.old) (S.given source.old) (moment W.written W.faults image.old) (moment N.written N.faults notes.old))
+        (outside (moment S.left S.faults source.new) (S.given source.new) (moment W.written W.faults image.new) (moment N.written N.faults notes.new)) }
+{
+    match G64Room::reserve(alloc, disk.format()) {
+        Ok(mut room) => from_file(&mut room, source, image, notes),
+        Err(Memory) => Status::Memory,
+    }
+}
+
+/// Runs the command `decode-set` in a room of its own.
+fn run_set<S: Source, W: Sink, N: Sink>(
+    alloc: Global,
+    format: Format,
+    count: u32,
+    source: &mut S,
+    image: &mut W,
+    notes: &mut N,
+) -> Status
+    requires some { 1 ≤ count }
+    requires few { count ≤ 16 }
+    ensures { Does (Some (DecodeSet format count)) result
+        (outside (moment S.left S.faults source.old) (S.given source.old) (moment W.written W.faults image.old) (moment N.written N.faults notes.old))
+        (outside (moment S.left S.faults source.new) (S.given source.new) (moment W.written W.faults image.new) (moment N.written N.faults notes.new)) }
+{
+    match DiskRoom::reserve(alloc, format) {
+        Ok(mut room) => decode_captures(&mut room, count, source, image, notes),
+        Err(Memory) => Status::Memory,
     }
 }
 

@@ -1,0 +1,12 @@
+use Rattle.std.proofs.Common.{refl, arith}
+use Rattle.flux_cli.specs.TurnsWork.{turns_work}
+use Rattle.flux_cli.proofs.Runs.{not_read}
+use Rattle.flux_cli.proofs.program.run_turns.Goals as goal
+
+pub returns-in-Err : goal.returns-in-Err
+returns-in-Err g c = record {
+  answer = tt;
+  says = (refl, refl);
+  counts = record { source = omega arith; image = omega arith; notes = omega arith };
+  needed = λ x told. not_read turns_work.untold _;
+}
