@@ -4,6 +4,7 @@ pub mod DisksRun
 pub mod ImagesRun
 pub mod G64Run
 pub mod SetRun
+pub mod RescueRun
 pub mod TurnsRun
 pub mod Runs
 pub mod Outcomes

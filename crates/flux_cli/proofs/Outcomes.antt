@@ -4,6 +4,7 @@ use Rattle.std.proofs.lemmas.Bool.{eq-eqb}
 use Rattle.std.specs.Prelude.{Bool, true, ◌||◌, codes, length, sum}
 use Rattle.std.specs.Str.Parse.{digits_value}
 use Rattle.capture_set.specs.Laws.{OneSet}
+use Rattle.disk_rescue.specs.Laws.{OneRescue}
 use Rattle.flux_base.specs.declared.status.Status.TheVariants.{AllGood}
 use Rattle.flux_engine.specs.Disks.{Decoded}
 use Rattle.flux_engine.specs.Laws.{OneOutcome}
@@ -25,7 +26,7 @@ use Rattle.flux_cli.specs.Works.{IsOutcome, work_of}
 use Rattle.flux_cli.specs.declared.command.Command.{Command}
 use Rattle.flux_cli.specs.declared.g64_disk.G64Disk.{G64Disk}
 use Rattle.flux_cli.specs.declared.g64_disk.G64Disk.TheVariants.{Tracks35, Tracks40}
-use Rattle.flux_cli.specs.declared.command.Command.TheVariants.{Turns, Decode, Report, Write, Trial, ToG64, FromG64, DecodeSet, Tell}
+use Rattle.flux_cli.specs.declared.command.Command.TheVariants.{Turns, Decode, Report, Write, Trial, ToG64, FromG64, DecodeSet, Rescue, Tell}
 use Rattle.flux_cli.specs.declared.command.Output.TheVariants.{ImageAndReport, ReportAlone}
 
 -- the first two letters of the first word, as one number
@@ -39,6 +40,11 @@ letters ((byte ∷ next ∷ bytes) ∷ words) = 256 * byte + next
 abbrev first_size : List (List ℕ) → ℕ
 first_size [] = 0
 first_size (word ∷ words) = length word
+
+-- the third letter of the first word
+abbrev third_letter : List (List ℕ) → ℕ
+third_letter ((byte ∷ next ∷ third ∷ bytes) ∷ words) = third
+third_letter words = 0
 
 abbrev pub format_word : List (List ℕ) → List ℕ
 format_word (word ∷ other ∷ words) = other
@@ -181,6 +187,25 @@ one_command names words (Tell page) (FromG64 other) first second = absurd (no_pa
 one_command names words (Tell page) (Tell other) first second = ap Tell (one_page page other words first second)
 one_command names words (DecodeSet g t) (Tell page) first second = absurd (no_page page words _ refl second first.1)
 one_command names words (Tell page) (DecodeSet g t) first second = absurd (no_page page words _ refl first second.1)
+one_command names words (Rescue f) Turns first second = absurd (differ 29285 29813 refl (ap letters (sym first ∙ second)))
+one_command names words Turns (Rescue f) first second = absurd (differ 29813 29285 refl (ap letters (sym first ∙ second)))
+one_command names words (Rescue f) (Decode g) first second = absurd (differ 29285 25701 refl (ap letters (sym first ∙ second)))
+one_command names words (Decode g) (Rescue f) first second = absurd (differ 25701 29285 refl (ap letters (sym first ∙ second)))
+one_command names words (Rescue f) (Write g) first second = absurd (differ 29285 30578 refl (ap letters (sym first ∙ second)))
+one_command names words (Write g) (Rescue f) first second = absurd (differ 30578 29285 refl (ap letters (sym first ∙ second)))
+one_command names words (Rescue f) (Trial g t) first second = absurd (differ 29285 29810 refl (ap letters (sym first ∙ second.1)))
+one_command names words (Trial g t) (Rescue f) first second = absurd (differ 29810 29285 refl (ap letters (sym first.1 ∙ second)))
+one_command names words (Rescue f) (ToG64 other) first second = absurd (differ 29285 29807 refl (ap letters (sym first ∙ second)))
+one_command names words (ToG64 other) (Rescue f) first second = absurd (differ 29807 29285 refl (ap letters (sym first ∙ second)))
+one_command names words (Rescue f) (FromG64 other) first second = absurd (differ 29285 26226 refl (ap letters (sym first ∙ second)))
+one_command names words (FromG64 other) (Rescue f) first second = absurd (differ 26226 29285 refl (ap letters (sym first ∙ second)))
+one_command names words (Rescue f) (DecodeSet g t) first second = absurd (differ 29285 25701 refl (ap letters (sym first ∙ second.1)))
+one_command names words (DecodeSet g t) (Rescue f) first second = absurd (differ 25701 29285 refl (ap letters (sym first.1 ∙ second)))
+one_command names words (Rescue f) (Report g) first second = absurd (differ 115 112 refl (ap third_letter (sym first ∙ second)))
+one_command names words (Report g) (Rescue f) first second = absurd (differ 112 115 refl (ap third_letter (sym first ∙ second)))
+one_command names words (Rescue f) (Rescue g) first second = ap Rescue (names f g (ap format_word (sym first ∙ second)))
+one_command names words (Rescue f) (Tell page) first second = absurd (no_page page words _ refl second first)
+one_command names words (Tell page) (Rescue f) first second = absurd (no_page page words _ refl first second)
 
 -- words ask for one thing at most
 one_asked : WordsNameFormats → (words : List (List ℕ)) (a b : Option Command) → AskFor words a → AskFor words b → a ≡ b
@@ -197,7 +222,7 @@ one_line one format seed a b first second =
     (one format (trial_input format seed) first.decoded second.decoded first.is second.is)
     ∙ sym second.line_is
 
-module _ (names : WordsNameFormats) (one : OneOutcome) (one_file : OneFileDisk) (one_set : OneSet) where
+module _ (names : WordsNameFormats) (one : OneOutcome) (one_file : OneFileDisk) (one_set : OneSet) (one_rescue : OneRescue) where
   one_of : (asked : Option Command) (x : List ℕ) (a b : Outcome) → (work_of asked).gives x a → (work_of asked).gives x b → a ≡ b
   one_of None x a b first second = first ∙ sym second
   one_of (Some Turns) x a b first second = first ∙ sym second
@@ -213,6 +238,8 @@ module _ (names : WordsNameFormats) (one : OneOutcome) (one_file : OneFileDisk) 
       first.2 ∙ ap from_g64_outcome (one_file (format_of disk) x first.0 second.0 first.1 second.1) ∙ sym second.2
   one_of (Some (DecodeSet format count)) x a b first second =
       first.2 ∙ ap set_outcome (one_set format count x first.0 second.0 first.1 second.1) ∙ sym second.2
+  one_of (Some (Rescue format)) x a b first second =
+      first.2 ∙ ap (disk_outcome ImageAndReport) (one_rescue format x first.0 second.0 first.1 second.1) ∙ sym second.2
   one_of (Some (Tell page)) x a b first second = first ∙ sym second
 
   pub one_outcome : (words : List (List ℕ)) (x : List ℕ) (a b : Outcome) → IsOutcome words x a → IsOutcome words x b → a ≡ b

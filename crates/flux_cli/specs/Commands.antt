@@ -7,7 +7,7 @@ use Rattle.flux_cli.specs.Counts.{IsCount}
 use Rattle.flux_cli.specs.G64Disks.{format_of}
 use Rattle.flux_cli.specs.Seeds.{IsSeed}
 use Rattle.flux_cli.specs.declared.command.Command.{Command}
-use Rattle.flux_cli.specs.declared.command.Command.TheVariants.{Turns, Decode, Report, Write, Trial, ToG64, FromG64, DecodeSet, Tell}
+use Rattle.flux_cli.specs.declared.command.Command.TheVariants.{Turns, Decode, Report, Write, Trial, ToG64, FromG64, DecodeSet, Rescue, Tell}
 use Rattle.flux_cli.specs.declared.command.Output.{Output}
 use Rattle.flux_cli.specs.declared.command.Output.TheVariants.{ImageAndReport, ReportAlone}
 
@@ -22,6 +22,7 @@ words_of (Trial format seed) = codes "trial" ∷ (row format).word ∷ decimal s
 words_of (ToG64 disk) = codes "to-g64" ∷ (row (format_of disk)).word ∷ []
 words_of (FromG64 disk) = codes "from-g64" ∷ (row (format_of disk)).word ∷ []
 words_of (DecodeSet format count) = codes "decode-set" ∷ (row format).word ∷ decimal count ∷ []
+words_of (Rescue format) = codes "rescue" ∷ (row format).word ∷ []
 words_of (Tell Help) = codes "help" ∷ []
 words_of (Tell Version) = codes "--version" ∷ []
 
@@ -35,6 +36,7 @@ AreWordsOf (Trial format seed) words = (number : List ℕ) × (words ≡ codes "
 AreWordsOf (ToG64 disk) words = words ≡ words_of (ToG64 disk)
 AreWordsOf (FromG64 disk) words = words ≡ words_of (FromG64 disk)
 AreWordsOf (DecodeSet format count) words = (number : List ℕ) × (words ≡ codes "decode-set" ∷ (row format).word ∷ number ∷ []) × IsCount count number
+AreWordsOf (Rescue format) words = words ≡ words_of (Rescue format)
 AreWordsOf (Tell Help) words = (words ≡ words_of (Tell Help)) ⊎ (words ≡ codes "--help" ∷ []) ⊎ (words ≡ codes "-h" ∷ [])
 AreWordsOf (Tell Version) words = words ≡ words_of (Tell Version)
 

@@ -12,6 +12,7 @@ pub mod G64Work
 pub mod TrialWork
 pub mod PagesWork
 pub mod SetWork
+pub mod RescueWork
 pub mod Works
 pub mod Runs
 pub mod DisksRuns

@@ -9,13 +9,14 @@ use Rattle.flux_cli.specs.FolderWords.{NamesFolder}
 use Rattle.flux_cli.specs.G64Disks.{format_of}
 use Rattle.flux_cli.specs.G64Work.{from_g64_work, to_g64_work}
 use Rattle.flux_cli.specs.ImagesWork.{write_work}
+use Rattle.flux_cli.specs.RescueWork.{rescue_work}
 use Rattle.flux_cli.specs.SetWork.{set_work}
 use Rattle.flux_cli.specs.PagesWork.{page_work}
 use Rattle.flux_cli.specs.TrialWork.{trial_work}
 use Rattle.flux_cli.specs.TurnsWork.{turns_work}
 use Rattle.flux_cli.specs.Work.{Outcome, Growth, GotNothing, GotPart, Work}
 use Rattle.flux_cli.specs.declared.command.Command.{Command}
-use Rattle.flux_cli.specs.declared.command.Command.TheVariants.{Turns, Decode, Report, Write, Trial, ToG64, FromG64, DecodeSet, Tell}
+use Rattle.flux_cli.specs.declared.command.Command.TheVariants.{Turns, Decode, Report, Write, Trial, ToG64, FromG64, DecodeSet, Rescue, Tell}
 use Rattle.flux_cli.specs.declared.command.Output.TheVariants.{ImageAndReport, ReportAlone}
 
 -- nothing is read, and the notes get the usage
@@ -45,6 +46,7 @@ work_of (Some (Trial format seed)) = trial_work format seed
 work_of (Some (ToG64 disk)) = to_g64_work (format_of disk)
 work_of (Some (FromG64 disk)) = from_g64_work (format_of disk)
 work_of (Some (DecodeSet format count)) = set_work format count
+work_of (Some (Rescue format)) = rescue_work format
 work_of (Some (Tell page)) = page_work page
 
 -- this is the outcome of the words over the input, where they name no folder

@@ -28,6 +28,8 @@ pub enum Command {
     FromG64(G64Disk),
     /// An image from the streams of a disk of which so many capture each track, and a report in the notes.
     DecodeSet(Format, u32),
+    /// As `Decode`, with the streams read by two clocks.
+    Rescue(Format),
     /// What the program says of itself.
     Tell(Page),
 }
@@ -93,6 +95,8 @@ fn command_over(verb: &[u8], format: Format) -> Option<Command>
         Some(Command::Report(format))
     } else if verb == b"write".as_slice() {
         Some(Command::Write(format))
+    } else if verb == b"rescue".as_slice() {
+        Some(Command::Rescue(format))
     } else if verb == b"to-g64".as_slice() {
         match G64Disk::of_format(format) {
             Some(disk) => Some(Command::ToG64(disk)),

@@ -11,6 +11,7 @@ mod images;
 mod laws;
 mod pages;
 mod program;
+mod rescue;
 mod seed;
 mod sets;
 mod standard;

@@ -5,7 +5,7 @@ ghost use Rattle.flux_cli.specs.Captured.{FolderCaptured, FolderErased, RunsCapt
 ghost use Rattle.flux_cli.specs.Commands.{command_for};
 ghost use Rattle.flux_cli.specs.FolderRuns.{Ran, on, shelf_moment, surroundings};
 ghost use Rattle.flux_cli.specs.Runs.{Does, RanOverSource, outside};
-ghost use Rattle.flux_cli.specs.declared.command.Command.TheVariants.{DecodeSet, FromG64, ToG64, Trial, Turns, Write};
+ghost use Rattle.flux_cli.specs.declared.command.Command.TheVariants.{DecodeSet, FromG64, Map, Rescue, ToG64, Trial, Turns, Write};
 ghost use Rattle.kryo_stream.specs.Room.{IsFresh};
 
 use crate::command::{Command, Output, command_of};
@@ -15,6 +15,7 @@ use crate::g64_disk::G64Disk;
 use crate::g64_files::{from_file, to_file};
 use crate::images::write;
 use crate::pages::tell;
+use crate::rescue::rescue;
 use crate::sets::decode_captures;
 use crate::trial::trial;
 use crate::turns::write_turns;
@@ -130,6 +131,7 @@ fn run_over_source<S: Source, W: Sink, N: Sink>(
         Some(Command::DecodeSet(format, count)) => {
             run_set(alloc, format, count, source, image, notes)
         }
+        Some(Command::Rescue(format)) => run_rescue(alloc, format, source, image, notes),
         Some(Command::Tell(page)) => tell(page, source, image, notes),
     }
 }
@@ -260,6 +262,24 @@ fn run_set<S: Source, W: Sink, N: Sink>(
 {
     match DiskRoom::reserve(alloc, format) {
         Ok(mut room) => decode_captures(&mut room, count, source, image, notes),
+        Err(Memory) => Status::Memory,
+    }
+}
+
+/// Runs the command `rescue` in a room of its own.
+fn run_rescue<S: Source, W: Sink, N: Sink>(
+    alloc: Global,
+    format: Format,
+    source: &mut S,
+    image: &mut W,
+    notes: &mut N,
+) -> Status
+    ensures { Does (Some (Rescue format)) result
+        (outside (moment S.left S.faults source.old) (S.given source.old) (moment W.written W.faults image.old) (moment N.written N.faults notes.old))
+        (outside (moment S.left S.faults source.new) (S.given source.new) (moment W.written W.faults image.new) (moment N.written N.faults notes.new)) }
+{
+    match DiskRoom::reserve(alloc, format) {
+        Ok(mut room) => rescue(&mut room, source, image, notes),
         Err(Memory) => Status::Memory,
     }
 }

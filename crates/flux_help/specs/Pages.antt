@@ -18,6 +18,7 @@ commands_text =
     ++ codes "Commands:\n"
     ++ codes "   decode-folder FORMAT FOLDER  a folder of track files to the disk's image, with a report\n"
     ++ codes "   decode-set FORMAT COUNT      so many streams of each track to one image, with a report\n"
+    ++ codes "   rescue FORMAT                as decode, with each stream read by two clocks, for dumps with noise\n"
     ++ codes "   decode FORMAT                the streams of a disk, joined, to its image, with a report\n"
     ++ codes "   report FORMAT                the same streams to the report alone, on standard output\n"
     ++ codes "   write FORMAT                 an image to the streams of its tracks\n"

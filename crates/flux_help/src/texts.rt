@@ -15,6 +15,7 @@ It reads standard input or a folder and writes standard output; reports and refu
 Commands:
    decode-folder FORMAT FOLDER  a folder of track files to the disk's image, with a report
    decode-set FORMAT COUNT      so many streams of each track to one image, with a report
+   rescue FORMAT                as decode, with each stream read by two clocks, for dumps with noise
    decode FORMAT                the streams of a disk, joined, to its image, with a report
    report FORMAT                the same streams to the report alone, on standard output
    write FORMAT                 an image to the streams of its tracks
