@@ -21,6 +21,8 @@ demo: $(PROGRAM) $(DEMO)/disk.adf
 	@grep -v ' good \|^total' $(DEMO)/report.txt; grep '^12\.0' $(DEMO)/report.txt; tail -n 1 $(DEMO)/report.txt
 	@echo "bytes of the image that differ from what was recorded, all of them in these sectors:"
 	@cmp -l $(DEMO)/decoded.adf $(DEMO)/disk.adf | wc -l
+	@echo "a picture of it, for any browser: $(DEMO)/map.svg"
+	@cat $(DEMO)/disk/*.raw | $(PROGRAM) map amiga > $(DEMO)/map.svg; test $$? -le 1
 
 # The streams are made by the program from an image that is made up, and two tracks are then damaged.
 $(DEMO)/disk.adf: $(PROGRAM) samples/demo.py

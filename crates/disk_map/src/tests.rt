@@ -1,8 +1,12 @@
 use super::*;
-use flux_base::TrackId;
+use flux_base::{Memory, MemorySink, MemorySource, TrackId};
+use flux_engine::DiskRoom;
 use kryo_stream::StreamFault;
 use sector_images::Format;
 use sector_report::{Totals, refused_line};
+use std::alloc::Global;
+use std::str;
+use std::test::Fail;
 use turn_merge::{Place, Verdict};
 
 const TRACK: TrackId = TrackId {
@@ -81,4 +85,56 @@ fn the_foot_says_why_a_disk_is_refused(rt: HostRuntime) {
             "<text x=\"40\" y=\"398\">refused track 2 block 7 Truncated\n</text>\n</svg>\n"
         )
     );
+}
+
+/// A stream of one turn with two transitions that make no sector.
+const ONE_TURN: &[u8] =
+    b"\x0D\x02\x0C\0\0\0\0\0\0\0\0\0\0\0\0\0\x60\x60\x0D\x02\x0C\0\x02\0\0\0\x05\0\0\0\x18\0\0\0\
+    \x0D\x03\x08\0\x02\0\0\0\0\0\0\0\x0D\x0D\x0D\x0D";
+
+/// What drawing a disk came to.
+#[derive(Drop)]
+struct Drawn {
+    answer: Result<Totals, MapFault>,
+    picture: MemorySink,
+}
+
+/// Draws a Commodore 1541's disk from a stream without a sector, and these bytes after it.
+fn draw_after(alloc: Global, rest: &[u8]) -> Result<Drawn, Memory> {
+    let mut bytes = Vec::new(alloc);
+    for byte in ONE_TURN {
+        bytes.push(*byte)?;
+    }
+    for byte in rest {
+        bytes.push(*byte)?;
+    }
+    let mut source = MemorySource::new(bytes, 4096, Vec::new(alloc));
+    let mut picture = MemorySink::new(alloc, 16384, Vec::new(alloc))?;
+    let mut room = DiskRoom::reserve(alloc, Format::C1541)?;
+    let answer = map_disk(&mut room, &mut source, &mut picture);
+    Ok(Drawn { answer, picture })
+}
+
+// The second stream has a block of a type that there is not: the picture has the first track, its legend, and its end.
+#[test]
+fn a_refused_disk_has_a_whole_picture(rt: HostRuntime) -> Result<(), Fail> {
+    let drawn = draw_after(rt.alloc(), b"\x0D\x05\0\0")?;
+    let refused = MapFault::Refused {
+        track: 1,
+        block: 0,
+        fault: StreamFault::UnknownType(5),
+    };
+    assert!(rt; drawn.answer == Err(refused));
+    let text = str::from_utf8(drawn.picture.bytes()).unwrap_or("");
+    assert!(rt;
+        text.starts_with("<svg xmlns=\"http://www.w3.org/2000/svg\" viewBox=\"0 0 476 410\" ")
+    );
+    assert!(rt;
+        text.contains(
+            "d=\"M40 296v10h10v-10zm2 2h6v6h-6z\"><title>00.0 20 missing 0 0\n</title></path>\n<path "
+        )
+    );
+    assert!(rt; text.contains("y=\"379\">missing 21</text>\n"));
+    assert!(rt; text.ends_with(">refused track 1 block 0 UnknownType 5\n</text>\n</svg>\n"));
+    Ok(())
 }

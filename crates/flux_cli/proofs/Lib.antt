@@ -5,6 +5,7 @@ pub mod ImagesRun
 pub mod G64Run
 pub mod SetRun
 pub mod RescueRun
+pub mod MapRun
 pub mod TurnsRun
 pub mod Runs
 pub mod Outcomes

@@ -5,6 +5,7 @@ use Rattle.std.specs.Prelude.{Bool, true, ◌||◌, codes, length, sum}
 use Rattle.std.specs.Str.Parse.{digits_value}
 use Rattle.capture_set.specs.Laws.{OneSet}
 use Rattle.disk_rescue.specs.Laws.{OneRescue}
+use Rattle.disk_map.specs.Laws.{OneMap}
 use Rattle.flux_base.specs.declared.status.Status.TheVariants.{AllGood}
 use Rattle.flux_engine.specs.Disks.{Decoded}
 use Rattle.flux_engine.specs.Laws.{OneOutcome}
@@ -20,13 +21,14 @@ use Rattle.flux_cli.specs.Commands.{AreWordsOf, AskFor}
 use Rattle.flux_cli.specs.DisksWork.{disk_outcome}
 use Rattle.flux_cli.specs.G64Disks.{format_of}
 use Rattle.flux_cli.specs.G64Work.{from_g64_outcome}
+use Rattle.flux_cli.specs.MapWork.{map_outcome}
 use Rattle.flux_cli.specs.SetWork.{set_outcome}
 use Rattle.flux_cli.specs.Work.{Outcome}
 use Rattle.flux_cli.specs.Works.{IsOutcome, work_of}
 use Rattle.flux_cli.specs.declared.command.Command.{Command}
 use Rattle.flux_cli.specs.declared.g64_disk.G64Disk.{G64Disk}
 use Rattle.flux_cli.specs.declared.g64_disk.G64Disk.TheVariants.{Tracks35, Tracks40}
-use Rattle.flux_cli.specs.declared.command.Command.TheVariants.{Turns, Decode, Report, Write, Trial, ToG64, FromG64, DecodeSet, Rescue, Tell}
+use Rattle.flux_cli.specs.declared.command.Command.TheVariants.{Turns, Decode, Report, Map, Write, Trial, ToG64, FromG64, DecodeSet, Rescue, Tell}
 use Rattle.flux_cli.specs.declared.command.Output.TheVariants.{ImageAndReport, ReportAlone}
 
 -- the first two letters of the first word, as one number
@@ -206,6 +208,27 @@ one_command names words (Report g) (Rescue f) first second = absurd (differ 112 
 one_command names words (Rescue f) (Rescue g) first second = ap Rescue (names f g (ap format_word (sym first ∙ second)))
 one_command names words (Rescue f) (Tell page) first second = absurd (no_page page words _ refl second first)
 one_command names words (Tell page) (Rescue f) first second = absurd (no_page page words _ refl first second)
+one_command names words (Map f) (Map g) first second = ap Map (names f g (ap format_word (sym first ∙ second)))
+one_command names words Turns (Map m) first second = absurd (differ 29813 28001 refl (ap letters (sym first ∙ second)))
+one_command names words (Map m) Turns first second = absurd (differ 28001 29813 refl (ap letters (sym first ∙ second)))
+one_command names words (Decode f) (Map m) first second = absurd (differ 25701 28001 refl (ap letters (sym first ∙ second)))
+one_command names words (Map m) (Decode f) first second = absurd (differ 28001 25701 refl (ap letters (sym first ∙ second)))
+one_command names words (Report f) (Map m) first second = absurd (differ 29285 28001 refl (ap letters (sym first ∙ second)))
+one_command names words (Map m) (Report f) first second = absurd (differ 28001 29285 refl (ap letters (sym first ∙ second)))
+one_command names words (Write f) (Map m) first second = absurd (differ 30578 28001 refl (ap letters (sym first ∙ second)))
+one_command names words (Map m) (Write f) first second = absurd (differ 28001 30578 refl (ap letters (sym first ∙ second)))
+one_command names words (Trial f s) (Map m) first second = absurd (differ 29810 28001 refl (ap letters (sym first.1 ∙ second)))
+one_command names words (Map m) (Trial f s) first second = absurd (differ 28001 29810 refl (ap letters (sym first ∙ second.1)))
+one_command names words (ToG64 disk) (Map m) first second = absurd (differ 29807 28001 refl (ap letters (sym first ∙ second)))
+one_command names words (Map m) (ToG64 disk) first second = absurd (differ 28001 29807 refl (ap letters (sym first ∙ second)))
+one_command names words (FromG64 disk) (Map m) first second = absurd (differ 26226 28001 refl (ap letters (sym first ∙ second)))
+one_command names words (Map m) (FromG64 disk) first second = absurd (differ 28001 26226 refl (ap letters (sym first ∙ second)))
+one_command names words (DecodeSet f s) (Map m) first second = absurd (differ 25701 28001 refl (ap letters (sym first.1 ∙ second)))
+one_command names words (Map m) (DecodeSet f s) first second = absurd (differ 28001 25701 refl (ap letters (sym first ∙ second.1)))
+one_command names words (Map m) (Tell page) first second = absurd (no_page page words _ refl second first)
+one_command names words (Tell page) (Map m) first second = absurd (no_page page words _ refl first second)
+one_command names words (Rescue f) (Map m) first second = absurd (differ 29285 28001 refl (ap letters (sym first ∙ second)))
+one_command names words (Map m) (Rescue f) first second = absurd (differ 28001 29285 refl (ap letters (sym first ∙ second)))
 
 -- words ask for one thing at most
 one_asked : WordsNameFormats → (words : List (List ℕ)) (a b : Option Command) → AskFor words a → AskFor words b → a ≡ b
@@ -222,7 +245,7 @@ one_line one format seed a b first second =
     (one format (trial_input format seed) first.decoded second.decoded first.is second.is)
     ∙ sym second.line_is
 
-module _ (names : WordsNameFormats) (one : OneOutcome) (one_file : OneFileDisk) (one_set : OneSet) (one_rescue : OneRescue) where
+module _ (names : WordsNameFormats) (one : OneOutcome) (one_file : OneFileDisk) (one_set : OneSet) (one_rescue : OneRescue) (one_map : OneMap) where
   one_of : (asked : Option Command) (x : List ℕ) (a b : Outcome) → (work_of asked).gives x a → (work_of asked).gives x b → a ≡ b
   one_of None x a b first second = first ∙ sym second
   one_of (Some Turns) x a b first second = first ∙ sym second
@@ -230,6 +253,8 @@ module _ (names : WordsNameFormats) (one : OneOutcome) (one_file : OneFileDisk) 
       first.2 ∙ ap (disk_outcome ImageAndReport) (one format x first.0 second.0 first.1 second.1) ∙ sym second.2
   one_of (Some (Report format)) x a b first second =
       first.2 ∙ ap (disk_outcome ReportAlone) (one format x first.0 second.0 first.1 second.1) ∙ sym second.2
+  one_of (Some (Map format)) x a b first second =
+      first.2 ∙ ap map_outcome (one_map format x first.0 second.0 first.1 second.1) ∙ sym second.2
   one_of (Some (Write format)) x a b first second = first ∙ sym second
   one_of (Some (Trial format seed)) x a b first second =
       first.2 ∙ ap (λ (line : List ℕ). record { status = AllGood; image = line; notes = [] }) (one_line one format seed first.0 second.0 first.1 second.1) ∙ sym second.2

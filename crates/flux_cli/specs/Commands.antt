@@ -7,7 +7,7 @@ use Rattle.flux_cli.specs.Counts.{IsCount}
 use Rattle.flux_cli.specs.G64Disks.{format_of}
 use Rattle.flux_cli.specs.Seeds.{IsSeed}
 use Rattle.flux_cli.specs.declared.command.Command.{Command}
-use Rattle.flux_cli.specs.declared.command.Command.TheVariants.{Turns, Decode, Report, Write, Trial, ToG64, FromG64, DecodeSet, Rescue, Tell}
+use Rattle.flux_cli.specs.declared.command.Command.TheVariants.{Turns, Decode, Report, Map, Write, Trial, ToG64, FromG64, DecodeSet, Rescue, Tell}
 use Rattle.flux_cli.specs.declared.command.Output.{Output}
 use Rattle.flux_cli.specs.declared.command.Output.TheVariants.{ImageAndReport, ReportAlone}
 
@@ -17,6 +17,7 @@ abbrev pub words_of : Command → List (List ℕ)
 words_of Turns = codes "turns" ∷ []
 words_of (Decode format) = codes "decode" ∷ (row format).word ∷ []
 words_of (Report format) = codes "report" ∷ (row format).word ∷ []
+words_of (Map format) = codes "map" ∷ (row format).word ∷ []
 words_of (Write format) = codes "write" ∷ (row format).word ∷ []
 words_of (Trial format seed) = codes "trial" ∷ (row format).word ∷ decimal seed ∷ []
 words_of (ToG64 disk) = codes "to-g64" ∷ (row (format_of disk)).word ∷ []
@@ -31,6 +32,7 @@ abbrev pub AreWordsOf : Command → List (List ℕ) → Type 0
 AreWordsOf Turns words = words ≡ words_of Turns
 AreWordsOf (Decode format) words = words ≡ words_of (Decode format)
 AreWordsOf (Report format) words = words ≡ words_of (Report format)
+AreWordsOf (Map format) words = words ≡ words_of (Map format)
 AreWordsOf (Write format) words = words ≡ words_of (Write format)
 AreWordsOf (Trial format seed) words = (number : List ℕ) × (words ≡ codes "trial" ∷ (row format).word ∷ number ∷ []) × IsSeed seed number
 AreWordsOf (ToG64 disk) words = words ≡ words_of (ToG64 disk)

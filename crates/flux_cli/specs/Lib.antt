@@ -13,6 +13,7 @@ pub mod TrialWork
 pub mod PagesWork
 pub mod SetWork
 pub mod RescueWork
+pub mod MapWork
 pub mod Works
 pub mod Runs
 pub mod DisksRuns

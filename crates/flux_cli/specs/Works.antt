@@ -11,12 +11,13 @@ use Rattle.flux_cli.specs.G64Work.{from_g64_work, to_g64_work}
 use Rattle.flux_cli.specs.ImagesWork.{write_work}
 use Rattle.flux_cli.specs.RescueWork.{rescue_work}
 use Rattle.flux_cli.specs.SetWork.{set_work}
+use Rattle.flux_cli.specs.MapWork.{map_work}
 use Rattle.flux_cli.specs.PagesWork.{page_work}
 use Rattle.flux_cli.specs.TrialWork.{trial_work}
 use Rattle.flux_cli.specs.TurnsWork.{turns_work}
 use Rattle.flux_cli.specs.Work.{Outcome, Growth, GotNothing, GotPart, Work}
 use Rattle.flux_cli.specs.declared.command.Command.{Command}
-use Rattle.flux_cli.specs.declared.command.Command.TheVariants.{Turns, Decode, Report, Write, Trial, ToG64, FromG64, DecodeSet, Rescue, Tell}
+use Rattle.flux_cli.specs.declared.command.Command.TheVariants.{Turns, Decode, Report, Map, Write, Trial, ToG64, FromG64, DecodeSet, Rescue, Tell}
 use Rattle.flux_cli.specs.declared.command.Output.TheVariants.{ImageAndReport, ReportAlone}
 
 -- nothing is read, and the notes get the usage
@@ -41,6 +42,7 @@ work_of None = usage_work
 work_of (Some Turns) = turns_work
 work_of (Some (Decode format)) = disk_work ImageAndReport format
 work_of (Some (Report format)) = disk_work ReportAlone format
+work_of (Some (Map format)) = map_work format
 work_of (Some (Write format)) = write_work format
 work_of (Some (Trial format seed)) = trial_work format seed
 work_of (Some (ToG64 disk)) = to_g64_work (format_of disk)

@@ -18,6 +18,8 @@ pub enum Command {
     Decode(Format),
     /// The report alone, in place of the image.
     Report(Format),
+    /// A picture of the disk, in place of the image.
+    Map(Format),
     /// The streams of a disk's tracks, from its image.
     Write(Format),
     /// The trial that a number names.
@@ -93,6 +95,8 @@ fn command_over(verb: &[u8], format: Format) -> Option<Command>
         Some(Command::Decode(format))
     } else if verb == b"report".as_slice() {
         Some(Command::Report(format))
+    } else if verb == b"map".as_slice() {
+        Some(Command::Map(format))
     } else if verb == b"write".as_slice() {
         Some(Command::Write(format))
     } else if verb == b"rescue".as_slice() {

@@ -14,5 +14,6 @@ pub fn outcomes_are_one()
     g64_image::file_disks_are_one();
     capture_set::sets_are_one();
     disk_rescue::rescues_are_one();
+    disk_map::maps_are_one();
     flux_engine::outcomes_are_one()
 }

@@ -9,6 +9,7 @@ mod g64_disk;
 mod g64_files;
 mod images;
 mod laws;
+mod map;
 mod pages;
 mod program;
 mod rescue;

@@ -14,6 +14,7 @@ use crate::folder::{decode_folder, folder_of};
 use crate::g64_disk::G64Disk;
 use crate::g64_files::{from_file, to_file};
 use crate::images::write;
+use crate::map::draw;
 use crate::pages::tell;
 use crate::rescue::rescue;
 use crate::sets::decode_captures;
@@ -124,6 +125,7 @@ fn run_over_source<S: Source, W: Sink, N: Sink>(
         Some(Command::Report(format)) => {
             run_decode(alloc, format, Output::ReportAlone, source, image, notes)
         }
+        Some(Command::Map(format)) => run_map(alloc, format, source, image, notes),
         Some(Command::Write(format)) => run_write(alloc, format, source, image, notes),
         Some(Command::Trial(format, seed)) => run_trial(alloc, format, seed, source, image, notes),
         Some(Command::ToG64(disk)) => run_to_file(alloc, disk, source, image, notes),
@@ -168,6 +170,24 @@ fn run_decode<S: Source, W: Sink, N: Sink>(
 {
     match DiskRoom::reserve(alloc, format) {
         Ok(mut room) => decode(&mut room, output, source, image, notes),
+        Err(Memory) => Status::Memory,
+    }
+}
+
+/// Runs the command `map` in a room of its own.
+fn run_map<S: Source, W: Sink, N: Sink>(
+    alloc: Global,
+    format: Format,
+    source: &mut S,
+    image: &mut W,
+    notes: &mut N,
+) -> Status
+    ensures { Does (Some (Map format)) result
+        (outside (moment S.left S.faults source.old) (S.given source.old) (moment W.written W.faults image.old) (moment N.written N.faults notes.old))
+        (outside (moment S.left S.faults source.new) (S.given source.new) (moment W.written W.faults image.new) (moment N.written N.faults notes.new)) }
+{
+    match DiskRoom::reserve(alloc, format) {
+        Ok(mut room) => draw(&mut room, source, image, notes),
         Err(Memory) => Status::Memory,
     }
 }

@@ -21,6 +21,7 @@ commands_text =
     ++ codes "   rescue FORMAT                as decode, with each stream read by two clocks, for dumps with noise\n"
     ++ codes "   decode FORMAT                the streams of a disk, joined, to its image, with a report\n"
     ++ codes "   report FORMAT                the same streams to the report alone, on standard output\n"
+    ++ codes "   map FORMAT                   the same streams to a picture of the disk (SVG), on standard output\n"
     ++ codes "   write FORMAT                 an image to the streams of its tracks\n"
     ++ codes "   turns                        one stream to its transitions and the length of each revolution\n"
     ++ codes "   to-g64 FORMAT                an image to the file that emulators keep (c1541, c1541-40)\n"

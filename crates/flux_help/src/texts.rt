@@ -18,6 +18,7 @@ Commands:
    rescue FORMAT                as decode, with each stream read by two clocks, for dumps with noise
    decode FORMAT                the streams of a disk, joined, to its image, with a report
    report FORMAT                the same streams to the report alone, on standard output
+   map FORMAT                   the same streams to a picture of the disk (SVG), on standard output
    write FORMAT                 an image to the streams of its tracks
    turns                        one stream to its transitions and the length of each revolution
    to-g64 FORMAT                an image to the file that emulators keep (c1541, c1541-40)

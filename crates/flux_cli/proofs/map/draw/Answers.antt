@@ -1,0 +1,38 @@
+use Rattle.std.proofs.Common.{arith}
+use Rattle.std.proofs.KnownBytes.{Appends-nil, Keeps-refl}
+use Rattle.flux_cli.proofs.MapRun.{map-cut-refusal, map-done, map-image-fault, map-refused, map-unread}
+use Rattle.flux_cli.proofs.map.draw.Goals as goal
+
+pub returns-in-Ok-clause-does : goal.returns-in-Ok-clause-does
+returns-in-Ok-clause-does g c =
+    let e = c.in-Ok.ensures in
+    rw c.status_of.ensures (map-done c.args.room.now.format _ _ (record { source = e.source_later; image = e.picture_later; notes = omega arith }) e.needed
+    (Appends-nil _) (Keeps-refl _) c.in-Ok.totals e.mapped)
+
+pub returns-in-Err-ReadFault-clause-does : goal.returns-in-Err-ReadFault-clause-does
+returns-in-Err-ReadFault-clause-does g c =
+    let e = c.in-Err-ReadFault.ensures in
+    map-unread c.args.room.now.format _ _ (record { source = e.source_later; image = e.picture_later; notes = omega arith }) e.needed (Appends-nil _) (Keeps-refl _)
+    (rw c.in-Err-ReadFault.field-0-is at e.mapped) (rw c.in-Err-ReadFault.field-0-is at e.cause)
+
+pub returns-in-Err-PictureFault-clause-does : goal.returns-in-Err-PictureFault-clause-does
+returns-in-Err-PictureFault-clause-does g c =
+    let e = c.in-Err-PictureFault.ensures in
+    map-image-fault c.args.room.now.format _ _ (record { source = e.source_later; image = e.picture_later; notes = omega arith }) e.needed (Appends-nil _) (Keeps-refl _)
+    (rw c.in-Err-PictureFault.field-0-is at e.mapped) (rw c.in-Err-PictureFault.field-0-is at e.cause)
+
+pub returns-in-Ok-write_line-clause-does : goal.returns-in-Ok-write_line-clause-does
+returns-in-Ok-write_line-clause-does g c =
+    let r = c.in-Err-Refused in
+    let e = r.ensures in
+    map-refused c.args.room.now.format _ _ r.track r.block r.fault (rw r.field-0-is at e.mapped)
+    (record { source = e.source_later; image = e.picture_later; notes = c.in-Ok-write_line.ensures.later }) e.needed
+    (rw c.refused_line.ensures at c.in-Ok-write_line.ensures.ok)
+
+pub returns-in-Err-clause-does : goal.returns-in-Err-clause-does
+returns-in-Err-clause-does g c =
+    let r = c.in-Err-Refused in
+    let e = r.ensures in
+    map-cut-refusal c.args.room.now.format _ _ r.track r.block r.fault (rw r.field-0-is at e.mapped)
+    (record { source = e.source_later; image = e.picture_later; notes = c.in-Err.ensures.later }) e.needed
+    (rw c.refused_line.ensures at c.in-Err.ensures.err) c.in-Err.ensures.cause

@@ -1,0 +1,44 @@
+//! A picture of a disk.
+
+ghost use Rattle.std.specs.Prelude.{◌≡◌, ◌≢◌, Some};
+ghost use Rattle.flux_base.specs.Moments.{moment};
+ghost use Rattle.flux_base.specs.declared.status.Status.{Status};
+ghost use Rattle.flux_cli.specs.Runs.{Does, outside};
+ghost use Rattle.flux_cli.specs.declared.command.Command.TheVariants.{Map};
+ghost use Rattle.flux_engine.specs.Room.{fresh};
+
+use crate::disks::status_of;
+use disk_map::{MapFault, map_disk};
+use flux_base::{Sink, Source, Status};
+use flux_engine::DiskRoom;
+use sector_report::{refused_line, write_line};
+
+/// Draws a disk: its picture goes to `image`. Notes say why it is refused, as the picture does.
+pub fn draw<S: Source, W: Sink, N: Sink>(
+    room: &mut DiskRoom,
+    source: &mut S,
+    image: &mut W,
+    notes: &mut N,
+) -> Status
+    requires { room.old ≡ fresh room.old.format }
+    ensures does { Does (Some (Map room.old.format)) result
+        (outside (moment S.left S.faults source.old) (S.given source.old) (moment W.written W.faults image.old) (moment N.written N.faults notes.old))
+        (outside (moment S.left S.faults source.new) (S.given source.new) (moment W.written W.faults image.new) (moment N.written N.faults notes.new)) }
+    ensures memory { result ≢ Status.Memory }
+{
+    match map_disk(room, source, image) {
+        Ok(totals) => status_of(&totals),
+        Err(MapFault::ReadFault) => Status::ReadFault,
+        Err(MapFault::PictureFault) => Status::ImageFault,
+        Err(
+            MapFault::Refused {
+                track,
+                block,
+                fault,
+            },
+        ) => match write_line(notes, &refused_line(track, block, &fault)) {
+            Ok(()) => Status::Refused,
+            Err(_) => Status::NotesFault,
+        },
+    }
+}
