@@ -42,10 +42,10 @@ def usual():
     return bytes(out + END)
 
 
-def full(byte):
-    """A stream of the greatest length: two Index blocks at its begin and end, and one kind of byte between."""
-    count = LIMIT - 2 * 16 - 4
-    return index(0) + bytes([byte]) * count + index(count) + END
+def full(unit):
+    """A stream of the greatest length: two Index blocks at its begin and end, and the same in-stream blocks again and again."""
+    count = (LIMIT - 2 * 16 - 4) // len(unit) * len(unit)
+    return index(0) + unit * (count // len(unit)) + index(count) + END
 
 
 def jumping():
@@ -64,8 +64,11 @@ def rising():
 
 STREAMS = [
     ("usual, 5 revolutions", usual),
-    ("one-byte transitions", lambda: full(0x60)),
-    ("overflows", lambda: full(0x0B)),
+    ("one-byte transitions", lambda: full(b"\x60")),
+    ("two-byte transitions", lambda: full(b"\x01\x20")),
+    ("three-byte transitions", lambda: full(b"\x0c\x08\x10")),
+    ("overflows", lambda: full(b"\x0b")),
+    ("overflows, transitions", lambda: full(b"\x0b\x60")),
     ("indexes far ahead", rising),
     ("indexes that jump", jumping),
 ]

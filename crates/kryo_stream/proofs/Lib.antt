@@ -1,5 +1,6 @@
 pub mod Answering
 pub mod BenchLemmas
+pub mod BlockReadings
 pub mod Buffers
 pub mod FindLemmas
 pub mod Growing

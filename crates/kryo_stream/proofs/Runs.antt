@@ -17,7 +17,7 @@ use Rattle.kryo_stream.specs.Progress.{IsReading, ReadsOn}
 use Rattle.kryo_stream.specs.Protocol.{LIMIT}
 use Rattle.kryo_stream.specs.Stream.{pieces}
 use Rattle.kryo_stream.specs.Tally.{behind, IsWithin}
-use Rattle.kryo_stream.proofs.BenchLemmas.{flux_ends-length, noted_flux}
+use Rattle.kryo_stream.proofs.BenchLemmas.{flux_ends-length, overflow_begins-length, noted_flux}
 use Rattle.kryo_stream.proofs.Progressing.{IsReading-push}
 use Rattle.kryo_stream.proofs.Readings.{has-enough}
 
@@ -52,7 +52,7 @@ or_false : (b : Bool) → b ≡ false → (b || false) ≡ b
 or_false b is = rw is refl
 
 -- the same reading, said in other words
-same_reading : {x : List ℕ} {n n' : ℕ} {rest : List ℕ} {b b' : Before} {ts ts' : List ℕ} {bench : BenchState}
+pub same_reading : {x : List ℕ} {n n' : ℕ} {rest : List ℕ} {b b' : Before} {ts ts' : List ℕ} {bench : BenchState}
     → IsReading x n rest b ts bench → n ≡ n' → b ≡ b' → ts ≡ ts' → IsReading x n' rest b' ts' bench
 same_reading {x} {n} {n'} {rest} {b} {b'} {ts} {ts'} {bench} r number before times =
     subst (λ k. IsReading x k rest b' ts' bench) number
@@ -126,23 +126,6 @@ pub reads_on_both : {rest mid rest' : List ℕ} {b c b' : Before} {ts us ts' : L
     → ReadsOn total rest rest' b b' ts ts' bench bench'
 reads_on_both k m total first second is x n r = same_reading (second x (n + k) (first x n r)) (omega (arith, is)) refl refl
 
--- a transition of two bytes
-abbrev pub two_bytes : ℕ → SpelledBlock
-two_bytes ticks = record { block = Flux ticks; bytes = 2 }
-
--- the bytes at hand begin with a transition of two bytes, which is passed over
-pub reads_two_bytes : (held held' : List ℕ) (b b' : Before) (ts ts' : List ℕ) (bench bench' : BenchState) (ticks : ℕ) → ticks < 65536
-    → piece_at b.offset b.counted b.ended held ≡ piece (Flux ticks) 2 → held' ≡ drop 2 held → b' ≡ behind b (two_bytes ticks)
-    → IsWithin (behind b (two_bytes ticks)) → ts' ≡ ts ++ (b.time + ticks) ∷ []
-    → bench'.ends ≡ bench.ends ++ (b.counted + 2) ∷ [] → bench'.overflows ≡ bench.overflows → bench'.indexes ≡ bench.indexes
-    → ReadsOn 1 held held' b b' ts ts' bench bench'
-reads_two_bytes held held' b b' ts ts' bench bench' ticks small reads rest next within times ends overflows indexes x n r =
-    let p : SpelledBlock = two_bytes ticks in
-    let noted : IsNoted (pieces x n ++ p ∷ []) bench' =
-    noted_flux (pieces x n) p bench bench' ticks refl (omega arith, small) (ends ∙ ap (λ k. bench.ends ++ (k + 2) ∷ []) r.tally.counted) overflows indexes r.noted in
-    subst (λ bytes. IsReading x (n + 1) bytes b' ts' bench') (sym rest)
-    (same_reading (IsReading-push x n held b ts bench bench' p r reads refl within noted) (omega arith) (sym next) (sym times))
-
 -- the bytes at hand begin with a run, which is passed over
 pub run_of_front : (x : List ℕ) (n count : ℕ) (held held' : List ℕ) (b : Before) (ts ts' : List ℕ) (bench bench' : BenchState) (end : ℕ)
     → count ≤ length held → All IsShortFlux (take count held) → (0 < count → b.ended ≡ false) → b.offset + count ≤ LIMIT
@@ -168,6 +151,7 @@ pub record IsRoomy (b : Before) (ts : List ℕ) (bench : BenchState) : Type 0 wh
   pub in_order : All (λ time. time ≤ b.time) ts
   pub few_times : length ts ≤ b.offset
   pub few_ends : length bench.ends ≤ b.offset
+  pub few_overflows : length bench.overflows ≤ b.offset
 
 pub is_roomy : (x : List ℕ) (n : ℕ) (rest : List ℕ) (b : Before) (ts : List ℕ) (bench : BenchState) → IsReading x n rest b ts bench → IsRoomy b ts bench
 is_roomy x n rest b ts bench r = record {
@@ -175,6 +159,7 @@ is_roomy x n rest b ts bench r = record {
   in_order = r.tally.in_order;
   few_times = r.tally.few_times;
   few_ends = (let few = flux_ends-length 0 (pieces x n) r.noted.sizes in omega (arith, few, ap length r.noted.flux, r.tally.offset));
+  few_overflows = (let few = overflow_begins-length 0 (pieces x n) r.noted.sizes in omega (arith, few, ap length r.noted.overflow, r.tally.offset));
 }
 
 pub still_full_room : {flux flux' : TrackState} → HasFullRoom flux → KeepsRoom flux flux' → HasFullRoom flux'

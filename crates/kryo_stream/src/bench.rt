@@ -5,7 +5,7 @@ ghost use Rattle.std.specs.Vec.{vec_capacity};
 ghost use Rattle.kryo_stream.specs.Protocol.{LIMIT};
 ghost use Rattle.kryo_stream.specs.Stream.{in_stream_bytes, total_bytes, turn_fault, indexes_of};
 ghost use Rattle.index_turns.specs.Track.{KeepsRoom};
-ghost use Rattle.kryo_stream.specs.Bench.{HasFullBench, KeepsBenchRoom, KeepsNotes, IsNoted, IsSized, IsComplete, IsSearchable, TurnCause, PlaceCause, base_time, mark_time};
+ghost use Rattle.kryo_stream.specs.Bench.{HasFullBench, KeepsBenchRoom, KeepsNotes, IsNoted, IsSized, IsComplete, IsSearchable, TurnCause, PlaceCause, base_time, mark_time, end_of, overflow_of};
 
 use crate::block::{Block, Mark, SpelledBlock};
 use crate::fault::{StreamFault, TrackFault};
@@ -141,6 +141,27 @@ impl StreamBench {
         Ok(())
     }
 
+    /// Takes note of an in-stream block that begins at the stream position `position`.
+    #[inline(always)]
+    pub(crate) fn note_in_stream(
+        &mut self,
+        position: u32,
+        piece: &SpelledBlock,
+    ) -> Result<(), Memory>
+        requires end { position + piece.now.bytes < 2 ^ 32 }
+        ensures ends { OnOk result (self.new.ends ≡ self.old.ends ++ end_of (position + piece.now.bytes) piece.now.block) }
+        ensures overflows { OnOk result (self.new.overflows ≡ self.old.overflows ++ overflow_of position piece.now.block) }
+        ensures indexes { self.new.indexes ≡ self.old.indexes }
+        ensures room { KeepsBenchRoom self.old self.new }
+        ensures succeeds { 0 < self.old.spare_ends → 0 < self.old.spare_overflows → IsOk result }
+    {
+        match piece.block {
+            Block::Flux { .. } => self.push_end(position + piece.bytes as u32),
+            Block::Overflow => self.push_overflow(position),
+            _ => Ok(()),
+        }
+    }
+
     /// Looks up the positions of the Index blocks, once all blocks of the stream are noted, and gives the
     /// index times to `flux`, which holds the times of the transitions. `total` is the number of all
     /// in-stream bytes, `end` the number of the End block.
@@ -225,7 +246,7 @@ impl StreamBench {
     }
 
     /// Takes note of a transition that ends at this stream position.
-    pub(crate) fn push_end(&mut self, end: u32) -> Result<(), Memory>
+    fn push_end(&mut self, end: u32) -> Result<(), Memory>
         ensures ends { OnOk result (self.new.ends ≡ self.old.ends ++ end ∷ []) }
         ensures overflows { self.new.overflows ≡ self.old.overflows }
         ensures indexes { self.new.indexes ≡ self.old.indexes }

@@ -1,9 +1,10 @@
-ghost use Rattle.std.specs.Prelude.{◌≡◌, ◌≤◌, ◌<◌, ◌+◌, ◌^◌, ℕ, false, length, take, drop, slice_index, All, IsTrue, IfOk, IfSome, IfNone};
+ghost use Rattle.std.specs.Prelude.{◌≡◌, ◌≤◌, ◌<◌, ◌+◌, ◌^◌, ℕ, false, length, take, drop, slice_index, All, IsTrue, IfOk, IfSome, IfNone, Some, Ok, true};
 ghost use Rattle.byteorder.specs.Endian.{little_number};
 ghost use Rattle.kryo_stream.specs.Bench.{IsSized};
 ghost use Rattle.kryo_stream.specs.Blocks.{IsShortFlux};
-ghost use Rattle.kryo_stream.specs.declared.block.Block.TheVariants.{Flux};
-ghost use Rattle.kryo_stream.specs.Pieces.{piece, has, in_stream_piece, info_piece, stream_info_piece, index_piece, stream_end_piece, out_of_band_piece, piece_at, IsText};
+ghost use Rattle.kryo_stream.specs.Pieces.{has, in_stream_piece, info_piece, stream_info_piece, index_piece, stream_end_piece, out_of_band_piece, piece_at, IsText};
+ghost use Rattle.kryo_stream.specs.Stream.{is_in_stream};
+ghost use Rattle.kryo_stream.specs.Tally.{MayFollow};
 
 use crate::before::Before;
 use crate::block::{Block, SpelledBlock};
@@ -92,19 +93,23 @@ fn are_short(bytes: &[u8]) -> bool
         == 0
 }
 
-/// The ticks of the block at the front of the bytes, if it is a transition of two bytes that are there, within the
-/// limit and before the end of the stream.
-pub fn two_byte_flux(before: &Before, bytes: &[u8]) -> Option<u16>
+/// The in-stream block at the front of the bytes, if it stands there whole, within the limit and before the end of the
+/// stream.
+#[inline(always)]
+pub fn whole_block(before: &Before, bytes: &[u8]) -> Option<SpelledBlock>
     requires offset { before.now.offset ≤ 4194304 }
-    ensures reading { IfSome result (λ ticks. piece_at before.now.offset before.now.counted before.now.ended bytes.now ≡ piece (Flux ticks) 2) }
-    ensures inside { IfSome result (λ _. 2 ≤ length bytes.now) }
-    ensures small { IfSome result (λ ticks. ticks < 2 ^ 16) }
+    ensures reading { IfSome result (λ piece. piece_at before.now.offset before.now.counted before.now.ended bytes.now ≡ Ok piece) }
+    ensures follows { IfSome result (MayFollow before.now) }
+    ensures inside { IfSome result (λ piece. piece.bytes ≤ length bytes.now) }
+    ensures sized { IfSome result IsSized }
+    ensures in_stream { IfSome result (λ piece. is_in_stream piece.block ≡ true) }
 {
+    if before.ended || before.offset >= LIMIT {
+        return None;
+    }
     match bytes {
-        [first @ 0x00..=0x07, second, ..] if before.offset + 2 <= LIMIT && !before.ended => {
-            Some(u16::from(*first) * 256 + u16::from(*second))
-        }
-        _ => None,
+        [] | [OUT_OF_BAND, ..] => None,
+        _ => in_stream(before.offset, bytes).ok(),
     }
 }
 
@@ -143,11 +148,13 @@ fn have(offset: u32, count: u32, bytes: &[u8]) -> Result<(), StreamFault>
 }
 
 /// The in-stream block that begins with the bytes.
+#[inline]
 fn in_stream(offset: u32, bytes: &[u8]) -> Result<SpelledBlock, StreamFault>
     requires offset { offset ≤ 4194304 }
     requires first { 1 ≤ length bytes.now }
     ensures value { result ≡ in_stream_piece offset (slice_index bytes.now 0) bytes.now }
     ensures sized { IfOk result IsSized }
+    ensures in_stream { IfOk result (λ piece. is_in_stream piece.block ≡ true) }
 {
     let (block, bytes) = match bytes[0] {
         first @ 0x00..=0x07 => {

@@ -16,7 +16,7 @@ use crate::before::Before;
 use crate::bench::StreamBench;
 use crate::block::{Block, SpelledBlock};
 use crate::fault::{StreamFault, TrackFault};
-use crate::front::{LIMIT, front, short_run, text_size, two_byte_flux};
+use crate::front::{LIMIT, front, short_run, text_size, whole_block};
 use crate::intake::{Intake, More};
 use crate::padding::padding_at_hand;
 use flux_base::{Failed, Memory, Source};
@@ -144,9 +144,9 @@ fn read_stream<S: Source>(
     bench.clear();
     let mut before = Before::start();
     let mut number = 0;
-    // Each round passes over one block, and over the transitions before it, which are nearly all blocks of a track.
+    // Each round passes over one block, and over the in-stream blocks before it, which are nearly all blocks of a track.
     for _ in 0..LIMIT + 1 {
-        match pass_transitions(&mut before, intake, flux, bench) {
+        match pass_in_stream(&mut before, intake, flux, bench) {
             Ok(count) => number += count,
             Err(Memory) => return Err(TrackFault::Memory),
         }
@@ -175,9 +175,9 @@ fn read_stream<S: Source>(
     unreachable!()
 }
 
-/// Passes over the transitions of one and of two bytes that the bytes at hand begin with, and keeps them. Gives how
-/// many they are. Their way is written out, since the way of all blocks takes many times as long.
-fn pass_transitions(
+/// Passes over the in-stream blocks that the bytes at hand begin with, as far as they stand there whole, and keeps them.
+/// Gives how many they are. Their way is written out, since the way of all blocks takes many times as long.
+fn pass_in_stream(
     before: &mut Before,
     intake: &mut Intake,
     flux: &mut TrackFlux,
@@ -195,7 +195,7 @@ fn pass_transitions(
     let mut count = 0;
     loop {
         count += pass_run(before, intake, flux, bench)?;
-        let more = pass_two_bytes(before, intake, flux, bench)?;
+        let more = pass_block(before, intake, flux, bench)?;
         if more == 0 {
             return Ok(count);
         }
@@ -240,9 +240,9 @@ fn pass_run(
     Ok(count as u32)
 }
 
-/// Passes over the transition of two bytes that the bytes at hand begin with, if one stands there, and keeps it. Gives
-/// how many it is.
-fn pass_two_bytes(
+/// Passes over the in-stream block that the bytes at hand begin with, if one stands there whole, and keeps it. Gives how
+/// many it is.
+fn pass_block(
     before: &mut Before,
     intake: &mut Intake,
     flux: &mut TrackFlux,
@@ -259,18 +259,15 @@ fn pass_two_bytes(
     ensures room { KeepsRoom flux.old flux.new }
     ensures bench { KeepsBenchRoom bench.old bench.new }
     ensures succeeds { length flux.old.times ≤ before.old.offset → HasFullRoom flux.old
-        → length bench.old.ends ≤ before.old.offset → HasFullBench bench.old → IsOk result }
+        → length bench.old.ends ≤ before.old.offset → length bench.old.overflows ≤ before.old.offset
+        → HasFullBench bench.old → IsOk result }
 {
-    let Some(ticks) = two_byte_flux(before, intake.bytes()) else {
+    let Some(piece) = whole_block(before, intake.bytes()) else {
         return Ok(0);
     };
-    let piece = SpelledBlock {
-        block: Block::Flux { ticks },
-        bytes: 2,
-    };
-    flux.push_time(before.time + u64::from(ticks))?;
-    bench.push_end(before.counted + 2)?;
-    intake.pass(2);
+    note_time(&piece, before, flux)?;
+    bench.note_in_stream(before.counted, &piece)?;
+    intake.pass(piece.bytes);
     *before = before.behind(&piece);
     Ok(1)
 }

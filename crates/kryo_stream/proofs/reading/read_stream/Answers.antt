@@ -19,16 +19,16 @@ loop-init g c = record {
 pub returns-in-Ok-Err-clause-read : goal.returns-in-Ok-Err-clause-read
 returns-in-Ok-Err-clause-read g c =
     let takes = rw c.in-Ok-Err.field-0-is at c.in-Ok-Err.ensures.takes in
-    read_refused c.pass_transitions.new.flux c.in-Ok-Err.fault (Progress-on c.in-Ok.count c.loop.invariant.progress c.in-Ok.ensures.reading) takes
+    read_refused c.pass_in_stream.new.flux c.in-Ok-Err.fault (Progress-on c.in-Ok.count c.loop.invariant.progress c.in-Ok.ensures.reading) takes
 
 pub returns-in-Err-take_block-clause-read : goal.returns-in-Err-take_block-clause-read
 returns-in-Err-take_block-clause-read g c =
-    read_failed c.pass_transitions.new.flux c.in-Err-take_block.field-0 (Progress-on c.in-Ok.count c.loop.invariant.progress c.in-Ok.ensures.reading) c.in-Err-take_block.ensures.takes
+    read_failed c.pass_in_stream.new.flux c.in-Err-take_block.field-0 (Progress-on c.in-Ok.count c.loop.invariant.progress c.in-Ok.ensures.reading) c.in-Err-take_block.ensures.takes
 
 pub note-requires-clause-follows : goal.note-requires-clause-follows
 note-requires-clause-follows g c =
     let takes = rw c.in-Ok-Ok.field-0-is at c.in-Ok-Ok.ensures.takes in
-    (piece_at-follows c.pass_transitions.new.before (c.pass_transitions.new.intake.held ++ takes.taken) c.in-Ok-Ok.piece takes.says.0).0
+    (piece_at-follows c.pass_in_stream.new.before (c.pass_in_stream.new.intake.held ++ takes.taken) c.in-Ok-Ok.piece takes.says.0).0
 
 pub returns-in-Err-note-clause-read : goal.returns-in-Err-note-clause-read
 returns-in-Err-note-clause-read g c =
@@ -38,8 +38,8 @@ returns-in-Err-note-clause-read g c =
 pub returns-in-Err-note-clause-memory : goal.returns-in-Err-note-clause-memory
 returns-in-Err-note-clause-memory g c = λ full full_bench.
     let takes = rw c.in-Ok-Ok.field-0-is at c.in-Ok-Ok.ensures.takes in
-    let bad : false ≡ true = note_finds_room (false ≡ true) c.args.flux.now c.pass_transitions.new.flux c.args.bench.now c.pass_transitions.new.bench (Progress-on c.in-Ok.count c.loop.invariant.progress c.in-Ok.ensures.reading) takes
-    full (keeps_room_both c.loop.invariant.room c.pass_transitions.ensures.room) full_bench (keeps_bench_both c.loop.invariant.bench c.pass_transitions.ensures.bench) c.in-Err-note.ensures.succeeds in cc
+    let bad : false ≡ true = note_finds_room (false ≡ true) c.args.flux.now c.pass_in_stream.new.flux c.args.bench.now c.pass_in_stream.new.bench (Progress-on c.in-Ok.count c.loop.invariant.progress c.in-Ok.ensures.reading) takes
+    full (keeps_room_both c.loop.invariant.room c.pass_in_stream.ensures.room) full_bench (keeps_bench_both c.loop.invariant.bench c.pass_in_stream.ensures.bench) c.in-Err-note.ensures.succeeds in cc
 
 pub resolve-requires-clause-complete : goal.resolve-requires-clause-complete
 resolve-requires-clause-complete g c =
@@ -56,10 +56,10 @@ returns-in-End-clause-read g c =
 pub returns-in-End-clause-memory : goal.returns-in-End-clause-memory
 returns-in-End-clause-memory g c = λ full full_bench.
     let takes = rw c.in-Ok-Ok.field-0-is at c.in-Ok-Ok.ensures.takes in
-    let none : length c.note.new.flux.indexes ≡ 0 = ap length (c.note.ensures.indexes ∙ c.pass_transitions.ensures.indexes ∙ c.loop.invariant.indexes) in
+    let none : length c.note.new.flux.indexes ≡ 0 = ap length (c.note.ensures.indexes ∙ c.pass_in_stream.ensures.indexes ∙ c.loop.invariant.indexes) in
     end_finds_room c.resolve.result c.note.new.flux.spare_indexes
     (at_end c.in-Ok-Ok.piece c.note.new.flux.times (Progress-on c.in-Ok.count c.loop.invariant.progress c.in-Ok.ensures.reading) takes c.in-End.is c.in-Ok-note.ensures.noted c.in-Ok-note.ensures.times)
-    (omega (arith, none, full.indexes, c.loop.invariant.room.indexes, c.pass_transitions.ensures.room.indexes, c.note.ensures.room.indexes)) c.resolve.ensures.cause
+    (omega (arith, none, full.indexes, c.loop.invariant.room.indexes, c.pass_in_stream.ensures.room.indexes, c.note.ensures.room.indexes)) c.resolve.ensures.cause
 
 pub returns-in-End-clause-cause : goal.returns-in-End-clause-cause
 returns-in-End-clause-cause g c =
@@ -79,7 +79,7 @@ pub behind-before-requires : goal.behind-before-requires
 behind-before-requires g c =
     let takes = rw c.in-Ok-Ok.field-0-is at c.in-Ok-Ok.ensures.takes in record {
       within = (Progress-on c.in-Ok.count c.loop.invariant.progress c.in-Ok.ensures.reading).reading.tally.within;
-      follows = (piece_at-follows c.pass_transitions.new.before (c.pass_transitions.new.intake.held ++ takes.taken) c.in-Ok-Ok.piece takes.says.0).0;
+      follows = (piece_at-follows c.pass_in_stream.new.before (c.pass_in_stream.new.intake.held ++ takes.taken) c.in-Ok-Ok.piece takes.says.0).0;
     }
 
 pub loop-preserved : goal.loop-preserved
@@ -90,10 +90,10 @@ loop-preserved g c =
       progress = rw (c.behind-before.ensures.value, c.in-Ok-note.ensures.times)
           (Progress-push c.in-Ok-Ok.piece c.note.new.bench (Progress-on c.in-Ok.count c.loop.invariant.progress c.in-Ok.ensures.reading) takes
           (not_end c.in-Ok-Ok.piece.block c.in_default.not-End) c.behind-before.ensures.within c.in-Ok-note.ensures.noted);
-      indexes = c.note.ensures.indexes ∙ c.pass_transitions.ensures.indexes ∙ c.loop.invariant.indexes;
-      used = c.take_block.ensures.used ∙ c.pass_transitions.ensures.used ∙ c.loop.invariant.used;
-      room = keeps_room_both (keeps_room_both c.loop.invariant.room c.pass_transitions.ensures.room) c.note.ensures.room;
-      bench = keeps_bench_both (keeps_bench_both c.loop.invariant.bench c.pass_transitions.ensures.bench) c.note.ensures.bench;
+      indexes = c.note.ensures.indexes ∙ c.pass_in_stream.ensures.indexes ∙ c.loop.invariant.indexes;
+      used = c.take_block.ensures.used ∙ c.pass_in_stream.ensures.used ∙ c.loop.invariant.used;
+      room = keeps_room_both (keeps_room_both c.loop.invariant.room c.pass_in_stream.ensures.room) c.note.ensures.room;
+      bench = keeps_bench_both (keeps_bench_both c.loop.invariant.bench c.pass_in_stream.ensures.bench) c.note.ensures.bench;
       later = omega (arith, c.loop.invariant.later, c.take_block.ensures.later);
     }
 
@@ -109,15 +109,15 @@ returns-in-Err-note-clause-takes g c = taken_for_block (Progress-on c.in-Ok.coun
 pub returns-in-End-clause-takes : goal.returns-in-End-clause-takes
 returns-in-End-clause-takes g c = taken_for_block (Progress-on c.in-Ok.count c.loop.invariant.progress c.in-Ok.ensures.reading) c.take_block.ensures.takes
 
-pub pass_transitions-requires : goal.pass_transitions-requires
-pass_transitions-requires g c =
+pub pass_in_stream-requires : goal.pass_in_stream-requires
+pass_in_stream-requires g c =
     let progress = c.loop.invariant.progress in record { read = (c.args.intake.now.held ++ progress.taken, c.loop.number, progress.reading) }
 
 pub returns-in-Err-clause-takes : goal.returns-in-Err-clause-takes
 returns-in-Err-clause-takes g c = let progress = c.loop.invariant.progress in (progress.taken, progress.takes)
 
 pub returns-in-Err-clause-read : goal.returns-in-Err-clause-read
-returns-in-Err-clause-read g c = run_memory c.pass_transitions.new.flux c.loop.invariant.progress c.loop.invariant.bound
+returns-in-Err-clause-read g c = run_memory c.pass_in_stream.new.flux c.loop.invariant.progress c.loop.invariant.bound
 
 pub returns-in-Err-clause-memory : goal.returns-in-Err-clause-memory
 returns-in-Err-clause-memory g c = λ full full_bench.

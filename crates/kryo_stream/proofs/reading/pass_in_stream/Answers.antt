@@ -1,6 +1,6 @@
 use Rattle.std.proofs.Common.{◌≡◌, ◌∙◌, ◌+◌, arith, refl, false, true}
 use Rattle.kryo_stream.proofs.Runs.{is_roomy, reads_none, reads_on_both, still_full_room, still_full_bench, keeps_room_both, keeps_bench_both}
-use Rattle.kryo_stream.proofs.reading.pass_transitions.Goals as goal
+use Rattle.kryo_stream.proofs.reading.pass_in_stream.Goals as goal
 
 pub loop-count-init : goal.loop-count-init
 loop-count-init c = record {
@@ -26,7 +26,7 @@ returns-in_err-more-clause-succeeds c = λ full full_bench.
     let invariant = c.loop-count.invariant in
     let roomy = is_roomy read.0 (read.1 + c.loop-count.count + c.in_ok-count.field-0) c.pass_run.new.intake.held c.pass_run.new.before c.pass_run.new.flux.times c.pass_run.new.bench
     (c.in_ok-count.ensures.reading read.0 (read.1 + c.loop-count.count) (invariant.reading read.0 read.1 read.2)) in
-    let bad : false ≡ true = c.in_err-more.ensures.succeeds roomy.few_times (still_full_room full (keeps_room_both invariant.room c.pass_run.ensures.room)) roomy.few_ends
+    let bad : false ≡ true = c.in_err-more.ensures.succeeds roomy.few_times (still_full_room full (keeps_room_both invariant.room c.pass_run.ensures.room)) roomy.few_ends roomy.few_overflows
     (still_full_bench full_bench (keeps_bench_both invariant.bench c.pass_run.ensures.bench)) in cc
 
 pub returns-then-more-eq0-clause-reading : goal.returns-then-more-eq0-clause-reading
@@ -41,8 +41,8 @@ loop-count-preserved c =
       reading = reads_on_both (c.loop-count.count + c.in_ok-count.field-0) c.in_ok-more.more (c.loop-count.count + c.in_ok-count.field-0 + c.in_ok-more.more)
           (reads_on_both c.loop-count.count c.in_ok-count.field-0 (c.loop-count.count + c.in_ok-count.field-0) invariant.reading c.in_ok-count.ensures.reading refl)
           c.in_ok-more.ensures.reading refl;
-      used = c.pass_two_bytes.ensures.used ∙ c.pass_run.ensures.used ∙ invariant.used;
-      indexes = c.pass_two_bytes.ensures.indexes ∙ c.pass_run.ensures.indexes ∙ invariant.indexes;
-      room = keeps_room_both (keeps_room_both invariant.room c.pass_run.ensures.room) c.pass_two_bytes.ensures.room;
-      bench = keeps_bench_both (keeps_bench_both invariant.bench c.pass_run.ensures.bench) c.pass_two_bytes.ensures.bench;
+      used = c.pass_block.ensures.used ∙ c.pass_run.ensures.used ∙ invariant.used;
+      indexes = c.pass_block.ensures.indexes ∙ c.pass_run.ensures.indexes ∙ invariant.indexes;
+      room = keeps_room_both (keeps_room_both invariant.room c.pass_run.ensures.room) c.pass_block.ensures.room;
+      bench = keeps_bench_both (keeps_bench_both invariant.bench c.pass_run.ensures.bench) c.pass_block.ensures.bench;
     }
