@@ -18,7 +18,8 @@ pub use disk::{
 };
 pub use dump::{Dump, short_dump};
 pub use runs::{
-    Ended, Mismatch, Run, RunPart, Want, comes_to, decode, end_of, gives, is_cut, report, turns,
+    Ended, Files, Mismatch, Run, RunPart, Want, comes_to, decode, decode_folder, decode_set,
+    end_of, gives, is_cut, report, turns,
 };
 pub use short_sink::ShortSink;
 pub use streams::{SHORT, content_of, ring_of, short_streams, three_rings, with_word};

@@ -2,10 +2,10 @@
 use crate::disk::Disk;
 use crate::dump::Dump;
 use crate::short_sink::ShortSink;
-use flux_base::{Memory, MemorySink, MemorySource, Word};
+use flux_base::{Memory, MemorySink, MemorySource, TrackId, Word};
 use flux_cli::run;
 use std::alloc::{AllocError, Global};
-use track_shelf::MemoryShelf;
+use track_shelf::{MemoryShelf, ShelfFile};
 
 /// More bytes than any image or report of the formats has.
 const ROOM: usize = 2_000_000;
@@ -15,15 +15,28 @@ const ROOM: usize = 2_000_000;
 pub struct Run<'a> {
     pub command: &'a str,
     pub format: Option<&'a str>,
-    /// The number of a trial.
-    pub seed: Option<&'a str>,
+    /// The number of a trial, how many streams capture a track, or the name of a folder.
+    pub third: Option<&'a str>,
     pub input: &'a [u8],
+    /// What lies on the shelf, if anything does.
+    pub files: Option<Files<'a>>,
     /// The most bytes that a read gives, and that a write takes.
     pub chunk: u32,
     pub taken: usize,
     pub failing_read: Option<usize>,
     pub failing_image: Option<usize>,
     pub failing_notes: Option<usize>,
+    pub failing_shelf: Option<usize>,
+}
+
+/// The files of a folder, one for each track of a disk.
+#[derive(Clone, Copy)]
+pub struct Files<'a> {
+    pub disk: Disk,
+    pub folder: &'a str,
+    /// The bytes of all files, one after another, and how many a file has: fewer, or none, where they end.
+    pub bytes: &'a [u8],
+    pub size: usize,
 }
 
 /// What a run is to give: its exit code, and the bytes of both sinks.
@@ -57,13 +70,15 @@ pub fn turns(input: &[u8]) -> Run<'_> {
     Run {
         command: "turns",
         format: None,
-        seed: None,
+        third: None,
         input,
+        files: None,
         chunk: 4096,
         taken: ROOM,
         failing_read: None,
         failing_image: None,
         failing_notes: None,
+        failing_shelf: None,
     }
 }
 
@@ -81,6 +96,25 @@ pub fn report(disk: Disk, input: &[u8]) -> Run<'_> {
     Run {
         command: "report",
         ..decode(disk, input)
+    }
+}
+
+/// `decode-set` over the streams of a disk, so many for each track.
+pub fn decode_set<'a>(disk: Disk, count: &'a str, input: &'a [u8]) -> Run<'a> {
+    Run {
+        command: "decode-set",
+        third: Some(count),
+        ..decode(disk, input)
+    }
+}
+
+/// `decode-folder` over a folder of these files. Nothing is to be read but the shelf.
+pub fn decode_folder(files: Files<'_>) -> Run<'_> {
+    Run {
+        command: "decode-folder",
+        third: Some(files.folder),
+        files: Some(files),
+        ..decode(files.disk, &[])
     }
 }
 
@@ -108,7 +142,8 @@ pub fn is_cut(alloc: Global, row: Run, whole: Want, code: u8) -> Result<(), Mism
 
 fn mismatch_of(part: RunPart, row: Run) -> Mismatch {
     let Run { input, .. } = row;
-    let failing = row.failing_read.or(row.failing_image).or(row.failing_notes);
+    let writes = row.failing_image.or(row.failing_notes);
+    let failing = row.failing_read.or(writes).or(row.failing_shelf);
     Mismatch {
         part,
         input: input.len(),
@@ -169,7 +204,7 @@ pub fn end_of(alloc: Global, row: Run) -> Result<Ended, Memory> {
     let mut image = sink_of(alloc, row.failing_image, row.taken)?;
     let mut notes = sink_of(alloc, row.failing_notes, row.taken)?;
     let words = words_of(alloc, row)?;
-    let mut shelf = MemoryShelf::new(Vec::new(alloc), 1, Vec::new(alloc));
+    let mut shelf = shelf_of(alloc, row)?;
     let status = run(
         alloc,
         &words,
@@ -191,6 +226,30 @@ fn sink_of(alloc: Global, failing: Option<usize>, chunk: usize) -> Result<ShortS
     Ok(ShortSink { sink, chunk })
 }
 
+fn shelf_of(alloc: Global, row: Run) -> Result<MemoryShelf, AllocError> {
+    let failing = listed(alloc, row.failing_shelf)?;
+    let files = match row.files {
+        Some(files) => files_of(alloc, files)?,
+        None => Vec::new(alloc),
+    };
+    Ok(MemoryShelf::new(files, row.chunk.max(1), failing))
+}
+
+fn files_of(alloc: Global, files: Files) -> Result<Vec<ShelfFile>, AllocError> {
+    let mut made = Vec::new(alloc);
+    let mut rest = files.bytes;
+    for cylinder in 0..files.disk.cylinders {
+        for head in 0..files.disk.heads {
+            let (bytes, behind) = rest.split_at(files.size.min(rest.len()));
+            let folder = files.folder.as_bytes().to_vec(alloc)?;
+            let track = TrackId { cylinder, head };
+            made.push(ShelfFile::new(folder, track, bytes.to_vec(alloc)?))?;
+            rest = behind;
+        }
+    }
+    Ok(made)
+}
+
 fn listed(alloc: Global, call: Option<usize>) -> Result<Vec<u64>, AllocError> {
     let mut calls = Vec::new(alloc);
     if let Some(number) = call {
@@ -205,8 +264,8 @@ fn words_of(alloc: Global, row: Run) -> Result<Vec<Word>, AllocError> {
     if let Some(format) = row.format {
         words.push(Word::new(format.to_string(alloc)?))?;
     }
-    if let Some(seed) = row.seed {
-        words.push(Word::new(seed.to_string(alloc)?))?;
+    if let Some(third) = row.third {
+        words.push(Word::new(third.to_string(alloc)?))?;
     }
     Ok(words)
 }

@@ -1,4 +1,5 @@
-//! Images that are written as streams and read back: tests alone, of `flux_cli::run` and of the calls below it.
+//! Images that are written as streams and read back, and disks of which several streams capture each track: tests alone, of
+//! `flux_cli::run` and of the calls below it.
 #![tactic(auto)]
 
 #[cfg(test)]

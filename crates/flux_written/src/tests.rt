@@ -1,4 +1,6 @@
+mod captures;
 mod images;
 mod pc_disk;
 mod runs;
+mod sets;
 mod tracks;

@@ -29,7 +29,7 @@ pub fn of_format<'a>(command: &'a str, disk: Disk, input: &'a [u8]) -> Run<'a> {
 /// The trial of a number.
 pub fn trial(disk: Disk, seed: &str) -> Run<'_> {
     Run {
-        seed: Some(seed),
+        third: Some(seed),
         ..of_format("trial", disk, &[])
     }
 }

@@ -4,7 +4,7 @@ use flux_rows::{
     IBM_720, Run, Want, decode, first_bytes, first_lines, first_lines_and, gives, short_streams,
     turns,
 };
-use std::alloc::Global;
+use std::alloc::{AllocError, Global};
 use std::process::Abort;
 use std::test::Fail;
 
@@ -35,18 +35,9 @@ struct Written {
 }
 
 fn write_image(rt: &impl Abort, alloc: Global) -> Result<Written, Fail> {
-    let image: Vec<u8> = vec![in alloc; 0xF6; 737_280]?;
-    let end = ends(alloc, "write", "ibm-720", &image, None)?;
-    assert_eq!(rt; end.code, 0);
-    assert_eq!(rt; end.notes.bytes().len(), 0);
-    let streams = end.image.bytes().to_vec(alloc)?;
-    let mut lines = Vec::new(alloc);
-    for cylinder in 0..80u8 {
-        for head in 0..2u8 {
-            push_lines(alloc, &mut lines, cylinder, head)?;
-        }
-    }
-    lines.extend_from_slice(b"total 1440 good 1440 bad 0 missing 0 contradictory 0\n")?;
+    let image = image_of(alloc, 0xF6)?;
+    let streams = streams_of(rt, alloc, &image)?;
+    let lines = report_of(alloc, LINES)?;
     Ok(Written {
         image,
         streams,
@@ -54,8 +45,41 @@ fn write_image(rt: &impl Abort, alloc: Global) -> Result<Written, Fail> {
     })
 }
 
-fn push_lines(alloc: Global, lines: &mut Vec<u8>, cylinder: u8, head: u8) -> Result<(), Fail> {
-    for text in LINES {
+/// An image of bytes F6, but for those of the first sector.
+pub fn image_of(alloc: Global, first: u8) -> Result<Vec<u8>, AllocError> {
+    let mut image: Vec<u8> = vec![in alloc; first; 512]?;
+    image.resize(737_280, 0xF6)?;
+    Ok(image)
+}
+
+/// The streams that an image is written as.
+pub fn streams_of(rt: &impl Abort, alloc: Global, image: &[u8]) -> Result<Vec<u8>, Fail> {
+    let end = ends(alloc, "write", "ibm-720", image, None)?;
+    assert_eq!(rt; end.code, 0);
+    assert_eq!(rt; end.notes.bytes().len(), 0);
+    Ok(end.image.bytes().to_vec(alloc)?)
+}
+
+/// The report of a good disk, of which each track's lines have these texts after the track's name.
+pub fn report_of(alloc: Global, texts: [&str; 9]) -> Result<Vec<u8>, Fail> {
+    let mut lines = Vec::new(alloc);
+    for cylinder in 0..80u8 {
+        for head in 0..2u8 {
+            push_lines(alloc, &mut lines, cylinder, head, texts)?;
+        }
+    }
+    lines.extend_from_slice(b"total 1440 good 1440 bad 0 missing 0 contradictory 0\n")?;
+    Ok(lines)
+}
+
+fn push_lines(
+    alloc: Global,
+    lines: &mut Vec<u8>,
+    cylinder: u8,
+    head: u8,
+    texts: [&str; 9],
+) -> Result<(), Fail> {
+    for text in texts {
         let line = format!(in alloc; "{cylinder:02}.{head} {text}\n")?;
         lines.extend_from_slice(line.as_bytes())?;
     }
@@ -63,7 +87,7 @@ fn push_lines(alloc: Global, lines: &mut Vec<u8>, cylinder: u8, head: u8) -> Res
 }
 
 /// The bytes to the end of the first End block.
-fn first_stream(bytes: &[u8]) -> &[u8] {
+pub fn first_stream(bytes: &[u8]) -> &[u8] {
     let mut run = 0u8;
     for (place, byte) in bytes.iter().enumerate() {
         run = if *byte == 0x0D {
