@@ -24,6 +24,3 @@ pub use laws::outcomes_are_one;
 pub use program::run;
 pub use standard::{StdSink, StdSource};
 pub use std_shelf::StdShelf;
-
-#[cfg(test)]
-mod tests;

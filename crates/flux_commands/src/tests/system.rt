@@ -1,0 +1,63 @@
+//! A folder of real files.
+use super::{Ended, TWO_TRANSITIONS, ended_so, words_of};
+use flux_base::{MemorySink, MemorySource, Status};
+use flux_cli::{StdShelf, run};
+use std::fs;
+use std::process::Abort;
+use std::test::Fail;
+
+/// Runs `decode-folder apple-do` over this folder of the system.
+fn decode_folder(rt: &HostRuntime, folder: &str) -> Result<Ended, Fail> {
+    let alloc = rt.alloc();
+    let words = words_of(alloc, &["decode-folder", "apple-do", folder])?;
+    let mut source = MemorySource::new(Vec::new(alloc), 1, Vec::new(alloc));
+    let mut image = MemorySink::new(alloc, 200_000, Vec::new(alloc))?;
+    let mut notes = MemorySink::new(alloc, 20_000, Vec::new(alloc))?;
+    let mut shelf = StdShelf::new(rt);
+    let status = run(
+        alloc,
+        &words,
+        &mut source,
+        &mut image,
+        &mut notes,
+        &mut shelf,
+    );
+    Ok(Ended {
+        status,
+        source,
+        image,
+        notes,
+    })
+}
+
+/// Writes the streams of all tracks, on none of which a sector stands.
+fn make_folder(rt: &HostRuntime, folder: &str) -> Result<(), Fail> {
+    fs::create_dir(rt, folder)?;
+    for cylinder in 0..35 {
+        let path = format!(in rt.alloc(); "{folder}/track{cylinder:02}.0.raw")?;
+        fs::write(rt, path.as_str(), TWO_TRANSITIONS.as_slice())?;
+    }
+    Ok(())
+}
+
+/// An image of zeros was written, and that all sectors are missing.
+fn is_empty(rt: &impl Abort, end: &Ended) {
+    let total = b"34.0 15 missing 0 0\ntotal 560 good 0 bad 0 missing 560 contradictory 0\n";
+    assert_eq!(rt; end.status, Status::NotAllGood);
+    assert!(rt; end.image.bytes() == [0; 143_360].as_slice());
+    assert!(rt; end.notes.bytes().ends_with(total));
+}
+
+#[test]
+fn a_folder_of_the_system(rt: HostRuntime) -> Result<(), Fail> {
+    let folder = "a dump of träcks";
+    make_folder(&rt, folder)?;
+    let whole = decode_folder(&rt, folder)?;
+    fs::remove_file(&rt, "a dump of träcks/track34.0.raw")?;
+    let missing = decode_folder(&rt, folder)?;
+    fs::remove_dir_all(&rt, folder)?;
+    is_empty(&rt, &whole);
+    let line = b"refused track 34 missing track34.0.raw\n";
+    ended_so(&rt, &missing, Status::Refused, b"", line);
+    Ok(())
+}
