@@ -147,7 +147,7 @@ def case_words(chance, kinds, built):
     """Words that are no command, or almost none."""
     kinds.add("words")
     form = chance.choice(list(FORMATS)).encode()
-    command = chance.choice([b"turns", b"decode", b"report", b"write", b"trial", b"to-g64", b"from-g64", b"decode-set", b"TURNS", b"", b"-h"])
+    command = chance.choice([b"turns", b"decode", b"report", b"write", b"trial", b"to-g64", b"from-g64", b"decode-set", b"TURNS", b"", b"-x"])
     number = chance.choice([b"1", b"", b"4294967296", b"99999999999", b"00000000001", b"+1", b"-1", b" 1", b"1 ", b"0x1", b"1.0", "\u0661".encode(),
                             b"17", b"0", b"00", b"016", b"1a"])
     words = chance.choice([
