@@ -44,7 +44,8 @@ impl Band {
     {
         let lowest = u64::from(self.lowest);
         let highest = u64::from(self.highest);
-        if period < lowest || highest < period {
+        // One comparison, since the two sides are met in no order: a period below the band wraps to more than any width.
+        if highest.saturating_sub(lowest) < period.wrapping_sub(lowest) {
             return end_of_band(lowest, highest, period);
         }
         period
