@@ -1,5 +1,5 @@
 //! A small run of each command.
-use flux_rows::{Disk, Run, SHORT, first_bytes, short_streams, turns};
+use flux_rows::{Disk, Files, IBM_3740, Run, SHORT, first_bytes, short_streams, turns};
 use std::alloc::{AllocError, Global};
 
 /// A G64 file of one half track, which has no cells.
@@ -12,9 +12,29 @@ pub fn in_sevens(run: Run<'_>) -> Run<'_> {
 
 /// Two shortest streams, and the front of a third.
 pub fn two_tracks(alloc: Global) -> Result<Vec<u8>, AllocError> {
-    let mut input = short_streams(alloc, 2, 0)?;
+    streams_and_front(alloc, 2)
+}
+
+/// Two captures of each of two tracks, and of the third track one and the front of another, all of them shortest streams.
+pub fn two_tracks_twice(alloc: Global) -> Result<Vec<u8>, AllocError> {
+    streams_and_front(alloc, 5)
+}
+
+/// So many shortest streams, and 30 bytes of one more.
+fn streams_and_front(alloc: Global, count: usize) -> Result<Vec<u8>, AllocError> {
+    let mut input = short_streams(alloc, count, 0)?;
     input.extend_from_slice(first_bytes(&SHORT, 30))?;
     Ok(input)
+}
+
+/// These streams as the files of a folder: the later files have no bytes.
+pub fn in_files(bytes: &[u8]) -> Files<'_> {
+    Files {
+        disk: IBM_3740,
+        folder: "dump",
+        bytes,
+        size: SHORT.len(),
+    }
 }
 
 /// A command over the bytes of a format.
@@ -31,5 +51,13 @@ pub fn trial(disk: Disk, seed: &str) -> Run<'_> {
     Run {
         third: Some(seed),
         ..of_format("trial", disk, &[])
+    }
+}
+
+/// What the program says of itself.
+pub fn page(command: &str) -> Run<'_> {
+    Run {
+        command,
+        ..turns(&[])
     }
 }
