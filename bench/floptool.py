@@ -110,10 +110,18 @@ def back(program, word, folder, image):
     return (folder / f"own.{ending}").read_bytes() == image
 
 
+def image_of(word):
+    """Random bytes. By Acorn's catalogue floptool tells how many tracks a disk has, so there it is an empty one."""
+    image = random.Random(word).randbytes(plain.FORMATS[word].image_bytes)
+    if word.startswith("acorn"):
+        image = bytes(262) + struct.pack(">H", len(image) // 256) + bytes(248) + image[512:]
+    return image
+
+
 def main():
     program = sys.argv[1] if len(sys.argv) > 1 else str(TOP / "crates/flux/out/flux")
     for word in sys.argv[2:] or KNOWN:
-        image = random.Random(word).randbytes(plain.FORMATS[word].image_bytes)
+        image = image_of(word)
         with tempfile.TemporaryDirectory() as folder:
             same, total = there(program, word, Path(folder), image)
             returned = back(program, word, Path(folder), image)
