@@ -1,4 +1,4 @@
-ghost use Rattle.std.specs.Prelude.{◌≡◌, ℕ, ◌*◌, ◌^◌, ◌<◌, ◌≤◌, [], ◌∷◌, ◌++◌, All, length, take, flat_map, OnOk, OnErr, IsOk};
+ghost use Rattle.std.specs.Prelude.{◌≡◌, ℕ, ◌+◌, ◌-◌, ◌*◌, ◌^◌, ◌<◌, ◌≤◌, [], ◌∷◌, ◌++◌, All, length, take, flat_map, OnOk, OnErr, IsOk};
 ghost use Rattle.cell_bits.specs.State.{room};
 ghost use Rattle.cell_bits.specs.Word.{word_cells};
 ghost use Rattle.cell_bits.specs.inside.Spread.{spread_of};
@@ -35,8 +35,11 @@ static FOUR_RUNS: [u16; 256] = [
     0x0223, 0x0445, 0x0889, 0x1111,
 ];
 
-/// The place of four counts of 1 in the table, were it counted from none.
-const ONES_PLACE: usize = 64 + 16 + 4 + 1;
+/// Times four bytes of a number this is in its high byte 64, 16, 4 and 1 times the bytes, added up.
+const PLACES: u32 = (1 << 30) + (1 << 20) + (1 << 10) + 1;
+
+/// A one in each of four bytes. Times four bytes of a number it is in its high byte their sum.
+const ONES: u32 = (1 << 24) + (1 << 16) + (1 << 8) + 1;
 
 /// How many short runs are appended together: at most 32 cells, as many as `append` takes.
 const GROUP: usize = 8;
@@ -200,10 +203,33 @@ fn four_runs(first: u8, second: u8, third: u8, fourth: u8) -> (u64, u32)
     ensures least { 4 ≤ result.1 }
     ensures most { result.1 ≤ 16 }
 {
-    let pair = 4 * first as usize + second as usize;
-    let place = 4 * (4 * pair + third as usize) + fourth as usize;
-    let cells = first as u32 + second as u32 + third as u32 + fourth as u32;
-    (FOUR_RUNS[place - ONES_PLACE] as u64, cells)
+    let place = place_of_four(first, second, third, fourth);
+    let cells = sum_of_four(first, second, third, fourth);
+    (FOUR_RUNS[place] as u64, cells)
+}
+
+/// The place of four counts, each of 1 to 4, in the table.
+fn place_of_four(first: u8, second: u8, third: u8, fourth: u8) -> usize
+    requires short { All IsShortRun (first ∷ second ∷ third ∷ fourth ∷ []) }
+    ensures { result ≡ 4 * (4 * (4 * first + second) + third) + fourth - 85 }
+{
+    let counts = bytes_in_row(first, second, third, fourth);
+    ((counts - ONES).wrapping_mul(PLACES) >> 24) as usize
+}
+
+/// The sum of four counts, each of 1 to 4.
+fn sum_of_four(first: u8, second: u8, third: u8, fourth: u8) -> u32
+    requires short { All IsShortRun (first ∷ second ∷ third ∷ fourth ∷ []) }
+    ensures { result ≡ first + second + third + fourth }
+{
+    bytes_in_row(first, second, third, fourth).wrapping_mul(ONES) >> 24
+}
+
+/// Four bytes as one number, the first lowest, as they stand in memory.
+fn bytes_in_row(first: u8, second: u8, third: u8, fourth: u8) -> u32
+    ensures { result ≡ first + 2 ^ 8 * second + 2 ^ 16 * third + 2 ^ 24 * fourth }
+{
+    first as u32 + ((second as u32) << 8) + ((third as u32) << 16) + ((fourth as u32) << 24)
 }
 
 /// The bits of a byte with a zero before each: a number of 16 bits.
