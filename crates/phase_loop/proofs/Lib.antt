@@ -6,8 +6,9 @@ pub mod Appending
 pub mod Quotients
 pub mod Windows
 pub mod Stretches
-pub mod Between
 pub mod Nearness
+pub mod Certain
+pub mod Between
 pub mod Clock
 pub mod Tracking
 pub mod Carrying

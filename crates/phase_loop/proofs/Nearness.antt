@@ -26,7 +26,7 @@ pub record IsTimed (nominal ideal fine : ℕ) : Type 0 where
 abbrev periods_in : (way period : ℕ) → ℕ
 periods_in way period = max 1 ((2 * way + period) / (2 * period))
 
-is_count : (way period count : ℕ) → 1 ≤ count → count * (2 * period) ≤ 2 * way + period → 2 * way + period < (count + 1) * (2 * period)
+pub is_count : (way period count : ℕ) → 1 ≤ count → count * (2 * period) ≤ 2 * way + period → 2 * way + period < (count + 1) * (2 * period)
     → periods_in way period ≡ count
 is_count way period count some low high =
     let quotient : (2 * way + period) / (2 * period) ≡ count = div-eq_of_lt-le (2 * period) low high in

@@ -7,6 +7,7 @@ pub mod Loop
 pub mod Reciprocals
 pub mod Appended
 pub mod Stretch
+pub mod Certain
 pub mod Carried
 pub mod Pieces
 pub mod Sizes

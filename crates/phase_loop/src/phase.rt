@@ -1,6 +1,7 @@
 //! The loop that follows a track's clock.
 ghost use Rattle.std.specs.Prelude.{◌≡◌, ℕ, ◌+◌, ◌*◌, ◌/◌, ◌^◌, ◌≤◌, ◌<◌, max, [], ◌∷◌, ◌++◌, List, length, IfOk, ◌↔◌, IsTrue};
 
+mod certain;
 mod guess;
 mod stretch;
 

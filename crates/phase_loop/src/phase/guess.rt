@@ -1,14 +1,11 @@
 //! Guesses of counts, before the loop takes the transitions.
-ghost use Rattle.std.specs.Prelude.{◌≡◌, ◌+◌, ◌^◌, ◌<◌, ◌≤◌, length, All};
+ghost use Rattle.std.specs.Prelude.{◌≡◌, ◌≤◌, length, All};
 ghost use Rattle.cell_bits.specs.Run.{IsShortRun};
 
 use crate::start::FINE_PER_TICK;
 
 /// A whole cell, in parts.
-const WHOLE: u64 = 1 << 20;
-
-/// A guess looks at fewer ticks, so that no product is too large. A longer interval is guessed wrong.
-const TOO_LONG: u64 = 1 << 32;
+const WHOLE: u32 = 1 << 16;
 
 /// Guesses how many cells lie from a transition to the next, by the period with which a stretch begins.
 ///
@@ -18,39 +15,34 @@ const TOO_LONG: u64 = 1 << 32;
 #[derive(Clone, Copy, Debug, PartialEq, Eq)]
 pub struct Guess {
     /// How much of a cell a tick is, where a whole one is `WHOLE`.
-    part: u64,
+    part: u32,
 }
 
 impl Guess {
     pub(crate) fn by(period: u64) -> Guess
         requires { 1 ≤ period }
-        ensures { result.part ≤ 2 ^ 30 }
     {
         Guess {
-            part: FINE_PER_TICK * WHOLE / period,
+            part: (FINE_PER_TICK * u64::from(WHOLE) / period) as u32,
         }
     }
 
-    /// Puts a count for each of the intervals between these times.
-    pub(crate) fn put_counts(self, times: &[u64], counts: &mut [u8])
-        requires part { self.part ≤ 2 ^ 30 }
-        requires times { length times.now ≡ length counts.old + 1 }
+    /// Puts a count for each interval, whose lengths are these ticks.
+    pub(crate) fn put_counts(self, ticks: &[u32], counts: &mut [u8])
+        requires ticks { length ticks.now ≡ length counts.old }
         ensures length { length counts.new ≡ length counts.old }
         ensures short { All IsShortRun counts.new }
     {
         for place in 0..counts.len() {
-            let ticks = times[place + 1].wrapping_sub(times[place]);
-            counts[place] = self.count(ticks % TOO_LONG);
+            counts[place] = self.count(ticks[place]);
         }
     }
 
     /// A count of cells from one to four, since no recording has more from one transition to the next.
-    fn count(self, ticks: u64) -> u8
-        requires part { self.part ≤ 2 ^ 30 }
-        requires ticks { ticks < 2 ^ 32 }
+    fn count(self, ticks: u32) -> u8
         ensures { IsShortRun result }
     {
-        let count = (ticks * self.part + WHOLE / 2) / WHOLE;
-        ((count % 256) as u8).max(1).min(4)
+        let parts = ticks.wrapping_mul(self.part).wrapping_add(WHOLE / 2);
+        (parts / WHOLE).max(1).min(4) as u8
     }
 }

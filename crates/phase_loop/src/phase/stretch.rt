@@ -5,8 +5,10 @@ ghost use Rattle.cell_bits.specs.State.{room};
 ghost use Rattle.cell_bits.specs.Run.{IsShortRun};
 ghost use Rattle.circular_buffer.specs.Buffer.{buffer};
 ghost use Rattle.phase_loop.specs.Window.{IsShort, IsWindow, fine_total};
+ghost use Rattle.phase_loop.specs.Certain.{AreTicks};
 ghost use Rattle.phase_loop.specs.Stretch.{intervals_with, counts_of, stand_next, AreBetween, AreGuessed, Carries, IsStretch, TakesRuns};
 
+use super::certain::put_ticks;
 use super::guess::Guess;
 use super::{Loop, are_few, few_periods_in};
 use crate::start::{Band, FINE_PER_TICK};
@@ -132,18 +134,48 @@ impl Loop {
         ensures succeeds { 32 * length times.now ≤ room cells.old → IsOk result }
     {
         let most = STRETCH.min(times.len() - 1 - last);
-        let guess = Guess::by(self.period);
-        guess.put_counts(
-            &times[last..last + most + 1],
+        let mut ticks = [0; INTERVALS + STRETCH];
+        put_ticks(times, last - INTERVALS, INTERVALS + most, &mut ticks);
+        Guess::by(self.period).put_counts(
+            &ticks[INTERVALS..INTERVALS + most],
             &mut counts[INTERVALS..INTERVALS + most],
         );
-        let (stand, taken) = self.take_guesses(times, last, most, counts);
+        let (stand, taken) = self.take_counts(times, last, most, &mut ticks, counts);
         cells.push_short_runs(&counts[INTERVALS..INTERVALS + taken])?;
         Ok((stand, last + taken))
     }
 
-    /// Takes the transitions of a stretch, whose counts are guessed, and puts right a count that is guessed wrong. The
-    /// answer is the stand at the last that it takes, and how many they are.
+    /// Takes the transitions of a stretch, whose counts are guessed: all of them where they are certain, and else one after
+    /// another. The answer is the stand at the last that it takes, and how many they are.
+    fn take_counts(
+        &self,
+        times: &[u64],
+        last: usize,
+        most: usize,
+        ticks: &mut [u32; INTERVALS + STRETCH],
+        counts: &mut [u8; INTERVALS + STRETCH],
+    ) -> (Stand, usize)
+        requires rising { IsNonDecreasing times.now }
+        requires within { All (λ time. time ≤ 2 ^ 39) times.now }
+        requires inside { last + most < length times.now }
+        requires most { most ≤ 512 }
+        requires here { self.now.fine ≡ 1024 * slice_index times.now last }
+        requires full { length self.now.recent ≡ 64 }
+        requires window { AreBetween times.now last self.now.recent }
+        requires counts { take 64 counts.old ≡ counts_of self.now.recent }
+        requires ticks { AreTicks times.now (last - 64) (64 + most) ticks.old }
+        requires guesses { AreGuessed most counts.old }
+        ensures most { result.1 ≤ most }
+        ensures guesses { AreGuessed most counts.new }
+        ensures stretch { TakesRuns times.now last result.1 self.now result.0 counts.new }
+    {
+        match self.take_certain(times, last, most, ticks, counts) {
+            Some(stand) => (stand, most),
+            None => self.take_guesses(times, last, most, counts),
+        }
+    }
+
+    /// Takes the transitions of a stretch one after another, and puts right a count that is guessed wrong.
     fn take_guesses(
         &self,
         times: &[u64],
@@ -183,7 +215,7 @@ impl Loop {
         (stand, most)
     }
 
-    fn stand(&self) -> Stand
+    pub(super) fn stand(&self) -> Stand
         ensures place { (result.place ≡ self.now.place) × (result.period ≡ self.now.period) }
         ensures window { IsWindow (buffer self.now.recent 64) (fine_total self.now.recent) result.count }
         ensures bounds { (result.place ≤ self.now.fine + 163840) × (12288 ≤ result.period) × (result.period ≤ 163840) }
@@ -268,7 +300,7 @@ impl Stand {
 
     /// The stand at the next transition, where the cells to it have this length, and the window gets this total of cells
     /// and this mean.
-    fn after(self, band: Band, fine: u64, length: u64, total: u64, mean: u64) -> Stand
+    pub(super) fn after(self, band: Band, fine: u64, length: u64, total: u64, mean: u64) -> Stand
         requires fine { fine ≤ 2 ^ 49 }
         requires place { self.place ≤ 2 ^ 50 }
         requires length { length ≤ 4 * 163840 }

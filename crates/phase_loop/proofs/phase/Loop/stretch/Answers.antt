@@ -5,13 +5,13 @@ use Rattle.cell_bits.specs.Run.{IsShortRun, run_cells}
 use Rattle.phase_loop.proofs.Stretches.{stretch_with, taken_short}
 use Rattle.phase_loop.proofs.phase.Loop.stretch.Goals as goal
 
-pub take_guesses-taken-requires-clause-counts : goal.take_guesses-taken-requires-clause-counts
-take_guesses-taken-requires-clause-counts c =
+pub take_counts-taken-requires-clause-counts : goal.take_counts-taken-requires-clause-counts
+take_counts-taken-requires-clause-counts c =
     take-put_mid_below 64 (64 + c.min-most.result - 64) c.args.counts.now c.put_counts.new.counts 64 (omega arith) (omega (arith, c.told-counts))
     ∙ c.requires.counts
 
-pub take_guesses-taken-requires-clause-guesses : goal.take_guesses-taken-requires-clause-guesses
-take_guesses-taken-requires-clause-guesses c =
+pub take_counts-taken-requires-clause-guesses : goal.take_counts-taken-requires-clause-guesses
+take_counts-taken-requires-clause-guesses c =
     let most : ℕ = c.min-most.result in
     let many : 64 + most - 64 ≡ most = omega arith in
     let is : take most (drop 64 (put_mid 64 (64 + most - 64) c.args.counts.now c.put_counts.new.counts)) ≡ c.put_counts.new.counts =
@@ -21,17 +21,17 @@ take_guesses-taken-requires-clause-guesses c =
 
 pub push_short_runs-requires : goal.push_short_runs-requires
 push_short_runs-requires c =
-    let many : 64 + c.take_guesses-taken.result.1 - 64 ≡ c.take_guesses-taken.result.1 = omega arith in
+    let many : 64 + c.take_counts-taken.result.1 - 64 ≡ c.take_counts-taken.result.1 = omega arith in
     record {
-      short = subst (λ n. All IsShortRun (take n (drop 64 c.take_guesses-taken.new.counts))) (sym many)
-          (taken_short c.min-most.result c.take_guesses-taken.new.counts c.take_guesses-taken.result.1 c.take_guesses-taken.ensures.guesses c.take_guesses-taken.ensures.most);
+      short = subst (λ n. All IsShortRun (take n (drop 64 c.take_counts-taken.new.counts))) (sym many)
+          (taken_short c.min-most.result c.take_counts-taken.new.counts c.take_counts-taken.result.1 c.take_counts-taken.ensures.guesses c.take_counts-taken.ensures.most);
     }
 
 pub returns-clause-stretch : goal.returns-clause-stretch
 returns-clause-stretch c =
-    let taken : ℕ = c.take_guesses-taken.result.1 in
+    let taken : ℕ = c.take_counts-taken.result.1 in
     let behind : c.args.last + taken - c.args.last ≡ taken = omega arith in
     let many : 64 + taken - 64 ≡ taken = omega arith in
-    rw behind (stretch_with _ _ _ _ _ _ _ _ _ (c.take_guesses-taken.ensures.stretch c.args.cells.now c.requires.short)
-    (c.in_ok-push_short_runs.ensures.cells ∙ ap (λ n. c.args.cells.now.cells ++ flat_map run_cells (take n (drop 64 c.take_guesses-taken.new.counts))) many)
+    rw behind (stretch_with _ _ _ _ _ _ _ _ _ (c.take_counts-taken.ensures.stretch c.args.cells.now c.requires.short)
+    (c.in_ok-push_short_runs.ensures.cells ∙ ap (λ n. c.args.cells.now.cells ++ flat_map run_cells (take n (drop 64 c.take_counts-taken.new.counts))) many)
     c.push_short_runs.ensures.room)

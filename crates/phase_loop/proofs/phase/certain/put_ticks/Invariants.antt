@@ -1,0 +1,9 @@
+use Rattle.std.proofs.Common.{◌≡◌, length}
+use Rattle.phase_loop.specs.Certain.{AreTicks}
+use Rattle.phase_loop.proofs.phase.certain.put_ticks.Given as goal
+
+abbrev pub invariant-loop-place : goal.invariant-loop-place
+invariant-loop-place l = record {
+  whole : length l.ticks ≡ 576;
+  are : AreTicks l.times l.first l.place l.ticks;
+}
