@@ -45,7 +45,7 @@ def case_turns(chance, kinds, built):
 def reader(chance, kinds, built):
     """Words that read the streams of a disk, the format, and the captures of a track."""
     form = chance.choice(list(FORMATS.values()))
-    more = [word for word in (b"decode-set", b"rescue") if word in built]
+    more = [word for word in (b"decode-set", b"rescue", b"map") if word in built]
     command = chance.choice([b"decode", b"decode", b"report"] + 2 * more)
     kinds.add(f"format {form.word}")
     words, captures = [command, form.word.encode()], 1
@@ -147,7 +147,8 @@ def case_words(chance, kinds, built):
     """Words that are no command, or almost none."""
     kinds.add("words")
     form = chance.choice(list(FORMATS)).encode()
-    command = chance.choice([b"turns", b"decode", b"report", b"write", b"trial", b"to-g64", b"from-g64", b"decode-set", b"TURNS", b"", b"-x"])
+    command = chance.choice([b"turns", b"decode", b"report", b"write", b"trial", b"to-g64", b"from-g64", b"decode-set", b"rescue",
+                             b"map", b"TURNS", b"", b"-x"])
     number = chance.choice([b"1", b"", b"4294967296", b"99999999999", b"00000000001", b"+1", b"-1", b" 1", b"1 ", b"0x1", b"1.0", "\u0661".encode(),
                             b"17", b"0", b"00", b"016", b"1a"])
     words = chance.choice([

@@ -4,7 +4,9 @@
 The exit code and the bytes of standard output and standard error have to be the same. Cases are made from a seed and their number,
 so that each can be made again. The smallest input that differs is kept, with both answers.
 
-usage: bench/compare.py PROGRAM [--cases N] [--seed S] [--first I] [--processes P] [--keep FOLDER]
+usage: bench/compare.py PROGRAM [--cases N] [--seed S] [--first I] [--processes P] [--keep FOLDER] [--work FOLDER]
+
+Inputs that the program reads from files lie in a folder of the run's own, below --work or where temporary files are, which goes at its end.
 """
 import argparse
 import collections
@@ -12,6 +14,8 @@ import multiprocessing
 import os
 import pathlib
 import random
+import re
+import signal
 import subprocess
 import sys
 import tempfile
@@ -29,19 +33,20 @@ def options():
     parser.add_argument("--first", type=int, default=0, help="the number of the first case")
     parser.add_argument("--processes", type=int, default=os.cpu_count())
     parser.add_argument("--keep", default="differs")
+    parser.add_argument("--work", help="the folder below which temporary files lie")
     return parser.parse_args()
 
 
-def run(program, words, data, by_file):
-    """The program's code and bytes, over a pipe, over a file, or over the files of a folder."""
+def run(program, words, data, work=None):
+    """The program's code and bytes, over a pipe, or with a folder to work in over a file or over the files of a folder."""
     if isinstance(data, dict):
-        with tempfile.TemporaryDirectory() as folder:
+        with tempfile.TemporaryDirectory(dir=work) as folder:
             for name, content in data.items():
                 pathlib.Path(folder, name).write_bytes(content)
-            return run(program, [*words[:2], folder.encode()], b"", by_file)
+            return run(program, [*words[:2], folder.encode()], b"")
     command = [os.path.abspath(program).encode(), *words]
-    if by_file:
-        with tempfile.TemporaryFile() as source:
+    if work:
+        with tempfile.TemporaryFile(dir=work) as source:
             source.write(data)
             source.seek(0)
             done = subprocess.run(command, stdin=source, capture_output=True)
@@ -56,27 +61,27 @@ PROBES = {b"decode": [b"ibm-3740"], b"report": [b"ibm-3740"], b"write": [b"ibm-3
           b"decode-folder": [b"apple-do", b"/nowhere"]}
 
 # The same of words that the usage line does not name.
-MORE_PROBES = {b"rescue": [b"apple-do"]}
+MORE_PROBES = {b"rescue": [b"apple-do"], b"map": [b"apple-do"]}
 
 
 def commands_of(program):
     """The usage line, and the commands that it offers and that are built."""
-    code, out, usage = run(program, [], b"", False)
+    code, out, usage = run(program, [], b"")
     usage = usage.rstrip(b"\n")
     if code != 3 or out or usage.decode() not in plain.USAGES:
         sys.exit(f"no usage line of flux: {usage!r}")
     offered = [word for word in PROBES if b"| " + word + b" " in usage]
     asked = {word: PROBES[word] for word in offered} | MORE_PROBES
-    return usage, {word for word, rest in asked.items() if run(program, [word, *rest], b"", False)[0] != 3}
+    return usage, {word for word, rest in asked.items() if run(program, [word, *rest], b"")[0] != 3}
 
 
 def one(task):
     """Runs a case: its kinds, the answer's kind, and what differs, or None."""
-    program, seed, number, usage, built = task
+    program, seed, number, usage, built, work = task
     chance = random.Random(f"{seed} {number}")
     name, words, data, kinds = cases.make(chance, built)
     wanted = plain.outcome(words, data, built, usage)
-    got = run(program, words, data, number % 2 == 0)
+    got = run(program, words, data, work if number % 2 == 0 or isinstance(data, dict) else None)
     return number, name, kinds, answer_of(words, wanted), (words, data, wanted, got) if wanted != got else None
 
 
@@ -88,8 +93,9 @@ def answer_of(words, wanted):
     if code == 2:
         fault = last[0].decode().split()
         found.append("refused: " + next((part for part in fault if part[0].isupper()), "image"))
-    lines = (notes if words and words[0] != b"report" else out).decode().splitlines()
-    return found + sorted({"verdict " + line.split()[2] for line in lines if line[2:3] == "." and len(line.split()) > 3})
+    text = (out if words and words[0] in (b"report", b"map") else notes).decode()
+    verdicts = re.findall(r"(?:^|<title>)[0-9]{2}\.[01] [0-9]{2,3} ([a-z]+) ", text, re.MULTILINE)
+    return found + sorted({"verdict " + verdict for verdict in verdicts})
 
 
 def size_of(data):
@@ -116,12 +122,18 @@ def table(title, counter):
 
 def main():
     args = options()
+    signal.signal(signal.SIGTERM, lambda *_: sys.exit(143))
+    with tempfile.TemporaryDirectory(prefix="compare-", dir=args.work) as work:
+        return compare(args, work)
+
+
+def compare(args, work):
     usage, built = commands_of(args.program)
     begin = time.time()
     names, kinds, answers, slowest = (collections.Counter() for _ in range(4))
     different = collections.Counter()
     first = None
-    tasks = ((args.program, args.seed, number, usage, built) for number in range(args.first, args.first + args.cases))
+    tasks = ((args.program, args.seed, number, usage, built, work) for number in range(args.first, args.first + args.cases))
     with multiprocessing.Pool(args.processes) as pool:
         for number, name, done, answer, differs in pool.imap_unordered(one, tasks):
             names[name] += 1

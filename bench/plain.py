@@ -1,12 +1,14 @@
 """What flux is to answer, read off the definitions as plainly as they stand: slow, of whole lists, one sentence a line.
 
 It shares nothing with the program. `outcome(words, input, ..)` gives the exit code and the bytes for standard output and for standard
-error. Streams are read in plain_streams.py, sectors in plain_recordings.py; here are formats, verdicts, lines and commands.
+error. Streams are read in plain_streams.py, sectors in plain_recordings.py, pictures are drawn in plain_map.py; here are formats, verdicts,
+lines and commands.
 """
 import bisect
 import itertools
 import struct
 
+from plain_map import picture
 from plain_recordings import AmigaMfm, AppleGcr, CommodoreGcr, IbmFm, IbmMfm, places_of, word
 from plain_streams import LIMIT, Refused, Stream, number_at, padding_at, places_of_ones, recovered, stream_of_times
 
@@ -312,6 +314,14 @@ def report(form, data):
     return code, "".join(answer.lines).encode(), (refused or "").encode()
 
 
+def drawn(form, data):
+    """The picture of the lines of all tracks before the first that is refused; it says why in the place of the total line."""
+    answer, refused = decoded(form, data)
+    lines = list(answer.lines)
+    code = 2 if refused else answer.end()
+    return code, picture(form, lines, refused or answer.lines[-1]).encode(), (refused or "").encode()
+
+
 def wrong_size(form, data):
     return 2, b"", f"refused image {min(len(data), form.image_bytes + 1)} wanted {form.image_bytes}\n".encode()
 
@@ -359,6 +369,7 @@ COMMANDS = {
     b"decode": (any_format, None, lambda form, last, data: decode(form, data)),
     b"report": (any_format, None, lambda form, last, data: report(form, data)),
     b"rescue": (any_format, None, lambda form, last, data: decode(form, data, both_clocks=True)),
+    b"map": (any_format, None, lambda form, last, data: drawn(form, data)),
     b"write": (any_format, None, lambda form, last, data: write(form, data)),
     b"trial": (any_format, lambda last: is_number(last, 10, 0, 2**32 - 1),
                lambda form, last, data: (0, trial_line(form, int(last)).encode(), b"")),
