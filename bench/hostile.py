@@ -1,16 +1,20 @@
 #!/usr/bin/env python3
 """The worst inputs for time and memory, at 1 MiB and at 4 MiB, for each command that the program has. Needs time(1).
 
-usage: bench/hostile.py [--count] [PROGRAM [COMMAND..]]     (PROGRAM: crates/flux/out/flux; COMMAND: every one)
+usage: bench/hostile.py [--count] [--work FOLDER] [PROGRAM [COMMAND..]]     (PROGRAM: crates/flux/out/flux; COMMAND: every one)
 
 A row has the processor time at both sizes, the least of nine runs, their ratio, and the peak of resident memory. It fails where 4 MiB
 take more than 4.4 times what 1 MiB takes, or where the peak is not below 128 MiB. What `write` and `trial` do has one size for each
 format; there a disk of 80 cylinders is compared with one of 40, and may take 2.2 times as long. Times mean little on a machine that
 does other work. With --count a row has millions of instructions in place of milliseconds, by valgrind(1), which are the same each time.
+
+The inputs lie in a folder of the run's own, below --work or where temporary files are: those of a row until it is measured.
 """
+import argparse
 import os
 import random
 import re
+import signal
 import struct
 import subprocess
 import sys
@@ -27,7 +31,6 @@ from plain_streams import index_block, places_of_ones, spelled_between
 TOP = Path(__file__).resolve().parent.parent
 SIZES = (1 << 20, 1 << 22)
 RUNS = 9
-COUNT = "--count" in sys.argv
 PEAK = 128
 END = b"\r" * 4
 USED = ("ibm-3740", "ibm-1440", "amiga", "c1541", "apple-do")
@@ -191,29 +194,30 @@ def instructions(command, path):
     return int(re.search(r"I +refs: +([0-9,]+)", done.stderr).group(1).replace(",", "")) / 1e9
 
 
-def compared(small, large):
-    """The least processor times of two runs, each a command and its input's file. Each is run so often whatever comes out, in turn, since
-    other work on the machine weighs on both; a row is not measured again because it is over its bound."""
-    if COUNT:
+def compared(small, large, count):
+    """The least processor times of two runs, each a command and its input's file, or their instructions. Each is timed so often whatever comes
+    out, in turn, since other work on the machine weighs on both; a row is not measured again because it is over its bound."""
+    if count:
         return instructions(*small), instructions(*large)
     pairs = [(once(*small), once(*large)) for _ in range(RUNS)]
     return min(first for first, _ in pairs), min(second for _, second in pairs)
 
 
 class Table:
-    def __init__(self, program):
-        self.program, self.rows, self.wrong, self.worst, self.peak = program, 0, 0, 0, 0
+    def __init__(self, program, work, count):
+        self.program, self.work, self.count = program, work, count
+        self.rows, self.wrong, self.worst, self.peak = 0, 0, 0, 0
         print(f"{'command':22} {'input':32} {'small':>9} {'large':>9} {'ratio':>6} {'MiB':>6}")
 
     def row(self, words, name, small, large, most=4.4, other=None):
         """A row: the command over the small input and over the large one, or another command over the large one."""
         runs = [[self.program, *words], [self.program, *(other or words)]]
-        with tempfile.NamedTemporaryFile() as first, tempfile.NamedTemporaryFile() as second:
-            for file, data in ((first, small), (second, large)):
-                file.write(data)
-                file.flush()
-            seconds, more = compared((runs[0], first.name), (runs[1], second.name))
-            peak = max(peak_of(runs[0], first.name), peak_of(runs[1], second.name))
+        with tempfile.TemporaryDirectory(dir=self.work) as folder:
+            inputs = Path(folder, "small"), Path(folder, "large")
+            for path, data in zip(inputs, (small, large)):
+                path.write_bytes(data)
+            seconds, more = compared(*zip(runs, inputs), self.count)
+            peak = max(peak_of(command, path, folder) for command, path in zip(runs, inputs))
         ratio = more / max(seconds, 1e-6)
         wrong = ratio > most or not peak < PEAK
         self.rows += 1
@@ -222,19 +226,35 @@ class Table:
         print(f"{' '.join(words):22} {name:32} {seconds * 1e3:9.1f} {more * 1e3:9.1f} {ratio:6.2f} {peak:6.1f}{'  NOT' * wrong}", flush=True)
 
 
+def options():
+    parser = argparse.ArgumentParser()
+    parser.add_argument("--count", action="store_true", help="instructions in place of times")
+    parser.add_argument("--work", help="the folder below which temporary files lie")
+    parser.add_argument("program", nargs="?", default=TOP / "crates/flux/out/flux")
+    parser.add_argument("command", nargs="*")
+    return parser.parse_args()
+
+
 def main():
-    given = [word for word in sys.argv[1:] if word != "--count"]
-    program = os.path.abspath(given[0] if given else TOP / "crates/flux/out/flux")
+    args = options()
+    signal.signal(signal.SIGTERM, lambda *_: sys.exit(143))
+    program = os.path.abspath(args.program)
     _, built = commands_of(program)
-    wanted = given[1:] or ["turns"] + [word.decode() for word in built]
-    table = Table(program)
+    wanted = args.command or ["turns"] + [word.decode() for word in built]
+    with tempfile.TemporaryDirectory(prefix="hostile-", dir=args.work) as work:
+        return measured(Table(program, work, args.count), wanted)
+
+
+def measured(table, wanted):
+    """The rows of the wanted commands; the answer is whether one is over a bound."""
     if "turns" in wanted:
         for name, make in STREAMS:
             table.row(["turns"], name, *(make(FORMATS["ibm-720"], size) for size in SIZES))
-    for command in ("decode", "report"):
+    for command in ("decode", "report", "rescue", "map"):
         for form in (FORMATS[name] for name in USED if command in wanted):
             for name, make in TRACKS + STREAMS:
-                if command == "decode" or name in ("headers everywhere", "headers in many revolutions", "silence"):
+                if command == "decode" or name in ("headers everywhere", "headers in many revolutions", "silence") or (
+                        command == "rescue" and name in ("ones alone", "noise")):
                     table.row([command, form.word], name, *(make(form, size) for size in SIZES))
     if "decode-set" in wanted:
         for form in (FORMATS[name] for name in USED):

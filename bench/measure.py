@@ -8,11 +8,11 @@ import time
 RUNS = 5
 
 
-def peak_of(command, source):
+def peak_of(command, source, work=None):
     """Peak resident memory in MiB, by time(1), which starts the program with nothing of this one; or not a number."""
     if not shutil.which("time"):
         return float("nan")
-    with open(source, "rb") as given, tempfile.NamedTemporaryFile("r") as said:
+    with open(source, "rb") as given, tempfile.NamedTemporaryFile("r", dir=work) as said:
         timed = [shutil.which("time"), "--quiet", "-f", "%M", "-o", said.name, *command]
         subprocess.run(timed, stdin=given, stdout=subprocess.DEVNULL, stderr=subprocess.DEVNULL)
         return int(said.read()) / 1024
