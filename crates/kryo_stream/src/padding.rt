@@ -28,30 +28,3 @@ pub fn padding_at_hand(bytes: &[u8]) -> Option<usize>
     }
     None
 }
-
-#[cfg(test)]
-mod tests {
-    use super::*;
-
-    #[test]
-    fn the_last_byte_before_another_is_no_padding(rt: HostRuntime) {
-        assert_eq!(rt; padding_at_hand(b"\x0D\x0D\x60\x60\x60"), Some(1));
-        assert_eq!(rt; padding_at_hand(b"\x0D\x0D\x0D\x0D\x02\x0C\0"), Some(3));
-        assert_eq!(rt; padding_at_hand(b"\x60\x60"), Some(0));
-        assert_eq!(rt; padding_at_hand(b"\x0D\x60"), Some(0));
-        assert_eq!(rt; padding_at_hand(b"\x0D\x0D"), None);
-        assert_eq!(rt; padding_at_hand(b""), None);
-    }
-
-    // Of 15 and of 16 bytes before a block all are padding, of 17 the first 16.
-    #[test]
-    fn at_most_sixteen_bytes_are_padding(rt: HostRuntime) {
-        let row =
-            b"\x0D\x0D\x0D\x0D\x0D\x0D\x0D\x0D\x0D\x0D\x0D\x0D\x0D\x0D\x0D\x0D\x0D\x0D\x02\x0C";
-        assert_eq!(rt; padding_at_hand(&row[2..]), Some(15));
-        assert_eq!(rt; padding_at_hand(&row[1..]), Some(16));
-        assert_eq!(rt; padding_at_hand(row), Some(16));
-        assert_eq!(rt; padding_at_hand(&row[..16]), None);
-        assert_eq!(rt; padding_at_hand(&row[..17]), Some(16));
-    }
-}
