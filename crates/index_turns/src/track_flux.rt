@@ -62,6 +62,20 @@ impl TrackFlux {
         Ok(())
     }
 
+    /// Makes room for so many more times.
+    pub fn reserve_times(&mut self, count: usize) -> Result<(), Memory>
+        ensures times { self.new.times ≡ self.old.times }
+        ensures indexes { self.new.indexes ≡ self.old.indexes }
+        ensures room { KeepsRoom self.old self.new }
+        ensures spare { OnOk result (count ≤ self.new.spare_times) }
+        ensures spare_indexes { self.new.spare_indexes ≡ self.old.spare_indexes }
+        ensures succeeds { count ≤ self.old.spare_times → IsOk result }
+        ensures err { OnErr result (self.new ≡ self.old) }
+    {
+        self.times.try_reserve(count)?;
+        Ok(())
+    }
+
     /// Appends the time of a transition, in ticks.
     pub fn push_time(&mut self, time: u64) -> Result<(), Memory>
         requires { All (λ earlier. earlier ≤ time) self.old.times }
@@ -74,8 +88,22 @@ impl TrackFlux {
         ensures err { OnErr result (self.new ≡ self.old) }
     {
         self.times.try_reserve(1)?;
-        self.times.push_reserved(time);
+        self.push_reserved(time);
         Ok(())
+    }
+
+    /// Appends the time of a transition, in ticks, for which there is room.
+    #[inline(always)]
+    pub fn push_reserved(&mut self, time: u64)
+        requires order { All (λ earlier. earlier ≤ time) self.old.times }
+        requires room { 0 < self.old.spare_times }
+        ensures times { self.new.times ≡ self.old.times ++ time ∷ [] }
+        ensures indexes { self.new.indexes ≡ self.old.indexes }
+        ensures room { KeepsRoom self.old self.new }
+        ensures spare_times { self.new.spare_times + 1 ≡ self.old.spare_times }
+        ensures spare_indexes { self.new.spare_indexes ≡ self.old.spare_indexes }
+    {
+        self.times.push_reserved(time);
     }
 
     /// Appends the times of transitions that follow one another at these intervals, in ticks, the first of them so
@@ -92,11 +120,37 @@ impl TrackFlux {
         ensures err { OnErr result (self.new ≡ self.old) }
     {
         self.times.try_reserve(intervals.len())?;
+        Ok(self.push_run_reserved(start, intervals))
+    }
+
+    /// Appends the times of a run, as `push_run` does, for which there is room.
+    #[inline(always)]
+    pub fn push_run_reserved(&mut self, start: u64, intervals: &[u8]) -> u64
+        requires order { All (λ earlier. earlier ≤ start) self.old.times }
+        requires within { start + 255 * length intervals.now < 2 ^ 64 }
+        requires room { length intervals.now ≤ self.old.spare_times }
+        ensures times { self.new.times ≡ self.old.times ++ times_after start intervals.now }
+        ensures end { result ≡ start + sum intervals.now }
+        ensures indexes { self.new.indexes ≡ self.old.indexes }
+        ensures room { KeepsRoom self.old self.new }
+        ensures spare_times { self.new.spare_times + length intervals.now ≡ self.old.spare_times }
+        ensures spare_indexes { self.new.spare_indexes ≡ self.old.spare_indexes }
+    {
         let nothing = Vec::new(*self.times.allocator());
         let times = mem::replace(&mut self.times, nothing);
         let (times, end) = append_run(times, start, intervals);
         self.times = times;
-        Ok(end)
+        end
+    }
+
+    /// Takes all out, the room too, and leaves a track without transitions and without turns.
+    pub fn take(&mut self) -> TrackFlux
+        ensures value { result ≡ self.old }
+        ensures times { self.new.times ≡ [] }
+        ensures indexes { self.new.indexes ≡ [] }
+    {
+        let empty = TrackFlux::new(*self.times.allocator());
+        mem::replace(self, empty)
     }
 
     /// Appends an index time, in ticks.
@@ -174,10 +228,12 @@ impl TrackFlux {
 
 /// Appends the times of a run of transitions to a list that has room for them, and gives the last of them. The list
 /// is handed over by value, so that its place and its length stay in registers.
+#[inline(always)]
 fn append_run(mut times: Vec<u64>, start: u64, intervals: &[u8]) -> (Vec<u64>, u64)
     requires room { vec_len times + length intervals.now ≤ vec_capacity times }
     requires within { start + 255 * length intervals.now < 2 ^ 64 }
     ensures items { result.0.items ≡ times.items ++ times_after start intervals.now }
+    ensures len { vec_len result.0 ≡ vec_len times + length intervals.now }
     ensures capacity { vec_capacity result.0 ≡ vec_capacity times }
     ensures end { result.1 ≡ start + sum intervals.now }
 {

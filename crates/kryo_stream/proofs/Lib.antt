@@ -6,6 +6,7 @@ pub mod FindLemmas
 pub mod Growing
 pub mod IndexLemmas
 pub mod Joining
+pub mod Keepings
 pub mod Lanes
 pub mod Lists
 pub mod PaddingLemmas

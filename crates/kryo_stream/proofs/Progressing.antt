@@ -77,7 +77,7 @@ IsReading-push x n rest b ts bench bench' p r reads going within noted =
 err_same : (a b : StreamFault) → ◌≡◌ {A = BlockOrFault} (Err a) (Err b) → a ≡ b
 err_same a b same = cc
 
-ok_not : {p : SpelledBlock} {fault : StreamFault} → ◌≡◌ {A = BlockOrFault} (Ok p) (Err fault) → ⊥
+pub ok_not : {p : SpelledBlock} {fault : StreamFault} → ◌≡◌ {A = BlockOrFault} (Ok p) (Err fault) → ⊥
 ok_not same = cc
 
 truncated_or : (fault : StreamFault) → (fault ≡ Truncated) ⊎ (fault ≢ Truncated)

@@ -40,7 +40,7 @@ piece_at-one_byte b byte rest low going room =
 abbrev pub behind_run : Before → List ℕ → Before
 behind_run b run = record { offset = b.offset + length run; counted = b.counted + length run; ended = b.ended; time = b.time + sum run }
 
-before_same : (a b : Before) → a.offset ≡ b.offset → a.counted ≡ b.counted → a.ended ≡ b.ended → a.time ≡ b.time → a ≡ b
+pub before_same : (a b : Before) → a.offset ≡ b.offset → a.counted ≡ b.counted → a.ended ≡ b.ended → a.time ≡ b.time → a ≡ b
 before_same a b offset counted ended time =
     ap (λ n. made n a.counted a.ended a.time) offset ∙ ap (λ n. made b.offset n a.ended a.time) counted
     ∙ ap (λ e. made b.offset b.counted e a.time) ended ∙ ap (λ n. made b.offset b.counted b.ended n) time
@@ -48,7 +48,7 @@ before_same a b offset counted ended time =
     made : ℕ → ℕ → Bool → ℕ → Before
     made offset counted ended time = record { offset = offset; counted = counted; ended = ended; time = time }
 
-or_false : (b : Bool) → b ≡ false → (b || false) ≡ b
+pub or_false : (b : Bool) → b ≡ false → (b || false) ≡ b
 or_false b is = rw is refl
 
 -- the same reading, said in other words

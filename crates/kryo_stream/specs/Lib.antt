@@ -3,6 +3,7 @@ pub mod Blocks
 pub mod Growth
 pub mod Held
 pub mod Joined
+pub mod Keeping
 pub mod Outcome
 pub mod Padding
 pub mod Pieces

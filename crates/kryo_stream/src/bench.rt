@@ -5,6 +5,7 @@ ghost use Rattle.std.specs.Vec.{vec_capacity};
 ghost use Rattle.kryo_stream.specs.Protocol.{LIMIT};
 ghost use Rattle.kryo_stream.specs.Stream.{in_stream_bytes, total_bytes, turn_fault, indexes_of};
 ghost use Rattle.index_turns.specs.Track.{KeepsRoom};
+ghost use Rattle.kryo_stream.specs.Keeping.{AddsEnds};
 ghost use Rattle.kryo_stream.specs.Bench.{HasFullBench, KeepsBenchRoom, KeepsNotes, IsNoted, IsSized, IsComplete, IsSearchable, TurnCause, PlaceCause, base_time, mark_time, end_of, overflow_of};
 
 use crate::block::{Block, Mark, SpelledBlock};
@@ -125,20 +126,45 @@ impl StreamBench {
         }
     }
 
-    /// Takes note of a run of transitions of one byte, the first of which begins at the stream position `position`.
-    pub(crate) fn note_run(&mut self, position: u32, count: u32) -> Result<(), Memory>
-        requires end { position + count < 2 ^ 32 }
-        ensures ends { OnOk result (self.new.ends ≡ self.old.ends ++ range_with_len (position + 1) count) }
-        ensures overflows { self.new.overflows ≡ self.old.overflows }
-        ensures indexes { self.new.indexes ≡ self.old.indexes }
+    /// Makes room for the ends of so many more transitions.
+    pub(crate) fn reserve_ends(&mut self, count: usize) -> Result<(), Memory>
+        ensures kept { KeepsNotes self.old self.new }
         ensures room { KeepsBenchRoom self.old self.new }
+        ensures spare { OnOk result (count ≤ self.new.spare_ends) }
         ensures succeeds { count ≤ self.old.spare_ends → IsOk result }
     {
-        self.ends.try_reserve(count as usize)?;
+        self.ends.try_reserve(count)?;
+        Ok(())
+    }
+
+    /// Takes note of a transition that ends at this stream position, for which there is room.
+    #[inline(always)]
+    pub(crate) fn note_end(&mut self, end: u32)
+        requires { 0 < self.old.spare_ends }
+        ensures { AddsEnds 1 (end ∷ []) self.old self.new }
+    {
+        self.ends.push_reserved(end);
+    }
+
+    /// Takes note of a run of transitions of one byte, for which there is room. The first of them begins at this stream
+    /// position.
+    #[inline(always)]
+    pub(crate) fn note_run(&mut self, position: u32, count: u32)
+        requires end { position + count < 2 ^ 32 }
+        requires room { count ≤ self.old.spare_ends }
+        ensures { AddsEnds count (range_with_len (position + 1) count) self.old self.new }
+    {
         let nothing = Vec::new(*self.ends.allocator());
         let ends = mem::replace(&mut self.ends, nothing);
         self.ends = append_ends(ends, position, count);
-        Ok(())
+    }
+
+    /// Takes all out, the room too, and leaves a bench that holds nothing.
+    pub(crate) fn take(&mut self) -> StreamBench
+        ensures { result ≡ self.old }
+    {
+        let empty = StreamBench::new(*self.ends.allocator());
+        mem::replace(self, empty)
     }
 
     /// Takes note of an in-stream block that begins at the stream position `position`.
@@ -285,10 +311,12 @@ impl StreamBench {
 
 /// Appends the positions at which the transitions of a run end to a list that has room for them. The list is handed
 /// over by value, so that its place and its length stay in registers.
+#[inline(always)]
 fn append_ends(mut ends: Vec<u32>, position: u32, count: u32) -> Vec<u32>
     requires room { vec_len ends + count ≤ vec_capacity ends }
     requires end { position + count < 2 ^ 32 }
     ensures items { result.items ≡ ends.items ++ range_with_len (position + 1) count }
+    ensures len { vec_len result ≡ vec_len ends + count }
     ensures capacity { vec_capacity result ≡ vec_capacity ends }
 {
     for number in 0..count {

@@ -1,7 +1,8 @@
-ghost use Rattle.std.specs.Prelude.{◌≡◌, ◌≤◌, ◌<◌, ◌+◌, ◌^◌, ℕ, false, length, take, drop, slice_index, All, IsTrue, IfOk, IfSome, IfNone, Some, Ok, true};
+ghost use Rattle.std.specs.Prelude.{◌≡◌, ◌≤◌, ◌<◌, ◌+◌, ◌^◌, ℕ, false, length, take, drop, get_or, slice_index, All, IsTrue, IfOk, IfSome, IfNone, Some, Ok, true};
 ghost use Rattle.byteorder.specs.Endian.{little_number};
 ghost use Rattle.kryo_stream.specs.Bench.{IsSized};
 ghost use Rattle.kryo_stream.specs.Blocks.{IsShortFlux};
+ghost use Rattle.kryo_stream.specs.Keeping.{IsLongFlux};
 ghost use Rattle.kryo_stream.specs.Pieces.{has, in_stream_piece, info_piece, stream_info_piece, index_piece, stream_end_piece, out_of_band_piece, piece_at, IsText};
 ghost use Rattle.kryo_stream.specs.Stream.{is_in_stream};
 ghost use Rattle.kryo_stream.specs.Tally.{MayFollow};
@@ -22,7 +23,7 @@ const INFO: u8 = 0x04;
 const HEADER: u32 = 4;
 
 /// How many bytes are looked at at once.
-const LANES: usize = 16;
+pub const LANES: usize = 16;
 
 /// The most bytes of one stream.
 pub const LIMIT: u32 = 4194304;
@@ -44,53 +45,70 @@ pub fn front(before: &Before, bytes: &[u8]) -> Result<SpelledBlock, StreamFault>
     in_stream(before.offset, bytes)
 }
 
-/// How many transitions of one byte the bytes begin with, within the limit and before the end of the stream.
-pub fn short_run(before: &Before, bytes: &[u8]) -> usize
+/// How many of the bytes may be those of transitions: the ones within the limit, and none where another block comes first
+/// or the stream has ended.
+pub fn flux_reach(before: &Before, bytes: &[u8]) -> usize
     requires offset { before.now.offset ≤ 4194304 }
     ensures inside { result ≤ length bytes.now }
-    ensures short { All IsShortFlux (take result bytes.now) }
     ensures room { before.now.offset + result ≤ 4194304 }
     ensures going { 0 < result → before.now.ended ≡ false }
 {
     if before.ended {
         return 0;
     }
-    let most = bytes.len().min((LIMIT - before.offset) as usize);
-    let mut count = whole_lanes(&bytes[..most]);
-    while count < most {
-        if bytes[count] <= OUT_OF_BAND {
-            return count;
-        }
-        count += 1;
+    match bytes {
+        [] | [0x08..=0x0B | OUT_OF_BAND, ..] => 0,
+        _ => bytes.len().min((LIMIT - before.offset) as usize),
     }
-    most
 }
 
-/// How many transitions of one byte the bytes begin with, as far as they fill 16 lanes.
-fn whole_lanes(bytes: &[u8]) -> usize
+/// How many transitions of one byte the bytes begin with, of which the first is one: up to 16, which are all looked at at
+/// once. Fewer than 16 bytes are taken one by one.
+#[inline(always)]
+pub fn short_row(bytes: &[u8]) -> usize
+    requires first { 14 ≤ get_or bytes.now 0 0 }
+    ensures some { 1 ≤ result }
     ensures inside { result ≤ length bytes.now }
     ensures short { All IsShortFlux (take result bytes.now) }
 {
-    let mut count = 0;
-    while bytes.len() - count >= LANES {
-        if !are_short(&bytes[count..]) {
-            return count;
-        }
-        count += LANES;
+    if bytes.len() < LANES {
+        return 1;
     }
-    count
+    let longer = u8x16::from_slice(bytes)
+        .simd_le(u8x16::splat(OUT_OF_BAND))
+        .to_bitmask();
+    if longer == 0 {
+        return LANES;
+    }
+    longer.trailing_zeros() as usize
 }
 
-/// Whether the first 16 bytes are transitions of one byte each, all looked at at once.
-#[inline]
-fn are_short(bytes: &[u8]) -> bool
-    requires { 16 ≤ length bytes.now }
-    ensures { IsTrue result → All IsShortFlux (take 16 bytes.now) }
+/// A transition of two or three bytes: its ticks, and how many bytes it takes.
+#[derive(Clone, Copy)]
+pub struct LongFlux {
+    pub ticks: u16,
+    pub bytes: usize,
+}
+
+/// The transition of two or three bytes that the bytes begin with, if it stands there whole.
+#[inline(always)]
+pub fn long_flux(bytes: &[u8]) -> Option<LongFlux>
+    ensures reading { IfSome result (IsLongFlux bytes.now) }
+    ensures some { IfSome result (λ long. 1 ≤ long.bytes) }
+    ensures inside { IfSome result (λ long. long.bytes ≤ length bytes.now) }
+    ensures sized { IfSome result (λ long. long.ticks < 2 ^ 16) }
 {
-    u8x16::from_slice(bytes)
-        .simd_le(u8x16::splat(OUT_OF_BAND))
-        .to_bitmask()
-        == 0
+    match bytes {
+        [first @ 0x00..=0x07, second, ..] => Some(LongFlux {
+            ticks: u16::from(*first) * 256 + u16::from(*second),
+            bytes: 2,
+        }),
+        [0x0C, first, second, ..] => Some(LongFlux {
+            ticks: u16::from(*first) * 256 + u16::from(*second),
+            bytes: 3,
+        }),
+        _ => None,
+    }
 }
 
 /// The in-stream block at the front of the bytes, if it stands there whole, within the limit and before the end of the

@@ -7,6 +7,7 @@ mod block;
 mod fault;
 mod front;
 mod intake;
+mod kept;
 mod laws;
 mod padding;
 mod reading;

@@ -16,8 +16,9 @@ use crate::before::Before;
 use crate::bench::StreamBench;
 use crate::block::{Block, SpelledBlock};
 use crate::fault::{StreamFault, TrackFault};
-use crate::front::{LIMIT, front, short_run, text_size, whole_block};
+use crate::front::{LIMIT, flux_reach, front, text_size, whole_block};
 use crate::intake::{Intake, More};
+use crate::kept::keep_flux;
 use crate::padding::padding_at_hand;
 use flux_base::{Failed, Memory, Source};
 use index_turns::TrackFlux;
@@ -194,7 +195,7 @@ fn pass_in_stream(
 {
     let mut count = 0;
     loop {
-        count += pass_run(before, intake, flux, bench)?;
+        count += pass_flux(before, intake, flux, bench)?;
         let more = pass_block(before, intake, flux, bench)?;
         if more == 0 {
             return Ok(count);
@@ -203,15 +204,15 @@ fn pass_in_stream(
     }
 }
 
-/// Passes over the transitions of one byte that the bytes at hand begin with, and keeps them. Gives how many they are.
-fn pass_run(
+/// Passes over the transitions that the bytes at hand begin with, as far as they stand there whole, and keeps them. Gives
+/// how many they are.
+fn pass_flux(
     before: &mut Before,
     intake: &mut Intake,
     flux: &mut TrackFlux,
     bench: &mut StreamBench,
 ) -> Result<u32, Memory>
-    requires within { IsWithin before.old }
-    requires times { All (λ time. time ≤ before.old.time) flux.old.times }
+    requires read { (x : List ℕ) × (n : ℕ) × IsReading x n intake.old.held before.old flux.old.times bench.old }
     ensures reading { IfOk result (λ count. ReadsOn count intake.old.held intake.new.held before.old before.new flux.old.times flux.new.times bench.old bench.new) }
     ensures fewer { IfOk result (λ count. length intake.new.held + count ≤ length intake.old.held) }
     ensures held { OnErr result (intake.new.held ≡ intake.old.held) }
@@ -223,21 +224,24 @@ fn pass_run(
     ensures succeeds { length flux.old.times ≤ before.old.offset → HasFullRoom flux.old
         → length bench.old.ends ≤ before.old.offset → HasFullBench bench.old → IsOk result }
 {
-    let run = intake.bytes();
-    let count = short_run(before, run);
-    if count == 0 {
+    let reach = flux_reach(before, intake.bytes());
+    if reach == 0 {
         return Ok(0);
     }
-    let end = flux.push_run(before.time, &run[..count])?;
-    bench.note_run(before.counted, count as u32)?;
-    intake.pass(count);
+    flux.reserve_times(reach)?;
+    bench.reserve_ends(reach)?;
+    let first = flux.times().len();
+    let kept = keep_flux(before, flux.take(), bench.take(), &intake.bytes()[..reach]);
+    *flux = kept.flux;
+    *bench = kept.bench;
+    intake.pass(kept.place);
     *before = Before {
-        offset: before.offset + count as u32,
-        counted: before.counted + count as u32,
+        offset: before.offset + kept.place as u32,
+        counted: before.counted + kept.place as u32,
         ended: before.ended,
-        time: end,
+        time: kept.time,
     };
-    Ok(count as u32)
+    Ok((flux.times().len() - first) as u32)
 }
 
 /// Passes over the in-stream block that the bytes at hand begin with, if one stands there whole, and keeps it. Gives how

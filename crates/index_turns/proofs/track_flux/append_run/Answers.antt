@@ -14,7 +14,7 @@ loop-interval-preserved c =
     let byte = c.type_inv.intervals c.loop-interval.interval-index in
     let done = times_after c.args.start (take c.loop-interval.interval-index c.args.intervals.now) in
     let step = times_after-step c.args.start c.args.intervals.now c.loop-interval.interval-index c.from-time.result c.loop-interval-test.true c.from-time.ensures in record {
-      room = omega (arith, invariant.room, c.push_reserved.ensures.len, c.push_reserved.ensures.capacity, c.loop-interval-test.true);
+      len = omega (arith, invariant.len, c.push_reserved.ensures.len);
       items = c.push_reserved.ensures.items
           ∙ ap (λ items. items ++ (c.loop-interval.time + c.from-time.result) ∷ []) invariant.items
           ∙ append_assoc c.args.times.items done ((c.loop-interval.time + c.from-time.result) ∷ [])

@@ -9,7 +9,7 @@ loop-number-preserved c =
     let first = c.args.position + 1 in
     let number = c.loop-number.number in
     let one : suc number ≡ number + 1 = omega arith in record {
-      room = omega (arith, invariant.room, c.push_reserved.ensures.len, c.push_reserved.ensures.capacity, c.loop-number-test.true);
+      len = omega (arith, invariant.len, c.push_reserved.ensures.len);
       items = c.push_reserved.ensures.items
           ∙ ap (λ items. items ++ (first + number) ∷ []) invariant.items
           ∙ append_assoc c.args.ends.items (range_with_len first number) ((first + number) ∷ [])

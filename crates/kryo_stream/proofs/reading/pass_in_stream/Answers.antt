@@ -24,10 +24,10 @@ pub returns-in_err-more-clause-succeeds : goal.returns-in_err-more-clause-succee
 returns-in_err-more-clause-succeeds c = λ full full_bench.
     let read = c.requires.read in
     let invariant = c.loop-count.invariant in
-    let roomy = is_roomy read.0 (read.1 + c.loop-count.count + c.in_ok-count.field-0) c.pass_run.new.intake.held c.pass_run.new.before c.pass_run.new.flux.times c.pass_run.new.bench
+    let roomy = is_roomy read.0 (read.1 + c.loop-count.count + c.in_ok-count.field-0) c.pass_flux.new.intake.held c.pass_flux.new.before c.pass_flux.new.flux.times c.pass_flux.new.bench
     (c.in_ok-count.ensures.reading read.0 (read.1 + c.loop-count.count) (invariant.reading read.0 read.1 read.2)) in
-    let bad : false ≡ true = c.in_err-more.ensures.succeeds roomy.few_times (still_full_room full (keeps_room_both invariant.room c.pass_run.ensures.room)) roomy.few_ends roomy.few_overflows
-    (still_full_bench full_bench (keeps_bench_both invariant.bench c.pass_run.ensures.bench)) in cc
+    let bad : false ≡ true = c.in_err-more.ensures.succeeds roomy.few_times (still_full_room full (keeps_room_both invariant.room c.pass_flux.ensures.room)) roomy.few_ends roomy.few_overflows
+    (still_full_bench full_bench (keeps_bench_both invariant.bench c.pass_flux.ensures.bench)) in cc
 
 pub returns-then-more-eq0-clause-reading : goal.returns-then-more-eq0-clause-reading
 returns-then-more-eq0-clause-reading c =
@@ -41,8 +41,8 @@ loop-count-preserved c =
       reading = reads_on_both (c.loop-count.count + c.in_ok-count.field-0) c.in_ok-more.more (c.loop-count.count + c.in_ok-count.field-0 + c.in_ok-more.more)
           (reads_on_both c.loop-count.count c.in_ok-count.field-0 (c.loop-count.count + c.in_ok-count.field-0) invariant.reading c.in_ok-count.ensures.reading refl)
           c.in_ok-more.ensures.reading refl;
-      used = c.pass_block.ensures.used ∙ c.pass_run.ensures.used ∙ invariant.used;
-      indexes = c.pass_block.ensures.indexes ∙ c.pass_run.ensures.indexes ∙ invariant.indexes;
-      room = keeps_room_both (keeps_room_both invariant.room c.pass_run.ensures.room) c.pass_block.ensures.room;
-      bench = keeps_bench_both (keeps_bench_both invariant.bench c.pass_run.ensures.bench) c.pass_block.ensures.bench;
+      used = c.pass_block.ensures.used ∙ c.pass_flux.ensures.used ∙ invariant.used;
+      indexes = c.pass_block.ensures.indexes ∙ c.pass_flux.ensures.indexes ∙ invariant.indexes;
+      room = keeps_room_both (keeps_room_both invariant.room c.pass_flux.ensures.room) c.pass_block.ensures.room;
+      bench = keeps_bench_both (keeps_bench_both invariant.bench c.pass_flux.ensures.bench) c.pass_block.ensures.bench;
     }

@@ -1,0 +1,46 @@
+use Rattle.std.proofs.Common.{arith}
+use Rattle.kryo_stream.proofs.Keepings.{keeps_start, keeps_roomy, keeps_row, keeps_long, row_inside}
+use Rattle.kryo_stream.proofs.kept.keep_flux.Goals as goal
+
+pub loop-kept-init : goal.loop-kept-init
+loop-kept-init c = keeps_start c.args.bytes.now c.args.before.now c.args.flux c.args.bench c.requires.room c.requires.bench
+
+pub keep_row-requires-clause-order : goal.keep_row-requires-clause-order
+keep_row-requires-clause-order c = (keeps_roomy c.requires.read.2 c.requires.read.3 c.loop-kept.invariant).in_order
+
+pub keep_row-requires-clause-within : goal.keep_row-requires-clause-within
+keep_row-requires-clause-within c =
+    let kept = c.loop-kept.invariant in
+    let roomy = keeps_roomy c.requires.read.2 c.requires.read.3 kept in
+    let row = row_inside c.args.bytes.now c.loop-kept.kept.place c.short_row.result kept.inside c.short_row.ensures.inside in
+    omega (arith, roomy.within.time, roomy.within.offset, row.0, row.1, c.requires.limit)
+
+pub keep_row-requires-clause-room : goal.keep_row-requires-clause-room
+keep_row-requires-clause-room c =
+    let kept = c.loop-kept.invariant in
+    let row = row_inside c.args.bytes.now c.loop-kept.kept.place c.short_row.result kept.inside c.short_row.ensures.inside in
+    omega (arith, kept.spare, row.0, row.1)
+
+pub keep_row-requires-clause-bench : goal.keep_row-requires-clause-bench
+keep_row-requires-clause-bench c =
+    let kept = c.loop-kept.invariant in
+    let row = row_inside c.args.bytes.now c.loop-kept.kept.place c.short_row.result kept.inside c.short_row.ensures.inside in
+    omega (arith, kept.spare_ends, row.0, row.1)
+
+pub loop-kept-preserved-in-14-to-255 : goal.loop-kept-preserved-in-14-to-255
+loop-kept-preserved-in-14-to-255 c =
+    keeps_row c.short_row.result c.loop-kept.invariant c.requires.going c.requires.limit c.short_row.ensures.inside c.short_row.ensures.short
+    c.keep_row.ensures.flux c.keep_row.ensures.bench c.keep_row.ensures.place c.keep_row.ensures.time
+
+pub keep_long-requires-clause-order : goal.keep_long-requires-clause-order
+keep_long-requires-clause-order c = (keeps_roomy c.requires.read.2 c.requires.read.3 c.loop-kept.invariant).in_order
+
+pub keep_long-requires-clause-within : goal.keep_long-requires-clause-within
+keep_long-requires-clause-within c =
+    let roomy = keeps_roomy c.requires.read.2 c.requires.read.3 c.loop-kept.invariant in
+    omega (arith, roomy.within.time, roomy.within.offset, c.in-Some.ensures.sized)
+
+pub loop-kept-preserved : goal.loop-kept-preserved
+loop-kept-preserved c =
+    keeps_long c.in-Some.long c.loop-kept.invariant c.requires.going c.requires.limit c.in-Some.ensures.reading c.in-Some.ensures.some
+    c.in-Some.ensures.inside c.in-Some.ensures.sized c.keep_long.ensures.flux c.keep_long.ensures.bench c.keep_long.ensures.place c.keep_long.ensures.time
