@@ -231,7 +231,7 @@ follow_more times last most state stand counts off drift reach k rising inside f
     record {
       runs = runs;
       held = subst Q number (record { ahead = step.ahead; behind = step.behind; slow = kept.slow; fast = kept.fast });
-      wide = omega (arith, is_reach.near);
+      wide = omega (arith, is_reach.near, kept.fast);
     }
 
 -- the stretch up to each of its transitions

@@ -88,4 +88,4 @@ pub record IsReach (band : Band) (period place fine off drift reach : ℕ) : Typ
   pub ahead : place ≤ fine + reach
   pub behind : fine ≤ place + reach
   pub next : off + 4 * min drift (max (period - band.lowest) (band.highest - period)) + 1 ≤ reach
-  pub near : 4 * reach ≤ band.lowest
+  pub near : 4 * reach + min drift (max (period - band.lowest) (band.highest - period)) ≤ period

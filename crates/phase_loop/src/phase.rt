@@ -2,9 +2,11 @@
 ghost use Rattle.std.specs.Prelude.{◌≡◌, ℕ, ◌+◌, ◌*◌, ◌/◌, ◌^◌, ◌≤◌, ◌<◌, max, [], ◌∷◌, ◌++◌, List, length, IfOk, ◌↔◌, IsTrue};
 
 mod certain;
+mod doubt;
 mod guess;
 mod stretch;
 
+use self::doubt::Doubt;
 use crate::start::{Band, FINE_PER_TICK, LoopStart};
 use crate::window::{Interval, Window};
 use flux_base::Memory;
@@ -27,6 +29,8 @@ pub struct Loop {
     window: Window,
     /// The number of the track's transition from which on a stretch is tried again.
     next_stretch: usize,
+    /// Whether it is tried if a stretch is certain.
+    doubt: Doubt,
 }
 
 impl Model for Loop {
@@ -64,6 +68,7 @@ impl Loop {
             period: 16384,
             window,
             next_stretch: 0,
+            doubt: Doubt::NONE,
         })
     }
 
@@ -76,6 +81,7 @@ impl Loop {
     {
         self.start = start;
         self.next_stretch = 0;
+        self.doubt = Doubt::NONE;
         self.restart(FINE_PER_TICK * time);
     }
 

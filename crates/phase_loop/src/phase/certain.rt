@@ -130,7 +130,7 @@ impl Loop {
         let most = (stand.period - lowest).max(highest - stand.period);
         let drift = u64::from(drift).min(most);
         let reach = (u64::from(off) + 4 * drift + 1).max(fine.abs_diff(stand.place));
-        if 4 * reach > lowest {
+        if 4 * reach + drift > stand.period {
             return None;
         }
         Some(reach)

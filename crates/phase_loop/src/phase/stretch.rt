@@ -95,7 +95,7 @@ impl Loop {
     {
         let mut counts = [0; INTERVALS + STRETCH];
         self.window.put_counts(&mut counts);
-        let (stand, next) = self.stretch(times, last, &mut counts, cells)?;
+        let (stand, next, certain) = self.stretch(times, last, &mut counts, cells)?;
         let taken = next - last;
         let recent = intervals_to(times, next, &counts[taken..taken + INTERVALS]);
         let fine = FINE_PER_TICK * times[next];
@@ -108,18 +108,19 @@ impl Loop {
         self.place = stand.place;
         self.period = stand.period;
         self.next_stretch = next_stretch_behind(next, taken);
+        self.doubt = self.doubt.after(last, next, certain);
         Ok(next)
     }
 
-    /// The stretch of `follow_stretch`. The first of `counts` are those of the window, and the stretch puts its own after
-    /// them.
+    /// The stretch of `follow_stretch`, and whether it was certain. The first of `counts` are those of the window, and the
+    /// stretch puts its own after them.
     fn stretch(
         &self,
         times: &[u64],
         last: usize,
         counts: &mut [u8; INTERVALS + STRETCH],
         cells: &mut Cells,
-    ) -> Result<(Stand, usize), Memory>
+    ) -> Result<(Stand, usize, bool), Memory>
         requires rising { IsNonDecreasing times.now }
         requires within { All (λ time. time ≤ 2 ^ 39) times.now }
         requires last { last < length times.now }
@@ -140,13 +141,13 @@ impl Loop {
             &ticks[INTERVALS..INTERVALS + most],
             &mut counts[INTERVALS..INTERVALS + most],
         );
-        let (stand, taken) = self.take_counts(times, last, most, &mut ticks, counts);
+        let (stand, taken, certain) = self.take_counts(times, last, most, &mut ticks, counts);
         cells.push_short_runs(&counts[INTERVALS..INTERVALS + taken])?;
-        Ok((stand, last + taken))
+        Ok((stand, last + taken, certain))
     }
 
     /// Takes the transitions of a stretch, whose counts are guessed: all of them where they are certain, and else one after
-    /// another. The answer is the stand at the last that it takes, and how many they are.
+    /// another. The answer is the stand at the last that it takes, how many they are, and whether they were certain.
     fn take_counts(
         &self,
         times: &[u64],
@@ -154,7 +155,7 @@ impl Loop {
         most: usize,
         ticks: &mut [u32; INTERVALS + STRETCH],
         counts: &mut [u8; INTERVALS + STRETCH],
-    ) -> (Stand, usize)
+    ) -> (Stand, usize, bool)
         requires rising { IsNonDecreasing times.now }
         requires within { All (λ time. time ≤ 2 ^ 39) times.now }
         requires inside { last + most < length times.now }
@@ -169,10 +170,13 @@ impl Loop {
         ensures guesses { AreGuessed most counts.new }
         ensures stretch { TakesRuns times.now last result.1 self.now result.0 counts.new }
     {
-        match self.take_certain(times, last, most, ticks, counts) {
-            Some(stand) => (stand, most),
-            None => self.take_guesses(times, last, most, counts),
+        if !self.doubt.lasts(last) {
+            if let Some(stand) = self.take_certain(times, last, most, ticks, counts) {
+                return (stand, most, true);
+            }
         }
+        let (stand, taken) = self.take_guesses(times, last, most, counts);
+        (stand, taken, false)
     }
 
     /// Takes the transitions of a stretch one after another, and puts right a count that is guessed wrong.
