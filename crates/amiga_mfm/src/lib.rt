@@ -11,6 +11,3 @@ mod recording;
 mod rows;
 
 pub use recording::AmigaMfm;
-
-#[cfg(test)]
-mod tests;

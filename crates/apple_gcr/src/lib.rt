@@ -15,6 +15,3 @@ mod six_and_two;
 pub use disk_bytes::ByteRule;
 pub use laws::rules_agree;
 pub use recording::AppleGcr;
-
-#[cfg(test)]
-mod tests;

@@ -12,6 +12,3 @@ mod rows;
 mod zones;
 
 pub use recording::CommodoreGcr;
-
-#[cfg(test)]
-mod tests;

@@ -9,6 +9,3 @@ mod recording;
 mod rows;
 
 pub use recording::IbmFm;
-
-#[cfg(test)]
-mod tests;

@@ -9,6 +9,3 @@ mod recording;
 mod rows;
 
 pub use recording::IbmMfm;
-
-#[cfg(test)]
-mod tests;

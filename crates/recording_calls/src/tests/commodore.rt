@@ -1,8 +1,8 @@
+//! The Commodore 1541's disks.
 ghost use Rattle.std.specs.Prelude.{◌<◌, ◌≤◌};
 
-use super::*;
-use crate::coding::coded;
 use cell_bits::Cells;
+use commodore_gcr::CommodoreGcr;
 use flux_base::{Memory, TrackId};
 use frame_law::{Reading, Recording, SectorBuffer, next_reading};
 use std::alloc::Global;
@@ -19,6 +19,12 @@ const DISK: CommodoreGcr = CommodoreGcr {
     id1: 0x41,
     id2: 0x42,
 };
+
+/// The code of each nibble, five cells.
+const CODES: [u8; 16] = [
+    0b01010, 0b01011, 0b10010, 0b10011, 0b01110, 0b01111, 0b10110, 0b10111, 0b01001, 0b11001,
+    0b11010, 0b11011, 0b01101, 0b11101, 0b11110, 0b10101,
+];
 
 /// Five zeros are no code, whatever the other code is.
 const NO_BYTE: u32 = 0b00000_01010;
@@ -77,6 +83,13 @@ fn push_gap(cells: &mut Cells, count: u16) -> Result<(), Memory> {
         cells.push_cell(index % 2 == 0)?;
     }
     Ok(())
+}
+
+/// The ten cells of a byte, its high nibble first.
+fn coded(byte: u8) -> u32 {
+    let high = u32::from(CODES[usize::from(byte / 16)]);
+    let low = u32::from(CODES[usize::from(byte % 16)]);
+    high * 32 + low
 }
 
 fn push_byte(cells: &mut Cells, byte: u8, broken: bool) -> Result<(), Memory> {

@@ -1,8 +1,9 @@
-use super::*;
+//! The PC's disks, the Atari ST's and the Amstrad CPC's.
 use cell_bits::{Cells, MFM_A1_MARK, MFM_C2_MARK};
 use check_values::{Crc16, crc16};
 use flux_base::{Memory, TrackId};
 use frame_law::{Reading, Recording, SectorBuffer, next_reading};
+use ibm_mfm::IbmMfm;
 use std::alloc::Global;
 use std::process::Abort;
 use std::test::Fail;

@@ -1,8 +1,9 @@
-use super::*;
+//! The IBM 3740 diskette and Acorn's disks.
 use cell_bits::{Cells, FM_DATA_MARK, FM_DELETED_DATA_MARK, FM_ID_MARK, FM_INDEX_MARK};
 use check_values::{Crc16, crc16};
 use flux_base::{Memory, TrackId};
 use frame_law::{Reading, Recording, SectorBuffer, next_reading};
+use ibm_fm::IbmFm;
 use std::alloc::Global;
 use std::process::Abort;
 use std::test::Fail;

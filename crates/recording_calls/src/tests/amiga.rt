@@ -1,4 +1,5 @@
-use super::*;
+//! Amiga disks.
+use amiga_mfm::AmigaMfm;
 use cell_bits::Cells;
 use flux_base::{Memory, TrackId};
 use frame_law::{Reading, Recording, SectorBuffer, next_reading};

@@ -1,4 +1,5 @@
-use super::*;
+//! Apple's disks.
+use apple_gcr::AppleGcr;
 use cell_bits::Cells;
 use flux_base::{Memory, TrackId};
 use frame_law::{Reading, Recording, SectorBuffer, next_reading};

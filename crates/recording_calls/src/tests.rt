@@ -1,0 +1,5 @@
+mod amiga;
+mod apple;
+mod commodore;
+mod fm;
+mod mfm;
