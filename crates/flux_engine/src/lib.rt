@@ -51,8 +51,3 @@ pub use write_fault::WriteFault;
 pub use write_laws::{captures_are_recovered, images_have_rings, streams_are_captures};
 pub use write_room::WriteRoom;
 pub use writing::{count_verdict, no_totals};
-
-#[cfg(test)]
-mod tests;
-#[cfg(test)]
-mod write_tests;

@@ -8,8 +8,6 @@ mod indexes;
 mod laws;
 mod piece;
 mod stream;
-#[cfg(test)]
-mod tests;
 mod times;
 mod track;
 

@@ -1,7 +1,7 @@
 use Rattle.std.proofs.Common.{◌≤◌, ◌++◌, length, refl, ap, sym, ◌∙◌, subst, arith}
 use Rattle.cell_bits.specs.Word.{word_cells}
 use Rattle.flux_writer.specs.Reading.{HasEarlyOne}
-use Rattle.flux_writer.proofs.tests.writes_a_ring_with_both_quarters.Goals as goal
+use Rattle.engine_calls.proofs.tests.streams.writes_a_ring_with_both_quarters.Goals as goal
 
 pub write_track-requires-clause-few : goal.write_track-requires-clause-few
 unfolding word_cells

@@ -1,12 +1,11 @@
+//! Tracks and disks that are decoded.
 ghost use Rattle.std.specs.Prelude.{◌<◌, length};
 ghost use Rattle.sector_images.specs.Places.{tracks};
 
-mod disturbance;
-
-use crate::{DiskRoom, EngineFault, decode_disk, decode_track};
 use apple_gcr::AppleGcr;
 use cell_bits::Cells;
 use flux_base::{Memory, MemorySink, MemorySource, TrackId};
+use flux_engine::{DiskRoom, EngineFault, decode_disk, decode_track};
 use frame_law::Recording;
 use ibm_fm::IbmFm;
 use ibm_mfm::IbmMfm;
@@ -16,7 +15,7 @@ use std::alloc::Global;
 use std::process::Abort;
 use std::test::Fail;
 
-const TRACK: TrackId = TrackId {
+pub const TRACK: TrackId = TrackId {
     cylinder: 0,
     head: 0,
 };
@@ -73,13 +72,13 @@ fn three_turns(alloc: Global, ring: &Cells, ticks: u16) -> Result<Vec<u8>, Memor
 
 /// What decoding the first track of a disk came to.
 #[derive(Drop)]
-struct Decoded {
-    totals: Result<Totals, EngineFault>,
-    image: MemorySink,
-    notes: MemorySink,
+pub struct Decoded {
+    pub totals: Result<Totals, EngineFault>,
+    pub image: MemorySink,
+    pub notes: MemorySink,
 }
 
-fn decode_first(alloc: Global, format: Format, bytes: Vec<u8>) -> Result<Decoded, Fail>
+pub fn decode_first(alloc: Global, format: Format, bytes: Vec<u8>) -> Result<Decoded, Fail>
     requires { 0 < length (tracks format) }
 {
     let mut source = MemorySource::new(bytes, 4096, Vec::new(alloc));

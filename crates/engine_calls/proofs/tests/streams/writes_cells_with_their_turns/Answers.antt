@@ -1,7 +1,7 @@
 use Rattle.std.proofs.Common.{◌++◌, [], ◌∷◌, All, zero, suc, refl, ap, sym, ◌∙◌, subst, arith}
 use Rattle.cell_bits.specs.Run.{run_cells}
 use Rattle.flux_writer.specs.Reading.{HasOneAfter}
-use Rattle.flux_writer.proofs.tests.writes_cells_with_their_turns.Goals as goal
+use Rattle.engine_calls.proofs.tests.streams.writes_cells_with_their_turns.Goals as goal
 
 pub write_turns-requires-clause-ones : goal.write_turns-requires-clause-ones
 write_turns-requires-clause-ones g c =

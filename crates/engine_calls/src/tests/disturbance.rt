@@ -2,7 +2,7 @@
 ghost use Rattle.std.specs.Prelude.{◌≡◌, ◌≤◌, ◌<◌, ◌^◌, [], All, IfOk, IsTrue, OnOk};
 ghost use Rattle.flux_writer.specs.Reading.{EndsWithTransition};
 
-use super::{TRACK, decode_first};
+use super::decoding::{TRACK, decode_first};
 use cell_bits::Cells;
 use flux_base::{Memory, MemorySink};
 use flux_writer::write_times;

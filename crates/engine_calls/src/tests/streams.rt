@@ -1,6 +1,7 @@
-use super::*;
+//! Streams of given times, of cells and of a ring.
 use cell_bits::Cells;
 use flux_base::{Failed, MemorySink};
+use flux_writer::{write_times, write_track, write_turns};
 use index_turns::TrackFlux;
 use std::test::Fail;
 

@@ -1,8 +1,9 @@
-use crate::{WriteFault, WriteRoom, track_ring, write_disk};
+//! Rings of tracks, and images that are written.
 use apple_gcr::AppleGcr;
 use cell_bits::Cells;
 use commodore_gcr::CommodoreGcr;
 use flux_base::{MemorySink, MemorySource, TrackId};
+use flux_engine::{WriteFault, WriteRoom, track_ring, write_disk};
 use frame_law::{Reading, Recording, SectorBuffer};
 use sector_images::Format;
 use std::alloc::Global;

@@ -1,0 +1,4 @@
+mod decoding;
+mod disturbance;
+mod streams;
+mod writing;
