@@ -24,6 +24,3 @@ pub use line::g64_line;
 pub use reading::from_g64;
 pub use room::G64Room;
 pub use writing::to_g64;
-
-#[cfg(test)]
-mod tests;

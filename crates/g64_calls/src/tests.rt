@@ -1,5 +1,6 @@
-use super::*;
+//! A disk as a file and back, and files with a fault.
 use flux_base::{MemorySink, MemorySource};
+use g64_image::{FromStop, G64Fault, G64Room, ToStop, from_g64, g64_line, to_g64};
 use sector_images::Format;
 use sector_report::Totals;
 use std::alloc::{AllocError, Global};
