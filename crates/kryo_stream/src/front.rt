@@ -1,4 +1,4 @@
-ghost use Rattle.std.specs.Prelude.{◌≡◌, ◌≤◌, ◌<◌, ◌+◌, ◌^◌, ℕ, false, length, take, drop, get_or, slice_index, All, IsTrue, IfOk, IfSome, IfNone, Some, Ok, true};
+ghost use Rattle.std.specs.Prelude.{◌≡◌, ◌≤◌, ◌<◌, ◌+◌, ◌^◌, ℕ, false, length, take, drop, get_or, slice_index, All, IfOk, IfSome, IfNone, Some, Ok, true};
 ghost use Rattle.byteorder.specs.Endian.{little_number};
 ghost use Rattle.kryo_stream.specs.Bench.{IsSized};
 ghost use Rattle.kryo_stream.specs.Blocks.{IsShortFlux};

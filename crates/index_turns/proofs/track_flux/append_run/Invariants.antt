@@ -1,4 +1,4 @@
-use Rattle.std.proofs.Common.{◌≡◌, ◌≤◌, ◌+◌, ◌*◌, ◌++◌, length, take, vec_len}
+use Rattle.std.proofs.Common.{◌≡◌, ◌≤◌, ◌+◌, ◌*◌, ◌++◌, take, vec_len}
 use Rattle.std.specs.List.{sum}
 use Rattle.std.specs.Vec.{vec_capacity}
 use Rattle.index_turns.specs.Track.{times_after}
