@@ -21,6 +21,11 @@ across layout = 12 * (layout.last.cylinder + 1)
 abbrev pub down : Layout → ℕ
 down layout = 12 * layout.rows
 
+-- how wide the row of cylinders' numbers is: a number of two digits, which stands in the middle of its cylinder's field, begins up to half
+-- a unit before the field, so the row ends a unit before the field behind the last one
+abbrev pub numbers_across : Layout → ℕ
+numbers_across layout = 12 * layout.last.cylinder + 11
+
 -- the top of the grid of a head: the grids stand below one another
 abbrev pub top_of : Layout → (head : ℕ) → ℕ
 top_of layout head = 56 + head * (down layout + 48)

@@ -8,7 +8,7 @@ use Rattle.sector_report.specs.Lines.{sector_text}
 use Rattle.sector_report.specs.declared.totals.Totals.{Totals}
 use Rattle.turn_merge.specs.declared.verdict.Verdict.{Verdict}
 use Rattle.disk_map.specs.Looks.{colour_of, kind_of, name_of, shape_of}
-use Rattle.disk_map.specs.Places.{across, down, field_top, foot_top, height_of, layout_of, left_of, top_of, width_of}
+use Rattle.disk_map.specs.Places.{across, down, field_top, foot_top, height_of, layout_of, left_of, numbers_across, top_of, width_of}
 use Rattle.disk_map.specs.declared.kind.Kind.{Kind}
 use Rattle.disk_map.specs.declared.kind.Kind.TheVariants.{Good, Contradictory, Bad, Missing}
 use Rattle.disk_map.specs.declared.layout.Layout.{Layout}
@@ -53,7 +53,7 @@ heading_text layout head =
 unfoldable pub ground_text : Layout → List ℕ
 ground_text layout =
     codes "<rect x=\"-1\" y=\"-1\" width=\"" ++ decimal (across layout) ++ codes "\" height=\"" ++ decimal (down layout)
-    ++ codes "\" fill=\"#eeeeee\"/>\n<svg y=\"-14\" width=\"" ++ decimal (across layout) ++ codes "\" height=\"12\"><use href=\"#columns\"/></svg>\n"
+    ++ codes "\" fill=\"#eeeeee\"/>\n<svg y=\"-14\" width=\"" ++ decimal (numbers_across layout) ++ codes "\" height=\"12\"><use href=\"#columns\"/></svg>\n"
 
 -- the numbers of sectors beside it
 unfoldable pub row_labels_text : Layout → List ℕ

@@ -107,7 +107,7 @@ fn append_ground(text: &mut Text, layout: Layout)
     append_number(
         text,
         "\" fill=\"#eeeeee\"/>\n<svg y=\"-14\" width=\"",
-        layout.across(),
+        layout.numbers_across(),
     );
     append(text, "\" height=\"12\"><use href=\"#columns\"/></svg>\n");
 }
