@@ -14,7 +14,7 @@ LOOKS = {
 # A field has so many units across and down.
 FIELD = 12
 
-LABELLED_CYLINDERS = range(0, 80, 10)
+LABELLED_CYLINDERS = range(0, 81, 5)
 LABELLED_SECTORS = [*range(27), *range(65, 74), *range(193, 202)]
 
 
@@ -56,10 +56,11 @@ class Picture:
                 f'<text x="40" y="20" font-size="13">{word}</text>\n') + all_labels() + "".join(map(self.empty_grid, range(self.heads)))
 
     def empty_grid(self, head):
-        across, down, first = self.across, self.down, self.form.recording.first
+        # the window on the cylinders' numbers leaves out where the next cylinder's number would begin
+        across, numbers, down, first = self.across, self.across - 1, self.down, self.form.recording.first
         return (f'<g transform="translate(40 {self.grid(head)})"><text y="-18">head {head}</text>\n'
                 f'<rect x="-1" y="-1" width="{across}" height="{down}" fill="#eeeeee"/>\n'
-                f'<svg y="-14" width="{across}" height="12"><use href="#columns"/></svg>\n'
+                f'<svg y="-14" width="{numbers}" height="12"><use href="#columns"/></svg>\n'
                 f'<svg x="-24" width="20" height="{down}" viewBox="0 {FIELD * first} 20 {down}"><use href="#rows"/></svg></g>\n')
 
     def mark(self, verdict, left, top):
