@@ -23,6 +23,3 @@ pub use laws::{
 pub use layout::Layout;
 pub use text::Text;
 pub use texts::{field_text, foot_text};
-
-#[cfg(test)]
-mod tests;

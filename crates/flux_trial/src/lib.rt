@@ -17,6 +17,3 @@ pub use image::trial_image;
 pub use laws::{trials_are_captured, whole_trials_have_one_line};
 pub use room::TrialRoom;
 pub use trial::run_trial;
-
-#[cfg(test)]
-mod tests;

@@ -1,5 +1,6 @@
-use super::*;
+//! Trials, by their line.
 use flux_base::{Failed, MemorySink};
+use flux_trial::{TrialRoom, run_trial};
 use sector_images::Format;
 use std::alloc::Global;
 use std::process::Abort;

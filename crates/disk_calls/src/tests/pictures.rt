@@ -1,4 +1,5 @@
-use super::*;
+//! Pictures, and the fields of which they are made.
+use disk_map::{Layout, MapFault, field_text, foot_text, map_disk};
 use flux_base::{Memory, MemorySink, MemorySource, TrackId};
 use flux_engine::DiskRoom;
 use kryo_stream::StreamFault;
@@ -133,6 +134,10 @@ fn a_refused_disk_has_a_whole_picture(rt: HostRuntime) -> Result<(), Fail> {
         text.contains(
             "d=\"M40 296v10h10v-10zm2 2h6v6h-6z\"><title>00.0 20 missing 0 0\n</title></path>\n<path "
         )
+    );
+    // The number of cylinder 35 would begin at 419.6.
+    assert!(rt;
+        text.contains("<svg y=\"-14\" width=\"419\" height=\"12\"><use href=\"#columns\"/></svg>\n")
     );
     assert!(rt; text.contains("y=\"379\">missing 21</text>\n"));
     assert!(rt; text.ends_with(">refused track 1 block 0 UnknownType 5\n</text>\n</svg>\n"));

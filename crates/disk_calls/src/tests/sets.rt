@@ -1,4 +1,5 @@
-use super::*;
+//! Lines that name the capture.
+use capture_set::{refused_capture_line, set_line};
 use flux_base::TrackId;
 use kryo_stream::StreamFault;
 use turn_merge::{Place, Verdict};

@@ -1,0 +1,3 @@
+mod pictures;
+mod sets;
+mod trials;
