@@ -10,8 +10,6 @@
 mod cells;
 mod laws;
 mod marks;
-#[cfg(test)]
-mod tests;
 
 pub use cells::Cells;
 pub use laws::marks_law;

@@ -10,6 +10,3 @@ mod table;
 pub use message::crc16;
 pub use register::Crc16;
 pub use sums::{amiga_xor, xor_bytes};
-
-#[cfg(test)]
-mod tests;

@@ -7,6 +7,3 @@ mod writing;
 
 pub use page::Page;
 pub use writing::write_page;
-
-#[cfg(test)]
-mod tests;

@@ -7,6 +7,3 @@ mod symbol;
 
 pub use pushes::{push_bytes, push_run, push_symbol};
 pub use symbol::Symbol;
-
-#[cfg(test)]
-mod tests;

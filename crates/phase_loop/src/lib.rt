@@ -14,6 +14,3 @@ pub use phase::Loop;
 pub use recovery::recover;
 pub use sizes::cells_are_few;
 pub use start::{Band, LoopStart};
-
-#[cfg(test)]
-mod tests;

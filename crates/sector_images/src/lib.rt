@@ -15,6 +15,3 @@ pub use places::{
     image_place, image_sector, image_size, nominal, ring_cells, track_bytes, track_count, track_id,
     track_place,
 };
-
-#[cfg(test)]
-mod tests;

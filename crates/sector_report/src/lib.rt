@@ -18,6 +18,3 @@ pub use stream_lines::{transitions_line, turn_line};
 pub use totals::Totals;
 pub use trial_lines::trial_line;
 pub use usage::{USAGE, usage_line};
-
-#[cfg(test)]
-mod tests;

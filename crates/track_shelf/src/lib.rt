@@ -9,6 +9,3 @@ mod shelf;
 pub use memory::{MemoryShelf, ShelfFile};
 pub use names::{file_name, missing_line};
 pub use shelf::Shelf;
-
-#[cfg(test)]
-mod tests;

@@ -8,6 +8,3 @@ mod verdict;
 
 pub use book::Book;
 pub use verdict::{Place, Verdict};
-
-#[cfg(test)]
-mod tests;

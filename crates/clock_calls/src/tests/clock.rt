@@ -1,10 +1,11 @@
+//! Recovered cells.
 ghost use Rattle.std.specs.Prelude.{◌*◌, ◌^◌, ◌≤◌, All, IfOk};
 ghost use Rattle.phase_loop.specs.Start.{IsStart};
 
-use crate::{Band, Loop, LoopStart, recover};
 use cell_bits::Cells;
 use flux_base::Memory;
 use index_turns::TrackFlux;
+use phase_loop::{Band, Loop, LoopStart, recover};
 use std::alloc::Global;
 
 /// The latest time that the loop takes.

@@ -1,5 +1,6 @@
-use super::*;
+//! Pages of the program, as they are written.
 use flux_base::MemorySink;
+use flux_help::{Page, write_page};
 use sector_images::Format;
 use std::str;
 use std::test::Fail;

@@ -1,5 +1,6 @@
-use super::*;
+//! Verdicts of sectors, as their readings come.
 use std::test::Fail;
+use turn_merge::{Book, Place, Verdict};
 
 const FIRST: Place = Place { turn: 1, cell: 10 };
 

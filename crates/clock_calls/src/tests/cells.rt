@@ -1,7 +1,8 @@
+//! Lists of cells.
 ghost use Rattle.std.specs.Prelude.{All, IfOk};
 ghost use Rattle.cell_bits.specs.Run.{IsShortRun};
 
-use super::*;
+use cell_bits::Cells;
 use flux_base::Memory;
 use std::alloc::Global;
 use std::test::Fail;
