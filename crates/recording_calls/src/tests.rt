@@ -2,4 +2,6 @@ mod amiga;
 mod apple;
 mod commodore;
 mod fm;
+mod frames;
 mod mfm;
+mod rings;

@@ -1,4 +1,8 @@
 //! Amiga disks.
+use super::frames::{HandMade, Row, Search, assert_found, assert_read, front};
+use super::rings::{
+    Numbers, Word, assert_found_in_joined, assert_words, read_back, read_back_by_chance,
+};
 use amiga_mfm::AmigaMfm;
 use cell_bits::Cells;
 use flux_base::{Memory, TrackId};
@@ -49,314 +53,275 @@ fn push_zeros(cells: &mut Cells, halves: u8) -> Result<(), Memory> {
     Ok(())
 }
 
-fn push_frame(cells: &mut Cells, frame: &Frame) -> Result<(), Memory> {
-    cells.push_word(0x4489_4489, 32)?;
-    push_halves(cells, frame.info)?;
-    push_zeros(cells, 3)?;
-    cells.push_word(frame.label, 32)?;
-    push_zeros(cells, 4)?;
-    push_halves(cells, frame.header_check)?;
-    push_halves(cells, frame.data_check)?;
-    push_zeros(cells, 100)?;
-    cells.push_word(frame.data, 32)?;
-    push_zeros(cells, 154)?;
-    cells.push_word(frame.last, 32)
+impl HandMade for Frame {
+    fn push(&self, cells: &mut Cells) -> Result<(), Memory> {
+        cells.push_word(0x4489_4489, 32)?;
+        push_halves(cells, self.info)?;
+        push_zeros(cells, 3)?;
+        cells.push_word(self.label, 32)?;
+        push_zeros(cells, 4)?;
+        push_halves(cells, self.header_check)?;
+        push_halves(cells, self.data_check)?;
+        push_zeros(cells, 100)?;
+        cells.push_word(self.data, 32)?;
+        push_zeros(cells, 154)?;
+        cells.push_word(self.last, 32)
+    }
 }
+
+const GOOD: Reading = Reading::Good { sector: 0 };
+
+const BAD: Reading = Reading::Bad { sector: 0 };
+
+const FRAMES: &[Row<Frame>] = &[
+    ("the frame as it is", PLAIN, GOOD),
+    (
+        "sector 10",
+        Frame {
+            info: [0x5500_0500, 0x5500_0001],
+            header_check: [0, 0x501],
+            ..PLAIN
+        },
+        Reading::Good { sector: 10 },
+    ),
+    (
+        "sector 11",
+        Frame {
+            info: [0x5500_0500, 0x5500_0100],
+            header_check: [0, 0x400],
+            ..PLAIN
+        },
+        Reading::Nothing,
+    ),
+    (
+        "FE as the first byte",
+        Frame {
+            info: [0x5500_0005, 0x5400_0001],
+            header_check: [0, 0x0100_0004],
+            ..PLAIN
+        },
+        Reading::Nothing,
+    ),
+    (
+        "track 1",
+        Frame {
+            info: [0x5500_0005, 0x5501_0001],
+            header_check: [0, 0x0001_0004],
+            ..PLAIN
+        },
+        Reading::Nothing,
+    ),
+    (
+        "no sector to the gap, which is not looked at",
+        Frame {
+            info: [0x5500_0000, 0x5500_0000],
+            header_check: [0, 0],
+            ..PLAIN
+        },
+        GOOD,
+    ),
+    (
+        "a label that is in the check value",
+        Frame {
+            label: ZEROS | 0x4000_0001,
+            header_check: [0, 0x4000_0005],
+            ..PLAIN
+        },
+        GOOD,
+    ),
+    (
+        "a label that is not in the check value",
+        Frame {
+            label: ZEROS | 0x4000_0001,
+            ..PLAIN
+        },
+        Reading::Nothing,
+    ),
+    (
+        "another check value of the header",
+        Frame {
+            header_check: [0, 5],
+            ..PLAIN
+        },
+        Reading::Nothing,
+    ),
+    (
+        "a check value of the header with an odd bit",
+        Frame {
+            header_check: [1, 4],
+            ..PLAIN
+        },
+        Reading::Nothing,
+    ),
+    (
+        "seven zeros in the header",
+        Frame {
+            label: 0xAAAA_80D5,
+            header_check: [0, 0x51],
+            ..PLAIN
+        },
+        GOOD,
+    ),
+    (
+        "eight zeros in the header",
+        Frame {
+            label: 0xAAAA_8055,
+            header_check: [0, 0x51],
+            ..PLAIN
+        },
+        Reading::Nothing,
+    ),
+    (
+        "another check value of the data",
+        Frame {
+            data_check: [0, 0x1000_0000],
+            ..PLAIN
+        },
+        BAD,
+    ),
+    (
+        "a check value of the data with an odd bit",
+        Frame {
+            data_check: [0x1000_0000, 0],
+            ..PLAIN
+        },
+        BAD,
+    ),
+    (
+        "a last half that is in the check value",
+        Frame {
+            last: ZEROS | 0x1000_0000,
+            data_check: [0, 0x1000_0000],
+            ..PLAIN
+        },
+        GOOD,
+    ),
+    (
+        "seven zeros in the data",
+        Frame {
+            data: 0xAAAA_80D5,
+            data_check: [0, 0x55],
+            ..PLAIN
+        },
+        GOOD,
+    ),
+    (
+        "eight zeros in the data",
+        Frame {
+            data: 0xAAAA_8055,
+            data_check: [0, 0x55],
+            ..PLAIN
+        },
+        BAD,
+    ),
+];
 
 #[test]
 fn reads_frames_made_by_hand(rt: HostRuntime) -> Result<(), Fail> {
-    let good = Reading::Good { sector: 0 };
-    let bad = Reading::Bad { sector: 0 };
-    let nothing = Reading::Nothing;
-    let rows = [
-        ("the frame as it is", PLAIN, good),
-        (
-            "sector 10",
-            Frame {
-                info: [0x5500_0500, 0x5500_0001],
-                header_check: [0, 0x501],
-                ..PLAIN
-            },
-            Reading::Good { sector: 10 },
-        ),
-        (
-            "sector 11",
-            Frame {
-                info: [0x5500_0500, 0x5500_0100],
-                header_check: [0, 0x400],
-                ..PLAIN
-            },
-            nothing,
-        ),
-        (
-            "FE as the first byte",
-            Frame {
-                info: [0x5500_0005, 0x5400_0001],
-                header_check: [0, 0x0100_0004],
-                ..PLAIN
-            },
-            nothing,
-        ),
-        (
-            "track 1",
-            Frame {
-                info: [0x5500_0005, 0x5501_0001],
-                header_check: [0, 0x0001_0004],
-                ..PLAIN
-            },
-            nothing,
-        ),
-        (
-            "no sector to the gap, which is not looked at",
-            Frame {
-                info: [0x5500_0000, 0x5500_0000],
-                header_check: [0, 0],
-                ..PLAIN
-            },
-            good,
-        ),
-        (
-            "a label that is in the check value",
-            Frame {
-                label: ZEROS | 0x4000_0001,
-                header_check: [0, 0x4000_0005],
-                ..PLAIN
-            },
-            good,
-        ),
-        (
-            "a label that is not in the check value",
-            Frame {
-                label: ZEROS | 0x4000_0001,
-                ..PLAIN
-            },
-            nothing,
-        ),
-        (
-            "another check value of the header",
-            Frame {
-                header_check: [0, 5],
-                ..PLAIN
-            },
-            nothing,
-        ),
-        (
-            "a check value of the header with an odd bit",
-            Frame {
-                header_check: [1, 4],
-                ..PLAIN
-            },
-            nothing,
-        ),
-        (
-            "seven zeros in the header",
-            Frame {
-                label: 0xAAAA_80D5,
-                header_check: [0, 0x51],
-                ..PLAIN
-            },
-            good,
-        ),
-        (
-            "eight zeros in the header",
-            Frame {
-                label: 0xAAAA_8055,
-                header_check: [0, 0x51],
-                ..PLAIN
-            },
-            nothing,
-        ),
-        (
-            "another check value of the data",
-            Frame {
-                data_check: [0, 0x1000_0000],
-                ..PLAIN
-            },
-            bad,
-        ),
-        (
-            "a check value of the data with an odd bit",
-            Frame {
-                data_check: [0x1000_0000, 0],
-                ..PLAIN
-            },
-            bad,
-        ),
-        (
-            "a last half that is in the check value",
-            Frame {
-                last: ZEROS | 0x1000_0000,
-                data_check: [0, 0x1000_0000],
-                ..PLAIN
-            },
-            good,
-        ),
-        (
-            "seven zeros in the data",
-            Frame {
-                data: 0xAAAA_80D5,
-                data_check: [0, 0x55],
-                ..PLAIN
-            },
-            good,
-        ),
-        (
-            "eight zeros in the data",
-            Frame {
-                data: 0xAAAA_8055,
-                data_check: [0, 0x55],
-                ..PLAIN
-            },
-            bad,
-        ),
-    ];
-    let mut cells = Cells::new(rt.alloc());
-    let mut buffer = SectorBuffer::new();
-    for (name, frame, want) in rows {
-        cells.clear();
-        push_frame(&mut cells, &frame)?;
-        let reading = AmigaMfm.read_at(&cells, 0, TRACK, &mut buffer);
-        assert_eq!(rt; reading, want, "{name}");
-        let is_good = matches!(reading, Reading::Good { .. });
-        assert_eq!(rt; buffer.len(), if is_good { 512 } else { 0 }, "{name}");
-    }
-    Ok(())
+    assert_read(&rt, rt.alloc(), &AmigaMfm, TRACK, FRAMES)
 }
+
+/// The long 88028802 in a sector of zeros.
+fn byte_within(index: usize) -> u8 {
+    match index {
+        400 | 402 => 0x88,
+        401 | 403 => 0x02,
+        _ => 0,
+    }
+}
+
+/// The cells 44894489 have the data cells 44014401, the odd half of the long 88028802.
+const SYNC_WITHIN: Frame = Frame {
+    data: 0x4489_4489,
+    data_check: [0, 0x4401_4401],
+    ..PLAIN
+};
 
 #[test]
 fn a_sync_within_data_is_none(rt: HostRuntime) -> Result<(), Fail> {
-    // The cells 44894489 have the data cells 44014401, the odd half of the long 88028802.
-    let frame = Frame {
-        data: 0x4489_4489,
-        data_check: [0, 0x4401_4401],
-        ..PLAIN
-    };
     let mut cells = Cells::new(rt.alloc());
-    push_frame(&mut cells, &frame)?;
+    SYNC_WITHIN.push(&mut cells)?;
     let mut buffer = SectorBuffer::new();
     let first = next_reading(&AmigaMfm, &cells, 0, TRACK, &mut buffer);
-    assert_eq!(rt; first, Some((0, Reading::Good { sector: 0 })));
+    assert_eq!(rt; first, Some((0, GOOD)));
     for (index, byte) in buffer.iter().enumerate() {
-        let want = match index {
-            400 | 402 => 0x88,
-            401 | 403 => 0x02,
-            _ => 0,
-        };
-        assert_eq!(rt; *byte, want, "byte {index}");
+        assert_eq!(rt; *byte, byte_within(index), "byte {index}");
     }
-    assert_eq!(rt;
-        cells.find_word(1, cells.len(), 0x4489_4489, 32),
-        Some(3680)
-    );
-    let second = next_reading(&AmigaMfm, &cells, 1, TRACK, &mut buffer);
-    assert_eq!(rt; second, None);
+    let sync = cells.find_word(1, cells.len(), 0x4489_4489, 32);
+    assert_eq!(rt; sync, Some(3680));
+    assert_found(&rt, &AmigaMfm, TRACK, &cells, &[(1, None)]);
     Ok(())
 }
+
+/// So many cells of a frame, and what is read in them.
+const CUTS: [(usize, Reading); 5] = [
+    (8672, GOOD),
+    (8671, BAD),
+    (8640, BAD),
+    (480, BAD),
+    (479, Reading::Nothing),
+];
 
 #[test]
 fn a_cut_frame_is_bad(rt: HostRuntime) -> Result<(), Fail> {
     let mut whole = Cells::new(rt.alloc());
-    push_frame(&mut whole, &PLAIN)?;
+    PLAIN.push(&mut whole)?;
     assert_eq!(rt; whole.len(), 8672);
-    let rows = [
-        (8672, Reading::Good { sector: 0 }),
-        (8671, Reading::Bad { sector: 0 }),
-        (8640, Reading::Bad { sector: 0 }),
-        (480, Reading::Bad { sector: 0 }),
-        (479, Reading::Nothing),
-    ];
-    let mut cut = Cells::new(rt.alloc());
-    let mut buffer = SectorBuffer::new();
-    for (length, want) in rows {
-        cut.clear();
-        for place in 0..length {
-            cut.push_cell(whole.cell(place))?;
-        }
-        let reading = AmigaMfm.read_at(&cut, 0, TRACK, &mut buffer);
+    for (length, want) in CUTS {
+        let cut = front(rt.alloc(), &whole, length)?;
+        let reading = AmigaMfm.read_at(&cut, 0, TRACK, &mut SectorBuffer::new());
         assert_eq!(rt; reading, want, "{length} cells");
     }
     Ok(())
 }
 
+const NUMBERS: Numbers = Numbers {
+    first: 0,
+    sectors: 11,
+    size: 512,
+    cells: 100_000,
+    place: 32,
+    step: 8704,
+};
+
+/// The sync, the info FF00000B and the check value 00000004 of the header; the check value 51514445 of the data, and
+/// the halves 50500044 and 01014401 of the first long A1A14489; the gap's end.
+const WORDS: &[Word] = &[
+    (32, 32, 0x4489_4489),
+    (64, 32, 0x552A_AAA5),
+    (96, 32, 0x552A_AAA9),
+    (416, 32, 0xAAAA_AAA4),
+    (480, 32, 0x5151_4445),
+    (512, 32, 0x5252_AA44),
+    (4608, 32, 0xA929_44A9),
+    (99968, 32, 0xAAAA_AAAA),
+];
+
+const JOINED: &[Search] = &[
+    (0, Some((32, Reading::Good { sector: 0 }))),
+    (33, Some((8736, Reading::Good { sector: 1 }))),
+    (187072, Some((187072, Reading::Good { sector: 10 }))),
+    (187073, None),
+];
+
 #[test]
 fn reads_two_joined_rings(rt: HostRuntime) -> Result<(), Fail> {
-    let mut bytes = vec![in rt.alloc(); 0u8; 5632]?;
-    let first = [0xA1, 0xA1, 0x44, 0x89];
-    for (index, byte) in first.iter().enumerate() {
-        bytes[index] = *byte;
-    }
-    let mut ring = Cells::new(rt.alloc());
-    AmigaMfm.ring(TRACK, &bytes, &mut ring)?;
-    assert_eq!(rt; ring.len(), 100000);
-
-    // The sync, the info FF00000B and the check value 00000004 of the header; the check value 51514445 of the data,
-    // and the halves 50500044 and 01014401 of the first long A1A14489; the gap's end.
-    assert_eq!(rt; ring.word_at(32, 32), 0x4489_4489);
-    assert_eq!(rt; ring.word_at(64, 32), 0x552A_AAA5);
-    assert_eq!(rt; ring.word_at(96, 32), 0x552A_AAA9);
-    assert_eq!(rt; ring.word_at(416, 32), 0xAAAA_AAA4);
-    assert_eq!(rt; ring.word_at(480, 32), 0x5151_4445);
-    assert_eq!(rt; ring.word_at(512, 32), 0x5252_AA44);
-    assert_eq!(rt; ring.word_at(4608, 32), 0xA929_44A9);
-    assert_eq!(rt; ring.word_at(99968, 32), 0xAAAA_AAAA);
-
-    let mut cells = Cells::new(rt.alloc());
-    for _ in 0..2u8 {
-        for place in 0..ring.len() {
-            cells.push_cell(ring.cell(place))?;
-        }
-    }
-    let mut buffer = SectorBuffer::new();
-    let found = next_reading(&AmigaMfm, &cells, 0, TRACK, &mut buffer);
-    assert_eq!(rt; found, Some((32, Reading::Good { sector: 0 })));
-    for (index, byte) in buffer.iter().enumerate() {
-        let want = if index < 4 { first[index] } else { 0 };
-        assert_eq!(rt; *byte, want, "byte {index}");
-    }
-    let rows = [
-        (33, Some((8736, Reading::Good { sector: 1 }))),
-        (187072, Some((187072, Reading::Good { sector: 10 }))),
-        (187073, None),
-    ];
-    for (from, want) in rows {
-        let found = next_reading(&AmigaMfm, &cells, from, TRACK, &mut buffer);
-        assert_eq!(rt; found, want, "from {from}");
-    }
-    assert_eq!(rt; buffer.len(), 0);
-    Ok(())
+    let mut bytes = [0xA1, 0xA1, 0x44, 0x89].to_vec(rt.alloc())?;
+    bytes.resize(5632, 0)?;
+    let ring = read_back(&rt, rt.alloc(), &AmigaMfm, TRACK, &NUMBERS, &bytes)?;
+    assert_words(&rt, &ring, WORDS);
+    assert_found_in_joined(&rt, rt.alloc(), &AmigaMfm, TRACK, [&ring, &ring], JOINED)
 }
+
+const LAST_TRACK: TrackId = TrackId {
+    cylinder: 79,
+    head: 1,
+};
 
 #[test]
 fn reads_each_sector_back(rt: HostRuntime) -> Result<(), Fail> {
-    let track = TrackId {
-        cylinder: 79,
-        head: 1,
-    };
-    let mut bytes = Vec::new(rt.alloc());
-    for index in 0..5632u16 {
-        bytes.push((index % 251) as u8)?;
-    }
-    assert_eq!(rt; bytes.len(), 5632);
-    let mut ring = Cells::new(rt.alloc());
-    AmigaMfm.ring(track, &bytes, &mut ring)?;
-    assert_eq!(rt; ring.len(), 100000);
-    let mut buffer = SectorBuffer::new();
-    let mut from = 0;
-    for sector in 0..11u8 {
-        match next_reading(&AmigaMfm, &ring, from, track, &mut buffer) {
-            Some((place, reading)) => {
-                assert_eq!(rt; reading, Reading::Good { sector }, "at {place}");
-                assert_eq!(rt; place, 32 + 8704 * sector as usize);
-                for (index, byte) in buffer.iter().enumerate() {
-                    let want = (sector as usize * 512 + index) % 251;
-                    assert_eq!(rt; *byte as usize, want, "byte {index} of sector {sector}");
-                }
-                from = place + 1;
-            }
-            None => panic!(rt; "no sector {sector}"),
-        }
-    }
-    let other = next_reading(&AmigaMfm, &ring, 0, TRACK, &mut buffer);
-    assert_eq!(rt; other, None, "another track's headers");
+    let ring = read_back_by_chance(&rt, rt.alloc(), &AmigaMfm, LAST_TRACK, &NUMBERS)?;
+    // These are another track's headers.
+    assert_found(&rt, &AmigaMfm, TRACK, &ring, &[(0, None)]);
     Ok(())
 }

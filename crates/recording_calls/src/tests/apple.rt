@@ -1,8 +1,17 @@
 //! Apple's disks.
+use super::frames::{
+    HandMade, Row, Search, assert_found, assert_found_in_cut, assert_read, push_cells, push_gap,
+    push_part,
+};
+use super::rings::{
+    Numbers, Word, assert_found_in_joined, assert_sectors, assert_words, read_back,
+};
 use apple_gcr::AppleGcr;
 use cell_bits::Cells;
 use flux_base::{Memory, TrackId};
-use frame_law::{Reading, Recording, SectorBuffer, next_reading};
+use frame_law::{Reading, Recording, SectorBuffer};
+use std::alloc::{AllocError, Global};
+use std::process::Abort;
 use std::test::Fail;
 
 const TRACK: TrackId = TrackId {
@@ -58,30 +67,25 @@ const PLAIN: Frame = Frame {
     late: (Late::Opening, 0),
 };
 
-/// Cells of which each second one is a one.
-fn push_gap(cells: &mut Cells, count: u16) -> Result<(), Memory> {
-    for place in 0..count {
-        cells.push_cell(place % 2 == 0)?;
-    }
-    Ok(())
+/// The zeros that the frame has before a byte, if any.
+fn push_late(cells: &mut Cells, frame: &Frame, before: Late) -> Result<(), Memory> {
+    let (byte, count) = frame.late;
+    push_cells(cells, if byte == before { count } else { 0 }, false)
 }
 
-/// The zeros that the frame has before a byte, if any.
-fn push_zeros(cells: &mut Cells, frame: &Frame, before: Late) -> Result<(), Memory> {
-    if frame.late.0 == before {
-        for _ in 0..frame.late.1 {
-            cells.push_cell(false)?;
-        }
+fn push_middle(cells: &mut Cells, middle: Middle) -> Result<(), Memory> {
+    match middle {
+        Middle::Zeros(count) => push_cells(cells, count, false),
+        Middle::Mark(mark) => cells.push_word(mark, 24),
     }
-    Ok(())
 }
 
 fn push_header(cells: &mut Cells, frame: &Frame) -> Result<(), Memory> {
     cells.push_word(0xD5, 8)?;
-    push_zeros(cells, frame, Late::AddressMark)?;
+    push_late(cells, frame, Late::AddressMark)?;
     cells.push_word(0xAA96, 16)?;
     for index in 0..8u32 {
-        push_zeros(cells, frame, Late::Address(index))?;
+        push_late(cells, frame, Late::Address(index))?;
         let bytes = if index < 4 {
             frame.address.0
         } else {
@@ -92,22 +96,9 @@ fn push_header(cells: &mut Cells, frame: &Frame) -> Result<(), Memory> {
     Ok(())
 }
 
-fn push_frame(cells: &mut Cells, frame: &Frame) -> Result<(), Memory> {
-    push_header(cells, frame)?;
-    push_gap(cells, frame.gap / 2)?;
-    match frame.middle {
-        Middle::Zeros(count) => {
-            for _ in 0..count {
-                cells.push_cell(false)?;
-            }
-        }
-        Middle::Mark(mark) => {
-            cells.push_word(mark, 24)?;
-        }
-    }
-    push_gap(cells, frame.gap - frame.gap / 2)?;
+fn push_data(cells: &mut Cells, frame: &Frame) -> Result<(), Memory> {
     cells.push_word(frame.mark >> 8, 16)?;
-    push_zeros(cells, frame, Late::Opening)?;
+    push_late(cells, frame, Late::Opening)?;
     cells.push_word(frame.mark, 8)?;
     for index in 0..343u16 {
         let byte = if index == frame.changed.0 {
@@ -115,375 +106,351 @@ fn push_frame(cells: &mut Cells, frame: &Frame) -> Result<(), Memory> {
         } else {
             0x96
         };
-        push_zeros(cells, frame, Late::Nibble(index))?;
+        push_late(cells, frame, Late::Nibble(index))?;
         cells.push_word(byte, 8)?;
     }
     Ok(())
 }
 
-/// What both rules read in the frame where so many zeros stand before a byte.
-fn read_late(cells: &mut Cells, byte: Late, count: u16, rule: AppleGcr) -> Result<Reading, Memory> {
+impl HandMade for Frame {
+    fn push(&self, cells: &mut Cells) -> Result<(), Memory> {
+        push_header(cells, self)?;
+        push_gap(cells, self.gap / 2)?;
+        push_middle(cells, self.middle)?;
+        push_gap(cells, self.gap - self.gap / 2)?;
+        push_data(cells, self)
+    }
+}
+
+const GOOD: Reading = Reading::Good { sector: 7 };
+
+const BAD: Reading = Reading::Bad { sector: 7 };
+
+/// So many zeros are passed over before these bytes, seven where the byte before ends with a one. One more is the
+/// eighth in a row. What is read then comes last.
+const PASSED: &[(Late, u16, Reading)] = &[
+    (Late::Opening, 6, BAD),
+    (Late::Nibble(0), 7, BAD),
+    (Late::Nibble(1), 6, BAD),
+    (Late::Nibble(171), 6, BAD),
+    (Late::Nibble(342), 6, BAD),
+    (Late::Address(0), 6, Reading::Nothing),
+    (Late::Address(1), 7, Reading::Nothing),
+    (Late::Address(2), 6, Reading::Nothing),
+    (Late::Address(3), 6, Reading::Nothing),
+    (Late::Address(4), 6, Reading::Nothing),
+    (Late::Address(5), 7, Reading::Nothing),
+    (Late::Address(6), 7, Reading::Nothing),
+    (Late::Address(7), 6, Reading::Nothing),
+    // The mark stands without a gap.
+    (Late::AddressMark, 0, Reading::Nothing),
+];
+
+/// What the controller reads, and what is read strictly, where so many zeros stand before a byte.
+fn read_late(cells: &mut Cells, byte: Late, count: u16) -> Result<[Reading; 2], Memory> {
+    let frame = Frame {
+        late: (byte, count),
+        ..PLAIN
+    };
     cells.clear();
-    push_frame(
-        cells,
-        &Frame {
-            late: (byte, count),
-            ..PLAIN
-        },
-    )?;
-    Ok(rule.read_at(cells, 0, TRACK, &mut SectorBuffer::new()))
+    frame.push(cells)?;
+    let mut buffer = SectorBuffer::new();
+    Ok([
+        AppleGcr::CONTROLLER.read_at(cells, 0, TRACK, &mut buffer),
+        AppleGcr::STRICT.read_at(cells, 0, TRACK, &mut buffer),
+    ])
 }
 
 #[test]
 fn passes_over_zeros_as_the_controller_does(rt: HostRuntime) -> Result<(), Fail> {
-    let bad = Reading::Bad { sector: 7 };
-    let nothing = Reading::Nothing;
-    // So many zeros are passed over before these bytes, seven where the byte before ends with a one. One more is
-    // the eighth in a row.
-    let rows = [
-        (Late::Opening, 6, bad),
-        (Late::Nibble(0), 7, bad),
-        (Late::Nibble(1), 6, bad),
-        (Late::Nibble(171), 6, bad),
-        (Late::Nibble(342), 6, bad),
-        (Late::Address(0), 6, nothing),
-        (Late::Address(1), 7, nothing),
-        (Late::Address(2), 6, nothing),
-        (Late::Address(3), 6, nothing),
-        (Late::Address(4), 6, nothing),
-        (Late::Address(5), 7, nothing),
-        (Late::Address(6), 7, nothing),
-        (Late::Address(7), 6, nothing),
-        // The mark stands without a gap.
-        (Late::AddressMark, 0, nothing),
-    ];
     let mut cells = Cells::new(rt.alloc());
-    for (row, (byte, most, broken)) in rows.into_iter().enumerate() {
-        for count in [1, 2, most, 8] {
-            let want = if count <= most {
-                Reading::Good { sector: 7 }
-            } else {
-                broken
-            };
-            let read = read_late(&mut cells, byte, count, AppleGcr::CONTROLLER)?;
-            assert_eq!(rt; read, want, "row {row}, {count} zeros");
-            if count > 0 {
-                let strict = read_late(&mut cells, byte, count, AppleGcr::STRICT)?;
-                assert_eq!(rt; strict, broken, "row {row}, {count} zeros, strictly");
-            }
+    for (row, (byte, most, broken)) in PASSED.iter().enumerate() {
+        for count in 0..9 {
+            let passed = if count <= *most { GOOD } else { *broken };
+            let strict = if count == 0 { GOOD } else { *broken };
+            let readings = read_late(&mut cells, *byte, count)?;
+            assert_eq!(rt; readings, [passed, strict], "row {row}, {count} zeros");
         }
-    }
-    for byte in [Late::Opening, Late::Nibble(1), Late::Address(4)] {
-        let read = read_late(&mut cells, byte, 7, AppleGcr::CONTROLLER)?;
-        assert!(rt; read == bad || read == nothing, "seven zeros after one");
     }
     Ok(())
 }
+
+const FRAMES: &[Row<Frame>] = &[
+    ("the frame as it is", PLAIN, GOOD),
+    (
+        "volume 1, check value 6",
+        Frame {
+            address: (0xAAAB_AAAA, 0xABAF_ABAE),
+            ..PLAIN
+        },
+        GOOD,
+    ),
+    (
+        "volume 1, check value F9",
+        Frame {
+            address: (0xAAAB_AAAA, 0xABAF_FEFB),
+            ..PLAIN
+        },
+        Reading::Nothing,
+    ),
+    (
+        "track 1, check value F8",
+        Frame {
+            address: (0xFFFE_AAAB, 0xABAF_FEFA),
+            ..PLAIN
+        },
+        Reading::Nothing,
+    ),
+    (
+        "sector 16, check value EE",
+        Frame {
+            address: (0xFFFE_AAAA, 0xAABA_FFEE),
+            ..PLAIN
+        },
+        Reading::Nothing,
+    ),
+    (
+        "the volume's first half lacks bit 7",
+        Frame {
+            address: (0x7FFE_AAAA, 0xABAF_FEFB),
+            ..PLAIN
+        },
+        Reading::Nothing,
+    ),
+    (
+        "the sector's second half lacks bit 7",
+        Frame {
+            address: (0xFFFE_AAAA, 0xAB2F_FEFB),
+            ..PLAIN
+        },
+        Reading::Nothing,
+    ),
+    (
+        "data 1023 cells behind the header",
+        Frame { gap: 1022, ..PLAIN },
+        GOOD,
+    ),
+    (
+        "data 1024 cells behind the header",
+        Frame { gap: 1023, ..PLAIN },
+        BAD,
+    ),
+    (
+        "another mark before that of the data",
+        Frame {
+            middle: Middle::Mark(0xD5_AAB5),
+            ..PLAIN
+        },
+        BAD,
+    ),
+    (
+        "D5 A9 AD before the mark of the data",
+        Frame {
+            middle: Middle::Mark(0xD5_A9AD),
+            ..PLAIN
+        },
+        GOOD,
+    ),
+    (
+        "another mark in place of that of the data",
+        Frame {
+            mark: 0xD5_AAAE,
+            ..PLAIN
+        },
+        BAD,
+    ),
+    (
+        "seven zeros in the gap",
+        Frame {
+            middle: Middle::Zeros(7),
+            ..PLAIN
+        },
+        GOOD,
+    ),
+    (
+        "eight zeros in the gap",
+        Frame {
+            middle: Middle::Zeros(8),
+            ..PLAIN
+        },
+        BAD,
+    ),
+    (
+        "a byte that is no nibble",
+        Frame {
+            changed: (100, 0x95),
+            ..PLAIN
+        },
+        BAD,
+    ),
+    (
+        "a nibble without its first cell",
+        Frame {
+            changed: (100, 0x16),
+            ..PLAIN
+        },
+        BAD,
+    ),
+    (
+        "another nibble",
+        Frame {
+            changed: (100, 0x97),
+            ..PLAIN
+        },
+        BAD,
+    ),
+    (
+        "another last nibble",
+        Frame {
+            changed: (342, 0x97),
+            ..PLAIN
+        },
+        BAD,
+    ),
+];
 
 #[test]
 fn reads_frames_made_by_hand(rt: HostRuntime) -> Result<(), Fail> {
-    let good = Reading::Good { sector: 7 };
-    let bad = Reading::Bad { sector: 7 };
-    let nothing = Reading::Nothing;
-    let rows = [
-        ("the frame as it is", PLAIN, good),
-        (
-            "volume 1, check value 6",
-            Frame {
-                address: (0xAAAB_AAAA, 0xABAF_ABAE),
-                ..PLAIN
-            },
-            good,
-        ),
-        (
-            "volume 1, check value F9",
-            Frame {
-                address: (0xAAAB_AAAA, 0xABAF_FEFB),
-                ..PLAIN
-            },
-            nothing,
-        ),
-        (
-            "track 1, check value F8",
-            Frame {
-                address: (0xFFFE_AAAB, 0xABAF_FEFA),
-                ..PLAIN
-            },
-            nothing,
-        ),
-        (
-            "sector 16, check value EE",
-            Frame {
-                address: (0xFFFE_AAAA, 0xAABA_FFEE),
-                ..PLAIN
-            },
-            nothing,
-        ),
-        (
-            "the volume's first half lacks bit 7",
-            Frame {
-                address: (0x7FFE_AAAA, 0xABAF_FEFB),
-                ..PLAIN
-            },
-            nothing,
-        ),
-        (
-            "the sector's second half lacks bit 7",
-            Frame {
-                address: (0xFFFE_AAAA, 0xAB2F_FEFB),
-                ..PLAIN
-            },
-            nothing,
-        ),
-        (
-            "data 1023 cells behind the header",
-            Frame { gap: 1022, ..PLAIN },
-            good,
-        ),
-        (
-            "data 1024 cells behind the header",
-            Frame { gap: 1023, ..PLAIN },
-            bad,
-        ),
-        (
-            "another mark before that of the data",
-            Frame {
-                middle: Middle::Mark(0xD5_AAB5),
-                ..PLAIN
-            },
-            bad,
-        ),
-        (
-            "D5 A9 AD before the mark of the data",
-            Frame {
-                middle: Middle::Mark(0xD5_A9AD),
-                ..PLAIN
-            },
-            good,
-        ),
-        (
-            "another mark in place of that of the data",
-            Frame {
-                mark: 0xD5_AAAE,
-                ..PLAIN
-            },
-            bad,
-        ),
-        (
-            "seven zeros in the gap",
-            Frame {
-                middle: Middle::Zeros(7),
-                ..PLAIN
-            },
-            good,
-        ),
-        (
-            "eight zeros in the gap",
-            Frame {
-                middle: Middle::Zeros(8),
-                ..PLAIN
-            },
-            bad,
-        ),
-        (
-            "a byte that is no nibble",
-            Frame {
-                changed: (100, 0x95),
-                ..PLAIN
-            },
-            bad,
-        ),
-        (
-            "a nibble without its first cell",
-            Frame {
-                changed: (100, 0x16),
-                ..PLAIN
-            },
-            bad,
-        ),
-        (
-            "another nibble",
-            Frame {
-                changed: (100, 0x97),
-                ..PLAIN
-            },
-            bad,
-        ),
-        (
-            "another last nibble",
-            Frame {
-                changed: (342, 0x97),
-                ..PLAIN
-            },
-            bad,
-        ),
-    ];
-    let mut cells = Cells::new(rt.alloc());
-    let mut buffer = SectorBuffer::new();
-    for (name, frame, want) in rows {
-        cells.clear();
-        push_frame(&mut cells, &frame)?;
-        let reading = AppleGcr::STRICT.read_at(&cells, 0, TRACK, &mut buffer);
-        assert_eq!(rt; reading, want, "{name}");
-        assert_eq!(rt; buffer.is_empty(), want != good, "{name}");
-        let read = AppleGcr::CONTROLLER.read_at(&cells, 0, TRACK, &mut buffer);
-        assert_eq!(rt; read, want, "{name}, as the controller reads");
-    }
-    Ok(())
+    assert_read(&rt, rt.alloc(), &AppleGcr::STRICT, TRACK, FRAMES)?;
+    assert_read(&rt, rt.alloc(), &AppleGcr::CONTROLLER, TRACK, FRAMES)
 }
+
+/// Sector 8: the check value is F6.
+const NEXT: Frame = Frame {
+    address: (0xFFFE_AAAA, 0xAEAA_FBFE),
+    ..PLAIN
+};
+
+/// The second header stands before the first one's data, which are its own.
+const TWO_HEADERS: &[Search] = &[
+    (0, Some((0, BAD))),
+    (1, Some((88, Reading::Good { sector: 8 }))),
+];
+
+/// Without its last cell the frame is not whole.
+const CUT: &[Search] = &[(1, Some((88, Reading::Bad { sector: 8 })))];
 
 #[test]
 fn reads_headers_without_their_data(rt: HostRuntime) -> Result<(), Fail> {
-    // Sector 8: the check value is F6.
-    let next = Frame {
-        address: (0xFFFE_AAAA, 0xAEAA_FBFE),
-        ..PLAIN
-    };
-    let mut whole = Cells::new(rt.alloc());
-    push_header(&mut whole, &PLAIN)?;
-    push_frame(&mut whole, &next)?;
-    let mut buffer = SectorBuffer::new();
-
-    // The second header stands before the first one's data, which are its own.
-    let first = next_reading(&AppleGcr::STRICT, &whole, 0, TRACK, &mut buffer);
-    assert_eq!(rt; first, Some((0, Reading::Bad { sector: 7 })));
-    let second = next_reading(&AppleGcr::STRICT, &whole, 1, TRACK, &mut buffer);
-    assert_eq!(rt; second, Some((88, Reading::Good { sector: 8 })));
-
-    // Without its last cell the frame is not whole.
-    let mut cut = Cells::new(rt.alloc());
-    for place in 1..whole.len() {
-        cut.push_cell(whole.cell(place - 1))?;
-    }
-    let second = next_reading(&AppleGcr::STRICT, &cut, 1, TRACK, &mut buffer);
-    assert_eq!(rt; second, Some((88, Reading::Bad { sector: 8 })));
-    Ok(())
+    let mut cells = Cells::new(rt.alloc());
+    push_header(&mut cells, &PLAIN)?;
+    NEXT.push(&mut cells)?;
+    assert_found(&rt, &AppleGcr::STRICT, TRACK, &cells, TWO_HEADERS);
+    assert_found_in_cut(&rt, rt.alloc(), &AppleGcr::STRICT, TRACK, &cells, CUT)
 }
 
-/// Two rings, one after the other, with these eight cells from two places of the first on.
-fn push_twice(
-    cells: &mut Cells,
-    ring: &Cells,
-    places: (usize, usize),
-    byte: u32,
-) -> Result<(), Memory> {
-    for place in 0..ring.len() {
-        let offset = if place >= places.1 {
-            place - places.1
-        } else if place >= places.0 {
-            place - places.0
-        } else {
-            8
-        };
-        let cell = if offset < 8 {
-            (byte >> (7 - offset as u32)) & 1 == 1
-        } else {
-            ring.cell(place)
-        };
-        cells.push_cell(cell)?;
+const NUMBERS: Numbers = Numbers {
+    first: 0,
+    sectors: 16,
+    size: 256,
+    cells: 49994,
+    place: 330,
+    step: 3104,
+};
+
+/// From the place on these bytes stand in the ring, each as eight cells.
+fn assert_disk_bytes(rt: &impl Abort, ring: &Cells, place: usize, bytes: &[u8]) {
+    let mut at = place;
+    for byte in bytes {
+        assert_words(rt, ring, &[(at, 8, u32::from(*byte))]);
+        at = at.wrapping_add(8);
     }
-    for place in 0..ring.len() {
-        cells.push_cell(ring.cell(place))?;
-    }
-    Ok(())
+}
+
+/// The ring with the byte ED in the places of the nibbles 84 and 86.
+fn with_pairs_set(alloc: Global, ring: &Cells) -> Result<Cells, Memory> {
+    let mut changed = Cells::new(alloc);
+    push_part(&mut changed, ring, 0, 1198)?;
+    changed.push_word(0xED, 8)?;
+    push_part(&mut changed, ring, 1206, 1214)?;
+    changed.push_word(0xED, 8)?;
+    push_part(&mut changed, ring, 1222, ring.len())?;
+    Ok(changed)
+}
+
+/// A self-sync before the first address field, and the bytes after the first data field.
+const WORDS: &[Word] = &[(320, 10, 0x3FC), (3270, 24, 0xDE_AAEB)];
+
+/// The first address field.
+const FIRST_FIELD: &[u8] = &[
+    0xD5, 0xAA, 0x96, 0xFF, 0xFE, 0xAA, 0xAA, 0xAA, 0xAA, 0xFF, 0xFE, 0xDE, 0xAA, 0xEB,
+];
+
+const JOINED: &[Search] = &[
+    (0, Some((330, Reading::Good { sector: 0 }))),
+    (331, Some((3434, Reading::Good { sector: 1 }))),
+    (96884, Some((96884, Reading::Good { sector: 15 }))),
+    (96885, None),
+];
+
+/// The first ring's sectors are zeros, and the sectors of both are found, one ring after the other.
+fn assert_zeros_joined(
+    rt: &impl Abort,
+    alloc: Global,
+    zeros: &[u8],
+    rings: [&Cells; 2],
+) -> Result<(), Fail> {
+    assert_sectors(rt, &AppleGcr::STRICT, TRACK, &NUMBERS, zeros, rings[0]);
+    assert_found_in_joined(rt, alloc, &AppleGcr::STRICT, TRACK, rings, JOINED)
 }
 
 #[test]
 fn reads_two_joined_rings(rt: HostRuntime) -> Result<(), Fail> {
-    let bytes = vec![in rt.alloc(); 0u8; 4096]?;
-    let mut ring = Cells::new(rt.alloc());
-    AppleGcr::STRICT.ring(TRACK, &bytes, &mut ring)?;
-    assert_eq!(rt; ring.len(), 49994);
-
-    // A self-sync, the first address field, and the nibbles of zeros.
-    assert_eq!(rt; ring.word_at(320, 10), 0x3FC);
-    let field = [
-        0xD5, 0xAA, 0x96, 0xFF, 0xFE, 0xAA, 0xAA, 0xAA, 0xAA, 0xFF, 0xFE, 0xDE, 0xAA, 0xEB,
-    ];
-    for (index, byte) in field.iter().enumerate() {
-        assert_eq!(rt; ring.word_at(330 + 8 * index, 8), *byte, "byte {index}");
-    }
-    for index in 0..343usize {
-        assert_eq!(rt; ring.word_at(526 + 8 * index, 8), 0x96, "nibble {index}");
-    }
-    assert_eq!(rt; ring.word_at(3270, 24), 0xDE_AAEB);
+    let zeros = vec![in rt.alloc(); 0u8; 4096]?;
+    let ring = read_back(&rt, rt.alloc(), &AppleGcr::STRICT, TRACK, &NUMBERS, &zeros)?;
+    assert_words(&rt, &ring, WORDS);
+    assert_disk_bytes(&rt, &ring, 330, FIRST_FIELD);
+    assert_disk_bytes(&rt, &ring, 526, &[0x96; 343]);
+    assert_zeros_joined(&rt, rt.alloc(), &zeros, [&ring, &ring])?;
 
     // With the two pairs of bits set that belong to no byte the values 84 and 85 are 30, so that the nibbles 84
     // and 86 code 30, and the nibble 85 codes 0.
-    let mut buffer = SectorBuffer::new();
-    for (name, byte) in [("as it is", 0x96), ("with both pairs set", 0xED)] {
-        let mut cells = Cells::new(rt.alloc());
-        push_twice(&mut cells, &ring, (1198, 1214), byte)?;
-        let rows = [
-            (0, Some((330, Reading::Good { sector: 0 }))),
-            (331, Some((3434, Reading::Good { sector: 1 }))),
-            (96884, Some((96884, Reading::Good { sector: 15 }))),
-            (96885, None),
-        ];
-        for (from, want) in rows {
-            let found = next_reading(&AppleGcr::STRICT, &cells, from, TRACK, &mut buffer);
-            assert_eq!(rt; found, want, "{name}, from {from}");
-            assert!(rt; buffer.iter().all(|byte| *byte == 0), "{name}, from {from}");
-        }
-    }
-    Ok(())
+    let changed = with_pairs_set(rt.alloc(), &ring)?;
+    assert_zeros_joined(&rt, rt.alloc(), &zeros, [&changed, &ring])
 }
+
+/// Sector 0 begins with the byte 01, and has 02 at 87, 03 at 174 and 80 at 255.
+fn content_byte(index: u16) -> u8 {
+    match index {
+        0 => 0x01,
+        87 => 0x02,
+        174 => 0x03,
+        255 => 0x80,
+        1..256 => 0x00,
+        _ => (index % 251) as u8,
+    }
+}
+
+fn content(alloc: Global) -> Result<Vec<u8>, AllocError> {
+    let mut bytes = Vec::new(alloc);
+    for index in 0..4096 {
+        bytes.push(content_byte(index))?;
+    }
+    Ok(bytes)
+}
+
+const LAST_TRACK: TrackId = TrackId {
+    cylinder: 34,
+    head: 0,
+};
 
 #[test]
 fn reads_each_sector_back(rt: HostRuntime) -> Result<(), Fail> {
-    let track = TrackId {
-        cylinder: 34,
-        head: 0,
-    };
-    // Sector 0 begins with the byte 01, and has 02 at 87, 03 at 174 and 80 at 255.
-    let mut bytes = Vec::new(rt.alloc());
-    for index in 0..4096u16 {
-        bytes.push(match index {
-            0 => 0x01,
-            87 => 0x02,
-            174 => 0x03,
-            255 => 0x80,
-            1..256 => 0x00,
-            _ => (index % 251) as u8,
-        })?;
-    }
-    assert_eq!(rt; bytes.len(), 4096);
-    let mut ring = Cells::new(rt.alloc());
-    AppleGcr::STRICT.ring(track, &bytes, &mut ring)?;
-    assert_eq!(rt; ring.len(), 49994);
+    let bytes = content(rt.alloc())?;
+    let ring = read_back(
+        &rt,
+        rt.alloc(),
+        &AppleGcr::STRICT,
+        LAST_TRACK,
+        &NUMBERS,
+        &bytes,
+    )?;
 
     // So the values 0, 1, 2 and 341 are 02, 04, 30 and 20, and the first nibbles code 02, 02 ^ 04, 04 ^ 30, 30.
-    let nibbles = [
-        (0, 0x9A),
-        (1, 0x9F),
-        (2, 0xF3),
-        (3, 0xED),
-        (4, 0x96),
-        (340, 0x96),
-        (341, 0xD6),
-        (342, 0xD6),
-    ];
-    for (index, nibble) in nibbles {
-        assert_eq!(rt; ring.word_at(526 + 8 * index, 8), nibble, "nibble {index}");
-    }
+    assert_disk_bytes(&rt, &ring, 526, &[0x9A, 0x9F, 0xF3, 0xED, 0x96]);
+    assert_disk_bytes(&rt, &ring, 3246, &[0x96, 0xD6, 0xD6]);
 
-    let mut buffer = SectorBuffer::new();
-    let mut from = 0;
-    for sector in 0..16u8 {
-        match next_reading(&AppleGcr::STRICT, &ring, from, track, &mut buffer) {
-            Some((place, reading)) => {
-                assert_eq!(rt; reading, Reading::Good { sector }, "at {place}");
-                assert_eq!(rt; place, 330 + 3104 * sector as usize);
-                for (index, byte) in buffer.iter().enumerate() {
-                    let want = bytes.get(256 * sector as usize + index).copied();
-                    assert_eq!(rt; Some(*byte), want, "byte {index} of sector {sector}");
-                }
-                from = place + 1;
-            }
-            None => panic!(rt; "no sector {sector}"),
-        }
-    }
-    let other = next_reading(&AppleGcr::STRICT, &ring, 0, TRACK, &mut buffer);
-    assert_eq!(rt; other, None, "another track's headers");
+    // These are another track's headers.
+    assert_found(&rt, &AppleGcr::STRICT, TRACK, &ring, &[(0, None)]);
     Ok(())
 }

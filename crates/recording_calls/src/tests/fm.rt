@@ -1,12 +1,19 @@
 //! The IBM 3740 diskette and Acorn's disks.
+use super::frames::{
+    HandMade, Row, Search, assert_found, assert_found_in_cut, assert_read, push_cells,
+};
+use super::rings::{
+    Numbers, assert_data_bytes, assert_found_in_joined, assert_words, filled_ring,
+    read_back_by_chance,
+};
 use cell_bits::{Cells, FM_DATA_MARK, FM_DELETED_DATA_MARK, FM_ID_MARK, FM_INDEX_MARK};
 use check_values::{Crc16, crc16};
 use flux_base::{Memory, TrackId};
-use frame_law::{Reading, Recording, SectorBuffer, next_reading};
+use frame_law::Reading;
 use ibm_fm::IbmFm;
-use std::alloc::Global;
-use std::process::Abort;
 use std::test::Fail;
+
+const DISK: IbmFm = IbmFm::Ibm3740;
 
 const TRACK: TrackId = TrackId {
     cylinder: 0,
@@ -54,11 +61,11 @@ fn push_number(cells: &mut Cells, number: u16) -> Result<(), Memory> {
     cells.push_fm((number % 256) as u8)
 }
 
-fn push_ones(cells: &mut Cells, count: u16) -> Result<(), Memory> {
-    for _ in 0..count {
-        cells.push_cell(true)?;
+fn push_size(cells: &mut Cells, frame: &Frame) -> Result<(), Memory> {
+    match frame.size_cells {
+        0 => cells.push_fm(frame.size),
+        size_cells => cells.push_word(size_cells, 16),
     }
-    Ok(())
 }
 
 fn push_header(cells: &mut Cells, frame: &Frame) -> Result<(), Memory> {
@@ -66,11 +73,7 @@ fn push_header(cells: &mut Cells, frame: &Frame) -> Result<(), Memory> {
     cells.push_fm(TRACK.cylinder)?;
     cells.push_fm(TRACK.head)?;
     cells.push_fm(frame.sector)?;
-    if frame.size_cells == 0 {
-        cells.push_fm(frame.size)?;
-    } else {
-        cells.push_word(frame.size_cells, 16)?;
-    }
+    push_size(cells, frame)?;
     let check = crc16(
         0xFFFF,
         &[0xFE, TRACK.cylinder, TRACK.head, frame.sector, frame.size],
@@ -91,363 +94,297 @@ fn push_data(cells: &mut Cells, frame: &Frame) -> Result<(), Memory> {
     push_number(cells, check.value().wrapping_add(frame.data_error))
 }
 
-fn push_frame(cells: &mut Cells, frame: &Frame) -> Result<(), Memory> {
-    push_header(cells, frame)?;
-    push_ones(cells, frame.gap / 2)?;
-    if frame.other != 0 {
-        cells.push_word(frame.other, 16)?;
+impl HandMade for Frame {
+    fn push(&self, cells: &mut Cells) -> Result<(), Memory> {
+        push_header(cells, self)?;
+        push_cells(cells, self.gap / 2, true)?;
+        if self.other != 0 {
+            cells.push_word(self.other, 16)?;
+        }
+        push_cells(cells, self.gap - self.gap / 2, true)?;
+        push_data(cells, self)
     }
-    push_ones(cells, frame.gap - frame.gap / 2)?;
-    push_data(cells, frame)
 }
+
+const GOOD: Reading = Reading::Good { sector: 7 };
+
+const BAD: Reading = Reading::Bad { sector: 7 };
+
+const FRAMES: &[Row<Frame>] = &[
+    ("the frame as it is", PLAIN, GOOD),
+    (
+        "another check value of the header",
+        Frame {
+            header_error: 1,
+            ..PLAIN
+        },
+        Reading::Nothing,
+    ),
+    (
+        "a length that is not 128 bytes",
+        Frame { size: 1, ..PLAIN },
+        Reading::Nothing,
+    ),
+    ("sector 0", Frame { sector: 0, ..PLAIN }, Reading::Nothing),
+    (
+        "sector 27",
+        Frame {
+            sector: 27,
+            ..PLAIN
+        },
+        Reading::Nothing,
+    ),
+    (
+        "eight zeros in the header",
+        Frame {
+            size_cells: 0x00AA,
+            ..PLAIN
+        },
+        Reading::Nothing,
+    ),
+    (
+        "seven zeros in the header",
+        Frame {
+            size_cells: 0x80AA,
+            ..PLAIN
+        },
+        GOOD,
+    ),
+    (
+        "another check value of the data",
+        Frame {
+            data_error: 0x100,
+            ..PLAIN
+        },
+        BAD,
+    ),
+    (
+        "a deleted data mark",
+        Frame {
+            mark: FM_DELETED_DATA_MARK,
+            mark_byte: 0xF8,
+            ..PLAIN
+        },
+        GOOD,
+    ),
+    (
+        "a check value of the other mark",
+        Frame {
+            mark_byte: 0xF8,
+            ..PLAIN
+        },
+        BAD,
+    ),
+    (
+        "data 1023 cells behind the header",
+        Frame { gap: 1023, ..PLAIN },
+        GOOD,
+    ),
+    (
+        "data 1024 cells behind the header",
+        Frame { gap: 1024, ..PLAIN },
+        BAD,
+    ),
+    (
+        "an index mark before the data mark",
+        Frame {
+            other: FM_INDEX_MARK,
+            ..PLAIN
+        },
+        BAD,
+    ),
+    (
+        "an ID mark before the data mark",
+        Frame {
+            other: FM_ID_MARK,
+            ..PLAIN
+        },
+        BAD,
+    ),
+    (
+        "an index mark in place of the data mark",
+        Frame {
+            mark: FM_INDEX_MARK,
+            mark_byte: 0xFC,
+            ..PLAIN
+        },
+        BAD,
+    ),
+    (
+        "seven zeros in the data",
+        Frame {
+            last: 0,
+            last_cells: 0x80AA,
+            ..PLAIN
+        },
+        GOOD,
+    ),
+    (
+        "eight zeros in the data",
+        Frame {
+            last: 0,
+            last_cells: 0x00AA,
+            ..PLAIN
+        },
+        BAD,
+    ),
+];
 
 #[test]
 fn reads_frames_made_by_hand(rt: HostRuntime) -> Result<(), Fail> {
-    let good = Reading::Good { sector: 7 };
-    let bad = Reading::Bad { sector: 7 };
-    let nothing = Reading::Nothing;
-    let rows = [
-        ("the frame as it is", PLAIN, good),
-        (
-            "another check value of the header",
-            Frame {
-                header_error: 1,
-                ..PLAIN
-            },
-            nothing,
-        ),
-        (
-            "a length that is not 128 bytes",
-            Frame { size: 1, ..PLAIN },
-            nothing,
-        ),
-        ("sector 0", Frame { sector: 0, ..PLAIN }, nothing),
-        (
-            "sector 27",
-            Frame {
-                sector: 27,
-                ..PLAIN
-            },
-            nothing,
-        ),
-        (
-            "eight zeros in the header",
-            Frame {
-                size_cells: 0x00AA,
-                ..PLAIN
-            },
-            nothing,
-        ),
-        (
-            "seven zeros in the header",
-            Frame {
-                size_cells: 0x80AA,
-                ..PLAIN
-            },
-            good,
-        ),
-        (
-            "another check value of the data",
-            Frame {
-                data_error: 0x100,
-                ..PLAIN
-            },
-            bad,
-        ),
-        (
-            "a deleted data mark",
-            Frame {
-                mark: FM_DELETED_DATA_MARK,
-                mark_byte: 0xF8,
-                ..PLAIN
-            },
-            good,
-        ),
-        (
-            "a check value of the other mark",
-            Frame {
-                mark_byte: 0xF8,
-                ..PLAIN
-            },
-            bad,
-        ),
-        (
-            "data 1023 cells behind the header",
-            Frame { gap: 1023, ..PLAIN },
-            good,
-        ),
-        (
-            "data 1024 cells behind the header",
-            Frame { gap: 1024, ..PLAIN },
-            bad,
-        ),
-        (
-            "an index mark before the data mark",
-            Frame {
-                other: FM_INDEX_MARK,
-                ..PLAIN
-            },
-            bad,
-        ),
-        (
-            "an ID mark before the data mark",
-            Frame {
-                other: FM_ID_MARK,
-                ..PLAIN
-            },
-            bad,
-        ),
-        (
-            "an index mark in place of the data mark",
-            Frame {
-                mark: FM_INDEX_MARK,
-                mark_byte: 0xFC,
-                ..PLAIN
-            },
-            bad,
-        ),
-        (
-            "seven zeros in the data",
-            Frame {
-                last: 0,
-                last_cells: 0x80AA,
-                ..PLAIN
-            },
-            good,
-        ),
-        (
-            "eight zeros in the data",
-            Frame {
-                last: 0,
-                last_cells: 0x00AA,
-                ..PLAIN
-            },
-            bad,
-        ),
-    ];
-    let mut cells = Cells::new(rt.alloc());
-    let mut buffer = SectorBuffer::new();
-    for (name, frame, want) in rows {
-        cells.clear();
-        push_frame(&mut cells, &frame)?;
-        let reading = IbmFm::Ibm3740.read_at(&cells, 0, TRACK, &mut buffer);
-        assert_eq!(rt; reading, want, "{name}");
-        assert_eq!(rt; buffer.is_empty(), want != good, "{name}");
-    }
-    Ok(())
+    assert_read(&rt, rt.alloc(), &DISK, TRACK, FRAMES)
 }
+
+/// A frame's header without its data.
+struct HeaderAlone(Frame);
+
+impl HandMade for HeaderAlone {
+    fn push(&self, cells: &mut Cells) -> Result<(), Memory> {
+        push_header(cells, &self.0)
+    }
+}
+
+/// A header without its data is bad.
+const ACORN_HEADERS: &[Row<HeaderAlone>] = &[
+    (
+        "sector 0",
+        HeaderAlone(Frame {
+            sector: 0,
+            size: 1,
+            ..PLAIN
+        }),
+        Reading::Bad { sector: 0 },
+    ),
+    (
+        "sector 9",
+        HeaderAlone(Frame {
+            sector: 9,
+            size: 1,
+            ..PLAIN
+        }),
+        Reading::Bad { sector: 9 },
+    ),
+    (
+        "sector 10",
+        HeaderAlone(Frame {
+            sector: 10,
+            size: 1,
+            ..PLAIN
+        }),
+        Reading::Nothing,
+    ),
+    (
+        "a length of 128 bytes",
+        HeaderAlone(Frame {
+            sector: 9,
+            size: 0,
+            ..PLAIN
+        }),
+        Reading::Nothing,
+    ),
+    (
+        "a length of 512 bytes",
+        HeaderAlone(Frame {
+            sector: 9,
+            size: 2,
+            ..PLAIN
+        }),
+        Reading::Nothing,
+    ),
+];
+
+#[test]
+fn acorn_s_headers_have_their_own_numbers(rt: HostRuntime) -> Result<(), Fail> {
+    assert_read(&rt, rt.alloc(), &IbmFm::Acorn, TRACK, ACORN_HEADERS)
+}
+
+/// The second header stands before the first one's data, which are its own.
+const TWO_HEADERS: &[Search] = &[
+    (0, Some((0, BAD))),
+    (1, Some((112, Reading::Good { sector: 8 }))),
+];
+
+/// Without its last cell the frame is not whole.
+const CUT: &[Search] = &[(1, Some((112, Reading::Bad { sector: 8 })))];
 
 #[test]
 fn reads_headers_without_their_data(rt: HostRuntime) -> Result<(), Fail> {
-    let mut whole = Cells::new(rt.alloc());
-    push_header(&mut whole, &PLAIN)?;
-    push_frame(&mut whole, &Frame { sector: 8, ..PLAIN })?;
-    let mut buffer = SectorBuffer::new();
-
-    // The second header stands before the first one's data, which are its own.
-    let first = next_reading(&IbmFm::Ibm3740, &whole, 0, TRACK, &mut buffer);
-    assert_eq!(rt; first, Some((0, Reading::Bad { sector: 7 })));
-    let second = next_reading(&IbmFm::Ibm3740, &whole, 1, TRACK, &mut buffer);
-    assert_eq!(rt; second, Some((112, Reading::Good { sector: 8 })));
-
-    // Without its last cell the frame is not whole.
-    let mut cut = Cells::new(rt.alloc());
-    for place in 1..whole.len() {
-        cut.push_cell(whole.cell(place - 1))?;
-    }
-    let second = next_reading(&IbmFm::Ibm3740, &cut, 1, TRACK, &mut buffer);
-    assert_eq!(rt; second, Some((112, Reading::Bad { sector: 8 })));
-    Ok(())
+    let mut cells = Cells::new(rt.alloc());
+    push_header(&mut cells, &PLAIN)?;
+    Frame { sector: 8, ..PLAIN }.push(&mut cells)?;
+    assert_found(&rt, &DISK, TRACK, &cells, TWO_HEADERS);
+    assert_found_in_cut(&rt, rt.alloc(), &DISK, TRACK, &cells, CUT)
 }
+
+/// The first header of cylinder 0, with its check value.
+const FIRST_HEADER: [u8; 7] = [0xFE, 0x00, 0x00, 0x01, 0x00, 0xD2, 0xC3];
+
+const JOINED: &[Search] = &[
+    (0, Some((1264, Reading::Good { sector: 1 }))),
+    (1264, Some((1264, Reading::Good { sector: 1 }))),
+    (1265, Some((4272, Reading::Good { sector: 2 }))),
+    (159792, Some((159792, Reading::Good { sector: 26 }))),
+    (159793, None),
+];
 
 #[test]
 fn reads_two_joined_rings(rt: HostRuntime) -> Result<(), Fail> {
-    let bytes = vec![in rt.alloc(); 0xF6u8; 3328]?;
-    let mut ring = Cells::new(rt.alloc());
-    IbmFm::Ibm3740.ring(TRACK, &bytes, &mut ring)?;
+    let ring = filled_ring(&rt, rt.alloc(), &DISK, TRACK, 0xF6)?;
     assert_eq!(rt; ring.len(), 83328);
-
-    // The first header: FE 00 00 01 00 and the check value D2 C3.
-    assert_eq!(rt; ring.word_at(1264, 16), 0xF57E);
-    for (index, byte) in [0xFE, 0x00, 0x00, 0x01, 0x00, 0xD2, 0xC3]
-        .iter()
-        .enumerate()
-    {
-        assert_eq!(rt; ring.data_byte_at(1264 + 16 * index), *byte, "byte {index}");
-    }
-
-    let mut cells = Cells::new(rt.alloc());
-    for _ in 0..2u8 {
-        for place in 0..ring.len() {
-            cells.push_cell(ring.cell(place))?;
-        }
-    }
-    let mut buffer = SectorBuffer::new();
-    let rows = [
-        (0, Some((1264, Reading::Good { sector: 1 }))),
-        (1264, Some((1264, Reading::Good { sector: 1 }))),
-        (1265, Some((4272, Reading::Good { sector: 2 }))),
-        (159792, Some((159792, Reading::Good { sector: 26 }))),
-        (159793, None),
-    ];
-    for (from, want) in rows {
-        let found = next_reading(&IbmFm::Ibm3740, &cells, from, TRACK, &mut buffer);
-        assert_eq!(rt; found, want, "from {from}");
-    }
-    assert_eq!(rt; buffer.len(), 0);
-    Ok(())
-}
-
-/// What the tracks of a disk have of their own.
-#[derive(Clone, Copy)]
-struct Numbers {
-    disk: IbmFm,
-    sectors: u8,
-    first: u8,
-    size: u16,
-    code: u8,
-    /// The cells of a ring, where its first header begins, and how many lie between neighbouring headers.
-    cells: usize,
-    place: usize,
-    step: usize,
-    /// The check value of the first header of cylinder 0.
-    check: u16,
+    assert_words(&rt, &ring, &[(1264, 16, 0xF57E)]);
+    assert_data_bytes(&rt, &ring, 1264, &FIRST_HEADER);
+    assert_found_in_joined(&rt, rt.alloc(), &DISK, TRACK, [&ring, &ring], JOINED)
 }
 
 /// A gap of 40 bytes, six of 00, the index mark, a gap of 26 and six of 00 stand before the first header.
 const IBM_3740: Numbers = Numbers {
-    disk: IbmFm::Ibm3740,
-    sectors: 26,
     first: 1,
+    sectors: 26,
     size: 128,
-    code: 0,
     cells: 83328,
     place: 1264,
     step: 3008,
-    check: 0xD2C3,
 };
 
 /// A gap of 16 bytes and six of 00 stand before the first header.
 const ACORN: Numbers = Numbers {
-    disk: IbmFm::Acorn,
-    sectors: 10,
     first: 0,
+    sectors: 10,
     size: 256,
-    code: 1,
     cells: 50000,
     place: 352,
     step: 4960,
-    check: 0xF1D3,
 };
 
-/// Bytes as by chance: the high ones of numbers that follow from one another.
-fn bytes_by_chance(alloc: Global, count: usize) -> Result<Vec<u8>, Fail> {
-    let mut bytes = Vec::new(alloc);
-    let mut number = 1u32;
-    for _ in 0..count {
-        number = number.wrapping_mul(1_103_515_245).wrapping_add(12345);
-        bytes.push((number >> 24) as u8)?;
-    }
-    Ok(bytes)
-}
-
-/// The ring of the first track has the disk's cells and its first header where and as it is to be, and all its
-/// sectors come back.
-fn reads_track_back(rt: &impl Abort, alloc: Global, numbers: &Numbers) -> Result<(), Fail> {
-    let size = usize::from(numbers.size);
-    let bytes = bytes_by_chance(alloc, usize::from(numbers.sectors) * size)?;
-    assert!(rt;
-        bytes.len()
-            == usize::from(numbers.disk.sectors(TRACK)) * usize::from(numbers.disk.sector_size())
-    );
-    let mut ring = Cells::new(alloc);
-    numbers.disk.ring(TRACK, &bytes, &mut ring)?;
-    assert_eq!(rt; ring.len(), numbers.cells);
-    assert!(rt; ring.len() >= 50000);
-    assert!(rt; numbers.place < 1300);
-
-    let check = [(numbers.check >> 8) as u8, (numbers.check % 256) as u8];
-    let header = [
-        0xFE,
-        0x00,
-        0x00,
-        numbers.first,
-        numbers.code,
-        check[0],
-        check[1],
-    ];
-    for (index, byte) in header.iter().enumerate() {
-        let place = numbers.place + 16 * index;
-        assert_eq!(rt; ring.data_byte_at(place), *byte, "byte {index}");
-    }
-
-    let mut buffer = SectorBuffer::new();
-    let mut from = 0;
-    let mut place = numbers.place;
-    for index in 0..numbers.sectors {
-        let sector = numbers.first.wrapping_add(index);
-        let found = next_reading(&numbers.disk, &ring, from, TRACK, &mut buffer);
-        assert_eq!(rt; found, Some((place, Reading::Good { sector })));
-        let at = usize::from(index) * size;
-        assert!(rt;
-            bytes.get(at..at + size) == Some(buffer.as_slice()),
-            "sector {sector}"
-        );
-        from = place.wrapping_add(1);
-        place = place.wrapping_add(numbers.step);
-    }
-    let last = next_reading(&numbers.disk, &ring, from, TRACK, &mut buffer);
-    assert_eq!(rt; last, None);
-    Ok(())
-}
+/// A disk, the numbers of its first track, and that track's first header with its check value.
+const DISKS: [(IbmFm, Numbers, [u8; 7]); 2] = [
+    (IbmFm::Ibm3740, IBM_3740, FIRST_HEADER),
+    (
+        IbmFm::Acorn,
+        ACORN,
+        [0xFE, 0x00, 0x00, 0x00, 0x01, 0xF1, 0xD3],
+    ),
+];
 
 #[test]
 fn reads_each_disk_s_sectors_back(rt: HostRuntime) -> Result<(), Fail> {
-    reads_track_back(&rt, rt.alloc(), &IBM_3740)?;
-    reads_track_back(&rt, rt.alloc(), &ACORN)
-}
-
-#[test]
-fn acorn_s_headers_have_their_own_numbers(rt: HostRuntime) -> Result<(), Fail> {
-    // A header without its data is bad.
-    let rows = [
-        (0, 1, Reading::Bad { sector: 0 }),
-        (9, 1, Reading::Bad { sector: 9 }),
-        (10, 1, Reading::Nothing),
-        (9, 0, Reading::Nothing),
-        (9, 2, Reading::Nothing),
-    ];
-    let mut cells = Cells::new(rt.alloc());
-    let mut buffer = SectorBuffer::new();
-    for (sector, size, want) in rows {
-        cells.clear();
-        push_header(
-            &mut cells,
-            &Frame {
-                sector,
-                size,
-                ..PLAIN
-            },
-        )?;
-        let reading = IbmFm::Acorn.read_at(&cells, 0, TRACK, &mut buffer);
-        assert_eq!(rt; reading, want, "sector {sector} of size {size}");
+    for (disk, numbers, header) in &DISKS {
+        let ring = read_back_by_chance(&rt, rt.alloc(), disk, TRACK, numbers)?;
+        assert_data_bytes(&rt, &ring, numbers.place, header);
     }
     Ok(())
 }
 
+const LAST_TRACK: TrackId = TrackId {
+    cylinder: 76,
+    head: 0,
+};
+
 #[test]
 fn reads_no_headers_of_another_track(rt: HostRuntime) -> Result<(), Fail> {
-    let track = TrackId {
-        cylinder: 76,
-        head: 0,
-    };
-    let bytes = vec![in rt.alloc(); 0xF6u8; 3328]?;
-    let mut ring = Cells::new(rt.alloc());
-    IbmFm::Ibm3740.ring(track, &bytes, &mut ring)?;
-    let mut buffer = SectorBuffer::new();
-    let own = next_reading(&IbmFm::Ibm3740, &ring, 0, track, &mut buffer);
-    assert_eq!(rt; own, Some((1264, Reading::Good { sector: 1 })));
-    let other = next_reading(&IbmFm::Ibm3740, &ring, 0, TRACK, &mut buffer);
-    assert_eq!(rt; other, None);
+    let ring = filled_ring(&rt, rt.alloc(), &DISK, LAST_TRACK, 0xF6)?;
+    let own = [(0, Some((1264, Reading::Good { sector: 1 })))];
+    assert_found(&rt, &DISK, LAST_TRACK, &ring, &own);
+    assert_found(&rt, &DISK, TRACK, &ring, &[(0, None)]);
     Ok(())
 }

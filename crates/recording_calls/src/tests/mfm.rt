@@ -1,10 +1,16 @@
 //! The PC's disks, the Atari ST's and the Amstrad CPC's.
+use super::frames::{
+    HandMade, Row, Search, assert_found, assert_found_in_cut, assert_read, push_gap,
+};
+use super::rings::{
+    Numbers, Word, assert_data_bytes, assert_found_in_joined, assert_words, filled_ring,
+    read_back_by_chance,
+};
 use cell_bits::{Cells, MFM_A1_MARK, MFM_C2_MARK};
 use check_values::{Crc16, crc16};
 use flux_base::{Memory, TrackId};
-use frame_law::{Reading, Recording, SectorBuffer, next_reading};
+use frame_law::{Reading, Recording, SectorBuffer};
 use ibm_mfm::IbmMfm;
-use std::alloc::Global;
 use std::process::Abort;
 use std::test::Fail;
 
@@ -70,12 +76,11 @@ fn push_marks(cells: &mut Cells, count: u8) -> Result<(), Memory> {
     Ok(())
 }
 
-/// Cells of which each second one is a one.
-fn push_gap(cells: &mut Cells, count: u16) -> Result<(), Memory> {
-    for place in 0..count {
-        cells.push_cell(place % 2 == 0)?;
+fn push_size(cells: &mut Cells, frame: &Frame) -> Result<(), Memory> {
+    match frame.size_cells {
+        0 => cells.push_mfm(frame.size),
+        size_cells => cells.push_word(size_cells, 16),
     }
-    Ok(())
 }
 
 fn push_header(cells: &mut Cells, frame: &Frame) -> Result<(), Memory> {
@@ -84,11 +89,7 @@ fn push_header(cells: &mut Cells, frame: &Frame) -> Result<(), Memory> {
     cells.push_mfm(TRACK.cylinder)?;
     cells.push_mfm(TRACK.head)?;
     cells.push_mfm(frame.sector)?;
-    if frame.size_cells == 0 {
-        cells.push_mfm(frame.size)?;
-    } else {
-        cells.push_word(frame.size_cells, 16)?;
-    }
+    push_size(cells, frame)?;
     let address = [0xFE, TRACK.cylinder, TRACK.head, frame.sector, frame.size];
     let check = crc16(crc16(0xFFFF, &[0xA1, 0xA1, 0xA1]), &address);
     push_number(cells, check.wrapping_add(frame.header_error))
@@ -108,337 +109,305 @@ fn push_data(cells: &mut Cells, frame: &Frame) -> Result<(), Memory> {
     push_number(cells, check.value().wrapping_add(frame.data_error))
 }
 
-fn push_frame(cells: &mut Cells, frame: &Frame) -> Result<(), Memory> {
-    push_header(cells, frame)?;
-    push_gap(cells, frame.gap / 2)?;
-    match frame.other {
-        Other::Nothing => {}
-        Other::TwoMarks => {
-            push_marks(cells, 2)?;
-        }
+fn push_other(cells: &mut Cells, other: Other) -> Result<(), Memory> {
+    match other {
+        Other::Nothing => Ok(()),
+        Other::TwoMarks => push_marks(cells, 2),
         Other::Sync(byte) => {
             push_marks(cells, 3)?;
-            cells.push_mfm(byte)?;
+            cells.push_mfm(byte)
         }
     }
-    push_gap(cells, frame.gap - frame.gap / 2)?;
-    push_data(cells, frame)
 }
+
+impl HandMade for Frame {
+    fn push(&self, cells: &mut Cells) -> Result<(), Memory> {
+        push_header(cells, self)?;
+        push_gap(cells, self.gap / 2)?;
+        push_other(cells, self.other)?;
+        push_gap(cells, self.gap - self.gap / 2)?;
+        push_data(cells, self)
+    }
+}
+
+const GOOD: Reading = Reading::Good { sector: 7 };
+
+const BAD: Reading = Reading::Bad { sector: 7 };
+
+const FRAMES: &[Row<Frame>] = &[
+    ("the frame as it is", PLAIN, GOOD),
+    (
+        "another check value of the header",
+        Frame {
+            header_error: 1,
+            ..PLAIN
+        },
+        Reading::Nothing,
+    ),
+    (
+        "a length that is not 512 bytes",
+        Frame { size: 1, ..PLAIN },
+        Reading::Nothing,
+    ),
+    ("sector 0", Frame { sector: 0, ..PLAIN }, Reading::Nothing),
+    (
+        "sector 10",
+        Frame {
+            sector: 10,
+            ..PLAIN
+        },
+        Reading::Nothing,
+    ),
+    (
+        "eight zeros in the header",
+        Frame {
+            size_cells: 0x8004,
+            ..PLAIN
+        },
+        Reading::Nothing,
+    ),
+    (
+        "seven zeros in the header",
+        Frame {
+            size_cells: 0x8084,
+            ..PLAIN
+        },
+        GOOD,
+    ),
+    (
+        "another check value of the data",
+        Frame {
+            data_error: 0x100,
+            ..PLAIN
+        },
+        BAD,
+    ),
+    (
+        "deleted data",
+        Frame {
+            first: 0xF8,
+            ..PLAIN
+        },
+        GOOD,
+    ),
+    (
+        "a first byte that opens no data",
+        Frame {
+            first: 0xFE,
+            ..PLAIN
+        },
+        BAD,
+    ),
+    (
+        "data 1023 cells behind the header",
+        Frame { gap: 1023, ..PLAIN },
+        GOOD,
+    ),
+    (
+        "data 1024 cells behind the header",
+        Frame { gap: 1024, ..PLAIN },
+        BAD,
+    ),
+    (
+        "two marks before the data",
+        Frame {
+            other: Other::TwoMarks,
+            ..PLAIN
+        },
+        GOOD,
+    ),
+    (
+        "another sync before the data",
+        Frame {
+            other: Other::Sync(0xFE),
+            ..PLAIN
+        },
+        BAD,
+    ),
+    (
+        "seven zeros in the data",
+        Frame {
+            last: 0,
+            last_cells: 0x80AA,
+            ..PLAIN
+        },
+        GOOD,
+    ),
+    (
+        "eight zeros in the data",
+        Frame {
+            last: 0,
+            last_cells: 0x00AA,
+            ..PLAIN
+        },
+        BAD,
+    ),
+];
 
 #[test]
 fn reads_frames_made_by_hand(rt: HostRuntime) -> Result<(), Fail> {
-    let good = Reading::Good { sector: 7 };
-    let bad = Reading::Bad { sector: 7 };
-    let nothing = Reading::Nothing;
-    let rows = [
-        ("the frame as it is", PLAIN, good),
-        (
-            "another check value of the header",
-            Frame {
-                header_error: 1,
-                ..PLAIN
-            },
-            nothing,
-        ),
-        (
-            "a length that is not 512 bytes",
-            Frame { size: 1, ..PLAIN },
-            nothing,
-        ),
-        ("sector 0", Frame { sector: 0, ..PLAIN }, nothing),
-        (
-            "sector 10",
-            Frame {
-                sector: 10,
-                ..PLAIN
-            },
-            nothing,
-        ),
-        (
-            "eight zeros in the header",
-            Frame {
-                size_cells: 0x8004,
-                ..PLAIN
-            },
-            nothing,
-        ),
-        (
-            "seven zeros in the header",
-            Frame {
-                size_cells: 0x8084,
-                ..PLAIN
-            },
-            good,
-        ),
-        (
-            "another check value of the data",
-            Frame {
-                data_error: 0x100,
-                ..PLAIN
-            },
-            bad,
-        ),
-        (
-            "deleted data",
-            Frame {
-                first: 0xF8,
-                ..PLAIN
-            },
-            good,
-        ),
-        (
-            "a first byte that opens no data",
-            Frame {
-                first: 0xFE,
-                ..PLAIN
-            },
-            bad,
-        ),
-        (
-            "data 1023 cells behind the header",
-            Frame { gap: 1023, ..PLAIN },
-            good,
-        ),
-        (
-            "data 1024 cells behind the header",
-            Frame { gap: 1024, ..PLAIN },
-            bad,
-        ),
-        (
-            "two marks before the data",
-            Frame {
-                other: Other::TwoMarks,
-                ..PLAIN
-            },
-            good,
-        ),
-        (
-            "another sync before the data",
-            Frame {
-                other: Other::Sync(0xFE),
-                ..PLAIN
-            },
-            bad,
-        ),
-        (
-            "seven zeros in the data",
-            Frame {
-                last: 0,
-                last_cells: 0x80AA,
-                ..PLAIN
-            },
-            good,
-        ),
-        (
-            "eight zeros in the data",
-            Frame {
-                last: 0,
-                last_cells: 0x00AA,
-                ..PLAIN
-            },
-            bad,
-        ),
-    ];
-    let mut cells = Cells::new(rt.alloc());
-    let mut buffer = SectorBuffer::new();
-    for (name, frame, want) in rows {
-        cells.clear();
-        push_frame(&mut cells, &frame)?;
-        let reading = DISK.read_at(&cells, 0, TRACK, &mut buffer);
-        assert_eq!(rt; reading, want, "{name}");
-        assert_eq!(rt; buffer.is_empty(), want != good, "{name}");
-    }
-    Ok(())
+    assert_read(&rt, rt.alloc(), &DISK, TRACK, FRAMES)
 }
+
+/// The second header stands before the first one's data, which are its own.
+const TWO_HEADERS: &[Search] = &[
+    (0, Some((0, BAD))),
+    (1, Some((160, Reading::Good { sector: 8 }))),
+];
+
+/// Without its last cell the frame is not whole.
+const CUT: &[Search] = &[(1, Some((160, Reading::Bad { sector: 8 })))];
 
 #[test]
 fn reads_headers_without_their_data(rt: HostRuntime) -> Result<(), Fail> {
-    let mut whole = Cells::new(rt.alloc());
-    push_header(&mut whole, &PLAIN)?;
-    push_frame(&mut whole, &Frame { sector: 8, ..PLAIN })?;
-    let mut buffer = SectorBuffer::new();
-
-    // The second header stands before the first one's data, which are its own.
-    let first = next_reading(&DISK, &whole, 0, TRACK, &mut buffer);
-    assert_eq!(rt; first, Some((0, Reading::Bad { sector: 7 })));
-    let second = next_reading(&DISK, &whole, 1, TRACK, &mut buffer);
-    assert_eq!(rt; second, Some((160, Reading::Good { sector: 8 })));
-
-    // Without its last cell the frame is not whole.
-    let mut cut = Cells::new(rt.alloc());
-    for place in 1..whole.len() {
-        cut.push_cell(whole.cell(place - 1))?;
-    }
-    let second = next_reading(&DISK, &cut, 1, TRACK, &mut buffer);
-    assert_eq!(rt; second, Some((160, Reading::Bad { sector: 8 })));
-    Ok(())
+    let mut cells = Cells::new(rt.alloc());
+    push_header(&mut cells, &PLAIN)?;
+    Frame { sector: 8, ..PLAIN }.push(&mut cells)?;
+    assert_found(&rt, &DISK, TRACK, &cells, TWO_HEADERS);
+    assert_found_in_cut(&rt, rt.alloc(), &DISK, TRACK, &cells, CUT)
 }
+
+/// The index mark, and the marks before the first header.
+const MARKS: &[Word] = &[
+    (1472, 16, MFM_C2_MARK),
+    (2528, 32, 0x4489_4489),
+    (2560, 16, 0x4489),
+];
+
+/// The first header of cylinder 0 and head 0, with its check value.
+const FIRST_HEADER: [u8; 7] = [0xFE, 0x00, 0x00, 0x01, 0x02, 0xCA, 0x6F];
+
+const JOINED: &[Search] = &[
+    (0, Some((2528, Reading::Good { sector: 1 }))),
+    (2529, Some((12992, Reading::Good { sector: 2 }))),
+    (186240, Some((186240, Reading::Good { sector: 9 }))),
+    (186241, None),
+];
 
 #[test]
 fn reads_two_joined_rings(rt: HostRuntime) -> Result<(), Fail> {
-    let bytes = vec![in rt.alloc(); 0xF6u8; 4608]?;
-    let mut ring = Cells::new(rt.alloc());
-    DISK.ring(TRACK, &bytes, &mut ring)?;
+    let ring = filled_ring(&rt, rt.alloc(), &DISK, TRACK, 0xF6)?;
     assert_eq!(rt; ring.len(), 100000);
-
-    // The index mark, and the first header: FE 00 00 01 02 and the check value CA 6F.
-    assert_eq!(rt; ring.word_at(1472, 16), MFM_C2_MARK);
-    assert_eq!(rt; ring.word_at(2528, 32), 0x4489_4489);
-    assert_eq!(rt; ring.word_at(2560, 16), 0x4489);
-    for (index, byte) in [0xFE, 0x00, 0x00, 0x01, 0x02, 0xCA, 0x6F]
-        .iter()
-        .enumerate()
-    {
-        assert_eq!(rt; ring.data_byte_at(2576 + 16 * index), *byte, "byte {index}");
-    }
-
-    let mut cells = Cells::new(rt.alloc());
-    for _ in 0..2u8 {
-        for place in 0..ring.len() {
-            cells.push_cell(ring.cell(place))?;
-        }
-    }
-    let mut buffer = SectorBuffer::new();
-    let rows = [
-        (0, Some((2528, Reading::Good { sector: 1 }))),
-        (2529, Some((12992, Reading::Good { sector: 2 }))),
-        (186240, Some((186240, Reading::Good { sector: 9 }))),
-        (186241, None),
-    ];
-    for (from, want) in rows {
-        let found = next_reading(&DISK, &cells, from, TRACK, &mut buffer);
-        assert_eq!(rt; found, want, "from {from}");
-    }
-    assert_eq!(rt; buffer.len(), 0);
-    Ok(())
+    assert_words(&rt, &ring, MARKS);
+    assert_data_bytes(&rt, &ring, 2576, &FIRST_HEADER);
+    assert_found_in_joined(&rt, rt.alloc(), &DISK, TRACK, [&ring, &ring], JOINED)
 }
 
-/// What the tracks of a disk have of their own.
+/// A disk, the numbers of its first track, and that track's first header with its check value.
 #[derive(Clone, Copy)]
-struct Numbers {
+struct Disk {
     disk: IbmMfm,
-    sectors: u8,
-    first: u8,
-    /// The cells of a ring, and how many lie between the beginnings of neighbouring headers.
-    cells: usize,
-    step: usize,
-    /// The check value of the first header of cylinder 0 and head 0.
-    check: u16,
+    numbers: Numbers,
+    header: [u8; 7],
 }
 
-const NUMBERS: [Numbers; 7] = [
-    Numbers {
+/// A gap of 80 bytes, twelve of 00, four of the index mark, a gap of 50 and twelve of 00 stand before the marks of the
+/// first header.
+const PC_9: Numbers = Numbers {
+    first: 1,
+    sectors: 9,
+    size: 512,
+    cells: 100_000,
+    place: 2528,
+    step: 10464,
+};
+
+const DISKS: [Disk; 7] = [
+    Disk {
         disk: IbmMfm::Pc8,
-        sectors: 8,
-        first: 1,
-        cells: 100_000,
-        step: 10464,
-        check: 0xCA6F,
+        numbers: Numbers { sectors: 8, ..PC_9 },
+        header: FIRST_HEADER,
     },
-    Numbers {
+    Disk {
         disk: IbmMfm::Pc9,
-        sectors: 9,
-        first: 1,
-        cells: 100_000,
-        step: 10464,
-        check: 0xCA6F,
+        numbers: PC_9,
+        header: FIRST_HEADER,
     },
-    Numbers {
+    Disk {
         disk: IbmMfm::Pc15,
-        sectors: 15,
-        first: 1,
-        cells: 166_656,
-        step: 10528,
-        check: 0xCA6F,
+        numbers: Numbers {
+            sectors: 15,
+            cells: 166_656,
+            step: 10528,
+            ..PC_9
+        },
+        header: FIRST_HEADER,
     },
-    Numbers {
+    Disk {
         disk: IbmMfm::Pc18,
-        sectors: 18,
-        first: 1,
-        cells: 200_000,
-        step: 10912,
-        check: 0xCA6F,
+        numbers: Numbers {
+            sectors: 18,
+            cells: 200_000,
+            step: 10912,
+            ..PC_9
+        },
+        header: FIRST_HEADER,
     },
-    Numbers {
+    Disk {
         disk: IbmMfm::Atari10,
-        sectors: 10,
-        first: 1,
-        cells: 100_000,
-        step: 9664,
-        check: 0xCA6F,
+        numbers: Numbers {
+            sectors: 10,
+            step: 9664,
+            ..PC_9
+        },
+        header: FIRST_HEADER,
     },
-    Numbers {
+    Disk {
         disk: IbmMfm::CpcData,
-        sectors: 9,
-        first: 0xC1,
-        cells: 100_000,
-        step: 10496,
-        check: 0xDC3B,
+        numbers: Numbers {
+            first: 0xC1,
+            step: 10496,
+            ..PC_9
+        },
+        header: [0xFE, 0x00, 0x00, 0xC1, 0x02, 0xDC, 0x3B],
     },
-    Numbers {
+    Disk {
         disk: IbmMfm::CpcSystem,
-        sectors: 9,
-        first: 0x41,
-        cells: 100_000,
-        step: 10496,
-        check: 0xC7A3,
+        numbers: Numbers {
+            first: 0x41,
+            step: 10496,
+            ..PC_9
+        },
+        header: [0xFE, 0x00, 0x00, 0x41, 0x02, 0xC7, 0xA3],
     },
 ];
 
-/// Bytes as by chance: the high ones of numbers that follow from one another.
-fn bytes_by_chance(alloc: Global, count: usize) -> Result<Vec<u8>, Fail> {
-    let mut bytes = Vec::new(alloc);
-    let mut number = 1u32;
-    for _ in 0..count {
-        number = number.wrapping_mul(1_103_515_245).wrapping_add(12345);
-        bytes.push((number >> 24) as u8)?;
+#[test]
+fn reads_each_disk_s_sectors_back(rt: HostRuntime) -> Result<(), Fail> {
+    for disk in &DISKS {
+        let ring = read_back_by_chance(&rt, rt.alloc(), &disk.disk, TRACK, &disk.numbers)?;
+        assert_data_bytes(&rt, &ring, 2576, &disk.header);
     }
-    Ok(bytes)
-}
-
-/// The ring of the first track has the disk's cells and its first header where and as it is to be, and all its
-/// sectors come back.
-fn reads_track_back(rt: &impl Abort, alloc: Global, numbers: &Numbers) -> Result<(), Fail> {
-    let count = usize::from(numbers.sectors) * 512;
-    let bytes = bytes_by_chance(alloc, count)?;
-    assert!(rt; bytes.len() == count);
-    assert!(rt; numbers.disk.sectors(TRACK) == numbers.sectors);
-    let mut ring = Cells::new(alloc);
-    numbers.disk.ring(TRACK, &bytes, &mut ring)?;
-    assert_eq!(rt; ring.len(), numbers.cells);
-    assert!(rt; ring.len() >= 100_000);
-
-    // A gap of 80 bytes, twelve of 00, four of the index mark, a gap of 50 and twelve of 00 stand before the marks.
-    let check = [(numbers.check >> 8) as u8, (numbers.check % 256) as u8];
-    let header = [0xFE, 0x00, 0x00, numbers.first, 0x02, check[0], check[1]];
-    for (index, byte) in header.iter().enumerate() {
-        assert_eq!(rt; ring.data_byte_at(2576 + 16 * index), *byte, "byte {index}");
-    }
-
-    let mut buffer = SectorBuffer::new();
-    let mut from = 0;
-    let mut place = 2528usize;
-    for index in 0..numbers.sectors {
-        let sector = numbers.first.wrapping_add(index);
-        let found = next_reading(&numbers.disk, &ring, from, TRACK, &mut buffer);
-        assert_eq!(rt; found, Some((place, Reading::Good { sector })));
-        let at = usize::from(index) * 512;
-        assert!(rt;
-            bytes.get(at..at + 512) == Some(buffer.as_slice()),
-            "sector {sector}"
-        );
-        from = place.wrapping_add(1);
-        place = place.wrapping_add(numbers.step);
-    }
-    let last = next_reading(&numbers.disk, &ring, from, TRACK, &mut buffer);
-    assert_eq!(rt; last, None);
     Ok(())
 }
 
-#[test]
-fn reads_each_disk_s_sectors_back(rt: HostRuntime) -> Result<(), Fail> {
-    for numbers in &NUMBERS {
-        reads_track_back(&rt, rt.alloc(), numbers)?;
+/// Frames of the disk's first and last sector are read, and none of another length or of the sectors beside them.
+fn reads_own_sectors(rt: &impl Abort, cells: &mut Cells, disk: &Disk) -> Result<(), Memory> {
+    let first = disk.numbers.first;
+    let last = first.wrapping_add(disk.numbers.sectors.wrapping_sub(1));
+    let rows = [
+        (first, 2, true),
+        (last, 2, true),
+        (last, 1, false),
+        (last, 3, false),
+        (first.wrapping_sub(1), 2, false),
+        (last.wrapping_add(1), 2, false),
+    ];
+    for (sector, size, is_own) in rows {
+        let want = if is_own {
+            Reading::Good { sector }
+        } else {
+            Reading::Nothing
+        };
+        let frame = Frame {
+            sector,
+            size,
+            ..PLAIN
+        };
+        cells.clear();
+        frame.push(cells)?;
+        let reading = disk.disk.read_at(cells, 0, TRACK, &mut SectorBuffer::new());
+        assert_eq!(rt; reading, want, "sector {sector} of size {size}");
     }
     Ok(())
 }
@@ -446,53 +415,22 @@ fn reads_each_disk_s_sectors_back(rt: HostRuntime) -> Result<(), Fail> {
 #[test]
 fn reads_no_sectors_of_other_disks(rt: HostRuntime) -> Result<(), Fail> {
     let mut cells = Cells::new(rt.alloc());
-    let mut buffer = SectorBuffer::new();
-    for numbers in &NUMBERS {
-        let last = numbers.first.wrapping_add(numbers.sectors - 1);
-        let rows = [
-            (
-                numbers.first,
-                2,
-                Reading::Good {
-                    sector: numbers.first,
-                },
-            ),
-            (last, 2, Reading::Good { sector: last }),
-            (last, 1, Reading::Nothing),
-            (last, 3, Reading::Nothing),
-            (numbers.first.wrapping_sub(1), 2, Reading::Nothing),
-            (last.wrapping_add(1), 2, Reading::Nothing),
-        ];
-        for (sector, size, want) in rows {
-            cells.clear();
-            push_frame(
-                &mut cells,
-                &Frame {
-                    sector,
-                    size,
-                    ..PLAIN
-                },
-            )?;
-            let reading = numbers.disk.read_at(&cells, 0, TRACK, &mut buffer);
-            assert_eq!(rt; reading, want, "sector {sector} of size {size}");
-        }
+    for disk in &DISKS {
+        reads_own_sectors(&rt, &mut cells, disk)?;
     }
     Ok(())
 }
 
+const LAST_TRACK: TrackId = TrackId {
+    cylinder: 79,
+    head: 1,
+};
+
 #[test]
 fn reads_no_headers_of_another_track(rt: HostRuntime) -> Result<(), Fail> {
-    let track = TrackId {
-        cylinder: 79,
-        head: 1,
-    };
-    let bytes = vec![in rt.alloc(); 0xF6u8; 9216]?;
-    let mut ring = Cells::new(rt.alloc());
-    IbmMfm::Pc18.ring(track, &bytes, &mut ring)?;
-    let mut buffer = SectorBuffer::new();
-    let own = next_reading(&IbmMfm::Pc18, &ring, 0, track, &mut buffer);
-    assert_eq!(rt; own, Some((2528, Reading::Good { sector: 1 })));
-    let other = next_reading(&IbmMfm::Pc18, &ring, 0, TRACK, &mut buffer);
-    assert_eq!(rt; other, None);
+    let ring = filled_ring(&rt, rt.alloc(), &IbmMfm::Pc18, LAST_TRACK, 0xF6)?;
+    let own = [(0, Some((2528, Reading::Good { sector: 1 })))];
+    assert_found(&rt, &IbmMfm::Pc18, LAST_TRACK, &ring, &own);
+    assert_found(&rt, &IbmMfm::Pc18, TRACK, &ring, &[(0, None)]);
     Ok(())
 }
