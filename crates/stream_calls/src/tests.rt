@@ -5,8 +5,8 @@ mod writing;
 
 use flux_base::MemorySource;
 use index_turns::TrackFlux;
-use kryo_stream::{Intake, StreamBench, TrackFault, read_track};
-use std::alloc::{AllocError, Global};
+use kryo_stream::{Intake, StreamBench, StreamFault, TrackFault, read_track};
+use std::alloc::Global;
 use std::process::Abort;
 use std::test::Fail;
 
@@ -14,6 +14,53 @@ use std::test::Fail;
 const ONE_TURN: &[u8] =
     b"\x0D\x02\x0C\0\0\0\0\0\0\0\0\0\0\0\0\0\x60\x60\x0D\x02\x0C\0\x02\0\0\0\x05\0\0\0\x18\0\0\0\
     \x0D\x03\x08\0\x02\0\0\0\0\0\0\0\x0D\x0D\x0D\x0D";
+
+/// What reading a stream comes to: the answer, and the transitions and index times of the track.
+struct Came {
+    answer: Result<(), TrackFault>,
+    times: &'static [u64],
+    indexes: &'static [u64],
+}
+
+/// What `ONE_TURN` comes to.
+const TURN: Came = Came {
+    answer: Ok(()),
+    times: &[96, 192],
+    indexes: &[0, 197],
+};
+
+/// The first block needs bytes that the input does not have. After a fault the track is empty.
+const TRUNCATED: Came = Came {
+    answer: Err(TrackFault::Refused {
+        block: 0,
+        fault: StreamFault::Truncated,
+    }),
+    times: &[],
+    indexes: &[],
+};
+
+/// An input: its front, so many bytes of one value, and its other parts. It comes in chunks of a size, and the reads of
+/// some numbers fail.
+#[derive(Clone, Copy)]
+struct Input<'a> {
+    front: &'a [u8],
+    count: usize,
+    byte: u8,
+    parts: &'a [&'a [u8]],
+    chunk: u32,
+    failing: &'a [u64],
+}
+
+impl Input<'_> {
+    fn bytes(&self, alloc: Global) -> Result<Vec<u8>, Fail> {
+        let mut bytes = self.front.to_vec(alloc)?;
+        bytes.resize(self.front.len().saturating_add(self.count), self.byte)?;
+        for part in self.parts {
+            bytes.extend_from_slice(part)?;
+        }
+        Ok(bytes)
+    }
+}
 
 /// A reader, and what it reads from.
 #[derive(Drop)]
@@ -25,18 +72,20 @@ struct Reader {
 }
 
 impl Reader {
-    /// A reader of these bytes, which come in chunks of so many. The reads of these numbers fail.
-    fn new(alloc: Global, input: Vec<u8>, chunk: u32, failing: Vec<u64>) -> Result<Reader, Fail> {
-        let mut bench = StreamBench::new(alloc);
-        bench.reserve()?;
-        Ok(Reader {
-            source: MemorySource::new(input, chunk.max(1), failing),
+    fn new(alloc: Global, input: &Input) -> Result<Reader, Fail> {
+        let failing = input.failing.to_vec(alloc)?;
+        let mut reader = Reader {
+            source: MemorySource::new(input.bytes(alloc)?, input.chunk.max(1), failing),
             intake: Intake::new(alloc)?,
             flux: TrackFlux::new(alloc),
-            bench,
-        })
+            bench: StreamBench::new(alloc),
+        };
+        reader.bench.reserve()?;
+        reader.flux.reserve(2, 2)?;
+        Ok(reader)
     }
 
+    /// Reads the next stream.
     fn read(&mut self) -> Result<(), TrackFault> {
         read_track(
             &mut self.source,
@@ -47,29 +96,24 @@ impl Reader {
     }
 }
 
-fn joined(alloc: Global, parts: &[&[u8]]) -> Result<Vec<u8>, AllocError> {
-    let mut bytes = Vec::new(alloc);
-    for part in parts {
-        bytes.extend_from_slice(part)?;
-    }
-    Ok(bytes)
+/// Compares the transitions and index times of the stream that was read last.
+fn holds(rt: &impl Abort, flux: &TrackFlux, wanted: &Came, what: &str, chunk: u32) {
+    assert_eq!(rt;
+        (flux.times(), flux.indexes()),
+        (wanted.times, wanted.indexes),
+        "{what} in chunks of {chunk}"
+    );
 }
 
-// What is compared stands in functions of its own over a reference, since each comparison in a test is one more way out of
-// it, on which all its values are let go.
-
-/// Compares an answer.
-fn answered(
+/// Compares what reading a stream came to.
+fn comes_to(
     rt: &impl Abort,
     answer: Result<(), TrackFault>,
-    wanted: Result<(), TrackFault>,
+    flux: &TrackFlux,
+    wanted: &Came,
+    what: &str,
     chunk: u32,
 ) {
-    assert_eq!(rt; answer, wanted, "in chunks of {chunk}");
-}
-
-/// Compares the transitions and the index times of the stream that was read last.
-fn holds(rt: &impl Abort, flux: &TrackFlux, times: &[u64], indexes: &[u64]) {
-    assert_eq!(rt; flux.times(), times);
-    assert_eq!(rt; flux.indexes(), indexes);
+    assert_eq!(rt; answer, wanted.answer, "{what} in chunks of {chunk}");
+    holds(rt, flux, wanted, what, chunk);
 }

@@ -1,46 +1,75 @@
 //! Blocks as they are spelled, and a sink that fails.
+ghost use Rattle.std.specs.Prelude.{IsTrue};
+ghost use Rattle.kryo_stream.specs.Spelling.{HasNopBytes};
+
 use flux_base::{Failed, MemorySink};
 use kryo_stream::{Block, write_block};
+use std::process::Abort;
 use std::test::Fail;
 
-#[test]
-fn spells_flux_values_in_as_few_bytes_as_fit(rt: HostRuntime) -> Result<(), Fail> {
-    let mut sink = MemorySink::new(rt.alloc(), 64, Vec::new(rt.alloc()))?;
-    for ticks in [0, 0x0D, 0x0E, 0xFF, 0x100, 0x7FF, 0x800, 0xFFFF] {
-        assert_eq!(rt; write_block(&Block::Flux { ticks }, &mut sink), Ok(()));
+/// Blocks, and their spelling in as few bytes as fit.
+const SPELLED: &[(Block, &[u8])] = &[
+    (Block::Flux { ticks: 0 }, b"\0\0"),
+    (Block::Flux { ticks: 0x0D }, b"\0\x0D"),
+    (Block::Flux { ticks: 0x0E }, b"\x0E"),
+    (Block::Flux { ticks: 0xFF }, b"\xFF"),
+    (Block::Flux { ticks: 0x100 }, b"\x01\0"),
+    (Block::Flux { ticks: 0x7FF }, b"\x07\xFF"),
+    (Block::Flux { ticks: 0x800 }, b"\x0C\x08\0"),
+    (Block::Flux { ticks: 0xFFFF }, b"\x0C\xFF\xFF"),
+    (Block::Overflow, b"\x0B"),
+    (Block::Nop { bytes: 1 }, b"\x08"),
+    (Block::Nop { bytes: 3 }, b"\x0A\0\0"),
+    (
+        Block::Index {
+            position: 2,
+            sample: 100,
+            counter: 16396,
+        },
+        b"\x0D\x02\x0C\0\x02\0\0\0\x64\0\0\0\x0C\x40\0\0",
+    ),
+    (
+        Block::StreamInfo {
+            position: 0x01020304,
+            time: 5,
+        },
+        b"\x0D\x01\x08\0\x04\x03\x02\x01\x05\0\0\0",
+    ),
+    (
+        Block::StreamEnd {
+            position: 4,
+            code: 0,
+        },
+        b"\x0D\x03\x08\0\x04\0\0\0\0\0\0\0",
+    ),
+    (Block::Info { length: 2 }, b"\x0D\x04\x02\0  "),
+    (Block::End, b"\x0D\x0D\x0D\x0D"),
+];
+
+/// Whether a Nop has 1 to 3 bytes.
+fn has_nop_bytes(block: &Block) -> bool
+    ensures { IsTrue result → HasNopBytes block.now }
+{
+    match *block {
+        Block::Nop { bytes } => bytes >= 1 && bytes <= 3,
+        _ => true,
     }
-    let spelled = b"\0\0\0\x0D\x0E\xFF\x01\0\x07\xFF\x0C\x08\0\x0C\xFF\xFF";
-    assert_eq!(rt; sink.bytes(), spelled.as_slice());
-    Ok(())
+}
+
+/// Compares what a block appends to a sink.
+fn spells(rt: &impl Abort, sink: &mut MemorySink, block: &Block, spelled: &[u8]) {
+    let before = sink.bytes().len();
+    assert!(rt; has_nop_bytes(block));
+    assert_eq!(rt; write_block(block, sink), Ok(()));
+    assert_eq!(rt; sink.bytes().get(before..), Some(spelled), "of {block:?}");
 }
 
 #[test]
-fn spells_every_other_block(rt: HostRuntime) -> Result<(), Fail> {
+fn blocks_are_spelled_one_after_another(rt: HostRuntime) -> Result<(), Fail> {
     let mut sink = MemorySink::new(rt.alloc(), 128, Vec::new(rt.alloc()))?;
-    let index = Block::Index {
-        position: 2,
-        sample: 100,
-        counter: 16396,
-    };
-    assert_eq!(rt; write_block(&index, &mut sink), Ok(()));
-    assert_eq!(rt; write_block(&Block::Overflow, &mut sink), Ok(()));
-    assert_eq!(rt; write_block(&Block::Nop { bytes: 1 }, &mut sink), Ok(()));
-    assert_eq!(rt; write_block(&Block::Nop { bytes: 3 }, &mut sink), Ok(()));
-    let info = Block::StreamInfo {
-        position: 0x01020304,
-        time: 5,
-    };
-    assert_eq!(rt; write_block(&info, &mut sink), Ok(()));
-    let end = Block::StreamEnd {
-        position: 4,
-        code: 0,
-    };
-    assert_eq!(rt; write_block(&end, &mut sink), Ok(()));
-    assert_eq!(rt; write_block(&Block::Info { length: 2 }, &mut sink), Ok(()));
-    assert_eq!(rt; write_block(&Block::End, &mut sink), Ok(()));
-    let spelled = b"\x0D\x02\x0C\0\x02\0\0\0\x64\0\0\0\x0C\x40\0\0\x0B\x08\x0A\0\0\
-        \x0D\x01\x08\0\x04\x03\x02\x01\x05\0\0\0\x0D\x03\x08\0\x04\0\0\0\0\0\0\0\x0D\x04\x02\0  \x0D\x0D\x0D\x0D";
-    assert_eq!(rt; sink.bytes(), spelled.as_slice());
+    for (block, spelled) in SPELLED {
+        spells(&rt, &mut sink, block, spelled);
+    }
     Ok(())
 }
 
@@ -48,10 +77,7 @@ fn spells_every_other_block(rt: HostRuntime) -> Result<(), Fail> {
 #[test]
 fn a_failed_write_leaves_a_prefix(rt: HostRuntime) -> Result<(), Fail> {
     let mut sink = MemorySink::new(rt.alloc(), 1000, vec![in rt.alloc(); 2]?)?;
-    assert_eq!(rt;
-        write_block(&Block::Info { length: 700 }, &mut sink),
-        Err(Failed)
-    );
-    assert_eq!(rt; sink.bytes().len(), 260);
+    let answer = write_block(&Block::Info { length: 700 }, &mut sink);
+    assert_eq!(rt; (answer, sink.bytes().len()), (Err(Failed), 260));
     Ok(())
 }
