@@ -1,17 +1,12 @@
 //! A track whose drive slows down while it is captured, and whose transitions are displaced.
-ghost use Rattle.std.specs.Prelude.{◌≡◌, ◌≤◌, ◌<◌, ◌^◌, [], All, IfOk, IsTrue, OnOk};
-ghost use Rattle.flux_writer.specs.Reading.{EndsWithTransition};
-
-use super::decoding::{TRACK, decode_first};
+use super::decoding::{IBM_1440, TRACK, Wanted, decode_first};
+use super::streams::written;
 use cell_bits::Cells;
-use flux_base::{Memory, MemorySink};
-use flux_writer::write_times;
+use flux_base::Memory;
 use frame_law::Recording;
 use ibm_mfm::IbmMfm;
-use index_turns::TrackFlux;
 use sector_images::Format;
 use std::alloc::Global;
-use std::process::Abort;
 use std::test::Fail;
 
 /// The nominal cell of the disk, and the shortest and the longest period of the drive, in fine units: nearly seven
@@ -25,8 +20,12 @@ const DISPLACEMENT: u64 = 3075;
 
 const FINE_PER_TICK: u64 = 1024;
 
-/// The latest time that the writer takes, in ticks.
-const LATEST: u64 = 1 << 39;
+/// The track as it is read, the later turns too.
+const READ: Wanted = Wanted {
+    first: b"00.0 01 good 4 0 1 52527\n",
+    last: b"\n",
+    ..IBM_1440
+};
 
 /// A drive that turns over a track. It stands after the last transition.
 #[derive(Clone, Copy, Debug)]
@@ -124,72 +123,8 @@ fn is_one(ring: &Cells, place: u64) -> bool {
     place < ring.len() && ring.cell(place)
 }
 
-/// Appends transitions, as far as they do not fall and are not too late.
-fn push_times(flux: &mut TrackFlux, times: &[u64]) -> Result<(), Memory>
-    requires { flux.old.times ≡ [] }
-    ensures times { OnOk result (All (λ time. time ≤ 2 ^ 39) flux.new.times) }
-    ensures indexes { flux.new.indexes ≡ flux.old.indexes }
-{
-    let mut last = 0;
-    for time in times {
-        let next = last.max(*time).min(LATEST);
-        flux.push_time(next)?;
-        last = next;
-    }
-    Ok(())
-}
-
-/// Appends index times, as far as they rise and are not too late.
-fn push_indexes(flux: &mut TrackFlux, indexes: &[u64]) -> Result<(), Memory>
-    requires { flux.old.indexes ≡ [] }
-    ensures { flux.new.times ≡ flux.old.times }
-{
-    let mut least = 0;
-    for index in indexes {
-        least = push_later(flux, (*index).min(LATEST), least)?;
-    }
-    Ok(())
-}
-
-/// Appends an index time that is not before `least`, and gives the least that may follow.
-fn push_later(flux: &mut TrackFlux, index: u64, least: u64) -> Result<u64, Memory>
-    requires index { index ≤ 2 ^ 39 }
-    requires before { All (λ earlier. earlier < least) flux.old.indexes }
-    ensures before { IfOk result (λ next. All (λ earlier. earlier < next) flux.new.indexes) }
-    ensures times { flux.new.times ≡ flux.old.times }
-{
-    if index < least {
-        return Ok(least);
-    }
-    flux.push_index(index)?;
-    Ok(index + 1)
-}
-
-/// Whether the last index time lies before the last transition.
-fn ends_with_transition(flux: &TrackFlux) -> bool
-    ensures { IsTrue result → EndsWithTransition flux.now.times flux.now.indexes }
-{
-    let times = flux.times();
-    let indexes = flux.indexes();
-    if times.is_empty() || indexes.is_empty() {
-        return false;
-    }
-    indexes[indexes.len() - 1] < times[times.len() - 1]
-}
-
-fn written(rt: &impl Abort, alloc: Global, capture: &Capture) -> Result<MemorySink, Fail> {
-    let mut flux = TrackFlux::new(alloc);
-    push_times(&mut flux, &capture.times)?;
-    push_indexes(&mut flux, &capture.indexes)?;
-    assert!(rt; ends_with_transition(&flux));
-    assert!(rt; flux.times().len().saturating_add(flux.indexes().len()) <= 1_048_576);
-    let mut sink = MemorySink::new(alloc, 4_000_000, Vec::new(alloc))?;
-    assert!(rt; write_times(&flux, &mut sink).is_ok());
-    Ok(sink)
-}
-
 // The drive slows down by more than a quarter, and each transition is displaced by nearly an eighth of a cell, by turns
-// late and early. The later turns are read too.
+// late and early.
 #[test]
 fn a_track_with_drift_and_displacement(rt: HostRuntime) -> Result<(), Fail> {
     let alloc = rt.alloc();
@@ -197,12 +132,7 @@ fn a_track_with_drift_and_displacement(rt: HostRuntime) -> Result<(), Fail> {
     IbmMfm::Pc18.ring(TRACK, &[0xF6; 9216], &mut ring)?;
     let capture = captured(alloc, &ring)?;
     assert_eq!(rt; capture.indexes.len(), 4);
-    let stream = written(&rt, alloc, &capture)?;
-    let track = decode_first(alloc, Format::Ibm1440, stream.bytes().to_vec(alloc)?)?;
-    assert!(rt; matches!(track.totals, Ok(totals) if totals.good == 18 && totals.sectors == 18));
-    assert_eq!(rt; track.image.bytes().len(), 9216);
-    assert!(rt; track.image.bytes().iter().all(|byte| *byte == 0xF6));
-    let line = b"00.0 01 good 4 0 1 52527\n";
-    assert!(rt; track.notes.bytes().starts_with(line));
+    let stream = written(&rt, alloc, &capture.times, &capture.indexes)?;
+    decode_first(alloc, Format::Ibm1440, stream.bytes().to_vec(alloc)?)?.is(&rt, &READ);
     Ok(())
 }

@@ -7,6 +7,7 @@ use flux_engine::{WriteFault, WriteRoom, track_ring, write_disk};
 use frame_law::{Reading, Recording, SectorBuffer};
 use sector_images::Format;
 use std::alloc::Global;
+use std::process::Abort;
 use std::test::Fail;
 
 const TRACK: TrackId = TrackId {
@@ -25,14 +26,23 @@ fn a_ring_has_its_sectors_bytes(rt: HostRuntime) -> Result<(), Fail> {
     let mut ring = Cells::new(alloc);
     track_ring(Format::AppleDo, 0, &image, &mut ring)?;
     assert_eq!(rt; ring.len(), 49994);
-    let mut buffer = SectorBuffer::new();
-    let read = AppleGcr::STRICT.read_at(&ring, 34474, TRACK, &mut buffer);
-    assert!(rt; matches!(read, Reading::Good { sector: 11 }));
-    assert!(rt; buffer.as_slice().iter().all(|byte| *byte == 0x5A));
-    let read = AppleGcr::STRICT.read_at(&ring, 330, TRACK, &mut buffer);
-    assert!(rt; matches!(read, Reading::Good { sector: 0 }));
-    assert!(rt; buffer.as_slice().iter().all(|byte| *byte == 0));
+    holds(&rt, &ring, 34474, 11, 0x5A);
+    holds(&rt, &ring, 330, 0, 0);
     Ok(())
+}
+
+/// Reads a sector at a place of a ring, whose bytes all are this one.
+fn holds(rt: &impl Abort, ring: &Cells, place: usize, number: u8, byte: u8) {
+    let mut buffer = SectorBuffer::new();
+    let read = AppleGcr::STRICT.read_at(ring, place, TRACK, &mut buffer);
+    assert!(rt;
+        matches!(read, Reading::Good { sector } if sector == number),
+        "at {place}"
+    );
+    assert!(rt;
+        buffer.as_slice().iter().all(|there| *there == byte),
+        "at {place}"
+    );
 }
 
 // The ids stand in track 18, sector 0.
@@ -50,73 +60,117 @@ fn a_ring_has_the_ids_of_its_disk(rt: HostRuntime) -> Result<(), Fail> {
         id2: 0x42,
     };
     disk.ring(TRACK, &[0; 5376], &mut other)?;
+    have_equal_cells(&rt, &ring, &other);
+    Ok(())
+}
+
+fn have_equal_cells(rt: &impl Abort, ring: &Cells, other: &Cells) {
     assert_eq!(rt; ring.len(), other.len());
     for place in 0..ring.len() {
         if place < other.len() {
             assert_eq!(rt; ring.cell(place), other.cell(place), "at {place}");
         }
     }
-    Ok(())
 }
 
-/// What writing a disk of Apple's came to.
-#[derive(Drop)]
-struct Written {
-    answer: Result<(), WriteFault>,
-    source: MemorySource,
-    sink: MemorySink,
-}
-
-fn write_apple(
-    alloc: Global,
+/// An image of an Apple disk: of so many bytes, of whose reads some fail, into a sink with room for so many. Then the
+/// answer, the bytes of the image that were not read, and those that were written.
+struct Row {
     bytes: usize,
+    failing: &'static [u64],
     room: usize,
-    failing: Vec<u64>,
-) -> Result<Written, Fail> {
-    let image = vec![in alloc; 0u8; bytes]?;
-    let mut source = MemorySource::new(image, 100_000, failing);
-    let mut sink = MemorySink::new(alloc, room, Vec::new(alloc))?;
+    answer: WriteFault,
+    rest: usize,
+    written: usize,
+}
+
+/// One byte more than an image has is read.
+const LONG: Row = Row {
+    bytes: 143370,
+    failing: &[],
+    room: 0,
+    answer: WriteFault::WrongSize {
+        read: 143361,
+        wanted: 143360,
+    },
+    rest: 9,
+    written: 0,
+};
+
+const ROWS: &[Row] = &[
+    LONG,
+    Row {
+        bytes: 143361,
+        rest: 0,
+        ..LONG
+    },
+    Row {
+        bytes: 143359,
+        answer: WriteFault::WrongSize {
+            read: 143359,
+            wanted: 143360,
+        },
+        rest: 0,
+        ..LONG
+    },
+    Row {
+        bytes: 0,
+        answer: WriteFault::WrongSize {
+            read: 0,
+            wanted: 143360,
+        },
+        rest: 0,
+        ..LONG
+    },
+    Row {
+        bytes: 143361,
+        failing: &[1],
+        answer: WriteFault::ReadFault,
+        rest: 43361,
+        ..LONG
+    },
+    // The sink takes no more than the first track and some of the second.
+    Row {
+        bytes: 143360,
+        room: 200_000,
+        answer: WriteFault::ImageFault,
+        rest: 0,
+        written: 200_000,
+        ..LONG
+    },
+];
+
+fn stops(rt: &impl Abort, alloc: Global, row: &Row) -> Result<(), Fail> {
+    let image = vec![in alloc; 0u8; row.bytes]?;
+    let mut source = MemorySource::new(image, 100_000, row.failing.to_vec(alloc)?);
+    let mut sink = MemorySink::new(alloc, row.room, Vec::new(alloc))?;
     let mut room = WriteRoom::reserve(alloc, Format::AppleDo)?;
     let answer = write_disk(&mut room, &mut source, &mut sink);
-    Ok(Written {
-        answer,
-        source,
-        sink,
-    })
-}
-
-#[test]
-fn images_are_read_to_one_byte_more(rt: HostRuntime) -> Result<(), Fail> {
-    let alloc = rt.alloc();
-    for (bytes, read, rest) in [
-        (0, 0, 0),
-        (143359, 143359, 0),
-        (143361, 143361, 0),
-        (143370, 143361, 9),
-    ] {
-        let end = write_apple(alloc, bytes, 0, Vec::new(alloc))?;
-        assert_eq!(rt;
-            end.answer,
-            Err(WriteFault::WrongSize {
-                read,
-                wanted: 143360
-            })
-        );
-        assert_eq!(rt; end.source.rest().len(), rest);
-        assert_eq!(rt; end.sink.calls(), 0);
-    }
-    let end = write_apple(alloc, 143361, 0, vec![in alloc; 1]?)?;
-    assert_eq!(rt; end.answer, Err(WriteFault::ReadFault));
-    assert_eq!(rt; end.source.rest().len(), 43361);
+    stopped(rt, answer, &source, &sink, row);
     Ok(())
 }
 
-// The sink takes no more than the first track and some of the second.
+/// Compares what writing a disk came to. The sink is called only where there is room in it.
+fn stopped(
+    rt: &impl Abort,
+    answer: Result<(), WriteFault>,
+    source: &MemorySource,
+    sink: &MemorySink,
+    row: &Row,
+) {
+    let bytes = row.bytes;
+    assert_eq!(rt; answer, Err(row.answer), "of {bytes} bytes");
+    assert_eq!(rt;
+        (source.rest().len(), sink.bytes().len(), sink.calls() == 0),
+        (row.rest, row.written, row.room == 0),
+        "of {bytes} bytes"
+    );
+}
+
 #[test]
-fn streams_are_cut_where_the_sink_fails(rt: HostRuntime) -> Result<(), Fail> {
-    let alloc = rt.alloc();
-    let end = write_apple(alloc, 143360, 200_000, Vec::new(alloc))?;
-    assert_eq!(rt; end.answer, Err(WriteFault::ImageFault));
-    assert_eq!(rt; end.sink.bytes().len(), 200_000);
+fn images_stop_where_they_are_not_whole_or_their_sink_fails(rt: HostRuntime) -> Result<(), Fail> {
+    for row in ROWS {
+        stops(&rt, rt.alloc(), row)?;
+    }
     Ok(())
 }
