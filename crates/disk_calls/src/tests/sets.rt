@@ -9,51 +9,51 @@ const TRACK: TrackId = TrackId {
     head: 0,
 };
 
-#[test]
-fn lines_name_the_capture(rt: HostRuntime) {
-    let first = Place {
-        turn: 1,
-        cell: 27527,
-    };
-    let other = Place {
-        turn: 2,
-        cell: 0xF_0000_0000 + 27527,
-    };
-    let good = Verdict::Good {
-        good: 8,
-        bad: 0,
-        first,
-    };
-    assert_eq!(rt;
-        set_line(TRACK, 1, &good).as_str(),
-        "00.0 01 good 8 0 0 1 27527\n"
-    );
-    let differing = Verdict::Contradictory {
-        good: 8,
-        bad: 1,
-        first,
-        other,
-    };
-    assert_eq!(rt;
-        set_line(TRACK, 1, &differing).as_str(),
-        "00.0 01 contradictory 8 1 0 1 27527 15 2 27527\n"
-    );
-    let bad = Verdict::Bad {
-        bad: 2,
-        first: other,
-    };
-    assert_eq!(rt;
-        set_line(TRACK, 1, &bad).as_str(),
-        "00.0 01 bad 0 2 15 2 27527\n"
-    );
-    assert_eq!(rt;
-        set_line(TRACK, 1, &Verdict::Missing).as_str(),
-        "00.0 01 missing 0 0\n"
-    );
-}
+/// A place of the first capture, and one of the sixteenth.
+const FIRST: Place = Place {
+    turn: 1,
+    cell: 27527,
+};
+
+const OTHER: Place = Place {
+    turn: 2,
+    cell: 0xF_0000_0000 + 27527,
+};
+
+/// What the readings of sector 1 say, and its line.
+const LINES: &[(Verdict, &str)] = &[
+    (
+        Verdict::Good {
+            good: 8,
+            bad: 0,
+            first: FIRST,
+        },
+        "00.0 01 good 8 0 0 1 27527\n",
+    ),
+    (
+        Verdict::Contradictory {
+            good: 8,
+            bad: 1,
+            first: FIRST,
+            other: OTHER,
+        },
+        "00.0 01 contradictory 8 1 0 1 27527 15 2 27527\n",
+    ),
+    (
+        Verdict::Bad {
+            bad: 2,
+            first: OTHER,
+        },
+        "00.0 01 bad 0 2 15 2 27527\n",
+    ),
+    (Verdict::Missing, "00.0 01 missing 0 0\n"),
+];
 
 #[test]
-fn lines_of_refused_captures(rt: HostRuntime) {
+fn lines_name_the_capture(rt: HostRuntime) {
+    for (verdict, line) in LINES {
+        assert_eq!(rt; set_line(TRACK, 1, verdict).as_str(), *line);
+    }
     let fault = StreamFault::WrongPosition {
         said: 1,
         counted: 2,
