@@ -12,19 +12,42 @@ const PULSE_TICKS: u64 = 24;
 
 /// What happens to a track while it is captured. Places are those of its repeated ring.
 #[derive(Clone, Copy)]
-pub struct Manner<'a> {
+pub struct Manner {
     /// By how many hundredths a cell is longer than the nominal one where a turn begins and ends, and shorter in the middle.
     pub drift: u64,
-    /// Where bursts begin.
-    pub bursts: &'a [u64],
+    pub bursts: Bursts,
     /// The ones whose transitions are not seen.
-    pub lost: &'a [u64],
+    pub lost: &'static [u64],
+}
+
+/// Where bursts of noise begin.
+#[derive(Clone, Copy)]
+pub enum Bursts {
+    None,
+    /// At this place.
+    Once(u64),
+    /// At this cell of each turn.
+    EachTurn(u64),
+    /// At each eighth of the turns from the second on, over a ring that eight divides.
+    EachEighth,
+}
+
+impl Bursts {
+    /// Whether one begins at a place, which is this cell of a ring of so many.
+    fn begin_at(self, place: u64, cell: u64, size: u64) -> bool {
+        match self {
+            Bursts::None => false,
+            Bursts::Once(only) => place == only,
+            Bursts::EachTurn(each) => cell == each,
+            Bursts::EachEighth => place >= size && cell.checked_rem(size / 8) == Some(0),
+        }
+    }
 }
 
 /// At the nominal speed, undisturbed.
-pub const STEADY: Manner<'static> = Manner {
+pub const STEADY: Manner = Manner {
     drift: 0,
-    bursts: &[],
+    bursts: Bursts::None,
     lost: &[],
 };
 
@@ -36,6 +59,27 @@ pub struct Seen {
 }
 
 impl Seen {
+    fn pass_all(&mut self, ring: &Cells, nominal: u64, manner: Manner) -> Result<(), Memory> {
+        let size = ring.len() as u64;
+        let begin = size.saturating_sub(size / 4);
+        let end = size.saturating_mul(4).saturating_add(size / 4);
+        let mut passed = 0;
+        for place in begin..end {
+            let cell = place.checked_rem(size).unwrap_or(0);
+            if manner.bursts.begin_at(place, cell, size) {
+                self.burst(passed / FINE_PER_TICK)?;
+            }
+            passed = cell_length(nominal, manner.drift, size, cell).saturating_add(passed);
+            if is_one(ring, cell) && !manner.lost.contains(&place) {
+                self.times.push(passed / FINE_PER_TICK)?;
+            }
+            if cell == 0 {
+                self.indexes.push(passed / FINE_PER_TICK)?;
+            }
+        }
+        Ok(())
+    }
+
     fn burst(&mut self, start: u64) -> Result<(), Memory> {
         for pulse in 0..PULSES {
             self.times
@@ -51,55 +95,21 @@ pub fn observed(alloc: Global, ring: &Cells, nominal: u64, manner: Manner) -> Re
         times: Vec::new(alloc),
         indexes: Vec::new(alloc),
     };
-    let size = ring.len() as u64;
-    let begin = size.saturating_sub(size / 4);
-    let end = size.saturating_mul(4).saturating_add(size / 4);
-    let mut passed = 0;
-    for place in begin..end {
-        if manner.bursts.contains(&place) {
-            seen.burst(passed / FINE_PER_TICK)?;
-        }
-        let at = place.checked_rem(size).unwrap_or(0);
-        passed = cell_length(nominal, manner.drift, size, at).saturating_add(passed);
-        if is_one(ring, at) && !manner.lost.contains(&place) {
-            seen.times.push(passed / FINE_PER_TICK)?;
-        }
-        if at == 0 {
-            seen.indexes.push(passed / FINE_PER_TICK)?;
-        }
-    }
+    seen.pass_all(ring, nominal, manner)?;
     seen.times.sort_unstable();
     Ok(seen)
 }
 
-/// How long the cell at a place of the ring is, in fine units.
-fn cell_length(nominal: u64, drift: u64, size: u64, at: u64) -> u64 {
+/// How long a cell of the ring is, in fine units.
+fn cell_length(nominal: u64, drift: u64, size: u64, cell: u64) -> u64 {
     let most = nominal.saturating_mul(drift) / 100;
-    let from_middle = at.saturating_mul(2).abs_diff(size);
+    let from_middle = cell.saturating_mul(2).abs_diff(size);
     let longer = most.saturating_mul(2).saturating_mul(from_middle);
     let length = nominal.saturating_sub(most);
     length.saturating_add(longer.checked_div(size).unwrap_or(0))
 }
 
-fn is_one(ring: &Cells, at: u64) -> bool {
-    let at = at as usize;
-    at < ring.len() && ring.cell(at)
-}
-
-/// A place, and those that are one, two and three turns after it.
-pub fn each_turn(ring: &Cells, first: u64) -> [u64; 4] {
-    let size = ring.len() as u64;
-    let second = first.saturating_add(size);
-    let third = second.saturating_add(size);
-    [first, second, third, third.saturating_add(size)]
-}
-
-/// The begins of the eighths of the four turns from the second on.
-pub fn each_eighth(alloc: Global, ring: &Cells) -> Result<Vec<u64>, Memory> {
-    let size = ring.len() as u64;
-    let mut places = Vec::new(alloc);
-    for number in 8..40u64 {
-        places.push(size.saturating_mul(number) / 8)?;
-    }
-    Ok(places)
+fn is_one(ring: &Cells, cell: u64) -> bool {
+    let cell = cell as usize;
+    cell < ring.len() && ring.cell(cell)
 }

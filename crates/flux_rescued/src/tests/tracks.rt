@@ -29,61 +29,47 @@ pub struct Track {
 
 /// 26 sectors of 128 bytes in single density.
 pub fn single_density(rt: &impl Abort, alloc: Global) -> Result<Track, Fail> {
-    let content = content_of(alloc, 3328)?;
-    assert_eq!(rt; content.len(), 3328);
-    Ok(Track {
-        disk: IBM_3740,
-        nominal: 49208,
-        ring: ring_of(alloc, &IbmFm::Ibm3740, TRACK, &content)?,
-        content,
-    })
+    written(rt, alloc, &IbmFm::Ibm3740, IBM_3740, 49208, TRACK)
 }
 
 /// 9 sectors of 512 bytes in double density.
 pub fn double_density(rt: &impl Abort, alloc: Global) -> Result<Track, Fail> {
-    let content = content_of(alloc, 4608)?;
-    assert_eq!(rt; content.len(), 4608);
-    Ok(Track {
-        disk: IBM_720,
-        nominal: 49208,
-        ring: ring_of(alloc, &IbmMfm::Pc9, TRACK, &content)?,
-        content,
-    })
+    written(rt, alloc, &IbmMfm::Pc9, IBM_720, 49208, TRACK)
 }
 
 /// 11 sectors of 512 bytes as the Amiga writes them.
 pub fn amiga(rt: &impl Abort, alloc: Global) -> Result<Track, Fail> {
-    let content = content_of(alloc, 5632)?;
-    assert_eq!(rt; content.len(), 5632);
-    Ok(Track {
-        disk: AMIGA,
-        nominal: 49208,
-        ring: ring_of(alloc, &AmigaMfm, TRACK, &content)?,
-        content,
-    })
+    written(rt, alloc, &AmigaMfm, AMIGA, 49208, TRACK)
 }
 
 /// 21 sectors of 256 bytes in the group code of the 1541.
 pub fn commodore(rt: &impl Abort, alloc: Global) -> Result<Track, Fail> {
     let recording = CommodoreGcr { id1: 65, id2: 66 };
-    let content = content_of(alloc, usize::from(recording.sectors(TRACK)) * 256)?;
-    assert_eq!(rt; content.len(), usize::from(recording.sectors(TRACK)) * 256);
-    Ok(Track {
-        disk: C1541,
-        nominal: 79963,
-        ring: ring_of(alloc, &recording, TRACK, &content)?,
-        content,
-    })
+    written(rt, alloc, &recording, C1541, 79963, TRACK)
 }
 
 /// 16 sectors of 256 bytes in the 6-and-2 code of Apple.
 pub fn apple(rt: &impl Abort, alloc: Global) -> Result<Track, Fail> {
-    let content = content_of(alloc, 4096)?;
-    assert_eq!(rt; content.len(), 4096);
+    written(rt, alloc, &AppleGcr::STRICT, APPLE_DO, 98416, TRACK)
+}
+
+fn written<R: Recording>(
+    rt: &impl Abort,
+    alloc: Global,
+    recording: &R,
+    disk: Disk,
+    nominal: u64,
+    track: TrackId,
+) -> Result<Track, Fail>
+    requires { R.has_track recording.now track }
+{
+    let count = usize::from(recording.sectors(track)) * usize::from(recording.sector_size());
+    let content = content_of(alloc, count)?;
+    assert_eq!(rt; content.len(), count);
     Ok(Track {
-        disk: APPLE_DO,
-        nominal: 98416,
-        ring: ring_of(alloc, &AppleGcr::STRICT, TRACK, &content)?,
+        disk,
+        nominal,
+        ring: ring_of(alloc, recording, track, &content)?,
         content,
     })
 }

@@ -6,8 +6,9 @@ use super::drive::{Manner, observed};
 use super::streams::stream_of;
 use super::tracks::Track;
 use flux_base::Memory;
-use flux_rows::{Disk, Dump, Run, SHORT, Want, decode, gives, short_dump, with_line};
+use flux_rows::{Dump, Mismatch, Run, SHORT, Want, decode, gives, short_dump, with_line};
 use std::alloc::Global;
+use std::process::Abort;
 use std::test::Fail;
 
 /// The lines of sectors that follow one another: how many, the text up to the first place, that place, and how far the next one's
@@ -17,60 +18,104 @@ pub type Row = (u8, &'static str, u32, u32);
 /// Where each sector of `apple-do` lies in the image, in sectors.
 const DOS: [u8; 16] = [0, 7, 14, 6, 13, 5, 12, 4, 11, 3, 10, 2, 9, 1, 8, 15];
 
-/// The disk comes to lines with the one table by `decode`, and with the other by `rescue`.
-pub fn comes_to(
+/// A capture of a track, and its sectors' lines by one clock and by two.
+#[derive(Clone, Copy)]
+pub struct Capture {
+    pub name: &'static str,
+    pub manner: Manner,
+    /// What `decode` says.
+    pub decoded: &'static [Row],
+    /// What `rescue` says.
+    pub rescued: &'static [Row],
+}
+
+/// Each capture of the track comes to its lines.
+pub fn each_comes_to(
+    rt: &impl Abort,
     alloc: Global,
     track: &Track,
-    manner: Manner,
-    decoded: &[Row],
-    rescued: &[Row],
+    captures: &[Capture],
 ) -> Result<(), Fail> {
-    let seen = observed(alloc, &track.ring, track.nominal, manner)?;
-    let stream = stream_of(alloc, &seen)?;
-    let dump = dump_of(alloc, track, &stream, decoded)?;
-    gives_dump(alloc, decode(dump.disk, &dump.input), &dump)?;
-    let dump = dump_of(alloc, track, &stream, rescued)?;
-    gives_dump(alloc, rescue(dump.disk, &dump.input), &dump)
-}
-
-/// `rescue` over the streams of a disk.
-fn rescue(disk: Disk, input: &[u8]) -> Run<'_> {
-    Run {
-        command: "rescue",
-        ..decode(disk, input)
+    for capture in captures {
+        comes_to(rt, alloc, track, capture)?;
     }
+    Ok(())
 }
 
-/// The run gives the dump's image and lines. Not all sectors of the disk are good.
-fn gives_dump(alloc: Global, run: Run, dump: &Dump) -> Result<(), Fail> {
+fn comes_to(rt: &impl Abort, alloc: Global, track: &Track, capture: &Capture) -> Result<(), Fail> {
+    let seen = observed(alloc, &track.ring, track.nominal, capture.manner)?;
+    let stream = stream_of(alloc, &seen)?;
+    let decoded = is_given(
+        alloc,
+        "decode",
+        &dump_of(alloc, track, &stream, capture.decoded)?,
+    );
+    decoded.expect(rt, capture.name);
+    let rescued = is_given(
+        alloc,
+        "rescue",
+        &dump_of(alloc, track, &stream, capture.rescued)?,
+    );
+    rescued.expect(rt, capture.name);
+    Ok(())
+}
+
+/// The command gives the dump's image and lines. Not all sectors of the disk are good.
+fn is_given(alloc: Global, command: &str, dump: &Dump) -> Result<usize, Mismatch> {
+    let run = Run {
+        command,
+        ..decode(dump.disk, &dump.input)
+    };
     let want = Want {
         code: 1,
         image: &dump.image,
         notes: &dump.lines,
     };
-    gives(alloc, run, want)?;
-    Ok(())
+    gives(alloc, run, want)
 }
 
 /// A dump that begins with this stream, whose lines are in these rows.
 fn dump_of(alloc: Global, track: &Track, stream: &[u8], rows: &[Row]) -> Result<Dump, Memory> {
     let mut dump = short_dump(alloc, track.disk)?;
+    dump.input = first_replaced(alloc, stream, &dump.input)?;
+    put_rows(alloc, &mut dump, track, rows)?;
+    Ok(dump)
+}
+
+/// The streams with another one in the place of the first, which is the shortest.
+fn first_replaced(alloc: Global, stream: &[u8], streams: &[u8]) -> Result<Vec<u8>, Memory> {
     let mut input = stream.to_vec(alloc)?;
-    input.extend_from_slice(dump.input.get(SHORT.len()..).unwrap_or(&[]))?;
-    dump.input = input;
+    input.extend_from_slice(streams.get(SHORT.len()..).unwrap_or(&[]))?;
+    Ok(input)
+}
+
+/// Puts the lines, the bytes of good sectors, and the total.
+fn put_rows(alloc: Global, dump: &mut Dump, track: &Track, rows: &[Row]) -> Result<(), Memory> {
     let mut sector = 0usize;
     for row in rows {
-        let (sectors, text, _, _) = *row;
-        for number in 0..sectors {
-            put_line(alloc, &mut dump, sector, *row, number)?;
-            if text.starts_with("good ") {
-                put_bytes(&mut dump, track, sector);
-            }
-            sector = sector.saturating_add(1);
+        put_row(alloc, dump, track, sector, *row)?;
+        sector = sector.saturating_add(usize::from(row.0));
+    }
+    put_total(alloc, dump, rows)
+}
+
+/// Puts a row's sectors from this one on.
+fn put_row(
+    alloc: Global,
+    dump: &mut Dump,
+    track: &Track,
+    first: usize,
+    row: Row,
+) -> Result<(), Memory> {
+    let (sectors, text, _, _) = row;
+    for number in 0..sectors {
+        let sector = first.saturating_add(usize::from(number));
+        put_line(alloc, dump, sector, row, number)?;
+        if text.starts_with("good ") {
+            put_bytes(dump, track, sector);
         }
     }
-    put_total(alloc, &mut dump, rows)?;
-    Ok(dump)
+    Ok(())
 }
 
 /// Puts a row's line with a number, from 0, in the place of that of a sector of the first track.
