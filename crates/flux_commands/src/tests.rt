@@ -1,47 +1,31 @@
 //! The program's rows, through `run` over objects in memory.
+mod input;
 mod objects;
 mod streams;
 mod system;
 mod words;
 
-use flux_base::{MemorySink, MemorySource, Status, Word};
+use flux_base::{Memory, MemorySink, MemorySource, Status, Word};
 use flux_cli::run;
+use input::{Part, joined};
 use std::alloc::{AllocError, Global};
 use std::process::Abort;
-use std::test::Fail;
 use track_shelf::MemoryShelf;
 
-const END: [u8; 4] = [0x0D; 4];
-
-/// Two transitions, and two Index blocks around them.
-const TWO_TRANSITIONS: [u8; 50] = [
-    0x0D, 2, 12, 0, 0, 0, 0, 0, 0, 0, 0, 0, 0, 0, 0, 0, 0x60, 0x60, 0x0D, 2, 12, 0, 2, 0, 0, 0, 5,
-    0, 0, 0, 24, 0, 0, 0, 0x0D, 3, 8, 0, 2, 0, 0, 0, 0, 0, 0, 0, 0x0D, 0x0D, 0x0D, 0x0D,
-];
-
-/// What a run answered and wrote.
-#[derive(Drop)]
-struct Ended {
+/// A run, and what it comes to.
+#[derive(Clone, Copy)]
+struct Row {
+    name: &'static str,
+    words: &'static [&'static str],
+    input: &'static [Part],
+    /// The most bytes that a read gives.
+    chunk: u32,
+    failing: Failing,
     status: Status,
-    source: MemorySource,
-    image: MemorySink,
-    notes: MemorySink,
-}
-
-fn joined(alloc: Global, parts: &[&[u8]]) -> Result<Vec<u8>, AllocError> {
-    let mut bytes = Vec::new(alloc);
-    for part in parts {
-        bytes.extend_from_slice(part)?;
-    }
-    Ok(bytes)
-}
-
-fn words_of(alloc: Global, texts: &[&str]) -> Result<Vec<Word>, AllocError> {
-    let mut words = Vec::new(alloc);
-    for text in texts {
-        words.push(Word::new(text.to_string(alloc)?))?;
-    }
-    Ok(words)
+    image: &'static str,
+    notes: &'static str,
+    /// How often the run calls the source and both sinks, where it is told.
+    calls: Option<(u64, u64, u64)>,
 }
 
 /// The number of the call of each object that fails, if one does.
@@ -58,6 +42,45 @@ const NONE: Failing = Failing {
     notes: None,
 };
 
+/// The turn of a stream of 50 bytes, in reads of at most seven.
+const TURNS: Row = Row {
+    name: "turns",
+    words: &["turns"],
+    input: &[Part::TwoTransitions],
+    chunk: 7,
+    failing: NONE,
+    status: Status::AllGood,
+    image: "transitions 2\nturn 1 197\n",
+    notes: "",
+    calls: Some((8, 2, 0)),
+};
+
+/// What a run answered and wrote.
+#[derive(Drop)]
+struct Ended {
+    status: Status,
+    source: MemorySource,
+    image: MemorySink,
+    notes: MemorySink,
+}
+
+fn words_of(alloc: Global, texts: &[&str]) -> Result<Vec<Word>, AllocError> {
+    let mut words = Vec::new(alloc);
+    for text in texts {
+        words.push(Word::new(text.to_string(alloc)?))?;
+    }
+    Ok(words)
+}
+
+fn source_of(alloc: Global, row: &Row, input: &[u8]) -> Result<MemorySource, AllocError> {
+    let failing = listed(alloc, row.failing.source)?;
+    Ok(MemorySource::new(input.to_vec(alloc)?, row.chunk.max(1), failing))
+}
+
+fn sink_of(alloc: Global, failing: Option<u64>) -> Result<MemorySink, Memory> {
+    MemorySink::new(alloc, 4096, listed(alloc, failing)?)
+}
+
 fn listed(alloc: Global, call: Option<u64>) -> Result<Vec<u64>, AllocError> {
     let mut calls = Vec::new(alloc);
     if let Some(number) = call {
@@ -66,17 +89,17 @@ fn listed(alloc: Global, call: Option<u64>) -> Result<Vec<u64>, AllocError> {
     Ok(calls)
 }
 
-fn run_over(
-    alloc: Global,
-    texts: &[&str],
-    input: Vec<u8>,
-    chunk: u32,
-    failing: Failing,
-) -> Result<Ended, Fail> {
-    let mut source = MemorySource::new(input, chunk.max(1), listed(alloc, failing.source)?);
-    let mut image = MemorySink::new(alloc, 4096, listed(alloc, failing.image)?)?;
-    let mut notes = MemorySink::new(alloc, 4096, listed(alloc, failing.notes)?)?;
-    let words = words_of(alloc, texts)?;
+fn run_of(alloc: Global, row: &Row) -> Result<Ended, Memory> {
+    let input = joined(alloc, row.input)?;
+    run_over(alloc, row, &input)
+}
+
+/// The row's run over these bytes.
+fn run_over(alloc: Global, row: &Row, input: &[u8]) -> Result<Ended, Memory> {
+    let words = words_of(alloc, row.words)?;
+    let mut source = source_of(alloc, row, input)?;
+    let mut image = sink_of(alloc, row.failing.image)?;
+    let mut notes = sink_of(alloc, row.failing.notes)?;
     let mut shelf = MemoryShelf::new(Vec::new(alloc), 1, Vec::new(alloc));
     let status = run(
         alloc,
@@ -94,19 +117,34 @@ fn run_over(
     })
 }
 
+/// The row's run comes to what the row says.
+fn comes_true(rt: &impl Abort, alloc: Global, row: &Row) -> Result<(), Memory> {
+    let end = run_of(alloc, row)?;
+    ended_so(rt, &end, row);
+    Ok(())
+}
+
 // What a run is compared with stands in functions of its own over a reference, since each comparison in a test is one more
 // way out of it, on which all its values are let go.
 
-/// Compares the answer of a run, and what its sinks hold.
-fn ended_so(rt: &impl Abort, end: &Ended, status: Status, image: &[u8], notes: &[u8]) {
-    assert_eq!(rt; end.status, status);
-    assert_eq!(rt; end.image.bytes(), image);
-    assert_eq!(rt; end.notes.bytes(), notes);
+fn ended_so(rt: &impl Abort, end: &Ended, row: &Row) {
+    let (name, words) = (row.name, row.words);
+    assert_eq!(rt; end.status, row.status, "{name}: {words:?}");
+    assert_eq!(rt;
+        end.image.bytes(),
+        row.image.as_bytes(),
+        "{name}: {words:?}"
+    );
+    assert_eq!(rt;
+        end.notes.bytes(),
+        row.notes.as_bytes(),
+        "{name}: {words:?}"
+    );
+    if let Some(calls) = row.calls {
+        assert_eq!(rt; calls_of(end), calls, "{name}: {words:?}");
+    }
 }
 
-/// Compares how often a run called the source and both sinks.
-fn called(rt: &impl Abort, end: &Ended, reads: u64, images: u64, notes: u64) {
-    assert_eq!(rt; end.source.calls(), reads);
-    assert_eq!(rt; end.image.calls(), images);
-    assert_eq!(rt; end.notes.calls(), notes);
+fn calls_of(end: &Ended) -> (u64, u64, u64) {
+    (end.source.calls(), end.image.calls(), end.notes.calls())
 }

@@ -1,212 +1,254 @@
 //! Streams through `turns`: what is refused, with its block, and the positions of Index blocks.
-use super::{END, Ended, NONE, TWO_TRANSITIONS, called, ended_so, joined, run_over};
+use super::input::Part::{Bytes, End, Index, Overflows, StreamEnd, Texts, TwoTransitions};
+use super::input::TWO_TRANSITIONS;
+use super::{Row, TURNS, comes_true, ended_so, run_over};
 use flux_base::Status;
-use std::alloc::Global;
-use std::process::Abort;
 use std::test::Fail;
 
-/// An Index block.
-fn index(position: u32, sample: u32, counter: u32) -> [u8; 16] {
-    let p = position.to_le_bytes();
-    let s = sample.to_le_bytes();
-    let c = counter.to_le_bytes();
-    [
-        0x0D, 2, 12, 0, p[0], p[1], p[2], p[3], s[0], s[1], s[2], s[3], c[0], c[1], c[2], c[3],
-    ]
-}
-
-/// A StreamEnd block without an error.
-fn stream_end(position: u32) -> [u8; 12] {
-    let p = position.to_le_bytes();
-    [0x0D, 3, 8, 0, p[0], p[1], p[2], p[3], 0, 0, 0, 0]
-}
-
-fn turns(alloc: Global, input: Vec<u8>, chunk: u32) -> Result<Ended, Fail> {
-    run_over(alloc, &["turns"], input, chunk, NONE)
-}
-
 // The stream's 50 bytes are read once each: after its End the source is not asked again.
+const IN_PIECES: &[Row] = &[
+    Row {
+        chunk: 1,
+        calls: Some((50, 2, 0)),
+        ..TURNS
+    },
+    Row {
+        chunk: 2,
+        calls: Some((25, 2, 0)),
+        ..TURNS
+    },
+    Row {
+        chunk: 3,
+        calls: Some((17, 2, 0)),
+        ..TURNS
+    },
+    TURNS,
+    Row {
+        chunk: 4096,
+        calls: Some((1, 2, 0)),
+        ..TURNS
+    },
+];
+
+const GOOD: Row = Row {
+    chunk: 4096,
+    calls: None,
+    ..TURNS
+};
+
+const REFUSED: Row = Row {
+    status: Status::Refused,
+    image: "",
+    ..GOOD
+};
+
+const TRUNCATED: Row = Row {
+    name: "truncated",
+    notes: "refused track 0 block 0 Truncated\n",
+    ..REFUSED
+};
+
+const WRONG_BLOCKS: &[Row] = &[
+    Row {
+        input: &[],
+        ..TRUNCATED
+    },
+    Row {
+        input: &[Bytes(&[0x0C, 1])],
+        ..TRUNCATED
+    },
+    Row {
+        input: &[Bytes(&[0x0D, 5, 0])],
+        ..TRUNCATED
+    },
+    Row {
+        input: &[Bytes(&[0x0D, 4, 0xFF, 0xFF])],
+        ..TRUNCATED
+    },
+    Row {
+        name: "unknown type",
+        input: &[Bytes(&[0x0D, 5, 0, 0])],
+        notes: "refused track 0 block 0 UnknownType 5\n",
+        ..REFUSED
+    },
+    Row {
+        name: "an Index block of eleven bytes",
+        input: &[Bytes(&[0x0D, 2, 11, 0])],
+        notes: "refused track 0 block 0 BadSize 11\n",
+        ..REFUSED
+    },
+    Row {
+        name: "a wrong End",
+        input: &[Bytes(&[0x0D, 0x0D, 0x0D, 0x0C])],
+        notes: "refused track 0 block 0 BadSize 3085\n",
+        ..REFUSED
+    },
+    Row {
+        name: "a StreamInfo block's position is not that of the stream",
+        input: &[
+            Bytes(&[0x60, 0x60, 0x0D, 1, 8, 0, 1, 0, 0, 0, 0, 0, 0, 0]),
+            End,
+        ],
+        notes: "refused track 0 block 2 WrongPosition 1 2\n",
+        ..REFUSED
+    },
+    Row {
+        name: "the device failed",
+        input: &[
+            Bytes(&[0x60, 0x60, 0x0D, 3, 8, 0, 2, 0, 0, 0, 2, 0, 0, 0]),
+            End,
+        ],
+        notes: "refused track 0 block 2 DeviceFault 2\n",
+        ..REFUSED
+    },
+    Row {
+        name: "flux after a StreamEnd block",
+        input: &[Bytes(&[0x60, 0x60]), StreamEnd(2), Bytes(&[0x60]), End],
+        notes: "refused track 0 block 3 DataAfterEnd\n",
+        ..REFUSED
+    },
+    Row {
+        name: "no Index block",
+        input: &[End],
+        notes: "refused track 0 block 0 NoTurn\n",
+        ..REFUSED
+    },
+    Row {
+        name: "one Index block",
+        input: &[Index(0, 0), End],
+        notes: "refused track 0 block 1 NoTurn\n",
+        ..REFUSED
+    },
+    Row {
+        name: "an Index block's position is behind all bytes",
+        input: &[
+            Index(0, 0),
+            Bytes(&[0x0B, 0x0B, 0x0B, 0x0E]),
+            Index(2, 100),
+            Index(5, 0),
+            End,
+        ],
+        notes: "refused track 0 block 6 IndexPosition\n",
+        ..REFUSED
+    },
+    Row {
+        name: "an index time is before the one before",
+        input: &[Index(0, 7), Bytes(&[0x60]), Index(0, 7), End],
+        notes: "refused track 0 block 2 IndexOrder\n",
+        ..REFUSED
+    },
+];
+
+const POSITIONS: &[Row] = &[
+    Row {
+        name: "Index blocks inside a run of overflows, at a block's begin, and at the end of all in-stream bytes",
+        input: &[
+            Index(0, 0),
+            Bytes(&[0x0B, 0x0B, 0x0B, 0x0E]),
+            Index(2, 100),
+            Index(4, 0),
+            End,
+        ],
+        image: "transitions 1\nturn 1 131172\nturn 2 65450\n",
+        ..GOOD
+    },
+    // Byte 1 lies inside the first block of two bytes, which begins at time 0; byte 2 begins the next block.
+    Row {
+        name: "an Index block inside a block",
+        input: &[
+            Bytes(&[1, 0, 2, 0]),
+            Index(1, 3),
+            Index(2, 0),
+            Index(4, 0),
+            End,
+        ],
+        chunk: 1,
+        image: "transitions 2\nturn 1 253\nturn 2 512\n",
+        ..GOOD
+    },
+];
+
+const LONG: &[Row] = &[
+    Row {
+        name: "overflows without end",
+        input: &[Overflows(4194304)],
+        notes: "refused track 0 block 4194304 TooLong\n",
+        ..REFUSED
+    },
+    Row {
+        name: "the longest stream",
+        input: &[
+            Index(0, 0),
+            Overflows(4194267),
+            Bytes(&[0x0E]),
+            Index(4194268, 0),
+            End,
+        ],
+        image: "transitions 1\nturn 1 274875482126\n",
+        ..GOOD
+    },
+    Row {
+        name: "one overflow more than the longest stream",
+        input: &[
+            Index(0, 0),
+            Overflows(4194268),
+            Bytes(&[0x0E]),
+            Index(4194269, 0),
+            End,
+        ],
+        notes: "refused track 0 block 4194271 TooLong\n",
+        ..REFUSED
+    },
+    Row {
+        name: "texts without end",
+        input: &[Texts(64)],
+        notes: "refused track 0 block 63 TooLong\n",
+        ..REFUSED
+    },
+    Row {
+        name: "a text longer than an intake",
+        input: &[Texts(1), TwoTransitions],
+        chunk: 1000,
+        ..GOOD
+    },
+];
+
 #[test]
-fn turns_of_a_stream(rt: HostRuntime) -> Result<(), Fail> {
-    let lines = b"transitions 2\nturn 1 197\n";
-    for (chunk, reads) in [(1, 50), (2, 25), (3, 17), (7, 8), (4096, 1)] {
-        let end = turns(rt.alloc(), TWO_TRANSITIONS.to_vec(rt.alloc())?, chunk)?;
-        ended_so(&rt, &end, Status::AllGood, lines, b"");
-        called(&rt, &end, reads, 2, 0);
-    }
-    Ok(())
-}
-
-/// The one line that a refused stream of these parts leaves.
-fn refuses(rt: &impl Abort, alloc: Global, parts: &[&[u8]], line: &str) -> Result<(), Fail> {
-    let end = turns(alloc, joined(alloc, parts)?, 4096)?;
-    ended_so(rt, &end, Status::Refused, b"", line.as_bytes());
-    Ok(())
-}
-
-#[test]
-fn streams_with_a_wrong_block(rt: HostRuntime) -> Result<(), Fail> {
-    let wrong: [(&[u8], &str); 7] = [
-        (&[], "Truncated"),
-        (&[0x0C, 1], "Truncated"),
-        (&[0x0D, 5, 0], "Truncated"),
-        (&[0x0D, 4, 0xFF, 0xFF], "Truncated"),
-        (&[0x0D, 5, 0, 0], "UnknownType 5"),
-        (&[0x0D, 2, 11, 0], "BadSize 11"),
-        (&[0x0D, 0x0D, 0x0D, 0x0C], "BadSize 3085"),
-    ];
-    for (block, fault) in wrong {
-        let line = format!(in rt.alloc(); "refused track 0 block 0 {fault}\n")?;
-        refuses(&rt, rt.alloc(), &[block], &line)?;
-    }
-    Ok(())
-}
-
-#[test]
-fn streams_that_the_device_ended(rt: HostRuntime) -> Result<(), Fail> {
-    let said: [u8; 14] = [0x60, 0x60, 0x0D, 1, 8, 0, 1, 0, 0, 0, 0, 0, 0, 0];
-    let position = "refused track 0 block 2 WrongPosition 1 2\n";
-    refuses(&rt, rt.alloc(), &[&said, &END], position)?;
-    let failed: [u8; 14] = [0x60, 0x60, 0x0D, 3, 8, 0, 2, 0, 0, 0, 2, 0, 0, 0];
-    let device = "refused track 0 block 2 DeviceFault 2\n";
-    refuses(&rt, rt.alloc(), &[&failed, &END], device)?;
-    let after = "refused track 0 block 3 DataAfterEnd\n";
-    let parts: [&[u8]; 4] = [&[0x60, 0x60], &stream_end(2), &[0x60], &END];
-    refuses(&rt, rt.alloc(), &parts, after)
-}
-
-#[test]
-fn streams_without_turns(rt: HostRuntime) -> Result<(), Fail> {
-    let no_turn = "refused track 0 block 0 NoTurn\n";
-    refuses(&rt, rt.alloc(), &[&END], no_turn)?;
-    let one = "refused track 0 block 1 NoTurn\n";
-    refuses(&rt, rt.alloc(), &[&index(0, 0, 0), &END], one)
-}
-
-#[test]
-fn indexes_in_wrong_places(rt: HostRuntime) -> Result<(), Fail> {
-    let overflows = [0x0B, 0x0B, 0x0B, 0x0E];
-    let parts: [&[u8]; 5] = [
-        &index(0, 0, 0),
-        &overflows,
-        &index(2, 100, 0),
-        &index(5, 0, 0),
-        &END,
-    ];
-    let position = "refused track 0 block 6 IndexPosition\n";
-    refuses(&rt, rt.alloc(), &parts, position)?;
-    let late = index(0, 7, 0);
-    let order = "refused track 0 block 2 IndexOrder\n";
-    refuses(&rt, rt.alloc(), &[&late, &[0x60], &late, &END], order)
-}
-
-/// The lines of a stream of these parts, which is read in chunks.
-fn gives(
-    rt: &impl Abort,
-    alloc: Global,
-    parts: &[&[u8]],
-    chunk: u32,
-    lines: &str,
-) -> Result<(), Fail> {
-    let end = turns(alloc, joined(alloc, parts)?, chunk)?;
-    ended_so(rt, &end, Status::AllGood, lines.as_bytes(), b"");
-    Ok(())
-}
-
-// Positions of Index blocks inside a run of overflows, at a block's begin, and at the end of all in-stream bytes.
-#[test]
-fn positions_of_indexes(rt: HostRuntime) -> Result<(), Fail> {
-    let blocks = [0x0B, 0x0B, 0x0B, 0x0E];
-    let parts: [&[u8]; 5] = [
-        &index(0, 0, 0),
-        &blocks,
-        &index(2, 100, 0),
-        &index(4, 0, 0),
-        &END,
-    ];
-    let lines = "transitions 1\nturn 1 131172\nturn 2 65450\n";
-    gives(&rt, rt.alloc(), &parts, 4096, lines)
-}
-
-// Byte 1 lies inside the first block of two bytes, which begins at time 0; byte 2 begins the next block.
-#[test]
-fn positions_inside_a_block(rt: HostRuntime) -> Result<(), Fail> {
-    let parts: [&[u8]; 5] = [
-        &[1, 0, 2, 0],
-        &index(1, 3, 0),
-        &index(2, 0, 0),
-        &index(4, 0, 0),
-        &END,
-    ];
-    let lines = "transitions 2\nturn 1 253\nturn 2 512\n";
-    gives(&rt, rt.alloc(), &parts, 1, lines)
-}
-
-// The first bytes of a stream, as many as there are of it: which block is cut short.
-#[test]
-fn streams_cut_short(rt: HostRuntime) -> Result<(), Fail> {
-    let lines = [
-        (0, 16, "refused track 0 block 0 Truncated\n"),
-        (16, 17, "refused track 0 block 1 Truncated\n"),
-        (17, 18, "refused track 0 block 2 Truncated\n"),
-        (18, 34, "refused track 0 block 3 Truncated\n"),
-        (34, 46, "refused track 0 block 4 Truncated\n"),
-        (46, 50, "refused track 0 block 5 Truncated\n"),
-    ];
-    for (from, to, line) in lines {
-        for length in from..to {
-            let bytes: &[u8] = TWO_TRANSITIONS.get(..length).unwrap_or(&[]);
-            refuses(&rt, rt.alloc(), &[bytes], line)?;
+fn streams_in_pieces_and_with_wrong_blocks(rt: HostRuntime) -> Result<(), Fail> {
+    for rows in [IN_PIECES, WRONG_BLOCKS, POSITIONS] {
+        for row in rows {
+            comes_true(&rt, rt.alloc(), row)?;
         }
     }
     Ok(())
 }
 
 #[test]
-fn overflows_without_end(rt: HostRuntime) -> Result<(), Fail> {
-    let overflows: Vec<u8> = vec![in rt.alloc(); 0x0B; 4194304]?;
-    let line = "refused track 0 block 4194304 TooLong\n";
-    refuses(&rt, rt.alloc(), &[&overflows], line)
-}
-
-/// A stream with so many overflows before its one transition.
-fn with_overflows(alloc: Global, overflows: u32) -> Result<Vec<u8>, Fail> {
-    let run: Vec<u8> = vec![in alloc; 0x0B; overflows as usize]?;
-    let second = index(overflows.saturating_add(1), 0, 0);
-    Ok(joined(alloc, &[&index(0, 0, 0), &run, &[0x0E], &second, &END])?)
-}
-
-#[test]
-fn the_longest_streams(rt: HostRuntime) -> Result<(), Fail> {
-    let longest = with_overflows(rt.alloc(), 4194267)?;
-    let lines = "transitions 1\nturn 1 274875482126\n";
-    gives(&rt, rt.alloc(), &[&longest], 4096, lines)?;
-    let longer = with_overflows(rt.alloc(), 4194268)?;
-    let line = "refused track 0 block 4194271 TooLong\n";
-    refuses(&rt, rt.alloc(), &[&longer], line)
-}
-
-/// So many Info blocks of the longest text.
-fn texts(alloc: Global, count: u8) -> Result<Vec<u8>, Fail> {
-    let text: Vec<u8> = vec![in alloc; 0x20; 65535]?;
-    let mut many = Vec::new(alloc);
-    for _ in 0..count {
-        many.extend_from_slice(&[0x0D, 4, 0xFF, 0xFF])?;
-        many.extend_from_slice(&text)?;
+fn long_streams(rt: HostRuntime) -> Result<(), Fail> {
+    for row in LONG {
+        comes_true(&rt, rt.alloc(), row)?;
     }
-    Ok(many)
+    Ok(())
 }
 
+// The first bytes of a stream, as many as there are of it: which block is cut short.
+const CUTS: [(usize, usize, &str); 6] = [
+    (0, 16, "refused track 0 block 0 Truncated\n"),
+    (16, 17, "refused track 0 block 1 Truncated\n"),
+    (17, 18, "refused track 0 block 2 Truncated\n"),
+    (18, 34, "refused track 0 block 3 Truncated\n"),
+    (34, 46, "refused track 0 block 4 Truncated\n"),
+    (46, 50, "refused track 0 block 5 Truncated\n"),
+];
+
 #[test]
-fn texts_longer_than_an_intake(rt: HostRuntime) -> Result<(), Fail> {
-    let many = texts(rt.alloc(), 64)?;
-    refuses(
-        &rt,
-        rt.alloc(),
-        &[&many],
-        "refused track 0 block 63 TooLong\n",
-    )?;
-    let one = texts(rt.alloc(), 1)?;
-    let lines = "transitions 2\nturn 1 197\n";
-    gives(&rt, rt.alloc(), &[&one, &TWO_TRANSITIONS], 1000, lines)
+fn streams_cut_short(rt: HostRuntime) -> Result<(), Fail> {
+    for (from, to, notes) in CUTS {
+        let row = Row { notes, ..TRUNCATED };
+        for length in from..to {
+            let bytes = TWO_TRANSITIONS.get(..length).unwrap_or(&[]);
+            ended_so(&rt, &run_over(rt.alloc(), &row, bytes)?, &row);
+        }
+    }
+    Ok(())
 }
