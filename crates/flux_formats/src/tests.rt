@@ -1,4 +1,5 @@
-mod amiga;
-mod apple;
-mod commodore;
-mod pc;
+//! Whole disks.
+mod disks;
+mod padding;
+mod readings;
+mod rings;

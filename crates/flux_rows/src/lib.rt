@@ -1,7 +1,7 @@
 //! What tests of whole runs are made of: the streams of disks, what they come to, put together line by line from the
 //! formats' numbers, and runs of the program over objects in memory, whose answers are compared with it.
 //!
-//! Tests alone call it, here and in the crates above, and its calls promise nothing but to be safe.
+//! Tests alone call it, in the crates above, and its calls promise nothing but to be safe.
 #![tactic(auto)]
 
 mod disk;
@@ -24,6 +24,3 @@ pub use runs::{
 pub use short_sink::ShortSink;
 pub use streams::{SHORT, content_of, ring_of, short_streams, three_rings, with_word};
 pub use text::{first_bytes, first_lines, first_lines_and, with_line};
-
-#[cfg(test)]
-mod tests;

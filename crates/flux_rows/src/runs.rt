@@ -199,12 +199,11 @@ fn excess(end: &Ended, whole: Want, code: u8) -> Option<RunPart> {
 
 /// What a run comes to.
 pub fn end_of(alloc: Global, row: Run) -> Result<Ended, Memory> {
-    let reads = listed(alloc, row.failing_read)?;
-    let mut source = MemorySource::new(row.input.to_vec(alloc)?, row.chunk.max(1), reads);
+    let words = words_of(alloc, row)?;
+    let mut source = source_of(alloc, row)?;
+    let mut shelf = shelf_of(alloc, row)?;
     let mut image = sink_of(alloc, row.failing_image, row.taken)?;
     let mut notes = sink_of(alloc, row.failing_notes, row.taken)?;
-    let words = words_of(alloc, row)?;
-    let mut shelf = shelf_of(alloc, row)?;
     let status = run(
         alloc,
         &words,
@@ -219,6 +218,12 @@ pub fn end_of(alloc: Global, row: Run) -> Result<Ended, Memory> {
         image,
         notes,
     })
+}
+
+fn source_of(alloc: Global, row: Run) -> Result<MemorySource, AllocError> {
+    let failing = listed(alloc, row.failing_read)?;
+    let input = row.input.to_vec(alloc)?;
+    Ok(MemorySource::new(input, row.chunk.max(1), failing))
 }
 
 fn sink_of(alloc: Global, failing: Option<usize>, chunk: usize) -> Result<ShortSink, Memory> {
@@ -241,13 +246,22 @@ fn files_of(alloc: Global, files: Files) -> Result<Vec<ShelfFile>, AllocError> {
     for cylinder in 0..files.disk.cylinders {
         for head in 0..files.disk.heads {
             let (bytes, behind) = rest.split_at(files.size.min(rest.len()));
-            let folder = files.folder.as_bytes().to_vec(alloc)?;
             let track = TrackId { cylinder, head };
-            made.push(ShelfFile::new(folder, track, bytes.to_vec(alloc)?))?;
+            made.push(file_of(alloc, files.folder, track, bytes)?)?;
             rest = behind;
         }
     }
     Ok(made)
+}
+
+fn file_of(
+    alloc: Global,
+    folder: &str,
+    track: TrackId,
+    bytes: &[u8],
+) -> Result<ShelfFile, AllocError> {
+    let folder = folder.as_bytes().to_vec(alloc)?;
+    Ok(ShelfFile::new(folder, track, bytes.to_vec(alloc)?))
 }
 
 fn listed(alloc: Global, call: Option<usize>) -> Result<Vec<u64>, AllocError> {
@@ -260,14 +274,17 @@ fn listed(alloc: Global, call: Option<usize>) -> Result<Vec<u64>, AllocError> {
 
 fn words_of(alloc: Global, row: Run) -> Result<Vec<Word>, AllocError> {
     let mut words = Vec::new(alloc);
-    words.push(Word::new(row.command.to_string(alloc)?))?;
-    if let Some(format) = row.format {
-        words.push(Word::new(format.to_string(alloc)?))?;
-    }
-    if let Some(third) = row.third {
-        words.push(Word::new(third.to_string(alloc)?))?;
+    for text in [Some(row.command), row.format, row.third] {
+        push_word(alloc, &mut words, text)?;
     }
     Ok(words)
+}
+
+fn push_word(alloc: Global, words: &mut Vec<Word>, text: Option<&str>) -> Result<(), AllocError> {
+    if let Some(text) = text {
+        words.push(Word::new(text.to_string(alloc)?))?;
+    }
+    Ok(())
 }
 
 /// `decode` gives the dump's image and lines with this exit code, and `report` the lines alone.

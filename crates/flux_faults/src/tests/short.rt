@@ -1,96 +1,66 @@
 //! Reads and writes of few bytes: each run gives what it gives in one read and whole pieces.
-use super::small::{NO_TRACKS, in_files, of_format, page, trial, two_tracks, two_tracks_twice};
-use flux_rows::{
-    APPLE_DO, C1541, IBM_3740, Run, SHORT, content_of, decode, decode_folder, decode_set, end_of,
-    gives, report, turns,
+use super::small::{
+    DECODE, DECODE_FOLDER, FROM_G64, OVER_STREAMS, SmallRun, TO_G64, TRIAL, WRITE,
+    WRITE_OF_A_SHORT_IMAGE,
 };
+use flux_rows::{Mismatch, Run, Want, gives};
 use std::alloc::Global;
+use std::process::Abort;
 use std::test::Fail;
 
 /// With reads and writes of at most one to eight bytes this run gives the same.
-fn gives_the_same(alloc: Global, run: Run) -> Result<(), Fail> {
-    let whole = end_of(alloc, run)?;
+fn gives_the_same(rt: &impl Abort, alloc: Global, small: &SmallRun) -> Result<(), Fail> {
+    let bytes = small.bytes(alloc)?;
+    let run = Run {
+        chunk: 4096,
+        ..small.run(&bytes)
+    };
+    let whole = small.whole(rt, alloc, run)?;
+    small.holds(rt, short_runs_give(alloc, run, whole.given()));
+    Ok(())
+}
+
+fn short_runs_give(alloc: Global, run: Run, want: Want) -> Result<(), Mismatch> {
     for bytes in 1..9u8 {
         let short = Run {
             chunk: u32::from(bytes),
             taken: usize::from(bytes),
             ..run
         };
-        gives(alloc, short, whole.given())?;
+        gives(alloc, short, want)?;
     }
     Ok(())
 }
 
 #[test]
-fn short_turns(rt: HostRuntime) -> Result<(), Fail> {
-    gives_the_same(rt.alloc(), turns(&SHORT))
+fn short_pieces_over_streams(rt: HostRuntime) -> Result<(), Fail> {
+    for small in OVER_STREAMS {
+        gives_the_same(&rt, rt.alloc(), small)?;
+    }
+    Ok(())
 }
 
 #[test]
-fn short_decode(rt: HostRuntime) -> Result<(), Fail> {
-    let input = two_tracks(rt.alloc())?;
-    gives_the_same(rt.alloc(), decode(IBM_3740, &input))
+fn short_pieces_of_write(rt: HostRuntime) -> Result<(), Fail> {
+    gives_the_same(&rt, rt.alloc(), &WRITE)?;
+    gives_the_same(&rt, rt.alloc(), &WRITE_OF_A_SHORT_IMAGE)
 }
 
 #[test]
-fn short_report(rt: HostRuntime) -> Result<(), Fail> {
-    let input = two_tracks(rt.alloc())?;
-    gives_the_same(rt.alloc(), report(IBM_3740, &input))
+fn short_pieces_of_trial(rt: HostRuntime) -> Result<(), Fail> {
+    gives_the_same(&rt, rt.alloc(), &TRIAL)
 }
 
 #[test]
-fn short_map(rt: HostRuntime) -> Result<(), Fail> {
-    let input = two_tracks(rt.alloc())?;
-    gives_the_same(rt.alloc(), of_format("map", IBM_3740, &input))
+fn short_pieces_of_g64_files(rt: HostRuntime) -> Result<(), Fail> {
+    gives_the_same(&rt, rt.alloc(), &TO_G64)?;
+    gives_the_same(&rt, rt.alloc(), &FROM_G64)
 }
 
 #[test]
-fn short_rescue(rt: HostRuntime) -> Result<(), Fail> {
-    let input = two_tracks(rt.alloc())?;
-    gives_the_same(rt.alloc(), of_format("rescue", IBM_3740, &input))
-}
-
-// The streams are more than a sink has room for, so that each run ends there.
-#[test]
-fn short_write(rt: HostRuntime) -> Result<(), Fail> {
-    let image = content_of(rt.alloc(), 143_360)?;
-    gives_the_same(rt.alloc(), of_format("write", APPLE_DO, &image))
-}
-
-#[test]
-fn short_trial(rt: HostRuntime) -> Result<(), Fail> {
-    gives_the_same(rt.alloc(), trial(APPLE_DO, "1"))
-}
-
-#[test]
-fn short_to_g64(rt: HostRuntime) -> Result<(), Fail> {
-    let image = content_of(rt.alloc(), 174_848)?;
-    gives_the_same(rt.alloc(), of_format("to-g64", C1541, &image))
-}
-
-#[test]
-fn short_from_g64(rt: HostRuntime) -> Result<(), Fail> {
-    gives_the_same(rt.alloc(), of_format("from-g64", C1541, &NO_TRACKS))
-}
-
-#[test]
-fn short_decode_set(rt: HostRuntime) -> Result<(), Fail> {
-    let input = two_tracks_twice(rt.alloc())?;
-    gives_the_same(rt.alloc(), decode_set(IBM_3740, "2", &input))
-}
-
-// What is given is what `decode` gives of the files joined.
-#[test]
-fn short_decode_folder(rt: HostRuntime) -> Result<(), Fail> {
-    let bytes = two_tracks(rt.alloc())?;
-    let run = decode_folder(in_files(&bytes));
-    let joined = end_of(rt.alloc(), decode(IBM_3740, &bytes))?;
-    gives(rt.alloc(), run, joined.given())?;
-    gives_the_same(rt.alloc(), run)
-}
-
-#[test]
-fn short_pages(rt: HostRuntime) -> Result<(), Fail> {
-    gives_the_same(rt.alloc(), page("help"))?;
-    gives_the_same(rt.alloc(), page("--version"))
+fn a_folder_gives_what_its_files_give_joined(rt: HostRuntime) -> Result<(), Fail> {
+    let bytes = DECODE.bytes(rt.alloc())?;
+    let joined = DECODE.whole(&rt, rt.alloc(), DECODE.run(&bytes))?;
+    gives(rt.alloc(), DECODE_FOLDER.run(&bytes), joined.given())?;
+    Ok(())
 }
