@@ -1,9 +1,11 @@
 //! Whether a capture keeps within the bounds of disturbance: the premise of what is promised of captures.
 use super::drive::{
-    Capture, FINE_PER_TICK, Manner, Transition, at_each_bound, captured, is_one, longest, steady,
+    Capture, FINE_PER_TICK, Manner, Transition, at_each_bound, captured, is_one, steady,
 };
 use super::tracks::single_density;
 use cell_bits::Cells;
+use std::alloc::Global;
+use std::process::Abort;
 use std::test::Fail;
 
 /// How many nominal cells lie at least between two pieces.
@@ -133,36 +135,66 @@ fn are_neighbours(ring: &Cells, from: u64, to: u64) -> bool {
         && (from.saturating_add(1)..to).all(|place| !is_one(ring, place))
 }
 
+/// The length of a cell, its drift and the displacement where a cell has 49208 fine units: the bounds are 55359, 3 and 6151, and
+/// each row goes beyond one of them, by a fine unit or by a tick.
+const BEYOND: [(u64, u64, u64); 3] = [
+    (55_359, 4, 6151),
+    (55_359, 3, 6151 + 1024),
+    (55_360, 0, 6151),
+];
+
 // One more than each bound allows is seen.
 #[test]
 fn the_bounds_are_looked_at(rt: HostRuntime) -> Result<(), Fail> {
     let alloc = rt.alloc();
-    let ring = single_density(&rt, alloc)?.ring;
-    let within = at_each_bound(49208);
-    let capture = captured(alloc, &ring, within)?;
-    assert!(rt; is_capture(&ring, 49208, &capture));
-    for beyond in [
-        Manner { drift: 4, ..within },
-        Manner {
-            displacement: 6151 + 1024,
-            ..within
-        },
-        Manner {
-            period: longest(49208).saturating_add(1),
-            drift: 0,
-            ..within
-        },
-    ] {
-        assert!(rt; !is_erased_capture(&ring, 49208, &captured(alloc, &ring, beyond)?));
+    let track = single_density(&rt, alloc)?;
+    is_within(&rt, alloc, &track.ring)?;
+    for (period, drift, displacement) in BEYOND {
+        let manner = Manner {
+            period,
+            drift,
+            displacement,
+            ..steady(49208)
+        };
+        is_beyond(&rt, alloc, &track.ring, manner)?;
     }
+    Ok(())
+}
 
-    // The first turn has 70,000 ticks more, which is 860 fine units a cell.
-    let mut capture = captured(alloc, &ring, steady(49208))?;
-    assert!(rt; is_capture(&ring, 49208, &capture));
+fn is_within(rt: &impl Abort, alloc: Global, ring: &Cells) -> Result<(), Fail> {
+    let capture = captured(alloc, ring, at_each_bound(49208))?;
+    assert!(rt; is_capture(ring, 49208, &capture));
+    Ok(())
+}
+
+/// The capture of a ring that is turned over so is none within the bounds, with erased stretches or without.
+fn is_beyond(rt: &impl Abort, alloc: Global, ring: &Cells, manner: Manner) -> Result<(), Fail> {
+    let capture = captured(alloc, ring, manner)?;
+    let Manner { period, drift, .. } = manner;
+    assert!(rt;
+        !is_erased_capture(ring, 49208, &capture),
+        "period {period}, drift {drift}"
+    );
+    Ok(())
+}
+
+/// An undisturbed capture.
+fn undisturbed(rt: &impl Abort, alloc: Global, ring: &Cells) -> Result<Capture, Fail> {
+    let capture = captured(alloc, ring, steady(49208))?;
+    assert!(rt; is_capture(ring, 49208, &capture));
+    Ok(capture)
+}
+
+// The first turn has 70,000 ticks more, which is 860 fine units a cell.
+#[test]
+fn the_first_turn_is_looked_at(rt: HostRuntime) -> Result<(), Fail> {
+    let alloc = rt.alloc();
+    let track = single_density(&rt, alloc)?;
+    let mut capture = undisturbed(&rt, alloc, &track.ring)?;
     if let Some(second) = capture.indexes.get_mut(1) {
         *second = second.saturating_add(70_000);
     }
-    assert!(rt; !is_erased_capture(&ring, 49208, &capture));
+    assert!(rt; !is_erased_capture(&track.ring, 49208, &capture));
     Ok(())
 }
 
@@ -170,11 +202,10 @@ fn the_bounds_are_looked_at(rt: HostRuntime) -> Result<(), Fail> {
 #[test]
 fn two_turns_are_asked_for(rt: HostRuntime) -> Result<(), Fail> {
     let alloc = rt.alloc();
-    let ring = single_density(&rt, alloc)?.ring;
-    let mut capture = captured(alloc, &ring, steady(49208))?;
-    assert!(rt; is_capture(&ring, 49208, &capture));
+    let track = single_density(&rt, alloc)?;
+    let mut capture = undisturbed(&rt, alloc, &track.ring)?;
     capture.transitions.truncate(1000);
-    assert!(rt; !is_capture(&ring, 49208, &capture));
-    assert!(rt; is_erased_capture(&ring, 49208, &capture));
+    assert!(rt; !is_capture(&track.ring, 49208, &capture));
+    assert!(rt; is_erased_capture(&track.ring, 49208, &capture));
     Ok(())
 }

@@ -44,12 +44,12 @@ pub fn at_each_bound(nominal: u64) -> Manner<'static> {
 }
 
 /// The longest length of a cell: nine eighths of the nominal cell.
-pub fn longest(nominal: u64) -> u64 {
+fn longest(nominal: u64) -> u64 {
     nominal.saturating_mul(9) / 8
 }
 
 /// The shortest one: seven eighths of it.
-pub fn shortest(nominal: u64) -> u64 {
+fn shortest(nominal: u64) -> u64 {
     nominal.saturating_mul(7).saturating_add(7) / 8
 }
 

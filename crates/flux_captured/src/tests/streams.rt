@@ -3,6 +3,7 @@ ghost use Rattle.std.specs.Prelude.{◌≡◌, ◌≤◌, ◌<◌, ◌^◌, [], 
 ghost use Rattle.flux_writer.specs.Reading.{EndsWithTransition};
 
 use super::drive::{Capture, Transition};
+use super::tracks::Track;
 use flux_base::{Memory, MemorySink, MemorySource};
 use flux_engine::{DiskRoom, decode_track};
 use flux_rows::first_lines;
@@ -72,50 +73,85 @@ fn ends_with_transition(flux: &TrackFlux) -> bool
     indexes[indexes.len() - 1] < times[times.len() - 1]
 }
 
+/// Whether no time of a capture was changed.
+fn are_times_of(flux: &TrackFlux, capture: &Capture) -> bool {
+    let times = flux.times();
+    flux.indexes() == capture.indexes.as_slice()
+        && times.len() == capture.transitions.len()
+        && times
+            .iter()
+            .zip(&capture.transitions)
+            .all(|(time, transition)| *time == transition.time)
+}
+
 /// The stream of a capture, all of whose times are written as they are.
 pub fn written(rt: &impl Abort, alloc: Global, capture: &Capture) -> Result<MemorySink, Fail> {
+    let mut sink = MemorySink::new(alloc, ROOM, Vec::new(alloc))?;
+    write(rt, alloc, capture, &mut sink)?;
+    Ok(sink)
+}
+
+fn write(
+    rt: &impl Abort,
+    alloc: Global,
+    capture: &Capture,
+    sink: &mut MemorySink,
+) -> Result<(), Fail> {
     let mut flux = TrackFlux::new(alloc);
     push_times(&mut flux, &capture.transitions)?;
     push_indexes(&mut flux, &capture.indexes)?;
+    assert!(rt; are_times_of(&flux, capture));
     assert!(rt; ends_with_transition(&flux));
     assert!(rt; flux.times().len().saturating_add(flux.indexes().len()) <= 1_048_576);
-    assert!(rt; flux.indexes() == capture.indexes.as_slice());
-    assert_eq!(rt; flux.times().len(), capture.transitions.len());
-    for (time, transition) in flux.times().iter().zip(&capture.transitions) {
-        assert_eq!(rt; *time, transition.time);
-    }
-    let mut sink = MemorySink::new(alloc, ROOM, Vec::new(alloc))?;
-    assert!(rt; write_times(&flux, &mut sink).is_ok());
-    Ok(sink)
+    assert!(rt; write_times(&flux, sink).is_ok());
+    Ok(())
 }
 
 /// What the first track of a disk came to.
 #[derive(Drop)]
 pub struct Decoded {
-    pub image: MemorySink,
-    pub notes: MemorySink,
+    image: MemorySink,
+    notes: MemorySink,
     /// How many bytes a sector has.
     size: usize,
 }
 
-/// Decodes a stream as the first track of a disk whose sectors have so many bytes.
+/// Decodes the capture of a track as the first of its disk.
 pub fn decode_first(
     rt: &impl Abort,
     alloc: Global,
-    format: Format,
-    size: usize,
-    stream: &MemorySink,
+    track: &Track,
+    capture: &Capture,
 ) -> Result<Decoded, Fail> {
-    assert!(rt; track_count(format) > 0);
-    let mut source = MemorySource::new(stream.bytes().to_vec(alloc)?, 4096, Vec::new(alloc));
-    let mut image = MemorySink::new(alloc, ROOM, Vec::new(alloc))?;
-    let mut notes = MemorySink::new(alloc, ROOM, Vec::new(alloc))?;
-    let mut room = DiskRoom::reserve(alloc, format)?;
-    assert!(rt; decode_track(&mut room, 0, &mut source, &mut image, &mut notes).is_ok());
+    let stream = written(rt, alloc, capture)?;
+    let mut decoded = nothing(alloc, track.size)?;
+    decoded.take(rt, alloc, track.format, stream.bytes())?;
+    Ok(decoded)
+}
+
+fn nothing(alloc: Global, size: usize) -> Result<Decoded, Memory> {
+    let image = MemorySink::new(alloc, ROOM, Vec::new(alloc))?;
+    let notes = MemorySink::new(alloc, ROOM, Vec::new(alloc))?;
     Ok(Decoded { image, notes, size })
 }
 
 impl Decoded {
+    /// Decodes the stream of a format's first track.
+    fn take(
+        &mut self,
+        rt: &impl Abort,
+        alloc: Global,
+        format: Format,
+        stream: &[u8],
+    ) -> Result<(), Fail> {
+        assert!(rt; track_count(format) > 0);
+        let mut room = DiskRoom::reserve(alloc, format)?;
+        let mut source = MemorySource::new(stream.to_vec(alloc)?, 4096, Vec::new(alloc));
+        let result = decode_track(&mut room, 0, &mut source, &mut self.image, &mut self.notes);
+        assert!(rt; result.is_ok());
+        Ok(())
+    }
+
     /// The line of the sector with this number, from 0, begins so after its name.
     pub fn says(&self, number: usize, text: &[u8]) -> bool {
         let notes = self.notes.bytes();
@@ -124,14 +160,19 @@ impl Decoded {
         verdict.unwrap_or(&[]).starts_with(text)
     }
 
+    /// The image has the content's bytes and no other ones.
+    pub fn is_whole(&self, content: &[u8]) -> bool {
+        self.image.bytes() == content
+    }
+
     /// The sector's line says good, and the image has its bytes.
-    pub fn is_kept(&self, number: usize, content: &[u8]) -> bool {
+    fn is_kept(&self, number: usize, content: &[u8]) -> bool {
         self.says(number, b"good ")
             && self.part(number, self.image.bytes()) == self.part(number, content)
     }
 
     /// The sector's line says bad or missing, and the image has zeros in its place.
-    pub fn is_lost(&self, number: usize) -> bool {
+    fn is_lost(&self, number: usize) -> bool {
         let part = self.part(number, self.image.bytes());
         (self.says(number, b"bad ") || self.says(number, b"missing "))
             && part.len() == self.size
@@ -144,5 +185,17 @@ impl Decoded {
         bytes
             .get(from..from.saturating_add(self.size))
             .unwrap_or(&[])
+    }
+}
+
+/// Each sector of a track is kept, or is one of those that may be lost, and is lost.
+pub fn are_kept_but(rt: &impl Abort, decoded: &Decoded, content: &[u8], lost: &[usize]) {
+    let sectors = content.len().checked_div(decoded.size).unwrap_or(0);
+    for number in 0..sectors {
+        let kept = decoded.is_kept(number, content);
+        assert!(rt;
+            kept || lost.contains(&number) && decoded.is_lost(number),
+            "sector {number}"
+        );
     }
 }

@@ -6,6 +6,7 @@ use flux_rows::{content_of, ring_of};
 use frame_law::Recording;
 use ibm_fm::IbmFm;
 use ibm_mfm::IbmMfm;
+use sector_images::Format;
 use std::alloc::Global;
 use std::process::Abort;
 use std::test::Fail;
@@ -18,31 +19,51 @@ pub const TRACK: TrackId = TrackId {
 /// A ring, and the bytes of its sectors in their order.
 #[derive(Drop)]
 pub struct Track {
+    pub format: Format,
+    /// The nominal cell, in fine units.
+    pub nominal: u64,
+    /// How many bytes a sector has.
+    pub size: usize,
     pub ring: Cells,
     pub content: Vec<u8>,
 }
 
 /// 26 sectors of 128 bytes in single density.
 pub fn single_density(rt: &impl Abort, alloc: Global) -> Result<Track, Fail> {
-    let content = content_of(alloc, 3328)?;
-    assert_eq!(rt; content.len(), 3328);
-    let ring = ring_of(alloc, &IbmFm::Ibm3740, TRACK, &content)?;
-    Ok(Track { ring, content })
+    track_of(rt, alloc, &IbmFm::Ibm3740, Format::Ibm3740, 49208, TRACK)
 }
 
 /// 9 sectors of 512 bytes in double density.
 pub fn double_density(rt: &impl Abort, alloc: Global) -> Result<Track, Fail> {
-    let content = content_of(alloc, 4608)?;
-    assert_eq!(rt; content.len(), 4608);
-    let ring = ring_of(alloc, &IbmMfm::Pc9, TRACK, &content)?;
-    Ok(Track { ring, content })
+    track_of(rt, alloc, &IbmMfm::Pc9, Format::Ibm360, 49208, TRACK)
 }
 
 /// 21 sectors of 256 bytes in the group code of the 1541.
 pub fn group_code(rt: &impl Abort, alloc: Global) -> Result<Track, Fail> {
-    let disk = CommodoreGcr { id1: 65, id2: 66 };
-    let content = content_of(alloc, usize::from(disk.sectors(TRACK)) * 256)?;
-    assert_eq!(rt; content.len(), usize::from(disk.sectors(TRACK)) * 256);
-    let ring = ring_of(alloc, &disk, TRACK, &content)?;
-    Ok(Track { ring, content })
+    let recording = CommodoreGcr { id1: 65, id2: 66 };
+    track_of(rt, alloc, &recording, Format::C1541, 79963, TRACK)
+}
+
+fn track_of<R: Recording>(
+    rt: &impl Abort,
+    alloc: Global,
+    recording: &R,
+    format: Format,
+    nominal: u64,
+    track: TrackId,
+) -> Result<Track, Fail>
+    requires { R.has_track recording.now track }
+{
+    let size = usize::from(recording.sector_size());
+    let count = usize::from(recording.sectors(track)) * size;
+    let content = content_of(alloc, count)?;
+    assert_eq!(rt; content.len(), count);
+    let ring = ring_of(alloc, recording, track, &content)?;
+    Ok(Track {
+        format,
+        nominal,
+        size,
+        ring,
+        content,
+    })
 }

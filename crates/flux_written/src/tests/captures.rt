@@ -1,5 +1,5 @@
 //! Acorn disks, 40 tracks of ten sectors of 256 bytes, of which up to sixteen streams capture each track.
-use flux_base::TrackId;
+use flux_base::{Memory, TrackId};
 use flux_rows::{
     ACORN_DFS_40, Dump, IBM_720, Run, SHORT, Want, content_of, decode, decode_set, end_of, gives,
     ring_of, short_dump, short_streams, three_rings, with_line, with_word,
@@ -64,7 +64,7 @@ fn push_captures(
 }
 
 /// Appends the lines of such a track.
-fn push_lines(alloc: Global, lines: &mut Vec<u8>, cylinder: u8) -> Result<(), Fail> {
+fn push_lines(alloc: Global, lines: &mut Vec<u8>, cylinder: u8) -> Result<(), Memory> {
     for text in LINES {
         let line = format!(in alloc; "{cylinder:02}.0 {text}\n")?;
         lines.extend_from_slice(line.as_bytes())?;
@@ -73,7 +73,7 @@ fn push_lines(alloc: Global, lines: &mut Vec<u8>, cylinder: u8) -> Result<(), Fa
 }
 
 /// Appends the lines of a track without a sector.
-fn push_missing(alloc: Global, lines: &mut Vec<u8>, cylinder: u8) -> Result<(), Fail> {
+fn push_missing(alloc: Global, lines: &mut Vec<u8>, cylinder: u8) -> Result<(), Memory> {
     for sector in 0..10u8 {
         let line = format!(in alloc; "{cylinder:02}.0 {sector:02} missing 0 0\n")?;
         lines.extend_from_slice(line.as_bytes())?;
@@ -90,12 +90,19 @@ fn without_sector(alloc: Global, content: &[u8], sector: usize) -> Result<Vec<u8
     Ok(bytes)
 }
 
+/// A stream without a sector's header, at this place: the sector's number, and its line.
+const LACKING: [(usize, usize, &str); 2] = [
+    (SECTOR_0, 0, "00.0 00 missing 0 0\n"),
+    (SECTOR_3, 3, "00.0 03 missing 0 0\n"),
+];
+
 // The next stream, which is that of track 1, is not there.
 #[test]
 fn each_stream_lacks_a_sector(rt: HostRuntime) -> Result<(), Fail> {
-    let alloc = rt.alloc();
-    lacks(&rt, alloc, SECTOR_0, 0, "00.0 00 missing 0 0\n")?;
-    lacks(&rt, alloc, SECTOR_3, 3, "00.0 03 missing 0 0\n")
+    for (place, sector, line) in LACKING {
+        lacks(&rt, rt.alloc(), place, sector, line)?;
+    }
+    Ok(())
 }
 
 fn lacks(
@@ -107,11 +114,12 @@ fn lacks(
 ) -> Result<(), Fail> {
     let content = content_of(alloc, PART)?;
     let stream = stream_without(rt, alloc, 0, &content, place)?;
-    let mut dump = Dump::new(alloc, ACORN_DFS_40);
-    dump.good_stream(alloc, &stream, &without_sector(alloc, &content, sector)?)?;
-    dump.lines = with_line(alloc, &dump.lines, sector, line)?;
-    dump.lines
-        .extend_from_slice(b"refused track 1 block 0 Truncated\n")?;
+    let dump = lacking(
+        alloc,
+        &without_sector(alloc, &content, sector)?,
+        sector,
+        line,
+    )?;
     let want = Want {
         code: 2,
         image: &dump.image,
@@ -121,19 +129,22 @@ fn lacks(
     Ok(())
 }
 
+/// What a stream comes to with these bytes and with this line of a sector.
+fn lacking(alloc: Global, part: &[u8], sector: usize, line: &str) -> Result<Dump, Memory> {
+    let mut dump = Dump::new(alloc, ACORN_DFS_40);
+    dump.good_stream(alloc, &[], part)?;
+    dump.lines = with_line(alloc, &dump.lines, sector, line)?;
+    dump.lines
+        .extend_from_slice(b"refused track 1 block 0 Truncated\n")?;
+    Ok(dump)
+}
+
 #[test]
 fn what_one_capture_lacks_the_other_has(rt: HostRuntime) -> Result<(), Fail> {
     let alloc = rt.alloc();
-    let image = content_of(alloc, 102_400)?;
-    let mut input = Vec::new(alloc);
-    let mut lines = Vec::new(alloc);
-    for cylinder in 0..40u8 {
-        let from = usize::from(cylinder) * PART;
-        let part = image.get(from..from + PART).unwrap_or(&[]);
-        push_captures(&rt, alloc, &mut input, cylinder, part)?;
-        push_lines(alloc, &mut lines, cylinder)?;
-    }
-    lines.extend_from_slice(b"total 400 good 400 bad 0 missing 0 contradictory 0\n")?;
+    let image = content_of(alloc, 40 * PART)?;
+    let input = pairs_of(&rt, alloc, &image)?;
+    let lines = good_lines(alloc)?;
     let want = Want {
         code: 0,
         image: &image,
@@ -141,6 +152,26 @@ fn what_one_capture_lacks_the_other_has(rt: HostRuntime) -> Result<(), Fail> {
     };
     gives(alloc, decode_set(ACORN_DFS_40, "2", &input), want)?;
     Ok(())
+}
+
+/// Two such streams of each track of an image.
+fn pairs_of(rt: &impl Abort, alloc: Global, image: &[u8]) -> Result<Vec<u8>, Fail> {
+    let mut input = Vec::new(alloc);
+    for cylinder in 0..40u8 {
+        let from = usize::from(cylinder) * PART;
+        let part = image.get(from..from + PART).unwrap_or(&[]);
+        push_captures(rt, alloc, &mut input, cylinder, part)?;
+    }
+    Ok(input)
+}
+
+fn good_lines(alloc: Global) -> Result<Vec<u8>, Memory> {
+    let mut lines = Vec::new(alloc);
+    for cylinder in 0..40u8 {
+        push_lines(alloc, &mut lines, cylinder)?;
+    }
+    lines.extend_from_slice(b"total 400 good 400 bad 0 missing 0 contradictory 0\n")?;
+    Ok(lines)
 }
 
 /// The most padding, then an Index block, a transition and a block of the type 00.
@@ -160,18 +191,23 @@ fn refused_input(rt: &impl Abort, alloc: Global, content: &[u8]) -> Result<Vec<u
     Ok(input)
 }
 
-#[test]
-fn the_second_capture_of_a_track_is_refused(rt: HostRuntime) -> Result<(), Fail> {
-    let alloc = rt.alloc();
-    let mut image = content_of(alloc, PART)?;
-    let input = refused_input(&rt, alloc, &image)?;
-    image.resize(20 * PART, 0)?;
+fn refused_lines(alloc: Global) -> Result<Vec<u8>, Memory> {
     let mut lines = Vec::new(alloc);
     push_lines(alloc, &mut lines, 0)?;
     for cylinder in 1..20u8 {
         push_missing(alloc, &mut lines, cylinder)?;
     }
     lines.extend_from_slice(b"refused track 20 capture 1 block 2 UnknownType 0\n")?;
+    Ok(lines)
+}
+
+#[test]
+fn the_second_capture_of_a_track_is_refused(rt: HostRuntime) -> Result<(), Fail> {
+    let alloc = rt.alloc();
+    let mut image = content_of(alloc, PART)?;
+    let input = refused_input(&rt, alloc, &image)?;
+    image.resize(20 * PART, 0)?;
+    let lines = refused_lines(alloc)?;
     let want = Want {
         code: 2,
         image: &image,
@@ -181,31 +217,33 @@ fn the_second_capture_of_a_track_is_refused(rt: HostRuntime) -> Result<(), Fail>
     Ok(())
 }
 
-// Of 641 streams of 50 bytes, each of which is read at once, 40 are read for each capture.
+/// A number of captures, and how many bytes are left of 641 streams of 50 bytes, each of which is read at once: 40 are read for
+/// each capture.
+const COUNTS: [(&str, usize); 6] = [
+    ("1", 30_050),
+    ("01", 30_050),
+    ("9", 14_050),
+    ("09", 14_050),
+    ("10", 12_050),
+    ("16", 50),
+];
+
 #[test]
 fn counts_of_captures(rt: HostRuntime) -> Result<(), Fail> {
-    let alloc = rt.alloc();
-    let input = short_streams(alloc, 641, 0)?;
-    for (count, left) in [
-        ("1", 30_050),
-        ("01", 30_050),
-        ("9", 14_050),
-        ("09", 14_050),
-        ("10", 12_050),
-        ("16", 50),
-    ] {
-        let rest = missing_of(alloc, count, &input)?;
+    for (count, left) in COUNTS {
+        let rest = missing_of(rt.alloc(), count)?;
         assert_eq!(rt; rest, left, "after {count}");
     }
     Ok(())
 }
 
 /// A set of shortest streams has no sector. The answer is the number of bytes that are left.
-fn missing_of(alloc: Global, count: &str, input: &[u8]) -> Result<usize, Fail> {
+fn missing_of(alloc: Global, count: &str) -> Result<usize, Fail> {
+    let input = short_streams(alloc, 641, 0)?;
     let dump = short_dump(alloc, ACORN_DFS_40)?;
     let run = Run {
         chunk: 50,
-        ..decode_set(ACORN_DFS_40, count, input)
+        ..decode_set(ACORN_DFS_40, count, &input)
     };
     let want = Want {
         code: 1,
@@ -215,47 +253,59 @@ fn missing_of(alloc: Global, count: &str, input: &[u8]) -> Result<usize, Fail> {
     Ok(gives(alloc, run, want)?)
 }
 
+/// Words that are no number of captures.
+const NO_COUNTS: [&str; 10] = ["0", "00", "17", "20", "99", "001", "016", "", "1 ", "-1"];
+
 #[test]
 fn counts_that_are_none(rt: HostRuntime) -> Result<(), Fail> {
-    for count in ["0", "00", "17", "20", "99", "001", "016", "", "1 ", "-1"] {
+    for count in NO_COUNTS {
         is_usage(&rt, rt.alloc(), count)?;
     }
     Ok(())
 }
 
+/// Nothing is read, and no image is begun.
 fn is_usage(rt: &impl Abort, alloc: Global, count: &str) -> Result<(), Fail> {
     let end = end_of(alloc, decode_set(IBM_720, count, &SHORT))?;
-    assert_eq!(rt; end.code, 3, "for {count}");
-    assert_eq!(rt; end.source.calls(), 0, "for {count}");
-    assert_eq!(rt; end.image.sink.calls(), 0, "for {count}");
-    assert!(rt;
-        end.notes.sink.bytes().starts_with(b"usage: flux turns | "),
-        "for {count}"
+    let notes = end.notes.sink.bytes();
+    let is_usage_line = notes.starts_with(b"usage: flux turns | ");
+    assert_eq!(rt;
+        (
+            end.code,
+            end.source.calls(),
+            end.image.sink.calls(),
+            is_usage_line
+        ),
+        (3, 0, 0, true),
+        "code, reads, writes and line for {count}"
     );
     Ok(())
 }
 
-// Of track 0 the last stream alone has sectors, and lacks sector 0. The last stream of track 1 is not there.
+/// Fifteen shortest streams of track 0, and one that lacks sector 0. The last stream of track 1 is not there.
+fn sixteen_streams(rt: &impl Abort, alloc: Global, content: &[u8]) -> Result<Vec<u8>, Fail> {
+    let mut input = short_streams(alloc, 15, 0)?;
+    input.extend_from_slice(&stream_without(rt, alloc, 0, content, SECTOR_0)?)?;
+    input.extend_from_slice(&short_streams(alloc, 15, 0)?)?;
+    Ok(input)
+}
+
 #[test]
 fn sixteen_captures(rt: HostRuntime) -> Result<(), Fail> {
     let alloc = rt.alloc();
     let content = content_of(alloc, PART)?;
-    let mut input = short_streams(alloc, 15, 0)?;
-    input.extend_from_slice(&stream_without(&rt, alloc, 0, &content, SECTOR_0)?)?;
-    input.extend_from_slice(&short_streams(alloc, 15, 0)?)?;
+    let input = sixteen_streams(&rt, alloc, &content)?;
     let end = end_of(alloc, decode_set(ACORN_DFS_40, "16", &input))?;
-    assert_eq!(rt; end.code, 2);
-    assert!(rt; end.image.sink.bytes() == without_sector(alloc, &content, 0)?.as_slice());
-    are_sixteenth(&rt, end.notes.sink.bytes());
-    Ok(())
+    are_sixteenth(&rt, alloc, end.given(), &content)
 }
 
 /// The first two of the eleven lines, and the last two.
-fn are_sixteenth(rt: &impl Abort, lines: &[u8]) {
-    assert!(rt; lines.starts_with(b"00.0 00 missing 0 0\n00.0 01 good 3 0 15 1 5312\n"));
-    assert!(rt;
-        lines.ends_with(
-            b"\n00.0 09 good 3 0 15 1 44992\nrefused track 1 capture 15 block 0 Truncated\n"
-        )
-    );
+fn are_sixteenth(rt: &impl Abort, alloc: Global, given: Want, content: &[u8]) -> Result<(), Fail> {
+    let first = b"00.0 00 missing 0 0\n00.0 01 good 3 0 15 1 5312\n";
+    let last = b"\n00.0 09 good 3 0 15 1 44992\nrefused track 1 capture 15 block 0 Truncated\n";
+    assert_eq!(rt; given.code, 2);
+    assert!(rt; given.notes.starts_with(first));
+    assert!(rt; given.notes.ends_with(last));
+    assert!(rt; given.image == without_sector(alloc, content, 0)?.as_slice());
+    Ok(())
 }

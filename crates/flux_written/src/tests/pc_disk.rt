@@ -1,8 +1,9 @@
 //! The streams of a 720 KB image of bytes F6, and what goes wrong with them.
-use super::runs::ends;
+use super::runs::{streams_of, write};
+use flux_base::{Memory, MemorySink};
 use flux_rows::{
-    IBM_720, Run, Want, decode, first_bytes, first_lines, first_lines_and, gives, short_streams,
-    turns,
+    IBM_720, Mismatch, Run, Want, decode, first_bytes, first_lines, first_lines_and, gives,
+    short_streams, turns,
 };
 use std::alloc::{AllocError, Global};
 use std::process::Abort;
@@ -30,14 +31,14 @@ const LINES: [&str; 9] = [
 #[derive(Drop)]
 struct Written {
     image: Vec<u8>,
-    streams: Vec<u8>,
+    streams: MemorySink,
     lines: Vec<u8>,
 }
 
 fn write_image(rt: &impl Abort, alloc: Global) -> Result<Written, Fail> {
     let image = image_of(alloc, 0xF6)?;
-    let streams = streams_of(rt, alloc, &image)?;
-    let lines = report_of(alloc, LINES)?;
+    let streams = streams_of(rt, alloc, IBM_720, &image)?;
+    let lines = report_of(alloc, &LINES)?;
     Ok(Written {
         image,
         streams,
@@ -52,21 +53,12 @@ pub fn image_of(alloc: Global, first: u8) -> Result<Vec<u8>, AllocError> {
     Ok(image)
 }
 
-/// The streams that an image is written as.
-pub fn streams_of(rt: &impl Abort, alloc: Global, image: &[u8]) -> Result<Vec<u8>, Fail> {
-    let end = ends(alloc, "write", "ibm-720", image, None)?;
-    assert_eq!(rt; end.code, 0);
-    assert_eq!(rt; end.notes.bytes().len(), 0);
-    Ok(end.image.bytes().to_vec(alloc)?)
-}
-
 /// The report of a good disk, of which each track's lines have these texts after the track's name.
-pub fn report_of(alloc: Global, texts: [&str; 9]) -> Result<Vec<u8>, Fail> {
+pub fn report_of(alloc: Global, texts: &[&str]) -> Result<Vec<u8>, Memory> {
     let mut lines = Vec::new(alloc);
     for cylinder in 0..80u8 {
-        for head in 0..2u8 {
-            push_lines(alloc, &mut lines, cylinder, head, texts)?;
-        }
+        push_lines(alloc, &mut lines, cylinder, 0, texts)?;
+        push_lines(alloc, &mut lines, cylinder, 1, texts)?;
     }
     lines.extend_from_slice(b"total 1440 good 1440 bad 0 missing 0 contradictory 0\n")?;
     Ok(lines)
@@ -77,8 +69,8 @@ fn push_lines(
     lines: &mut Vec<u8>,
     cylinder: u8,
     head: u8,
-    texts: [&str; 9],
-) -> Result<(), Fail> {
+    texts: &[&str],
+) -> Result<(), Memory> {
     for text in texts {
         let line = format!(in alloc; "{cylinder:02}.{head} {text}\n")?;
         lines.extend_from_slice(line.as_bytes())?;
@@ -105,78 +97,117 @@ pub fn first_stream(bytes: &[u8]) -> &[u8] {
 #[test]
 fn an_image_comes_back(rt: HostRuntime) -> Result<(), Fail> {
     let alloc = rt.alloc();
-    let Written {
-        image,
-        mut streams,
-        lines,
-    } = write_image(&rt, alloc)?;
+    let disk = write_image(&rt, alloc)?;
+    let streams = disk.streams.bytes();
     assert!(rt; streams.starts_with(b"\x60\x60\x60\x90"));
     let want = Want {
         code: 0,
         image: b"transitions 132933\nturn 1 4805468\nturn 2 4805469\nturn 3 4805469\n",
         notes: &[],
     };
-    gives(alloc, turns(first_stream(&streams)), want)?;
-
-    // Four more cylinders change nothing.
-    let want = Want {
-        code: 0,
-        image: &image,
-        notes: &lines,
-    };
-    gives(alloc, decode(IBM_720, &streams), want)?;
-    streams.extend_from_slice(&short_streams(alloc, 8, 0)?)?;
-    gives(alloc, decode(IBM_720, &streams), want)?;
+    gives(alloc, turns(first_stream(streams)), want)?;
+    gives_disk(alloc, &disk, streams)?;
+    gives_disk(alloc, &disk, &with_cylinders(alloc, streams)?)?;
     Ok(())
 }
 
+/// The streams come to the disk's image and lines.
+fn gives_disk(alloc: Global, disk: &Written, streams: &[u8]) -> Result<usize, Mismatch> {
+    let want = Want {
+        code: 0,
+        image: &disk.image,
+        notes: &disk.lines,
+    };
+    gives(alloc, decode(IBM_720, streams), want)
+}
+
+/// The streams, and those of four more cylinders.
+fn with_cylinders(alloc: Global, streams: &[u8]) -> Result<Vec<u8>, AllocError> {
+    let mut input = streams.to_vec(alloc)?;
+    input.extend_from_slice(&short_streams(alloc, 8, 0)?)?;
+    Ok(input)
+}
+
+/// Where a run is cut: its exit code, and how many bytes of the image and how many lines it gave before.
+#[derive(Clone, Copy)]
+struct Cut {
+    code: u8,
+    bytes: usize,
+    lines: usize,
+}
+
+fn is_cut(alloc: Global, disk: &Written, run: Run, cut: Cut) -> Result<usize, Mismatch> {
+    let want = Want {
+        code: cut.code,
+        image: first_bytes(&disk.image, cut.bytes),
+        notes: first_lines(&disk.lines, cut.lines),
+    };
+    gives(alloc, run, want)
+}
+
+// A track's sectors are written one by one, and then its lines.
 #[test]
 fn one_of_the_first_writes_fails(rt: HostRuntime) -> Result<(), Fail> {
     let alloc = rt.alloc();
     let disk = write_image(&rt, alloc)?;
     for call in 0..10usize {
-        let run = decode(IBM_720, &disk.streams);
-        let failing_image = Some(call);
-        let tracks = call / 9;
-        let want = Want {
-            code: 5,
-            image: first_bytes(&disk.image, call.saturating_mul(512)),
-            notes: first_lines(&disk.lines, tracks.saturating_mul(9)),
-        };
-        gives(
-            alloc,
-            Run {
-                failing_image,
-                ..run
-            },
-            want,
-        )?;
-        let failing_notes = Some(call);
-        let parts = tracks.saturating_add(1);
-        let want = Want {
-            code: 6,
-            image: first_bytes(&disk.image, parts.saturating_mul(PART)),
-            notes: first_lines(&disk.lines, call),
-        };
-        gives(
-            alloc,
-            Run {
-                failing_notes,
-                ..run
-            },
-            want,
-        )?;
+        a_write_fails(alloc, &disk, call)?;
     }
     Ok(())
 }
 
-// After the first stream stand an in-stream block and a block of the type 00.
+fn a_write_fails(alloc: Global, disk: &Written, call: usize) -> Result<usize, Mismatch> {
+    let tracks = call / 9;
+    let run = decode(IBM_720, disk.streams.bytes());
+    let image_run = Run {
+        failing_image: Some(call),
+        ..run
+    };
+    let image_cut = Cut {
+        code: 5,
+        bytes: call.saturating_mul(512),
+        lines: tracks.saturating_mul(9),
+    };
+    is_cut(alloc, disk, image_run, image_cut)?;
+    let notes_run = Run {
+        failing_notes: Some(call),
+        ..run
+    };
+    let notes_cut = Cut {
+        code: 6,
+        bytes: tracks.saturating_add(1).saturating_mul(PART),
+        lines: call,
+    };
+    is_cut(alloc, disk, notes_run, notes_cut)
+}
+
 #[test]
 fn the_second_stream_is_refused(rt: HostRuntime) -> Result<(), Fail> {
     let alloc = rt.alloc();
     let disk = write_image(&rt, alloc)?;
-    let mut input = first_stream(&disk.streams).to_vec(alloc)?;
+    let input = with_refused(alloc, first_stream(disk.streams.bytes()))?;
+    is_refused(alloc, &disk, &input)
+}
+
+/// A stream, and then an in-stream block and a block of the type 00.
+fn with_refused(alloc: Global, first: &[u8]) -> Result<Vec<u8>, AllocError> {
+    let mut input = first.to_vec(alloc)?;
     input.extend_from_slice(&[0x60, 0x0D, 0, 0, 0])?;
+    Ok(input)
+}
+
+/// Behind the first track's part and lines stands the line, and its write can fail.
+fn is_refused(alloc: Global, disk: &Written, input: &[u8]) -> Result<(), Fail> {
+    let run = Run {
+        failing_notes: Some(9),
+        ..decode(IBM_720, input)
+    };
+    let cut = Cut {
+        code: 6,
+        bytes: PART,
+        lines: 9,
+    };
+    is_cut(alloc, disk, run, cut)?;
     let line = "refused track 1 block 1 UnknownType 0\n";
     let notes = first_lines_and(alloc, &disk.lines, 9, line)?;
     let want = Want {
@@ -184,22 +215,7 @@ fn the_second_stream_is_refused(rt: HostRuntime) -> Result<(), Fail> {
         image: first_bytes(&disk.image, PART),
         notes: &notes,
     };
-    gives(alloc, decode(IBM_720, &input), want)?;
-    let failing_notes = Some(9);
-    let run = decode(IBM_720, &input);
-    let want = Want {
-        code: 6,
-        notes: first_lines(&disk.lines, 9),
-        ..want
-    };
-    gives(
-        alloc,
-        Run {
-            failing_notes,
-            ..run
-        },
-        want,
-    )?;
+    gives(alloc, decode(IBM_720, input), want)?;
     Ok(())
 }
 
@@ -210,17 +226,7 @@ fn a_call_of_write_fails(rt: HostRuntime) -> Result<(), Fail> {
     let alloc = rt.alloc();
     let disk = write_image(&rt, alloc)?;
     for call in [0, 1, 90, 179, 180] {
-        let run = Run {
-            failing_read: Some(call),
-            command: "write",
-            ..decode(IBM_720, &disk.image)
-        };
-        let want = Want {
-            code: 4,
-            image: &[],
-            notes: &[],
-        };
-        gives(alloc, run, want)?;
+        a_read_fails(alloc, &disk, call)?;
     }
     for call in [0, 1, 20, 31, 100, 3000] {
         a_piece_fails(&rt, alloc, &disk, call)?;
@@ -228,17 +234,28 @@ fn a_call_of_write_fails(rt: HostRuntime) -> Result<(), Fail> {
     Ok(())
 }
 
+/// Nothing is written.
+fn a_read_fails(alloc: Global, disk: &Written, call: usize) -> Result<usize, Mismatch> {
+    let run = Run {
+        command: "write",
+        failing_read: Some(call),
+        ..decode(IBM_720, &disk.image)
+    };
+    let cut = Cut {
+        code: 4,
+        bytes: 0,
+        lines: 0,
+    };
+    is_cut(alloc, disk, run, cut)
+}
+
 /// What was written before is a front of the streams, and no piece was longer than 4096 bytes.
 fn a_piece_fails(rt: &impl Abort, alloc: Global, disk: &Written, call: usize) -> Result<(), Fail> {
-    let failing = Some(call as u64);
-    let end = ends(alloc, "write", "ibm-720", &disk.image, failing)?;
+    let end = write(alloc, IBM_720, &disk.image, Some(call as u64))?;
     let bytes = end.image.bytes();
-    assert_eq!(rt; end.code, 5, "write {call}");
-    assert!(rt; disk.streams.starts_with(bytes), "write {call}");
-    assert!(rt;
-        call <= bytes.len() && bytes.len() <= call.saturating_mul(4096),
-        "write {call}"
-    );
-    assert_eq!(rt; end.notes.bytes().len(), 0, "write {call}");
+    let most = call.saturating_mul(4096);
+    assert_eq!(rt; (end.code, end.notes.bytes().len()), (5, 0), "write {call}");
+    assert!(rt; disk.streams.bytes().starts_with(bytes), "write {call}");
+    assert!(rt; call <= bytes.len() && bytes.len() <= most, "write {call}");
     Ok(())
 }

@@ -1,7 +1,10 @@
-//! Runs whose bytes are looked at, and not only compared.
+//! Runs of the program over objects in memory that have room for the streams of any image, and over shelves with any files.
 use flux_base::{Memory, MemorySink, MemorySource, Word};
 use flux_cli::run;
+use flux_rows::Disk;
 use std::alloc::Global;
+use std::process::Abort;
+use std::test::Fail;
 use track_shelf::MemoryShelf;
 
 /// More bytes than the streams of any image have.
@@ -15,47 +18,74 @@ pub struct Ended {
     pub notes: MemorySink,
 }
 
-/// Runs a command with its format's word. The write of the image with this number fails, if one does.
+/// Runs the program with these words over a source and a shelf. The write of the image with this number fails, if one does.
 pub fn ends(
-    alloc: Global,
-    command: &str,
-    format: &str,
-    input: &[u8],
-    failing_image: Option<u64>,
-) -> Result<Ended, Memory> {
-    ends_with(alloc, &[command, format], input, failing_image)
-}
-
-/// Runs the program with these words. The write of the image with this number fails, if one does.
-pub fn ends_with(
     alloc: Global,
     texts: &[&str],
     input: &[u8],
-    failing_image: Option<u64>,
+    shelf: &mut MemoryShelf,
+    failing: Option<u64>,
 ) -> Result<Ended, Memory> {
+    let mut image = sink_of(alloc, failing)?;
+    let mut notes = sink_of(alloc, None)?;
+    let code = code_of(alloc, texts, input, &mut image, &mut notes, shelf)?;
+    Ok(Ended { code, image, notes })
+}
+
+fn sink_of(alloc: Global, failing: Option<u64>) -> Result<MemorySink, Memory> {
+    let mut calls = Vec::new(alloc);
+    if let Some(number) = failing {
+        calls.push(number)?;
+    }
+    MemorySink::new(alloc, ROOM, calls)
+}
+
+fn code_of(
+    alloc: Global,
+    texts: &[&str],
+    input: &[u8],
+    image: &mut MemorySink,
+    notes: &mut MemorySink,
+    shelf: &mut MemoryShelf,
+) -> Result<u8, Memory> {
+    let words = words_of(alloc, texts)?;
+    let mut source = MemorySource::new(input.to_vec(alloc)?, 4096, Vec::new(alloc));
+    let status = run(alloc, &words, &mut source, image, notes, shelf);
+    Ok(status.code())
+}
+
+fn words_of(alloc: Global, texts: &[&str]) -> Result<Vec<Word>, Memory> {
     let mut words = Vec::new(alloc);
     for text in texts {
         words.push(Word::new(text.to_string(alloc)?))?;
     }
-    let mut failing = Vec::new(alloc);
-    if let Some(call) = failing_image {
-        failing.push(call)?;
-    }
-    let mut source = MemorySource::new(input.to_vec(alloc)?, 4096, Vec::new(alloc));
-    let mut image = MemorySink::new(alloc, ROOM, failing)?;
-    let mut notes = MemorySink::new(alloc, ROOM, Vec::new(alloc))?;
+    Ok(words)
+}
+
+/// Runs `write` over an image. The write of the streams with this number fails, if one does.
+pub fn write(
+    alloc: Global,
+    disk: Disk,
+    image: &[u8],
+    failing: Option<u64>,
+) -> Result<Ended, Memory> {
     let mut shelf = MemoryShelf::new(Vec::new(alloc), 1, Vec::new(alloc));
-    let status = run(
-        alloc,
-        &words,
-        &mut source,
-        &mut image,
-        &mut notes,
-        &mut shelf,
+    ends(alloc, &["write", disk.word], image, &mut shelf, failing)
+}
+
+/// The streams that an image is written as, without a note.
+pub fn streams_of(
+    rt: &impl Abort,
+    alloc: Global,
+    disk: Disk,
+    image: &[u8],
+) -> Result<MemorySink, Fail> {
+    let end = write(alloc, disk, image, None)?;
+    assert_eq!(rt;
+        (end.code, end.notes.bytes().len()),
+        (0, 0),
+        "write {}",
+        disk.word
     );
-    Ok(Ended {
-        code: status.code(),
-        image,
-        notes,
-    })
+    Ok(end.image)
 }

@@ -1,7 +1,9 @@
 //! A 720 KB image of bytes F6, of which two streams capture each track.
-use super::pc_disk::{first_stream, image_of, report_of, streams_of};
+use super::pc_disk::{first_stream, image_of, report_of};
+use super::runs::streams_of;
 use flux_rows::{IBM_720, Want, decode_set, gives, with_line};
 use std::alloc::{AllocError, Global};
+use std::process::Abort;
 use std::test::Fail;
 
 /// The lines of each track, after its name, where both streams are alike: those of one stream with all numbers of readings
@@ -18,7 +20,52 @@ const LINES: [&str; 9] = [
     "09 good 8 0 0 0 11239",
 ];
 
-/// The streams of two disks, those of each track together.
+/// Two captures of a disk: the byte that the second one has in the first sector in place of F6, and the set's exit code, the
+/// byte of the first sector in its image, its first line and its total.
+#[derive(Clone, Copy)]
+struct Pair {
+    second: u8,
+    code: u8,
+    given: u8,
+    line: &'static str,
+    total: &'static str,
+}
+
+const PAIRS: [Pair; 2] = [
+    // Each stream stands twice.
+    Pair {
+        second: 0xF6,
+        code: 0,
+        given: 0xF6,
+        line: "00.0 01 good 8 0 0 1 27527\n",
+        total: "total 1440 good 1440 bad 0 missing 0 contradictory 0\n",
+    },
+    // The first streams differ, and the others are alike.
+    Pair {
+        second: 0xE5,
+        code: 1,
+        given: 0,
+        line: "00.0 01 contradictory 8 0 0 1 27527 1 1 27527\n",
+        total: "total 1440 good 1439 bad 0 missing 0 contradictory 1\n",
+    },
+];
+
+#[test]
+fn two_captures_of_each_track(rt: HostRuntime) -> Result<(), Fail> {
+    for pair in &PAIRS {
+        let input = captures_of(&rt, rt.alloc(), pair.second)?;
+        comes_to(rt.alloc(), &input, pair)?;
+    }
+    Ok(())
+}
+
+/// The streams of the disk and of one with another first sector, those of each track together.
+fn captures_of(rt: &impl Abort, alloc: Global, second: u8) -> Result<Vec<u8>, Fail> {
+    let first = streams_of(rt, alloc, IBM_720, &image_of(alloc, 0xF6)?)?;
+    let second = streams_of(rt, alloc, IBM_720, &image_of(alloc, second)?)?;
+    Ok(in_pairs(alloc, first.bytes(), second.bytes())?)
+}
+
 fn in_pairs(alloc: Global, first: &[u8], second: &[u8]) -> Result<Vec<u8>, AllocError> {
     let mut input = Vec::new(alloc);
     let mut left = first;
@@ -37,43 +84,19 @@ fn pass_stream<'a>(input: &mut Vec<u8>, streams: &'a [u8]) -> Result<&'a [u8], A
     Ok(streams.get(stream.len()..).unwrap_or(&[]))
 }
 
-#[test]
-fn each_stream_twice(rt: HostRuntime) -> Result<(), Fail> {
-    let alloc = rt.alloc();
-    let image = image_of(alloc, 0xF6)?;
-    let streams = streams_of(&rt, alloc, &image)?;
-    let input = in_pairs(alloc, &streams, &streams)?;
-    let lines = report_of(alloc, LINES)?;
+fn comes_to(alloc: Global, input: &[u8], pair: &Pair) -> Result<(), Fail> {
+    let image = image_of(alloc, pair.given)?;
+    let lines = lines_of(alloc, pair)?;
     let want = Want {
-        code: 0,
-        image: &image,
-        notes: &lines,
-    };
-    gives(alloc, decode_set(IBM_720, "2", &input), want)?;
-    Ok(())
-}
-
-// The second disk has bytes E5 in its first sector. Its other streams are those of the first.
-#[test]
-fn captures_that_differ(rt: HostRuntime) -> Result<(), Fail> {
-    let alloc = rt.alloc();
-    let first = streams_of(&rt, alloc, &image_of(alloc, 0xF6)?)?;
-    let second = streams_of(&rt, alloc, &image_of(alloc, 0xE5)?)?;
-    let input = in_pairs(alloc, &first, &second)?;
-    differ(alloc, &input)
-}
-
-fn differ(alloc: Global, input: &[u8]) -> Result<(), Fail> {
-    let line = "00.0 01 contradictory 8 0 0 1 27527 1 1 27527\n";
-    let lines = with_line(alloc, &report_of(alloc, LINES)?, 0, line)?;
-    let total = "total 1440 good 1439 bad 0 missing 0 contradictory 1\n";
-    let lines = with_line(alloc, &lines, 1440, total)?;
-    let image = image_of(alloc, 0)?;
-    let want = Want {
-        code: 1,
+        code: pair.code,
         image: &image,
         notes: &lines,
     };
     gives(alloc, decode_set(IBM_720, "2", input), want)?;
     Ok(())
+}
+
+fn lines_of(alloc: Global, pair: &Pair) -> Result<Vec<u8>, Fail> {
+    let lines = with_line(alloc, &report_of(alloc, &LINES)?, 0, pair.line)?;
+    Ok(with_line(alloc, &lines, 1440, pair.total)?)
 }
