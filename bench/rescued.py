@@ -1,8 +1,8 @@
 #!/usr/bin/env python3
 """What the tests of crates/flux_rescued want: the lines of the very streams that they make, by the plain reading of plain.py.
 
-Each test has the table that stands here under its name, a row for lines that follow one another: how many, their text up to the place, the
-first one's place and how far the next is after it. Where a program is given, its answers have to be those of the plain reading, to the byte.
+Each capture has the two tables that stand here under its recording and its name, a row for lines that follow one another: how many, their
+text up to the place, the first one's place and how far the next is after it. Where a program is given, its answers have to be those of the plain reading, to the byte.
 
 usage: bench/rescued.py [PROGRAM]
 """
@@ -61,7 +61,7 @@ LOWEST_BITS = [32 + 480 + 32 * (128 + long) + 31 for long in (0, 1)]
 
 
 def cases():
-    """Each case: its test's name, its format, and how the track is captured."""
+    """Each case: its name, its format, and how the track is captured."""
     for word in WORDS:
         form = plain.FORMATS[word]
         ring = ring_of(form)
@@ -72,8 +72,8 @@ def cases():
             yield "drift and bursts", form, ring, {"drift": 12, "bursts": each_turn(ring, *(len(ring) * k // 8 for k in range(8)))}
         if word == "amiga":
             lost = [2 * len(ring) + bit for bit in LOWEST_BITS]
-            yield "two bits lost", form, ring, {"lost": lost}
-            yield "two bits lost behind a burst", form, ring, {"lost": lost, "bursts": [2 * len(ring) + BEFORE[word]]}
+            yield "a damaged sector with a matching check value", form, ring, {"lost": lost}
+            yield "a damaged sector that one clock reads", form, ring, {"lost": lost, "bursts": [2 * len(ring) + BEFORE[word]]}
 
 
 def rows(lines):
