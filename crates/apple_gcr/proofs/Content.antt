@@ -10,7 +10,7 @@ use Rattle.cell_bits.specs.State.{CellsState}
 use Rattle.cell_bits.specs.Word.{word_cells}
 use Rattle.frame_law.specs.Writing.{AppendsCells}
 use Rattle.frame_law.specs.lemmas.WritingLaws.{AppendsCells-more, AppendsCells-next, AppendsCells-none, AppendsCells-short}
-use Rattle.apple_gcr.specs.Nibbles.{bytes_cells, nibble}
+use Rattle.apple_nibbles.specs.Nibbles.{bytes_cells, nibble}
 use Rattle.apple_gcr.specs.SixAndTwo.{data_nibbles, value_at, values_of}
 use Rattle.apple_gcr.specs.lemmas.ValueLaws.{get_or-data_nibbles, get_or-values_of, length-data_nibbles, length-values_of}
 

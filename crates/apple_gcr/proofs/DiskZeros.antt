@@ -6,8 +6,8 @@ use Rattle.std.specs.Int.Count.{count_leading_zeros}
 use Rattle.cell_bits.specs.Word.{word_cells}
 use Rattle.frame_law.specs.lemmas.WordRowLaws.{word_cells-word}
 use Rattle.apple_gcr.specs.DiskBytes.{byte_place, zeros_first}
-use Rattle.apple_gcr.specs.Nibbles.{disk_byte}
-use Rattle.apple_gcr.specs.lemmas.FieldLaws.{agree-below}
+use Rattle.apple_nibbles.specs.Nibbles.{disk_byte}
+use Rattle.apple_nibbles.specs.lemmas.NibbleLaws.{agree-below}
 
 zeros_table : map (λ byte. min (count_leading_zeros 8 byte) 7) (range_with_len 0 256) ≡ map (λ byte. zeros_first (take 7 (word_cells 8 byte))) (range_with_len 0 256)
 unfolding zeros_first word_cells count_leading_zeros

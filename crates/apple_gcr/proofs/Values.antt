@@ -1,27 +1,15 @@
 -- Values that are read from nibbles, one after another.
-use Rattle.std.proofs.Common.{◌≡◌, ℕ, zero, suc, ◌+◌, ◌<◌, ◌≤◌, List, [], ◌∷◌, ◌++◌, length, get_or, ap, sym, subst, ◌∙◌, arith, inl, inr, lit<, refl, length-append, add-one, map, ◌%◌, Option, Some, None, IfNone}
+use Rattle.std.proofs.Common.{◌≡◌, ℕ, zero, suc, ◌+◌, ◌<◌, ◌≤◌, List, [], ◌∷◌, ◌++◌, length, get_or, ap, sym, subst, ◌∙◌, arith, inl, inr, lit<, refl, length-append, add-one, Option, Some, None, IfNone}
 use Rattle.std.proofs.lemmas.Bool.{cases_lt}
 use Rattle.std.proofs.lemmas.List.{get_or_past}
 use Rattle.std.proofs.lemmas.Nat.{xor_comm, xor_lt}
 use Rattle.std.proofs.Math.ListN.{get_or-append}
 use Rattle.std.proofs.Math.Seq.{get_or-append_seam}
 use Rattle.std.specs.Int.Bits.{bit_xor, xor_zero_l}
-use Rattle.std.specs.List.{range_with_len}
-use Rattle.std.proofs.Math.Nat.{mod-lt}
-use Rattle.apple_gcr.specs.declared.nibbles.TheConstants.{VALUES_BY_BYTE}
-use Rattle.apple_gcr.specs.lemmas.FieldLaws.{agree-below, one_value}
-use Rattle.apple_gcr.specs.Nibbles.{nibble}
+use Rattle.apple_nibbles.specs.Nibbles.{nibble}
+use Rattle.apple_nibbles.specs.lemmas.NibbleLaws.{one_value}
 use Rattle.apple_gcr.specs.SixAndTwo.{AreCoded, code_at}
 use Rattle.apple_gcr.specs.lemmas.ValueLaws.{AreSixBits, FirstStand, code-fits, same_value, xor-undo}
-
--- the table of values has values of six bits
-values_table : map (λ place. get_or VALUES_BY_BYTE place 0 % 64) (range_with_len 0 128) ≡ map (λ place. get_or VALUES_BY_BYTE place 0) (range_with_len 0 128)
-values_table = refl
-
-pub value-fits : (place : ℕ) → place < 128 → get_or VALUES_BY_BYTE place 0 < 64
-value-fits place within =
-    subst (λ (n : ℕ). n < 64) (agree-below (λ p. get_or VALUES_BY_BYTE p 0 % 64) (λ p. get_or VALUES_BY_BYTE p 0) 128 place within values_table)
-    (mod-lt (get_or VALUES_BY_BYTE place 0) (lit< tt))
 
 -- the first values, so many, the last of which is given
 pub record AreRead (bytes : ℕ → ℕ) (values : List ℕ) (count last : ℕ) : Type 0 where

@@ -1,7 +1,7 @@
 -- Disk bytes that are read one after another.
 use Rattle.std.proofs.Common.{◌≡◌, ℕ, ◌+◌, ◌*◌, ◌<◌, ◌≤◌, Bool, List, ap, sym, ◌∙◌, arith}
 use Rattle.apple_gcr.specs.DiskBytes.{byte_place, byte_read, bytes_end, zeros_passed}
-use Rattle.apple_gcr.specs.Nibbles.{disk_byte}
+use Rattle.apple_nibbles.specs.Nibbles.{disk_byte}
 use Rattle.apple_gcr.specs.declared.disk_bytes.ByteRule.{ByteRule}
 use Rattle.apple_gcr.specs.lemmas.ByteLaws.{byte-within, end-most, end-next, place-least, zeros-few}
 

@@ -3,7 +3,7 @@
 use Rattle.std.specs.Prelude.{ℕ, zero, suc, ◌+◌, Bool, true, false, List, [], ◌∷◌, take, drop}
 use Rattle.apple_gcr.specs.declared.disk_bytes.ByteRule.{ByteRule}
 use Rattle.apple_gcr.specs.declared.disk_bytes.ByteRule.TheVariants.{Strict, Controller}
-use Rattle.apple_gcr.specs.Nibbles.{BYTE_CELLS, disk_byte}
+use Rattle.apple_nibbles.specs.Nibbles.{BYTE_CELLS, disk_byte}
 
 -- how many zeros before a byte are passed over at most: by the strict rule none, and by the controller's, which waits however long,
 -- as many as an unbroken frame has in a row

@@ -1,6 +1,6 @@
 -- 4-and-4, the coding of Apple's address fields: a byte as two, each with four of its bits and ones between them.
 use Rattle.std.specs.Prelude.{◌≡◌, ℕ, ◌/◌, ◌<◌, Bool, List, [], ◌∷◌, bit_or}
-use Rattle.apple_gcr.specs.Nibbles.{bytes_cells}
+use Rattle.apple_nibbles.specs.Nibbles.{bytes_cells}
 
 -- the bits that each half has, whatever the byte
 abbrev pub CLOCK_BITS : ℕ

@@ -1,5 +1,5 @@
 -- The rows of a track of Apple's disks: 49994 cells, from index to index.
-use Rattle.std.specs.Prelude.{ℕ, ◌*◌, Bool, false, List, [], ◌∷◌, replicate, flat_map}
+use Rattle.std.specs.Prelude.{ℕ, ◌*◌, Bool, false, List, [], ◌∷◌, flat_map}
 use Rattle.flux_base.specs.declared.track.TrackId.{TrackId}
 use Rattle.cell_bits.specs.Word.{word_cells}
 use Rattle.track_rings.specs.Rows.{Rows, ring_of as ring_of_rows}
@@ -8,9 +8,10 @@ use Rattle.apple_gcr.specs.declared.layout.Mark.TheVariants.{AddressField, DataF
 use Rattle.apple_gcr.specs.declared.layout.Row.{Row}
 use Rattle.apple_gcr.specs.declared.layout.Row.TheVariants.{SelfSyncs, Mark as AMark, Address, Content}
 use Rattle.apple_gcr.specs.FourAndFour.{four_and_four}
-use Rattle.apple_gcr.specs.Nibbles.{bytes_cells}
-use Rattle.apple_gcr.specs.Sectors.{ADDRESS_MARK, DATA_MARK, MARK_CELLS, SECTORS, SECTOR_SIZE, check_of}
+use Rattle.apple_gcr.specs.Sectors.{SECTORS, SECTOR_SIZE, check_of}
 use Rattle.apple_gcr.specs.SixAndTwo.{data_nibbles}
+use Rattle.apple_nibbles.specs.Marks.{ADDRESS_MARK, DATA_MARK, MARK_CELLS, self_syncs}
+use Rattle.apple_nibbles.specs.Nibbles.{bytes_cells}
 
 -- DE AA EB, which closes each field and is not looked at
 abbrev pub EPILOGUE : ℕ
@@ -19,16 +20,6 @@ EPILOGUE = 0xDEAAEB
 -- the volume that is written
 abbrev pub VOLUME : ℕ
 VOLUME = 254
-
--- a self-sync, ten cells: the byte FF and two zeros
-abbrev pub SELF_SYNC : ℕ
-SELF_SYNC = 0x3FC
-
-abbrev pub SELF_SYNC_CELLS : ℕ
-SELF_SYNC_CELLS = 10
-
-abbrev pub self_syncs : ℕ → List Bool
-self_syncs count = flat_map (word_cells SELF_SYNC_CELLS) (replicate count SELF_SYNC)
 
 -- the marks by their cells
 abbrev pub word_of : Mark → ℕ

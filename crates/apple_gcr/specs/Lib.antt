@@ -1,7 +1,6 @@
 pub mod DiskBytes
 pub mod FourAndFour
 pub mod Layout
-pub mod Nibbles
 pub mod Rules
 pub mod Sectors
 pub mod SixAndTwo

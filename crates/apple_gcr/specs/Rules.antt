@@ -5,7 +5,7 @@ use Rattle.cell_bits.specs.Broken.{Unbroken}
 use Rattle.cell_bits.specs.Search.{IsFirstOne}
 use Rattle.apple_gcr.specs.declared.disk_bytes.ByteRule.TheVariants.{Strict, Controller}
 use Rattle.apple_gcr.specs.DiskBytes.{byte_place, byte_read, zeros_passed}
-use Rattle.apple_gcr.specs.Nibbles.{BYTE_CELLS, disk_byte}
+use Rattle.apple_nibbles.specs.Nibbles.{BYTE_CELLS, disk_byte}
 use Rattle.apple_gcr.specs.Sectors.{HeaderStands, SectorStands}
 
 -- by the strict rule a byte is read every eight cells

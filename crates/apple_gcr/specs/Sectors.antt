@@ -1,13 +1,13 @@
 -- The sectors of Apple's disks (DOS 3.3): what a header names and what data hold.
 use Rattle.std.specs.Prelude.{◌≡◌, ℕ, ◌+◌, ◌<◌, Bool, List, [], ◌∷◌}
 use Rattle.flux_base.specs.declared.track.TrackId.{TrackId}
-use Rattle.cell_bits.specs.Word.{Stands}
 use Rattle.check_values.specs.Sums.{xor}
 use Rattle.frame_law.specs.Frames.{DataStand, HeaderStands as Header, SectorStands as Sector}
 use Rattle.apple_gcr.specs.DiskBytes.{byte_place, byte_read, bytes_end}
 use Rattle.apple_gcr.specs.FourAndFour.{AreHalves}
-use Rattle.apple_gcr.specs.Nibbles.{BYTE_CELLS, disk_byte}
 use Rattle.apple_gcr.specs.SixAndTwo.{AreCoded, Carries, NIBBLES}
+use Rattle.apple_nibbles.specs.Marks.{ADDRESS_MARK, DATA_BYTE, DATA_SYNC_CELLS, IsSync, MARK_CELLS}
+use Rattle.apple_nibbles.specs.Nibbles.{BYTE_CELLS, disk_byte}
 
 -- the tracks: 35 cylinders of one side
 pub record IsAppleTrack (track : TrackId) : Type 0 where
@@ -21,23 +21,6 @@ SECTORS = 16
 -- the bytes of a sector
 abbrev pub SECTOR_SIZE : ℕ
 SECTOR_SIZE = 256
-
--- what opens an address field, D5 AA 96, and a data field, D5 AA AD
-abbrev pub ADDRESS_MARK : ℕ
-ADDRESS_MARK = 0xD5AA96
-
-abbrev pub DATA_MARK : ℕ
-DATA_MARK = 0xD5AAAD
-
-abbrev pub MARK_CELLS : ℕ
-MARK_CELLS = 24
-
--- D5 AA, with which either field begins
-abbrev pub DATA_SYNC : ℕ
-DATA_SYNC = 0xD5AA
-
-abbrev pub DATA_SYNC_CELLS : ℕ
-DATA_SYNC_CELLS = 16
 
 -- the check value of an address
 abbrev pub check_of : ℕ → ℕ → ℕ → ℕ
@@ -63,14 +46,6 @@ NamesSector passed track cells sector = IsAddress track (byte_read passed cells 
 -- it ends after them
 abbrev pub header_end : (passed : ℕ) → List Bool → ℕ
 header_end passed cells = bytes_end passed cells MARK_CELLS ADDRESS_BYTES
-
--- after a header D5 AA is a sync, whatever comes after it
-abbrev pub IsSync : List Bool → ℕ → Type 0
-IsSync cells place = Stands cells DATA_SYNC DATA_SYNC_CELLS place
-
--- the byte after it that opens data
-abbrev pub DATA_BYTE : ℕ
-DATA_BYTE = 0xAD
 
 -- the place of the byte that is read after a sync, and the place after that byte
 abbrev pub opening_place : (passed : ℕ) → List Bool → ℕ → ℕ

@@ -2,7 +2,7 @@
 -- nibbles, of which each has a value exclusive-or the one before.
 use Rattle.std.specs.Prelude.{◌≡◌, ℕ, ◌+◌, ◌-◌, ◌*◌, ◌/◌, ◌%◌, ◌<◌, List, ◌∷◌, length, get_or, map, bit_xor, if◌then◌else◌, nat_lt}
 use Rattle.std.specs.List.{range_with_len}
-use Rattle.apple_gcr.specs.Nibbles.{nibble}
+use Rattle.apple_nibbles.specs.Nibbles.{nibble}
 
 -- the values of a sector, and its nibbles, one more for the check value
 abbrev pub VALUES : ℕ

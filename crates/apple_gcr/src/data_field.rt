@@ -1,26 +1,13 @@
 ghost use Rattle.std.specs.Prelude.{◌≡◌, ℕ, ◌^◌, ◌<◌, ◌≤◌, [], List, false, length, IfNone, IfSome, IsTrue};
-ghost use Rattle.frame_law.specs.Frames.{IsDataSync};
 ghost use Rattle.apple_gcr.specs.DiskBytes.{byte_read, bytes_end, zeros_passed};
-ghost use Rattle.apple_gcr.specs.Sectors.{Hold, IsSync, data_end};
+ghost use Rattle.apple_gcr.specs.Sectors.{Hold, data_end};
 ghost use Rattle.apple_gcr.specs.SixAndTwo.{AreCoded};
 
 use crate::disk_bytes::{ByteRule, byte_place, bytes_end};
-use crate::layout::{
-    BYTE_CELLS, DATA_BYTE, DATA_BYTE_PLACE, DATA_REACH, DATA_SYNC, DATA_SYNC_CELLS, NIBBLES,
-};
-use crate::nibbles::{disk_byte_at, value_of};
+use crate::layout::NIBBLES;
 use crate::six_and_two::{VALUES, Values, take_bytes};
+use apple_nibbles::{BYTE_CELLS, DATA_BYTE, DATA_BYTE_PLACE, disk_byte_at, value_of};
 use frame_law::{CellsFrom, SectorBuffer};
-
-/// The first sync after the header, which ends at this offset, within reach.
-pub(crate) fn first_sync(frame: &CellsFrom, header_end: usize) -> Option<usize>
-    requires { header_end < 2 ^ 31 }
-    ensures first { IfSome result (λ sync. IsDataSync header_end (IsSync frame.now) sync) }
-    ensures none { IfNone result ((sync : ℕ) → ¬ IsDataSync header_end (IsSync frame.now) sync) }
-{
-    let end = header_end + DATA_REACH;
-    frame.find_word(header_end, end, DATA_SYNC, DATA_SYNC_CELLS)
-}
 
 /// Where the data end whose sync stands at the offset. None where they are not whole.
 pub(crate) fn data_end(rule: ByteRule, frame: &CellsFrom, sync: usize) -> Option<usize>

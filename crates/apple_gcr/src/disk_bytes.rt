@@ -4,8 +4,7 @@ ghost use Rattle.std.specs.Prelude.{◌≡◌, ℕ, ◌+◌, ◌^◌, ◌<◌, �
 ghost use Rattle.cell_bits.specs.Word.{word_cells};
 ghost use Rattle.apple_gcr.specs.DiskBytes.{byte_place, bytes_end, zeros_first, zeros_passed};
 
-use crate::layout::BYTE_CELLS;
-use crate::nibbles::disk_byte_at;
+use apple_nibbles::{BYTE_CELLS, disk_byte_at};
 use frame_law::CellsFrom;
 
 /// By which rule disk bytes are read from the cells.

@@ -4,8 +4,8 @@ ghost use Rattle.apple_gcr.specs.Sectors.{IsAddress, NamesSector, header_end};
 
 use crate::disk_bytes::{ByteRule, byte_place, bytes_end};
 use crate::four_and_four::byte_of;
-use crate::layout::{ADDRESS_BYTES, ADDRESS_PLACE, BYTE_CELLS};
-use crate::nibbles::disk_byte_at;
+use crate::layout::{ADDRESS_BYTES, ADDRESS_PLACE};
+use apple_nibbles::{BYTE_CELLS, disk_byte_at};
 use arrayvec::ArrayVec;
 use check_values::xor_bytes;
 use flux_base::TrackId;

@@ -1,6 +1,8 @@
 ghost use Rattle.std.specs.Prelude.{◌≡◌};
 ghost use Rattle.apple_gcr.specs.Layout.{word_of};
 
+use apple_nibbles::{ADDRESS_MARK, DATA_MARK};
+
 /// A row of a track.
 #[derive(Clone, Copy)]
 pub enum Row {
@@ -36,12 +38,6 @@ impl Mark {
         }
     }
 }
-
-/// D5 AA 96, which opens an address field.
-pub(crate) const ADDRESS_MARK: u32 = 0xD5_AA96;
-
-/// D5 AA AD, which opens a data field.
-const DATA_MARK: u32 = 0xD5_AAAD;
 
 /// DE AA EB, which closes both.
 const EPILOGUE: u32 = 0xDE_AAEB;
@@ -79,37 +75,11 @@ pub(crate) const VOLUME: u8 = 254;
 /// The cells of a track.
 pub(crate) const RING_CELLS: u32 = 49994;
 
-/// A byte FF and two zeros, by their cells: whatever the cell at which a reader begins, after some of them it
-/// reads bytes where they begin.
-pub(crate) const SELF_SYNC: u32 = 0x3FC;
-
-pub(crate) const SELF_SYNC_CELLS: u8 = 10;
-
-/// The cells of a byte.
-pub(crate) const BYTE_CELLS: usize = 8;
-
-/// A mark is a word of so many cells.
-pub(crate) const MARK_CELLS: u8 = 24;
-
 /// The bytes of a header after its mark: volume, track, sector and check value, of two halves each.
 pub(crate) const ADDRESS_BYTES: usize = 8;
 
 /// Where they are read from, in cells from the header's begin.
 pub(crate) const ADDRESS_PLACE: usize = 24;
 
-/// D5 AA, with which the mark of a data field begins.
-pub(crate) const DATA_SYNC: u32 = 0xD5AA;
-
-pub(crate) const DATA_SYNC_CELLS: u8 = 16;
-
-/// The third byte of that mark.
-pub(crate) const DATA_BYTE: u8 = 0xAD;
-
-/// Where it is read from, in cells from the data sync.
-pub(crate) const DATA_BYTE_PLACE: usize = 16;
-
-/// The nibbles after it.
+/// The nibbles of a data field, after its mark.
 pub(crate) const NIBBLES: usize = 343;
-
-/// The data sync begins less than this number of cells after the header.
-pub(crate) const DATA_REACH: usize = 1024;

@@ -7,7 +7,6 @@ mod four_and_four;
 mod header;
 mod laws;
 mod layout;
-mod nibbles;
 mod recording;
 mod rows;
 mod six_and_two;

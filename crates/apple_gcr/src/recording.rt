@@ -4,19 +4,20 @@ ghost use Rattle.apple_gcr.specs.lemmas.FrameLaws.{frame_ends, frame_stands};
 ghost use Rattle.apple_gcr.specs.Layout.{row_cells, row_size, rows};
 ghost use Rattle.apple_gcr.specs.lemmas.RowLaws.{row_follows, row_length};
 ghost use Rattle.apple_gcr.specs.DiskBytes.{zeros_passed};
-ghost use Rattle.apple_gcr.specs.Sectors.{Hold, IsSync, IsAppleTrack, NamesSector, data_end, header_end};
+ghost use Rattle.apple_gcr.specs.Sectors.{Hold, IsAppleTrack, NamesSector, data_end, header_end};
+ghost use Rattle.apple_nibbles.specs.Marks.{IsSync};
 ghost use Rattle.apple_gcr.specs.lemmas.ByteLaws.{zeros-few};
 ghost use Rattle.apple_gcr.specs.lemmas.StandLaws.{one_content, one_name, sizes, sums, tells, tells_ends, within_reach};
 ghost use Rattle.apple_gcr.specs.lemmas.Syncs.{own_syncs};
 
-use crate::data_field::{data_end, first_sync, read_field};
+use crate::data_field::{data_end, read_field};
 use crate::disk_bytes::ByteRule;
 use crate::header::{header_end, named_sector};
 use crate::layout::{
-    ADDRESS_MARK, FIRST_SECTOR, LEAD_IN, LEAD_OUT, MARK_CELLS, RING_CELLS, Row, SECTOR,
-    SECTOR_SIZE, SECTORS,
+    FIRST_SECTOR, LEAD_IN, LEAD_OUT, RING_CELLS, Row, SECTOR, SECTOR_SIZE, SECTORS,
 };
 use crate::rows::push_row;
+use apple_nibbles::{ADDRESS_MARK, MARK_CELLS, first_sync};
 use cell_bits::Cells;
 use flux_base::{Memory, TrackId};
 use frame_law::{CellsFrom, Layout, SectorBuffer};

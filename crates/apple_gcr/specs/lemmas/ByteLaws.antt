@@ -9,7 +9,7 @@ use Rattle.track_rings.specs.lemmas.Fronts.{AgreeTo, agree-part, agree-word}
 use Rattle.apple_gcr.specs.declared.disk_bytes.ByteRule.{ByteRule}
 use Rattle.apple_gcr.specs.declared.disk_bytes.ByteRule.TheVariants.{Strict, Controller}
 use Rattle.apple_gcr.specs.DiskBytes.{byte_place, byte_read, bytes_end, zeros_first, zeros_passed}
-use Rattle.apple_gcr.specs.Nibbles.{disk_byte}
+use Rattle.apple_nibbles.specs.Nibbles.{disk_byte}
 
 -- no rule passes over more than seven
 pub zeros-few : (rule : ByteRule) → zeros_passed rule ≤ 7

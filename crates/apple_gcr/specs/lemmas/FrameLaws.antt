@@ -13,12 +13,14 @@ use Rattle.apple_gcr.specs.declared.layout.Row.TheVariants.{Address}
 use Rattle.apple_gcr.specs.DiskBytes.{byte_read}
 use Rattle.apple_gcr.specs.lemmas.ByteLaws.{strict-place, strict-read}
 use Rattle.apple_gcr.specs.lemmas.RuleLaws.{header_ends, hold_by, names_by, data_ends}
-use Rattle.apple_gcr.specs.lemmas.FieldLaws.{AreFieldBytes-halves, address_cells, bytes-read, disk_byte-past, in_halves, length-bytes_cells}
-use Rattle.apple_gcr.specs.Layout.{EPILOGUE, VOLUME, address_of, row_cells, rows, self_syncs}
-use Rattle.apple_gcr.specs.Nibbles.{bytes_cells, disk_byte}
+use Rattle.apple_gcr.specs.lemmas.HalfLaws.{AreFieldBytes-halves, address_cells, in_halves}
+use Rattle.apple_gcr.specs.Layout.{EPILOGUE, VOLUME, address_of, row_cells, rows}
 use Rattle.apple_gcr.specs.lemmas.RowLaws.{address-fits}
-use Rattle.apple_gcr.specs.Sectors.{ADDRESS_MARK, DATA_MARK, DATA_SYNC, Hold, IsSync, IsAppleTrack, NamesSector, data_end, header_end, opening_end, opening_place}
+use Rattle.apple_gcr.specs.Sectors.{Hold, IsAppleTrack, NamesSector, data_end, header_end, opening_end, opening_place}
 use Rattle.apple_gcr.specs.SixAndTwo.{data_nibbles, values_of}
+use Rattle.apple_nibbles.specs.Marks.{ADDRESS_MARK, DATA_MARK, DATA_SYNC, IsSync, self_syncs}
+use Rattle.apple_nibbles.specs.Nibbles.{bytes_cells, disk_byte}
+use Rattle.apple_nibbles.specs.lemmas.FieldBytes.{bytes-read, disk_byte-past, length-bytes_cells}
 use Rattle.apple_gcr.specs.lemmas.ValueLaws.{data_nibbles-are, get_or-data_nibbles, length-data_nibbles, length-values_of, values_of-carry, values_of-fit}
 
 -- the epilogue and the gap from a header to the data, and the mark of the data

@@ -6,12 +6,14 @@ use Rattle.cell_bits.specs.Broken.{Unbroken}
 use Rattle.frame_law.specs.Frames.{IsDataSync}
 use Rattle.apple_gcr.specs.DiskBytes.{byte_read, bytes_end}
 use Rattle.apple_gcr.specs.FourAndFour.{AreHalves}
-use Rattle.apple_gcr.specs.Nibbles.{disk_byte}
+use Rattle.apple_nibbles.specs.Nibbles.{disk_byte}
 use Rattle.apple_gcr.specs.Rules.{StrictStandsByController}
-use Rattle.apple_gcr.specs.Sectors.{HeaderStands, Hold, IsAddress, IsSync, NamesSector, SectorStands, data_end, header_end, opening_end, opening_place}
+use Rattle.apple_gcr.specs.Sectors.{HeaderStands, Hold, IsAddress, NamesSector, SectorStands, data_end, header_end, opening_end, opening_place}
 use Rattle.apple_gcr.specs.SixAndTwo.{AreCoded, code_at}
 use Rattle.apple_gcr.specs.lemmas.ByteLaws.{AreHigh, lift-end, lift-read, place-here, strict-end, strict-place}
-use Rattle.apple_gcr.specs.lemmas.FieldLaws.{IsFieldByte-halves, IsFieldByte-nibble}
+use Rattle.apple_gcr.specs.lemmas.HalfLaws.{IsFieldByte-halves}
+use Rattle.apple_nibbles.specs.Marks.{IsSync}
+use Rattle.apple_nibbles.specs.lemmas.FieldBytes.{IsFieldByte-nibble}
 use Rattle.apple_gcr.specs.lemmas.StandLaws.{same_address, same_coded}
 use Rattle.apple_gcr.specs.lemmas.ValueLaws.{code-fits}
 

@@ -9,13 +9,15 @@ use Rattle.apple_gcr.specs.DiskBytes.{byte_read, bytes_end}
 use Rattle.apple_gcr.specs.FourAndFour.{AreHalves}
 use Rattle.apple_gcr.specs.Layout.{row_size, rows}
 use Rattle.apple_gcr.specs.lemmas.ByteLaws.{end-least, end-more, place-least, same_end, same_place, same_read}
-use Rattle.apple_gcr.specs.lemmas.FieldLaws.{halves-read}
-use Rattle.apple_gcr.specs.Nibbles.{disk_byte}
-use Rattle.apple_gcr.specs.Sectors.{Hold, IsAddress, IsSync, NamesSector, data_end, header_end, opening_end, opening_place}
+use Rattle.apple_gcr.specs.lemmas.HalfLaws.{halves-read}
+use Rattle.apple_gcr.specs.Sectors.{Hold, IsAddress, NamesSector, data_end, header_end, opening_end, opening_place}
 use Rattle.apple_gcr.specs.SixAndTwo.{AreCoded}
 use Rattle.apple_gcr.specs.lemmas.ValueLaws.{one_carried, one_list}
-use Rattle.track_rings.specs.lemmas.Fronts.{AgreeTo, agree-stands, agree-word}
+use Rattle.track_rings.specs.lemmas.Fronts.{AgreeTo, agree-stands}
 use Rattle.frame_law.specs.lemmas.OwnFrames.{TellsEarly, TellsEnds}
+use Rattle.apple_nibbles.specs.Marks.{IsSync}
+use Rattle.apple_nibbles.specs.Nibbles.{disk_byte}
+use Rattle.apple_nibbles.specs.lemmas.FieldBytes.{same_byte}
 
 pub sizes : AreSizes 1 3 24 88 2
 sizes = record {
@@ -85,11 +87,6 @@ header_least passed cells = omega (arith, end-least passed cells 24 8)
 pub data_least : (passed : ℕ) (cells : List Bool) (sync : ℕ) → sync + 2768 ≤ data_end passed cells sync
 data_least passed cells sync =
     omega (arith, end-least passed cells (opening_end passed cells sync) 343, place-least passed cells (sync + 16))
-
-same_byte : (total : ℕ) (cells others : List Bool) → AgreeTo total cells others → (place : ℕ) → place + 8 ≤ total
-    → disk_byte others place ≡ disk_byte cells place
-unfolding disk_byte
-same_byte total cells others same place long = sym (agree-word total cells others same place 8 long)
 
 synced : (cells others : List Bool) (place : ℕ) → AgreeTo (place + 2768 - 7) cells others → IsSync cells place → IsSync others place
 synced cells others place same stands = agree-stands (place + 2768 - 7) cells others same 0xD5AA 16 place (omega arith) stands

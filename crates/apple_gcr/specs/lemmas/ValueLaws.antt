@@ -10,8 +10,9 @@ use Rattle.std.proofs.lemmas.Nat.{xor_lt}
 use Rattle.std.specs.Int.Bits.{xor_assoc, xor_self, xor_zero_r}
 use Rattle.std.specs.List.{range_with_len}
 use Rattle.track_rings.specs.Rings.{AreBytes}
-use Rattle.apple_gcr.specs.lemmas.FieldLaws.{AreFieldBytes, AreFieldBytes-map, IsFieldByte-nibble, one_value}
-use Rattle.apple_gcr.specs.Nibbles.{nibble}
+use Rattle.apple_nibbles.specs.Nibbles.{nibble}
+use Rattle.apple_nibbles.specs.lemmas.FieldBytes.{AreFieldBytes, AreFieldBytes-map, IsFieldByte-nibble}
+use Rattle.apple_nibbles.specs.lemmas.NibbleLaws.{one_value}
 use Rattle.apple_gcr.specs.SixAndTwo.{Carries, code_at, data_nibbles, swapped, value_at, values_of}
 
 -- each of a list of bytes

@@ -1,9 +1,8 @@
 use Rattle.std.proofs.Common.{◌≡◌, ◌%◌, ℕ, get_or, ap, sym, ◌∙◌, lit<}
 use Rattle.std.proofs.Math.Nat.{mod-lt}
-use Rattle.apple_gcr.specs.declared.nibbles.TheConstants.{NIBBLES, VALUES_BY_BYTE}
-use Rattle.apple_gcr.specs.lemmas.FieldLaws.{nibble-is, value-of_nibble}
-use Rattle.apple_gcr.proofs.Values.{value-fits}
-use Rattle.apple_gcr.proofs.nibbles.value_of.Goals as goal
+use Rattle.apple_nibbles.specs.declared.nibbles.TheConstants.{NIBBLES, VALUES_BY_BYTE}
+use Rattle.apple_nibbles.specs.lemmas.NibbleLaws.{nibble-is, value-fits, value-of_nibble}
+use Rattle.apple_nibbles.proofs.nibbles.value_of.Goals as goal
 
 pub bounds-value : goal.bounds-value
 bounds-value c = value-fits (c.args.byte % 128) (mod-lt c.args.byte (lit< tt))

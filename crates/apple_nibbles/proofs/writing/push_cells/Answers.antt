@@ -1,6 +1,6 @@
 use Rattle.std.proofs.Common.{arith}
 use Rattle.cell_bits.specs.lemmas.WordLaws.{length-word_cells}
-use Rattle.apple_gcr.proofs.rows.push_cells.Goals as goal
+use Rattle.apple_nibbles.proofs.writing.push_cells.Goals as goal
 
 pub returns : goal.returns
 returns c = record {

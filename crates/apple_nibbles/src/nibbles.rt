@@ -1,7 +1,7 @@
 ghost use Rattle.std.specs.Prelude.{◌≡◌, ◌≢◌, ℕ, ◌+◌, ◌<◌, ◌≤◌, length, IfNone, IfSome};
-ghost use Rattle.apple_gcr.specs.Nibbles.{disk_byte, nibble};
+ghost use Rattle.apple_nibbles.specs.Nibbles.{disk_byte, nibble};
 
-use crate::layout::BYTE_CELLS;
+use crate::BYTE_CELLS;
 use frame_law::CellsFrom;
 
 /// The nibbles of the values 0 to 63.
@@ -25,7 +25,7 @@ static VALUES_BY_BYTE: [u8; 128] = [
 ];
 
 /// How a byte is taken from the cells, here and nowhere else: the eight cells at the offset, high bit first.
-pub(crate) fn disk_byte_at(frame: &CellsFrom, offset: usize) -> u8
+pub fn disk_byte_at(frame: &CellsFrom, offset: usize) -> u8
     requires { offset + 8 ≤ length frame.now }
     ensures { result ≡ disk_byte frame.now offset }
 {
@@ -33,7 +33,7 @@ pub(crate) fn disk_byte_at(frame: &CellsFrom, offset: usize) -> u8
 }
 
 /// The nibble of a value of six bits.
-pub(crate) fn nibble_of(value: u8) -> u8
+pub fn nibble_of(value: u8) -> u8
     requires { value < 64 }
     ensures { result ≡ nibble value }
 {
@@ -41,7 +41,7 @@ pub(crate) fn nibble_of(value: u8) -> u8
 }
 
 /// The value whose nibble the byte is. None where it is the nibble of none.
-pub(crate) fn value_of(byte: u8) -> Option<u8>
+pub fn value_of(byte: u8) -> Option<u8>
     ensures some { IfSome result (λ value. (value < 64) × (nibble value ≡ byte)) }
     ensures none { IfNone result ((value : ℕ) → value < 64 → nibble value ≢ byte) }
 {

@@ -4,8 +4,8 @@ use Rattle.cell_bits.specs.Word.{word_cells}
 use Rattle.cell_bits.specs.lemmas.WordLaws.{length-word_cells}
 use Rattle.frame_law.specs.lemmas.WritingLaws.{AppendsCells-stop}
 use Rattle.frame_law.specs.lemmas.WordRowLaws.{length-row}
-use Rattle.apple_gcr.specs.Layout.{SELF_SYNC, self_syncs}
-use Rattle.apple_gcr.proofs.rows.push_self_syncs.Goals as goal
+use Rattle.apple_nibbles.specs.Marks.{SELF_SYNC, self_syncs}
+use Rattle.apple_nibbles.proofs.writing.push_self_syncs.Goals as goal
 
 pub returns-in_err-push_cells : goal.returns-in_err-push_cells
 returns-in_err-push_cells c =

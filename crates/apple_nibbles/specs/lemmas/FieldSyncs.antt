@@ -1,0 +1,141 @@
+-- Where a sync that begins with the byte D5, as the marks of fields do, begins in fields, self-syncs and marks.
+use Rattle.std.specs.Prelude.{◌≡◌, ℕ, zero, suc, ◌⊎◌, Bool, true, List, [], ◌∷◌, ◌++◌, length, drop, Option, Some, refl}
+use Rattle.std.proofs.Common.{sym, subst, arith, inl, inr}
+use Rattle.std.proofs.lemmas.List.{length-map, take_all}
+use Rattle.cell_bits.specs.Word.{Stands, word_cells}
+use Rattle.cell_bits.specs.lemmas.WordLaws.{length-word_cells}
+use Rattle.track_rings.specs.lemmas.Owning.{Leads}
+use Rattle.track_rings.specs.lemmas.Syncs.{Nowhere, QuietPart, SyncPart, Syncs, all_known, clashes, clashes-not, clashes_at_all, fits, fits-append, fits-front, fits-known, fits-word, nowhere-known, only-first, quiet-append, quiet-none}
+use Rattle.apple_nibbles.specs.Marks.{ADDRESS_MARK, DATA_MARK, SELF_SYNC, self_syncs}
+use Rattle.apple_nibbles.specs.Nibbles.{bytes_cells}
+use Rattle.apple_nibbles.specs.lemmas.FieldBytes.{AreFieldBytes, IsFieldByte, mark_byte, one_byte}
+
+-- what is known of two bytes: their first cells are ones
+abbrev pub two_bytes : List (Option Bool)
+two_bytes = one_byte ++ Some true ∷ []
+
+-- a self-sync
+abbrev pub self_sync : List (Option Bool)
+self_sync = all_known (word_cells 10 SELF_SYNC)
+
+-- what follows a byte, a self-sync or a mark
+unfoldable pub Follows : List Bool → Type 0
+Follows cells = (fits two_bytes cells ≡ true) ⊎ (fits self_sync cells ≡ true)
+
+-- A sync that begins with the byte D5, in no byte but at its begin, and in no self-sync.
+pub record IsMarkSync (sync : List (Option Bool)) : Type 0 where
+  pub rest : List (Option Bool)
+  pub begins : sync ≡ mark_byte ++ rest
+  pub in_byte : clashes_at_all sync 7 (drop 1 one_byte ++ two_bytes) ≡ true
+  pub in_last_byte : clashes_at_all sync 7 (drop 1 one_byte ++ self_sync) ≡ true
+  pub in_self_sync : clashes_at_all sync 10 self_sync ≡ true
+
+-- an address mark without its first cell, which is a one
+unfoldable pub sync_rest : List (Option Bool)
+sync_rest = all_known (word_cells 23 0x55AA96)
+
+abbrev pub address_sync : List (Option Bool)
+address_sync = Some true ∷ sync_rest
+
+pub length-sync_rest : length sync_rest ≡ 23
+unfolding sync_rest word_cells
+length-sync_rest = refl
+
+pub leads : (cells : List Bool) → Stands cells ADDRESS_MARK 24 0 → Leads 0 sync_rest cells
+unfolding sync_rest word_cells
+leads cells stands = fits-word (word_cells 24 ADDRESS_MARK) cells 24 (length-word_cells 24 ADDRESS_MARK) stands
+
+pub address_is : IsMarkSync address_sync
+unfolding sync_rest word_cells clashes_at_all clashes
+address_is = record {
+  rest = all_known (word_cells 16 0xAA96);
+  begins = refl;
+  in_byte = refl;
+  in_last_byte = refl;
+  in_self_sync = refl;
+}
+
+module _ (sync : List (Option Bool)) (is : IsMarkSync sync) where
+  -- it begins nowhere in cells of which what is known clashes with it before either
+  pub known_quiet : (known : List (Option Bool)) (xs : List Bool) (count : ℕ) → length xs ≡ count → length known ≡ length xs → fits known xs ≡ true
+      → clashes_at_all sync count (known ++ two_bytes) ≡ true
+      → clashes_at_all sync count (known ++ self_sync) ≡ true
+      → (rest : List Bool) → Follows rest → Nowhere (Syncs sync) xs rest
+  unfolding Follows
+  known_quiet known xs count size same fit first second rest (inl bytes) =
+      nowhere-known sync (known ++ two_bytes) xs rest count size first (fits-append known two_bytes xs rest same fit bytes)
+  known_quiet known xs count size same fit first second rest (inr syncs) =
+      nowhere-known sync (known ++ self_sync) xs rest count size second (fits-append known self_sync xs rest same fit syncs)
+
+  -- nowhere in seven cells of which nothing is known
+  seven_quiet : (xs rest : List Bool) → length xs ≡ 7 → fits (drop 1 one_byte) xs ≡ true → Follows rest → Nowhere (Syncs sync) xs rest
+  seven_quiet xs rest size fit follows = known_quiet (drop 1 one_byte) xs 7 size (sym size) fit is.in_byte is.in_last_byte rest follows
+
+  byte_nowhere : (byte : ℕ) (rest : List Bool) → IsFieldByte byte → Follows rest → Nowhere (Syncs sync) (word_cells 8 byte) rest
+  unfolding word_cells fits
+  byte_nowhere byte rest of_field follows zero within stands =
+      let cells = word_cells 8 byte ++ rest in
+      let first : fits mark_byte cells ≡ true =
+      fits-front mark_byte is.rest cells (subst (λ (known : List (Option Bool)). fits known cells ≡ true) is.begins stands) in
+      clashes-not mark_byte (all_known (word_cells 8 byte)) cells of_field.other first (fits-known (word_cells 8 byte) rest)
+  byte_nowhere byte rest of_field follows (suc place) within stands =
+      seven_quiet (word_cells 7 byte) rest refl refl follows place (omega (arith, within)) stands
+
+  one_first : (rest : List Bool) → Follows rest → fits (Some true ∷ []) rest ≡ true
+  unfolding Follows word_cells
+  one_first rest (inl bytes) = fits-front (Some true ∷ []) (drop 1 two_bytes) rest bytes
+  one_first rest (inr syncs) = fits-front (Some true ∷ []) (drop 1 self_sync) rest syncs
+
+  byte_quiet : (byte : ℕ) → IsFieldByte byte → QuietPart (Syncs sync) Follows Follows (word_cells 8 byte)
+  unfolding Follows
+  byte_quiet byte of_field rest follows = (
+    byte_nowhere byte rest of_field follows,
+    inl (fits-append one_byte (Some true ∷ []) (word_cells 8 byte) rest (sym (length-word_cells 8 byte)) of_field.begins (one_first rest follows)),
+  )
+
+  -- nor in the bytes of a field
+  pub bytes_quiet : (bytes : List ℕ) → AreFieldBytes bytes → QuietPart (Syncs sync) Follows Follows (bytes_cells bytes)
+  bytes_quiet [] all = quiet-none (Syncs sync) Follows
+  bytes_quiet (byte ∷ bytes) all =
+      quiet-append (Syncs sync) Follows Follows Follows (word_cells 8 byte) (bytes_cells bytes) (byte_quiet byte all.0) (bytes_quiet bytes all.1)
+
+  -- self-syncs are quiet whatever follows
+  self_sync_quiet : QuietPart (Syncs sync) Follows Follows (word_cells 10 SELF_SYNC)
+  unfolding Follows word_cells fits
+  self_sync_quiet rest follows = (
+    nowhere-known sync self_sync (word_cells 10 SELF_SYNC) rest 10 refl is.in_self_sync (fits-known (word_cells 10 SELF_SYNC) rest),
+    inr refl,
+  )
+
+  pub self_syncs_quiet : (count : ℕ) → QuietPart (Syncs sync) Follows Follows (self_syncs count)
+  self_syncs_quiet zero = quiet-none (Syncs sync) Follows
+  self_syncs_quiet (suc count) =
+      quiet-append (Syncs sync) Follows Follows Follows (word_cells 10 SELF_SYNC) (self_syncs count) self_sync_quiet (self_syncs_quiet count)
+
+  -- nor in a mark that clashes with it
+  pub mark_quiet : (mark : ℕ) → ((rest : List Bool) → fits two_bytes (word_cells 24 mark ++ rest) ≡ true)
+      → clashes_at_all sync 24 (all_known (word_cells 24 mark) ++ two_bytes) ≡ true
+      → clashes_at_all sync 24 (all_known (word_cells 24 mark) ++ self_sync) ≡ true
+      → QuietPart (Syncs sync) Follows Follows (word_cells 24 mark)
+  unfolding Follows
+  mark_quiet mark begins first second rest follows =
+      let cells = word_cells 24 mark in
+      let size = length-word_cells 24 mark in (
+        known_quiet (all_known cells) cells 24 size (length-map cells (λ cell. Some cell))
+            (fits-word cells cells 24 size (take_all 24 cells (omega (arith, size)))) first second rest follows,
+        inl (begins rest),
+      )
+
+-- the mark of an address field, at its begin alone
+pub address_mark_first : SyncPart (Syncs address_sync) (λ place. place ≡ 0) Follows Follows (word_cells 24 ADDRESS_MARK)
+unfolding Follows sync_rest word_cells clashes_at_all clashes fits
+address_mark_first rest follows = (
+  only-first (Syncs address_sync) true (word_cells 23 ADDRESS_MARK) rest
+      (known_quiet address_sync address_is (all_known (word_cells 23 ADDRESS_MARK)) (word_cells 23 ADDRESS_MARK) 23 refl refl refl refl refl rest follows),
+  inl refl,
+)
+
+-- and that of a data field nowhere
+pub data_mark_quiet : QuietPart (Syncs address_sync) Follows Follows (word_cells 24 DATA_MARK)
+unfolding sync_rest word_cells clashes_at_all clashes fits
+data_mark_quiet = mark_quiet address_sync address_is DATA_MARK (λ rest. refl) refl refl
