@@ -30,7 +30,7 @@ $(DEMO)/disk.adf: $(PROGRAM) samples/demo.py
 
 # The crates that do not stand on each other are proved side by side; then the program is linked, and run on a stream.
 $(PROGRAM): $(SOURCES)
-	rt all check --jobs $(JOBS)
+	.ci/first-build $(JOBS)
 	cd crates/flux && rt run -- turns < ../../samples/three-turns.raw
 	touch $@
 
