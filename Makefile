@@ -11,7 +11,7 @@ SOURCES = crates.txt $(shell find crates -name out -prune -o \( -name '*.rt' -o 
 DEMO = out/demo
 DECODE = $(PROGRAM) decode-folder amiga $(DEMO)/disk
 
-.PHONY: demo test check install uninstall
+.PHONY: demo test check wrong install uninstall
 
 # The program is built only once all of it is proved, so a first build takes long. Later calls start at once.
 demo: $(PROGRAM) $(DEMO)/disk.adf
@@ -40,6 +40,10 @@ check:
 
 test:
 	.ci/run
+
+# The wrong bodies that the gate does not try, on a copy: make wrong, which takes hours, or make wrong NAME=turn_merge
+wrong:
+	.ci/wrong $(NAME)
 
 install: $(PROGRAM)
 	install -D -m 755 $(PROGRAM) $(DESTDIR)$(PREFIX)/bin/flux
