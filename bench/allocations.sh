@@ -3,13 +3,13 @@
 # has no memory, and to have called neither read nor write. A run of which none is refused has to take no memory after its
 # first read. Needs a C compiler.
 #
-# usage: bench/allocations.sh [PROGRAM]     (PROGRAM: crates/flux/out/flux)
+# usage: bench/run allocations [PROGRAM]     (PROGRAM: crates/flux/out/flux)
 top=$(cd "$(dirname "$0")/.." && pwd)
 program=$(realpath "${1:-$top/crates/flux/out/flux}")
 work=$(mktemp -d)
 trap 'rm -rf "$work"' EXIT
 cd "$work" || exit 1
-cc -O1 -shared -fPIC -o counts.so "$top/bench/allocations.c" -ldl || exit 1
+cc -O1 -shared -fPIC -o counts.so "$top/bench/modules/allocations.c" -ldl || exit 1
 
 # The shortest good stream, disks of it, and an image.
 cp "$top/crates/flux/stdin" stream

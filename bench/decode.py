@@ -1,7 +1,6 @@
-#!/usr/bin/env python3
 """How fast `flux decode` and `flux report` go through whole disks: seconds, MB a second, peak resident memory.
 
-usage: bench/decode.py [PROGRAM [FORMAT..]]     (PROGRAM: crates/flux/out/flux; FORMAT: every one)
+usage: bench/run decode [PROGRAM [FORMAT..]]     (PROGRAM: crates/flux/out/flux; FORMAT: every one)
 
 It makes a dump of each format, five revolutions a track, of an image of random bytes, and checks that the image comes
 back with every sector good. The largest dump has some 60 MB and takes half a minute to make.

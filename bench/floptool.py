@@ -1,7 +1,6 @@
-#!/usr/bin/env python3
 """Holds disks against MAME's floptool (Debian's mame-tools), sector by sector. It is no part of the gate.
 
-usage: bench/floptool.py [PROGRAM [FORMAT..]]     (PROGRAM: crates/flux/out/flux; FORMAT: each that floptool knows)
+usage: bench/run floptool [PROGRAM [FORMAT..]]     (PROGRAM: crates/flux/out/flux; FORMAT: each that floptool knows)
 
 There: floptool makes the disk of an image, PROGRAM decodes it, and every sector has to be good and the image the same. Back: PROGRAM
 writes the streams of an image, floptool reads the disk of their second revolutions, and the image has to be the same. floptool

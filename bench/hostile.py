@@ -1,7 +1,6 @@
-#!/usr/bin/env python3
 """The worst inputs for time and memory, at 1 MiB and at 4 MiB, for each command that the program has. Needs time(1).
 
-usage: bench/hostile.py [--count] [--work FOLDER] [PROGRAM [COMMAND..]]     (PROGRAM: crates/flux/out/flux; COMMAND: every one)
+usage: bench/run hostile [--count] [--work FOLDER] [PROGRAM [COMMAND..]]     (PROGRAM: crates/flux/out/flux; COMMAND: every one)
 
 A row has the processor time at both sizes, the least of nine runs, their ratio, and the peak of resident memory. It fails where 4 MiB
 take more than 4.4 times what 1 MiB takes, or where the peak is not below 128 MiB. What `write` and `trial` do has one size for each
@@ -22,11 +21,11 @@ import tempfile
 from pathlib import Path
 
 import plain_recordings as recordings
-from compare import commands_of
 from measure import peak_of
 from plain import FORMATS
 from plain_recordings import MfmList, fm, gcr, places_of, raw, word
 from plain_streams import index_block, places_of_ones, spelled_between
+from programs import commands_of
 
 TOP = Path(__file__).resolve().parent.parent
 SIZES = (1 << 20, 1 << 22)
@@ -227,7 +226,7 @@ class Table:
 
 
 def options():
-    parser = argparse.ArgumentParser()
+    parser = argparse.ArgumentParser(prog="bench/run hostile")
     parser.add_argument("--count", action="store_true", help="instructions in place of times")
     parser.add_argument("--work", help="the folder below which temporary files lie")
     parser.add_argument("program", nargs="?", default=TOP / "crates/flux/out/flux")

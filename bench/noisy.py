@@ -1,7 +1,6 @@
-#!/usr/bin/env python3
 """What tracks cost that are not as they were written: five revolutions with noise of each recording, and tracks without a format.
 
-usage: bench/noisy.py [PROGRAM]     (PROGRAM: crates/flux/out/flux)
+usage: bench/run noisy [PROGRAM]     (PROGRAM: crates/flux/out/flux)
 
 A row has the stream's bytes, and millions of instructions and instructions a byte by valgrind(1), which are the same each time. Each
 stream is one track, the first of its disk; the disk's other tracks are not there, so that `decode` ends with a fault after it.

@@ -1,4 +1,3 @@
-#!/usr/bin/env python3
 """Tracks that one clock reads and the other does not, decoded by `rescue`: what each clock reads, and what both come to.
 
 Of each recording a stream with a burst of noise (64 pulses, a microsecond apart) before the first sector of each revolution and one in the
@@ -7,7 +6,7 @@ which neither reads whole; and an Amiga track whose second revolution has two da
 value. Where a program is given, its answers have to be those of the plain reading, to the byte. It says what it found, and ends
 with 1 where that is not so.
 
-usage: bench/rescue.py [PROGRAM]
+usage: bench/run rescue [PROGRAM]
 """
 import os
 import random

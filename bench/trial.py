@@ -1,7 +1,6 @@
-#!/usr/bin/env python3
 """How fast `flux trial` makes and decodes the disk of a number: seconds, peak resident memory.
 
-usage: bench/trial.py [PROGRAM [FORMAT..]]     (PROGRAM: crates/flux/out/flux; FORMAT: every one)
+usage: bench/run trial [PROGRAM [FORMAT..]]     (PROGRAM: crates/flux/out/flux; FORMAT: every one)
 
 It checks that every sector is good, and that the sum is that of the image.
 """

@@ -1,7 +1,6 @@
-#!/usr/bin/env python3
 """How fast `flux turns` reads, and in how much memory: bytes a second and peak resident memory on large streams.
 
-usage: bench/turns.py [PROGRAM]     (PROGRAM: crates/flux/out/flux)
+usage: bench/run turns [PROGRAM]     (PROGRAM: crates/flux/out/flux)
 
 Each stream is piped in, as a user would do it; beside it stands `wc -c` of the same bytes.
 """

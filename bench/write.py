@@ -1,8 +1,7 @@
-#!/usr/bin/env python3
 """How fast `flux write` makes streams of images, and `flux decode` reads them back: seconds, MB a second of streams,
 peak resident memory.
 
-usage: bench/write.py [PROGRAM [FORMAT..]]     (PROGRAM: crates/flux/out/flux; FORMAT: every one)
+usage: bench/run write [PROGRAM [FORMAT..]]     (PROGRAM: crates/flux/out/flux; FORMAT: every one)
 
 It writes an image of random bytes of each format, and checks that what was written is read as the same image.
 """
