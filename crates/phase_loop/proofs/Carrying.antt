@@ -6,11 +6,10 @@ use Rattle.std.proofs.lemmas.List.Concat.{flat_map-append}
 use Rattle.cell_bits.specs.Run.{run_cells}
 use Rattle.track_rings.specs.Rings.{AreNeighbours, cell_of, stretch}
 use Rattle.track_rings.specs.lemmas.Stretches.{stretch-append}
-use Rattle.phase_loop.specs.Start.{HasWholeBand}
 use Rattle.phase_loop.specs.Rows.{Row, next_row, with_next_row, rows_to, rows_of, recovered}
 use Rattle.phase_loop.specs.declared.start.LoopStart.{LoopStart}
 use Rattle.phase_loop.proofs.Clock.{IsClock}
-use Rattle.phase_loop.proofs.Tracking.{StandsAt, StartsNear, next_is, next_stands}
+use Rattle.phase_loop.proofs.Tracking.{KeepsPace, StandsAt, next_is, next_stands}
 
 -- the cells that rows give
 abbrev pub cells_of_rows : List Row → List Bool
@@ -59,13 +58,13 @@ neighbours_run ring place distance near =
     (ap (cell_of ring) end ∙ near.next)
 
 -- the rows of a list of times from a transition on that begins a clock
-module _ (start : LoopStart) (count : ℕ) (fine place distance local ideal : ℕ → ℕ) (clock : IsClock start.nominal count fine place distance local ideal)
-    (starts : StartsNear start.nominal start.first (local 0)) (wide : HasWholeBand start) (ring : List Bool)
+module _ (start : LoopStart) (slack count : ℕ) (fine place distance local ideal : ℕ → ℕ) (clock : IsClock start.nominal count fine place distance local ideal)
+    (pace : KeepsPace start slack count fine place distance local ideal) (ring : List Bool)
     (near : (i : ℕ) → suc i < count → AreNeighbours ring (place i) (distance i))
     (times : List ℕ) (begin : ℕ) (timed : (i : ℕ) → i < count → 1024 * slice_index times (begin + i) ≡ fine i)
-    (first : StandsAt start.nominal fine place local ideal (rows_to start times begin) begin 0) where
+    (first : StandsAt start.nominal slack fine place local ideal (rows_to start times begin) begin 0) where
   pub record HasWalked (i : ℕ) : Type 0 where
-    pub stands : StandsAt start.nominal fine place local ideal (rows_to start times (begin + i)) begin i
+    pub stands : StandsAt start.nominal slack fine place local ideal (rows_to start times (begin + i)) begin i
     pub rises : place 0 ≤ place i
     pub cells : cells_of_rows (rows_to start times (begin + i)) ≡ cells_of_rows (rows_to start times begin) ++ stretch ring (place 0 + 1) (place i - place 0)
 
@@ -89,7 +88,7 @@ module _ (start : LoopStart) (count : ℕ) (fine place distance local ideal : �
       ap (rows_to start times) next ∙ ap (with_next_row start rows) time in
       let row : Row = next_row start rows (fine (suc i)) in
       let counted : row.count ≡ distance i =
-      ap (λ (r : Row). r.count) (next_is start count fine place distance local ideal clock starts wide rows begin i before.stands within) in
+      ap (λ (r : Row). r.count) (next_is start slack count fine place distance local ideal clock pace rows begin i before.stands within) in
       let f = clock.further i within in
       let way : ℕ = place i - place 0 in
       let longer : place (suc i) - place 0 ≡ way + distance i = omega (arith, before.rises, f) in
@@ -98,7 +97,7 @@ module _ (start : LoopStart) (count : ℕ) (fine place distance local ideal : �
       ap (λ (n : ℕ). stretch ring n (distance i)) there ∙ neighbours_run ring (place i) (distance i) (near i within) in
       let front : List Bool = cells_of_rows (rows_to start times begin) in
       record {
-        stands = rw is (next_stands start count fine place distance local ideal clock starts wide rows begin i before.stands within);
+        stands = rw is (next_stands start slack count fine place distance local ideal clock pace rows begin i before.stands within);
         rises = omega (arith, before.rises, f);
         cells =
             ap cells_of_rows is

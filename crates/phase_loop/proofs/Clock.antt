@@ -2,7 +2,7 @@
 use Rattle.std.proofs.Common.{◌≡◌, ℕ, zero, suc, ◌+◌, ◌-◌, ◌*◌, ◌/◌, ◌<◌, ◌≤◌, arith, ◌∙◌, ap}
 use Rattle.std.proofs.Math.Nat.{mul-le-mul_left}
 use Rattle.phase_loop.specs.Start.{band_of, in_band}
-use Rattle.phase_loop.proofs.Nearness.{IsLocal, IsTimed, IsPaced, drifted_paced, mean_paced}
+use Rattle.phase_loop.proofs.Nearness.{IsLocal, IsTimed, IsPaced, drifted_paced, following_slack, mean_paced}
 
 -- So many transitions, with their times in fine units, the places of their ones, the distances to the next ones, the local
 -- periods and the ideal places. No more than that is known of numbers from `count` on.
@@ -81,7 +81,7 @@ module _ (nominal count : ℕ) (fine place distance local ideal : ℕ → ℕ) (
 
   -- the mean of 64 intervals
   pub mean_near : (from last cells : ℕ) → from + 64 ≡ last → last < count → place from + cells ≡ place last
-      → IsPaced nominal (local last) (in_band (band_of nominal) ((fine last - fine from) / cells))
+      → IsPaced nominal (following_slack nominal) (local last) (in_band (band_of nominal) ((fine last - fine from) / cells))
   mean_near from last cells is within places =
       let nearby : (k : ℕ) → k < 64 → IsNearby (local last) (local (from + k)) = λ k under.
       let steps : ℕ = 64 - k in
@@ -105,8 +105,8 @@ module _ (nominal count : ℕ) (fine place distance local ideal : ℕ → ℕ) (
 
   -- the period with which the loop starts, for the first 64 transitions
   pub first_near : (first last : ℕ) → 64 * first ≤ 64 * local 0 + nominal → 64 * local 0 ≤ 64 * first + nominal → last < 64 → last < count
-      → IsPaced nominal (local last) first
+      → IsPaced nominal (following_slack nominal) (local last) first
   first_near first last low high few within =
       let far = drift 0 last (omega (arith, within)) in
       let same : local (0 + last) ≡ local last = let e : 0 + last ≡ last = omega arith in ap local e in
-      drifted_paced nominal first (local 0) (local last) last low high (omega (arith, far.down, same)) (omega (arith, far.up, same)) few
+      drifted_paced nominal first (local 0) (local last) last (clock.speed last within) low high (omega (arith, far.down, same)) (omega (arith, far.up, same)) few

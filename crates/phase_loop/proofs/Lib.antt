@@ -11,6 +11,9 @@ pub mod Certain
 pub mod Between
 pub mod Clock
 pub mod Tracking
+pub mod Pacing
 pub mod Carrying
+pub mod PieceClocks
 pub mod PieceCells
+pub mod RingLaws
 pub mod CellCounts

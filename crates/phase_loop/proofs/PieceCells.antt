@@ -1,74 +1,22 @@
--- Transitions that carry a ring in pieces are recovered as the pieces' cells.
-use Rattle.std.proofs.Common.{◌≡◌, ℕ, suc, ◌+◌, ◌-◌, ◌*◌, ◌/◌, ◌<◌, ◌≤◌, List, [], ◌∷◌, ◌++◌, length, drop, replicate, arith, refl, sym, ◌∙◌, ap, subst, add-one, append_assoc, length-drop, length-append, Bool, true, false, slice_index}
+-- Transitions that carry a ring in pieces are recovered as the pieces' cells, where the loop's period stays near each piece's clock.
+use Rattle.std.proofs.Common.{◌≡◌, ℕ, suc, ◌+◌, ◌-◌, ◌*◌, ◌<◌, ◌≤◌, List, [], ◌∷◌, ◌++◌, length, drop, replicate, arith, refl, sym, ◌∙◌, ap, subst, add-one, append_assoc, length-drop, length-append, Bool, true, false, slice_index}
 use Rattle.std.specs.List.{All, flat_map}
 use Rattle.std.proofs.lemmas.Bool.{lt-ltb, cond-true}
 use Rattle.std.proofs.lemmas.List.{append-nil, drop-drop, get_or-drop, get_or_append_left}
-use Rattle.std.proofs.lemmas.List.Elements.{All-cons, All-head, All-nil, All-tail}
+use Rattle.std.proofs.lemmas.List.Elements.{All-head, All-tail}
 use Rattle.std.proofs.Math.Seq.{drop-append_seam}
 use Rattle.cell_bits.specs.Run.{run_cells}
-use Rattle.track_rings.specs.Rings.{AreNeighbours, IsSpaced, last_in, stretch}
-use Rattle.phase_loop.specs.Start.{HasWholeBand, LONGEST, IsNominal, IsStart, band_of, in_band, start_for}
+use Rattle.track_rings.specs.Rings.{IsSpaced, last_in, stretch}
+use Rattle.phase_loop.specs.Start.{LONGEST}
 use Rattle.phase_loop.specs.Rows.{Row, last_row, row_of_start, next_row, rows_to, rows_of, recovered}
-use Rattle.phase_loop.specs.Carried.{AreClose, Carried}
-use Rattle.phase_loop.specs.Pieces.{AreApart, FollowsPieces, FollowsRing, IsPiece, Piece, cells_of_piece, cells_of_pieces}
+use Rattle.phase_loop.specs.Pieces.{AreApart, CarryPieces, IsPiece, Piece, cells_of_piece, cells_of_pieces}
 use Rattle.phase_loop.specs.declared.start.LoopStart.{LoopStart}
 use Rattle.phase_loop.proofs.Times.{length-rows_to}
-use Rattle.phase_loop.proofs.Nearness.{IsLocal, IsTimed, gap_far}
+use Rattle.phase_loop.proofs.Nearness.{gap_far}
 use Rattle.phase_loop.proofs.Clock.{IsClock}
-use Rattle.phase_loop.proofs.Tracking.{StandsAt, StartsNear, first_stands}
+use Rattle.phase_loop.proofs.Tracking.{StandsAt, first_stands}
 use Rattle.phase_loop.proofs.Carrying.{HasWalked, cells_of_rows, cells-push, recovered-rows, walk}
-
-local_near : (nominal local : ℕ) → 16384 ≤ nominal → AreClose 8 nominal local nominal → IsLocal nominal local
-local_near nominal local least near = record { least = least; low = omega (arith, near); high = omega (arith, near) }
-
-timed_near : (nominal fine ideal : ℕ) → AreClose 8 nominal (fine + nominal) ideal → IsTimed nominal ideal fine
-timed_near nominal fine ideal near = record { low = omega (arith, near); high = omega (arith, near) }
-
--- one piece is a clock
-module _ (nominal : ℕ) (ring : List Bool) (piece : Piece) (least : 16384 ≤ nominal) (spaced : IsSpaced 1 4 ring)
-    (carried : Carried piece.times ring nominal piece.places piece.periods) where
-  abbrev fine_of : ℕ → ℕ
-  fine_of i = 1024 * slice_index piece.times i
-
-  abbrev place_of : ℕ → ℕ
-  place_of i = slice_index piece.places i
-
-  abbrev distance_of : ℕ → ℕ
-  distance_of i = slice_index piece.places (suc i) - slice_index piece.places i
-
-  abbrev local_of : ℕ → ℕ
-  local_of i = slice_index piece.periods i
-
-  abbrev ideal_of : ℕ → ℕ
-  ideal_of i = slice_index carried.ideal i
-
-  neighbours : (i : ℕ) → suc i < length piece.times → AreNeighbours ring (place_of i) (distance_of i)
-  neighbours i within =
-      let e : i + 1 ≡ suc i = add-one i in
-      subst (λ (n : ℕ). AreNeighbours ring (place_of i) (slice_index piece.places n - place_of i)) e (carried.consecutive i (omega (arith, within)))
-
-  is_clock : IsClock nominal (length piece.times) fine_of place_of distance_of local_of ideal_of
-  is_clock = record {
-    speed = λ i within. local_near nominal (local_of i) least (carried.near_speed i within);
-    up = λ i within.
-        let e : slice_index piece.periods (i + 1) ≡ slice_index piece.periods (suc i) = ap (slice_index piece.periods) (add-one i) in
-        let near = carried.steady i (omega (arith, within)) in
-        omega (arith, near, e);
-    down = λ i within.
-        let e : slice_index piece.periods (i + 1) ≡ slice_index piece.periods (suc i) = ap (slice_index piece.periods) (add-one i) in
-        let near = carried.steady i (omega (arith, within)) in
-        omega (arith, near, e);
-    timed = λ i within. timed_near nominal (fine_of i) (ideal_of i) (carried.near_place i within);
-    spaced = λ i within.
-        let e : i + 1 ≡ suc i = add-one i in
-        subst (λ (n : ℕ). slice_index carried.ideal n ≡ ideal_of i + (slice_index piece.places n - place_of i) * local_of i) e (carried.spaced i (omega (arith, within)));
-    further = λ i within. let some = (neighbours i within).behind in omega (arith, some);
-    some = λ i within. (neighbours i within).behind;
-    few = λ i within. (spaced.apart (place_of i) (distance_of i) (neighbours i within)).1;
-  }
-
-starts_near : (nominal first begin : ℕ) → AreClose 64 nominal first begin → StartsNear nominal first begin
-starts_near nominal first begin near = record { low = omega (arith, near); high = omega (arith, near) }
+use Rattle.phase_loop.proofs.PieceClocks.{IsFollowed, distance_of, fine_of, ideal_of, is_clock, local_of, neighbours, place_of}
 
 -- the loop starts at a transition
 record Starts (start : LoopStart) (times : List ℕ) (begin : ℕ) : Type 0 where
@@ -78,8 +26,8 @@ record Starts (start : LoopStart) (times : List ℕ) (begin : ℕ) : Type 0 wher
   pub are : rows_to start times begin ≡ rows ++ row_of_start start begin (1024 * slice_index times begin) cells ∷ []
 
 -- a piece at whose first transition the loop starts, with the cells so far
-module _ (start : LoopStart) (is_start : IsStart start) (wide : HasWholeBand start) (ring : List Bool) (spaced : IsSpaced 1 4 ring) (times : List ℕ) (piece : Piece)
-    (is : IsPiece start.nominal start.first ring piece) (rest : List ℕ) (begin : ℕ) (cut : drop begin times ≡ piece.times ++ rest)
+module _ (start : LoopStart) (slack : ℕ) (least : 16384 ≤ start.nominal) (ring : List Bool) (spaced : IsSpaced 1 4 ring) (times : List ℕ) (piece : Piece)
+    (followed : IsFollowed start slack ring piece) (rest : List ℕ) (begin : ℕ) (cut : drop begin times ≡ piece.times ++ rest)
     (starts : Starts start times begin) (front : List Bool) (cells : cells_of_rows (rows_to start times begin) ≡ front ++ true ∷ []) where
   abbrev count : ℕ
   count = length piece.times
@@ -87,30 +35,33 @@ module _ (start : LoopStart) (is_start : IsStart start) (wide : HasWholeBand sta
   abbrev last : ℕ
   last = count - 1
 
+  abbrev is : IsPiece start.nominal start.first ring piece
+  is = followed.is
+
   abbrev fine : ℕ → ℕ
-  fine = fine_of start.nominal ring piece is_start.nominal.shortest spaced is.carried
+  fine = fine_of piece
 
   abbrev place : ℕ → ℕ
-  place = place_of start.nominal ring piece is_start.nominal.shortest spaced is.carried
+  place = place_of piece
 
   abbrev distance : ℕ → ℕ
-  distance = distance_of start.nominal ring piece is_start.nominal.shortest spaced is.carried
+  distance = distance_of piece
 
   abbrev local : ℕ → ℕ
-  local = local_of start.nominal ring piece is_start.nominal.shortest spaced is.carried
+  local = local_of piece
 
   abbrev ideal : ℕ → ℕ
-  ideal = ideal_of start.nominal ring piece is_start.nominal.shortest spaced is.carried
+  ideal = ideal_of piece ring start.nominal is.carried
 
   clock : IsClock start.nominal count fine place distance local ideal
-  clock = is_clock start.nominal ring piece is_start.nominal.shortest spaced is.carried
+  clock = is_clock start.nominal ring piece least spaced is.carried
 
   time_at : (i : ℕ) → i < count → 1024 * slice_index times (begin + i) ≡ fine i
   time_at i within =
       ap (λ (t : ℕ). 1024 * t)
       (sym (get_or-drop begin times i 0) ∙ ap (λ (ts : List ℕ). slice_index ts i) cut ∙ get_or_append_left piece.times rest 0 i within)
 
-  first_at : StandsAt start.nominal fine place local ideal (rows_to start times begin) begin 0
+  first_at : StandsAt start.nominal slack fine place local ideal (rows_to start times begin) begin 0
   first_at =
       let here : begin + 0 ≡ begin = omega arith in
       let time : 1024 * slice_index times begin ≡ fine 0 = ap (λ (n : ℕ). 1024 * slice_index times n) (sym here) ∙ time_at 0 is.some in
@@ -118,14 +69,14 @@ module _ (start : LoopStart) (is_start : IsStart start) (wide : HasWholeBand sta
       starts.are
       ∙ ap (λ (n : ℕ). starts.rows ++ row_of_start start n (1024 * slice_index times begin) starts.cells ∷ []) (sym starts.number)
       ∙ ap (λ (n : ℕ). starts.rows ++ row_of_start start (length starts.rows) n starts.cells ∷ []) time in
-      let there = first_stands start count fine place distance local ideal clock (starts_near start.nominal start.first (local 0) is.start) wide starts.rows starts.cells is.some in
-      subst (λ (n : ℕ). StandsAt start.nominal fine place local ideal (rows_to start times begin) n 0) starts.number
-      (subst (λ (rows : List Row). StandsAt start.nominal fine place local ideal rows (length starts.rows) 0) (sym are) there)
+      let there = first_stands start slack count fine place distance local ideal clock followed.pace starts.rows starts.cells is.some in
+      subst (λ (n : ℕ). StandsAt start.nominal slack fine place local ideal (rows_to start times begin) n 0) starts.number
+      (subst (λ (rows : List Row). StandsAt start.nominal slack fine place local ideal rows (length starts.rows) 0) (sym are) there)
 
-  walked : (i : ℕ) → i < count → HasWalked start count fine place distance local ideal clock
-      (starts_near start.nominal start.first (local 0) is.start) wide ring (neighbours start.nominal ring piece is_start.nominal.shortest spaced is.carried) times begin time_at first_at i
-  walked = walk start count fine place distance local ideal clock (starts_near start.nominal start.first (local 0) is.start) wide ring
-      (neighbours start.nominal ring piece is_start.nominal.shortest spaced is.carried) times begin time_at first_at
+  walked : (i : ℕ) → i < count → HasWalked start slack count fine place distance local ideal clock followed.pace ring
+      (neighbours start.nominal ring piece least spaced is.carried) times begin time_at first_at i
+  walked = walk start slack count fine place distance local ideal clock followed.pace ring
+      (neighbours start.nominal ring piece least spaced is.carried) times begin time_at first_at
 
   last_within : last < count
   last_within = let some = is.some in omega (arith, some)
@@ -172,8 +123,8 @@ module _ (start : LoopStart) (is_start : IsStart start) (wide : HasWholeBand sta
         let fine' : ℕ = 1024 * slice_index times (suc number) in
         let t = next_time in
         let apart : 48 * start.nominal ≤ fine' - fine last = omega (arith, t, gap) in
-        let far = gap_far start.nominal (local last) (ideal last) (last_row rows).period (last_row rows).place (fine last) fine'
-        (clock.speed last last_within) (walked last last_within).stands.near (clock.timed last last_within) apart in
+        let far = gap_far start.nominal slack (local last) (ideal last) (last_row rows).period (last_row rows).place (walked last last_within).stands.paced
+        (walked last last_within).stands.placed (fine last) fine' (clock.speed last last_within) (clock.timed last last_within) apart in
         let many : length rows ≡ suc number = length-rows_to start times number ∙ add-one number in
         cond-true _ _ _ (lt-ltb _ _ far) ∙ ap (λ (n : ℕ). row_of_start start n fine' LONGEST) many
 
@@ -209,37 +160,37 @@ first_time piece some = go piece.times some
     go (time ∷ times) more = refl
 
 -- from a piece on
-pieces_cells : (start : LoopStart) (is_start : IsStart start) (wide : HasWholeBand start) (ring : List Bool) (spaced : IsSpaced 1 4 ring) (times : List ℕ)
-    (later : List Piece) (piece : Piece) → All (IsPiece start.nominal start.first ring) (piece ∷ later) → AreApart start.nominal piece later
+pieces_cells : (start : LoopStart) (slack : ℕ) (least : 16384 ≤ start.nominal) (ring : List Bool) (spaced : IsSpaced 1 4 ring) (times : List ℕ)
+    (later : List Piece) (piece : Piece) → All (IsFollowed start slack ring) (piece ∷ later) → AreApart start.nominal piece later
     → (begin : ℕ) → drop begin times ≡ flat_map (λ (p : Piece). p.times) (piece ∷ later) → Starts start times begin
     → (front : List Bool) → cells_of_rows (rows_to start times begin) ≡ front ++ true ∷ []
     → cells_of_rows (rows_of start times) ≡ front ++ cells_of_pieces ring piece later
-pieces_cells start is_start wide ring spaced times [] piece all apart begin cut starts front cells =
-    let is : IsPiece start.nominal start.first ring piece = All-head (IsPiece start.nominal start.first ring) piece [] all in
-    let some = is.some in
+pieces_cells start slack least ring spaced times [] piece all apart begin cut starts front cells =
+    let is : IsFollowed start slack ring piece = All-head (IsFollowed start slack ring) piece [] all in
+    let some = is.is.some in
     let size = ap length cut ∙ ap length (append-nil piece.times) in
     let end : length times - 1 ≡ begin + (length piece.times - 1) = omega (arith, size, length-drop begin times, some) in
     ap (λ (n : ℕ). cells_of_rows (rows_to start times n)) end
-    ∙ piece_cells start is_start wide ring spaced times piece is [] begin cut starts front cells
+    ∙ piece_cells start slack least ring spaced times piece is [] begin cut starts front cells
     ∙ ap (λ (cs : List Bool). front ++ cs) (sym (append-nil (cells_of_piece ring piece)))
-pieces_cells start is_start wide ring spaced times (next ∷ later) piece all apart begin cut starts front cells =
-    let P : Piece → Type 0 = IsPiece start.nominal start.first ring in
+pieces_cells start slack least ring spaced times (next ∷ later) piece all apart begin cut starts front cells =
+    let P : Piece → Type 0 = IsFollowed start slack ring in
     let is : P piece = All-head P piece (next ∷ later) all in
     let after : All P (next ∷ later) = All-tail P piece (next ∷ later) all in
     let next_is : P next = All-head P next later after in
     let rest : List ℕ = flat_map (λ (p : Piece). p.times) (next ∷ later) in
     let behind : List ℕ = drop 1 next.times ++ flat_map (λ (p : Piece). p.times) later in
     let follows : rest ≡ slice_index next.times 0 ∷ behind =
-    ap (λ (ts : List ℕ). ts ++ flat_map (λ (p : Piece). p.times) later) (first_time next next_is.some) in
+    ap (λ (ts : List ℕ). ts ++ flat_map (λ (p : Piece). p.times) later) (first_time next next_is.is.some) in
     let begin' : ℕ = suc (begin + (length piece.times - 1)) in
     let zeros : List Bool = replicate (LONGEST - 1) false in
     let own : List Bool = cells_of_piece ring piece in
     let others : List Bool = flat_map (λ (p : Piece). zeros ++ cells_of_piece ring p) later in
-    let more = pieces_cells start is_start wide ring spaced times later next after apart.1 begin'
-    (cut_next start is_start wide ring spaced times piece is rest begin cut starts front cells (slice_index next.times 0) behind follows apart.0 ∙ sym follows)
-    (next_starts start is_start wide ring spaced times piece is rest begin cut starts front cells (slice_index next.times 0) behind follows apart.0)
+    let more = pieces_cells start slack least ring spaced times later next after apart.1 begin'
+    (cut_next start slack least ring spaced times piece is rest begin cut starts front cells (slice_index next.times 0) behind follows apart.0 ∙ sym follows)
+    (next_starts start slack least ring spaced times piece is rest begin cut starts front cells (slice_index next.times 0) behind follows apart.0)
     (front ++ (own ++ zeros))
-    (next_cells start is_start wide ring spaced times piece is rest begin cut starts front cells (slice_index next.times 0) behind follows apart.0) in
+    (next_cells start slack least ring spaced times piece is rest begin cut starts front cells (slice_index next.times 0) behind follows apart.0) in
     more
     ∙ append_assoc front (own ++ zeros) (cells_of_piece ring next ++ others)
     ∙ ap (λ (cs : List Bool). front ++ cs)
@@ -247,46 +198,15 @@ pieces_cells start is_start wide ring spaced times (next ∷ later) piece all ap
     ∙ ap (λ (cs : List Bool). own ++ cs) (sym (append_assoc zeros (cells_of_piece ring next) others)))
 
 -- the recovered cells are those of the pieces
-pub pieces_recovered : (start : LoopStart) (times : List ℕ) → IsStart start → HasWholeBand start → FollowsPieces start.nominal start.first times (recovered start times)
+pub pieces_followed : (start : LoopStart) (slack : ℕ) (times : List ℕ) (ring : List Bool) (first : Piece) (later : List Piece) → 16384 ≤ start.nominal
+    → IsSpaced 1 4 ring → CarryPieces start.nominal start.first ring times first later → All (IsFollowed start slack ring) (first ∷ later)
+    → recovered start times ≡ cells_of_pieces ring first later
 unfolding rows_to
-pieces_recovered start times is_start wide ring first later spaced carry =
-    let is : IsPiece start.nominal start.first ring first = All-head (IsPiece start.nominal start.first ring) first later carry.pieces in
-    let some = is.some in
+pieces_followed start slack times ring first later least spaced carry all =
+    let is : IsFollowed start slack ring first = All-head (IsFollowed start slack ring) first later all in
+    let some = is.is.some in
     let size = ap length carry.cut in
     let many : 0 < length times = omega (arith, size, some, length-append first.times (flat_map (λ (p : Piece). p.times) later)) in
     let starts : Starts start times 0 = record { rows = []; cells = 0; number = refl; are = refl } in
     recovered-rows start times many
-    ∙ pieces_cells start is_start wide ring spaced times later first carry.pieces carry.apart 0 carry.cut starts [] refl
-
--- one piece alone
-pub ring_recovered : (start : LoopStart) (times : List ℕ) → IsStart start → HasWholeBand start → FollowsRing start.nominal start.first times (recovered start times)
-ring_recovered start times is_start wide ring places periods spaced some carried near =
-    let piece : Piece = record { times = times; places = places; periods = periods } in
-    let is : IsPiece start.nominal start.first ring piece = record { some = some; carried = carried; start = near } in
-    let P : Piece → Type 0 = IsPiece start.nominal start.first ring in
-    pieces_recovered start times is_start wide ring piece [] spaced (record { cut = sym (append-nil times); pieces = All-cons P piece [] is (All-nil P); apart = tt })
-    ∙ append-nil (cells_of_piece ring piece)
-
--- a first period near the local one stays so in the band
-band_near : (nominal first local : ℕ) → 16384 ≤ nominal → AreClose 8 nominal local nominal → AreClose 64 nominal first local
-    → AreClose 64 nominal (in_band (band_of nominal) first) local
-band_near nominal first local least speed near = omega (arith, speed, near, least)
-
--- the start in the band
-turn_start : (nominal ticks cells : ℕ) → IsNominal nominal → IsStart (start_for nominal ticks cells)
-turn_start nominal ticks cells is = record { nominal = is; low = omega arith; from = omega arith; to = omega arith; high = omega arith }
-
-pub turns_recovered : (nominal ticks cells : ℕ) (times : List ℕ) → IsNominal nominal
-    → FollowsPieces nominal (1024 * ticks / cells) times (recovered (start_for nominal ticks cells) times)
-turns_recovered nominal ticks cells times is ring first later spaced carry =
-    pieces_recovered (start_for nominal ticks cells) times (turn_start nominal ticks cells is) refl ring first later spaced (record {
-      cut = carry.cut;
-      pieces = λ k d within.
-          let piece = carry.pieces k d within in
-          record {
-            some = piece.some;
-            carried = piece.carried;
-            start = band_near nominal (1024 * ticks / cells) _ is.shortest (piece.carried.near_speed 0 piece.some) piece.start;
-          };
-      apart = carry.apart;
-    })
+    ∙ pieces_cells start slack least ring spaced times later first all carry.apart 0 carry.cut starts [] refl

@@ -25,6 +25,14 @@ DISPLACEMENT = 8
 abbrev pub OFF_START : ℕ
 OFF_START = 64
 
+-- how far each local period is from the mean cell of the first turn, where a drive keeps its speed
+abbrev pub OFF_MEAN : ℕ
+OFF_MEAN = 45
+
+-- The drive keeps its speed: each local period is near the mean cell of the first turn.
+abbrev pub KeepsSpeed : (nominal mean : ℕ) → List ℕ → Type 0
+KeepsSpeed nominal mean periods = (i : ℕ) → i < length periods → AreClose OFF_MEAN nominal mean (slice_index periods i)
+
 -- The transitions at these times, in ticks, are consecutive ones at these places of the endlessly repeated ring, and there is
 -- an ideal place for each, in fine units from one nominal cell before time 0 on, so that each lies within the bounds: it is a
 -- local period for each cell after the one before, the periods are near the nominal cell and drift slowly, and the transition

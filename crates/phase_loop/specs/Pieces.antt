@@ -1,9 +1,9 @@
 -- Transitions that carry a ring in pieces: between two of them a stretch of the disk is erased, and gives no transitions.
 use Rattle.std.specs.Prelude.{◌≡◌, ◌≤◌, ◌<◌, ℕ, ◌+◌, ◌-◌, ◌*◌, ◌/◌, All, Bool, false, List, [], ◌∷◌, ◌++◌, flat_map, length, replicate, slice_index}
 use Rattle.track_rings.specs.Rings.{IsSpaced, last_in, stretch}
-use Rattle.phase_loop.specs.Start.{FINE_PER_TICK, HasWholeBand, LONGEST, IsNominal, IsStart, start_for}
+use Rattle.phase_loop.specs.Start.{FINE_PER_TICK, HasWholeBand, IsHeld, LONGEST, IsNominal, IsStart, held, start_for}
 use Rattle.phase_loop.specs.Rows.{recovered}
-use Rattle.phase_loop.specs.Carried.{AreClose, Carried, OFF_START}
+use Rattle.phase_loop.specs.Carried.{AreClose, Carried, KeepsSpeed, OFF_START}
 use Rattle.phase_loop.specs.declared.start.LoopStart.{LoopStart}
 
 -- the cells of a ring from one place of the repetition to another, both with it
@@ -38,6 +38,10 @@ pub record CarryPieces (nominal period : ℕ) (ring : List Bool) (times : List �
   pub pieces : All (IsPiece nominal period ring) (first ∷ later)
   pub apart : AreApart nominal first later
 
+-- the drive keeps its speed in each piece
+abbrev pub EachKeepsSpeed : (nominal mean : ℕ) → List Piece → Type 0
+EachKeepsSpeed nominal mean pieces = All (λ piece. KeepsSpeed nominal mean piece.periods) pieces
+
 -- the cells of a piece: the ring's from its first place to its last
 abbrev pub cells_of_piece : List Bool → Piece → List Bool
 cells_of_piece ring piece = cells_between ring (slice_index piece.places 0) (last_in piece.places)
@@ -59,6 +63,17 @@ abbrev pub FollowsPieces : (nominal period : ℕ) → List ℕ → List Bool →
 FollowsPieces nominal period times cells = (ring : List Bool) (first : Piece) (later : List Piece) → IsSpaced 1 4 ring
     → CarryPieces nominal period ring times first later → cells ≡ cells_of_pieces ring first later
 
+-- The same, where besides the drive keeps its speed.
+abbrev pub FollowsSteadyRing : (nominal period : ℕ) → List ℕ → List Bool → Type 0
+FollowsSteadyRing nominal period times cells = (ring : List Bool) (places periods : List ℕ) → IsSpaced 1 4 ring → 0 < length times
+    → Carried times ring nominal places periods → AreClose OFF_START nominal period (slice_index periods 0)
+    → KeepsSpeed nominal period periods → cells ≡ cells_between ring (slice_index places 0) (last_in places)
+
+-- and in pieces
+abbrev pub FollowsSteadyPieces : (nominal period : ℕ) → List ℕ → List Bool → Type 0
+FollowsSteadyPieces nominal period times cells = (ring : List Bool) (first : Piece) (later : List Piece) → IsSpaced 1 4 ring
+    → CarryPieces nominal period ring times first later → EachKeepsSpeed nominal period (first ∷ later) → cells ≡ cells_of_pieces ring first later
+
 -- the recovered cells, whatever the times are, where the period may follow the drive through the whole band
 abbrev pub RecoversPieces : Type 0
 RecoversPieces = (start : LoopStart) (times : List ℕ) → IsStart start → HasWholeBand start → FollowsPieces start.nominal start.first times (recovered start times)
@@ -71,3 +86,16 @@ RecoversPiecesOfTurns = (nominal turn_ticks ring_cells : ℕ) (times : List ℕ)
 -- one piece alone
 abbrev pub RecoversRings : Type 0
 RecoversRings = (start : LoopStart) (times : List ℕ) → IsStart start → HasWholeBand start → FollowsRing start.nominal start.first times (recovered start times)
+
+-- the recovered cells, whatever the times are, where the period is always the first one and the drive keeps its speed
+abbrev pub RecoversSteadyPieces : Type 0
+RecoversSteadyPieces = (start : LoopStart) (times : List ℕ) → IsStart start → IsHeld start → FollowsSteadyPieces start.nominal start.first times (recovered start times)
+
+-- also where the loop holds the mean cell of the first turn, kept in the band
+abbrev pub RecoversSteadyPiecesOfTurns : Type 0
+RecoversSteadyPiecesOfTurns = (nominal turn_ticks ring_cells : ℕ) (times : List ℕ) → IsNominal nominal
+    → FollowsSteadyPieces nominal (FINE_PER_TICK * turn_ticks / ring_cells) times (recovered (held (start_for nominal turn_ticks ring_cells)) times)
+
+-- one piece alone
+abbrev pub RecoversSteadyRings : Type 0
+RecoversSteadyRings = (start : LoopStart) (times : List ℕ) → IsStart start → IsHeld start → FollowsSteadyRing start.nominal start.first times (recovered start times)

@@ -70,3 +70,7 @@ held start = record {
   first = start.first;
   band = record { lowest = start.first; highest = start.first };
 }
+
+-- the start's band is the first period alone
+abbrev pub IsHeld : LoopStart → Type 0
+IsHeld start = start.band ≡ (held start).band

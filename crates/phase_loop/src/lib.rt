@@ -9,7 +9,7 @@ mod sizes;
 mod start;
 mod window;
 
-pub use laws::disturbed_rings_are_recovered;
+pub use laws::{disturbed_rings_are_recovered, steady_rings_are_recovered};
 pub use phase::Loop;
 pub use recovery::recover;
 pub use sizes::cells_are_few;

@@ -2,9 +2,9 @@
 ghost use Rattle.std.specs.Prelude.{◌≡◌, ℕ, ◌*◌, ◌^◌, ◌≤◌, [], length, All, OnOk, OnErr, IsOk};
 ghost use Rattle.std.specs.List.Sorted.{IsNonDecreasing};
 ghost use Rattle.cell_bits.specs.State.{room};
-ghost use Rattle.phase_loop.specs.Start.{HasWholeBand, INTERVALS, IsStart};
+ghost use Rattle.phase_loop.specs.Start.{HasWholeBand, INTERVALS, IsHeld, IsStart};
 ghost use Rattle.phase_loop.specs.Rows.{recovered};
-ghost use Rattle.phase_loop.specs.Pieces.{FollowsRing, FollowsPieces};
+ghost use Rattle.phase_loop.specs.Pieces.{FollowsRing, FollowsPieces, FollowsSteadyRing, FollowsSteadyPieces};
 
 use crate::phase::Loop;
 use crate::start::LoopStart;
@@ -17,7 +17,8 @@ use index_turns::TrackFlux;
 /// before does not matter, and its window stays bounded. After `Memory` there are no cells.
 ///
 /// Where the period may follow the drive through the whole band, and the times carry a ring within the bounds of disturbance, the
-/// cells are the ring's; where they carry it in pieces, those of the pieces.
+/// cells are the ring's; where they carry it in pieces, those of the pieces. So it is too where the period is held and the drive
+/// keeps its speed.
 pub fn recover(
     flux: &TrackFlux,
     start: LoopStart,
@@ -29,6 +30,8 @@ pub fn recover(
     ensures ok { OnOk result (cells.new.cells ≡ recovered start flux.now.times) }
     ensures ring { OnOk result (HasWholeBand start → FollowsRing start.nominal start.first flux.now.times cells.new.cells) }
     ensures pieces { OnOk result (HasWholeBand start → FollowsPieces start.nominal start.first flux.now.times cells.new.cells) }
+    ensures steady_ring { OnOk result (IsHeld start → FollowsSteadyRing start.nominal start.first flux.now.times cells.new.cells) }
+    ensures steady_pieces { OnOk result (IsHeld start → FollowsSteadyPieces start.nominal start.first flux.now.times cells.new.cells) }
     ensures err { OnErr result (cells.new.cells ≡ []) }
     ensures window { length bench.new.recent ≤ INTERVALS }
     ensures room { room cells.old ≤ room cells.new }

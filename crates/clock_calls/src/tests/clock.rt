@@ -247,6 +247,22 @@ fn a_held_period_reads_on_behind_a_burst(rt: HostRuntime) -> Result<(), Memory> 
     Ok(())
 }
 
+// Four cells at a time, each transition six ticks early and the last one six ticks late, where a period of 42240 is held, 55 64ths of
+// the nominal cell. At a local period of 43264, a 48th of the nominal cell more, the last four are four still; at 43520, a 38th more,
+// they are counted as five. The times are the ideal ones from tick 20 on, 4 * 43264 / 1024 = 169 ticks or 170 apart.
+#[test]
+fn a_held_period_bears_a_steady_speed(rt: HostRuntime) -> Result<(), Memory> {
+    let slow = LoopStart {
+        first: 42240,
+        ..EVEN
+    };
+    let steady = [14u64, 183, 352, 521, 690, 871];
+    assert!(rt; gives(rt.alloc(), slow.held(), &steady, &[4; 5])?);
+    let faster = [14u64, 184, 354, 524, 694, 876];
+    assert!(rt; gives(rt.alloc(), slow.held(), &faster, &[4, 4, 4, 4, 5])?);
+    Ok(())
+}
+
 // The more noise, the more guesses are wrong: with 24 ticks an interval is up to half a cell off.
 #[test]
 fn a_stretch_is_steps(rt: HostRuntime) -> Result<(), Memory> {

@@ -1,4 +1,4 @@
-use Rattle.phase_loop.proofs.PieceCells.{ring_recovered, pieces_recovered, turns_recovered}
+use Rattle.phase_loop.proofs.RingLaws.{ring_recovered, pieces_recovered, turns_recovered}
 use Rattle.phase_loop.proofs.laws.disturbed_rings_are_recovered.Goals as goal
 
 pub returns-clause-ring : goal.returns-clause-ring
