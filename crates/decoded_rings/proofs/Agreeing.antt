@@ -7,7 +7,7 @@ use Rattle.std.proofs.lemmas.Slice.Eq.{bytes_eq-Decides}
 use Rattle.turn_merge.specs.Readings.{NotedReading, agreed, agreed_of, bad_ones, bytes_of, first_other, good_ones, verdict, verdict_of, verdict_with}
 use Rattle.turn_merge.specs.declared.verdict.Place.{Place}
 use Rattle.decoded_rings.specs.Pieces.{RingPiece, begin_of_piece, cells_of_ring_pieces}
-use Rattle.decoded_rings.specs.Verdicts.{AreReadingsOf, IsGoodWith, IsGoodWithOrLost, LiesInOnePiece, StandsAsWritten, VerdictsAreRight}
+use Rattle.decoded_rings.specs.Verdicts.{AreReadingsOf, IsGoodWith, IsGoodWithOrLost, LiesInOnePiece, StandsAsWrittenWithin, VerdictsAreRight}
 use Rattle.decoded_rings.specs.Written.{HasSector, WrittenTrack}
 
 contains_first : {X : Type 0} (x : X) (xs : List X) → Contains (x ∷ xs) x
@@ -115,8 +115,8 @@ good_or_lost bytes (first ∷ more) bads same =
     not_lost (length (first ∷ more)) (length bads) first.place (first_other (bytes_of first) more) (agreed_of (first ∷ more)) bytes
     (some_good bytes first more bads same)
 
-module _ (sector : List Bool → ℕ → List ℕ → Type 0) (track : WrittenTrack)
-    (first : RingPiece) (later : List RingPiece) (stands : StandsAsWritten sector track first later)
+module _ (zeros : ℕ) (sector : List Bool → ℕ → List ℕ → Type 0) (track : WrittenTrack)
+    (first : RingPiece) (later : List RingPiece) (stands : StandsAsWrittenWithin sector track zeros first later)
     (readings : List NotedReading) (are : AreReadingsOf sector (cells_of_ring_pieces track.ring first later) readings) where
   abbrev is_good_of : ℕ → NotedReading → Bool
   is_good_of s r = nat_eq r.sector s && is_some r.bytes

@@ -1,14 +1,13 @@
--- Unbroken cells lie in one piece and the zeros beside it.
+-- Cells without 31 zeros in a row lie in one piece and the zeros beside it.
 use Rattle.std.specs.Prelude.{◌≡◌, ℕ, suc, ◌+◌, ◌-◌, ◌<◌, ◌≤◌, Bool, false, List, [], ◌∷◌, ◌++◌, length, take, drop, replicate, slice_get, Some, refl}
 use Rattle.std.proofs.Common.{ap, sym, subst, ◌∙◌, arith, inl, inr, append_assoc, length-append, length-drop}
 use Rattle.std.proofs.lemmas.Bool.{cases_lt}
 use Rattle.std.proofs.lemmas.List.{drop-append-le, length-replicate, take-append-le}
 use Rattle.std.proofs.Math.Seq.{drop-append-add}
-use Rattle.cell_bits.specs.Broken.{Unbroken}
 use Rattle.track_rings.specs.lemmas.Cuts.{length-stretch}
 use Rattle.track_rings.specs.Rings.{stretch}
 use Rattle.decoded_rings.specs.Pieces.{RingPiece, begin_of_piece, cells_of_ring_pieces, piece_cells}
-use Rattle.track_rings.specs.OwnSectors.{between_zeros}
+use Rattle.track_rings.specs.OwnSectors.{NoZeros, between_zeros}
 use Rattle.decoded_rings.proofs.Cells.{begin-suc, behind_first}
 
 -- the cells of pieces after so many zeros
@@ -28,8 +27,8 @@ pub record Located (ring : List Bool) (before : ℕ) (first : RingPiece) (later 
   pub at : place + zeros ≡ before + begin_of_piece (first ∷ later) index + offset
   pub most : place + count ≤ before + begin_of_piece (first ∷ later) index + piece.count + 31
 
-eight_zeros : (rest : List Bool) → take 8 (drop 23 (replicate 31 false ++ rest)) ≡ replicate 8 false
-eight_zeros rest = refl
+all_zeros : (rest : List Bool) → take 31 (drop 0 (replicate 31 false ++ rest)) ≡ replicate 31 false
+all_zeros rest = refl
 
 -- what lies after the first piece
 after_first : (ring : List Bool) (before : ℕ) (first next : RingPiece) (more : List RingPiece) (offset : ℕ)
@@ -81,10 +80,10 @@ same_front xs ys place count within =
     sym (ap (take count) (drop-append-le place xs ys (omega arith))
     ∙ take-append-le count (drop place xs) ys (omega (arith, length-drop place xs)))
 
-unbroken-same : (xs ys : List Bool) (from shift place count : ℕ)
-    → ((offset : ℕ) → drop (shift + offset) xs ≡ drop offset ys) → Unbroken xs (shift + place) (shift + place + count) → Unbroken ys place (place + count)
-unbroken-same xs ys from shift place count same whole at least most zeros =
-    whole (shift + at) (omega arith) (omega arith) (ap (take 8) (same at) ∙ zeros)
+no_zeros-same : (xs ys : List Bool) (shift place count : ℕ)
+    → ((offset : ℕ) → drop (shift + offset) xs ≡ drop offset ys) → NoZeros 31 xs (shift + place) (shift + place + count) → NoZeros 31 ys place (place + count)
+no_zeros-same xs ys shift place count same none at least most zeros =
+    none (shift + at) (omega arith) (omega arith) (ap (take 31) (same at) ∙ zeros)
 
 -- what is located after the first piece
 behind_first_piece : (ring : List Bool) (before : ℕ) (first next : RingPiece) (more : List RingPiece) (place count : ℕ) → before + first.count ≤ place
@@ -109,9 +108,9 @@ behind_first_piece ring before first next more place count late found =
 
 -- cells that lie in the first piece and the zeros beside it, and those that lie after them
 pub locate : (ring : List Bool) (before : ℕ) (first : RingPiece) (later : List RingPiece) (place count : ℕ) → before ≤ 31 → 0 < count
-    → Unbroken (behind_zeros ring before first later) place (place + count) → place + count ≤ length (behind_zeros ring before first later)
+    → NoZeros 31 (behind_zeros ring before first later) place (place + count) → place + count ≤ length (behind_zeros ring before first later)
     → Located ring before first later place count
-locate ring before first [] place count low some whole within =
+locate ring before first [] place count low some none within =
     let size = between-length ring before first.from first.count 0 in
     record {
       index = 0;
@@ -125,7 +124,7 @@ locate ring before first [] place count low some whole within =
       at = omega arith;
       most = omega (arith, within, size);
     }
-locate ring before first (next ∷ more) place count low some whole within =
+locate ring before first (next ∷ more) place count low some none within =
     let cells : List Bool = behind_zeros ring before first (next ∷ more) in
     let size = between-length ring before first.from first.count 31 in
     elim (cases_lt (before + first.count + 31) (place + count)) [
@@ -142,9 +141,9 @@ locate ring before first (next ∷ more) place count low some whole within =
         at = omega arith;
         most = omega (arith, here);
       }
-      | inl past ↦ elim (cases_lt place (before + first.count + 24)) [
-        | inl early ↦ absurd (whole (before + first.count + 23) (omega (arith, early)) (omega (arith, past))
-            (ap (take 8) (after_first ring before first next more 23) ∙ eight_zeros (cells_of_ring_pieces ring next more)))
+      | inl past ↦ elim (cases_lt place (before + first.count + 1)) [
+        | inl early ↦ absurd (none (before + first.count + 0) (omega (arith, early)) (omega (arith, past))
+            (ap (take 31) (after_first ring before first next more 0) ∙ all_zeros (cells_of_ring_pieces ring next more)))
         | inr late ↦
             let shift = before + first.count in
             let rest = place - shift in
@@ -152,8 +151,8 @@ locate ring before first (next ∷ more) place count low some whole within =
             let rest_cells : List Bool = behind_zeros ring 31 next more in
             let lengths : length (drop shift cells) ≡ length rest_cells = ap length (after-first-start ring before first next more) in
             let found = locate ring 31 next more rest count (omega arith) some
-            (unbroken-same cells rest_cells 0 shift rest count (after_first ring before first next more)
-            (subst (λ (n : ℕ). Unbroken cells n (n + count)) (sym e) whole))
+            (no_zeros-same cells rest_cells shift rest count (after_first ring before first next more)
+            (subst (λ (n : ℕ). NoZeros 31 cells n (n + count)) (sym e) none))
             (omega (arith, within, lengths, length-drop shift cells, e)) in
             behind_first_piece ring before first next more place count (omega (arith, late)) found
       ]

@@ -4,7 +4,7 @@ use Rattle.std.proofs.Common.{ap, sym, ◌∙◌, arith, inl, inr}
 use Rattle.std.proofs.lemmas.Bool.{cases_lt}
 use Rattle.std.proofs.Math.Nat.{add-mod_right, mod-add-mod, mod-eq_of_lt, mod-lt}
 use Rattle.decoded_rings.specs.Verdicts.{TwoRingsHaveSectors}
-use Rattle.decoded_rings.specs.Written.{IsReadBy, WrittenTrack}
+use Rattle.decoded_rings.specs.Written.{IsReadWithin, WrittenTrack}
 
 -- a place less than a ring on from which a place of the ring comes next
 place_of : (size from begin : ℕ) → begin < size → (place : ℕ) × (place < size) × ((from + place) % size ≡ begin)
@@ -24,7 +24,7 @@ place_of size from begin low =
           )
     ]
 
-module _ (sector : List Bool → ℕ → List ℕ → Type 0) (track : WrittenTrack) (read : IsReadBy sector track) where
+module _ (sector : List Bool → ℕ → List ℕ → Type 0) (track : WrittenTrack) (zeros : ℕ) (read : IsReadWithin zeros sector track) where
   pub two_rings_have_sectors : TwoRingsHaveSectors sector track
   two_rings_have_sectors piece s long known =
       let whole = read.whole s known in

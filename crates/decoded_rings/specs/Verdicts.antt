@@ -1,6 +1,6 @@
 -- What the readings of a written track come to, where its cells were recovered in pieces.
 use Rattle.std.specs.Prelude.{◌≡◌, ℕ, ◌+◌, ◌*◌, ◌<◌, ◌≤◌, Bool, Contains, List, [], ◌∷◌, drop, length, Option, Some, None, slice_get}
-use Rattle.track_rings.specs.OwnSectors.{IsAlone}
+use Rattle.track_rings.specs.OwnSectors.{IsAloneWithin}
 use Rattle.track_rings.specs.Rings.{LiesAt}
 use Rattle.turn_merge.specs.Readings.{NotedReading, agreed, verdict}
 use Rattle.turn_merge.specs.declared.verdict.Verdict.{Verdict}
@@ -40,16 +40,21 @@ abbrev pub LiesInOnePiece : WrittenTrack → List RingPiece → ℕ → Type 0
 LiesInOnePiece track pieces sector = (index place : ℕ) × LiesInPiece track pieces sector index place
 
 -- What stands at a place of the cells stands there by cells of one piece alone, with zeros of the erased stretches beside it.
-pub record StandsInOnePiece (Here : List Bool → Type 0) (pieces : List RingPiece) (cells : List Bool) (place : ℕ) : Type 0 where
-  pub alone : IsAlone Here (drop place cells)
+pub record StandsInOnePieceWithin (zeros : ℕ) (Here : List Bool → Type 0) (pieces : List RingPiece) (cells : List Bool) (place : ℕ) : Type 0 where
+  pub alone : IsAloneWithin zeros Here (drop place cells)
   pub index : ℕ
   pub only : (other at : ℕ) → place ≤ at → at < place + alone.end → IsCellOf pieces other at → other ≡ index
 
+-- the same where what stands is unbroken
+abbrev pub StandsInOnePiece : (List Bool → Type 0) → List RingPiece → List Bool → ℕ → Type 0
+StandsInOnePiece Here pieces cells place = StandsInOnePieceWithin 8 Here pieces cells place
+
 module _ (sector : List Bool → ℕ → List ℕ → Type 0) (track : WrittenTrack) where
-  -- a sector that stands at a place of the cells of pieces stands by cells of one piece, and has its own bytes
-  pub record StandsAsWritten (first : RingPiece) (later : List RingPiece) : Type 0 where
+  -- A sector that stands at a place of the cells of pieces stands by cells of one piece, which have no `zeros` zeros in a row, and
+  -- has its own bytes.
+  pub record StandsAsWrittenWithin (zeros : ℕ) (first : RingPiece) (later : List RingPiece) : Type 0 where
     pub sector_of_one : (place s : ℕ) (bytes : List ℕ) → sector (drop place (cells_of_ring_pieces track.ring first later)) s bytes
-        → StandsInOnePiece (λ cells. sector cells s bytes) (first ∷ later) (cells_of_ring_pieces track.ring first later) place
+        → StandsInOnePieceWithin zeros (λ cells. sector cells s bytes) (first ∷ later) (cells_of_ring_pieces track.ring first later) place
     pub own_bytes : (place s : ℕ) (bytes : List ℕ) → sector (drop place (cells_of_ring_pieces track.ring first later)) s bytes
         → bytes ≡ track.bytes_of s
     pub whole_stands : (s index place : ℕ) → HasSector track s → LiesInPiece track (first ∷ later) s index place
@@ -64,10 +69,17 @@ module _ (sector : List Bool → ℕ → List ℕ → Type 0) (track : WrittenTr
   -- A track that was recovered in pieces: a sector of which one place, with its whole frame, lies in one piece is good with
   -- its bytes; every other one is good with its bytes, bad or missing; none is contradictory, and no sector that stands has
   -- cells of two pieces.
-  abbrev pub PiecesAreRight : Type 0
-  PiecesAreRight = (first : RingPiece) (later : List RingPiece) → StandsAsWritten first later
+  abbrev pub PiecesAreRightWithin : ℕ → Type 0
+  PiecesAreRightWithin zeros = (first : RingPiece) (later : List RingPiece) → StandsAsWrittenWithin zeros first later
       × ((readings : List NotedReading) → AreReadingsOf sector (cells_of_ring_pieces track.ring first later) readings
       → VerdictsAreRight first later readings)
+
+  -- the same where sectors that stand are unbroken
+  abbrev pub StandsAsWritten : RingPiece → List RingPiece → Type 0
+  StandsAsWritten first later = StandsAsWrittenWithin 8 first later
+
+  abbrev pub PiecesAreRight : Type 0
+  PiecesAreRight = PiecesAreRightWithin 8
 
   -- one piece of at least two rings has each sector's frame whole
   abbrev pub TwoRingsHaveSectors : Type 0

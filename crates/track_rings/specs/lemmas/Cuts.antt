@@ -54,6 +54,12 @@ zero_cell zero k = refl
 zero_cell (suc count) zero = refl
 zero_cell (suc count) (suc k) = zero_cell count k
 
+-- zeros among zeros
+zeros_inside : (past count : ℕ) → past + 8 ≤ count → take 8 (drop past (replicate count false)) ≡ replicate 8 false
+zeros_inside zero count enough = take-replicate 8 count false (omega (arith, enough))
+zeros_inside (suc past) zero enough = absurd (omega arith)
+zeros_inside (suc past) (suc count) enough = zeros_inside past count (omega arith)
+
 module _ (ring : List Bool) (zeros from count behind : ℕ) where
   before_cell : (k : ℕ) → k < zeros → get_or (between_zeros ring zeros from count behind) k false ≡ false
   before_cell k within =
@@ -115,25 +121,32 @@ module _ (ring : List Bool) (zeros from count behind : ℕ) where
       ] in
       (start, at, inside)
 
-  -- eight zeros stand where the stretch ends
-  broken_end : (place end : ℕ) → place ≤ zeros + count → zeros + count + 8 ≤ place + end
+  -- eight zeros stand behind the stretch
+  broken_end : (place low end : ℕ) → place ≤ zeros + count → zeros + count + 8 ≤ place + end → low + 8 ≤ end
       → end ≤ length (drop place (between_zeros ring zeros from count behind))
-      → ¬ Unbroken (drop place (between_zeros ring zeros from count behind)) 0 end
-  broken_end place end low high within whole =
-      let cells = between_zeros ring zeros from count behind in
-      let offset = zeros + count - place in
-      let e : place + offset ≡ zeros + count = omega arith in
-      let room : 8 ≤ behind = omega (arith, within, length-drop place cells, length_between) in
-      whole offset (omega arith) (omega arith)
-      (ap (take 8) (drop-drop offset place cells ∙ ap (λ (n : ℕ). drop n cells) e ∙ drop_behind) ∙ take-replicate 8 behind false room)
+      → ¬ Unbroken (drop place (between_zeros ring zeros from count behind)) low end
+  broken_end place low end late high enough within whole =
+      elim (cases_lt (zeros + count - place) low) [
+        | inl early ↦ eight low (low + place - (zeros + count)) (omega arith) (omega arith) (omega arith)
+        | inr behind_low ↦ eight (zeros + count - place) 0 (omega arith) (omega arith) (omega arith)
+      ]
+    where
+      eight : (offset past : ℕ) → place + offset ≡ zeros + count + past → low ≤ offset → offset + 8 ≤ end → ⊥
+      eight offset past e above below =
+          let cells = between_zeros ring zeros from count behind in
+          let room : past + 8 ≤ behind = omega (arith, within, length-drop place cells, length_between) in
+          let there : drop offset (drop place cells) ≡ drop past (replicate behind false) =
+          drop-drop offset place cells ∙ ap (λ (n : ℕ). drop n cells) e ∙ sym (drop-drop past (zeros + count) cells) ∙ ap (drop past) drop_behind in
+          whole offset above below (ap (take 8) there ∙ zeros_inside past behind room)
 
-  -- from a one on, unbroken cells are the ring's own, save for the last seven
-  pub cut_cells : (place first end : ℕ) → get_or (drop place (between_zeros ring zeros from count behind)) first false ≡ true
-      → end ≤ length (drop place (between_zeros ring zeros from count behind))
-      → Unbroken (drop place (between_zeros ring zeros from count behind)) 0 end
+  -- From a one on, cells are the ring's own up to seven before an end, where those before it are unbroken. They need be so
+  -- only from some place on.
+  pub cut_cells : (place first low end : ℕ) → get_or (drop place (between_zeros ring zeros from count behind)) first false ≡ true
+      → low + 8 ≤ end → end ≤ length (drop place (between_zeros ring zeros from count behind))
+      → Unbroken (drop place (between_zeros ring zeros from count behind)) low end
       → (start : ℕ) × (place + first ≡ zeros + start)
       × ((k : ℕ) → first + k + 7 < end → get_or (drop place (between_zeros ring zeros from count behind)) (first + k) false ≡ cell_of ring (from + (start + k)))
-  cut_cells place first end one within whole =
+  cut_cells place first low end one enough within whole =
       let cells = between_zeros ring zeros from count behind in
       let here = one_inside (place + first) (sym (get_or-drop place cells first false) ∙ one) in
       let start = here.0 in (
@@ -142,7 +155,7 @@ module _ (ring : List Bool) (zeros from count behind : ℕ) where
         λ k near.
             let inside : start + k < count = elim (cases_lt (start + k) count) [
               | inl low ↦ low
-              | inr past ↦ absurd (broken_end place end (omega (arith, here.1, here.2)) (omega (arith, here.1, past, near)) within whole)
+              | inr past ↦ absurd (broken_end place low end (omega (arith, here.1, here.2)) (omega (arith, here.1, past, near)) enough within whole)
             ] in
             let e : place + (first + k) ≡ zeros + (start + k) = omega (arith, here.1) in
             get_or-drop place cells (first + k) false ∙ ap (λ (n : ℕ). get_or cells n false) e ∙ own_cell (start + k) inside,

@@ -78,6 +78,10 @@ pub record Owner : Type 1 where
 abbrev pub IsSyncPlace : (ℕ → ℕ) → ℕ → ℕ → ℕ → ℕ → Type 0
 IsSyncPlace place_of first sectors lead place = (s : ℕ) × IsSectorNumber first sectors s × (place ≡ place_of s + lead)
 
+-- a place that lies so many cells after the begin of one of the sectors' frames
+abbrev pub IsPlaceIn : (ℕ → ℕ) → ℕ → ℕ → (ℕ → Type 0) → ℕ → Type 0
+IsPlaceIn place_of first sectors At place = (s : ℕ) × IsSectorNumber first sectors s × (offset : ℕ) × At offset × (place ≡ place_of s + offset)
+
 -- what is to be shown of them: the ring's length, that each header begins with the sync, that the sync stands only where
 -- sectors begin, that they stand there, and that headers and sectors say so early
 pub record IsOwner (o : Owner) : Type 0 where
@@ -93,7 +97,7 @@ pub record IsOwner (o : Owner) : Type 0 where
       → SaysEarly (o.lead + suc (length o.sync)) (λ others. (t : ℕ) (others_bytes : List ℕ) → o.sector others t others_bytes → bytes ≡ others_bytes) cells
 
 module _ (o : Owner) (is : IsOwner o) (zeros from count behind place : ℕ) where
-  abbrev cut : List Bool
+  abbrev pub cut : List Bool
   cut = drop place (between_zeros o.ring zeros from count behind)
 
   some : 0 < length o.ring
@@ -102,18 +106,18 @@ module _ (o : Owner) (is : IsOwner o) (zeros from count behind place : ℕ) wher
   -- where the sync of what stands lies in the stretch
   record Start (start : ℕ) : Type 0 where
     at : place + o.lead ≡ zeros + start
-    same : (k : ℕ) → (end : ℕ) → end ≤ length cut → Unbroken cut 0 end → o.lead + k + 7 < end
+    same : (k low end : ℕ) → low + 8 ≤ end → end ≤ length cut → Unbroken cut low end → o.lead + k + 7 < end
         → get_or cut (o.lead + k) false ≡ cell_of o.ring (from + (start + k))
 
-  start_of : (end : ℕ) → Leads o.lead o.sync cut → end ≤ length cut → Unbroken cut 0 end → (start : ℕ) × Start start
-  start_of end leads within whole =
+  start_of : (end : ℕ) → Leads o.lead o.sync cut → 8 ≤ end → end ≤ length cut → Unbroken cut 0 end → (start : ℕ) × Start start
+  start_of end leads enough within whole =
       let one = leads-one o.lead o.sync cut leads in
-      let here = cut_cells o.ring zeros from count behind place o.lead end one within whole in (
+      let here = cut_cells o.ring zeros from count behind place o.lead 0 end one (omega (arith, enough)) within whole in (
         here.0,
         record {
           at = here.1;
-          same = λ k other inside unbroken near.
-              let there = cut_cells o.ring zeros from count behind place o.lead other one inside unbroken in
+          same = λ k low other some inside unbroken near.
+              let there = cut_cells o.ring zeros from count behind place o.lead low other one some inside unbroken in
               let e : from + (there.0 + k) ≡ from + (here.0 + k) = omega (arith, there.1, here.1) in
               there.2 k near ∙ ap (cell_of o.ring) e;
         },
@@ -131,7 +135,7 @@ module _ (o : Owner) (is : IsOwner o) (zeros from count behind place : ℕ) wher
       let same = agree-cells many cells own room (omega (arith, own_size))
       (λ k inside.
       let e : from + (start + k) ≡ from + start + k = omega arith in
-      get_or-drop o.lead cut k false ∙ is_start.same k end within whole (omega (arith, long, inside)) ∙ ap (cell_of o.ring) e
+      get_or-drop o.lead cut k false ∙ is_start.same k 0 end (omega (arith, long)) within whole (omega (arith, long, inside)) ∙ ap (cell_of o.ring) e
       ∙ sym (get_or-stretch o.ring (from + start) many k inside)) in
       let there = drop ((from + start) % length o.ring) (o.ring ++ o.ring) in
       let in_two = stretch-in_two o.ring (from + start) many some (omega (arith, is.size, is.room)) in
@@ -139,17 +143,18 @@ module _ (o : Owner) (is : IsOwner o) (zeros from count behind place : ℕ) wher
       fits-agree (Some true ∷ o.sync) own there again
       (fits-agree (Some true ∷ o.sync) cells own same (leads-sync o.lead o.sync cut leads))
 
-  -- so it is that of a sector, with which the cells agree
-  record Found (t : ℕ) : Type 0 where
-    number : IsSectorNumber o.first o.sectors t
-    own : IsOwnPlace o.ring_cells (o.place_of t) zeros from place
-    agree : (end size : ℕ) → end ≤ length cut → Unbroken cut 0 end → end ≤ size → o.frame_cells ≤ size
+  -- So it is that of a sector, with which the cells agree up to seven before an end, where those before it are unbroken from some
+  -- place on.
+  pub record Found (t : ℕ) : Type 0 where
+    pub number : IsSectorNumber o.first o.sectors t
+    pub own : IsOwnPlace o.ring_cells (o.place_of t) zeros from place
+    pub agree : (low end size : ℕ) → low + 8 ≤ end → end ≤ length cut → Unbroken cut low end → end ≤ size → o.frame_cells ≤ size
         → AgreeTo (end - 7) cut (stretch o.ring (o.place_of t) size)
 
-  found : (end : ℕ) → Leads o.lead o.sync cut → end ≤ length cut → Unbroken cut 0 end
+  pub found : (end : ℕ) → Leads o.lead o.sync cut → end ≤ length cut → Unbroken cut 0 end
       → o.lead + suc (length o.sync) + 7 ≤ end → (t : ℕ) × Found t
   found end leads within whole long =
-      let begin = start_of end leads within whole in
+      let begin = start_of end leads (omega (arith, long)) within whole in
       let start = begin.0 in
       let size = length o.ring in
       let here = (from + start) % size in
@@ -167,25 +172,25 @@ module _ (o : Owner) (is : IsOwner o) (zeros from count behind place : ℕ) wher
         record {
           number = at.1;
           own = subst (λ (n : ℕ). (from + place) % n ≡ (o.place_of t + zeros) % n) is.size own;
-          agree = λ other many inside unbroken enough framed.
+          agree = λ low other many some inside unbroken enough framed.
               let ring_part = stretch o.ring (o.place_of t) many in
               let part_size = length-stretch o.ring (o.place_of t) many in
               let stands = is.leads ring_part t (is.has_header ring_part t (o.content t) (is.stands t many at.1 framed)) in
               agree-cells (other - 7) cut ring_part (omega (arith, inside)) (omega (arith, enough, part_size))
-              (λ k low. elim (cases_lt k o.lead) [
+              (λ k less. elim (cases_lt k o.lead) [
                 | inl early ↦ leads-zero o.lead o.sync cut k leads early ∙ sym (leads-zero o.lead o.sync ring_part k stands early)
                 | inr late ↦
                     let i = k - o.lead in
                     let is_k : o.lead + i ≡ k = omega arith in
-                    let near : o.lead + i + 7 < other = omega (arith, low) in
+                    let near : o.lead + i + 7 < other = omega (arith, less) in
                     let sum : from + (start + i) ≡ from + start + i = omega arith in
                     let more : o.place_of t + o.lead + i ≡ o.place_of t + k = omega arith in
                     let same : (from + (start + i)) % size ≡ (o.place_of t + k) % size =
                     ap (λ (n : ℕ). n % size) sum ∙ sym (mod-add-mod (from + start) size i) ∙ ap (λ (n : ℕ). (n + i) % size) there
                     ∙ mod-add-mod (o.place_of t + o.lead) size i ∙ ap (λ (n : ℕ). n % size) more in
-                    ap (λ (n : ℕ). get_or cut n false) (sym is_k) ∙ begin.1.same i other inside unbroken near
+                    ap (λ (n : ℕ). get_or cut n false) (sym is_k) ∙ begin.1.same i low other some inside unbroken near
                     ∙ ap (λ (n : ℕ). get_or o.ring n false) same
-                    ∙ sym (get_or-stretch o.ring (o.place_of t) many k (omega (arith, low, enough)))
+                    ∙ sym (get_or-stretch o.ring (o.place_of t) many k (omega (arith, less, enough)))
               ]);
         },
       )
@@ -193,14 +198,14 @@ module _ (o : Owner) (is : IsOwner o) (zeros from count behind place : ℕ) wher
       mod-mod : (n : ℕ) → n % length o.ring % length o.ring ≡ n % length o.ring
       mod-mod n = mod-eq_of_lt (mod-lt n some)
 
-  header_found : (s : ℕ) → o.header cut s → Found s
+  pub header_found : (s : ℕ) → o.header cut s → Found s
   header_found s header =
       let early = is.header_early cut s header in
       let here = found early.end (is.leads cut s header) early.within early.unbroken early.long in
       let t = here.0 in
       let size = early.end + o.frame_cells in
       let ring_part = stretch o.ring (o.place_of t) size in
-      let same : s ≡ t = early.says ring_part (here.1.agree early.end size early.within early.unbroken (omega arith) (omega arith)) t (o.content t)
+      let same : s ≡ t = early.says ring_part (here.1.agree 0 early.end size (omega (arith, early.long)) early.within early.unbroken (omega arith) (omega arith)) t (o.content t)
       (is.stands t size here.1.number (omega arith)) in
       subst Found (sym same) here.1
 
@@ -216,6 +221,6 @@ module _ (o : Owner) (is : IsOwner o) (zeros from count behind place : ℕ) wher
       let early = is.sector_early cut s bytes sector in
       let size = early.end + o.frame_cells in
       let ring_part = stretch o.ring (o.place_of s) size in
-      let same = early.says ring_part (here.agree early.end size early.within early.unbroken (omega arith) (omega arith)) s (o.content s)
+      let same = early.says ring_part (here.agree 0 early.end size (omega (arith, early.long)) early.within early.unbroken (omega arith) (omega arith)) s (o.content s)
       (is.stands s size here.number (omega arith)) in
       (here.own, same)
