@@ -3,5 +3,6 @@ pub mod WordRowLaws
 pub mod WritingLaws
 pub mod RowWritingLaws
 pub mod FrameLaws
+pub mod OwnData
 pub mod OwnFrames
 pub mod Spacing

@@ -1,0 +1,23 @@
+-- Where data stand in a ring: only where they were written.
+use Rattle.std.specs.Prelude.{◌≡◌, ℕ, ◌+◌, ◌<◌, ◌≤◌, ◌⊎◌, Bool, List, length, drop, Option}
+use Rattle.track_rings.specs.lemmas.Owning.{IsPlaceIn}
+use Rattle.track_rings.specs.lemmas.Syncs.{Only, Syncs}
+use Rattle.frame_law.specs.Frames.{DATA_REACH}
+
+-- where data begin in a frame that is written, so many cells after their sync does; and anywhere within its header
+abbrev pub IsDataOffset : ℕ → ℕ → ℕ → ℕ → Type 0
+IsDataOffset header_cells data_place lead offset = (offset ≡ data_place + lead) ⊎ (offset < header_cells)
+
+-- Data that hold bytes have cells of this pattern so many cells after the begin of their sync, and in the ring of given bytes,
+-- where another follows it, such cells begin only where data do, and within headers. What lies within reach of a header lies in
+-- its frame.
+pub record HasOwnDataSyncs (header_cells data_cells data_place first sectors : ℕ) (is_sync : List Bool → ℕ → Type 0)
+    (hold : List Bool → ℕ → List ℕ → Type 0) (place_of : ℕ → ℕ) (Given : List ℕ → Type 0) (ring : List ℕ → List Bool) : Type 0 where
+  pub lead : ℕ
+  pub pattern : List (Option Bool)
+  pub short : lead + length pattern + 7 ≤ data_cells
+  pub near : header_cells + DATA_REACH + lead ≤ data_place + data_cells
+  pub leads : (cells : List Bool) (sync : ℕ) (bytes : List ℕ) → is_sync cells sync → hold cells sync bytes
+      → Syncs pattern (drop (sync + lead) cells)
+  pub only : (bytes : List ℕ) → Given bytes
+      → Only (Syncs pattern) (IsPlaceIn place_of first sectors (IsDataOffset header_cells data_place lead)) (ring bytes) (ring bytes)
