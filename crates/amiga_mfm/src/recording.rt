@@ -128,7 +128,13 @@ impl Layout for AmigaMfm {
         named_sector(frame, track)
     }
 
-    fn find_data(&self, _frame: &CellsFrom) -> Option<usize> {
+    fn next_sync(&self, _frame: &CellsFrom, from: usize, to: usize) -> Option<usize> {
+        if HEADER_CELLS < from {
+            return None;
+        }
+        if HEADER_CELLS >= to {
+            return None;
+        }
         Some(HEADER_CELLS)
     }
 
@@ -167,7 +173,7 @@ impl Layout for AmigaMfm {
     ghost frame_ends = { λ r track s bytes before rest known number fit long.
         record { header_ends = refl; data_ends = refl } };
 
-    ghost tells_ends = { λ r. fixed_ends 480 8192 (lit≤ tt) };
+    ghost tells_ends = { λ r. fixed_ends 480 8192 (lit≤ tt) (lit≤ tt) };
 
     ghost tells = { λ r track. tells track };
 

@@ -17,7 +17,7 @@ use crate::layout::{
     FIRST_SECTOR, LEAD_IN, LEAD_OUT, RING_CELLS, Row, SECTOR, SECTOR_SIZE, SECTORS,
 };
 use crate::rows::push_row;
-use apple_nibbles::{ADDRESS_MARK, MARK_CELLS, first_sync};
+use apple_nibbles::{ADDRESS_MARK, MARK_CELLS, next_sync};
 use cell_bits::Cells;
 use flux_base::{Memory, TrackId};
 use frame_law::{CellsFrom, Layout, SectorBuffer};
@@ -143,8 +143,8 @@ impl Layout for AppleGcr {
         named_sector(self.rule, frame, track)
     }
 
-    fn find_data(&self, frame: &CellsFrom) -> Option<usize> {
-        first_sync(frame, header_end(self.rule, frame)?)
+    fn next_sync(&self, frame: &CellsFrom, from: usize, to: usize) -> Option<usize> {
+        next_sync(frame, from, to)
     }
 
     fn data_end(&self, frame: &CellsFrom, sync: usize) -> Option<usize> {

@@ -1,5 +1,5 @@
-ghost use Rattle.std.specs.Prelude.{ℕ, ◌^◌, ◌<◌, IfNone, IfSome};
-ghost use Rattle.frame_law.specs.Frames.{IsDataSync};
+ghost use Rattle.std.specs.Prelude.{ℕ, ◌^◌, ◌<◌, ◌≤◌, IfNone, IfSome};
+ghost use Rattle.frame_law.specs.Frames.{IsFirstSync, NoSync};
 ghost use Rattle.apple_nibbles.specs.Marks.{IsSync};
 
 use frame_law::CellsFrom;
@@ -27,15 +27,12 @@ const DATA_SYNC: u32 = 0xD5AA;
 
 const DATA_SYNC_CELLS: u8 = 16;
 
-/// The data sync begins less than this number of cells after the header.
-const DATA_REACH: usize = 1024;
-
-/// The first data sync after the header, which ends at this offset, within reach.
-pub fn first_sync(frame: &CellsFrom, header_end: usize) -> Option<usize>
-    requires { header_end < 2 ^ 31 }
-    ensures first { IfSome result (λ sync. IsDataSync header_end (IsSync frame.now) sync) }
-    ensures none { IfNone result ((sync : ℕ) → ¬ IsDataSync header_end (IsSync frame.now) sync) }
+/// The first data sync at a place from `from` to below `to`.
+pub fn next_sync(frame: &CellsFrom, from: usize, to: usize) -> Option<usize>
+    requires order { from ≤ to }
+    requires near { to < 2 ^ 32 }
+    ensures first { IfSome result (λ sync. IsFirstSync (IsSync frame.now) from to sync) }
+    ensures none { IfNone result (NoSync (IsSync frame.now) from to) }
 {
-    let end = header_end + DATA_REACH;
-    frame.find_word(header_end, end, DATA_SYNC, DATA_SYNC_CELLS)
+    frame.find_word(from, to, DATA_SYNC, DATA_SYNC_CELLS)
 }

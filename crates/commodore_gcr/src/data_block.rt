@@ -1,21 +1,20 @@
 ghost use Rattle.std.specs.Prelude.{◌≡◌, ℕ, ◌+◌, ◌^◌, ◌<◌, ◌≤◌, [], List, false, length, IfNone, IfSome, IsTrue};
-ghost use Rattle.frame_law.specs.Frames.{IsDataSync};
+ghost use Rattle.frame_law.specs.Frames.{IsFirstSync, NoSync};
 ghost use Rattle.commodore_gcr.specs.Sectors.{Hold, IsSync};
 
 use crate::fields::{stands_at, take_bytes};
-use crate::layout::{
-    CONTENT_CHECK_PLACE, CONTENT_PLACE, DATA_BYTE, DATA_REACH, HEADER_CELLS, SYNC, SYNC_CELLS,
-    SYNC_ONES,
-};
+use crate::layout::{CONTENT_CHECK_PLACE, CONTENT_PLACE, DATA_BYTE, SYNC, SYNC_CELLS, SYNC_ONES};
 use check_values::xor_bytes;
 use frame_law::{CellsFrom, SectorBuffer};
 
-/// The first sync after the header, within reach.
-pub(crate) fn first_sync(frame: &CellsFrom) -> Option<usize>
-    ensures first { IfSome result (λ sync. IsDataSync 70 (IsSync frame.now) sync) }
-    ensures none { IfNone result ((sync : ℕ) → ¬ IsDataSync 70 (IsSync frame.now) sync) }
+/// The first sync at a place from `from` to below `to`.
+pub(crate) fn next_sync(frame: &CellsFrom, from: usize, to: usize) -> Option<usize>
+    requires order { from ≤ to }
+    requires near { to < 2 ^ 32 }
+    ensures first { IfSome result (λ sync. IsFirstSync (IsSync frame.now) from to sync) }
+    ensures none { IfNone result (NoSync (IsSync frame.now) from to) }
 {
-    frame.find_word(HEADER_CELLS, HEADER_CELLS + DATA_REACH, SYNC, SYNC_CELLS)
+    frame.find_word(from, to, SYNC, SYNC_CELLS)
 }
 
 /// Whether the block after the sync at the place is one of data. Then the buffer, which was empty, has their

@@ -65,9 +65,6 @@ pub(crate) const HEADER_FILL: u8 = 0x0F;
 /// The ten ones before a header block, and its first six bytes.
 pub(crate) const HEADER_CELLS: usize = 70;
 
-/// The sync of the data begins less than this number of cells after the header.
-pub(crate) const DATA_REACH: usize = 1024;
-
 /// The first byte of a data block.
 pub(crate) const DATA_BYTE: u8 = 0x07;
 

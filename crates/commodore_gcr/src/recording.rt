@@ -10,7 +10,7 @@ ghost use Rattle.commodore_gcr.specs.lemmas.Syncs.{own_syncs};
 ghost use Rattle.commodore_gcr.specs.lemmas.ZoneLaws.{counts, sums};
 ghost use Rattle.commodore_gcr.specs.Zones.{IsCommodoreTrack, sectors_of, zone_of};
 
-use crate::data_block::{first_sync, read_block};
+use crate::data_block::{next_sync, read_block};
 use crate::header_block::named_sector;
 use crate::layout::{
     DATA_CELLS, HEADER_CELLS, LEAD_IN, LEAD_OUT, Row, SECTOR, SECTOR_SIZE, SYNC, SYNC_CELLS,
@@ -136,8 +136,8 @@ impl Layout for CommodoreGcr {
         named_sector(frame, track)
     }
 
-    fn find_data(&self, frame: &CellsFrom) -> Option<usize> {
-        first_sync(frame)
+    fn next_sync(&self, frame: &CellsFrom, from: usize, to: usize) -> Option<usize> {
+        next_sync(frame, from, to)
     }
 
     fn data_end(&self, frame: &CellsFrom, sync: usize) -> Option<usize> {
@@ -174,7 +174,7 @@ impl Layout for CommodoreGcr {
     ghost frame_ends = { λ r track s bytes before rest known number fit long.
         record { header_ends = refl; data_ends = refl } };
 
-    ghost tells_ends = { λ r. fixed_ends 70 2590 (lit≤ tt) };
+    ghost tells_ends = { λ r. fixed_ends 70 2590 (lit≤ tt) (lit≤ tt) };
 
     ghost tells = { λ r track. tells track };
 

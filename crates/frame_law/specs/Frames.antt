@@ -17,12 +17,26 @@ pub record HeaderStands (sync sync_cells : ℕ) (header_end : List Bool → ℕ)
 abbrev pub DATA_REACH : ℕ
 DATA_REACH = 1024
 
+-- the first of all syncs at places from `from` to below `to`
+pub record IsFirstSync (is_sync : ℕ → Type 0) (from to sync : ℕ) : Type 0 where
+  pub after : from ≤ sync
+  pub near : sync < to
+  pub stands : is_sync sync
+  pub first : (place : ℕ) → from ≤ place → place < sync → ¬ is_sync place
+
+-- no sync stands at a place from `from` to below `to`
+abbrev pub NoSync : (ℕ → Type 0) → ℕ → ℕ → Type 0
+NoSync is_sync from to = (place : ℕ) → from ≤ place → place < to → ¬ is_sync place
+
 -- the data's sync: the first of all syncs after the header, and within reach
-pub record IsDataSync (header_cells : ℕ) (is_sync : ℕ → Type 0) (sync : ℕ) : Type 0 where
+abbrev pub IsDataSync : ℕ → (ℕ → Type 0) → ℕ → Type 0
+IsDataSync header_cells is_sync sync = IsFirstSync is_sync header_cells (header_cells + DATA_REACH) sync
+
+-- a sync after the header and within reach
+pub record IsSyncInReach (header_cells : ℕ) (is_sync : ℕ → Type 0) (sync : ℕ) : Type 0 where
   pub after : header_cells ≤ sync
   pub near : sync < header_cells + DATA_REACH
   pub stands : is_sync sync
-  pub first : (place : ℕ) → header_cells ≤ place → place < sync → ¬ is_sync place
 
 -- The data after a header: they hold these bytes, and all cells from the header's begin to their end are unbroken.
 pub record DataStand (header_end : List Bool → ℕ) (data_end : List Bool → ℕ → ℕ) (is_sync : List Bool → ℕ → Type 0)

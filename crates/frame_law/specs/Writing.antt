@@ -1,5 +1,5 @@
 -- Cells that a call appends.
-use Rattle.std.specs.Prelude.{◌≡◌, ◌+◌, ◌≤◌, Bool, List, ◌++◌, length, OnOk, IsOk}
+use Rattle.std.specs.Prelude.{◌≡◌, ◌≤◌, Bool, List, ◌++◌, length, OnOk, IsOk}
 use Rattle.std.specs.declared.result.Result.{Result}
 use Rattle.flux_base.specs.declared.outside.Memory.{Memory}
 use Rattle.cell_bits.specs.State.{CellsState, room}

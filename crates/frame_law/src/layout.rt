@@ -1,7 +1,7 @@
 ghost use Rattle.std.specs.Prelude.{◌≡◌, ℕ, ◌+◌, ◌*◌, ◌^◌, ◌<◌, ◌≤◌, ◌⊎◌, ◌&&◌, List, [], ◌++◌, Bool, false, length, IfSome, IfNone, IsTrue};
 ghost use Rattle.cell_bits.specs.Bytes.{last_cell};
 ghost use Rattle.flux_base.specs.declared.track.TrackId.{TrackId};
-ghost use Rattle.frame_law.specs.Frames.{AreSizes, EndsAt, FrameStands, IsDataSync, IsWithinReach};
+ghost use Rattle.frame_law.specs.Frames.{AreSizes, EndsAt, FrameStands, IsFirstSync, IsSyncInReach, IsWithinReach, NoSync};
 ghost use Rattle.frame_law.specs.lemmas.OwnFrames.{HasOwnSyncs, TellsEarly, TellsEnds};
 ghost use Rattle.frame_law.specs.Writing.{AppendsCells};
 ghost use Rattle.track_rings.specs.Rings.{AreSectors, IsSectorNumber, AreBytes};
@@ -151,21 +151,22 @@ pub trait Layout {
         ensures named { IfSome result (λ sector. names_sector self.now track frame.now sector) }
         ensures none { IfNone result ((sector : ℕ) → ¬ names_sector self.now track frame.now sector) };
 
-    /// The place of the first sync after the header at the front of the cells, where it is within reach.
-    fn find_data(&self, frame: &CellsFrom) -> Option<usize>
-        requires whole { header_end self.now frame.now ≤ length frame.now }
-        ensures first { IfSome result (λ sync. IsDataSync (header_end self.now frame.now) (is_sync self.now frame.now) sync) }
-        ensures none { IfNone result ((sync : ℕ) → ¬ IsDataSync (header_end self.now frame.now) (is_sync self.now frame.now) sync) };
+    /// The first sync at a place from `from` to below `to`, which are after the header.
+    fn next_sync(&self, frame: &CellsFrom, from: usize, to: usize) -> Option<usize>
+        requires order { from ≤ to }
+        requires near { to < 2 ^ 31 }
+        ensures first { IfSome result (λ sync. IsFirstSync (is_sync self.now frame.now) from to sync) }
+        ensures none { IfNone result (NoSync (is_sync self.now frame.now) from to) };
 
     /// Where the data end whose sync stands at the place. None where they are not whole.
     fn data_end(&self, frame: &CellsFrom, sync: usize) -> Option<usize>
-        requires { IsDataSync (header_end self.now frame.now) (is_sync self.now frame.now) sync }
+        requires { IsSyncInReach (header_end self.now frame.now) (is_sync self.now frame.now) sync }
         ensures some { IfSome result (λ end. (end ≡ data_end self.now frame.now sync) × (end ≤ length frame.now)) }
         ensures none { IfNone result (length frame.now < data_end self.now frame.now sync) };
 
     /// Whether the data whose sync stands at the place hold bytes. Then the buffer, which was empty, has them.
     fn read_data(&self, frame: &CellsFrom, sync: usize, buffer: &mut SectorBuffer) -> bool
-        requires sync { IsDataSync (header_end self.now frame.now) (is_sync self.now frame.now) sync }
+        requires sync { IsSyncInReach (header_end self.now frame.now) (is_sync self.now frame.now) sync }
         requires whole { data_end self.now frame.now sync ≤ length frame.now }
         requires empty { buffer.old.items ≡ [] }
         ensures good { IsTrue result → hold self.now frame.now sync buffer.new.items }

@@ -7,4 +7,4 @@ mod fields;
 mod marks;
 
 pub use fields::{address_at, number_at, take_bytes};
-pub use marks::{CHECK_START, DATA_BYTE, DATA_REACH, DELETED_DATA_BYTE, ID_BYTE};
+pub use marks::{CHECK_START, DATA_BYTE, DELETED_DATA_BYTE, ID_BYTE};

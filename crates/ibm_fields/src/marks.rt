@@ -9,6 +9,3 @@ pub const DELETED_DATA_BYTE: u8 = 0xF8;
 
 /// The register of a check value before its field.
 pub const CHECK_START: u16 = 0xFFFF;
-
-/// The sync of the data begins less than this number of cells after the header.
-pub const DATA_REACH: usize = 1024;

@@ -1,42 +1,41 @@
 ghost use Rattle.std.specs.Prelude.{◌≡◌, ℕ, ◌+◌, ◌^◌, ◌<◌, ◌≤◌, [], List, false, length, IfNone, IfSome, IsTrue, ◌↔◌};
 ghost use Rattle.cell_bits.specs.Search.{StandsNowhere};
-ghost use Rattle.frame_law.specs.Frames.{IsDataSync};
+ghost use Rattle.frame_law.specs.Frames.{IsFirstSync, NoSync};
 ghost use Rattle.ibm_fm.specs.Sectors.{DATA_CELLS, DataMarkAt, Hold, IsSync, MarkAt};
 
-use crate::layout::{CONTENT_PLACE, HEADER_CELLS, MARK_CELLS, content_check_place};
+use crate::layout::{CONTENT_PLACE, MARK_CELLS, content_check_place};
 use crate::rows::field_check;
 use cell_bits::{FM_DATA_MARK, FM_DELETED_DATA_MARK, FM_ID_MARK, FM_INDEX_MARK};
 use frame_law::{CellsFrom, SectorBuffer};
-use ibm_fields::{DATA_REACH, number_at, take_bytes};
+use ibm_fields::{number_at, take_bytes};
 
-/// The first mark after the header, within reach.
-pub(crate) fn first_sync(frame: &CellsFrom) -> Option<usize>
-    ensures first { IfSome result (λ sync. IsDataSync 112 (IsSync frame.now) sync) }
-    ensures none { IfNone result ((sync : ℕ) → ¬ IsDataSync 112 (IsSync frame.now) sync) }
+/// The first mark at a place from `from` to below `to`.
+pub(crate) fn next_sync(frame: &CellsFrom, from: usize, to: usize) -> Option<usize>
+    requires order { from ≤ to }
+    requires near { to < 2 ^ 32 }
+    ensures first { IfSome result (λ sync. IsFirstSync (IsSync frame.now) from to sync) }
+    ensures none { IfNone result (NoSync (IsSync frame.now) from to) }
 {
-    let end = HEADER_CELLS + DATA_REACH;
-    let sync = first_mark(frame, end, FM_DATA_MARK);
-    let sync = first_mark(frame, sync, FM_DELETED_DATA_MARK);
-    let sync = first_mark(frame, sync, FM_ID_MARK);
-    let sync = first_mark(frame, sync, FM_INDEX_MARK);
-    if sync == end {
+    let sync = first_mark(frame, from, to, FM_DATA_MARK);
+    let sync = first_mark(frame, from, sync, FM_DELETED_DATA_MARK);
+    let sync = first_mark(frame, from, sync, FM_ID_MARK);
+    let sync = first_mark(frame, from, sync, FM_INDEX_MARK);
+    if sync == to {
         return None;
     }
     Some(sync)
 }
 
-/// The least place after the header and before `end` at which the mark stands, or `end` where there is none.
-fn first_mark(frame: &CellsFrom, end: usize, mark: u32) -> usize
-    requires order { HEADER_CELLS ≤ end }
+/// The least place from `from` to below `end` at which the mark stands, or `end` where there is none.
+fn first_mark(frame: &CellsFrom, from: usize, end: usize, mark: u32) -> usize
+    requires order { from ≤ end }
     requires near { end < 2 ^ 32 }
-    ensures behind { HEADER_CELLS ≤ result }
+    ensures behind { from ≤ result }
     ensures before { result ≤ end }
     ensures stands { result < end → MarkAt frame.now mark result }
-    ensures first { StandsNowhere frame.now mark 16 HEADER_CELLS result }
+    ensures first { StandsNowhere frame.now mark 16 from result }
 {
-    frame
-        .find_word(HEADER_CELLS, end, mark, MARK_CELLS)
-        .unwrap_or(end)
+    frame.find_word(from, end, mark, MARK_CELLS).unwrap_or(end)
 }
 
 /// Whether the mark at the place opens data, and they hold so many bytes. Then the buffer, which was empty, has them.

@@ -5,13 +5,13 @@ ghost use Rattle.ibm_fm.specs.lemmas.FrameLaws.{frame_stands};
 ghost use Rattle.ibm_fm.specs.Disks.{IsFmTrack, disk_of as numbers_of, rows_of};
 ghost use Rattle.ibm_fm.specs.lemmas.DiskLaws.{counts, sums, within_reach};
 ghost use Rattle.ibm_fm.specs.Layout.{row_cells, row_size};
-ghost use Rattle.ibm_fm.specs.lemmas.OwnLaws.{data_long, tells};
+ghost use Rattle.ibm_fm.specs.lemmas.OwnLaws.{data_long, header_short, tells};
 ghost use Rattle.ibm_fm.specs.lemmas.RowLaws.{row_follows, row_length};
 ghost use Rattle.ibm_fm.specs.Sectors.{DATA_CELLS, Hold, IsSync, NamesSector};
 ghost use Rattle.ibm_fm.specs.lemmas.StandLaws.{bytes_held, one_name, sizes};
 ghost use Rattle.ibm_fm.specs.lemmas.Syncs.{own_syncs};
 
-use crate::data_field::{first_sync, read_field};
+use crate::data_field::{next_sync, read_field};
 use crate::header::named_sector;
 use crate::layout::{
     ACORN_LEAD_IN, HEADER_CELLS, LEAD_IN, LEAD_OUT, MARK_CELLS, Row, SECTOR, data_cells, disk_of,
@@ -137,8 +137,8 @@ impl Layout for IbmFm {
         named_sector(frame, track, disk_of(*self).size_code)
     }
 
-    fn find_data(&self, frame: &CellsFrom) -> Option<usize> {
-        first_sync(frame)
+    fn next_sync(&self, frame: &CellsFrom, from: usize, to: usize) -> Option<usize> {
+        next_sync(frame, from, to)
     }
 
     fn data_end(&self, frame: &CellsFrom, sync: usize) -> Option<usize> {
@@ -175,7 +175,7 @@ impl Layout for IbmFm {
     ghost frame_ends = { λ r track s bytes before rest known number fit long.
         record { header_ends = refl; data_ends = refl } };
 
-    ghost tells_ends = { λ r. fixed_ends 112 (DATA_CELLS (numbers_of r).sector_size) (data_long (numbers_of r).sector_size) };
+    ghost tells_ends = { λ r. fixed_ends 112 (DATA_CELLS (numbers_of r).sector_size) (data_long (numbers_of r).sector_size) (header_short r) };
 
     ghost tells = { λ r track. tells (numbers_of r).size_code (numbers_of r).sector_size track };
 

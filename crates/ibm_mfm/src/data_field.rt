@@ -1,25 +1,26 @@
 ghost use Rattle.std.specs.Prelude.{◌≡◌, ℕ, ◌+◌, ◌^◌, ◌<◌, ◌≤◌, [], List, false, length, IfNone, IfSome, IsTrue};
-ghost use Rattle.frame_law.specs.Frames.{IsDataSync};
+ghost use Rattle.frame_law.specs.Frames.{IsFirstSync, NoSync};
 ghost use Rattle.ibm_mfm.specs.Sectors.{Hold};
 ghost use Rattle.ibm_mfm.specs.Syncs.{SyncAt};
 
 use crate::layout::{
-    CONTENT_CHECK_PLACE, CONTENT_PLACE, FIRST_BYTE_PLACE, HEADER_CELLS, MARK_CELLS, SECTOR_SIZE,
+    CONTENT_CHECK_PLACE, CONTENT_PLACE, FIRST_BYTE_PLACE, MARK_CELLS, SECTOR_SIZE,
     THIRD_MARK_PLACE, TWO_MARKS, TWO_MARKS_CELLS,
 };
 use crate::rows::field_check;
 use cell_bits::MFM_A1_MARK;
 use frame_law::{CellsFrom, SectorBuffer};
-use ibm_fields::{DATA_BYTE, DATA_REACH, DELETED_DATA_BYTE, number_at, take_bytes};
+use ibm_fields::{DATA_BYTE, DELETED_DATA_BYTE, number_at, take_bytes};
 
-/// The first three marks after the header, within reach.
-pub(crate) fn first_sync(frame: &CellsFrom) -> Option<usize>
-    ensures first { IfSome result (λ sync. IsDataSync 160 (SyncAt frame.now) sync) }
-    ensures none { IfNone result ((sync : ℕ) → ¬ IsDataSync 160 (SyncAt frame.now) sync) }
+/// The first three marks at a place from `from` to below `to`.
+pub(crate) fn next_sync(frame: &CellsFrom, from: usize, to: usize) -> Option<usize>
+    requires order { from ≤ to }
+    requires near { to < 2 ^ 31 }
+    ensures first { IfSome result (λ sync. IsFirstSync (SyncAt frame.now) from to sync) }
+    ensures none { IfNone result (NoSync (SyncAt frame.now) from to) }
 {
-    let end = HEADER_CELLS + DATA_REACH;
-    let mut start = HEADER_CELLS;
-    while let Some(place) = frame.find_word(start, end, TWO_MARKS, TWO_MARKS_CELLS) {
+    let mut start = from;
+    while let Some(place) = frame.find_word(start, to, TWO_MARKS, TWO_MARKS_CELLS) {
         if frame.stands_at(place + THIRD_MARK_PLACE, MFM_A1_MARK, MARK_CELLS) {
             return Some(place);
         }

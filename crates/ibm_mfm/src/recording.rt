@@ -11,7 +11,7 @@ ghost use Rattle.ibm_mfm.specs.lemmas.RowLaws.{row_follows, row_length};
 ghost use Rattle.ibm_mfm.specs.Sectors.{Hold, NamesSector};
 ghost use Rattle.ibm_mfm.specs.Syncs.{SyncAt};
 
-use crate::data_field::{first_sync, read_field};
+use crate::data_field::{next_sync, read_field};
 use crate::header::named_sector;
 use crate::layout::{
     DATA_CELLS, HEADER_CELLS, LEAD_IN, LEAD_OUT, Row, SECTOR, SECTOR_SIZE, TWO_MARKS,
@@ -145,8 +145,8 @@ impl Layout for IbmMfm {
         named_sector(frame, track)
     }
 
-    fn find_data(&self, frame: &CellsFrom) -> Option<usize> {
-        first_sync(frame)
+    fn next_sync(&self, frame: &CellsFrom, from: usize, to: usize) -> Option<usize> {
+        next_sync(frame, from, to)
     }
 
     fn data_end(&self, frame: &CellsFrom, sync: usize) -> Option<usize> {
@@ -183,7 +183,7 @@ impl Layout for IbmMfm {
     ghost frame_ends = { λ r track s bytes before rest known number fit long.
         record { header_ends = refl; data_ends = refl } };
 
-    ghost tells_ends = { λ r. fixed_ends 160 8288 (lit≤ tt) };
+    ghost tells_ends = { λ r. fixed_ends 160 8288 (lit≤ tt) (lit≤ tt) };
 
     ghost tells = { λ r track. tells track };
 

@@ -8,7 +8,7 @@ use Rattle.track_rings.specs.Rows.{frame_size, ring_size, total}
 use Rattle.apple_gcr.specs.DiskBytes.{byte_read, bytes_end}
 use Rattle.apple_gcr.specs.FourAndFour.{AreHalves}
 use Rattle.apple_gcr.specs.Layout.{row_size, rows}
-use Rattle.apple_gcr.specs.lemmas.ByteLaws.{end-least, end-more, place-least, same_end, same_place, same_read}
+use Rattle.apple_gcr.specs.lemmas.ByteLaws.{end-least, end-more, end-most, place-least, same_end, same_place, same_read}
 use Rattle.apple_gcr.specs.lemmas.HalfLaws.{halves-read}
 use Rattle.apple_gcr.specs.Sectors.{Hold, IsAddress, NamesSector, data_end, header_end, opening_end, opening_place}
 use Rattle.apple_gcr.specs.SixAndTwo.{AreCoded}
@@ -174,6 +174,7 @@ module _ (passed : ℕ) (few : passed ≤ 7) where
   tells_ends = record {
     some = lit≤ tt;
     header_least = header_least passed;
+    header_most = λ cells. omega (arith, end-most passed few cells 24 8);
     header_told = λ cells others same. same_end passed few (header_end passed cells) cells others same 24 8 (omega arith);
     data_least = data_least passed;
     data_told = λ cells others sync same.

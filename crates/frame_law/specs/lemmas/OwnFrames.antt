@@ -16,19 +16,22 @@ use Rattle.track_rings.specs.lemmas.TrackLaws.{frame-within}
 use Rattle.frame_law.specs.lemmas.FrameLaws.{IsWhole, one_sync}
 use Rattle.frame_law.specs.Frames.{AreSizes, HeaderStands, IsDataSync, IsWithinReach}
 
--- Where headers and data end: not before so many cells, and where their own cells up to the end tell.
+-- Where headers and data end: not before so many cells, a header after no more than data have at least, and where their own cells up to the end tell.
 pub record TellsEnds (header_cells data_cells : ℕ) (header_end : List Bool → ℕ) (data_end : List Bool → ℕ → ℕ) : Type 0 where
-  pub some : 7 ≤ data_cells
+  pub some : 8 ≤ data_cells
   pub header_least : (cells : List Bool) → header_cells ≤ header_end cells
+  pub header_most : (cells : List Bool) → header_end cells ≤ data_cells
   pub header_told : (cells others : List Bool) → AgreeTo (header_end cells) cells others → header_end others ≡ header_end cells
   pub data_least : (cells : List Bool) (sync : ℕ) → sync + data_cells ≤ data_end cells sync
   pub data_told : (cells others : List Bool) (sync : ℕ) → AgreeTo (data_end cells sync) cells others → data_end others sync ≡ data_end cells sync
 
 -- where they have so many cells, whatever these are
-pub fixed_ends : (header_cells data_cells : ℕ) → 7 ≤ data_cells → TellsEnds header_cells data_cells (λ cells. header_cells) (λ cells sync. sync + data_cells)
-fixed_ends header_cells data_cells some = record {
+pub fixed_ends : (header_cells data_cells : ℕ) → 8 ≤ data_cells → header_cells ≤ data_cells
+    → TellsEnds header_cells data_cells (λ cells. header_cells) (λ cells sync. sync + data_cells)
+fixed_ends header_cells data_cells some less = record {
   some = some;
   header_least = λ cells. omega arith;
+  header_most = λ cells. less;
   header_told = λ cells others same. refl;
   data_least = λ cells sync. omega arith;
   data_told = λ cells others sync same. refl;

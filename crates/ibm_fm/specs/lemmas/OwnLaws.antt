@@ -1,10 +1,13 @@
 -- What an FM header names, and what FM data hold, is told by their own cells, and by all of these but the last seven.
 use Rattle.std.specs.Prelude.{◌≡◌, ℕ, ◌+◌, ◌-◌, ◌≤◌, Bool, List}
-use Rattle.std.proofs.Common.{ap, sym, ◌∙◌, arith, inl, inr}
+use Rattle.std.proofs.Common.{ap, sym, ◌∙◌, arith, inl, inr, lit≤}
 use Rattle.flux_base.specs.declared.track.TrackId.{TrackId}
 use Rattle.track_rings.specs.lemmas.Fronts.{AgreeTo, agree-data_byte, agree-stands}
 use Rattle.frame_law.specs.lemmas.OwnFrames.{TellsEarly}
 use Rattle.ibm_fields.specs.lemmas.FieldFronts.{agree-bytes_at, agree-number_at}
+use Rattle.ibm_fm.specs.declared.recording.IbmFm.{IbmFm}
+use Rattle.ibm_fm.specs.declared.recording.IbmFm.TheVariants.{Ibm3740, Acorn}
+use Rattle.ibm_fm.specs.Disks.{disk_of}
 use Rattle.ibm_fm.specs.Sectors.{CONTENT_CHECK_PLACE, DATA_CELLS, DataMarkAt, Hold, IsSync, NamesSector, address_of, check_of}
 
 named : (code : ℕ) (track : TrackId) (cells others : List Bool) (s : ℕ) → AgreeTo 112 cells others → NamesSector code track cells s → NamesSector code track others s
@@ -49,8 +52,13 @@ held_early size cells others sync xs ys same first second =
     sym first.content ∙ agree-bytes_at (sync + DATA_CELLS size - 7) cells others same (sync + 16) size (omega arith) ∙ second.content
 
 -- data have more than the last seven cells
-pub data_long : (size : ℕ) → 7 ≤ DATA_CELLS size
+pub data_long : (size : ℕ) → 8 ≤ DATA_CELLS size
 data_long size = omega arith
+
+-- and a header has no more
+pub header_short : (recording : IbmFm) → 112 ≤ DATA_CELLS (disk_of recording).sector_size
+header_short Ibm3740 = lit≤ tt
+header_short Acorn = lit≤ tt
 
 pub tells : (code size : ℕ) (track : TrackId) → TellsEarly 16 112 (DATA_CELLS size) (λ cells. 112) (λ cells sync. sync + DATA_CELLS size) (NamesSector code track) IsSync (Hold size)
 tells code size track = record {

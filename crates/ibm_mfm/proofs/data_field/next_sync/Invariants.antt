@@ -1,13 +1,13 @@
 use Rattle.std.proofs.Common.{◌≤◌, ◌-◌}
 use Rattle.ibm_mfm.proofs.Searches.{NoSync}
-use Rattle.ibm_mfm.proofs.data_field.first_sync.Given as goal
+use Rattle.ibm_mfm.proofs.data_field.next_sync.Given as goal
 
 abbrev pub invariant-loop-place : goal.invariant-loop-place
 invariant-loop-place l = record {
-  low : 160 ≤ l.start;
-  high : l.start ≤ 1184;
-  none : NoSync l.frame 160 l.start;
+  low : l.fn.from ≤ l.start;
+  high : l.start ≤ l.fn.to;
+  none : NoSync l.frame l.fn.from l.start;
 }
 
 abbrev pub decreases-loop-place : goal.decreases-loop-place
-decreases-loop-place l = 1184 - l.start
+decreases-loop-place l = l.fn.to - l.start
