@@ -22,7 +22,7 @@ no_zeros-from few many cells place count less none at least most zeros =
 
 -- what depends on its own cells stands in all cells that begin with these
 stands_too : (Here : List Bool → Type 0) (cells others : List Bool) {zeros : ℕ} (alone : IsAloneWithin zeros Here cells) → take alone.end others ≡ take alone.end cells → Here others
-stands_too Here cells others {most} alone same =
+stands_too Here cells others alone same =
     subst Here
     (ap (λ (front : List Bool). front ++ drop alone.end others) (sym same) ∙ take-append-drop alone.end others)
     (alone.alone (drop alone.end others))
