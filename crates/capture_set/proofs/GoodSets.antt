@@ -1,5 +1,5 @@
 -- A sector that is good over several captures.
-use Rattle.std.specs.Prelude.{◌≡◌, ◌<◌, ℕ, zero, suc, ◌+◌, ◌*◌, Bool, true, ◌&&◌, List, [], ◌∷◌, drop, get_or, is_some, length, map, nat_eq, replicate, unwrap_or, Option, Some, refl}
+use Rattle.std.specs.Prelude.{◌≡◌, ◌<◌, ℕ, zero, suc, Bool, true, ◌&&◌, List, [], ◌∷◌, drop, get_or, is_some, length, nat_eq, replicate, unwrap_or, Option, Some, refl}
 use Rattle.std.proofs.Common.{ap, sym, subst, ◌∙◌, arith}
 use Rattle.std.proofs.lemmas.Bool.{eqb-true, eq-eqb}
 use Rattle.disk_recordings.specs.Laws.{TracksAreRead}
@@ -10,15 +10,14 @@ use Rattle.kryo_stream.specs.Stream.{indexes, times}
 use Rattle.sector_images.specs.Formats.{row}
 use Rattle.sector_images.specs.declared.format.Format.{Format}
 use Rattle.turn_merge.specs.Readings.{NotedReading, agreed, bytes_of, good_ones, verdict}
+use Rattle.turn_merge.specs.declared.clock.Clock.TheVariants.{Following}
 use Rattle.turn_merge.specs.declared.verdict.Place.{Place}
 use Rattle.turn_merge.specs.declared.verdict.Verdict.TheVariants.{Good}
-use Rattle.flux_engine.specs.Captured.{moved}
 use Rattle.flux_engine.specs.Recordings.{sectors_of, track_at}
-use Rattle.flux_engine.specs.Tracks.{Found, TrackPart, readings_of}
-use Rattle.flux_engine.specs.lemmas.Each.{Each, each-at, each-filter, each-flat, each-unfilter, each-unflat}
+use Rattle.flux_engine.specs.Tracks.{Found, TrackPart, readings_in}
+use Rattle.flux_engine.specs.lemmas.Each.{Each, each-at, each-filter, each-flat, each-map, each-unfilter, each-unflat}
 use Rattle.flux_engine.specs.lemmas.GoodSectors.{Head, Named, agreed_head, and_both, each_named, head_of, is_good_of, of_found, same_bytes, some_bytes}
 use Rattle.capture_set.specs.Laws.{GoodIsRightInSets, IsRightlyGoodInSet, cells_of_capture, place_in_capture}
-use Rattle.capture_set.specs.Lines.{CAPTURE_CELLS}
 use Rattle.capture_set.specs.Sets.{AreCaptures, IsSetPartAt, capture_stream, joined}
 
 each-by : {X : Type 0} (P : X → Type 0) (d : X) (xs : List X) → ((k : ℕ) → k < length xs → P (get_or xs k d)) → Each P xs
@@ -29,14 +28,6 @@ each-index : {X : Type 0} (P : X → Type 0) (d : X) (xs : List X) (k : ℕ) →
 each-index P d [] k all below = absurd (omega (arith, below))
 each-index P d (x ∷ xs) zero all below = all.0
 each-index P d (x ∷ xs) (suc k) all below = each-index P d xs k all.1 (omega (arith, below))
-
-each-through : {X Y : Type 0} (f : X → Y) (P : X → Type 0) (Q : Y → Type 0) → ((x : X) → P x → Q (f x)) → (xs : List X) → Each P xs → Each Q (map f xs)
-each-through f P Q step [] all = tt
-each-through f P Q step (x ∷ xs) all = (step x all.0, each-through f P Q step xs all.1)
-
-each-before : {X Y : Type 0} (f : X → Y) (Q : Y → Type 0) (xs : List X) → Each Q (map f xs) → Each (λ (x : X). Q (f x)) xs
-each-before f Q [] all = tt
-each-before f Q (x ∷ xs) all = (all.0, each-before f Q xs all.1)
 
 module _ (read : TracksAreRead) (format : Format) (count : ℕ) (x : List ℕ) (n : ℕ) (captures : List (List NotedReading)) (many : length captures ≡ count)
     (each : AreCaptures format count x n captures) where
@@ -57,20 +48,18 @@ module _ (read : TracksAreRead) (format : Format) (count : ℕ) (x : List ℕ) (
   abbrev NamedHere : (q : ℕ) → q < length captures → NotedReading → Type 0
   NamedHere q low r =
       Named (header_at format track) (sector_at format track) (row format).sector_size (read.told format track) (read.all format track)
-      (times (stream q)) (indexes (stream q)) (cells q) (each q low).found (each q low).all r
+      q Following (times (stream q)) (indexes (stream q)) (cells q) (each q low).found (each q low).all r
 
-  named_moved : (q : ℕ) (low : q < length captures) (r : NotedReading) → NamedHere q low r → NamedIn q (moved (q * CAPTURE_CELLS) r)
-  named_moved q low r says = λ xs is.
-      let here = says xs is in
-      (r.place.cell, here.0, ap (λ (p : Place). let moved_place : Place = record { turn = p.turn; cell = r.place.cell + q * CAPTURE_CELLS } in moved_place) here.1)
+  named_in : (q : ℕ) (low : q < length captures) (r : NotedReading) → NamedHere q low r → NamedIn q r
+  named_in q low r says = λ xs is. (let here = says xs is in (r.place.cell, here.0, here.1))
 
   capture_named : (q : ℕ) → q < length captures → Each (NamedIn q) (get_or captures q [])
   capture_named q low =
       subst (Each (NamedIn q)) (sym (each q low).are)
-      (each-through (moved (q * CAPTURE_CELLS)) (NamedHere q low) (NamedIn q) (named_moved q low)
-      (readings_of (times (stream q)) (indexes (stream q)) (cells q) (each q low).found)
+      (each-map (NamedHere q low) (NamedIn q) (named_in q low)
+      (readings_in q Following (times (stream q)) (indexes (stream q)) (cells q) (each q low).found)
       (each_named (header_at format track) (sector_at format track) (row format).sector_size (read.told format track) (read.all format track)
-      (times (stream q)) (indexes (stream q)) (cells q) (each q low).found (each q low).all))
+      q Following (times (stream q)) (indexes (stream q)) (cells q) (each q low).found (each q low).all))
 
   -- it is one of a capture
   abbrev Somewhere : NotedReading → Type 0
@@ -103,11 +92,10 @@ module _ (read : TracksAreRead) (format : Format) (count : ℕ) (x : List ℕ) (
         let within : q < length captures = omega (arith, low, many) in
         let a = each q within in
         let in_capture = subst (Each HoldsMine) a.are (each-index (Each HoldsMine) [] captures q all_hold within) in
-        let before = each-before (moved (q * CAPTURE_CELLS)) HoldsMine (readings_of (times (stream q)) (indexes (stream q)) (cells q) a.found) in_capture in
         let found_of = of_found (header_at format track) (sector_at format track) (row format).sector_size (read.told format track) (read.all format track)
-        (times (stream q)) (indexes (stream q)) (cells q) a.found a.all in
-        let per_found = each-unflat found_of (λ (r : NotedReading). HoldsMine (moved (q * CAPTURE_CELLS) r)) a.found before in
-        let at = each-at (λ (f : Found). Each (λ (r : NotedReading). HoldsMine (moved (q * CAPTURE_CELLS) r)) (found_of f)) a.found
+        q Following (times (stream q)) (indexes (stream q)) (cells q) a.found a.all in
+        let per_found = each-unflat found_of HoldsMine a.found in_capture in
+        let at = each-at (λ (f : Found). Each HoldsMine (found_of f)) a.found
         (place, GoodFrame sector, others) per_found ((((read.all format track (cells q) 0 a.found).0 a.all).good place sector others (omega arith)).1 here) in
         at.0 (ap (λ (b : Bool). b && true) (eq-eqb sector sector refl))
 

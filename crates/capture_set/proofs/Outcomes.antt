@@ -1,5 +1,5 @@
 -- An input comes to one outcome, and with one capture of each track to that of decoding.
-use Rattle.std.specs.Prelude.{◌≡◌, ◌<◌, ℕ, ◌+◌, ◌*◌, List, [], ◌∷◌, ◌++◌, get_or, length, map, None, refl}
+use Rattle.std.specs.Prelude.{◌≡◌, ◌<◌, ℕ, ◌+◌, ◌*◌, List, [], ◌∷◌, ◌++◌, get_or, length, None, refl}
 use Rattle.std.proofs.Common.{ap, sym, subst, ◌∙◌, arith, append-nil}
 use Rattle.std.proofs.lemmas.List.{ext_get_or}
 use Rattle.disk_recordings.specs.Laws.{TracksAreRead}
@@ -7,14 +7,14 @@ use Rattle.flux_base.specs.declared.track.TrackId.{TrackId}
 use Rattle.kryo_stream.specs.Stream.{first_fault, indexes, times}
 use Rattle.sector_images.specs.declared.format.Format.{Format}
 use Rattle.turn_merge.specs.Readings.{NotedReading}
-use Rattle.flux_engine.specs.Captured.{AreReadingsAt, moved}
+use Rattle.turn_merge.specs.declared.clock.Clock.TheVariants.{Following}
+use Rattle.flux_engine.specs.Captured.{AreReadingsAt}
 use Rattle.flux_engine.specs.Disks.{no_totals, part_at}
 use Rattle.flux_engine.specs.Recordings.{cells_of, track_at}
 use Rattle.flux_engine.specs.Streams.{stream_at}
-use Rattle.flux_engine.specs.Tracks.{Found, TrackPart, part_of, readings_of}
+use Rattle.flux_engine.specs.Tracks.{Found, TrackPart, part_of, readings_in}
 use Rattle.flux_engine.specs.lemmas.OneCapture.{one_capture}
 use Rattle.capture_set.specs.Laws.{OneSet, SetsOfOneAreDecoded}
-use Rattle.capture_set.specs.Lines.{CAPTURE_CELLS}
 use Rattle.capture_set.specs.Sets.{AreCaptures, AreReadingsOfCapture, AreSetParts, IsSetPartAt, capture_stream, decoded_set_of, joined, set_part_of, set_stop_of}
 
 no_part : TrackPart
@@ -22,18 +22,18 @@ no_part = record { image = []; lines = []; totals = no_totals }
 
 module _ (read : TracksAreRead) where
   -- the readings of a stream
-  one_reading : (format : Format) (track : TrackId) (times' indexes' : List ℕ) (offset : ℕ) (a b : List NotedReading)
-      → AreReadingsAt format track times' indexes' offset a → AreReadingsAt format track times' indexes' offset b → a ≡ b
-  one_reading format track times' indexes' offset a b p q =
+  one_reading : (format : Format) (track : TrackId) (times' indexes' : List ℕ) (capture : ℕ) (a b : List NotedReading)
+      → AreReadingsAt format track times' indexes' capture a → AreReadingsAt format track times' indexes' capture b → a ≡ b
+  one_reading format track times' indexes' capture a b p q =
       let cells = cells_of format track times' indexes' in
-      p.are ∙ ap (λ (found : List Found). map (moved offset) (readings_of times' indexes' cells found)) (read.one format track cells 0 p.found q.found p.all q.all) ∙ sym q.are
+      p.are ∙ ap (λ (found : List Found). readings_in capture Following times' indexes' cells found) (read.one format track cells 0 p.found q.found p.all q.all) ∙ sym q.are
 
   -- those of the captures of a track
   one_captures : (format : Format) (count : ℕ) (x : List ℕ) (n : ℕ) (a b : List (List NotedReading)) → AreCaptures format count x n a → AreCaptures format count x n b
       → length a ≡ length b → a ≡ b
   one_captures format count x n a b p q same =
       ext_get_or [] a b same
-      (λ k low. one_reading format (track_at format n) (times (capture_stream count x n k)) (indexes (capture_stream count x n k)) (k * CAPTURE_CELLS)
+      (λ k low. one_reading format (track_at format n) (times (capture_stream count x n k)) (indexes (capture_stream count x n k)) k
       (get_or a k []) (get_or b k []) (p k low) (q k (omega (arith, low, same))))
 
   one_part : (format : Format) (count : ℕ) (x : List ℕ) (n : ℕ) (a b : TrackPart) → IsSetPartAt format count x n a → IsSetPartAt format count x n b → a ≡ b
@@ -60,14 +60,12 @@ one_joined (readings ∷ more ∷ others) many = absurd (omega (arith, many))
 pub sets_of_one : SetsOfOneAreDecoded
 sets_of_one format x n part p =
     let number : n * 1 + 0 ≡ n = omega arith in
-    let none : 0 * CAPTURE_CELLS ≡ 0 = omega arith in
     let here : capture_stream 1 x n 0 ≡ stream_at x n = ap (stream_at x) number in
     let first : 0 < 1 = omega arith in
     let readings : List NotedReading = get_or p.captures 0 [] in
     let at : AreReadingsAt format (track_at format n) (times (stream_at x n)) (indexes (stream_at x n)) 0 readings =
     subst (λ (y : List ℕ). AreReadingsAt format (track_at format n) (times y) (indexes y) 0 readings) here
-    (subst (λ (k : ℕ). AreReadingsAt format (track_at format n) (times (capture_stream 1 x n 0)) (indexes (capture_stream 1 x n 0)) k readings) none
-    (p.each 0 (omega (arith, p.many)))) in
+    (p.each 0 (omega (arith, p.many))) in
     let all : part ≡ set_part_of format (track_at format n) readings =
     p.is ∙ ap (set_part_of format (track_at format n)) (one_joined p.captures p.many) in
     record {

@@ -29,7 +29,6 @@ use Rattle.flux_engine.specs.declared.fault.CaptureFault.{CaptureFault}
 use Rattle.flux_engine.specs.declared.fault.CaptureFault.TheVariants.{ReadFault as UnreadCapture, Refused as RefusedCapture}
 use Rattle.flux_engine.specs.lemmas.Finding.{find-first, find-none}
 use Rattle.capture_set.specs.Answers.{MOST_OF_STREAM}
-use Rattle.capture_set.specs.Lines.{CAPTURE_CELLS}
 use Rattle.capture_set.specs.Progress.{HasCaptured, HasCome, StopsAt, WasStopped}
 use Rattle.capture_set.specs.Sets.{AreCaptures, AreReadingsOfCapture, AreSetParts, IsSetPartAt, SetStop, joined, set_stop_at, set_stop_of}
 use Rattle.capture_set.specs.declared.fault.SetFault.{SetFault}
@@ -91,7 +90,7 @@ captured_none format count n left left' taken room c empty = record {
 module _ (format : Format) (count n : ℕ) (left mid : Option (List ℕ)) (taken : List ℕ) (room : RoomState) (q : ℕ) (h : HasCaptured format count n left mid taken room q) where
   abbrev Reads : Option (List ℕ) → RoomState → CaptureAnswer → Type 0
   Reads left' room' answer =
-      ReadsCapture format (track_at format n) (q * CAPTURE_CELLS) mid left' room.used room.held room'.held room.book room'.book answer
+      ReadsCapture format (track_at format n) q mid left' room.used room.held room'.held room.book room'.book answer
 
   pub captured_more : (left' : Option (List ℕ)) (room' : RoomState) (u : Unit {0}) → Reads left' room' (Ok u)
       → length room'.held ≤ 4096 → room'.used ≡ true → room'.failed ≡ false → HasCaptured format count n left left' taken room' (q + 1)
@@ -112,9 +111,9 @@ module _ (format : Format) (count n : ℕ) (left mid : Option (List ℕ)) (taken
             let before : AreCaptures format count x n h.captures =
             subst (λ (y : List ℕ). AreCaptures format count y n h.captures) (sym (append_assoc (taken ++ h.more) t later)) (h.each (t ++ later)) in
             let now : AreReadingsOfCapture format count x n q readings =
-            subst (λ (y : List ℕ). AreReadingsAt format (track_at format n) (times y) (indexes y) (q * CAPTURE_CELLS) readings) (sym here)
-            (subst (λ (ts : List ℕ). AreReadingsAt format (track_at format n) ts (indexes (input_of room.used ((room.held ++ t) ++ later))) (q * CAPTURE_CELLS) readings) s.times
-            (subst (λ (is : List ℕ). AreReadingsAt format (track_at format n) c.times is (q * CAPTURE_CELLS) readings) s.indexes c.noted.1)) in
+            subst (λ (y : List ℕ). AreReadingsAt format (track_at format n) (times y) (indexes y) q readings) (sym here)
+            (subst (λ (ts : List ℕ). AreReadingsAt format (track_at format n) ts (indexes (input_of room.used ((room.held ++ t) ++ later))) q readings) s.times
+            (subst (λ (is : List ℕ). AreReadingsAt format (track_at format n) c.times is q readings) s.indexes c.noted.1)) in
             subst (λ (w : List ℕ). AreCaptures format count (w ++ later) n (h.captures ++ readings ∷ [])) whole
             (captures-more format count x n h.captures q readings h.many before now);
         stands = subst (StandsFor room'.book) (sym (joined-more h.captures readings)) (c.noted.2 (joined h.captures) h.stands);

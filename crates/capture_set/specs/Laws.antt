@@ -1,15 +1,15 @@
 -- What the definition of a set comes to.
-use Rattle.std.specs.Prelude.{◌≡◌, ◌<◌, ℕ, ◌+◌, ◌*◌, Bool, List, drop}
+use Rattle.std.specs.Prelude.{◌≡◌, ◌<◌, ℕ, Bool, List, drop}
 use Rattle.disk_recordings.specs.Members.{sector_at}
 use Rattle.kryo_stream.specs.Stream.{indexes, times}
 use Rattle.sector_images.specs.declared.format.Format.{Format}
 use Rattle.turn_merge.specs.Readings.{NotedReading, verdict}
+use Rattle.turn_merge.specs.declared.clock.Clock.TheVariants.{Following}
 use Rattle.turn_merge.specs.declared.verdict.Place.{Place}
 use Rattle.turn_merge.specs.declared.verdict.Verdict.TheVariants.{Good}
 use Rattle.flux_engine.specs.Disks.{IsPartAt}
 use Rattle.flux_engine.specs.Recordings.{cells_of, sectors_of, track_at}
-use Rattle.flux_engine.specs.Tracks.{TrackPart, image_bytes, place_at}
-use Rattle.capture_set.specs.Lines.{CAPTURE_CELLS}
+use Rattle.flux_engine.specs.Tracks.{TrackPart, image_bytes, place_in}
 use Rattle.capture_set.specs.Sets.{DecodedSet, IsDecodedSet, IsSetPartAt, capture_stream, joined}
 
 -- an input comes to one outcome
@@ -31,12 +31,10 @@ abbrev pub cells_of_capture : Format → (count : ℕ) → (x : List ℕ) → (n
 cells_of_capture format count x n q =
     cells_of format (track_at format n) (times (capture_stream count x n q)) (indexes (capture_stream count x n q))
 
--- a place of these cells, in its turn of that capture, noted so many cells further on as captures stand before it
+-- a place of these cells, in its turn of that capture
 abbrev pub place_in_capture : Format → (count : ℕ) → (x : List ℕ) → (n q place : ℕ) → Place
-place_in_capture format count x n q place = record {
-  turn = (place_at (times (capture_stream count x n q)) (indexes (capture_stream count x n q)) (cells_of_capture format count x n q) place).turn;
-  cell = place + q * CAPTURE_CELLS;
-}
+place_in_capture format count x n q place =
+    place_in q Following (times (capture_stream count x n q)) (indexes (capture_stream count x n q)) (cells_of_capture format count x n q) place
 
 -- A sector of track number n is good with its first good reading named by this place: it is a place of one of the captures, in its
 -- turn there, whose cells hold the sector, with its sync, header, data and check values; the track's part of the image has these

@@ -1,4 +1,3 @@
-pub mod Lines
 pub mod Sets
 pub mod Answers
 pub mod Progress

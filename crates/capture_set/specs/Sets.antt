@@ -1,5 +1,5 @@
 -- What a disk comes to of which several streams capture each track.
-use Rattle.std.specs.Prelude.{◌≡◌, ◌<◌, ℕ, ◌+◌, ◌*◌, ◌/◌, ◌%◌, List, [], ◌++◌, length, flat_map, find, get_or, map, option_map, option_and_then, Option, Some, None}
+use Rattle.std.specs.Prelude.{◌≡◌, ◌<◌, ℕ, ◌+◌, ◌*◌, ◌/◌, ◌%◌, List, [], ◌++◌, length, flat_map, find, get_or, option_map, option_and_then, Option, Some, None}
 use Rattle.std.specs.List.{range_with_len}
 use Rattle.flux_base.specs.declared.track.TrackId.{TrackId}
 use Rattle.kryo_stream.specs.Stream.{first_fault, times, indexes}
@@ -8,24 +8,23 @@ use Rattle.kryo_stream.specs.declared.fault.StreamFault.TheVariants.{Truncated}
 use Rattle.sector_images.specs.Places.{tracks}
 use Rattle.sector_images.specs.declared.format.Format.{Format}
 use Rattle.sector_report.specs.Lines.{total_text}
+use Rattle.sector_report.specs.declared.naming.Naming.TheVariants.{ByCapture}
 use Rattle.sector_report.specs.declared.totals.Totals.{Totals}
-use Rattle.turn_merge.specs.Readings.{NotedReading, verdict}
+use Rattle.turn_merge.specs.Readings.{NotedReading}
 use Rattle.flux_engine.specs.Captured.{AreReadingsAt}
 use Rattle.flux_engine.specs.Disks.{images, lines, part_at, totals_over}
-use Rattle.flux_engine.specs.Recordings.{sectors_of, track_at}
+use Rattle.flux_engine.specs.Recordings.{track_at}
 use Rattle.flux_engine.specs.Streams.{has_fault, stream_at}
-use Rattle.flux_engine.specs.Tracks.{TrackPart, image_of, numbers, totals_of}
-use Rattle.flux_engine.specs.declared.sectors.Sectors.{Sectors}
-use Rattle.capture_set.specs.Lines.{CAPTURE_CELLS, set_text}
+use Rattle.flux_engine.specs.Tracks.{TrackPart, part_by}
 
 -- the stream of the input that is capture number q of track number n: the captures of a track follow one another
 abbrev pub capture_stream : (count : ℕ) → (x : List ℕ) → (n q : ℕ) → List ℕ
 capture_stream count x n q = stream_at x (n * count + q)
 
--- all that can be read in a capture of a track, noted so many cells further on as captures stand before it
+-- all that can be read in a capture of a track
 abbrev pub AreReadingsOfCapture : Format → (count : ℕ) → (x : List ℕ) → (n q : ℕ) → List NotedReading → Type 0
 AreReadingsOfCapture format count x n q readings =
-    AreReadingsAt format (track_at format n) (times (capture_stream count x n q)) (indexes (capture_stream count x n q)) (q * CAPTURE_CELLS) readings
+    AreReadingsAt format (track_at format n) (times (capture_stream count x n q)) (indexes (capture_stream count x n q)) q readings
 
 -- lists of readings, joined in order
 abbrev pub joined : List (List NotedReading) → List NotedReading
@@ -36,20 +35,9 @@ abbrev pub AreCaptures : Format → (count : ℕ) → (x : List ℕ) → (n : �
 AreCaptures format count x n captures =
     (q : ℕ) → q < length captures → AreReadingsOfCapture format count x n q (get_or captures q [])
 
-abbrev pub set_line_of : TrackId → List NotedReading → ℕ → List ℕ
-set_line_of track readings sector = set_text track sector (verdict readings sector)
-
--- the track's lines, one for each sector, in the order of their numbers
-unfoldable pub set_lines_of : TrackId → Sectors → List NotedReading → List ℕ
-set_lines_of track sectors readings = flat_map (set_line_of track readings) (numbers sectors)
-
 -- what a track comes to by the readings of all its captures: as by those of one, with lines that name the capture
 abbrev pub set_part_of : Format → TrackId → List NotedReading → TrackPart
-set_part_of format track readings = record {
-  image = image_of format track readings;
-  lines = set_lines_of track (sectors_of format track) readings;
-  totals = totals_of (map (verdict readings) (numbers (sectors_of format track)));
-}
+set_part_of format track readings = part_by ByCapture format track readings
 
 -- no capture of track number n has a fault, and this is what the track comes to by all their readings, joined in order
 pub record IsSetPartAt (format : Format) (count : ℕ) (x : List ℕ) (n : ℕ) (part : TrackPart) : Type 0 where

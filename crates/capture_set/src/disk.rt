@@ -9,12 +9,12 @@ ghost use Rattle.capture_set.specs.Progress.{HasDecodedSet};
 ghost use Rattle.capture_set.specs.Sets.{EndsInCaptures};
 
 use crate::fault::SetFault;
-use crate::track::{read_captures, write_set_part};
+use crate::track::read_captures;
 use flux_base::{Sink, Source};
-use flux_engine::{DiskRoom, PartFault, add_totals, no_totals, room_format};
+use flux_engine::{DiskRoom, PartFault, add_totals, no_totals, room_format, write_started_part};
 use kryo_stream::{growth_law, padding_law};
 use sector_images::{sectors_lie_in_images, track_count, tracks_keep_bounds};
-use sector_report::{Totals, total_line, write_line};
+use sector_report::{Naming, Totals, total_line, write_line};
 
 /// Decodes all tracks of a disk in order, each from so many streams that stand one after another, and then writes the total
 /// line to `notes`. Of each track one verdict for each sector is given over all its captures; its part of the image is
@@ -85,7 +85,7 @@ fn decode_tracks<S: Source, W: Sink, N: Sink>(
             Ok(()) => {}
             Err(fault) => return Err(fault),
         }
-        match write_set_part(room, number, image, notes) {
+        match write_started_part(Naming::ByCapture, room, image, notes) {
             Ok(more) => add_totals(&mut totals, more),
             Err(PartFault::ImageFault) => return Err(SetFault::ImageFault),
             Err(PartFault::NotesFault) => return Err(SetFault::NotesFault),

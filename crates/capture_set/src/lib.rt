@@ -8,11 +8,8 @@
 mod disk;
 mod fault;
 mod laws;
-mod lines;
 mod track;
 
 pub use disk::decode_set;
 pub use fault::SetFault;
 pub use laws::{good_is_right_in_sets, sets_are_one, sets_of_one_are_decoded};
-pub use lines::{refused_capture_line, set_line};
-pub use track::write_set_part;

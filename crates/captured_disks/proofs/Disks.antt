@@ -13,6 +13,7 @@ use Rattle.track_rings.specs.Rings.{last_in}
 use Rattle.turn_merge.specs.Readings.{NotedReading, agreed, verdict}
 use Rattle.turn_merge.specs.declared.verdict.Verdict.{Verdict}
 use Rattle.turn_merge.specs.declared.verdict.Verdict.TheVariants.{Good, Contradictory, Bad, Missing}
+use Rattle.turn_merge.specs.declared.clock.Clock.TheVariants.{Following}
 use Rattle.decoded_rings.specs.Pieces.{RingPiece, cells_of_ring_pieces}
 use Rattle.decoded_rings.specs.Verdicts.{AreReadingsOf, IsGoodWith, LiesInOnePiece, PiecesAreRight, TwoRingsHaveSectors}
 use Rattle.decoded_rings.specs.Written.{HasSector}
@@ -161,7 +162,7 @@ module _ (laws : Laws) (format : Format) (image x : List ℕ) (o : Decoded) (is 
         subst (λ (cs : List Bool). AreReadingsOf (sector_at format (track_at format n)) cs readings)
         (cells erased n known ∙ ap (cells_of_ring_pieces (ring_of format image n) (piece n known)) (no_later n known))
         (are_readings_of (header_at format (track_at format n)) (sector_at format (track_at format n)) (laws.read.all format (track_at format n))
-        (times (stream_at x n)) (indexes (stream_at x n)) (cells_at format x n) comes.found comes.all) in
+        0 Following (times (stream_at x n)) (indexes (stream_at x n)) (cells_at format x n) comes.found comes.all) in
         let count = all_counted (verdict readings) (sectors_of format (track_at format n)).first (sectors_of format (track_at format n)).count
         (λ s least most.
         let one : HasSector (written_track format image n) s = record { least = least; most = most } in

@@ -8,6 +8,7 @@ use Rattle.sector_images.specs.declared.format.Format.{Format}
 use Rattle.turn_merge.specs.Readings.{NotedReading, agreed}
 use Rattle.turn_merge.specs.declared.verdict.Verdict.{Verdict}
 use Rattle.turn_merge.specs.declared.verdict.Verdict.TheVariants.{Good, Contradictory, Bad, Missing}
+use Rattle.turn_merge.specs.declared.clock.Clock.TheVariants.{Following}
 use Rattle.decoded_rings.specs.Pieces.{RingPiece, cells_of_ring_pieces}
 use Rattle.decoded_rings.specs.Verdicts.{AreReadingsOf, IsGoodWith, IsGoodWithOrLost, LiesInOnePiece, PiecesAreRight, StandsInOnePiece}
 use Rattle.decoded_rings.specs.Written.{HasSector}
@@ -59,7 +60,7 @@ module _ (format : Format) (image x : List ℕ) (o : Decoded) (disks : DisksAreR
       are : AreReadingsOf sector_there (cells_of_ring_pieces (ring_of format image n) first later) readings
       are =
           subst (λ (cs : List Bool). AreReadingsOf sector_there cs readings) cells
-          (are_readings_of (header_at format (track_at format n)) sector_there all (times (stream_at x n)) (indexes (stream_at x n)) (cells_at format x n)
+          (are_readings_of (header_at format (track_at format n)) sector_there all 0 Following (times (stream_at x n)) (indexes (stream_at x n)) (cells_at format x n)
           has.found has.all)
 
       verdict-kept : (IsGoodWith outcome (agreed readings sector) (mine sector)) → IsKept format image o n sector

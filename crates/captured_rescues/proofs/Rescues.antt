@@ -19,7 +19,7 @@ use Rattle.turn_merge.specs.declared.verdict.Verdict.TheVariants.{Good, Contradi
 use Rattle.decoded_rings.specs.Pieces.{RingPiece, cells_of_ring_pieces}
 use Rattle.decoded_rings.specs.Verdicts.{AreReadingsOf, PiecesAreRight, TwoRingsHaveSectors}
 use Rattle.decoded_rings.specs.Written.{HasSector}
-use Rattle.flux_engine.specs.Captured.{AreReadingsBy, offset_of}
+use Rattle.flux_engine.specs.Captured.{AreReadingsBy}
 use Rattle.flux_engine.specs.Captures.{Capture, CapturesAreRecovered}
 use Rattle.flux_engine.specs.DiskLaws.{HasVerdict, bytes_at, cells_at}
 use Rattle.flux_engine.specs.Disks.{Decoded, decoded_count, images, part_at, stop_at, stop_of}
@@ -27,7 +27,7 @@ use Rattle.flux_engine.specs.Recordings.{cells_of, sectors_of, track_at}
 use Rattle.flux_engine.specs.Rings.{IsImage, IsRing, nominal_of, ring_cells_of, ring_of, sector_bytes}
 use Rattle.flux_engine.specs.Streams.{has_fault, stream_at}
 use Rattle.flux_engine.specs.Tracks.{TrackPart, image_bytes, image_of, image_piece, readings_of}
-use Rattle.flux_engine.specs.declared.clock.Clock.TheVariants.{Following}
+use Rattle.turn_merge.specs.declared.clock.Clock.TheVariants.{Following}
 use Rattle.flux_engine.specs.lemmas.Finding.{find-none}
 use Rattle.captured_disks.specs.Frames.{written_track}
 use Rattle.captured_disks.specs.Inputs.{IsCapturedDisk}
@@ -123,13 +123,13 @@ module _ (laws : Laws) (format : Format) (image x : List ℕ) (o : Decoded) (is 
     rescued_sector : (sector : ℕ) → IsSector format track sector → (outcome : Verdict) (v : HasRescuedVerdict format x n sector outcome)
         → IsOwnOrContradictory format (sector_bytes format track image sector) (image_bytes (sectors_of format track) v.readings sector) outcome
     rescued_sector sector one outcome v =
-        let noted : AreReadingsBy Following format track (times (stream_at x n)) (indexes (stream_at x n)) (offset_of Following) (v.all.by_clock Following) =
+        let noted : AreReadingsBy Following format track (times (stream_at x n)) (indexes (stream_at x n)) 0 (v.all.by_clock Following) =
         v.all.each Following in
         let found : List NotedReading = readings_of (times (stream_at x n)) (indexes (stream_at x n)) (cells_at format x n) noted.found in
         let are : AreReadingsOf (sector_at format track) (cells_of_ring_pieces ring piece []) found =
         subst (λ (cs : List Bool). AreReadingsOf (sector_at format track) cs found) cells
         (are_readings_of (header_at format track) (sector_at format track) (laws.read.all format track)
-        (times (stream_at x n)) (indexes (stream_at x n)) (cells_at format x n) noted.found noted.all) in
+        0 Following (times (stream_at x n)) (indexes (stream_at x n)) (cells_at format x n) noted.found noted.all) in
         let has : HasSector (written_track format image n) sector = record { least = one.0; most = one.1 } in
         let lies = laws.two_rings format image n is known piece sector long has in
         let good = good_one (verdict found sector) (agreed found sector) ((written_track format image n).bytes_of sector)

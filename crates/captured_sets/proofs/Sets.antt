@@ -14,11 +14,14 @@ use Rattle.kryo_stream.specs.Stream.{first_fault, indexes, stream_length, times}
 use Rattle.sector_images.specs.Formats.{row, zone}
 use Rattle.sector_images.specs.Places.{IsSector, IsTrack, NumbersHoldSectors, NumbersNameTracks, SectorsLieInImages, TracksFillImages, TracksJoin, bytes_of, place_of, sector_in, sector_place, tracks}
 use Rattle.sector_images.specs.declared.format.Format.{Format}
+use Rattle.sector_report.specs.Lines.{named_text}
+use Rattle.sector_report.specs.declared.naming.Naming.TheVariants.{ByCapture}
 use Rattle.track_rings.specs.Rings.{last_in, stretch}
 use Rattle.turn_merge.specs.Readings.{NotedReading, agreed, verdict}
 use Rattle.turn_merge.specs.declared.verdict.Place.{Place}
 use Rattle.turn_merge.specs.declared.verdict.Verdict.{Verdict}
 use Rattle.turn_merge.specs.declared.verdict.Verdict.TheVariants.{Good, Contradictory, Bad, Missing}
+use Rattle.turn_merge.specs.declared.clock.Clock.TheVariants.{Following}
 use Rattle.decoded_rings.specs.Pieces.{RingPiece, cells_of_ring_pieces}
 use Rattle.decoded_rings.specs.Verdicts.{AreReadingsOf, IsGoodWith, PiecesAreRight, TwoRingsHaveSectors}
 use Rattle.decoded_rings.specs.Written.{HasSector}
@@ -27,7 +30,7 @@ use Rattle.flux_engine.specs.Disks.{lines, part_at}
 use Rattle.flux_engine.specs.Recordings.{cells_of, sectors_of, track_at}
 use Rattle.flux_engine.specs.Rings.{IsImage, IsRing, nominal_of, ring_cells_of, ring_of, sector_bytes}
 use Rattle.flux_engine.specs.Streams.{has_fault}
-use Rattle.flux_engine.specs.Tracks.{TrackPart, image_of, image_piece, is_good, readings_of}
+use Rattle.flux_engine.specs.Tracks.{TrackPart, image_of, image_piece, is_good, line_by, lines_by, readings_in}
 use Rattle.flux_engine.specs.lemmas.Finding.{find-none}
 use Rattle.captured_disks.specs.Frames.{written_track}
 use Rattle.captured_disks.specs.Headline.{IsSectorOf}
@@ -36,13 +39,12 @@ use Rattle.captured_disks.specs.lemmas.Streams.{IsStreamNumber, is_stream_number
 use Rattle.captured_disks.specs.lemmas.Totals.{all_counted, totals_good}
 use Rattle.captured_disks.specs.lemmas.TrackBytes.{are_sectors, own_bytes}
 use Rattle.capture_set.specs.Laws.{cells_of_capture}
-use Rattle.capture_set.specs.Lines.{CAPTURE_CELLS, set_text}
-use Rattle.capture_set.specs.Sets.{DecodedSet, IsDecodedSet, IsSetPartAt, capture_stream, joined, set_count, set_line_of, set_lines_of, set_stop_at, set_stop_of}
+use Rattle.capture_set.specs.Sets.{DecodedSet, IsDecodedSet, IsSetPartAt, capture_stream, joined, set_count, set_stop_at, set_stop_of}
 use Rattle.captured_sets.specs.Headline.{CapturedSetsDecode, DecodesWholeSet, HasText, SaysGoodInSet}
 use Rattle.captured_sets.specs.Inputs.{IsCapturedSet}
 use Rattle.captured_sets.proofs.Images.{parts_join, pieces_join}
 use Rattle.captured_sets.proofs.Lines.{text_left, text_of_parts, text_of_range}
-use Rattle.captured_sets.proofs.Verdicts.{IsOneWith, joined_with}
+use Rattle.captured_sets.proofs.Verdicts.{IsWith, joined_with}
 
 -- what the crates below promise
 pub record Laws : Type 0 where
@@ -154,24 +156,20 @@ module _ (laws : Laws) (format : Format) (count : ℕ) (image x : List ℕ) (o :
       abbrev readings : List NotedReading
       readings = joined at.captures
 
-      one_with : (sector : ℕ) → IsSector format track sector → (q : ℕ) → q < length at.captures → IsOneWith sector (mine sector) (get_or at.captures q [])
+      one_with : (sector : ℕ) → IsSector format track sector → (q : ℕ) → q < length at.captures → IsWith sector (mine sector) (get_or at.captures q [])
       one_with sector one q within =
           let low : q < count = omega (arith, within, at.many) in
           let noted = at.each q within in
           let here = cells_of_capture format count x n q in
-          let found : List NotedReading = readings_of (times (capture_stream count x n q)) (indexes (capture_stream count x n q)) here noted.found in
+          let found : List NotedReading = readings_in q Following (times (capture_stream count x n q)) (indexes (capture_stream count x n q)) here noted.found in
           let are : AreReadingsOf (sector_at format track) (cells_of_ring_pieces ring (piece q low) []) found =
           subst (λ (cs : List Bool). AreReadingsOf (sector_at format track) cs found) (cells q low)
           (are_readings_of (header_at format track) (sector_at format track) (laws.read.all format track)
-          (times (capture_stream count x n q)) (indexes (capture_stream count x n q)) here noted.found noted.all) in
+          q Following (times (capture_stream count x n q)) (indexes (capture_stream count x n q)) here noted.found noted.all) in
           let has : HasSector (written_track format image n) sector = record { least = one.0; most = one.1 } in
-          record {
-            offset = q * CAPTURE_CELLS;
-            readings = found;
-            are = noted.are;
-            says = ((laws.pieces format image n is known (piece q low) []).1 found are).whole sector has
-                (laws.two_rings format image n is known (piece q low) sector (long q low) has);
-          }
+          subst (IsWith sector (mine sector)) (sym noted.are)
+          (((laws.pieces format image n is known (piece q low) []).1 found are).whole sector has
+          (laws.two_rings format image n is known (piece q low) sector (long q low) has))
 
       good : (sector : ℕ) → IsSector format track sector → IsGoodOne (verdict readings sector) (agreed readings sector) (mine sector)
       good sector one =
@@ -207,11 +205,11 @@ module _ (laws : Laws) (format : Format) (count : ℕ) (image x : List ℕ) (o :
           (λ sector least most. ap is_good (good sector (least, most)).outcome_is)
           ∙ sym (ap (λ (p : TrackPart). p.totals.sectors) at.is)
 
-      part_line : (sector : ℕ) (one : IsSector format track sector) → HasText part.lines (set_text track sector (verdict readings sector))
-      unfolding set_lines_of
+      part_line : (sector : ℕ) (one : IsSector format track sector) → HasText part.lines (named_text ByCapture track sector (verdict readings sector))
+      unfolding lines_by
       part_line sector one =
-          subst (λ (p : TrackPart). HasText p.lines (set_text track sector (verdict readings sector))) (sym at.is)
-          (text_of_range (set_line_of track readings) (sectors_of format track).first (sectors_of format track).count sector one.0 one.1)
+          subst (λ (p : TrackPart). HasText p.lines (named_text ByCapture track sector (verdict readings sector))) (sym at.is)
+          (text_of_range (line_by ByCapture track readings) (sectors_of format track).first (sectors_of format track).count sector one.0 one.1)
 
   part : (n : ℕ) (known : n < length (tracks format)) → IsSetPartAt format count x n (part_at decoded.parts n)
   part n known = decoded.each n (omega (arith, known, many))
@@ -234,9 +232,9 @@ module _ (laws : Laws) (format : Format) (count : ℕ) (image x : List ℕ) (o :
   says_good n sector one =
       let here = part n one.track in
       let says = good n one.track (part_at decoded.parts n) here sector one.known in
-      let line : List ℕ = set_text (track_at format n) sector (Good says.good says.bad says.first) in
+      let line : List ℕ = named_text ByCapture (track_at format n) sector (Good says.good says.bad says.first) in
       let there : HasText (part_at decoded.parts n).lines line =
-      subst (λ (v : Verdict). HasText (part_at decoded.parts n).lines (set_text (track_at format n) sector v)) says.outcome_is
+      subst (λ (v : Verdict). HasText (part_at decoded.parts n).lines (named_text ByCapture (track_at format n) sector v)) says.outcome_is
       (part_line n one.track (part_at decoded.parts n) here sector one.known) in
       let of_all : HasText (lines decoded.parts) line = text_of_parts decoded.parts n line (omega (arith, one.track, many)) there in
       record {

@@ -1,5 +1,5 @@
 -- The verdict over the readings of several captures, each of which alone makes the sector good with the same bytes.
-use Rattle.std.specs.Prelude.{◌≡◌, ◌<◌, ℕ, suc, Bool, true, false, not, cond, List, [], ◌∷◌, length, get_or, is_none, map, Option, Some, None, if◌then◌else◌, refl}
+use Rattle.std.specs.Prelude.{◌≡◌, ◌<◌, ℕ, suc, Bool, true, false, not, cond, List, [], ◌∷◌, length, get_or, is_none, Option, Some, None, if◌then◌else◌, refl}
 use Rattle.std.specs.Str.{bytes_eq}
 use Rattle.std.proofs.Common.{ap, sym, subst, ◌∙◌, arith}
 use Rattle.std.proofs.lemmas.Slice.Eq.{bytes_eq-Decides}
@@ -8,7 +8,6 @@ use Rattle.turn_merge.specs.declared.verdict.Place.{Place}
 use Rattle.turn_merge.specs.declared.verdict.Verdict.{Verdict}
 use Rattle.turn_merge.specs.declared.verdict.Verdict.TheVariants.{Good, Contradictory, Bad, Missing}
 use Rattle.decoded_rings.specs.Verdicts.{IsGoodWith}
-use Rattle.flux_engine.specs.Captured.{moved}
 use Rattle.flux_engine.specs.lemmas.Each.{Each, each-append, each-filter, each-map, each-unfilter, each-unflat}
 use Rattle.flux_engine.specs.lemmas.GoodSectors.{Head, agreed_head, head_of, is_good_of, same_bytes}
 use Rattle.capture_set.specs.Sets.{joined}
@@ -88,40 +87,19 @@ module _ (s : ℕ) (bytes : List ℕ) where
       (each-filter (is_good_of s) Holds readings hold))
       (λ none. some (each-unfilter (is_good_of s) (λ (r : NotedReading). ⊥) readings (subst (Each (λ (r : NotedReading). ⊥)) (sym none) tt)))
 
-  -- the noted readings are those of one capture, moved by so many cells, and over these the sector is good with the bytes
-  pub record IsOneWith (noted : List NotedReading) : Type 0 where
-    pub offset : ℕ
-    pub readings : List NotedReading
-    pub are : noted ≡ map (moved offset) readings
-    pub says : IsWith readings
-
-  move_holds : (offset : ℕ) (readings : List NotedReading) → Each Holds readings → Each Holds (map (moved offset) readings)
-  move_holds offset [] all = tt
-  move_holds offset (r ∷ rs) all = (all.0, move_holds offset rs all.1)
-
-  none_before : (offset : ℕ) (readings : List NotedReading) → Each IsNone (map (moved offset) readings) → Each IsNone readings
-  none_before offset [] all = tt
-  none_before offset (r ∷ rs) all = (all.0, none_before offset rs all.1)
-
-  one_holds : (noted : List NotedReading) → IsOneWith noted → Each Holds noted
-  one_holds noted one = subst (Each Holds) (sym one.are) (move_holds one.offset one.readings (all_hold one.readings one.says))
-
-  one_some_good : (noted : List NotedReading) → IsOneWith noted → Each IsNone noted → ⊥
-  one_some_good noted one none = some_good one.readings one.says (none_before one.offset one.readings (subst (Each IsNone) one.are none))
-
-  joined_hold : (captures : List (List NotedReading)) → ((q : ℕ) → q < length captures → IsOneWith (get_or captures q [])) → Each Holds (joined captures)
+  joined_hold : (captures : List (List NotedReading)) → ((q : ℕ) → q < length captures → IsWith (get_or captures q [])) → Each Holds (joined captures)
   joined_hold [] each = tt
   joined_hold (noted ∷ captures) each =
-      each-append Holds noted (joined captures) (one_holds noted (each 0 (omega arith)))
+      each-append Holds noted (joined captures) (all_hold noted (each 0 (omega arith)))
       (joined_hold captures (λ q low. each (suc q) (omega (arith, low))))
 
-  joined_some : (captures : List (List NotedReading)) → 0 < length captures → ((q : ℕ) → q < length captures → IsOneWith (get_or captures q []))
+  joined_some : (captures : List (List NotedReading)) → 0 < length captures → ((q : ℕ) → q < length captures → IsWith (get_or captures q []))
       → Each IsNone (joined captures) → ⊥
   joined_some [] some each none = omega (arith, some)
   joined_some (noted ∷ captures) some each none =
-      one_some_good noted (each 0 (omega arith)) (each-unflat (λ (readings : List NotedReading). readings) IsNone (noted ∷ captures) none).0
+      some_good noted (each 0 (omega arith)) (each-unflat (λ (readings : List NotedReading). readings) IsNone (noted ∷ captures) none).0
 
   -- so it is over all of them
   pub joined_with : (captures : List (List NotedReading)) → 0 < length captures
-      → ((q : ℕ) → q < length captures → IsOneWith (get_or captures q [])) → IsWith (joined captures)
+      → ((q : ℕ) → q < length captures → IsWith (get_or captures q [])) → IsWith (joined captures)
   joined_with captures some each = with_all (joined captures) (joined_hold captures each) (joined_some captures some each)

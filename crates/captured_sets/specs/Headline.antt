@@ -1,11 +1,12 @@
 -- What a captured set decodes to.
 use Rattle.std.specs.Prelude.{◌≡◌, ◌≤◌, ℕ, List, ◌++◌, None}
 use Rattle.sector_images.specs.declared.format.Format.{Format}
+use Rattle.sector_report.specs.Lines.{named_text}
+use Rattle.sector_report.specs.declared.naming.Naming.TheVariants.{ByCapture}
 use Rattle.turn_merge.specs.declared.verdict.Place.{Place}
 use Rattle.turn_merge.specs.declared.verdict.Verdict.TheVariants.{Good}
 use Rattle.flux_engine.specs.Recordings.{track_at}
 use Rattle.flux_engine.specs.Rings.{IsImage}
-use Rattle.capture_set.specs.Lines.{set_text}
 use Rattle.capture_set.specs.Sets.{DecodedSet, IsDecodedSet}
 use Rattle.captured_disks.specs.Headline.{IsSectorOf}
 use Rattle.captured_sets.specs.Inputs.{IsCapturedSet}
@@ -22,7 +23,7 @@ pub record SaysGoodInSet (format : Format) (o : DecodedSet) (n sector : ℕ) : T
   pub good : ℕ
   pub bad : ℕ
   pub first : Place
-  pub line : HasText o.notes (set_text (track_at format n) sector (Good good bad first))
+  pub line : HasText o.notes (named_text ByCapture (track_at format n) sector (Good good bad first))
 
 -- All tracks are decoded, the decoded image is this one, all sectors are counted as good, and the report has a line for each
 -- sector that says good.

@@ -9,30 +9,22 @@ use Rattle.sector_report.specs.declared.totals.Totals.{Totals}
 use Rattle.turn_merge.specs.Book.{Knowledge, StandsFor}
 use Rattle.turn_merge.specs.Readings.{NotedReading, verdict}
 use Rattle.flux_engine.specs.Answers.{CaptureAnswer, ReadsCapture}
-use Rattle.flux_engine.specs.Captured.{AreReadingsAt, moved}
-use Rattle.flux_engine.specs.Recordings.{cells_of, sectors_of, track_at}
+use Rattle.flux_engine.specs.Captured.{AreReadingsAt}
+use Rattle.flux_engine.specs.Recordings.{sectors_of, track_at}
 use Rattle.flux_engine.specs.Room.{RoomState}
-use Rattle.flux_engine.specs.Tracks.{numbers, readings_of, totals_of}
+use Rattle.flux_engine.specs.Tracks.{numbers, totals_of}
 use Rattle.flux_engine.specs.declared.fault.CaptureFault.{CaptureFault}
 use Rattle.flux_engine.specs.declared.fault.CaptureFault.TheVariants.{ReadFault as UnreadCapture, Refused as RefusedCapture}
 use Rattle.disk_map.specs.Answers.{MapsTrack, of_capture}
 use Rattle.disk_map.specs.Maps.{IsMapTrack, fields_of, map_track_of}
 use Rattle.disk_map.specs.declared.fault.MapFault.TheVariants.{PictureFault}
 
--- readings that are moved by nothing
-moved_by_none : (readings : List NotedReading) → map (moved 0) readings ≡ readings
-moved_by_none [] = refl
-moved_by_none (r ∷ rs) =
-    let here : moved 0 r ≡ r =
-    ap (λ (n : ℕ). let m : NotedReading = record { sector = r.sector; place = record { turn = r.place.turn; cell = n }; bytes = r.bytes } in m) (add-zero r.place.cell) in
-    ap (λ (x : NotedReading). x ∷ map (moved 0) rs) here ∙ ap (λ (xs : List NotedReading). r ∷ xs) (moved_by_none rs)
-
 drawn_track : (format : Format) (track : TrackId) (times indexes : List ℕ) (readings : List NotedReading)
     → AreReadingsAt format track times indexes 0 readings → IsMapTrack format track times indexes (map_track_of format track readings)
 drawn_track format track times indexes readings a = record {
   found = a.found;
   all = a.all;
-  is = ap (map_track_of format track) (a.are ∙ moved_by_none (readings_of times indexes (cells_of format track times indexes) a.found));
+  is = ap (map_track_of format track) a.are;
 }
 
 module _ (format : Format) (track : TrackId) (number : ℕ) (left left' : Option (List ℕ)) (used : Bool) (held held' : List ℕ) (old new : Knowledge) where

@@ -15,9 +15,8 @@ use Rattle.flux_engine.specs.Disks.{decoded_of, no_totals, part_at, stop_of}
 use Rattle.flux_engine.specs.Recordings.{sectors_of, track_at}
 use Rattle.flux_engine.specs.Streams.{stream_at}
 use Rattle.flux_engine.specs.Tracks.{IsPart, TrackPart, image_bytes, part_of, readings_of}
-use Rattle.capture_set.specs.Sets.{set_part_of}
 use Rattle.disk_rescue.specs.Laws.{GoodStays, HasRescuedVerdict, OneRescue, StaysGood}
-use Rattle.disk_rescue.specs.Rescued.{AreRescuedParts, IsRescuedPartAt}
+use Rattle.disk_rescue.specs.Rescued.{AreRescuedParts, IsRescuedPartAt, rescued_part_of}
 
 no_part : TrackPart
 no_part = record { image = []; lines = []; totals = no_totals }
@@ -26,7 +25,7 @@ module _ (one : ReadingsByBothAreOne) where
   one_part : (format : Format) (x : List ℕ) (n : ℕ) (a b : TrackPart) → IsRescuedPartAt format x n a → IsRescuedPartAt format x n b → a ≡ b
   one_part format x n a b p q =
       p.is
-      ∙ ap (set_part_of format (track_at format n)) (one format (track_at format n) (times (stream_at x n)) (indexes (stream_at x n)) p.readings q.readings p.all q.all)
+      ∙ ap (rescued_part_of format (track_at format n)) (one format (track_at format n) (times (stream_at x n)) (indexes (stream_at x n)) p.readings q.readings p.all q.all)
       ∙ sym q.is
 
   one_parts : (format : Format) (x : List ℕ) (ps qs : List TrackPart) → AreRescuedParts format x ps → AreRescuedParts format x qs → length ps ≡ length qs → ps ≡ qs

@@ -24,11 +24,10 @@ use Rattle.flux_engine.specs.Writing.{sum_of}
 use Rattle.flux_engine.specs.declared.fault.EngineFault.{EngineFault}
 use Rattle.flux_engine.specs.declared.fault.EngineFault.TheVariants.{ReadFault, ImageFault, NotesFault, Refused}
 use Rattle.flux_engine.specs.lemmas.PartLaws.{images-more, lines-more, totals-more}
-use Rattle.capture_set.specs.Sets.{set_part_of}
 use Rattle.capture_set.specs.lemmas.Coming.{come_start, several_behind}
 use Rattle.disk_rescue.specs.Answers.{MOST_OF_STREAM, Rescues, SaysOfRescue, WroteRescued}
 use Rattle.disk_rescue.specs.Progress.{HasRead, HasRescued, StopsAt, WasStopped}
-use Rattle.disk_rescue.specs.Rescued.{AreRescuedParts}
+use Rattle.disk_rescue.specs.Rescued.{AreRescuedParts, rescued_part_of}
 use Rattle.disk_rescue.proofs.Parts.{no_stop, parts-more, stop_is}
 
 pub rescue_start : (format : Format) (left image notes : Option (List ℕ)) (room : RoomState) (totals : Totals)
@@ -100,7 +99,7 @@ module _ (format : Format) (left mid left' image imid image' notes nmid notes' :
   -- the track of a stream without a fault
   module _ (room' : RoomState) (c : HasRead format n left left' h.taken room') where
     abbrev pub part : TrackPart
-    part = set_part_of format (track_at format n) c.readings
+    part = rescued_part_of format (track_at format n) c.readings
 
     more : (later : List ℕ) → AreRescuedParts format ((h.taken ++ c.more) ++ later) (h.parts ++ part ∷ [])
     more later = parts-more format ((h.taken ++ c.more) ++ later) h.parts n part h.many (earlier c.more later) (record {

@@ -8,12 +8,13 @@ ghost use Rattle.disk_rescue.specs.Answers.{Rescues, SaysOfRescueInput};
 ghost use Rattle.disk_rescue.specs.Progress.{HasRescued};
 
 use crate::track::read_track;
-use capture_set::write_set_part;
 use flux_base::{Sink, Source};
-use flux_engine::{DiskRoom, EngineFault, PartFault, add_totals, no_totals, room_format};
+use flux_engine::{
+    DiskRoom, EngineFault, PartFault, add_totals, no_totals, room_format, write_started_part,
+};
 use kryo_stream::{growth_law, padding_law};
 use sector_images::{sectors_lie_in_images, track_count, tracks_keep_bounds};
-use sector_report::{Totals, total_line, write_line};
+use sector_report::{Naming, Totals, total_line, write_line};
 
 /// Decodes all tracks of a disk in order by two clocks, and then writes the total line to `notes`. The stream of a track is
 /// read once. One verdict for each sector is given over its readings by clock 0 and then by clock 1; the track's part of the
@@ -78,7 +79,7 @@ fn rescue_tracks<S: Source, W: Sink, N: Sink>(
             Ok(()) => {}
             Err(fault) => return Err(fault),
         }
-        match write_set_part(room, number, image, notes) {
+        match write_started_part(Naming::ByClock, room, image, notes) {
             Ok(more) => add_totals(&mut totals, more),
             Err(PartFault::ImageFault) => return Err(EngineFault::ImageFault),
             Err(PartFault::NotesFault) => return Err(EngineFault::NotesFault),

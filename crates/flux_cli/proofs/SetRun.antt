@@ -2,7 +2,7 @@
 use Rattle.std.proofs.Common.{◌≡◌, ◌==◌, ◌≤◌, ℕ, ◌+◌, ◌*◌, ◌++◌, Bool, true, false, if◌then◌else◌, inl, inr, List, [], take, length, Some, None, Ok, Err, refl, sym, ap, ◌∙◌, subst, append-nil, arith}
 use Rattle.std.proofs.KnownBytes.{Appends-trans}
 use Rattle.capture_set.specs.Answers.{DecodesSet, SetAnswer, SetCause}
-use Rattle.capture_set.specs.Lines.{refused_capture_text}
+use Rattle.sector_report.specs.Lines.{refused_capture_text}
 use Rattle.capture_set.specs.Sets.{DecodedSet, IsDecodedSet, SetStop}
 use Rattle.capture_set.specs.declared.fault.SetFault.TheVariants.{ReadFault, ImageFault, NotesFault, Refused}
 use Rattle.flux_base.specs.Moments.{Moment}

@@ -1,7 +1,7 @@
 -- The work of `decode-set`.
 use Rattle.std.specs.Prelude.{◌≡◌, ◌⊎◌, ℕ, ◌+◌, ◌*◌, ◌++◌, List, [], length, Option, Some, None}
 use Rattle.capture_set.specs.Answers.{StoppedInImage, StoppedInLines, StoppedInTotal}
-use Rattle.capture_set.specs.Lines.{refused_capture_text}
+use Rattle.sector_report.specs.Lines.{refused_capture_text}
 use Rattle.capture_set.specs.Sets.{DecodedSet, EndsInCaptures, IsDecodedSet, SetStop, set_stop_of}
 use Rattle.flux_base.specs.declared.status.Status.{Status}
 use Rattle.flux_base.specs.declared.status.Status.TheVariants.{AllGood, NotAllGood, Refused, ReadFault, ImageFault, NotesFault}

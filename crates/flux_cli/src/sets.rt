@@ -8,10 +8,10 @@ ghost use Rattle.flux_cli.specs.declared.command.Command.TheVariants.{DecodeSet}
 ghost use Rattle.flux_engine.specs.Room.{fresh};
 
 use crate::disks::status_of;
-use capture_set::{SetFault, decode_set, refused_capture_line};
+use capture_set::{SetFault, decode_set};
 use flux_base::{Sink, Source, Status};
 use flux_engine::DiskRoom;
-use sector_report::write_line;
+use sector_report::{refused_capture_line, write_line};
 
 /// Decodes a disk from so many captures of each track: its image goes to `image`, and its report to `notes`. Notes say
 /// why it is refused.

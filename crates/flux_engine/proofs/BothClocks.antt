@@ -1,5 +1,5 @@
 -- What the readings of one stream by both clocks come to.
-use Rattle.std.specs.Prelude.{◌≡◌, ◌⊎◌, ℕ, ◌+◌, Bool, true, false, not, ◌&&◌, cond, Contains, List, [], ◌∷◌, ◌++◌, drop, filter, find, if◌then◌else◌, is_none, is_some, length, map, nat_eq, replicate, unwrap_or, Option, Some, None, refl}
+use Rattle.std.specs.Prelude.{◌≡◌, ◌⊎◌, ℕ, Bool, true, false, not, ◌&&◌, cond, List, [], ◌∷◌, ◌++◌, find, if◌then◌else◌, is_none, is_some, length, nat_eq, replicate, unwrap_or, Option, Some, None, refl}
 use Rattle.std.specs.Str.{bytes_eq}
 use Rattle.std.proofs.Common.{ap, sym, subst, ◌∙◌, arith, inl, inr}
 use Rattle.std.proofs.lemmas.Bool.{eqb-true, eq-eqb}
@@ -13,25 +13,15 @@ use Rattle.sector_images.specs.Formats.{row}
 use Rattle.sector_images.specs.declared.format.Format.{Format}
 use Rattle.turn_merge.specs.Readings.{NotedReading, agreed, agreed_of, bad_ones, bytes_of, first_other, good_ones, verdict, verdict_of, verdict_with}
 use Rattle.turn_merge.specs.declared.verdict.Place.{Place}
-use Rattle.turn_merge.specs.declared.verdict.Verdict.{Verdict}
 use Rattle.turn_merge.specs.declared.verdict.Verdict.TheVariants.{Contradictory, Good}
-use Rattle.flux_engine.specs.Captured.{AreReadingsByBoth, moved, offset_of}
+use Rattle.flux_engine.specs.Captured.{AreReadingsByBoth}
 use Rattle.flux_engine.specs.ClockLaws.{ContradictionsAreNamed, DecodedReadingsLead, DecodedStaysGood, GoodIsRightByBoth, GoodReadingsStandByBoth, IsNamedBy, IsRightlyContradictory, IsRightlyGoodByBoth, ReadingsByBothAreOne, StandsBy, StaysGoodOrIsContradicted, place_by}
 use Rattle.flux_engine.specs.Recordings.{cells_by, cells_of, sectors_of}
-use Rattle.flux_engine.specs.Tracks.{Found, readings_of}
-use Rattle.flux_engine.specs.declared.clock.Clock.{Clock}
-use Rattle.flux_engine.specs.declared.clock.Clock.TheVariants.{Following, Held}
+use Rattle.flux_engine.specs.Tracks.{Found, readings_in, readings_of}
+use Rattle.turn_merge.specs.declared.clock.Clock.{Clock}
+use Rattle.turn_merge.specs.declared.clock.Clock.TheVariants.{Following, Held}
 use Rattle.flux_engine.specs.lemmas.Each.{Each, each-append, each-at, each-filter, each-left, each-map, each-right, each-unfilter, each-unflat}
 use Rattle.flux_engine.specs.lemmas.GoodSectors.{Head, Named, agreed_head, and_both, each_named, head_of, is_good_of, of_found, same_bytes, some_bytes}
-use Rattle.flux_engine.specs.lemmas.OneCapture.{moved_by_none}
-
-each-through : {X Y : Type 0} (f : X → Y) (P : X → Type 0) (Q : Y → Type 0) → ((x : X) → P x → Q (f x)) → (xs : List X) → Each P xs → Each Q (map f xs)
-each-through f P Q step [] all = tt
-each-through f P Q step (x ∷ xs) all = (step x all.0, each-through f P Q step xs all.1)
-
-each-before : {X Y : Type 0} (f : X → Y) (Q : Y → Type 0) (xs : List X) → Each Q (map f xs) → Each (λ (x : X). Q (f x)) xs
-each-before f Q [] all = tt
-each-before f Q (x ∷ xs) all = (all.0, each-before f Q xs all.1)
 
 module _ {X : Type 0} (p : X → Bool) (P : X → Type 0) where
   found_step : (x q : X) (b : Bool) (rest : Option X) → p x ≡ b → cond b (Some x) rest ≡ Some q → P x
@@ -95,20 +85,18 @@ module _ (read : TracksAreRead) (format : Format) (track : TrackId) (times index
   abbrev NamedHere : Clock → NotedReading → Type 0
   NamedHere clock r =
       Named (header_at format track) (sector_at format track) (row format).sector_size (read.told format track) (read.all format track)
-      times indexes (cells clock) (both.each clock).found (both.each clock).all r
+      0 clock times indexes (cells clock) (both.each clock).found (both.each clock).all r
 
-  named_moved : (clock : Clock) (r : NotedReading) → NamedHere clock r → Says clock (moved (offset_of clock) r)
-  named_moved clock r says = λ xs is.
-      let here = says xs is in
-      (r.place.cell, here.0, ap (λ (p : Place). let moved_place : Place = record { turn = p.turn; cell = r.place.cell + offset_of clock } in moved_place) here.1)
+  named_by : (clock : Clock) (r : NotedReading) → NamedHere clock r → Says clock r
+  named_by clock r says = λ xs is. (let here = says xs is in (r.place.cell, here.0, here.1))
 
   clock_says : (clock : Clock) → Each (Says clock) (both.by_clock clock)
   clock_says clock =
       subst (Each (Says clock)) (sym (both.each clock).are)
-      (each-through (moved (offset_of clock)) (NamedHere clock) (Says clock) (named_moved clock)
-      (readings_of times indexes (cells clock) (both.each clock).found)
+      (each-map (NamedHere clock) (Says clock) (named_by clock)
+      (readings_in 0 clock times indexes (cells clock) (both.each clock).found)
       (each_named (header_at format track) (sector_at format track) (row format).sector_size (read.told format track) (read.all format track)
-      times indexes (cells clock) (both.each clock).found (both.each clock).all))
+      0 clock times indexes (cells clock) (both.each clock).found (both.each clock).all))
 
   abbrev NamesOne : NotedReading → Type 0
   NamesOne r = (xs : List ℕ) → r.bytes ≡ Some xs → IsNamedBy format track times indexes r.place r.sector xs
@@ -159,11 +147,10 @@ module _ (read : TracksAreRead) (format : Format) (track : TrackId) (times index
     agrees clock place others here =
         let a = both.each clock in
         let by_one = subst (Each HoldsMine) a.are (clock_holds clock) in
-        let before = each-before (moved (offset_of clock)) HoldsMine (readings_of times indexes (cells clock) a.found) by_one in
         let found_of = of_found (header_at format track) (sector_at format track) (row format).sector_size (read.told format track) (read.all format track)
-        times indexes (cells clock) a.found a.all in
-        let per_found = each-unflat found_of (λ (r : NotedReading). HoldsMine (moved (offset_of clock) r)) a.found before in
-        let at = each-at (λ (f : Found). Each (λ (r : NotedReading). HoldsMine (moved (offset_of clock) r)) (found_of f)) a.found
+        0 clock times indexes (cells clock) a.found a.all in
+        let per_found = each-unflat found_of HoldsMine a.found by_one in
+        let at = each-at (λ (f : Found). Each HoldsMine (found_of f)) a.found
         (place, GoodFrame sector, others) per_found ((((read.all format track (cells clock) 0 a.found).0 a.all).good place sector others (omega arith)).1 here) in
         at.0 (ap (λ (b : Bool). b && true) (eq-eqb sector sector refl))
 
@@ -213,7 +200,7 @@ one_by_clock : TracksAreRead → (format : Format) (track : TrackId) (times inde
 one_by_clock read format track times indexes a b p q clock =
     let cells = cells_by clock format track times indexes in
     (p.each clock).are
-    ∙ ap (λ (found : List Found). map (moved (offset_of clock)) (readings_of times indexes cells found))
+    ∙ ap (λ (found : List Found). readings_in 0 clock times indexes cells found)
     (read.one format track cells 0 (p.each clock).found (q.each clock).found (p.each clock).all (q.each clock).all)
     ∙ sym (q.each clock).are
 
@@ -229,7 +216,7 @@ decoded_lead read format track times indexes readings part both is =
     let cells = cells_of format track times indexes in
     let a = both.each Following in
     let following : both.by_clock Following ≡ readings_of times indexes cells is.found =
-    a.are ∙ moved_by_none (readings_of times indexes cells a.found)
+    a.are
     ∙ ap (λ (found : List Found). readings_of times indexes cells found) (read.one format track cells 0 a.found is.found a.all is.all) in
     (both.by_clock Held, both.joined ∙ ap (λ (rs : List NotedReading). rs ++ both.by_clock Held) following)
 

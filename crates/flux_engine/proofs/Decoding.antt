@@ -1,18 +1,17 @@
 -- From a track's one stream that was read, and the track that was written out, to what decoding the track says.
-use Rattle.std.specs.Prelude.{◌≡◌, ℕ, Bool, List, [], ◌∷◌, map, Option, Result, Ok, Err, refl}
-use Rattle.std.proofs.Common.{ap, sym, subst, ◌∙◌, add-zero}
+use Rattle.std.specs.Prelude.{◌≡◌, ℕ, Bool, List, [], Option, Result, Ok, Err, refl}
+use Rattle.std.proofs.Common.{ap, subst, ◌∙◌}
 use Rattle.flux_base.specs.declared.track.TrackId.{TrackId}
 use Rattle.sector_images.specs.declared.format.Format.{Format}
 use Rattle.sector_report.specs.declared.totals.Totals.{Totals}
 use Rattle.turn_merge.specs.Book.{Knowledge, StandsFor}
 use Rattle.turn_merge.specs.Readings.{NotedReading}
 use Rattle.flux_engine.specs.Answers.{Answer, CaptureAnswer, DecodesTrack, ReadsCapture, of_capture}
-use Rattle.flux_engine.specs.Captured.{AreReadingsAt, moved}
-use Rattle.flux_engine.specs.Recordings.{cells_of, track_at}
+use Rattle.flux_engine.specs.Recordings.{track_at}
 use Rattle.flux_engine.specs.Room.{RoomState}
 use Rattle.flux_engine.specs.lemmas.OneCapture.{one_capture}
 use Rattle.flux_engine.specs.TrackParts.{WritesPart}
-use Rattle.flux_engine.specs.Tracks.{IsPart, part_of, readings_of}
+use Rattle.flux_engine.specs.Tracks.{part_of}
 use Rattle.flux_engine.specs.declared.fault.CaptureFault.{CaptureFault}
 use Rattle.flux_engine.specs.declared.fault.CaptureFault.TheVariants.{ReadFault as UnreadCapture, Refused as RefusedCapture}
 use Rattle.flux_engine.specs.declared.fault.EngineFault.TheVariants.{ImageFault, NotesFault}

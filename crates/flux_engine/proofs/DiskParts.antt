@@ -21,6 +21,7 @@ use Rattle.flux_engine.specs.Recordings.{cells_of, sectors_of, track_at}
 use Rattle.flux_engine.specs.Streams.{has_fault, stream_at}
 use Rattle.flux_engine.specs.Tracks.{TrackPart, IsPart, image_of}
 use Rattle.flux_engine.specs.lemmas.Finding.{find-below}
+use Rattle.turn_merge.specs.declared.clock.Clock.TheVariants.{Following}
 use Rattle.flux_engine.specs.lemmas.GoodSectors.{lengths}
 use Rattle.flux_engine.proofs.Outcomes.{stop_track}
 
@@ -53,7 +54,7 @@ part_size read format track times' indexes' part is =
     let turned : size * count ≡ count * size = omega arith in
     ap (λ (p : TrackPart). length p.image) is.is
     ∙ lengths (header_at format track) (sector_at format track) size (read.told format track) (read.all format track)
-    times' indexes' (cells_of format track times' indexes') is.found is.all (sectors_of format track) refl (sector_in format track) 0 count
+    0 Following times' indexes' (cells_of format track times' indexes') is.found is.all (sectors_of format track) refl (sector_in format track) 0 count
     ∙ turned
 
 abbrev pub no_part : TrackPart

@@ -21,8 +21,10 @@ use Rattle.disk_recordings.specs.Laws.{TracksAreRead}
 use Rattle.disk_recordings.specs.Members.{header_at, sector_at}
 use Rattle.flux_engine.specs.Recordings.{sectors_of, track_at}
 use Rattle.flux_engine.specs.Streams.{stream_at}
-use Rattle.flux_engine.specs.Tracks.{Found, IsPart, TrackPart, image_bytes, image_of, is_good, line_of, lines_of, part_of, readings_of}
+use Rattle.flux_engine.specs.Tracks.{Found, IsPart, TrackPart, image_bytes, image_of, is_good, line_of, lines_by, part_of, readings_of}
 use Rattle.flux_engine.proofs.DiskParts.{few_parts, image_is, image_split, lines_split, piece_within, place_is, size_at, stop_is}
+use Rattle.turn_merge.specs.declared.clock.Clock.TheVariants.{Following}
+use Rattle.sector_report.specs.declared.naming.Naming.TheVariants.{Unnamed}
 use Rattle.flux_engine.specs.lemmas.GoodSectors.{in_image}
 use Rattle.flux_engine.proofs.LineNumbers.{Skips, line-first, sectors_on, skips-append, skips-lines, skips-tracks}
 use Rattle.flux_engine.proofs.Outcomes.{good_is_right, one_found, one_part}
@@ -110,7 +112,7 @@ module _ (read : TracksAreRead) (format : Format) (x : List ℕ) (o : Decoded) (
     piece_is fills =
         let fill = fills format track sector s.sector_known in
         in_image (header_at format track) (sector_at format track) (row format).sector_size (read.told format track) (read.all format track)
-        times_there indexes_there (cells_at format x n) h.found h.all (sectors_of format track) refl (sector_in format track) (slot format sector) fill.0
+        0 Following times_there indexes_there (cells_at format x n) h.found h.all (sectors_of format track) refl (sector_in format track) (slot format sector) fill.0
         ∙ ap (image_bytes (sectors_of format track) readings) fill.1
 
     zeros : SectorsFillTracks → TracksJoin → is_good outcome ≡ false
@@ -120,7 +122,7 @@ module _ (read : TracksAreRead) (format : Format) (x : List ℕ) (o : Decoded) (
         ∙ ap (λ (d : Option (List ℕ)). unwrap_or d (replicate (row format).sector_size 0)) (none_agreed readings sector outcome h.is other)
 
     has_line : SectorsHaveOneLine → HasLine o.notes (sector_text track sector outcome) (line_number format n sector)
-    unfolding lines_of
+    unfolding lines_by
     has_line one =
         let first : ℕ = (row format).first_sector in
         let count : ℕ = (sectors_of format track).count in
@@ -142,12 +144,12 @@ module _ (read : TracksAreRead) (format : Format) (x : List ℕ) (o : Decoded) (
         ap (λ (d : Decoded). d.notes) s.outcome.is
         ∙ ap (λ (xs : List ℕ). xs ++ last) (lines_split parts n decoded ∙ ap (λ (l : List ℕ). lines (take n parts) ++ (l ++ rest)) mine)
         ∙ line_in (lines (take n parts)) earlier line later rest last in
-        let mine_is_one : IsOneLine line = one track sector outcome in
+        let mine_is_one : IsOneLine line = one Unnamed track sector outcome in
         let number : ℕ = line_number format n sector in
         let skipped : Skips before number =
         skips-append (lines (take n parts)) earlier (sum_by (sectors_on format) (take n (tracks format))) i
         (skips-tracks one format x parts s.outcome.each (few_parts format x o s.outcome) n (omega (arith, decoded)))
-        (skips-lines (line_of track readings) (λ k. one track k (verdict readings k)) first i) in
+        (skips-lines (line_of track readings) (λ k. one Unnamed track k (verdict readings k)) first i) in
         let first_of_rest : number ≡ number + 0 = omega arith in
         record {
           before = before;

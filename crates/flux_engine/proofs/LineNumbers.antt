@@ -19,7 +19,8 @@ use Rattle.flux_engine.specs.DiskLaws.{lines_in}
 use Rattle.flux_engine.specs.Disks.{AreParts, lines, part_at}
 use Rattle.flux_engine.specs.Recordings.{cells_of, sectors_of, track_at}
 use Rattle.flux_engine.specs.Streams.{stream_at}
-use Rattle.flux_engine.specs.Tracks.{IsPart, TrackPart, line_of, lines_of, readings_of}
+use Rattle.sector_report.specs.declared.naming.Naming.TheVariants.{Unnamed}
+use Rattle.flux_engine.specs.Tracks.{IsPart, TrackPart, line_of, lines_by, readings_of}
 use Rattle.flux_engine.proofs.DiskParts.{no_part}
 
 -- so many lines stand in front of whatever follows the text, which has as many line ends
@@ -104,11 +105,11 @@ module _ (one : SectorsHaveOneLine) where
   -- a track has a line for each of its sectors
   skips-track : (format : Format) (track : TrackId) (times' indexes' : List ℕ) (part : TrackPart) → IsPart format track times' indexes' part
       → Skips part.lines (sectors_on format track)
-  unfolding lines_of
+  unfolding lines_by
   skips-track format track times' indexes' part is =
       let readings : List NotedReading = readings_of times' indexes' (cells_of format track times' indexes') is.found in
       subst (λ (p : TrackPart). Skips p.lines (sectors_on format track)) (sym is.is)
-      (skips-lines (line_of track readings) (λ k. one track k (verdict readings k)) (sectors_of format track).first (sectors_of format track).count)
+      (skips-lines (line_of track readings) (λ k. one Unnamed track k (verdict readings k)) (sectors_of format track).first (sectors_of format track).count)
 
   -- the first tracks have a line for each of their sectors
   pub skips-tracks : (format : Format) (x : List ℕ) (ps : List TrackPart) → AreParts format x ps → length ps ≤ length (tracks format)

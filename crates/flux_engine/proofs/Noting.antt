@@ -1,5 +1,5 @@
 -- What was gathered of a stream is all that can be read on its track.
-use Rattle.std.specs.Prelude.{◌≡◌, ◌≤◌, ◌<◌, ℕ, zero, suc, ◌+◌, ◌-◌, List, [], ◌∷◌, ◌++◌, length, replicate, slice_index_or, Option, None, Ok, refl}
+use Rattle.std.specs.Prelude.{◌≡◌, ◌≤◌, ◌<◌, ℕ, suc, ◌+◌, ◌-◌, List, [], ◌∷◌, ◌++◌, length, replicate, slice_index_or, Option, None, Ok, refl}
 use Rattle.std.proofs.Common.{ap, append_assoc, sym, subst, ◌∙◌, arith}
 use Rattle.std.specs.Prelude.{Bool}
 use Rattle.flux_base.specs.declared.track.TrackId.{TrackId}
@@ -11,19 +11,19 @@ use Rattle.turn_merge.specs.declared.verdict.Verdict.{Verdict}
 use Rattle.turn_merge.specs.declared.verdict.Verdict.TheVariants.{Missing}
 use Rattle.index_turns.specs.Track.{TrackState}
 use Rattle.flux_engine.specs.Answers.{ReadsByBoth, ReadsCapture, ReadsStream}
-use Rattle.flux_engine.specs.Captured.{AppendsReadings, AreReadingsBy, AreReadingsByBoth, CLOCK_CELLS, offset_of}
+use Rattle.flux_engine.specs.Captured.{AppendsReadings, AreReadingsBy, AreReadingsByBoth}
 use Rattle.flux_engine.specs.Gathering.{Gathers, HasNoted}
 use Rattle.flux_engine.specs.Recordings.{cells_by}
 use Rattle.flux_engine.specs.Room.{MOST_READINGS}
-use Rattle.flux_engine.specs.declared.clock.Clock.{Clock}
-use Rattle.flux_engine.specs.declared.clock.Clock.TheVariants.{Following, Held}
+use Rattle.turn_merge.specs.declared.clock.Clock.{Clock}
+use Rattle.turn_merge.specs.declared.clock.Clock.TheVariants.{Following, Held}
 
-pub has_noted : (clock : Clock) (format : Format) (track : TrackId) (times indexes : List ℕ) (cells : List Bool) (offset : ℕ) (old new : Knowledge)
+pub has_noted : (clock : Clock) (format : Format) (track : TrackId) (times indexes : List ℕ) (cells : List Bool) (capture : ℕ) (old new : Knowledge)
     → cells ≡ cells_by clock format track times indexes → length cells ≤ MOST_READINGS
-    → Gathers (header_at format track) (sector_at format track) times indexes cells offset old new
-    → HasNoted clock format track times indexes offset old new
-has_noted clock format track times indexes cells offset old new is few g =
-    let h = subst (λ (cs : List Bool). Gathers (header_at format track) (sector_at format track) times indexes cs offset old new) is g in
+    → Gathers (header_at format track) (sector_at format track) times indexes cells capture clock old new
+    → HasNoted clock format track times indexes capture old new
+has_noted clock format track times indexes cells capture old new is few g =
+    let h = subst (λ (cs : List Bool). Gathers (header_at format track) (sector_at format track) times indexes cs capture clock old new) is g in
     record {
       readings = _;
       are = record { found = h.found; all = h.all; are = refl };
@@ -32,10 +32,10 @@ has_noted clock format track times indexes cells offset old new is few g =
       few = omega (arith, g.few, few);
     }
 
-pub reads_capture : (format : Format) (track : TrackId) (offset : ℕ) (left left' : Option (List ℕ)) (used : Bool) (held held' : List ℕ) (flux : TrackState) (old new : Knowledge)
-    (u : Unit {0}) → ReadsStream left left' used held held' flux.times flux.indexes (Ok u) → HasNoted Following format track flux.times flux.indexes offset old new
-    → ReadsCapture format track offset left left' used held held' old new (Ok u)
-reads_capture format track offset left left' used held held' flux old new u read n =
+pub reads_capture : (format : Format) (track : TrackId) (capture : ℕ) (left left' : Option (List ℕ)) (used : Bool) (held held' : List ℕ) (flux : TrackState) (old new : Knowledge)
+    (u : Unit {0}) → ReadsStream left left' used held held' flux.times flux.indexes (Ok u) → HasNoted Following format track flux.times flux.indexes capture old new
+    → ReadsCapture format track capture left left' used held held' old new (Ok u)
+reads_capture format track capture left left' used held held' flux old new u read n =
     record { times = flux.times; indexes = flux.indexes; read = read; noted = (n.readings, n.are, n.noted) }
 
 -- a list of readings for each clock
@@ -44,14 +44,14 @@ of_clocks following held Following = following
 of_clocks following held Held = held
 
 each_of : (format : Format) (track : TrackId) (times indexes : List ℕ) (following held : List NotedReading)
-    → AreReadingsBy Following format track times indexes 0 following → AreReadingsBy Held format track times indexes CLOCK_CELLS held
-    → (clock : Clock) → AreReadingsBy clock format track times indexes (offset_of clock) (of_clocks following held clock)
+    → AreReadingsBy Following format track times indexes 0 following → AreReadingsBy Held format track times indexes 0 held
+    → (clock : Clock) → AreReadingsBy clock format track times indexes 0 (of_clocks following held clock)
 each_of format track times indexes following held a b Following = a
 each_of format track times indexes following held a b Held = b
 
 pub reads_by_both : (format : Format) (track : TrackId) (left left' : Option (List ℕ)) (used : Bool) (held held' : List ℕ) (flux : TrackState) (old mid new : Knowledge)
     (u : Unit {0}) → ReadsStream left left' used held held' flux.times flux.indexes (Ok u)
-    → HasNoted Following format track flux.times flux.indexes 0 old mid → HasNoted Held format track flux.times flux.indexes CLOCK_CELLS mid new
+    → HasNoted Following format track flux.times flux.indexes 0 old mid → HasNoted Held format track flux.times flux.indexes 0 mid new
     → ReadsByBoth format track left left' used held held' old new (Ok u)
 reads_by_both format track left left' used held held' flux old mid new u read n m =
     let both : AreReadingsByBoth format track flux.times flux.indexes (n.readings ++ m.readings) = record {

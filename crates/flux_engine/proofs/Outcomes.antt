@@ -12,6 +12,7 @@ use Rattle.sector_images.specs.Formats.{row, slot}
 use Rattle.sector_images.specs.Places.{SectorsFillTracks, place_of, sector_in, sector_place, tracks}
 use Rattle.sector_images.specs.declared.format.Format.{Format}
 use Rattle.turn_merge.specs.Readings.{bytes_of}
+use Rattle.turn_merge.specs.declared.clock.Clock.TheVariants.{Following}
 use Rattle.flux_engine.specs.Disks.{Stop, part_at, AreParts, images, lines, totals_over, stop_at, stop_of, decoded_count, Decoded, decoded_of, last_line, no_totals}
 use Rattle.flux_engine.specs.Laws.{OneOutcome, FirstTracksLead, GoodIsRight}
 use Rattle.disk_recordings.specs.Laws.{TracksAreRead}
@@ -117,7 +118,7 @@ module _ (read : TracksAreRead) where
       let fill = fills format track sector known in
       let place : sector_place format track sector - place_of format track ≡ size * slot format sector = omega arith in
       let holds = head_holds (header_at format track) (sector_at format track) size (read.told format track) (read.all format track)
-      times' indexes' cells is.found is.all sector first h in
+      0 Following times' indexes' cells is.found is.all sector first h in
       record {
         bytes = bytes_of h.head;
         stands = holds.0;
@@ -126,7 +127,7 @@ module _ (read : TracksAreRead) where
             ap (λ (n : ℕ). take {A = ℕ} size (drop n part.image)) place
             ∙ ap (λ (p : TrackPart). take {A = ℕ} size (drop (size * slot format sector) p.image)) is.is
             ∙ good_image (header_at format track) (sector_at format track) size (read.told format track) (read.all format track)
-            times' indexes' cells is.found is.all (sectors_of format track) refl (sector_in format track) sector (slot format sector) first h fill.1 fill.0;
+            0 Following times' indexes' cells is.found is.all (sectors_of format track) refl (sector_in format track) sector (slot format sector) first h fill.1 fill.0;
         agreed = all_agree (header_at format track) (sector_at format track) size (read.told format track) (read.all format track)
-            times' indexes' cells is.found is.all sector first h;
+            0 Following times' indexes' cells is.found is.all sector first h;
       }

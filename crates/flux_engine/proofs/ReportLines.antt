@@ -12,7 +12,8 @@ use Rattle.sector_images.specs.Formats.{row, zone}
 use Rattle.sector_images.specs.Places.{IsSector, IsTrack, NumbersNameTracks, TracksKeepBounds, tracks}
 use Rattle.sector_images.specs.declared.format.Format.{Format}
 use Rattle.sector_report.specs.LineLaws.{IsOneLine, LineFits, SectorLinesTell, SectorsHaveOneLine, TotalsAreNoSectors, TotalsHaveOneLine, VerdictFits, line_ends}
-use Rattle.sector_report.specs.Lines.{sector_name, sector_text, total_text, two_digits, verdict_text}
+use Rattle.sector_report.specs.Lines.{named_text, sector_name, sector_text, total_text, two_digits, verdict_text}
+use Rattle.sector_report.specs.declared.naming.Naming.TheVariants.{Unnamed}
 use Rattle.sector_report.specs.declared.totals.Totals.{Totals}
 use Rattle.turn_merge.specs.declared.verdict.Verdict.{Verdict}
 use Rattle.flux_engine.specs.DiskLaws.{HasLine, HasVerdict, IsDecodedSector, IsTold, LinesTellVerdicts, ReportsHaveNoOtherLines, line_number, lines_in, sectors_before, total_lines}
@@ -82,12 +83,12 @@ unfolding sector_name
 name_length track sector = blank_last (two_digits track.cylinder ++ codes "." ++ decimal track.head ++ codes " " ++ two_digits sector) 32
 
 not_empty : (track : TrackId) (sector : ℕ) (verdict : Verdict) (front : List ℕ) → sector_text track sector verdict ≡ front ++ 10 ∷ [] → front ≢ []
-unfolding sector_text
+unfolding named_text
 not_empty track sector verdict front ends none =
-    let alone : length ((sector_name track sector ++ verdict_text verdict) ++ 10 ∷ []) ≡ 1 = ap length (ends ∙ ap (λ (f : List ℕ). f ++ 10 ∷ []) none) in
-    let all : length ((sector_name track sector ++ verdict_text verdict) ++ 10 ∷ []) ≡ length (sector_name track sector ++ verdict_text verdict) + 1 =
-    length-append (sector_name track sector ++ verdict_text verdict) (10 ∷ []) in
-    let both = length-append (sector_name track sector) (verdict_text verdict) in
+    let alone : length ((sector_name track sector ++ verdict_text Unnamed verdict) ++ 10 ∷ []) ≡ 1 = ap length (ends ∙ ap (λ (f : List ℕ). f ++ 10 ∷ []) none) in
+    let all : length ((sector_name track sector ++ verdict_text Unnamed verdict) ++ 10 ∷ []) ≡ length (sector_name track sector ++ verdict_text Unnamed verdict) + 1 =
+    length-append (sector_name track sector ++ verdict_text Unnamed verdict) (10 ∷ []) in
+    let both = length-append (sector_name track sector) (verdict_text Unnamed verdict) in
     let name = name_length track sector in
     omega (arith, alone, all, both, name)
 

@@ -1,5 +1,5 @@
 -- What an answer says of the input that a source tells.
-use Rattle.std.specs.Prelude.{◌≡◌, ℕ, List, [], ◌++◌, Option, Some, None, Ok, Err, refl}
+use Rattle.std.specs.Prelude.{◌≡◌, ℕ, List, [], Option, Some, None, Ok, Err, refl}
 use Rattle.std.specs.Io.KnownBytes.{Consumes, IsAtEnd}
 use Rattle.std.proofs.Common.{sym, subst, ◌∙◌, arith, append-nil}
 use Rattle.sector_images.specs.declared.format.Format.{Format}

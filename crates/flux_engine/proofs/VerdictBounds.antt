@@ -72,7 +72,7 @@ places_fit times indexes cells found few few' inside =
     each-flat (λ (f : Found). readings_at (place_at times indexes cells f.0) f.1 f.2) (λ (f : Found). f.0 < length cells) (λ (r : NotedReading). PlaceFits r.place)
     (λ f low.
     let turns : turn_at indexes (time_of_place times cells f.0) ≤ length indexes = count_few (λ (index : ℕ). nat_le index (time_of_place times cells f.0)) indexes in
-    at_place (place_at times indexes cells f.0) f.1 f.2 (omega (arith, turns, few'), omega (arith, low, few)))
+    at_place (place_at times indexes cells f.0) f.1 f.2 (omega (arith, turns, few'), omega (arith, low, few), refl, refl))
     found inside
 
 filter_fits : (p : NotedReading → Bool) (readings : List NotedReading) → Each (λ (r : NotedReading). PlaceFits r.place) readings

@@ -98,13 +98,13 @@ pub record ReadsStream (left left' : Option (List ℕ)) (used : Bool) (held held
   pub ended : IsTruncatedCapture answer → IsAtEnd left'
 
 -- A call that reads one of the streams that capture a track: where the stream has no fault, all its readings were noted after
--- those before, with the offset added to each cell.
-pub record ReadsCapture (format : Format) (track : TrackId) (offset : ℕ) (left left' : Option (List ℕ)) (used : Bool) (held held' : List ℕ)
+-- those before, with the capture's number.
+pub record ReadsCapture (format : Format) (track : TrackId) (capture : ℕ) (left left' : Option (List ℕ)) (used : Bool) (held held' : List ℕ)
     (old new : Knowledge) (answer : CaptureAnswer) : Type 0 where
   pub times : List ℕ
   pub indexes : List ℕ
   pub read : ReadsStream left left' used held held' times indexes answer
-  pub noted : OnOk answer ((readings : List NotedReading) × AreReadingsAt format track times indexes offset readings × AppendsReadings old new readings)
+  pub noted : OnOk answer ((readings : List NotedReading) × AreReadingsAt format track times indexes capture readings × AppendsReadings old new readings)
 
 -- A call that reads the one stream of a track by both clocks: where the stream has no fault, all its readings by both were noted
 -- after those before.

@@ -1,27 +1,24 @@
 -- What the readings of one stream by both clocks come to.
-use Rattle.std.specs.Prelude.{◌≡◌, ◌⊎◌, ℕ, ◌+◌, Contains, List, ◌++◌, drop, Some}
+use Rattle.std.specs.Prelude.{◌≡◌, ◌⊎◌, ℕ, Contains, List, ◌++◌, drop, Some}
 use Rattle.disk_recordings.specs.Members.{sector_at}
 use Rattle.flux_base.specs.declared.track.TrackId.{TrackId}
 use Rattle.sector_images.specs.declared.format.Format.{Format}
 use Rattle.turn_merge.specs.Readings.{NotedReading, agreed, verdict}
 use Rattle.turn_merge.specs.declared.verdict.Place.{Place}
 use Rattle.turn_merge.specs.declared.verdict.Verdict.TheVariants.{Contradictory, Good}
-use Rattle.flux_engine.specs.Captured.{AreReadingsByBoth, offset_of}
+use Rattle.flux_engine.specs.Captured.{AreReadingsByBoth}
 use Rattle.flux_engine.specs.Recordings.{cells_by, cells_of, sectors_of}
-use Rattle.flux_engine.specs.Tracks.{IsPart, TrackPart, image_bytes, place_at, readings_of}
-use Rattle.flux_engine.specs.declared.clock.Clock.{Clock}
+use Rattle.flux_engine.specs.Tracks.{IsPart, TrackPart, image_bytes, place_in, readings_of}
+use Rattle.turn_merge.specs.declared.clock.Clock.{Clock}
 
 -- a stream has one list of readings by both clocks
 abbrev pub ReadingsByBothAreOne : Type 0
 ReadingsByBothAreOne = (format : Format) (track : TrackId) (times indexes : List ℕ) (a b : List NotedReading)
     → AreReadingsByBoth format track times indexes a → AreReadingsByBoth format track times indexes b → a ≡ b
 
--- a place of the cells that the clock recovers, in its turn, noted as far on as the readings by this clock are
+-- a place of the cells that the clock recovers, in its turn
 abbrev pub place_by : Clock → Format → TrackId → (times indexes : List ℕ) → (place : ℕ) → Place
-place_by clock format track times indexes place = record {
-  turn = (place_at times indexes (cells_by clock format track times indexes) place).turn;
-  cell = place + offset_of clock;
-}
+place_by clock format track times indexes place = place_in 0 clock times indexes (cells_by clock format track times indexes) place
 
 -- the cells that the clock recovers hold this sector at the place, with its sync, header, data and check values
 abbrev pub StandsBy : Clock → Format → TrackId → (times indexes : List ℕ) → (place sector : ℕ) → List ℕ → Type 0

@@ -1,5 +1,5 @@
 -- The readings of a track, gathered in a book.
-use Rattle.std.specs.Prelude.{◌≡◌, ◌<◌, ◌≤◌, ℕ, ◌+◌, Bool, List, [], ◌++◌, length, map, take}
+use Rattle.std.specs.Prelude.{◌≡◌, ◌<◌, ◌≤◌, ℕ, ◌+◌, Bool, List, [], ◌++◌, length, take}
 use Rattle.cell_bits.specs.Ones.{ones}
 use Rattle.frame_law.specs.declared.reading.Reading.{Reading as Frame}
 use Rattle.frame_law.specs.declared.reading.Reading.TheVariants.{Nothing, Bad, Good}
@@ -8,10 +8,10 @@ use Rattle.flux_base.specs.declared.track.TrackId.{TrackId}
 use Rattle.sector_images.specs.declared.format.Format.{Format}
 use Rattle.turn_merge.specs.Book.{Knowledge, IsKnown, StandsFor, SameShape}
 use Rattle.turn_merge.specs.Readings.{NotedReading}
-use Rattle.flux_engine.specs.Captured.{AppendsReadings, AreReadingsBy, moved}
+use Rattle.flux_engine.specs.Captured.{AppendsReadings, AreReadingsBy}
 use Rattle.flux_engine.specs.Room.{MOST_READINGS}
-use Rattle.flux_engine.specs.Tracks.{Found, readings_of}
-use Rattle.flux_engine.specs.declared.clock.Clock.{Clock}
+use Rattle.flux_engine.specs.Tracks.{Found, readings_in}
+use Rattle.turn_merge.specs.declared.clock.Clock.{Clock}
 use Rattle.flux_engine.specs.declared.sectors.Sectors.{Sectors}
 
 -- cells that were recovered from these transitions: each has its one, the first cell is a one, and there are few
@@ -39,21 +39,21 @@ CanBeNoted book Nothing bytes = Unit {0}
 CanBeNoted book (Bad sector) bytes = IsKnown book sector
 CanBeNoted book (Good sector) bytes = IsKnown book sector × (length bytes ≡ book.size)
 
--- all that can be read in the cells was noted in the book, with the offset added to each cell
+-- all that can be read in the cells, which a clock recovered of a capture, was noted in the book
 pub record Gathers (header : List Bool → ℕ → Type 0) (sector : List Bool → ℕ → List ℕ → Type 0)
-    (times indexes : List ℕ) (cells : List Bool) (offset : ℕ) (old new : Knowledge) : Type 0 where
+    (times indexes : List ℕ) (cells : List Bool) (capture : ℕ) (clock : Clock) (old new : Knowledge) : Type 0 where
   pub found : List Found
   pub all : AreReadings header sector cells 0 found
-  pub noted : AppendsReadings old new (map (moved offset) (readings_of times indexes cells found))
+  pub noted : AppendsReadings old new (readings_in capture clock times indexes cells found)
   pub shape : SameShape old new
   pub few : new.notes ≤ old.notes + length cells
 
 -- The walk has come to a place: what was found before it is noted, and with what will be found from there on it is all.
 pub record IsWalk (header : List Bool → ℕ → Type 0) (sector : List Bool → ℕ → List ℕ → Type 0)
-    (times indexes : List ℕ) (cells : List Bool) (offset from passed : ℕ) (old new : Knowledge) : Type 0 where
+    (times indexes : List ℕ) (cells : List Bool) (capture : ℕ) (clock : Clock) (from passed : ℕ) (old new : Knowledge) : Type 0 where
   pub found : List Found
   pub before : (rest : List Found) → AreReadings header sector cells from rest → AreReadings header sector cells 0 (found ++ rest)
-  pub noted : AppendsReadings old new (map (moved offset) (readings_of times indexes cells found))
+  pub noted : AppendsReadings old new (readings_in capture clock times indexes cells found)
   pub shape : SameShape old new
   pub few : new.notes ≤ old.notes + from
   pub within : from ≤ length cells
@@ -61,9 +61,9 @@ pub record IsWalk (header : List Bool → ℕ → Type 0) (sector : List Bool �
 
 -- All readings of a track with these transitions and index times, in the cells that the clock recovers, were noted in its book, no
 -- more than the track has cells.
-pub record HasNoted (clock : Clock) (format : Format) (track : TrackId) (times indexes : List ℕ) (offset : ℕ) (old new : Knowledge) : Type 0 where
+pub record HasNoted (clock : Clock) (format : Format) (track : TrackId) (times indexes : List ℕ) (capture : ℕ) (old new : Knowledge) : Type 0 where
   pub readings : List NotedReading
-  pub are : AreReadingsBy clock format track times indexes offset readings
+  pub are : AreReadingsBy clock format track times indexes capture readings
   pub noted : AppendsReadings old new readings
   pub shape : SameShape old new
   pub few : new.notes ≤ old.notes + MOST_READINGS

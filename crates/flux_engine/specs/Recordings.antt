@@ -8,8 +8,8 @@ use Rattle.phase_loop.specs.declared.start.LoopStart.{LoopStart}
 use Rattle.sector_images.specs.Formats.{row, zone}
 use Rattle.sector_images.specs.Places.{tracks}
 use Rattle.sector_images.specs.declared.format.Format.{Format}
-use Rattle.flux_engine.specs.declared.clock.Clock.{Clock}
-use Rattle.flux_engine.specs.declared.clock.Clock.TheVariants.{Following, Held}
+use Rattle.turn_merge.specs.declared.clock.Clock.{Clock}
+use Rattle.turn_merge.specs.declared.clock.Clock.TheVariants.{Following, Held}
 use Rattle.flux_engine.specs.declared.sectors.Sectors.{Sectors}
 
 -- track number n of the format, from 0

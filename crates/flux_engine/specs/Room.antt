@@ -61,6 +61,10 @@ pub record IsRoomy (format : Format) (cells : CellsState) (book : Knowledge) : T
 abbrev pub MOST_READINGS : ℕ
 MOST_READINGS = 134217728
 
+-- the most streams that are read for one track, where one that is read by both clocks counts twice
+abbrev pub MOST_SOURCES : ℕ
+MOST_SOURCES = 32
+
 -- the book is one for this track of the format, and has the readings of so many streams, where one that is read by both clocks counts
 -- twice
 pub record IsStarted (format : Format) (number captures : ℕ) (book : Knowledge) : Type 0 where

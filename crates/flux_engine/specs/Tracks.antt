@@ -9,9 +9,13 @@ use Rattle.frame_law.specs.Readings.{AreReadings}
 use Rattle.index_turns.specs.Track.{turn_at}
 use Rattle.sector_images.specs.Places.{sector_in}
 use Rattle.sector_images.specs.declared.format.Format.{Format}
-use Rattle.sector_report.specs.Lines.{sector_text}
+use Rattle.sector_report.specs.Lines.{named_text}
+use Rattle.sector_report.specs.declared.naming.Naming.{Naming}
+use Rattle.sector_report.specs.declared.naming.Naming.TheVariants.{Unnamed}
 use Rattle.sector_report.specs.declared.totals.Totals.{Totals}
 use Rattle.turn_merge.specs.Readings.{NotedReading, good_reading, bad_reading, verdict, agreed}
+use Rattle.turn_merge.specs.declared.clock.Clock.{Clock}
+use Rattle.turn_merge.specs.declared.clock.Clock.TheVariants.{Following}
 use Rattle.turn_merge.specs.declared.verdict.Place.{Place}
 use Rattle.turn_merge.specs.declared.verdict.Verdict.{Verdict}
 use Rattle.turn_merge.specs.declared.verdict.Verdict.TheVariants.{Good, Contradictory, Bad, Missing}
@@ -27,9 +31,14 @@ Found = ℕ × Frame × List ℕ
 abbrev pub time_of_place : List ℕ → List Bool → ℕ → ℕ
 time_of_place times cells place = slice_index times (ones (take (place + 1) cells) - 1)
 
--- a place of the cells, and the turn in which that transition lies
+-- a place of the cells that a clock recovers of a capture, and the turn in which that transition lies
+abbrev pub place_in : ℕ → Clock → List ℕ → List ℕ → List Bool → ℕ → Place
+place_in capture clock times indexes cells place =
+    record { capture = capture; clock = clock; turn = turn_at indexes (time_of_place times cells place); cell = place }
+
+-- the same of a track's one stream, by the clock that follows the drive's speed
 abbrev pub place_at : List ℕ → List ℕ → List Bool → ℕ → Place
-place_at times indexes cells place = record { turn = turn_at indexes (time_of_place times cells place); cell = place }
+place_at times indexes cells place = place_in 0 Following times indexes cells place
 
 -- the reading of a sector, where one is read
 abbrev pub readings_at : Place → Frame → List ℕ → List NotedReading
@@ -37,10 +46,14 @@ readings_at place Nothing bytes = []
 readings_at place (BadFrame sector) bytes = bad_reading sector place ∷ []
 readings_at place (GoodFrame sector) bytes = good_reading sector place bytes ∷ []
 
--- the readings of all that is found on a track
+-- the readings of all that is found in the cells that a clock recovers of a capture
+abbrev pub readings_in : ℕ → Clock → List ℕ → List ℕ → List Bool → List Found → List NotedReading
+readings_in capture clock times indexes cells found =
+    flat_map (λ f. readings_at (place_in capture clock times indexes cells f.0) f.1 f.2) found
+
+-- the same of a track's one stream
 abbrev pub readings_of : List ℕ → List ℕ → List Bool → List Found → List NotedReading
-readings_of times indexes cells found =
-    flat_map (λ f. readings_at (place_at times indexes cells f.0) f.1 f.2) found
+readings_of times indexes cells found = readings_in 0 Following times indexes cells found
 
 -- the numbers of a track's sectors
 abbrev pub numbers : Sectors → List ℕ
@@ -58,12 +71,19 @@ image_piece format track readings number = image_bytes (sectors_of format track)
 unfoldable pub image_of : Format → TrackId → List NotedReading → List ℕ
 image_of format track readings = flat_map (image_piece format track readings) (range_with_len 0 (sectors_of format track).count)
 
-abbrev pub line_of : TrackId → List NotedReading → ℕ → List ℕ
-line_of track readings sector = sector_text track sector (verdict readings sector)
+abbrev pub line_by : Naming → TrackId → List NotedReading → ℕ → List ℕ
+line_by naming track readings sector = named_text naming track sector (verdict readings sector)
 
 -- the track's lines, one for each sector, in the order of their numbers
-unfoldable pub lines_of : TrackId → Sectors → List NotedReading → List ℕ
-lines_of track sectors readings = flat_map (line_of track readings) (numbers sectors)
+unfoldable pub lines_by : Naming → TrackId → Sectors → List NotedReading → List ℕ
+lines_by naming track sectors readings = flat_map (line_by naming track readings) (numbers sectors)
+
+-- the same where no source is named
+abbrev pub line_of : TrackId → List NotedReading → ℕ → List ℕ
+line_of track readings sector = line_by Unnamed track readings sector
+
+abbrev pub lines_of : TrackId → Sectors → List NotedReading → List ℕ
+lines_of track sectors readings = lines_by Unnamed track sectors readings
 
 abbrev pub is_good : Verdict → Bool
 is_good (Good _ _ _) = true
@@ -97,13 +117,17 @@ pub record TrackPart : Type 0 where
   pub lines : List ℕ
   pub totals : Totals
 
--- what a track comes to by these readings
-abbrev pub part_of : Format → TrackId → List NotedReading → TrackPart
-part_of format track readings = record {
+-- what a track comes to by these readings, with lines that name so much of their sources
+abbrev pub part_by : Naming → Format → TrackId → List NotedReading → TrackPart
+part_by naming format track readings = record {
   image = image_of format track readings;
-  lines = lines_of track (sectors_of format track) readings;
+  lines = lines_by naming track (sectors_of format track) readings;
   totals = totals_of (map (verdict readings) (numbers (sectors_of format track)));
 }
+
+-- the same where no source is named
+abbrev pub part_of : Format → TrackId → List NotedReading → TrackPart
+part_of format track readings = part_by Unnamed format track readings
 
 -- all that can be read on a track with these transitions and index times, and what it comes to
 pub record IsPart (format : Format) (track : TrackId) (times indexes : List ℕ) (part : TrackPart) : Type 0 where

@@ -1,36 +1,35 @@
 //! A track by the streams that capture it, one or several: their readings are gathered in one book.
 
-ghost use Rattle.std.specs.Prelude.{◌≡◌, ◌+◌, ◌*◌, ◌^◌, ◌≤◌, ◌<◌, [], List, length, OnOk, OnErr, true, false};
-ghost use Rattle.std.specs.Io.KnownBytes.{Appends};
+ghost use Rattle.std.specs.Prelude.{◌≡◌, ◌+◌, ◌≤◌, ◌<◌, [], List, length, IfOk, OnOk, OnErr, true, false};
 ghost use Rattle.std.specs.Option.{option_copied};
-ghost use Rattle.flux_base.specs.Outside.{AppendsPart, Rose};
 ghost use Rattle.flux_engine.specs.Answers.{CaptureCause, ReadsByBoth, ReadsCapture, ReadsStream};
 ghost use Rattle.flux_engine.specs.Gathering.{HasNoted, IsBookFor};
 ghost use Rattle.flux_engine.specs.Reading.{IsBounded};
 ghost use Rattle.flux_engine.specs.Recordings.{start_by as start_of_clock, track_at, sectors_of as sectors_in};
-ghost use Rattle.flux_engine.specs.Room.{IsRoomy, MOST_READINGS};
-ghost use Rattle.flux_engine.specs.Tracks.{image_of};
-ghost use Rattle.flux_engine.specs.Writing.{Knows};
+ghost use Rattle.flux_engine.specs.Room.{IsRoomy, MOST_READINGS, MOST_SOURCES};
+ghost use Rattle.flux_engine.specs.TrackParts.{PartCause, WritesPart};
+ghost use Rattle.flux_engine.specs.Tracks.{part_by};
+ghost use Rattle.flux_engine.specs.Writing.{IsSum, Knows};
 ghost use Rattle.kryo_stream.specs.Outcome.{IsReadWhereNeeded};
 ghost use Rattle.kryo_stream.specs.Reads.{source_at};
 ghost use Rattle.phase_loop.specs.Start.{IsStart};
 ghost use Rattle.sector_images.specs.Places.{IsTrack, tracks};
-ghost use Rattle.turn_merge.specs.Book.{IsKnown, SameShape, StandsFor};
+ghost use Rattle.turn_merge.specs.Book.{IsKnown, MOST_NOTES, SameShape, StandsFor};
 ghost use Rattle.turn_merge.specs.Readings.{NotedReading, agreed, verdict as verdict_over};
 
-use crate::clock::Clock;
 use crate::fault::CaptureFault;
 use crate::gathering::gather;
 use crate::recordings::sectors_of;
 use crate::room::{DiskRoom, Tools};
-use crate::writing::write_image;
+use crate::track_part::{PartFault, write_part};
 use disk_recordings::{DiskId, recording_of};
-use flux_base::{Failed, Sink, Source, TrackId};
+use flux_base::{Sink, Source, TrackId};
 use index_turns::TrackFlux;
 use kryo_stream::{RoomFault, StreamRoom};
 use phase_loop::{LoopStart, recover};
 use sector_images::{Format, nominal, ring_cells, track_id, tracks_keep_bounds};
-use turn_merge::Verdict;
+use sector_report::{Naming, Totals};
+use turn_merge::{Clock, Verdict};
 
 /// Begins a track: what was gathered before is forgotten.
 pub fn start_track(room: &mut DiskRoom, number: u32)
@@ -46,21 +45,20 @@ pub fn start_track(room: &mut DiskRoom, number: u32)
     room.captures = 0;
 }
 
-/// Reads the next stream as one more that captures the started track, and notes all its readings after those before, with
-/// `offset` added to each cell. No answer is for want of memory.
+/// Reads the next stream as one more that captures the started track, and notes all its readings after those before, as those
+/// of this capture. No answer is for want of memory.
 ///
-/// At most 16 streams are read for one track, and a room is not used again for reading after a fault.
+/// At most 32 streams are read for one track, and a room is not used again for reading after a fault.
 pub fn read_capture<S: Source>(
     room: &mut DiskRoom,
     number: u32,
-    offset: u64,
+    capture: u8,
     source: &mut S,
 ) -> Result<(), CaptureFault>
     requires started { number ≡ room.old.started }
-    requires few { room.old.captures < 16 }
-    requires offset { offset ≤ 15 * 2 ^ 32 }
+    requires few { room.old.captures < MOST_SOURCES }
     requires sound { room.old.failed ≡ false }
-    ensures read { ReadsCapture room.old.format (track_at room.old.format number) offset (S.left source.old) (S.left source.new) room.old.used room.old.held room.new.held room.old.book room.new.book result }
+    ensures read { ReadsCapture room.old.format (track_at room.old.format number) capture (S.left source.old) (S.left source.new) room.old.used room.old.held room.new.held room.old.book room.new.book result }
 
     // The source is read only where the bytes at hand do not tell the answer.
     ensures needed { IsReadWhereNeeded (source_at S.left S.given S.faults source.old) (source_at S.left S.given S.faults source.new) room.old.used room.old.held }
@@ -90,7 +88,7 @@ pub fn read_capture<S: Source>(
         Clock::Following,
         room.format,
         track,
-        offset,
+        capture,
         room.stream.flux(),
         &mut room.tools,
     );
@@ -99,20 +97,17 @@ pub fn read_capture<S: Source>(
     Ok(())
 }
 
-/// Cells by which the readings of the held clock are noted further on than those of the following one, more than a track has.
-const CLOCK_CELLS: u64 = 1 << 32;
-
 /// Reads the next stream as the one of the started track, and notes all its readings by both clocks after those before: first those
-/// by the following clock, then those by the held one with 2^32 added to each cell. No answer is for want of memory.
+/// by the following clock, then those by the held one. No answer is for want of memory.
 ///
-/// It counts as two of the at most 16 streams of a track, and a room is not used again for reading after a fault.
+/// It counts as two of the at most 32 streams of a track, and a room is not used again for reading after a fault.
 pub fn read_by_both_clocks<S: Source>(
     room: &mut DiskRoom,
     number: u32,
     source: &mut S,
 ) -> Result<(), CaptureFault>
     requires started { number ≡ room.old.started }
-    requires few { room.old.captures ≤ 14 }
+    requires few { room.old.captures + 2 ≤ MOST_SOURCES }
     requires sound { room.old.failed ≡ false }
     ensures read { ReadsByBoth room.old.format (track_at room.old.format number) (S.left source.old) (S.left source.new) room.old.used room.old.held room.new.held room.old.book room.new.book result }
 
@@ -152,7 +147,7 @@ pub fn read_by_both_clocks<S: Source>(
         Clock::Held,
         room.format,
         track,
-        CLOCK_CELLS,
+        0,
         room.stream.flux(),
         &mut room.tools,
     );
@@ -184,17 +179,24 @@ pub fn bytes(room: &DiskRoom, sector: u8) -> Option<&[u8]>
     room.tools.book.bytes(sector)
 }
 
-/// Writes the started track's part of the image, a piece for each sector, in the order of their places there. After
-/// `Failed` a part of it was written.
-pub fn write_started_image<W: Sink>(room: &DiskRoom, image: &mut W) -> Result<(), Failed>
-    ensures ok { OnOk result ((readings : List NotedReading) → StandsFor room.now.book readings → Appends (W.written image.old) (W.written image.new) (image_of room.now.format (track_at room.now.format room.now.started) readings)) }
-    ensures err { OnErr result ((readings : List NotedReading) → StandsFor room.now.book readings → AppendsPart (W.written image.old) (W.written image.new) (image_of room.now.format (track_at room.now.format room.now.started) readings)) }
-    ensures later { W.faults image.old ≤ W.faults image.new }
-    ensures cause { OnErr result (Rose (W.faults image.old) (W.faults image.new)) }
+/// Writes what the gathered readings of the started track come to, as `write_part` does.
+pub fn write_started_part<W: Sink, N: Sink>(
+    naming: Naming,
+    room: &DiskRoom,
+    image: &mut W,
+    notes: &mut N,
+) -> Result<Totals, PartFault>
+    ensures wrote { (readings : List NotedReading) → StandsFor room.now.book readings
+        → WritesPart (part_by naming room.now.format (track_at room.now.format room.now.started) readings) (W.written image.old) (W.written image.new) (N.written notes.old) (N.written notes.new) result }
+    ensures sum { IfOk result IsSum }
+    ensures few { IfOk result (λ totals. totals.sectors ≤ 100) }
+    ensures cause { PartCause (W.faults image.old) (W.faults image.new) (N.faults notes.old) (N.faults notes.new) result }
+    ensures image_later { W.faults image.old ≤ W.faults image.new }
+    ensures notes_later { N.faults notes.old ≤ N.faults notes.new }
 {
     tracks_keep_bounds();
     let track = track_id(room.format, room.started);
-    write_image(room.format, track, &room.tools.book, image)
+    write_part(naming, room.format, track, &room.tools.book, image, notes)
 }
 
 /// Reads the next stream.
@@ -214,22 +216,21 @@ fn read_stream<S: Source>(source: &mut S, stream: &mut StreamRoom) -> Result<(),
     }
 }
 
-/// Recovers the cells of a track by a clock and notes all readings of its sectors in the book, with the offset added to each cell.
+/// Recovers the cells of a capture of a track by a clock and notes all readings of its sectors in the book.
 fn note_readings(
     clock: Clock,
     format: Format,
     track: TrackId,
-    offset: u64,
+    capture: u8,
     flux: &TrackFlux,
     tools: &mut Tools,
 )
     requires track { IsTrack format track }
     requires bounded { IsBounded flux.now }
-    requires offset { offset ≤ 15 * 2 ^ 32 }
     requires roomy { IsRoomy format tools.old.cells tools.old.book }
     requires knows { Knows (sectors_in format track) tools.old.book }
-    requires few { tools.old.book.notes + MOST_READINGS ≤ 2 ^ 31 }
-    ensures noted { HasNoted clock format track flux.now.times flux.now.indexes offset tools.old.book tools.new.book }
+    requires few { tools.old.book.notes + MOST_READINGS ≤ MOST_NOTES }
+    ensures noted { HasNoted clock format track flux.now.times flux.now.indexes capture tools.old.book tools.new.book }
     ensures roomy { IsRoomy format tools.new.cells tools.new.book }
 {
     let turn = flux.first_turn_ticks();
@@ -246,7 +247,8 @@ fn note_readings(
         track,
         flux,
         &tools.cells,
-        offset,
+        capture,
+        clock,
         &mut tools.book,
     );
 }

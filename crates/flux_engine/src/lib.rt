@@ -11,7 +11,6 @@
 #![tactic(auto)]
 
 mod capture;
-mod clock;
 mod disk;
 mod disk_streams;
 mod fault;
@@ -29,10 +28,8 @@ mod write_room;
 mod writing;
 
 pub use capture::{
-    bytes, read_by_both_clocks, read_capture, room_format, start_track, verdict,
-    write_started_image,
+    bytes, read_by_both_clocks, read_capture, room_format, start_track, verdict, write_started_part,
 };
-pub use clock::Clock;
 pub use disk::{add_totals, decode_disk};
 pub use disk_streams::{fill, write_disk};
 pub use fault::{CaptureFault, EngineFault};

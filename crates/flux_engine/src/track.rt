@@ -11,7 +11,7 @@ use crate::room::DiskRoom;
 use crate::track_part::{PartFault, write_part};
 use flux_base::{Sink, Source};
 use sector_images::{track_id, tracks_keep_bounds};
-use sector_report::Totals;
+use sector_report::{Naming, Totals};
 
 /// Decodes the next track of a disk: reads its stream, writes its part of the image, a piece for each
 /// sector, in the order of their places there, and then its lines by the sectors' numbers, each in one
@@ -56,7 +56,14 @@ pub fn decode_track<S: Source, W: Sink, N: Sink>(
     room.failed = true;
     tracks_keep_bounds();
     let track = track_id(room.format, number);
-    match write_part(room.format, track, &room.tools.book, image, notes) {
+    match write_part(
+        Naming::Unnamed,
+        room.format,
+        track,
+        &room.tools.book,
+        image,
+        notes,
+    ) {
         Ok(totals) => {
             room.next += 1;
             room.failed = false;

@@ -6,14 +6,14 @@ ghost use Rattle.turn_merge.specs.Book.{StandsFor};
 ghost use Rattle.turn_merge.specs.Readings.{NotedReading};
 ghost use Rattle.flux_engine.specs.Recordings.{sectors_of as sectors_in};
 ghost use Rattle.flux_engine.specs.TrackParts.{PartCause, WritesPart};
-ghost use Rattle.flux_engine.specs.Tracks.{part_of};
+ghost use Rattle.flux_engine.specs.Tracks.{part_by};
 ghost use Rattle.flux_engine.specs.Writing.{IsSum, Knows};
 
 use crate::recordings::sectors_of;
 use crate::writing::{write_image, write_lines};
 use flux_base::{Sink, TrackId};
 use sector_images::{Format, tracks_keep_bounds};
-use sector_report::Totals;
+use sector_report::{Naming, Totals};
 use turn_merge::Book;
 
 /// Which sink failed as a track was written.
@@ -26,8 +26,10 @@ pub enum PartFault {
 }
 
 /// Writes what the readings of a track come to, as `decode_track` does: its part of the image, a piece for each sector,
-/// in the order of their places there, and then its lines by the sectors' numbers, each in one piece. Gives its totals.
+/// in the order of their places there, and then its lines by the sectors' numbers, each in one piece, with so much of each source
+/// named. Gives its totals.
 pub fn write_part<W: Sink, N: Sink>(
+    naming: Naming,
     format: Format,
     track: TrackId,
     book: &Book,
@@ -37,7 +39,7 @@ pub fn write_part<W: Sink, N: Sink>(
     requires track { IsTrack format track }
     requires known { Knows (sectors_in format track) book.now }
     ensures wrote { (readings : List NotedReading) → StandsFor book.now readings
-        → WritesPart (part_of format track readings) (W.written image.old) (W.written image.new) (N.written notes.old) (N.written notes.new) result }
+        → WritesPart (part_by naming format track readings) (W.written image.old) (W.written image.new) (N.written notes.old) (N.written notes.new) result }
     ensures sum { IfOk result IsSum }
     ensures few { IfOk result (λ totals. totals.sectors ≤ 100) }
     ensures cause { PartCause (W.faults image.old) (W.faults image.new) (N.faults notes.old) (N.faults notes.new) result }
@@ -49,7 +51,7 @@ pub fn write_part<W: Sink, N: Sink>(
         Ok(()) => {}
         Err(_) => return Err(PartFault::ImageFault),
     }
-    match write_lines(track, sectors_of(format, track), book, notes) {
+    match write_lines(naming, track, sectors_of(format, track), book, notes) {
         Ok(totals) => Ok(totals),
         Err(_) => Err(PartFault::NotesFault),
     }

@@ -8,14 +8,14 @@ ghost use Rattle.turn_merge.specs.Book.{StandsFor, IsKnown};
 ghost use Rattle.turn_merge.specs.Readings.{NotedReading, agreed, verdict as verdict_over};
 ghost use Rattle.turn_merge.specs.declared.verdict.Verdict.{Verdict as SectorVerdict};
 ghost use Rattle.flux_engine.specs.Recordings.{sectors_of as sectors_in};
-ghost use Rattle.flux_engine.specs.Tracks.{image_of, lines_of, totals_of, numbers};
+ghost use Rattle.flux_engine.specs.Tracks.{image_of, lines_by, totals_of, numbers};
 ghost use Rattle.flux_engine.specs.Writing.{Knows, AreFew, IsSum};
 
 use crate::recordings::sectors_of;
 use crate::sectors::Sectors;
 use flux_base::{Failed, Sink, TrackId, write_whole};
 use sector_images::{Format, image_sector};
-use sector_report::{Totals, sector_line, write_line};
+use sector_report::{Naming, Totals, named_line, write_line};
 use turn_merge::{Book, Verdict};
 
 /// The bytes of a sector that has no good verdict.
@@ -59,8 +59,9 @@ fn image_bytes<'a>(book: &'a Book, sector: u8, size: u16) -> &'a [u8]
     }
 }
 
-/// Writes the track's lines, each in one piece, and gives its totals.
+/// Writes the track's lines, which name so much of each source, each in one piece, and gives its totals.
 pub(crate) fn write_lines<N: Sink>(
+    naming: Naming,
     track: TrackId,
     sectors: Sectors,
     book: &Book,
@@ -69,10 +70,10 @@ pub(crate) fn write_lines<N: Sink>(
     requires cylinder { track.cylinder < 100 }
     requires few { AreFew sectors }
     requires known { Knows sectors book.now }
-    ensures ok { OnOk result ((readings : List NotedReading) → StandsFor book.now readings → Appends (N.written notes.old) (N.written notes.new) (lines_of track sectors readings)) }
+    ensures ok { OnOk result ((readings : List NotedReading) → StandsFor book.now readings → Appends (N.written notes.old) (N.written notes.new) (lines_by naming track sectors readings)) }
     ensures counted { IfOk result (λ totals. IsSum totals × (totals.sectors ≡ sectors.count)) }
     ensures totals { IfOk result (λ totals. (readings : List NotedReading) → StandsFor book.now readings → totals ≡ totals_of (map (verdict_over readings) (numbers sectors))) }
-    ensures err { OnErr result ((readings : List NotedReading) → StandsFor book.now readings → AppendsPart (N.written notes.old) (N.written notes.new) (lines_of track sectors readings)) }
+    ensures err { OnErr result ((readings : List NotedReading) → StandsFor book.now readings → AppendsPart (N.written notes.old) (N.written notes.new) (lines_by naming track sectors readings)) }
     ensures later { N.faults notes.old ≤ N.faults notes.new }
     ensures cause { OnErr result (Rose (N.faults notes.old) (N.faults notes.new)) }
 {
@@ -80,7 +81,7 @@ pub(crate) fn write_lines<N: Sink>(
     for index in 0..sectors.count {
         let sector = sectors.first + index;
         let verdict = book.verdict(sector);
-        let line = sector_line(track, sector, &verdict);
+        let line = named_line(naming, track, sector, &verdict);
         match write_line(notes, &line) {
             Ok(()) => count_verdict(&mut totals, verdict),
             Err(failed) => return Err(failed),

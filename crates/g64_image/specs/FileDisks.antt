@@ -11,6 +11,7 @@ use Rattle.sector_images.specs.declared.format.Format.{Format}
 use Rattle.sector_report.specs.Lines.{total_text}
 use Rattle.sector_report.specs.declared.totals.Totals.{Totals}
 use Rattle.turn_merge.specs.Readings.{NotedReading}
+use Rattle.turn_merge.specs.declared.clock.Clock.TheVariants.{Following}
 use Rattle.turn_merge.specs.declared.verdict.Place.{Place}
 use Rattle.g64_image.specs.Faults.{first_fault}
 use Rattle.g64_image.specs.Layout.{track_cells}
@@ -23,9 +24,9 @@ module _ (header : List Bool → ℕ → Type 0) (sector : List Bool → ℕ →
   AreReadingsTo from (found ∷ rest) =
       FirstReading header sector cells from (Some (found.0, found.1)) found.2 × (found.0 < end) × AreReadingsTo (found.0 + 1) rest
 
--- a place of a track that is kept as one ring: it lies in turn 0
+-- a place of a track that is kept as one ring: it lies in turn 0 of one capture, whose cells no clock had to recover
 abbrev pub ring_place : ℕ → Place
-ring_place cell = record { turn = 0; cell = cell }
+ring_place cell = record { capture = 0; clock = Following; turn = 0; cell = cell }
 
 -- the readings of all that is found on such a track
 abbrev pub ring_readings : List Found → List NotedReading

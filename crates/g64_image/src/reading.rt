@@ -19,7 +19,7 @@ use crate::track::read_ring;
 use flux_base::{Sink, Source};
 use flux_engine::{PartFault, add_totals, fill, no_totals, write_part};
 use sector_images::{Format, track_count, track_id, tracks_keep_bounds};
-use sector_report::{Totals, total_line, write_line};
+use sector_report::{Naming, Totals, total_line, write_line};
 
 /// Reads a file to its end, or to one byte more than 4194304, and then writes its tracks in order as `decode_disk` does:
 /// of each the track's part of the image to `image` and its lines to `notes`, and at last the total line. No answer is for
@@ -118,7 +118,7 @@ fn write_tracks<W: Sink, N: Sink>(
     for number in 0..track_count(format) {
         let track = track_id(format, number);
         read_ring(format, track, track_bytes(file, number), tools);
-        match write_part(format, track, &tools.book, image, notes) {
+        match write_part(Naming::Unnamed, format, track, &tools.book, image, notes) {
             Ok(more) => add_totals(&mut totals, more),
             Err(fault) => return Err(fault),
         }

@@ -15,7 +15,7 @@ use flux_base::{Memory, TrackId};
 use flux_engine::note_reading;
 use frame_law::{Recording, SectorBuffer, next_reading};
 use sector_images::Format;
-use turn_merge::{Book, Place};
+use turn_merge::{Book, Clock, Place};
 
 /// Notes all readings of a track in the book: those of a ring of the cells that are the bits of these bytes. The first
 /// cells follow the last once more, so that a sector is read whole that lies across the seam.
@@ -65,6 +65,8 @@ fn gather<R: Recording>(recording: &R, track: TrackId, cells: &Cells, end: usize
             return;
         }
         let place = Place {
+            capture: 0,
+            clock: Clock::Following,
             turn: 0,
             cell: cell as u64,
         };

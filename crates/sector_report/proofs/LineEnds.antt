@@ -9,7 +9,9 @@ use Rattle.turn_merge.specs.declared.verdict.Place.{Place}
 use Rattle.turn_merge.specs.declared.verdict.Verdict.{Verdict}
 use Rattle.turn_merge.specs.declared.verdict.Verdict.TheVariants.{Good, Contradictory, Bad, Missing}
 use Rattle.sector_report.specs.LineLaws.{SectorsHaveOneLine, TotalsHaveOneLine, line_ends}
-use Rattle.sector_report.specs.Lines.{place_text, sector_name, sector_text, total_text, two_digits, verdict_text}
+use Rattle.sector_report.specs.Lines.{named_text, number_of_clock, place_text, sector_name, source_text, total_text, two_digits, verdict_text}
+use Rattle.sector_report.specs.declared.naming.Naming.{Naming}
+use Rattle.sector_report.specs.declared.naming.Naming.TheVariants.{ByCapture, ByClock, Unnamed}
 
 -- the text has no line end
 record HasNone (text : List ℕ) : Type 0 where
@@ -61,25 +63,31 @@ unfolding sector_name
 none-name track sector =
     none-append (none-append (none-append (none-append (none-append (none-two track.cylinder) (none-codes (codes ".") refl)) (none-decimal track.head)) space) (none-two sector)) space
 
-none-place : (place : Place) → HasNone (place_text place)
-unfolding place_text
-none-place place = none-append (none-append (none-append space (none-decimal place.turn)) space) (none-decimal place.cell)
+none-source : (naming : Naming) (place : Place) → HasNone (source_text naming place)
+none-source Unnamed place = record { none = refl }
+none-source ByCapture place = none-append space (none-decimal place.capture)
+none-source ByClock place = none-append space (none-decimal (number_of_clock place.clock))
 
-none-verdict : (verdict : Verdict) → HasNone (verdict_text verdict)
+none-place : (naming : Naming) (place : Place) → HasNone (place_text naming place)
+unfolding place_text
+none-place naming place =
+    none-append (none-append (none-append (none-append (none-source naming place) space) (none-decimal place.turn)) space) (none-decimal place.cell)
+
+none-verdict : (naming : Naming) (verdict : Verdict) → HasNone (verdict_text naming verdict)
 unfolding verdict_text
-none-verdict (Good good bad first) =
-    none-append (none-append (none-append (none-append (none-codes (codes "good ") refl) (none-decimal good)) space) (none-decimal bad)) (none-place first)
-none-verdict (Contradictory good bad first other) =
-    none-append (none-append (none-append (none-append (none-append (none-codes (codes "contradictory ") refl) (none-decimal good)) space) (none-decimal bad)) (none-place first)) (none-place other)
-none-verdict (Bad bad first) = none-append (none-append (none-codes (codes "bad 0 ") refl) (none-decimal bad)) (none-place first)
-none-verdict Missing = none-codes (codes "missing 0 0") refl
+none-verdict naming (Good good bad first) =
+    none-append (none-append (none-append (none-append (none-codes (codes "good ") refl) (none-decimal good)) space) (none-decimal bad)) (none-place naming first)
+none-verdict naming (Contradictory good bad first other) =
+    none-append (none-append (none-append (none-append (none-append (none-codes (codes "contradictory ") refl) (none-decimal good)) space) (none-decimal bad)) (none-place naming first)) (none-place naming other)
+none-verdict naming (Bad bad first) = none-append (none-append (none-codes (codes "bad 0 ") refl) (none-decimal bad)) (none-place naming first)
+none-verdict naming Missing = none-codes (codes "missing 0 0") refl
 
 pub sectors_have_one_line : SectorsHaveOneLine
-unfolding sector_text
-sectors_have_one_line track sector verdict = record {
-  front = sector_name track sector ++ verdict_text verdict;
+unfolding named_text
+sectors_have_one_line naming track sector verdict = record {
+  front = sector_name track sector ++ verdict_text naming verdict;
   ends = refl;
-  once = (none-append (none-name track sector) (none-verdict verdict)).none;
+  once = (none-append (none-name track sector) (none-verdict naming verdict)).none;
 }
 
 none-number : (before : List ℕ) (text : List ℕ) (n : ℕ) → HasNone before → line_ends text ≡ 0 → HasNone ((before ++ text) ++ decimal n)

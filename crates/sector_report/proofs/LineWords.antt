@@ -10,11 +10,13 @@ use Rattle.std.proofs.lemmas.List.Elements.{All-append, All-cons, All-nil}
 use Rattle.std.proofs.lemmas.List.Splits.{slice_split_at}
 use Rattle.std.proofs.lemmas.List.Sums.{sum_by-cons}
 use Rattle.flux_base.specs.declared.track.TrackId.{TrackId}
+use Rattle.turn_merge.specs.declared.clock.Clock.{Clock}
 use Rattle.turn_merge.specs.declared.verdict.Place.{Place}
 use Rattle.turn_merge.specs.declared.verdict.Verdict.{Verdict}
 use Rattle.turn_merge.specs.declared.verdict.Verdict.TheVariants.{Good, Contradictory, Bad, Missing}
 use Rattle.sector_report.specs.LineLaws.{PlaceFits, SectorLinesTell, TotalsAreNoSectors, VerdictFits}
-use Rattle.sector_report.specs.Lines.{place_text, sector_name, sector_text, total_text, two_digits, verdict_text}
+use Rattle.sector_report.specs.Lines.{named_text, place_text, sector_name, sector_text, total_text, two_digits, verdict_text}
+use Rattle.sector_report.specs.declared.naming.Naming.TheVariants.{Unnamed}
 use Rattle.sector_report.specs.declared.totals.Totals.{Totals}
 
 -- a blank, a point or a line end
@@ -87,12 +89,12 @@ name_words track sector rest =
     ∙ ap (λ ws. c ∷ ws) (next h (s ++ 32 ∷ rest) 32 (word-decimal track.head) refl)
     ∙ ap (λ ws. c ∷ h ∷ ws) (next s rest 32 (word-two sector) refl)
 
-place_shape : (t p rest : List ℕ) → (codes " " ++ t ++ codes " " ++ p) ++ rest ≡ 32 ∷ (t ++ 32 ∷ (p ++ rest))
+place_shape : (t p rest : List ℕ) → ([] ++ codes " " ++ t ++ codes " " ++ p) ++ rest ≡ 32 ∷ (t ++ 32 ∷ (p ++ rest))
 place_shape t p rest = simp append_assoc
 
 -- a number, and the place that follows it
 number_place_words : (n : ℕ) (place : Place) (gap : ℕ) (rest : List ℕ) → is_gap gap ≡ true
-    → words (decimal n ++ (place_text place ++ gap ∷ rest)) ≡ decimal n ∷ decimal place.turn ∷ decimal place.cell ∷ words rest
+    → words (decimal n ++ (place_text Unnamed place ++ gap ∷ rest)) ≡ decimal n ∷ decimal place.turn ∷ decimal place.cell ∷ words rest
 unfolding place_text
 number_place_words n place gap rest ends =
     let t : List ℕ = decimal place.turn in
@@ -104,13 +106,13 @@ number_place_words n place gap rest ends =
 
 -- two places that follow a number
 two_places_words : (n : ℕ) (first other : Place) (rest : List ℕ)
-    → words (decimal n ++ (place_text first ++ (place_text other ++ 10 ∷ rest)))
+    → words (decimal n ++ (place_text Unnamed first ++ (place_text Unnamed other ++ 10 ∷ rest)))
     ≡ decimal n ∷ decimal first.turn ∷ decimal first.cell ∷ decimal other.turn ∷ decimal other.cell ∷ words rest
 unfolding place_text
 two_places_words n first other rest =
     let t : List ℕ = decimal other.turn in
     let p : List ℕ = decimal other.cell in
-    ap (λ more. words (decimal n ++ (place_text first ++ more))) (place_shape t p (10 ∷ rest))
+    ap (λ more. words (decimal n ++ (place_text Unnamed first ++ more))) (place_shape t p (10 ∷ rest))
     ∙ number_place_words n first 32 (t ++ 32 ∷ (p ++ 10 ∷ rest)) refl
     ∙ ap (λ ws. decimal n ∷ decimal first.turn ∷ decimal first.cell ∷ ws)
     (next t (p ++ 10 ∷ rest) 32 (word-decimal other.turn) refl ∙ ap (λ ws. t ∷ ws) (next p rest 10 (word-decimal other.cell) refl))
@@ -132,25 +134,25 @@ contradictory_shape g b first other = simp append_assoc
 bad_shape : (b place : List ℕ) → (codes "bad 0 " ++ b ++ place) ++ codes "\n" ≡ codes "bad" ++ 32 ∷ (codes "0" ++ 32 ∷ (b ++ (place ++ 10 ∷ [])))
 bad_shape b place = simp append_assoc
 
-verdict_words-are : (verdict : Verdict) → words (verdict_text verdict ++ codes "\n") ≡ verdict_words verdict
+verdict_words-are : (verdict : Verdict) → words (verdict_text Unnamed verdict ++ codes "\n") ≡ verdict_words verdict
 unfolding verdict_text
 verdict_words-are (Good good bad first) =
     let g : List ℕ = decimal good in
-    let more : List ℕ = decimal bad ++ (place_text first ++ 10 ∷ []) in
-    ap words (good_shape g (decimal bad) (place_text first))
+    let more : List ℕ = decimal bad ++ (place_text Unnamed first ++ 10 ∷ []) in
+    ap words (good_shape g (decimal bad) (place_text Unnamed first))
     ∙ next (codes "good") (g ++ 32 ∷ more) 32 (word-codes (codes "good") refl) refl
     ∙ ap (λ ws. codes "good" ∷ ws) (next g more 32 (word-decimal good) refl)
     ∙ ap (λ ws. codes "good" ∷ g ∷ ws) (number_place_words bad first 10 [] refl)
 verdict_words-are (Contradictory good bad first other) =
     let g : List ℕ = decimal good in
-    let more : List ℕ = decimal bad ++ (place_text first ++ (place_text other ++ 10 ∷ [])) in
-    ap words (contradictory_shape g (decimal bad) (place_text first) (place_text other))
+    let more : List ℕ = decimal bad ++ (place_text Unnamed first ++ (place_text Unnamed other ++ 10 ∷ [])) in
+    ap words (contradictory_shape g (decimal bad) (place_text Unnamed first) (place_text Unnamed other))
     ∙ next (codes "contradictory") (g ++ 32 ∷ more) 32 (word-codes (codes "contradictory") refl) refl
     ∙ ap (λ ws. codes "contradictory" ∷ ws) (next g more 32 (word-decimal good) refl)
     ∙ ap (λ ws. codes "contradictory" ∷ g ∷ ws) (two_places_words bad first other [])
 verdict_words-are (Bad bad first) =
-    let more : List ℕ = decimal bad ++ (place_text first ++ 10 ∷ []) in
-    ap words (bad_shape (decimal bad) (place_text first))
+    let more : List ℕ = decimal bad ++ (place_text Unnamed first ++ 10 ∷ []) in
+    ap words (bad_shape (decimal bad) (place_text Unnamed first))
     ∙ next (codes "bad") (codes "0" ++ 32 ∷ more) 32 (word-codes (codes "bad") refl) refl
     ∙ ap (λ ws. codes "bad" ∷ ws) (next (codes "0") more 32 (word-codes (codes "0") refl) refl)
     ∙ ap (λ ws. codes "bad" ∷ codes "0" ∷ ws) (number_place_words bad first 10 [] refl)
@@ -158,10 +160,10 @@ verdict_words-are Missing = refl
 
 sector_words : (track : TrackId) (sector : ℕ) (verdict : Verdict)
     → words (sector_text track sector verdict) ≡ two_digits track.cylinder ∷ decimal track.head ∷ two_digits sector ∷ verdict_words verdict
-unfolding sector_text
+unfolding named_text
 sector_words track sector verdict =
-    ap words (append_assoc (sector_name track sector) (verdict_text verdict) (codes "\n"))
-    ∙ name_words track sector (verdict_text verdict ++ codes "\n")
+    ap words (append_assoc (sector_name track sector) (verdict_text Unnamed verdict) (codes "\n"))
+    ∙ name_words track sector (verdict_text Unnamed verdict ++ codes "\n")
     ∙ ap (λ ws. two_digits track.cylinder ∷ decimal track.head ∷ two_digits sector ∷ ws) (verdict_words-are verdict)
 
 -- the words of two lines that are the same, one by one
@@ -204,8 +206,11 @@ two-same m n low low' same =
 
 place-same : (a b : Place) → PlaceFits a → PlaceFits b → decimal a.turn ≡ decimal b.turn → decimal a.cell ≡ decimal b.cell → a ≡ b
 place-same a b fits fits' turn cell =
-    let of_numbers : ℕ → ℕ → Place = λ t c. record { turn = t; cell = c } in
-    ap (λ t. of_numbers t a.cell) (decimal_injective a.turn b.turn fits.0 fits'.0 turn) ∙ ap (of_numbers b.turn) (decimal_injective a.cell b.cell fits.1 fits'.1 cell)
+    let of_numbers : ℕ → Clock → ℕ → ℕ → Place = λ q k t c. record { capture = q; clock = k; turn = t; cell = c } in
+    ap (λ q. of_numbers q a.clock a.turn a.cell) (fits.2 ∙ sym fits'.2)
+    ∙ ap (λ k. of_numbers b.capture k a.turn a.cell) (fits.3 ∙ sym fits'.3)
+    ∙ ap (λ t. of_numbers b.capture b.clock t a.cell) (decimal_injective a.turn b.turn fits.0 fits'.0 turn)
+    ∙ ap (of_numbers b.capture b.clock b.turn) (decimal_injective a.cell b.cell fits.1 fits'.1 cell)
 
 -- the names of the verdicts have different lengths
 names : (a b : List (List ℕ)) (m n : ℕ) → length (word_at a 0) ≡ m → length (word_at b 0) ≡ n → m ≢ n → a ≢ b
@@ -267,9 +272,9 @@ total_first totals = total_shape (decimal totals.sectors) (decimal totals.good) 
 
 -- a sector's line begins with a digit
 sector_first : (track : TrackId) (sector : ℕ) (verdict : Verdict) → track.cylinder < 100 → get_or (sector_text track sector verdict) 0 0 ≡ 48 + track.cylinder / 10
-unfolding sector_text sector_name
+unfolding named_text sector_name
 sector_first track sector verdict low =
-    sector_shape (two_digits track.cylinder) (48 + track.cylinder / 10) (48 + track.cylinder % 10) (decimal track.head) (two_digits sector) (verdict_text verdict) (two-is track.cylinder low)
+    sector_shape (two_digits track.cylinder) (48 + track.cylinder / 10) (48 + track.cylinder % 10) (decimal track.head) (two_digits sector) (verdict_text Unnamed verdict) (two-is track.cylinder low)
   where
     sector_shape : (two : List ℕ) (a b : ℕ) (h s v : List ℕ) → two ≡ a ∷ b ∷ []
         → get_or ((two ++ codes "." ++ h ++ codes " " ++ s ++ codes " ") ++ v ++ codes "\n") 0 0 ≡ a

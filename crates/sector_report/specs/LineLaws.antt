@@ -1,10 +1,12 @@
 -- A sector's line and the total line as lines of a text, and what a sector's line tells.
 use Rattle.std.specs.Prelude.{◌≡◌, ◌≢◌, ◌==◌, ◌<◌, ◌^◌, ℕ, ◌++◌, List, [], ◌∷◌, count_by}
 use Rattle.flux_base.specs.declared.track.TrackId.{TrackId}
+use Rattle.turn_merge.specs.declared.clock.Clock.TheVariants.{Following}
 use Rattle.turn_merge.specs.declared.verdict.Place.{Place}
 use Rattle.turn_merge.specs.declared.verdict.Verdict.{Verdict}
 use Rattle.turn_merge.specs.declared.verdict.Verdict.TheVariants.{Good, Contradictory, Bad, Missing}
-use Rattle.sector_report.specs.Lines.{sector_text, total_text}
+use Rattle.sector_report.specs.Lines.{named_text, sector_text, total_text}
+use Rattle.sector_report.specs.declared.naming.Naming.{Naming}
 use Rattle.sector_report.specs.declared.totals.Totals.{Totals}
 
 -- how many line ends, bytes 0A, a text has
@@ -17,17 +19,18 @@ pub record IsOneLine (text : List ℕ) : Type 0 where
   pub ends : text ≡ front ++ 10 ∷ []
   pub once : line_ends front ≡ 0
 
--- each sector has one line, whatever its verdict
+-- each sector has one line, whatever its verdict, and whatever is named of the sources
 abbrev pub SectorsHaveOneLine : Type 0
-SectorsHaveOneLine = (track : TrackId) (sector : ℕ) (verdict : Verdict) → IsOneLine (sector_text track sector verdict)
+SectorsHaveOneLine = (naming : Naming) (track : TrackId) (sector : ℕ) (verdict : Verdict) → IsOneLine (named_text naming track sector verdict)
 
 -- so has the total line
 abbrev pub TotalsHaveOneLine : Type 0
 TotalsHaveOneLine = (totals : Totals) → IsOneLine (total_text totals)
 
--- the numbers of a place and of a verdict fit in 64 bits
+-- The numbers of a place and of a verdict fit in 64 bits, and the place's source, which such a line does not name, is the one
+-- stream of a track, read by the clock that follows the drive.
 abbrev pub PlaceFits : Place → Type 0
-PlaceFits place = (place.turn < 2 ^ 64) × (place.cell < 2 ^ 64)
+PlaceFits place = (place.turn < 2 ^ 64) × (place.cell < 2 ^ 64) × (place.capture ≡ 0) × (place.clock ≡ Following)
 
 abbrev pub VerdictFits : Verdict → Type 0
 VerdictFits (Good good bad first) = (good < 2 ^ 64) × (bad < 2 ^ 64) × PlaceFits first
@@ -35,7 +38,7 @@ VerdictFits (Contradictory good bad first other) = (good < 2 ^ 64) × (bad < 2 ^
 VerdictFits (Bad bad first) = (bad < 2 ^ 64) × PlaceFits first
 VerdictFits Missing = Unit {0}
 
--- the cylinder has two digits at most, and all other numbers of a sector's line fit in 64 bits
+-- the cylinder has two digits at most, all other numbers of a sector's line fit in 64 bits, and no source wants a name
 pub record LineFits (track : TrackId) (sector : ℕ) (verdict : Verdict) : Type 0 where
   pub cylinder_fits : track.cylinder < 100
   pub head_fits : track.head < 2 ^ 64

@@ -1,13 +1,17 @@
 -- The bytes of each line.
-use Rattle.std.specs.Prelude.{ℕ, List, ◌/◌, ◌%◌, ◌++◌, codes, decimal}
+use Rattle.std.specs.Prelude.{ℕ, List, [], ◌/◌, ◌%◌, ◌++◌, codes, decimal}
 use Rattle.flux_base.specs.declared.track.TrackId.{TrackId}
 use Rattle.kryo_stream.specs.declared.fault.StreamFault.{StreamFault}
 use Rattle.kryo_stream.specs.declared.fault.StreamFault.TheVariants.{Truncated, UnknownType, BadSize, WrongPosition, DeviceFault, DataAfterEnd, IndexPosition, IndexOrder, NoTurn, TooLong}
 use Rattle.sector_images.specs.Formats.{row}
 use Rattle.sector_images.specs.declared.format.Format.{Format}
+use Rattle.turn_merge.specs.declared.clock.Clock.{Clock}
+use Rattle.turn_merge.specs.declared.clock.Clock.TheVariants.{Following, Held}
 use Rattle.turn_merge.specs.declared.verdict.Place.{Place}
 use Rattle.turn_merge.specs.declared.verdict.Verdict.{Verdict}
 use Rattle.turn_merge.specs.declared.verdict.Verdict.TheVariants.{Good, Contradictory, Bad, Missing}
+use Rattle.sector_report.specs.declared.naming.Naming.{Naming}
+use Rattle.sector_report.specs.declared.naming.Naming.TheVariants.{ByCapture, ByClock, Unnamed}
 use Rattle.sector_report.specs.declared.totals.Totals.{Totals}
 
 unfoldable pub usage_text : List ℕ
@@ -36,6 +40,12 @@ unfoldable pub refused_text : ℕ → ℕ → StreamFault → List ℕ
 refused_text track block fault =
     codes "refused track " ++ decimal track ++ codes " block " ++ decimal block ++ codes " " ++ fault_text fault ++ codes "\n"
 
+-- the same of one of several captures of the track
+unfoldable pub refused_capture_text : (track capture block : ℕ) → StreamFault → List ℕ
+refused_capture_text track capture block fault =
+    codes "refused track " ++ decimal track ++ codes " capture " ++ decimal capture ++ codes " block " ++ decimal block
+    ++ codes " " ++ fault_text fault ++ codes "\n"
+
 -- how many bytes of an image were read, and how many were wanted
 unfoldable pub image_text : ℕ → ℕ → List ℕ
 image_text read wanted = codes "refused image " ++ decimal read ++ codes " wanted " ++ decimal wanted ++ codes "\n"
@@ -49,20 +59,36 @@ unfoldable pub sector_name : TrackId → ℕ → List ℕ
 sector_name track sector =
     two_digits track.cylinder ++ codes "." ++ decimal track.head ++ codes " " ++ two_digits sector ++ codes " "
 
--- a turn and a cell
-unfoldable pub place_text : Place → List ℕ
-place_text place = codes " " ++ decimal place.turn ++ codes " " ++ decimal place.cell
+-- the number by which a clock is named
+abbrev pub number_of_clock : Clock → ℕ
+number_of_clock Following = 0
+number_of_clock Held = 1
+
+-- the number of a place's source that a line names, where it names one
+abbrev pub source_text : Naming → Place → List ℕ
+source_text Unnamed place = []
+source_text ByCapture place = codes " " ++ decimal place.capture
+source_text ByClock place = codes " " ++ decimal (number_of_clock place.clock)
+
+-- what is named of the source, a turn and a cell
+unfoldable pub place_text : Naming → Place → List ℕ
+place_text naming place = source_text naming place ++ codes " " ++ decimal place.turn ++ codes " " ++ decimal place.cell
 
 -- a verdict: its name, the numbers of good and of bad readings, and where they stand
-unfoldable pub verdict_text : Verdict → List ℕ
-verdict_text (Good good bad first) = codes "good " ++ decimal good ++ codes " " ++ decimal bad ++ place_text first
-verdict_text (Contradictory good bad first other) =
-    codes "contradictory " ++ decimal good ++ codes " " ++ decimal bad ++ place_text first ++ place_text other
-verdict_text (Bad bad first) = codes "bad 0 " ++ decimal bad ++ place_text first
-verdict_text Missing = codes "missing 0 0"
+unfoldable pub verdict_text : Naming → Verdict → List ℕ
+verdict_text naming (Good good bad first) = codes "good " ++ decimal good ++ codes " " ++ decimal bad ++ place_text naming first
+verdict_text naming (Contradictory good bad first other) =
+    codes "contradictory " ++ decimal good ++ codes " " ++ decimal bad ++ place_text naming first ++ place_text naming other
+verdict_text naming (Bad bad first) = codes "bad 0 " ++ decimal bad ++ place_text naming first
+verdict_text naming Missing = codes "missing 0 0"
 
-unfoldable pub sector_text : TrackId → ℕ → Verdict → List ℕ
-sector_text track sector verdict = sector_name track sector ++ verdict_text verdict ++ codes "\n"
+-- a sector's line, in which that part of each place's source is named
+unfoldable pub named_text : Naming → TrackId → ℕ → Verdict → List ℕ
+named_text naming track sector verdict = sector_name track sector ++ verdict_text naming verdict ++ codes "\n"
+
+-- that of a track with one stream that one clock read: no source is named
+abbrev pub sector_text : TrackId → ℕ → Verdict → List ℕ
+sector_text track sector verdict = named_text Unnamed track sector verdict
 
 unfoldable pub total_text : Totals → List ℕ
 total_text totals =

@@ -3,6 +3,7 @@
 
 mod laws;
 mod line;
+mod naming;
 mod refused;
 mod sector_lines;
 mod stream_lines;
@@ -12,8 +13,9 @@ mod usage;
 
 pub use laws::{sector_lines_tell, sectors_have_one_line, totals_have_one_line};
 pub use line::{Line, put, put_named, put_u32, write_line};
-pub use refused::{image_line, put_fault, refused_line};
-pub use sector_lines::{put_counts, put_sector, put_two_digits, sector_line, total_line};
+pub use naming::Naming;
+pub use refused::{image_line, put_fault, refused_capture_line, refused_line};
+pub use sector_lines::{named_line, put_two_digits, sector_line, total_line};
 pub use stream_lines::{transitions_line, turn_line};
 pub use totals::Totals;
 pub use trial_lines::trial_line;

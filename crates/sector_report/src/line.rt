@@ -34,6 +34,15 @@ pub fn put_u32(line: &mut Line, number: u32)
     line.push_str(Buffer::new().format(number));
 }
 
+/// Appends a number, which has at most three digits.
+pub fn put_u8(line: &mut Line, number: u8)
+    requires { array_string_len line.old + 3 ≤ 192 }
+    ensures bytes { line.new.bytes ≡ line.old.bytes ++ decimal number }
+    ensures len { array_string_len line.new ≤ array_string_len line.old + 3 }
+{
+    line.push_str(Buffer::new().format(number));
+}
+
 /// Appends a number, which has at most twenty digits.
 pub fn put_u64(line: &mut Line, number: u64)
     requires { array_string_len line.old + 20 ≤ 192 }

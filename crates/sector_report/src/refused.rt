@@ -1,6 +1,6 @@
 ghost use Rattle.std.specs.Prelude.{◌≡◌, ◌+◌, ◌≤◌, ◌++◌};
 ghost use Rattle.arrayvec.specs.ArrayString.{array_string_len};
-ghost use Rattle.sector_report.specs.Lines.{fault_text, image_text, refused_text};
+ghost use Rattle.sector_report.specs.Lines.{fault_text, image_text, refused_capture_text, refused_text};
 
 use crate::line::{Line, put, put_named, put_u32};
 use kryo_stream::StreamFault;
@@ -16,6 +16,21 @@ pub fn refused_line(track: u32, block: u32, fault: &StreamFault) -> Line
     put_u32(&mut line, track);
     put(&mut line, " block ");
     put_u32(&mut line, block);
+    put(&mut line, " ");
+    put_fault(&mut line, fault);
+    put(&mut line, "\n");
+    line
+}
+
+/// The same where several streams capture a track: with the capture's number from 0 among the streams of the track.
+#[tactic(auto, unfolding(crate::specs::Lines::refused_capture_text))]
+pub fn refused_capture_line(track: u32, capture: u32, block: u32, fault: &StreamFault) -> Line
+    ensures { result.bytes ≡ refused_capture_text track capture block fault.now }
+{
+    let mut line = Line::new();
+    put_named(&mut line, "refused track ", track);
+    put_named(&mut line, " capture ", capture);
+    put_named(&mut line, " block ", block);
     put(&mut line, " ");
     put_fault(&mut line, fault);
     put(&mut line, "\n");

@@ -1,22 +1,32 @@
 ghost use Rattle.std.specs.Prelude.{◌≡◌, ◌+◌, ◌≤◌, ◌<◌, ◌++◌, length, codes, decimal};
 ghost use Rattle.arrayvec.specs.ArrayString.{array_string_len};
-ghost use Rattle.sector_report.specs.Lines.{two_digits, sector_name, place_text, verdict_text, sector_text, total_text};
+ghost use Rattle.sector_report.specs.Lines.{named_text, number_of_clock, place_text, sector_name, sector_text, source_text, total_text, two_digits, verdict_text};
 
-use crate::line::{Line, put, put_named, put_u32, put_u64};
+use crate::line::{Line, put, put_named, put_u8, put_u32, put_u64};
+use crate::naming::Naming;
 use crate::totals::Totals;
 use flux_base::TrackId;
-use turn_merge::{Place, Verdict};
+use turn_merge::{Clock, Place, Verdict};
 
-/// What is said of one sector: `CC.H SS` and the verdict, with the numbers of good and of bad readings and
-/// the turn and cell of the readings that it names. The cylinder is below 100; a sector of three digits has three.
-#[tactic(auto, unfolding(crate::specs::Lines::sector_text))]
+/// What is said of one sector of a track with one stream that one clock read: `CC.H SS` and the verdict, with the numbers
+/// of good and of bad readings and the turn and cell of the readings that it names. The cylinder is below 100; a sector of
+/// three digits has three.
 pub fn sector_line(track: TrackId, sector: u8, verdict: &Verdict) -> Line
     requires { track.cylinder < 100 }
     ensures { result.bytes ≡ sector_text track sector verdict.now }
 {
+    named_line(Naming::Unnamed, track, sector, verdict)
+}
+
+/// The same, with a part of the source of each reading that is named before its turn and cell.
+#[tactic(auto, unfolding(crate::specs::Lines::named_text))]
+pub fn named_line(naming: Naming, track: TrackId, sector: u8, verdict: &Verdict) -> Line
+    requires { track.cylinder < 100 }
+    ensures { result.bytes ≡ named_text naming track sector verdict.now }
+{
     let mut line = Line::new();
     put_sector(&mut line, track, sector);
-    put_verdict(&mut line, verdict);
+    put_verdict(&mut line, naming, verdict);
     put(&mut line, "\n");
     line
 }
@@ -38,7 +48,7 @@ pub fn total_line(totals: &Totals) -> Line
 
 /// Appends `CC.H SS ` for a sector of a track, which may have three digits.
 #[tactic(auto, unfolding(crate::specs::Lines::sector_name))]
-pub fn put_sector(line: &mut Line, track: TrackId, sector: u8)
+fn put_sector(line: &mut Line, track: TrackId, sector: u8)
     requires cylinder { track.cylinder < 100 }
     requires room { array_string_len line.old + 63 ≤ 192 }
     ensures bytes { line.new.bytes ≡ line.old.bytes ++ sector_name track sector }
@@ -65,15 +75,15 @@ pub fn put_two_digits(line: &mut Line, number: u8)
 
 /// Appends a verdict's name and numbers.
 #[tactic(auto, unfolding(crate::specs::Lines::verdict_text))]
-fn put_verdict(line: &mut Line, verdict: &Verdict)
-    requires { array_string_len line.old + 120 ≤ 192 }
-    ensures bytes { line.new.bytes ≡ line.old.bytes ++ verdict_text verdict.now }
-    ensures len { array_string_len line.new ≤ array_string_len line.old + 120 }
+fn put_verdict(line: &mut Line, naming: Naming, verdict: &Verdict)
+    requires { array_string_len line.old + 127 ≤ 192 }
+    ensures bytes { line.new.bytes ≡ line.old.bytes ++ verdict_text naming verdict.now }
+    ensures len { array_string_len line.new ≤ array_string_len line.old + 127 }
 {
     match *verdict {
         Verdict::Good { good, bad, first } => {
             put_counts(line, "good ", good, bad);
-            put_place(line, first);
+            put_place(line, naming, first);
         }
         Verdict::Contradictory {
             good,
@@ -82,35 +92,68 @@ fn put_verdict(line: &mut Line, verdict: &Verdict)
             other,
         } => {
             put_counts(line, "contradictory ", good, bad);
-            put_place(line, first);
-            put_place(line, other);
+            put_place(line, naming, first);
+            put_place(line, naming, other);
         }
         Verdict::Bad { bad, first } => {
-            put_named(line, "bad 0 ", bad);
-            put_place(line, first);
+            put(line, "bad 0 ");
+            put_u64(line, bad);
+            put_place(line, naming, first);
         }
         Verdict::Missing => put(line, "missing 0 0"),
     }
 }
 
 /// Appends a verdict's name and the numbers of good and of bad readings.
-pub fn put_counts(line: &mut Line, name: &str, good: u32, bad: u32)
-    requires { array_string_len line.old + length name.now + 21 ≤ 192 }
+fn put_counts(line: &mut Line, name: &str, good: u64, bad: u64)
+    requires { array_string_len line.old + length name.now + 41 ≤ 192 }
     ensures bytes { line.new.bytes ≡ line.old.bytes ++ (name.now ++ decimal good ++ codes " " ++ decimal bad) }
-    ensures len { array_string_len line.new ≤ array_string_len line.old + length name.now + 21 }
+    ensures len { array_string_len line.new ≤ array_string_len line.old + length name.now + 41 }
 {
-    put_named(line, name, good);
-    put_named(line, " ", bad);
+    put(line, name);
+    put_u64(line, good);
+    put(line, " ");
+    put_u64(line, bad);
 }
 
-/// Appends the turn and the cell of a place.
+/// Appends what is named of a place's source, and its turn and cell.
 #[tactic(auto, unfolding(crate::specs::Lines::place_text))]
-fn put_place(line: &mut Line, place: Place)
-    requires { array_string_len line.old + 32 ≤ 192 }
-    ensures bytes { line.new.bytes ≡ line.old.bytes ++ place_text place }
-    ensures len { array_string_len line.new ≤ array_string_len line.old + 32 }
+fn put_place(line: &mut Line, naming: Naming, place: Place)
+    requires { array_string_len line.old + 36 ≤ 192 }
+    ensures bytes { line.new.bytes ≡ line.old.bytes ++ place_text naming place }
+    ensures len { array_string_len line.new ≤ array_string_len line.old + 36 }
 {
+    put_source(line, naming, place);
     put_named(line, " ", place.turn);
     put(line, " ");
     put_u64(line, place.cell);
+}
+
+/// Appends the number of a place's source that is named, with a blank before it.
+fn put_source(line: &mut Line, naming: Naming, place: Place)
+    requires { array_string_len line.old + 4 ≤ 192 }
+    ensures bytes { line.new.bytes ≡ line.old.bytes ++ source_text naming place }
+    ensures len { array_string_len line.new ≤ array_string_len line.old + 4 }
+{
+    match naming {
+        Naming::Unnamed => {}
+        Naming::ByCapture => {
+            put(line, " ");
+            put_u8(line, place.capture);
+        }
+        Naming::ByClock => {
+            put(line, " ");
+            put_u8(line, clock_number(place.clock));
+        }
+    }
+}
+
+/// The number by which a clock is named.
+fn clock_number(clock: Clock) -> u8
+    ensures { result ≡ number_of_clock clock }
+{
+    match clock {
+        Clock::Following => 0,
+        Clock::Held => 1,
+    }
 }

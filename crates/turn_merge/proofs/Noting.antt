@@ -6,7 +6,7 @@ use Rattle.turn_merge.specs.declared.verdict.Place.{Place}
 use Rattle.turn_merge.specs.declared.verdict.Verdict.{Verdict}
 use Rattle.turn_merge.specs.declared.verdict.Verdict.TheVariants.{Good, Contradictory, Bad, Missing}
 use Rattle.turn_merge.specs.Readings.{NotedReading, good_reading, bad_reading, good_ones, bad_ones, verdict, agreed}
-use Rattle.turn_merge.specs.Book.{Knowledge, IsKnown, StandsFor, HasShape, part, IsOf, counted, kept, Found}
+use Rattle.turn_merge.specs.Book.{Knowledge, IsKnown, StandsFor, HasShape, MOST_NOTES, part, IsOf, counted, kept, Found}
 use Rattle.turn_merge.proofs.Knowing.{book_of, known_below, found_at_is, length-found, stands_from, stands_more, good_ones-good, bad_ones-good, good_ones-bad, bad_ones-bad}
 
 -- the index of a known sector
@@ -28,7 +28,7 @@ pub read_is : (vs : List Verdict) (i : ℕ) (v : Verdict) → v ≡ get_or vs i 
 read_is vs i v e below = e ∙ get_or_default vs i v Missing below
 
 pub few_counted : (vs : List Verdict) (i notes : ℕ) (v : Verdict) → v ≡ get_or vs i Missing
-    → ((k : ℕ) → counted (get_or vs k Missing) ≤ notes) → notes < 2 ^ 31 → counted v + 1 < 2 ^ 32
+    → ((k : ℕ) → counted (get_or vs k Missing) ≤ notes) → notes < MOST_NOTES → counted v + 1 < 2 ^ 64
 few_counted vs i notes v e counts few = let h : counted v ≤ notes = rw e (counts i) in omega arith
 
 pub noted_bad : (first n size notes : ℕ) (vs : List Verdict) (bs : List ℕ) (s i : ℕ) (place : Place) (v v' : Verdict) (readings : List NotedReading)

@@ -1,5 +1,5 @@
 -- What a book knows of the readings that were noted in it.
-use Rattle.std.specs.Prelude.{◌≡◌, ℕ, ◌+◌, ◌-◌, ◌*◌, ◌<◌, ◌≤◌, List, [], ◌∷◌, ◌++◌, length, slice_index_or, take, drop, map, Option, Some, None}
+use Rattle.std.specs.Prelude.{◌≡◌, ℕ, ◌+◌, ◌-◌, ◌*◌, ◌^◌, ◌<◌, ◌≤◌, List, [], ◌∷◌, ◌++◌, length, slice_index_or, take, drop, map, Option, Some, None}
 use Rattle.std.specs.List.{range_with_len}
 use Rattle.turn_merge.specs.declared.verdict.Verdict.{Verdict}
 use Rattle.turn_merge.specs.declared.verdict.Verdict.TheVariants.{Good, Contradictory, Bad, Missing}
@@ -18,6 +18,11 @@ pub record Knowledge : Type 0 where
   pub size : ℕ
   pub notes : ℕ
   pub found : List Found
+
+-- The most readings that a book may have when one more is noted: more than any streams of a track can give, and few enough for
+-- every count of them.
+abbrev pub MOST_NOTES : ℕ
+MOST_NOTES = 2 ^ 62
 
 -- the book knows of a sector of this number
 abbrev pub IsKnown : Knowledge → ℕ → Type 0

@@ -1,7 +1,7 @@
-ghost use Rattle.std.specs.Prelude.{◌≡◌, ◌+◌, ◌^◌, ◌<◌, ◌≤◌, List, [], length, IfOk};
+ghost use Rattle.std.specs.Prelude.{◌≡◌, ◌+◌, ◌<◌, ◌≤◌, List, [], length, IfOk};
 ghost use Rattle.std.specs.Option.{option_copied};
 ghost use Rattle.turn_merge.specs.Readings.{NotedReading, good_reading, bad_reading, verdict as verdict_over, agreed};
-ghost use Rattle.turn_merge.specs.Book.{IsKnown, StandsFor, AppendsReading, HasShape, SameShape};
+ghost use Rattle.turn_merge.specs.Book.{IsKnown, StandsFor, AppendsReading, HasShape, SameShape, MOST_NOTES};
 
 use crate::fold::{part_of, with_bad, with_good_at};
 use crate::verdict::{Place, Verdict};
@@ -18,7 +18,7 @@ pub struct Book {
     sectors: u8,
     size: u16,
     /// Readings noted since `new` or the last `clear`.
-    notes: u32,
+    notes: u64,
     verdicts: Vec<Verdict>,
     /// `size` bytes for each sector: those of its first good reading, once there is one.
     bytes: Vec<u8>,
@@ -75,7 +75,7 @@ impl Book {
     pub fn note_good(&mut self, sector: u8, place: Place, bytes: &[u8])
         requires known { IsKnown self.old sector }
         requires whole { length bytes.now ≡ self.old.size }
-        requires few { self.old.notes < 2 ^ 31 }
+        requires few { self.old.notes < MOST_NOTES }
         ensures shape { SameShape self.old self.new }
         ensures count { self.new.notes ≡ self.old.notes + 1 }
         ensures noted { AppendsReading self.old self.new (good_reading sector place bytes.now) }
@@ -89,7 +89,7 @@ impl Book {
     /// Notes a reading of which only the header stands.
     pub fn note_bad(&mut self, sector: u8, place: Place)
         requires known { IsKnown self.old sector }
-        requires few { self.old.notes < 2 ^ 31 }
+        requires few { self.old.notes < MOST_NOTES }
         ensures shape { SameShape self.old self.new }
         ensures count { self.new.notes ≡ self.old.notes + 1 }
         ensures noted { AppendsReading self.old self.new (bad_reading sector place) }

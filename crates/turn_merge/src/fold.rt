@@ -16,7 +16,7 @@ pub(crate) fn part_of(held: &[u8], index: usize, size: usize) -> &[u8]
 
 /// The verdict with one more good reading. `held` are the first good reading's bytes, once there is one.
 pub(crate) fn with_good(verdict: Verdict, held: &mut [u8], place: Place, bytes: &[u8]) -> Verdict
-    requires room { counted verdict + 1 < 2 ^ 32 }
+    requires room { counted verdict + 1 < 2 ^ 64 }
     requires whole { length held.old ≡ length bytes.now }
     ensures count { counted result ≡ counted verdict + 1 }
     ensures stands { (good bad : List NotedReading) (sector : ℕ) → IsOf verdict held.old good bad
@@ -60,7 +60,7 @@ pub(crate) fn with_good(verdict: Verdict, held: &mut [u8], place: Place, bytes: 
 }
 
 /// The verdict with the first good reading, whose bytes are kept, after `bad` bad ones.
-fn first_good(bad: u32, held: &mut [u8], place: Place, bytes: &[u8]) -> Verdict
+fn first_good(bad: u64, held: &mut [u8], place: Place, bytes: &[u8]) -> Verdict
     requires { length held.old ≡ length bytes.now }
     ensures verdict { result ≡ Verdict.Good 1 bad place }
     ensures held { held.new ≡ bytes.now }
@@ -81,7 +81,7 @@ pub(crate) fn with_good_at(
     place: Place,
     bytes: &[u8],
 ) -> Verdict
-    requires room { counted verdict + 1 < 2 ^ 32 }
+    requires room { counted verdict + 1 < 2 ^ 64 }
     requires within { index * length bytes.now + length bytes.now ≤ length held.old }
     ensures count { counted result ≡ counted verdict + 1 }
     ensures stands { (good bad : List NotedReading) (sector : ℕ)
@@ -97,7 +97,7 @@ pub(crate) fn with_good_at(
 
 /// The verdict with one more bad reading.
 pub(crate) fn with_bad(verdict: Verdict, place: Place) -> Verdict
-    requires { counted verdict + 1 < 2 ^ 32 }
+    requires { counted verdict + 1 < 2 ^ 64 }
     ensures count { counted result ≡ counted verdict + 1 }
     ensures stands { (good bad : List NotedReading) (sector : ℕ) (held : List ℕ) → IsOf verdict held good bad
         → IsOf result held good (bad ++ bad_reading sector place ∷ []) }

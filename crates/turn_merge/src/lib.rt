@@ -3,8 +3,10 @@
 #![tactic(auto)]
 
 mod book;
+mod clock;
 mod fold;
 mod verdict;
 
 pub use book::Book;
+pub use clock::Clock;
 pub use verdict::{Place, Verdict};

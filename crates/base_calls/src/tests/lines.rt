@@ -7,7 +7,7 @@ use sector_report::{
     turn_line, usage_line,
 };
 use track_shelf::{file_name, missing_line};
-use turn_merge::{Place, Verdict};
+use turn_merge::{Clock, Place, Verdict};
 
 #[test]
 fn lines_of_a_stream(rt: HostRuntime) {
@@ -99,11 +99,23 @@ fn names_of_files(rt: HostRuntime) {
     );
 }
 
-const FIRST: Place = Place { turn: 1, cell: 10 };
+const FIRST: Place = Place {
+    capture: 0,
+    clock: Clock::Following,
+    turn: 1,
+    cell: 10,
+};
 
-const OTHER: Place = Place { turn: 3, cell: 30 };
+const OTHER: Place = Place {
+    capture: 0,
+    clock: Clock::Following,
+    turn: 3,
+    cell: 30,
+};
 
 const LAST: Place = Place {
+    capture: 0,
+    clock: Clock::Following,
     turn: u32::MAX,
     cell: u64::MAX,
 };
@@ -149,12 +161,12 @@ const SECTORS: [(u8, u8, u8, Verdict, &str); 5] = [
         255,
         255,
         Verdict::Contradictory {
-            good: u32::MAX,
-            bad: u32::MAX,
+            good: u64::MAX,
+            bad: u64::MAX,
             first: LAST,
             other: LAST,
         },
-        "99.255 255 contradictory 4294967295 4294967295 4294967295 18446744073709551615 4294967295 18446744073709551615\n",
+        "99.255 255 contradictory 18446744073709551615 18446744073709551615 4294967295 18446744073709551615 4294967295 18446744073709551615\n",
     ),
 ];
 

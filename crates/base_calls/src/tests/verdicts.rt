@@ -1,11 +1,21 @@
 //! Verdicts of sectors, as their readings come.
 use std::test::Fail;
-use turn_merge::{Book, Place, Verdict};
+use turn_merge::{Book, Clock, Place, Verdict};
 
-const FIRST: Place = Place { turn: 1, cell: 10 };
+const FIRST: Place = Place {
+    capture: 0,
+    clock: Clock::Following,
+    turn: 1,
+    cell: 10,
+};
 
 fn place(turn: u32, cell: u64) -> Place {
-    Place { turn, cell }
+    Place {
+        capture: 0,
+        clock: Clock::Following,
+        turn,
+        cell,
+    }
 }
 
 #[test]

@@ -7,9 +7,10 @@ use Rattle.frame_law.specs.Readings.{AreReadings}
 use Rattle.frame_law.specs.declared.reading.Reading.TheVariants.{Nothing, Bad as BadFrame, Good as GoodFrame}
 use Rattle.frame_law.specs.declared.reading.Reading.{Reading as Frame}
 use Rattle.turn_merge.specs.Readings.{NotedReading, bad_reading, good_reading}
+use Rattle.turn_merge.specs.declared.clock.Clock.{Clock}
 use Rattle.turn_merge.specs.declared.verdict.Place.{Place}
 use Rattle.decoded_rings.specs.Verdicts.{AreReadingsOf}
-use Rattle.flux_engine.specs.Tracks.{Found, place_at, readings_at, readings_of}
+use Rattle.flux_engine.specs.Tracks.{Found, place_in, readings_at, readings_in}
 
 contains_first : {X : Type 0} (x : X) (xs : List X) → Contains (x ∷ xs) x
 contains_first x xs = (0, omega arith, refl)
@@ -72,19 +73,19 @@ of_frame place (GoodFrame s) bytes data_of r has some =
     one_some xs ys same = cc
 
 module _ (header : List Bool → ℕ → Type 0) (sector : List Bool → ℕ → List ℕ → Type 0) (all : ReadingsAreAll header sector)
-    (times indexes : List ℕ) (cells : List Bool) (found : List Found) (reads : AreReadings header sector cells 0 found) where
+    (capture : ℕ) (clock : Clock) (times indexes : List ℕ) (cells : List Bool) (found : List Found) (reads : AreReadings header sector cells 0 found) where
   abbrev of_found : Found → List NotedReading
-  of_found f = readings_at (place_at times indexes cells f.0) f.1 f.2
+  of_found f = readings_at (place_in capture clock times indexes cells f.0) f.1 f.2
 
   each : AreAllFrom header sector cells 0 found
   each = (all cells 0 found).0 reads
 
-  stand : (r : NotedReading) (bytes : List ℕ) → Contains (readings_of times indexes cells found) r → r.bytes ≡ Some bytes
+  stand : (r : NotedReading) (bytes : List ℕ) → Contains (readings_in capture clock times indexes cells found) r → r.bytes ≡ Some bytes
       → sector (drop r.place.cell cells) r.sector bytes
   stand r bytes has some =
       let f = from_flat of_found found r has in
       let place : ℕ = (f.0).0 in
-      let is = of_frame (place_at times indexes cells place) (f.0).1 (f.0).2 bytes r f.2 some in
+      let is = of_frame (place_in capture clock times indexes cells place) (f.0).1 (f.0).2 bytes r f.2 some in
       let there : Contains found (let g : Found = (place, GoodFrame r.sector, bytes) in g) =
       subst (Contains found)
       (ap (λ (frame : Frame). let g : Found = (place, frame, (f.0).2) in g) is.frame_is
@@ -93,11 +94,11 @@ module _ (header : List Bool → ℕ → Type 0) (sector : List Bool → ℕ →
       subst (λ (p : Place). sector (drop p.cell cells) r.sector bytes) (sym is.place_is) here
 
   noted : (place s : ℕ) (bytes : List ℕ) → sector (drop place cells) s bytes
-      → (r : NotedReading) × Contains (readings_of times indexes cells found) r × (r.sector ≡ s) × (r.bytes ≡ Some bytes)
+      → (r : NotedReading) × Contains (readings_in capture clock times indexes cells found) r × (r.sector ≡ s) × (r.bytes ≡ Some bytes)
   noted place s bytes here =
       let there = (each.good place s bytes (omega arith)).1 here in
-      let r : NotedReading = good_reading s (place_at times indexes cells place) bytes in
+      let r : NotedReading = good_reading s (place_in capture clock times indexes cells place) bytes in
       (r, to_flat of_found found (place, GoodFrame s, bytes) r there (contains_first r []), refl, refl)
 
-  pub are_readings_of : AreReadingsOf sector cells (readings_of times indexes cells found)
+  pub are_readings_of : AreReadingsOf sector cells (readings_in capture clock times indexes cells found)
   are_readings_of = record { stand = stand; all = noted }

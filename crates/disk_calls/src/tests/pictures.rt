@@ -9,7 +9,7 @@ use std::alloc::Global;
 use std::process::Abort;
 use std::str;
 use std::test::Fail;
-use turn_merge::{Place, Verdict};
+use turn_merge::{Clock, Place, Verdict};
 
 const TRACK: TrackId = TrackId {
     cylinder: 3,
@@ -17,6 +17,8 @@ const TRACK: TrackId = TrackId {
 };
 
 const FIRST: Place = Place {
+    capture: 0,
+    clock: Clock::Following,
     turn: 1,
     cell: 27527,
 };

@@ -12,9 +12,10 @@ use Rattle.frame_law.specs.declared.reading.Reading.TheVariants.{Nothing, Bad as
 use Rattle.frame_law.specs.Laws.{ReadingsAreAll, SectorsAreTold}
 use Rattle.frame_law.specs.Readings.{AreReadings}
 use Rattle.turn_merge.specs.Readings.{NotedReading, good_ones, bad_ones, bytes_of, first_other, verdict_with, verdict_of, agreed_of, verdict, agreed}
+use Rattle.turn_merge.specs.declared.clock.Clock.{Clock}
 use Rattle.turn_merge.specs.declared.verdict.Place.{Place}
 use Rattle.turn_merge.specs.declared.verdict.Verdict.TheVariants.{Good}
-use Rattle.flux_engine.specs.Tracks.{Found, place_at, readings_at, readings_of, image_bytes}
+use Rattle.flux_engine.specs.Tracks.{Found, place_in, readings_at, readings_in, image_bytes}
 use Rattle.flux_engine.specs.declared.sectors.Sectors.{Sectors}
 use Rattle.flux_engine.specs.lemmas.Each.{Each, each-at, each-map, each-flat, each-of, each-unflat, each-filter, each-unfilter, each-missed}
 use Rattle.flux_engine.specs.lemmas.Pieces.{pieces-at}
@@ -73,54 +74,54 @@ StandsAs sector cells (GoodFrame s) bytes = sector cells s bytes
 
 module _ (header : List Bool → ℕ → Type 0) (sector_stands : List Bool → ℕ → List ℕ → Type 0) (size : ℕ)
     (told : SectorsAreTold header sector_stands size) (read : ReadingsAreAll header sector_stands)
-    (times indexes : List ℕ) (cells : List Bool) (found : List Found) (all : AreReadings header sector_stands cells 0 found) where
+    (capture : ℕ) (clock : Clock) (times indexes : List ℕ) (cells : List Bool) (found : List Found) (all : AreReadings header sector_stands cells 0 found) where
   stands_as : (place : ℕ) (frame : Frame) (bytes : List ℕ) → Contains found (place, frame, bytes) → StandsAs sector_stands (drop place cells) frame bytes
   stands_as place Nothing bytes has = tt
   stands_as place (BadFrame s) bytes has = tt
   stands_as place (GoodFrame s) bytes has = (((read cells 0 found).0 all).good place s bytes (omega arith)).0 has
 
   abbrev pub of_found : Found → List NotedReading
-  of_found f = readings_at (place_at times indexes cells f.0) f.1 f.2
+  of_found f = readings_at (place_in capture clock times indexes cells f.0) f.1 f.2
 
   -- what a good reading says
   abbrev pub Named : NotedReading → Type 0
-  Named r = (xs : List ℕ) → r.bytes ≡ Some xs → sector_stands (drop r.place.cell cells) r.sector xs × (r.place ≡ place_at times indexes cells r.place.cell)
+  Named r = (xs : List ℕ) → r.bytes ≡ Some xs → sector_stands (drop r.place.cell cells) r.sector xs × (r.place ≡ place_in capture clock times indexes cells r.place.cell)
 
   named : (place : ℕ) (frame : Frame) (bytes : List ℕ) → StandsAs sector_stands (drop place cells) frame bytes
-      → Each Named (readings_at (place_at times indexes cells place) frame bytes)
+      → Each Named (readings_at (place_in capture clock times indexes cells place) frame bytes)
   named place Nothing bytes here = tt
   named place (BadFrame s) bytes here = ((λ xs is. absurd (cc)), tt)
   named place (GoodFrame s) bytes here =
       ((λ xs is. (let same : bytes ≡ xs = cc in subst (sector_stands (drop place cells) s) same here, refl)), tt)
 
-  pub each_named : Each Named (readings_of times indexes cells found)
+  pub each_named : Each Named (readings_in capture clock times indexes cells found)
   each_named =
       each-flat of_found (λ (f : Found). StandsAs sector_stands (drop f.0 cells) f.1 f.2) Named (λ f here. named f.0 f.1 f.2 here) found
       (each-of (λ (f : Found). StandsAs sector_stands (drop f.0 cells) f.1 f.2) found (λ f has. stands_as f.0 f.1 f.2 has))
 
-  goods_named : (sector : ℕ) → Each (λ (r : NotedReading). Named r × (is_good_of sector r ≡ true)) (good_ones (readings_of times indexes cells found) sector)
-  goods_named sector = each-filter (is_good_of sector) Named (readings_of times indexes cells found) each_named
+  goods_named : (sector : ℕ) → Each (λ (r : NotedReading). Named r × (is_good_of sector r ≡ true)) (good_ones (readings_in capture clock times indexes cells found) sector)
+  goods_named sector = each-filter (is_good_of sector) Named (readings_in capture clock times indexes cells found) each_named
 
   -- a good reading of the sector is one of cells that hold it
   good_holds : (sector : ℕ) (r : NotedReading) → Named r → is_good_of sector r ≡ true
-      → sector_stands (drop r.place.cell cells) sector (bytes_of r) × (r.place ≡ place_at times indexes cells r.place.cell)
+      → sector_stands (drop r.place.cell cells) sector (bytes_of r) × (r.place ≡ place_in capture clock times indexes cells r.place.cell)
   good_holds sector r says test =
       let both = and_both (nat_eq r.sector sector) (is_some r.bytes) test in
       let here = says (bytes_of r) (some_bytes r.bytes both.1) in
       (subst (λ (s : ℕ). sector_stands (drop r.place.cell cells) s (bytes_of r)) (eqb-true r.sector sector both.0) here.0, here.1)
 
-  module _ (sector : ℕ) (first : Place) (h : Head (good_ones (readings_of times indexes cells found) sector) first) where
-    pub head_holds : sector_stands (drop first.cell cells) sector (bytes_of h.head) × (first ≡ place_at times indexes cells first.cell)
+  module _ (sector : ℕ) (first : Place) (h : Head (good_ones (readings_in capture clock times indexes cells found) sector) first) where
+    pub head_holds : sector_stands (drop first.cell cells) sector (bytes_of h.head) × (first ≡ place_in capture clock times indexes cells first.cell)
     head_holds =
         let each = subst (Each (λ (r : NotedReading). Named r × (is_good_of sector r ≡ true))) h.all (goods_named sector) in
         let here = good_holds sector h.head each.0.0 each.0.1 in
-        subst (λ (p : Place). sector_stands (drop p.cell cells) sector (bytes_of h.head) × (p ≡ place_at times indexes cells p.cell)) h.place here
+        subst (λ (p : Place). sector_stands (drop p.cell cells) sector (bytes_of h.head) × (p ≡ place_in capture clock times indexes cells p.cell)) h.place here
 
     pub all_agree : (place : ℕ) (others : List ℕ) → sector_stands (drop place cells) sector others → others ≡ bytes_of h.head
     all_agree place others here =
         let mine = bytes_of h.head in
-        let each = each-unfilter (is_good_of sector) (λ (q : NotedReading). bytes_of q ≡ mine) (readings_of times indexes cells found)
-        (same_bytes (good_ones (readings_of times indexes cells found) sector) first h) in
+        let each = each-unfilter (is_good_of sector) (λ (q : NotedReading). bytes_of q ≡ mine) (readings_in capture clock times indexes cells found)
+        (same_bytes (good_ones (readings_in capture clock times indexes cells found) sector) first h) in
         let per_found = each-unflat of_found (λ (q : NotedReading). is_good_of sector q ≡ true → bytes_of q ≡ mine) found each in
         let at = each-at (λ (f : Found). Each (λ (q : NotedReading). is_good_of sector q ≡ true → bytes_of q ≡ mine) (of_found f)) found
         (place, GoodFrame sector, others) per_found ((((read cells 0 found).0 all).good place sector others (omega arith)).1 here) in
@@ -137,17 +138,17 @@ module _ (header : List Bool → ℕ → Type 0) (sector_stands : List Bool → 
     agreed_size [] each = length-replicate sectors.size 0 ∙ sizes
     agreed_size (r ∷ more) each = by_agreed r (is_none (first_other (bytes_of r) more)) each.0
 
-    bytes_size : (n : ℕ) → length (image_bytes sectors (readings_of times indexes cells found) n) ≡ size
+    bytes_size : (n : ℕ) → length (image_bytes sectors (readings_in capture clock times indexes cells found) n) ≡ size
     unfolding agreed
     bytes_size n =
-        agreed_size (good_ones (readings_of times indexes cells found) n)
+        agreed_size (good_ones (readings_in capture clock times indexes cells found) n)
         (each-map (λ (r : NotedReading). Named r × (is_good_of n r ≡ true)) (λ (r : NotedReading). length (bytes_of r) ≡ size)
-        (λ r says. told.content_size (drop r.place.cell cells) n (bytes_of r) (good_holds n r says.0 says.1).0) (good_ones (readings_of times indexes cells found) n) (goods_named n))
+        (λ r says. told.content_size (drop r.place.cell cells) n (bytes_of r) (good_holds n r says.0 says.1).0) (good_ones (readings_in capture clock times indexes cells found) n) (goods_named n))
 
     -- a sector stands at each number from 0 on
     module _ (sector_in : ℕ → ℕ) where
       abbrev piece : ℕ → List ℕ
-      piece number = image_bytes sectors (readings_of times indexes cells found) (sector_in number)
+      piece number = image_bytes sectors (readings_in capture clock times indexes cells found) (sector_in number)
 
       pub lengths : (first i : ℕ) → length (flat_map piece (range_with_len first i)) ≡ size * i
       lengths first zero = omega arith
@@ -169,14 +170,14 @@ module _ (header : List Bool → ℕ → Type 0) (sector_stands : List Bool → 
           let at : 0 + i ≡ i = omega arith in
           ap (λ (xs : List ℕ). take size (drop (size * i) xs)) split ∙ ap (take size) gone ∙ kept ∙ ap piece at
 
-      pub good_image : (sector i : ℕ) (first : Place) (h : Head (good_ones (readings_of times indexes cells found) sector) first)
+      pub good_image : (sector i : ℕ) (first : Place) (h : Head (good_ones (readings_in capture clock times indexes cells found) sector) first)
           → sector_in i ≡ sector → i < sectors.count
           → take size (drop (size * i) (flat_map piece (range_with_len 0 sectors.count))) ≡ bytes_of h.head
       unfolding agreed
       good_image sector i first h at within =
           in_image i within
-          ∙ ap (image_bytes sectors (readings_of times indexes cells found)) at
-          ∙ ap (λ (o : Option (List ℕ)). unwrap_or o (replicate sectors.size 0)) (agreed_head (good_ones (readings_of times indexes cells found) sector) first h)
+          ∙ ap (image_bytes sectors (readings_in capture clock times indexes cells found)) at
+          ∙ ap (λ (o : Option (List ℕ)). unwrap_or o (replicate sectors.size 0)) (agreed_head (good_ones (readings_in capture clock times indexes cells found) sector) first h)
 
 pub head_of : (readings : List NotedReading) (sector good bad : ℕ) (first : Place) → verdict readings sector ≡ Good good bad first → Head (good_ones readings sector) first
 unfolding verdict

@@ -83,11 +83,11 @@ returns-in-Err-ImageFault-clause-err g c =
     let low : n < length (tracks format) = omega (arith, all) in
     let room' = c.read_captures.new.room in
     let captured = subst (λ (f : Format). HasCaptured f c.args.count n left left' h.taken room' c.args.count) h.format_is (c.in-Ok.ensures.read left h.taken h.come) in
-    let image' = g.W.Sink.written c.write_set_part.new.image in
-    let notes' = g.N.Sink.written c.write_set_part.new.notes in
+    let image' = g.W.Sink.written c.write_started_part.new.image in
+    let notes' = g.N.Sink.written c.write_started_part.new.notes in
     let format_is = c.in-Ok.ensures.format ∙ h.format_is in
     let wrote = subst (λ (f : Format). WritesPart (set_part_of f (track_at f n) (joined captured.captures)) imid image' nmid notes' (Err ImageFault)) format_is
-    ((rw c.in-Err-ImageFault.field-0-is at c.in-Err-ImageFault.ensures.wrote) (joined captured.captures) captured.stands) in
+    (rw c.in-Ok.ensures.started at ((rw c.in-Err-ImageFault.field-0-is at c.in-Err-ImageFault.ensures.wrote) (joined captured.captures) captured.stands)) in
     set_image_fault format c.args.count left mid left' image imid image' notes nmid notes' c.loop-number.room n c.loop-number.totals h room' captured c.growth_law.ensures.limit c.padding_law.ensures low wrote.0 wrote.1
 
 pub returns-in-Err-NotesFault-clause-err : goal.returns-in-Err-NotesFault-clause-err
@@ -107,11 +107,11 @@ returns-in-Err-NotesFault-clause-err g c =
     let low : n < length (tracks format) = omega (arith, all) in
     let room' = c.read_captures.new.room in
     let captured = subst (λ (f : Format). HasCaptured f c.args.count n left left' h.taken room' c.args.count) h.format_is (c.in-Ok.ensures.read left h.taken h.come) in
-    let image' = g.W.Sink.written c.write_set_part.new.image in
-    let notes' = g.N.Sink.written c.write_set_part.new.notes in
+    let image' = g.W.Sink.written c.write_started_part.new.image in
+    let notes' = g.N.Sink.written c.write_started_part.new.notes in
     let format_is = c.in-Ok.ensures.format ∙ h.format_is in
     let wrote = subst (λ (f : Format). WritesPart (set_part_of f (track_at f n) (joined captured.captures)) imid image' nmid notes' (Err NotesFault)) format_is
-    ((rw c.in-Err-NotesFault.field-0-is at c.in-Err-NotesFault.ensures.wrote) (joined captured.captures) captured.stands) in
+    (rw c.in-Ok.ensures.started at ((rw c.in-Err-NotesFault.field-0-is at c.in-Err-NotesFault.ensures.wrote) (joined captured.captures) captured.stands)) in
     set_notes_fault format c.args.count left mid left' image imid image' notes nmid notes' c.loop-number.room n c.loop-number.totals h room' captured c.growth_law.ensures.limit c.padding_law.ensures low wrote.0 wrote.1
 
 pub loop-number-preserved : goal.loop-number-preserved
@@ -131,15 +131,15 @@ loop-number-preserved g c =
     let low : n < length (tracks format) = omega (arith, all) in
     let room' = c.read_captures.new.room in
     let captured = subst (λ (f : Format). HasCaptured f c.args.count n left left' h.taken room' c.args.count) h.format_is (c.in-Ok.ensures.read left h.taken h.come) in
-    let image' = g.W.Sink.written c.write_set_part.new.image in
-    let notes' = g.N.Sink.written c.write_set_part.new.notes in
+    let image' = g.W.Sink.written c.write_started_part.new.image in
+    let notes' = g.N.Sink.written c.write_started_part.new.notes in
     let format_is = c.in-Ok.ensures.format ∙ h.format_is in
-    let wrote = subst (λ (f : Format). WritesPart (set_part_of f (track_at f n) (joined captured.captures)) imid image' nmid notes' (Ok c.in-Ok-write_set_part.more)) format_is
-    (c.in-Ok-write_set_part.ensures.wrote (joined captured.captures) captured.stands) in
-    let e = c.in-Ok-write_set_part.ensures in
-    let sum : c.add_totals.new.totals.sectors ≡ c.loop-number.totals.sectors + c.in-Ok-write_set_part.more.sectors = ap (λ (t : Totals). t.sectors) c.add_totals.ensures.value in
+    let wrote = subst (λ (f : Format). WritesPart (set_part_of f (track_at f n) (joined captured.captures)) imid image' nmid notes' (Ok c.in-Ok-write_started_part.more)) format_is
+    (rw c.in-Ok.ensures.started at (c.in-Ok-write_started_part.ensures.wrote (joined captured.captures) captured.stands)) in
+    let e = c.in-Ok-write_started_part.ensures in
+    let sum : c.add_totals.new.totals.sectors ≡ c.loop-number.totals.sectors + c.in-Ok-write_started_part.more.sectors = ap (λ (t : Totals). t.sectors) c.add_totals.ensures.value in
     record {
-      decoded = set_more format c.args.count left mid left' image imid image' notes nmid notes' c.loop-number.room n c.loop-number.totals h room' captured c.in-Ok-write_set_part.more c.add_totals.new.totals c.in-Ok.ensures.format wrote c.add_totals.ensures.value;
+      decoded = set_more format c.args.count left mid left' image imid image' notes nmid notes' c.loop-number.room n c.loop-number.totals h room' captured c.in-Ok-write_started_part.more c.add_totals.new.totals c.in-Ok.ensures.format wrote c.add_totals.ensures.value;
       needed = λ bytes told.
           subst (λ (f : Format). ReadsWhereOpen (EndsInCaptures f c.args.count) (source_at g.S.Source.left g.S.Source.given g.S.Source.faults c.args.source.now) (source_at g.S.Source.left g.S.Source.given g.S.Source.faults c.loop-number.source)
           → ReadsWhereOpen (EndsInCaptures f c.args.count) (source_at g.S.Source.left g.S.Source.given g.S.Source.faults c.args.source.now) (source_at g.S.Source.left g.S.Source.given g.S.Source.faults c.read_captures.new.source))

@@ -8,7 +8,6 @@ use Rattle.flux_engine.specs.declared.fault.CaptureFault.TheVariants.{ReadFault,
 use Rattle.kryo_stream.specs.Reads.{source_at}
 use Rattle.sector_images.specs.Places.{tracks}
 use Rattle.sector_images.specs.declared.format.Format.{Format}
-use Rattle.capture_set.specs.Lines.{CAPTURE_CELLS}
 use Rattle.capture_set.specs.Progress.{HasCaptured}
 use Rattle.capture_set.specs.Sets.{EndsInCaptures}
 use Rattle.capture_set.proofs.Parts.{captured_more, captured_none, come_started, was_stopped}
@@ -46,8 +45,8 @@ returns-in-Err-ReadFault-clause-read g c = λ start taken h.
     let e = c.in-Err-ReadFault in
     let low : c.loop-capture.capture < c.args.count = omega arith in
     was_stopped c.args.room.now.format c.args.count c.args.number start mid taken room c.loop-capture.capture captured left' room' ReadFault low
-    (subst (λ (f : Format). ReadsCapture f (track_at f c.args.number) (c.loop-capture.capture * CAPTURE_CELLS) mid left' room.used room.held room'.held room.book room'.book (Err ReadFault)) (i.format ∙ format)
-    (rw (e.field-0-is, c.from.ensures) at e.ensures.read))
+    (subst (λ (f : Format). ReadsCapture f (track_at f c.args.number) c.loop-capture.capture mid left' room.used room.held room'.held room.book room'.book (Err ReadFault)) (i.format ∙ format)
+    (rw e.field-0-is at e.ensures.read))
 
 pub returns-in-Err-ReadFault-clause-needed : goal.returns-in-Err-ReadFault-clause-needed
 returns-in-Err-ReadFault-clause-needed g c = λ start taken x told h reads.
@@ -80,8 +79,8 @@ returns-in-Err-Refused-clause-read g c = λ start taken h.
     let e = c.in-Err-Refused in
     let low : c.loop-capture.capture < c.args.count = omega arith in
     was_stopped c.args.room.now.format c.args.count c.args.number start mid taken room c.loop-capture.capture captured left' room' (Refused c.in-Err-Refused.block c.in-Err-Refused.fault) low
-    (subst (λ (f : Format). ReadsCapture f (track_at f c.args.number) (c.loop-capture.capture * CAPTURE_CELLS) mid left' room.used room.held room'.held room.book room'.book (Err (Refused c.in-Err-Refused.block c.in-Err-Refused.fault))) (i.format ∙ format)
-    (rw (e.field-0-is, c.from.ensures) at e.ensures.read))
+    (subst (λ (f : Format). ReadsCapture f (track_at f c.args.number) c.loop-capture.capture mid left' room.used room.held room'.held room.book room'.book (Err (Refused c.in-Err-Refused.block c.in-Err-Refused.fault))) (i.format ∙ format)
+    (rw e.field-0-is at e.ensures.read))
 
 pub returns-in-Err-Refused-clause-needed : goal.returns-in-Err-Refused-clause-needed
 returns-in-Err-Refused-clause-needed g c = λ start taken x told h reads.
@@ -114,8 +113,8 @@ loop-capture-preserved g c =
     record {
       read = λ start taken h.
           captured_more first.format c.args.count c.args.number start mid taken room c.loop-capture.capture (i.read start taken h) left' room' c.in-Ok.field-0
-          (subst (λ (f : Format). ReadsCapture f (track_at f c.args.number) (c.loop-capture.capture * CAPTURE_CELLS) mid left' room.used room.held room'.held room.book room'.book (Ok c.in-Ok.field-0)) i.format
-          (rw c.from.ensures at e.read)) e.held e.used e.sound;
+          (subst (λ (f : Format). ReadsCapture f (track_at f c.args.number) c.loop-capture.capture mid left' room.used room.held room'.held room.book room'.book (Ok c.in-Ok.field-0)) i.format
+          e.read) e.held e.used e.sound;
       needed = λ start taken x told h reads.
           let captured = i.read start.left taken h in
           capture_more first.format c.args.count x start (source_at g.S.Source.left g.S.Source.given g.S.Source.faults c.loop-capture.source) (source_at g.S.Source.left g.S.Source.given g.S.Source.faults c.read_capture.new.source)

@@ -8,8 +8,8 @@ use Rattle.flux_engine.specs.Recordings.{track_at}
 use Rattle.flux_engine.specs.TrackParts.{WritesPart}
 use Rattle.flux_engine.specs.declared.track_part.PartFault.TheVariants.{ImageFault, NotesFault}
 use Rattle.flux_engine.specs.lemmas.ReadLaws.{no_reads}
-use Rattle.capture_set.specs.Sets.{set_part_of}
 use Rattle.disk_rescue.specs.Progress.{HasRead, HasRescued}
+use Rattle.disk_rescue.specs.Rescued.{rescued_part_of}
 use Rattle.disk_rescue.proofs.Rescuing.{rescue_fault, rescue_image_fault, rescue_more, rescue_notes_fault, rescue_start}
 use Rattle.disk_rescue.proofs.disk.rescue_tracks.Goals as goal
 
@@ -83,11 +83,11 @@ returns-in-Err-ImageFault-clause-err g c =
     let low : n < length (tracks format) = omega (arith, all) in
     let room' = c.read_track.new.room in
     let has = subst (λ (f : Format). HasRead f n left left' h.taken room') h.format_is (c.in-Ok.ensures.read left h.taken h.come) in
-    let image' = g.W.Sink.written c.write_set_part.new.image in
-    let notes' = g.N.Sink.written c.write_set_part.new.notes in
+    let image' = g.W.Sink.written c.write_started_part.new.image in
+    let notes' = g.N.Sink.written c.write_started_part.new.notes in
     let format_is = c.in-Ok.ensures.format ∙ h.format_is in
-    let wrote = subst (λ (f : Format). WritesPart (set_part_of f (track_at f n) has.readings) imid image' nmid notes' (Err ImageFault)) format_is
-    ((rw c.in-Err-ImageFault.field-0-is at c.in-Err-ImageFault.ensures.wrote) has.readings has.stands) in
+    let wrote = subst (λ (f : Format). WritesPart (rescued_part_of f (track_at f n) has.readings) imid image' nmid notes' (Err ImageFault)) format_is
+    (rw c.in-Ok.ensures.started at ((rw c.in-Err-ImageFault.field-0-is at c.in-Err-ImageFault.ensures.wrote) has.readings has.stands)) in
     rescue_image_fault format left mid left' image imid image' notes nmid notes' c.loop-number.room n c.loop-number.totals h room' has c.growth_law.ensures.limit c.padding_law.ensures low wrote.0 wrote.1
 
 pub returns-in-Err-NotesFault-clause-err : goal.returns-in-Err-NotesFault-clause-err
@@ -107,11 +107,11 @@ returns-in-Err-NotesFault-clause-err g c =
     let low : n < length (tracks format) = omega (arith, all) in
     let room' = c.read_track.new.room in
     let has = subst (λ (f : Format). HasRead f n left left' h.taken room') h.format_is (c.in-Ok.ensures.read left h.taken h.come) in
-    let image' = g.W.Sink.written c.write_set_part.new.image in
-    let notes' = g.N.Sink.written c.write_set_part.new.notes in
+    let image' = g.W.Sink.written c.write_started_part.new.image in
+    let notes' = g.N.Sink.written c.write_started_part.new.notes in
     let format_is = c.in-Ok.ensures.format ∙ h.format_is in
-    let wrote = subst (λ (f : Format). WritesPart (set_part_of f (track_at f n) has.readings) imid image' nmid notes' (Err NotesFault)) format_is
-    ((rw c.in-Err-NotesFault.field-0-is at c.in-Err-NotesFault.ensures.wrote) has.readings has.stands) in
+    let wrote = subst (λ (f : Format). WritesPart (rescued_part_of f (track_at f n) has.readings) imid image' nmid notes' (Err NotesFault)) format_is
+    (rw c.in-Ok.ensures.started at ((rw c.in-Err-NotesFault.field-0-is at c.in-Err-NotesFault.ensures.wrote) has.readings has.stands)) in
     rescue_notes_fault format left mid left' image imid image' notes nmid notes' c.loop-number.room n c.loop-number.totals h room' has c.growth_law.ensures.limit c.padding_law.ensures low wrote.0 wrote.1
 
 pub loop-number-preserved : goal.loop-number-preserved
@@ -131,15 +131,15 @@ loop-number-preserved g c =
     let low : n < length (tracks format) = omega (arith, all) in
     let room' = c.read_track.new.room in
     let has = subst (λ (f : Format). HasRead f n left left' h.taken room') h.format_is (c.in-Ok.ensures.read left h.taken h.come) in
-    let image' = g.W.Sink.written c.write_set_part.new.image in
-    let notes' = g.N.Sink.written c.write_set_part.new.notes in
+    let image' = g.W.Sink.written c.write_started_part.new.image in
+    let notes' = g.N.Sink.written c.write_started_part.new.notes in
     let format_is = c.in-Ok.ensures.format ∙ h.format_is in
-    let wrote = subst (λ (f : Format). WritesPart (set_part_of f (track_at f n) has.readings) imid image' nmid notes' (Ok c.in-Ok-write_set_part.more)) format_is
-    (c.in-Ok-write_set_part.ensures.wrote has.readings has.stands) in
-    let e = c.in-Ok-write_set_part.ensures in
-    let sum : c.add_totals.new.totals.sectors ≡ c.loop-number.totals.sectors + c.in-Ok-write_set_part.more.sectors = ap (λ (t : Totals). t.sectors) c.add_totals.ensures.value in
+    let wrote = subst (λ (f : Format). WritesPart (rescued_part_of f (track_at f n) has.readings) imid image' nmid notes' (Ok c.in-Ok-write_started_part.more)) format_is
+    (rw c.in-Ok.ensures.started at (c.in-Ok-write_started_part.ensures.wrote has.readings has.stands)) in
+    let e = c.in-Ok-write_started_part.ensures in
+    let sum : c.add_totals.new.totals.sectors ≡ c.loop-number.totals.sectors + c.in-Ok-write_started_part.more.sectors = ap (λ (t : Totals). t.sectors) c.add_totals.ensures.value in
     record {
-      decoded = rescue_more format left mid left' image imid image' notes nmid notes' c.loop-number.room n c.loop-number.totals h room' has c.in-Ok-write_set_part.more c.add_totals.new.totals c.in-Ok.ensures.format wrote c.add_totals.ensures.value;
+      decoded = rescue_more format left mid left' image imid image' notes nmid notes' c.loop-number.room n c.loop-number.totals h room' has c.in-Ok-write_started_part.more c.add_totals.new.totals c.in-Ok.ensures.format wrote c.add_totals.ensures.value;
       needed = λ bytes told.
           subst (λ (f : Format). ReadsWhereOpen (EndsInStreams f) (source_at g.S.Source.left g.S.Source.given g.S.Source.faults c.args.source.now) (source_at g.S.Source.left g.S.Source.given g.S.Source.faults c.loop-number.source)
           → ReadsWhereOpen (EndsInStreams f) (source_at g.S.Source.left g.S.Source.given g.S.Source.faults c.args.source.now) (source_at g.S.Source.left g.S.Source.given g.S.Source.faults c.read_track.new.source))

@@ -14,7 +14,7 @@ returns-clause-noted c =
     let start : c.start_by-start.result ≡ start_by c.args.clock (start_of c.args.format c.args.track c.args.flux.now.indexes) =
     c.start_by-start.ensures.start ∙ ap (start_by c.args.clock) mean in
     let cells = are_cells c.start_by-start.result c.args.flux.now.times c.requires.bounded.few_times in
-    has_noted c.args.clock c.args.format c.args.track c.args.flux.now.times c.args.flux.now.indexes _ c.args.offset c.args.tools.now.book c.gather.new.book
+    has_noted c.args.clock c.args.format c.args.track c.args.flux.now.times c.args.flux.now.indexes _ c.args.capture c.args.tools.now.book c.gather.new.book
     (c.in-Ok.ensures.ok ∙ ap (λ (s : LoopStart). recovered s c.args.flux.now.times) start) (subst (AreCellsOf c.args.flux.now.times) (sym c.in-Ok.ensures.ok) cells).few
     (rw c.recording_of-recording.ensures.recording at c.gather.ensures)
 

@@ -15,8 +15,8 @@ returns-clause-read g c =
     let book' = c.note_readings.new.tools.book in
     let is : c.track_id-track.result ≡ track_at inside.format c.args.number =
     sym (ap (λ (o : Option TrackId). unwrap_or o (record { cylinder = 0; head = 0 })) c.track_id-track.ensures.at) in
-    let whole = reads_capture inside.format c.track_id-track.result c.args.offset left left' inside.stream.used inside.stream.held held'
+    let whole = reads_capture inside.format c.track_id-track.result c.args.capture left left' inside.stream.used inside.stream.held held'
     c.read_stream.new.stream.flux inside.tools.book book' c.in-Ok.field-0 c.in-Ok.ensures.read (rw c.flux.ensures at c.note_readings.ensures.noted) in
-    let track = subst (λ (t : TrackId). ReadsCapture inside.format t c.args.offset left left' inside.stream.used inside.stream.held held' inside.tools.book book' (Ok c.in-Ok.field-0)) is whole in
-    subst (λ (r : RoomState). ReadsCapture r.format (track_at r.format c.args.number) c.args.offset left left' r.used r.held held' r.book book' (Ok c.in-Ok.field-0))
+    let track = subst (λ (t : TrackId). ReadsCapture inside.format t c.args.capture left left' inside.stream.used inside.stream.held held' inside.tools.book book' (Ok c.in-Ok.field-0)) is whole in
+    subst (λ (r : RoomState). ReadsCapture r.format (track_at r.format c.args.number) c.args.capture left left' r.used r.held held' r.book book' (Ok c.in-Ok.field-0))
     c.room.view_is track

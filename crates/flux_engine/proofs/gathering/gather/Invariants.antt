@@ -5,7 +5,7 @@ use Rattle.flux_engine.proofs.gathering.gather.Given as goal
 abbrev pub invariant-loop-cell : goal.invariant-loop-cell
 invariant-loop-cell g l =
     IsWalk (g.R.Recording.header_at l.recording l.track) (g.R.Recording.sector_at l.recording l.track) l.flux.times l.flux.indexes l.cells.cells
-    l.offset l.from l.passed l.initial.book l.book
+    l.capture l.clock l.from l.passed l.initial.book l.book
 
 abbrev pub decreases-loop-cell : goal.decreases-loop-cell
 decreases-loop-cell g l = length l.cells.cells - l.from

@@ -4,14 +4,14 @@ use Rattle.std.specs.List.{flat_map, range_with_len}
 use Rattle.std.specs.Io.KnownBytes.{Appends}
 use Rattle.turn_merge.specs.Book.{StandsFor}
 use Rattle.turn_merge.specs.Readings.{NotedReading, verdict}
-use Rattle.flux_engine.specs.Tracks.{line_of, totals_of}
+use Rattle.flux_engine.specs.Tracks.{line_by, totals_of}
 use Rattle.flux_engine.specs.Writing.{IsSum}
 use Rattle.flux_engine.proofs.writing.write_lines.Given as goal
 
 abbrev pub invariant-loop-index : goal.invariant-loop-index
 invariant-loop-index g l = record {
   grew : (readings : List NotedReading) → StandsFor l.book readings
-      → Appends (g.N.Sink.written l.initial.notes) (g.N.Sink.written l.notes) (flat_map (line_of l.track readings) (range_with_len l.sectors.first l.index));
+      → Appends (g.N.Sink.written l.initial.notes) (g.N.Sink.written l.notes) (flat_map (line_by l.naming l.track readings) (range_with_len l.sectors.first l.index));
   counted : (readings : List NotedReading) → StandsFor l.book readings
       → l.totals ≡ totals_of (map (verdict readings) (range_with_len l.sectors.first l.index));
   sum : IsSum l.totals;

@@ -1,5 +1,5 @@
-use Rattle.std.proofs.Common.{◌<◌, ◌^◌, ℕ, length, sym, refl, ap, subst}
-use Rattle.turn_merge.specs.Book.{Knowledge, IsKnown, StandsFor}
+use Rattle.std.proofs.Common.{◌<◌, ℕ, length, sym, refl, ap, subst}
+use Rattle.turn_merge.specs.Book.{Knowledge, IsKnown, MOST_NOTES, StandsFor}
 use Rattle.turn_merge.proofs.Noting.{index_below, read_is, few_counted, noted_bad}
 use Rattle.turn_merge.proofs.book.Book.note_bad.Goals as goal
 
@@ -14,7 +14,7 @@ with_bad-requires c =
     rw c.from-index.ensures
     (index_below _ _ _ _ _ _ _ c.args.sector _ c.self.view_is c.requires.known c.self.invariant.known refl) in
     few_counted _ c.from-index.result c.self.inside.notes _ (read_is _ _ _ c.index.ensures below) c.self.invariant.counts
-    (subst (λ (n : ℕ). n < 2 ^ 31) (sym (ap (λ (b : Knowledge). b.notes) c.self.view_is)) c.requires.few)
+    (subst (λ (n : ℕ). n < MOST_NOTES) (sym (ap (λ (b : Knowledge). b.notes) c.self.view_is)) c.requires.few)
 
 pub index_mut-requires : goal.index_mut-requires
 index_mut-requires c =

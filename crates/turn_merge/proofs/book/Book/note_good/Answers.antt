@@ -1,6 +1,6 @@
-use Rattle.std.proofs.Common.{◌≡◌, ◌<◌, ◌^◌, ℕ, length, sym, refl, ◌∙◌, ap, subst}
+use Rattle.std.proofs.Common.{◌≡◌, ◌<◌, ℕ, length, sym, refl, ◌∙◌, ap, subst}
 use Rattle.std.proofs.lemmas.List.{with_items_is}
-use Rattle.turn_merge.specs.Book.{Knowledge, IsKnown, StandsFor}
+use Rattle.turn_merge.specs.Book.{Knowledge, IsKnown, MOST_NOTES, StandsFor}
 use Rattle.turn_merge.proofs.Noting.{index_below, part_within, read_is, few_counted, noted_good}
 use Rattle.turn_merge.proofs.book.Book.note_good.Goals as goal
 
@@ -15,7 +15,7 @@ with_good_at-requires-clause-room c =
     rw c.from-index.ensures
     (index_below _ _ _ _ _ _ _ c.args.sector _ c.self.view_is c.requires.known c.self.invariant.known refl) in
     few_counted _ c.from-index.result c.self.inside.notes _ (read_is _ _ _ c.index-verdict.ensures below) c.self.invariant.counts
-    (subst (λ (n : ℕ). n < 2 ^ 31) (sym (ap (λ (b : Knowledge). b.notes) c.self.view_is)) c.requires.few)
+    (subst (λ (n : ℕ). n < MOST_NOTES) (sym (ap (λ (b : Knowledge). b.notes) c.self.view_is)) c.requires.few)
 
 pub with_good_at-requires-clause-within : goal.with_good_at-requires-clause-within
 with_good_at-requires-clause-within c =

@@ -1,4 +1,4 @@
-/// By which clock the cells of a track are recovered. Both start at the mean cell of the track's first turn, kept in the band about the
+/// By which clock the cells of a track were recovered. Both start at the mean cell of the track's first turn, kept in the band about the
 /// nominal cell.
 #[derive(Clone, Copy, Debug, PartialEq, Eq)]
 pub enum Clock {
