@@ -1,9 +1,8 @@
 -- What the readings of one stream by both clocks come to.
-use Rattle.std.specs.Prelude.{◌≡◌, ◌⊎◌, ℕ, Bool, true, false, not, ◌&&◌, cond, List, [], ◌∷◌, ◌++◌, find, if◌then◌else◌, is_none, is_some, length, nat_eq, replicate, unwrap_or, Option, Some, None, refl}
+use Rattle.std.specs.Prelude.{◌≡◌, ℕ, Bool, true, false, not, ◌&&◌, List, ◌++◌, is_some, nat_eq, replicate, unwrap_or, Option, Some, refl}
 use Rattle.std.specs.Str.{bytes_eq}
-use Rattle.std.proofs.Common.{ap, sym, subst, ◌∙◌, arith, inl, inr}
+use Rattle.std.proofs.Common.{ap, sym, subst, ◌∙◌, arith}
 use Rattle.std.proofs.lemmas.Bool.{eqb-true, eq-eqb}
-use Rattle.std.proofs.lemmas.List.Elements.{filter-append}
 use Rattle.std.proofs.lemmas.Slice.Eq.{bytes_eq-Decides}
 use Rattle.disk_recordings.specs.Laws.{TracksAreRead}
 use Rattle.disk_recordings.specs.Members.{header_at, sector_at}
@@ -11,66 +10,17 @@ use Rattle.flux_base.specs.declared.track.TrackId.{TrackId}
 use Rattle.frame_law.specs.declared.reading.Reading.TheVariants.{Good as GoodFrame}
 use Rattle.sector_images.specs.Formats.{row}
 use Rattle.sector_images.specs.declared.format.Format.{Format}
-use Rattle.turn_merge.specs.Readings.{NotedReading, agreed, agreed_of, bad_ones, bytes_of, first_other, good_ones, verdict, verdict_of, verdict_with}
+use Rattle.turn_merge.specs.Readings.{NotedReading, agreed, bytes_of, good_ones}
 use Rattle.turn_merge.specs.declared.verdict.Place.{Place}
-use Rattle.turn_merge.specs.declared.verdict.Verdict.TheVariants.{Contradictory, Good}
 use Rattle.flux_engine.specs.Captured.{AreReadingsByBoth}
 use Rattle.flux_engine.specs.ClockLaws.{ContradictionsAreNamed, DecodedReadingsLead, DecodedStaysGood, GoodIsRightByBoth, GoodReadingsStandByBoth, IsNamedBy, IsRightlyContradictory, IsRightlyGoodByBoth, ReadingsByBothAreOne, StandsBy, StaysGoodOrIsContradicted, place_by}
 use Rattle.flux_engine.specs.Recordings.{cells_by, cells_of, sectors_of}
 use Rattle.flux_engine.specs.Tracks.{Found, readings_in, readings_of}
 use Rattle.turn_merge.specs.declared.clock.Clock.{Clock}
 use Rattle.turn_merge.specs.declared.clock.Clock.TheVariants.{Following, Held}
+use Rattle.flux_engine.proofs.Clashes.{Clash, clash_of, each-found, not_true, stays}
 use Rattle.flux_engine.specs.lemmas.Each.{Each, each-append, each-at, each-filter, each-left, each-map, each-right, each-unfilter, each-unflat}
 use Rattle.flux_engine.specs.lemmas.GoodSectors.{Head, Named, agreed_head, and_both, each_named, head_of, is_good_of, of_found, same_bytes, some_bytes}
-
-module _ {X : Type 0} (p : X → Bool) (P : X → Type 0) where
-  found_step : (x q : X) (b : Bool) (rest : Option X) → p x ≡ b → cond b (Some x) rest ≡ Some q → P x
-      → (rest ≡ Some q → P q × (p q ≡ true)) → P q × (p q ≡ true)
-  found_step x q true rest test is here later =
-      let same : x ≡ q = cc in
-      subst (λ (y : X). P y × (p y ≡ true)) same (here, test)
-  found_step x q false rest test is here later = later is
-
-  each-found : (xs : List X) (q : X) → Each P xs → find p xs ≡ Some q → P q × (p q ≡ true)
-  each-found [] q all is = absurd (cc)
-  each-found (x ∷ xs) q all is = found_step x q (p x) (find p xs) refl is all.0 (each-found xs q all.1)
-
--- the first two of the good readings that differ, where the verdict is contradictory
-record Clash (goods : List NotedReading) (first other : Place) : Type 0 where
-  pub head : NotedReading
-  pub more : List NotedReading
-  pub all : goods ≡ head ∷ more
-  pub next : NotedReading
-  pub differs : first_other (bytes_of head) more ≡ Some next
-  pub place : head.place ≡ first
-  pub next_place : next.place ≡ other
-
--- the place of the reading that differs
-record Differs (o : Option NotedReading) (p first other : Place) : Type 0 where
-  pub next : NotedReading
-  pub is : o ≡ Some next
-  pub place : p ≡ first
-  pub next_place : next.place ≡ other
-
-by_next : (g b : ℕ) (p : Place) (o : Option NotedReading) (good bad : ℕ) (first other : Place) → verdict_with g b p o ≡ Contradictory good bad first other → Differs o p first other
-by_next g b p None good bad first other is = absurd (cc)
-by_next g b p (Some next) good bad first other is = record { next = next; is = refl; place = cc; next_place = cc }
-
-clash : (goods bads : List NotedReading) (good bad : ℕ) (first other : Place) → verdict_of goods bads ≡ Contradictory good bad first other → Clash goods first other
-clash [] [] good bad first other is = absurd (cc)
-clash [] (b ∷ bs) good bad first other is = absurd (cc)
-clash (r ∷ more) bads good bad first other is =
-    let by = by_next (length (r ∷ more)) (length bads) r.place (first_other (bytes_of r) more) good bad first other is in
-    record { head = r; more = more; all = refl; next = by.next; differs = by.is; place = by.place; next_place = by.next_place }
-
-clash_of : (readings : List NotedReading) (sector good bad : ℕ) (first other : Place) → verdict readings sector ≡ Contradictory good bad first other
-    → Clash (good_ones readings sector) first other
-unfolding verdict
-clash_of readings sector good bad first other is = clash (good_ones readings sector) (bad_ones readings sector) good bad first other is
-
-not_true : (b : Bool) → not b ≡ true → b ≡ false
-not_true true is = absurd (cc)
-not_true false is = refl
 
 module _ (read : TracksAreRead) (format : Format) (track : TrackId) (times indexes : List ℕ) (readings : List NotedReading)
     (both : AreReadingsByBoth format track times indexes readings) where
@@ -219,28 +169,6 @@ decoded_lead read format track times indexes readings part both is =
     a.are
     ∙ ap (λ (found : List Found). readings_of times indexes cells found) (read.one format track cells 0 a.found is.found a.all is.all) in
     (both.by_clock Held, both.joined ∙ ap (λ (rs : List NotedReading). rs ++ both.by_clock Held) following)
-
--- by whether another reading differs
-by_other : (g b : ℕ) (p first : Place) (bytes : List ℕ) (o : Option NotedReading) → p ≡ first
-    → ((good bad : ℕ) × (verdict_with g b p o ≡ Good good bad first) × ((if is_none o then Some bytes else None) ≡ Some bytes))
-    ⊎ ((good bad : ℕ) × (other : Place) × (verdict_with g b p o ≡ Contradictory good bad first other))
-by_other g b p first bytes None is = inl (g, b, ap (Good g b) is, refl)
-by_other g b p first bytes (Some q) is = inr (g, b, q.place, ap (λ (f : Place). Contradictory g b f q.place) is)
-
-stays : (xs rest : List NotedReading) (sector good bad : ℕ) (first : Place) → verdict xs sector ≡ Good good bad first
-    → StaysGoodOrIsContradicted xs (xs ++ rest) sector first
-unfolding verdict agreed
-stays xs rest sector good bad first is =
-    let h = head_of xs sector good bad first is in
-    let more : List NotedReading = h.more ++ good_ones rest sector in
-    let bads : List NotedReading = bad_ones (xs ++ rest) sector in
-    let goods : good_ones (xs ++ rest) sector ≡ h.head ∷ more =
-    filter-append (is_good_of sector) xs rest ∙ ap (λ (rs : List NotedReading). rs ++ good_ones rest sector) h.all in
-    let by = by_other (length (h.head ∷ more)) (length bads) h.head.place first (bytes_of h.head) (first_other (bytes_of h.head) more) h.place in
-    elim by [
-      | inl one ↦ inl (one.0, one.1, ap (λ (gs : List NotedReading). verdict_of gs bads) goods ∙ one.2, ap agreed_of goods ∙ one.3 ∙ sym (agreed_head (good_ones xs sector) first h))
-      | inr two ↦ inr (two.0, two.1, two.2, ap (λ (gs : List NotedReading). verdict_of gs bads) goods ∙ two.3)
-    ]
 
 pub decoded_stays : TracksAreRead → DecodedStaysGood
 decoded_stays read format track times indexes readings part both is sector good bad first verdict_is =

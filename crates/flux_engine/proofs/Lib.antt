@@ -6,9 +6,15 @@ pub mod Streams
 pub mod Decoding
 pub mod Noting
 pub mod Counting
-pub mod Disks
+pub mod PlanParts
+pub mod PlanDecoding
+pub mod PlanTelling
+pub mod DecodedPlans
 pub mod Outcomes
+pub mod Clashes
 pub mod BothClocks
+pub mod PlanSectors
+pub mod PlanOutcomes
 pub mod DiskParts
 pub mod LineNumbers
 pub mod DiskSectors

@@ -1,5 +1,5 @@
 -- What was gathered of a stream is all that can be read on its track.
-use Rattle.std.specs.Prelude.{◌≡◌, ◌≤◌, ◌<◌, ℕ, suc, ◌+◌, ◌-◌, List, [], ◌∷◌, ◌++◌, length, replicate, slice_index_or, Option, None, Ok, refl}
+use Rattle.std.specs.Prelude.{◌≡◌, ◌≤◌, ◌<◌, ℕ, suc, ◌+◌, ◌-◌, List, [], ◌∷◌, ◌++◌, length, replicate, slice_index_or, Option, None, Ok, Err, refl}
 use Rattle.std.proofs.Common.{ap, append_assoc, sym, subst, ◌∙◌, arith}
 use Rattle.std.specs.Prelude.{Bool}
 use Rattle.flux_base.specs.declared.track.TrackId.{TrackId}
@@ -10,9 +10,12 @@ use Rattle.turn_merge.specs.Readings.{NotedReading, verdict, agreed}
 use Rattle.turn_merge.specs.declared.verdict.Verdict.{Verdict}
 use Rattle.turn_merge.specs.declared.verdict.Verdict.TheVariants.{Missing}
 use Rattle.index_turns.specs.Track.{TrackState}
-use Rattle.flux_engine.specs.Answers.{ReadsByBoth, ReadsCapture, ReadsStream}
-use Rattle.flux_engine.specs.Captured.{AppendsReadings, AreReadingsBy, AreReadingsByBoth}
-use Rattle.flux_engine.specs.Gathering.{Gathers, HasNoted}
+use Rattle.flux_engine.specs.Answers.{CaptureAnswer, ReadsByBoth, ReadsCapture, ReadsStream}
+use Rattle.flux_engine.specs.Captured.{AreReadingsBy, IsUsed}
+use Rattle.flux_engine.specs.Gathering.{Gathers, HasNoted, HasNotedBy}
+use Rattle.flux_engine.specs.PlanAnswers.{ReadsByClocks}
+use Rattle.flux_engine.specs.declared.plan.Clocks.{Clocks}
+use Rattle.flux_engine.specs.declared.plan.Clocks.TheVariants.{Both, FollowingAlone}
 use Rattle.flux_engine.specs.Recordings.{cells_by}
 use Rattle.flux_engine.specs.Room.{MOST_READINGS}
 use Rattle.turn_merge.specs.declared.clock.Clock.{Clock}
@@ -32,10 +35,10 @@ has_noted clock format track times indexes cells capture old new is few g =
       few = omega (arith, g.few, few);
     }
 
-pub reads_capture : (format : Format) (track : TrackId) (capture : ℕ) (left left' : Option (List ℕ)) (used : Bool) (held held' : List ℕ) (flux : TrackState) (old new : Knowledge)
-    (u : Unit {0}) → ReadsStream left left' used held held' flux.times flux.indexes (Ok u) → HasNoted Following format track flux.times flux.indexes capture old new
-    → ReadsCapture format track capture left left' used held held' old new (Ok u)
-reads_capture format track capture left left' used held held' flux old new u read n =
+pub reads_by_clocks : (clocks : Clocks) (format : Format) (track : TrackId) (capture : ℕ) (left left' : Option (List ℕ)) (used : Bool) (held held' : List ℕ) (flux : TrackState) (old new : Knowledge)
+    (u : Unit {0}) → ReadsStream left left' used held held' flux.times flux.indexes (Ok u) → HasNotedBy clocks format track flux.times flux.indexes capture old new
+    → ReadsByClocks clocks format track capture left left' used held held' old new (Ok u)
+reads_by_clocks clocks format track capture left left' used held held' flux old new u read n =
     record { times = flux.times; indexes = flux.indexes; read = read; noted = (n.readings, n.are, n.noted) }
 
 -- a list of readings for each clock
@@ -43,25 +46,72 @@ abbrev of_clocks : (following held : List NotedReading) → Clock → List Noted
 of_clocks following held Following = following
 of_clocks following held Held = held
 
-each_of : (format : Format) (track : TrackId) (times indexes : List ℕ) (following held : List NotedReading)
-    → AreReadingsBy Following format track times indexes 0 following → AreReadingsBy Held format track times indexes 0 held
-    → (clock : Clock) → AreReadingsBy clock format track times indexes 0 (of_clocks following held clock)
-each_of format track times indexes following held a b Following = a
-each_of format track times indexes following held a b Held = b
+module _ (format : Format) (track : TrackId) (times indexes : List ℕ) (capture : ℕ) where
+  alone_of : (following : List NotedReading) → AreReadingsBy Following format track times indexes capture following
+      → (clock : Clock) → IsUsed FollowingAlone clock → AreReadingsBy clock format track times indexes capture (of_clocks following [] clock)
+  alone_of following a Following used = a
+  alone_of following a Held cannot = absurd cannot
 
-pub reads_by_both : (format : Format) (track : TrackId) (left left' : Option (List ℕ)) (used : Bool) (held held' : List ℕ) (flux : TrackState) (old mid new : Knowledge)
-    (u : Unit {0}) → ReadsStream left left' used held held' flux.times flux.indexes (Ok u)
-    → HasNoted Following format track flux.times flux.indexes 0 old mid → HasNoted Held format track flux.times flux.indexes 0 mid new
-    → ReadsByBoth format track left left' used held held' old new (Ok u)
-reads_by_both format track left left' used held held' flux old mid new u read n m =
-    let both : AreReadingsByBoth format track flux.times flux.indexes (n.readings ++ m.readings) = record {
-      by_clock = of_clocks n.readings m.readings;
-      each = each_of format track flux.times flux.indexes n.readings m.readings n.are m.are;
-      joined = refl;
-    } in
-    let noted : AppendsReadings old new (n.readings ++ m.readings) =
-    λ readings stands. subst (StandsFor new) (append_assoc readings n.readings m.readings) (m.noted (readings ++ n.readings) (n.noted readings stands)) in
-    record { times = flux.times; indexes = flux.indexes; read = read; noted = (n.readings ++ m.readings, both, noted) }
+  each_of : (following held : List NotedReading)
+      → AreReadingsBy Following format track times indexes capture following → AreReadingsBy Held format track times indexes capture held
+      → (clock : Clock) → IsUsed Both clock → AreReadingsBy clock format track times indexes capture (of_clocks following held clock)
+  each_of following held a b Following used = a
+  each_of following held a b Held used = b
+
+  pub noted_alone : (old new : Knowledge) → HasNoted Following format track times indexes capture old new → HasNotedBy FollowingAlone format track times indexes capture old new
+  noted_alone old new n = record {
+    readings = n.readings;
+    are = record { by_clock = of_clocks n.readings []; each = alone_of n.readings n.are; are = refl };
+    noted = n.noted;
+    shape = n.shape;
+    few = omega (arith, n.few);
+  }
+
+  pub noted_both : (old mid new : Knowledge) → HasNoted Following format track times indexes capture old mid → HasNoted Held format track times indexes capture mid new
+      → HasNotedBy Both format track times indexes capture old new
+  noted_both old mid new n m = record {
+    readings = n.readings ++ m.readings;
+    are = record { by_clock = of_clocks n.readings m.readings; each = each_of n.readings m.readings n.are m.are; are = refl };
+    noted = λ readings stands. subst (StandsFor new) (append_assoc readings n.readings m.readings) (m.noted (readings ++ n.readings) (n.noted readings stands));
+    shape = record {
+      first_is = m.shape.first_is ∙ n.shape.first_is;
+      most_is = m.shape.most_is ∙ n.shape.most_is;
+      size_is = m.shape.size_is ∙ n.shape.size_is;
+      sectors_are = m.shape.sectors_are ∙ n.shape.sectors_are;
+    };
+    few = omega (arith, n.few, m.few);
+  }
+
+module _ (format : Format) (track : TrackId) (left left' : Option (List ℕ)) (used : Bool) (held held' : List ℕ) (old new : Knowledge) where
+  -- by the one clock
+  pub reads_capture : (capture : ℕ) (answer : CaptureAnswer) → ReadsByClocks FollowingAlone format track capture left left' used held held' old new answer
+      → ReadsCapture format track capture left left' used held held' old new answer
+  reads_capture capture (Ok u) c = record {
+    times = c.times;
+    indexes = c.indexes;
+    read = c.read;
+    noted = (
+      c.noted.0,
+      subst (AreReadingsBy Following format track c.times c.indexes capture) (sym c.noted.1.are) (c.noted.1.each Following tt),
+      c.noted.2,
+    );
+  }
+  reads_capture capture (Err fault) c = record { times = c.times; indexes = c.indexes; read = c.read; noted = tt }
+
+  -- by both
+  pub reads_by_both : (answer : CaptureAnswer) → ReadsByClocks Both format track 0 left left' used held held' old new answer
+      → ReadsByBoth format track left left' used held held' old new answer
+  reads_by_both (Ok u) c = record {
+    times = c.times;
+    indexes = c.indexes;
+    read = c.read;
+    noted = (
+      c.noted.0,
+      record { by_clock = c.noted.1.by_clock; each = λ clock. c.noted.1.each clock tt; joined = c.noted.1.are },
+      c.noted.2,
+    );
+  }
+  reads_by_both (Err fault) c = record { times = c.times; indexes = c.indexes; read = c.read; noted = tt }
 
 -- what is known of a sector without a reading
 abbrev nothing : Found

@@ -7,6 +7,8 @@ use Rattle.disk_recordings.specs.Members.{header_at, sector_at}
 use Rattle.turn_merge.specs.Book.{Knowledge, StandsFor}
 use Rattle.turn_merge.specs.Readings.{NotedReading}
 use Rattle.flux_engine.specs.Recordings.{cells_by}
+use Rattle.flux_engine.specs.declared.plan.Clocks.{Clocks}
+use Rattle.flux_engine.specs.declared.plan.Clocks.TheVariants.{FollowingAlone, Both}
 use Rattle.flux_engine.specs.Tracks.{Found, readings_in}
 use Rattle.turn_merge.specs.declared.clock.Clock.{Clock}
 use Rattle.turn_merge.specs.declared.clock.Clock.TheVariants.{Following, Held}
@@ -28,6 +30,28 @@ pub record AreReadingsByBoth (format : Format) (track : TrackId) (times indexes 
   pub by_clock : Clock → List NotedReading
   pub each : (clock : Clock) → AreReadingsBy clock format track times indexes 0 (by_clock clock)
   pub joined : readings ≡ by_clock Following ++ by_clock Held
+
+-- the clock is one of those
+abbrev pub IsUsed : Clocks → Clock → Type 0
+IsUsed FollowingAlone Following = Unit {0}
+IsUsed FollowingAlone Held = ⊥
+IsUsed Both clock = Unit {0}
+
+-- how many clocks these are
+abbrev pub count_of_clocks : Clocks → ℕ
+count_of_clocks FollowingAlone = 1
+count_of_clocks Both = 2
+
+-- the readings by each of them, joined
+abbrev pub joined_by : Clocks → (Clock → List NotedReading) → List NotedReading
+joined_by FollowingAlone by_clock = by_clock Following
+joined_by Both by_clock = by_clock Following ++ by_clock Held
+
+-- these are all that can be read of a capture by these clocks, first by the one that follows the drive's speed
+pub record AreReadingsOf (clocks : Clocks) (format : Format) (track : TrackId) (times indexes : List ℕ) (capture : ℕ) (readings : List NotedReading) : Type 0 where
+  pub by_clock : Clock → List NotedReading
+  pub each : (clock : Clock) → IsUsed clocks clock → AreReadingsBy clock format track times indexes capture (by_clock clock)
+  pub are : readings ≡ joined_by clocks by_clock
 
 -- a call appends these readings, in their order, to whatever list of readings the book stands for
 abbrev pub AppendsReadings : Knowledge → Knowledge → List NotedReading → Type 0

@@ -1,5 +1,5 @@
 -- The readings of a track, gathered in a book.
-use Rattle.std.specs.Prelude.{◌≡◌, ◌<◌, ◌≤◌, ℕ, ◌+◌, Bool, List, [], ◌++◌, length, take}
+use Rattle.std.specs.Prelude.{◌≡◌, ◌<◌, ◌≤◌, ℕ, ◌+◌, ◌*◌, Bool, List, [], ◌++◌, length, take}
 use Rattle.cell_bits.specs.Ones.{ones}
 use Rattle.frame_law.specs.declared.reading.Reading.{Reading as Frame}
 use Rattle.frame_law.specs.declared.reading.Reading.TheVariants.{Nothing, Bad, Good}
@@ -8,10 +8,11 @@ use Rattle.flux_base.specs.declared.track.TrackId.{TrackId}
 use Rattle.sector_images.specs.declared.format.Format.{Format}
 use Rattle.turn_merge.specs.Book.{Knowledge, IsKnown, StandsFor, SameShape}
 use Rattle.turn_merge.specs.Readings.{NotedReading}
-use Rattle.flux_engine.specs.Captured.{AppendsReadings, AreReadingsBy}
+use Rattle.flux_engine.specs.Captured.{AppendsReadings, AreReadingsBy, AreReadingsOf, count_of_clocks}
 use Rattle.flux_engine.specs.Room.{MOST_READINGS}
 use Rattle.flux_engine.specs.Tracks.{Found, readings_in}
 use Rattle.turn_merge.specs.declared.clock.Clock.{Clock}
+use Rattle.flux_engine.specs.declared.plan.Clocks.{Clocks}
 use Rattle.flux_engine.specs.declared.sectors.Sectors.{Sectors}
 
 -- cells that were recovered from these transitions: each has its one, the first cell is a one, and there are few
@@ -67,3 +68,11 @@ pub record HasNoted (clock : Clock) (format : Format) (track : TrackId) (times i
   pub noted : AppendsReadings old new readings
   pub shape : SameShape old new
   pub few : new.notes ≤ old.notes + MOST_READINGS
+
+-- The same by these clocks, one after the other.
+pub record HasNotedBy (clocks : Clocks) (format : Format) (track : TrackId) (times indexes : List ℕ) (capture : ℕ) (old new : Knowledge) : Type 0 where
+  pub readings : List NotedReading
+  pub are : AreReadingsOf clocks format track times indexes capture readings
+  pub noted : AppendsReadings old new readings
+  pub shape : SameShape old new
+  pub few : new.notes ≤ old.notes + MOST_READINGS * count_of_clocks clocks

@@ -16,4 +16,8 @@ pub mod Rings
 pub mod Captures
 pub mod Writes
 pub mod Needed
+pub mod Plans
+pub mod PlanAnswers
+pub mod PlanProgress
+pub mod PlanLaws
 pub mod lemmas

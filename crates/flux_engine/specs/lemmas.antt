@@ -4,6 +4,7 @@ pub mod PartLaws
 pub mod Pieces
 pub mod Finding
 pub mod ReadLaws
+pub mod Coming
 pub mod OneCapture
 pub mod Each
 pub mod GoodSectors

@@ -1,9 +1,11 @@
 //! A track by the streams that capture it, one or several: their readings are gathered in one book.
 
-ghost use Rattle.std.specs.Prelude.{◌≡◌, ◌+◌, ◌≤◌, ◌<◌, [], List, length, IfOk, OnOk, OnErr, true, false};
+ghost use Rattle.std.specs.Prelude.{◌≡◌, ◌+◌, ◌*◌, ◌≤◌, ◌<◌, [], List, length, IfOk, OnOk, OnErr, true, false};
 ghost use Rattle.std.specs.Option.{option_copied};
 ghost use Rattle.flux_engine.specs.Answers.{CaptureCause, ReadsByBoth, ReadsCapture, ReadsStream};
-ghost use Rattle.flux_engine.specs.Gathering.{HasNoted, IsBookFor};
+ghost use Rattle.flux_engine.specs.Captured.{count_of_clocks};
+ghost use Rattle.flux_engine.specs.Gathering.{HasNoted, HasNotedBy, IsBookFor};
+ghost use Rattle.flux_engine.specs.PlanAnswers.{ReadsByClocks};
 ghost use Rattle.flux_engine.specs.Reading.{IsBounded};
 ghost use Rattle.flux_engine.specs.Recordings.{start_by as start_of_clock, track_at, sectors_of as sectors_in};
 ghost use Rattle.flux_engine.specs.Room.{IsRoomy, MOST_READINGS, MOST_SOURCES};
@@ -19,6 +21,7 @@ ghost use Rattle.turn_merge.specs.Readings.{NotedReading, agreed, verdict as ver
 
 use crate::fault::CaptureFault;
 use crate::gathering::gather;
+use crate::plan::Clocks;
 use crate::recordings::sectors_of;
 use crate::room::{DiskRoom, Tools};
 use crate::track_part::{PartFault, write_part};
@@ -77,24 +80,7 @@ pub fn read_capture<S: Source>(
     ensures cause { CaptureCause (S.faults source.old) (S.faults source.new) result }
     ensures later { S.faults source.old ≤ S.faults source.new }
 {
-    tracks_keep_bounds();
-    let track = track_id(room.format, number);
-    room.failed = true;
-    match read_stream(source, &mut room.stream) {
-        Ok(()) => {}
-        Err(fault) => return Err(fault),
-    }
-    note_readings(
-        Clock::Following,
-        room.format,
-        track,
-        capture,
-        room.stream.flux(),
-        &mut room.tools,
-    );
-    room.captures += 1;
-    room.failed = false;
-    Ok(())
+    read_by_clocks(Clocks::FollowingAlone, room, number, capture, source)
 }
 
 /// Reads the next stream as the one of the started track, and notes all its readings by both clocks after those before: first those
@@ -128,6 +114,42 @@ pub fn read_by_both_clocks<S: Source>(
     ensures cause { CaptureCause (S.faults source.old) (S.faults source.new) result }
     ensures later { S.faults source.old ≤ S.faults source.new }
 {
+    read_by_clocks(Clocks::Both, room, number, 0, source)
+}
+
+/// Reads the next stream as one more that captures the started track, and notes all its readings by these clocks after those
+/// before, as those of this capture. No answer is for want of memory.
+///
+/// It counts once for each clock among the at most 32 streams of a track, and a room is not used again for reading after a fault.
+pub fn read_by_clocks<S: Source>(
+    clocks: Clocks,
+    room: &mut DiskRoom,
+    number: u32,
+    capture: u8,
+    source: &mut S,
+) -> Result<(), CaptureFault>
+    requires started { number ≡ room.old.started }
+    requires few { room.old.captures + count_of_clocks clocks ≤ MOST_SOURCES }
+    requires sound { room.old.failed ≡ false }
+    ensures read { ReadsByClocks clocks room.old.format (track_at room.old.format number) capture (S.left source.old) (S.left source.new) room.old.used room.old.held room.new.held room.old.book room.new.book result }
+
+    // The source is read only where the bytes at hand do not tell the answer.
+    ensures needed { IsReadWhereNeeded (source_at S.left S.given S.faults source.old) (source_at S.left S.given S.faults source.new) room.old.used room.old.held }
+
+    // The room after the call.
+    ensures format { room.new.format ≡ room.old.format }
+    ensures held { length room.new.held ≤ 4096 }
+    ensures used { room.new.used ≡ true }
+    ensures next { room.new.next ≡ room.old.next }
+    ensures started { room.new.started ≡ number }
+    ensures captures { OnOk result (room.new.captures ≡ room.old.captures + count_of_clocks clocks) }
+    ensures shape { SameShape room.old.book room.new.book }
+    ensures sound { OnOk result (room.new.failed ≡ false) }
+    ensures failed { OnErr result (room.new.failed ≡ true) }
+
+    ensures cause { CaptureCause (S.faults source.old) (S.faults source.new) result }
+    ensures later { S.faults source.old ≤ S.faults source.new }
+{
     tracks_keep_bounds();
     let track = track_id(room.format, number);
     room.failed = true;
@@ -135,25 +157,27 @@ pub fn read_by_both_clocks<S: Source>(
         Ok(()) => {}
         Err(fault) => return Err(fault),
     }
-    note_readings(
-        Clock::Following,
+    note_by_clocks(
+        clocks,
         room.format,
         track,
-        0,
+        capture,
         room.stream.flux(),
         &mut room.tools,
     );
-    note_readings(
-        Clock::Held,
-        room.format,
-        track,
-        0,
-        room.stream.flux(),
-        &mut room.tools,
-    );
-    room.captures += 2;
+    room.captures += clock_count(clocks);
     room.failed = false;
     Ok(())
+}
+
+/// How many clocks these are.
+fn clock_count(clocks: Clocks) -> u32
+    ensures { result ≡ count_of_clocks clocks }
+{
+    match clocks {
+        Clocks::FollowingAlone => 1,
+        Clocks::Both => 2,
+    }
 }
 
 /// The format of the disks that the room is for.
@@ -213,6 +237,30 @@ fn read_stream<S: Source>(source: &mut S, stream: &mut StreamRoom) -> Result<(),
         Ok(()) => Ok(()),
         Err(RoomFault::Refused { block, fault }) => Err(CaptureFault::Refused { block, fault }),
         Err(RoomFault::ReadFault) => Err(CaptureFault::ReadFault),
+    }
+}
+
+/// Recovers the cells of a capture of a track by these clocks and notes all readings of its sectors in the book.
+fn note_by_clocks(
+    clocks: Clocks,
+    format: Format,
+    track: TrackId,
+    capture: u8,
+    flux: &TrackFlux,
+    tools: &mut Tools,
+)
+    requires track { IsTrack format track }
+    requires bounded { IsBounded flux.now }
+    requires roomy { IsRoomy format tools.old.cells tools.old.book }
+    requires knows { Knows (sectors_in format track) tools.old.book }
+    requires few { tools.old.book.notes + 2 * MOST_READINGS ≤ MOST_NOTES }
+    ensures noted { HasNotedBy clocks format track flux.now.times flux.now.indexes capture tools.old.book tools.new.book }
+    ensures roomy { IsRoomy format tools.new.cells tools.new.book }
+{
+    note_readings(Clock::Following, format, track, capture, flux, tools);
+    match clocks {
+        Clocks::FollowingAlone => {}
+        Clocks::Both => note_readings(Clock::Held, format, track, capture, flux, tools),
     }
 }
 

@@ -2,6 +2,7 @@
 
 ghost use Rattle.flux_engine.specs.ClockLaws.{ContradictionsAreNamed, DecodedReadingsLead, DecodedStaysGood, GoodIsRightByBoth, GoodReadingsStandByBoth, ReadingsByBothAreOne};
 ghost use Rattle.flux_engine.specs.DiskLaws.{EachHasOneVerdict, GoodIsRightOnDisks, LinesNameVerdicts, LinesTellVerdicts, OthersAreZeros, PartsFitImages, PartsStandAtTheirPlaces, ReportsHaveNoOtherLines, WholeDisksFillImages};
+ghost use Rattle.flux_engine.specs.PlanLaws.{ContradictionsAreNamedInPlans, FirstSourceStaysGood, GoodIsRightInPlans, OnePlanned};
 ghost use Rattle.flux_engine.specs.Laws.{CutInputsLead, FirstTracksLead, GoodIsRight, OneOutcome, PartsStay};
 
 use disk_recordings::tracks_are_read;
@@ -100,6 +101,21 @@ pub fn both_clocks_are_right()
     ensures contradictory { ContradictionsAreNamed }
     ensures decoded { DecodedReadingsLead }
     ensures stays { DecodedStaysGood }
+{
+    tracks_are_read()
+}
+
+/// Streams that are read by a plan come to one outcome. A sector is called good, or contradictory, only where the places that are named
+/// hold it, each in its turn of its capture, by its clock; where it is good, all places of all captures and of all clocks of the
+/// plan that hold it hold the bytes that the image has of it.
+///
+/// A sector that the first capture alone makes good, by the clock that follows the drive, is good by all, with the same place and the
+/// same bytes, or contradictory.
+pub fn plans_are_right()
+    ensures one { OnePlanned }
+    ensures good { GoodIsRightInPlans }
+    ensures contradictory { ContradictionsAreNamedInPlans }
+    ensures stays { FirstSourceStaysGood }
 {
     tracks_are_read()
 }

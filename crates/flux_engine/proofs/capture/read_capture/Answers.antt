@@ -1,22 +1,9 @@
-use Rattle.std.proofs.Common.{◌≡◌, Option, Ok, ap, sym, subst, unwrap_or}
-use Rattle.flux_base.specs.declared.track.TrackId.{TrackId}
-use Rattle.flux_engine.specs.Answers.{ReadsCapture}
 use Rattle.flux_engine.specs.Recordings.{track_at}
-use Rattle.flux_engine.specs.Room.{RoomState}
 use Rattle.flux_engine.proofs.Noting.{reads_capture}
 use Rattle.flux_engine.proofs.capture.read_capture.Goals as goal
 
 pub returns-clause-read : goal.returns-clause-read
 returns-clause-read g c =
-    let inside = c.room.inside in
-    let left = g.S.Source.left c.args.source.now in
-    let left' = g.S.Source.left c.read_stream.new.source in
-    let held' = c.read_stream.new.stream.held in
-    let book' = c.note_readings.new.tools.book in
-    let is : c.track_id-track.result ≡ track_at inside.format c.args.number =
-    sym (ap (λ (o : Option TrackId). unwrap_or o (record { cylinder = 0; head = 0 })) c.track_id-track.ensures.at) in
-    let whole = reads_capture inside.format c.track_id-track.result c.args.capture left left' inside.stream.used inside.stream.held held'
-    c.read_stream.new.stream.flux inside.tools.book book' c.in-Ok.field-0 c.in-Ok.ensures.read (rw c.flux.ensures at c.note_readings.ensures.noted) in
-    let track = subst (λ (t : TrackId). ReadsCapture inside.format t c.args.capture left left' inside.stream.used inside.stream.held held' inside.tools.book book' (Ok c.in-Ok.field-0)) is whole in
-    subst (λ (r : RoomState). ReadsCapture r.format (track_at r.format c.args.number) c.args.capture left left' r.used r.held held' r.book book' (Ok c.in-Ok.field-0))
-    c.room.view_is track
+    reads_capture c.args.room.now.format (track_at c.args.room.now.format c.args.number) (g.S.Source.left c.args.source.now) (g.S.Source.left c.read_by_clocks.new.source)
+    c.args.room.now.used c.args.room.now.held c.read_by_clocks.new.room.held c.args.room.now.book c.read_by_clocks.new.room.book c.args.capture c.read_by_clocks.result
+    c.read_by_clocks.ensures.read

@@ -1,34 +1,32 @@
-use Rattle.std.proofs.Common.{Ok, Err, subst}
-use Rattle.std.specs.Io.KnownBytes.{Appends}
-use Rattle.flux_base.specs.Outside.{AppendsPart}
-use Rattle.flux_engine.specs.declared.fault.EngineFault.TheVariants.{NotesFault}
-use Rattle.flux_engine.proofs.Disks.{decoded_all, decoded_no_total}
+use Rattle.kryo_stream.specs.Reads.{source_at}
+use Rattle.flux_engine.specs.Needed.{EndsInStreams}
+use Rattle.flux_engine.specs.Plans.{EndsInPlan, decoding}
+use Rattle.flux_engine.proofs.DecodedPlans.{decodes_disk, ends_in_streams, engine_cause, reads_weaken}
 use Rattle.flux_engine.proofs.Telling.{says_of_input, whole_or_refused}
 use Rattle.flux_engine.proofs.disk.decode_disk.Goals as goal
 
-pub returns-in-Err-clause-told : goal.returns-in-Err-clause-told
-returns-in-Err-clause-told g c = λ bytes told.
-    says_of_input c.args.room.now.format bytes (g.S.Source.left c.args.source.now) _ _ _ _ _ told (Err c.in-Err.fault) c.in-Err.ensures.err
+pub returns-clause-decoded : goal.returns-clause-decoded
+returns-clause-decoded g c =
+    rw c.engine_answer.ensures
+    (decodes_disk c.args.room.now.format (g.S.Source.left c.args.source.now) (g.S.Source.left c.decode_planned-answer.new.source)
+    (g.W.Sink.written c.args.image.now) (g.W.Sink.written c.decode_planned-answer.new.image) (g.N.Sink.written c.args.notes.now) (g.N.Sink.written c.decode_planned-answer.new.notes)
+    c.decode_planned-answer.result c.decode_planned-answer.ensures.decoded)
 
-pub returns-in-Err-clause-complete : goal.returns-in-Err-clause-complete
-returns-in-Err-clause-complete g c = whole_or_refused _ _ _ _ _ _ (Err c.in-Err.fault) c.in-Err.ensures.cause
+pub returns-clause-told : goal.returns-clause-told
+returns-clause-told g c = λ bytes told.
+    says_of_input c.args.room.now.format bytes (g.S.Source.left c.args.source.now) _ _ _ _ _ told c.engine_answer.result (returns-clause-decoded g c)
 
-pub returns-in-Ok-write_line-clause-decoded : goal.returns-in-Ok-write_line-clause-decoded
-returns-in-Ok-write_line-clause-decoded g c =
-    decoded_all c.args.room.now.format _ _ _ _ _ (g.N.Sink.written c.decode_tracks.new.notes) _ c.decode_tracks.new.room c.in-Ok.totals c.in-Ok.ensures.ok
-    (subst (Appends (g.N.Sink.written c.decode_tracks.new.notes) (g.N.Sink.written c.write_line.new.sink)) c.total_line.ensures c.in-Ok-write_line.ensures.ok)
+pub returns-clause-needed : goal.returns-clause-needed
+returns-clause-needed g c = λ bytes told.
+    reads_weaken (EndsInPlan decoding c.args.room.now.format) (EndsInStreams c.args.room.now.format)
+    (source_at g.S.Source.left g.S.Source.given g.S.Source.faults c.args.source.now) (source_at g.S.Source.left g.S.Source.given g.S.Source.faults c.decode_planned-answer.new.source)
+    (ends_in_streams c.args.room.now.format) (c.decode_planned-answer.ensures.needed bytes told)
 
-pub returns-in-Ok-write_line-clause-told : goal.returns-in-Ok-write_line-clause-told
-returns-in-Ok-write_line-clause-told g c = λ bytes told.
-    says_of_input c.args.room.now.format bytes (g.S.Source.left c.args.source.now) _ _ _ _ _ told (Ok c.in-Ok.totals)
-    (returns-in-Ok-write_line-clause-decoded g c)
+pub returns-clause-cause : goal.returns-clause-cause
+returns-clause-cause g c =
+    rw c.engine_answer.ensures
+    (engine_cause (g.S.Source.faults c.args.source.now) (g.S.Source.faults c.decode_planned-answer.new.source) (g.W.Sink.faults c.args.image.now) (g.W.Sink.faults c.decode_planned-answer.new.image)
+    (g.N.Sink.faults c.args.notes.now) (g.N.Sink.faults c.decode_planned-answer.new.notes) c.decode_planned-answer.result c.decode_planned-answer.ensures.cause)
 
-pub returns-in-Err-write_line-clause-decoded : goal.returns-in-Err-write_line-clause-decoded
-returns-in-Err-write_line-clause-decoded g c =
-    decoded_no_total c.args.room.now.format _ _ _ _ _ (g.N.Sink.written c.decode_tracks.new.notes) _ c.decode_tracks.new.room c.in-Ok.totals c.in-Ok.ensures.ok
-    (subst (AppendsPart (g.N.Sink.written c.decode_tracks.new.notes) (g.N.Sink.written c.write_line.new.sink)) c.total_line.ensures c.in-Err-write_line.ensures.err)
-
-pub returns-in-Err-write_line-clause-told : goal.returns-in-Err-write_line-clause-told
-returns-in-Err-write_line-clause-told g c = λ bytes told.
-    says_of_input c.args.room.now.format bytes (g.S.Source.left c.args.source.now) _ _ _ _ _ told (Err NotesFault)
-    (returns-in-Err-write_line-clause-decoded g c)
+pub returns-clause-complete : goal.returns-clause-complete
+returns-clause-complete g c = whole_or_refused _ _ _ _ _ _ c.engine_answer.result (returns-clause-cause g c)

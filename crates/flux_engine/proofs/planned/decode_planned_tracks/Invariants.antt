@@ -1,16 +1,18 @@
 use Rattle.std.proofs.Common.{◌≡◌, ◌≤◌, ℕ, ◌*◌, List, Some}
 use Rattle.kryo_stream.specs.Reads.{source_at}
-use Rattle.flux_engine.specs.Needed.{EndsInStreams, ReadsWhereOpen}
-use Rattle.flux_engine.specs.Reading.{HasDecoded}
+use Rattle.flux_engine.specs.Needed.{ReadsWhereOpen}
 use Rattle.flux_engine.specs.Writing.{IsSum}
-use Rattle.flux_engine.proofs.disk.decode_tracks.Given as goal
+use Rattle.flux_engine.specs.PlanProgress.{HasPlanned}
+use Rattle.flux_engine.specs.Plans.{EndsInPlan}
+use Rattle.flux_engine.specs.Tracks.{part_by}
+use Rattle.flux_engine.proofs.planned.decode_planned_tracks.Given as goal
 
 abbrev pub invariant-loop-number : goal.invariant-loop-number
 invariant-loop-number g l = record {
-  decoded : HasDecoded l.initial.room.format (g.S.Source.left l.initial.source) (g.S.Source.left l.source)
+  decoded : HasPlanned l.plan (part_by l.plan.naming) l.initial.room.format (g.S.Source.left l.initial.source) (g.S.Source.left l.source)
       (g.W.Sink.written l.initial.image) (g.W.Sink.written l.image) (g.N.Sink.written l.initial.notes) (g.N.Sink.written l.notes)
       l.room l.number l.totals;
-  needed : (bytes : List ℕ) → g.S.Source.left l.initial.source ≡ Some bytes → ReadsWhereOpen (EndsInStreams l.initial.room.format)
+  needed : (bytes : List ℕ) → g.S.Source.left l.initial.source ≡ Some bytes → ReadsWhereOpen (EndsInPlan l.plan l.initial.room.format)
       (source_at g.S.Source.left g.S.Source.given g.S.Source.faults l.initial.source) (source_at g.S.Source.left g.S.Source.given g.S.Source.faults l.source);
   sum : IsSum l.totals;
   few : l.totals.sectors ≤ 100 * l.number;

@@ -1,0 +1,81 @@
+-- What the definition of a disk that is read by a plan comes to.
+use Rattle.std.specs.Prelude.{◌≡◌, ◌<◌, ◌≤◌, ℕ, Bool, List, drop, length}
+use Rattle.disk_recordings.specs.Members.{header_at, sector_at}
+use Rattle.frame_law.specs.Readings.{AreReadings}
+use Rattle.sector_images.specs.declared.format.Format.{Format}
+use Rattle.turn_merge.specs.Readings.{NotedReading, verdict}
+use Rattle.turn_merge.specs.declared.clock.Clock.{Clock}
+use Rattle.turn_merge.specs.declared.clock.Clock.TheVariants.{Following}
+use Rattle.turn_merge.specs.declared.verdict.Place.{Place}
+use Rattle.turn_merge.specs.declared.verdict.Verdict.TheVariants.{Contradictory, Good}
+use Rattle.flux_engine.specs.Captured.{IsUsed}
+use Rattle.flux_engine.specs.ClockLaws.{StaysGoodOrIsContradicted}
+use Rattle.flux_engine.specs.Plans.{AreCaptures, IsPlanned, PartOf, Planned, Streams, joined}
+use Rattle.flux_engine.specs.Recordings.{cells_by, sectors_of, track_at}
+use Rattle.flux_engine.specs.Tracks.{Found, image_bytes, place_in, readings_in}
+use Rattle.flux_engine.specs.declared.plan.Plan.{Plan}
+
+-- streams come to one outcome
+abbrev pub OnePlanned : Type 0
+OnePlanned = (plan : Plan) (of : PartOf) (format : Format) (streams : Streams) (a b : Planned)
+    → IsPlanned plan of format streams a → IsPlanned plan of format streams b → a ≡ b
+
+-- the cells that a clock recovers of a capture of track number n
+abbrev pub cells_in : Format → Streams → (n q : ℕ) → Clock → List Bool
+cells_in format streams n q clock = cells_by clock format (track_at format n) (streams n q).times (streams n q).indexes
+
+-- these cells hold this sector at the place, with its sync, header, data and check values
+abbrev pub StandsIn : Format → Streams → (n q : ℕ) → Clock → (place sector : ℕ) → List ℕ → Type 0
+StandsIn format streams n q clock place sector bytes =
+    sector_at format (track_at format n) (drop place (cells_in format streams n q clock)) sector bytes
+
+-- what is named is a place of a capture, by a clock of the plan, in its turn there, and the cells hold this sector there
+pub record IsNamedIn (plan : Plan) (format : Format) (streams : Streams) (n : ℕ) (named : Place) (sector : ℕ) (bytes : List ℕ) : Type 0 where
+  pub capture : ℕ
+  pub low : capture < plan.captures
+  pub clock : Clock
+  pub used : IsUsed plan.clocks clock
+  pub place : ℕ
+  pub is : named ≡ place_in capture clock (streams n capture).times (streams n capture).indexes (cells_in format streams n capture clock) place
+  pub stands : StandsIn format streams n capture clock place sector bytes
+
+-- A sector of track number n is good with its first good reading at this place: the cells that it names hold the sector; the track's
+-- part of the image has these bytes for it; and each place whose cells hold it, of any capture and by any clock of the plan, holds
+-- the same bytes.
+pub record IsRightlyGoodIn (plan : Plan) (format : Format) (streams : Streams) (n : ℕ) (readings : List NotedReading) (sector : ℕ) (first : Place) : Type 0 where
+  pub bytes : List ℕ
+  pub named : IsNamedIn plan format streams n first sector bytes
+  pub in_image : image_bytes (sectors_of format (track_at format n)) readings sector ≡ bytes
+  pub agreed : (q : ℕ) (clock : Clock) (place : ℕ) (others : List ℕ) → q < plan.captures → IsUsed plan.clocks clock
+      → StandsIn format streams n q clock place sector others → others ≡ bytes
+
+-- wherever the verdict on a sector over all readings of a track is good
+abbrev pub GoodIsRightInPlans : Type 0
+GoodIsRightInPlans = (plan : Plan) (format : Format) (streams : Streams) (n : ℕ) (captures : List (List NotedReading))
+    → length captures ≡ plan.captures → AreCaptures plan format streams n captures
+    → (sector good bad : ℕ) (first : Place) → verdict (joined captures) sector ≡ Good good bad first
+    → IsRightlyGoodIn plan format streams n (joined captures) sector first
+
+-- A sector is contradictory with these two places named: the cells that each names hold the sector there, with other bytes.
+pub record IsRightlyContradictoryIn (plan : Plan) (format : Format) (streams : Streams) (n sector : ℕ) (first other : Place) : Type 0 where
+  pub bytes : List ℕ
+  pub others : List ℕ
+  pub named : IsNamedIn plan format streams n first sector bytes
+  pub contradicted : IsNamedIn plan format streams n other sector others
+  pub differ : ¬ (others ≡ bytes)
+
+abbrev pub ContradictionsAreNamedInPlans : Type 0
+ContradictionsAreNamedInPlans = (plan : Plan) (format : Format) (streams : Streams) (n : ℕ) (captures : List (List NotedReading))
+    → length captures ≡ plan.captures → AreCaptures plan format streams n captures
+    → (sector good bad : ℕ) (first other : Place) → verdict (joined captures) sector ≡ Contradictory good bad first other
+    → IsRightlyContradictoryIn plan format streams n sector first other
+
+-- A sector that is good by the first capture alone and the clock that follows the drive is so by all, with the same first place and
+-- the same bytes, or contradictory, with the same first place.
+abbrev pub FirstSourceStaysGood : Type 0
+FirstSourceStaysGood = (plan : Plan) (format : Format) (streams : Streams) (n : ℕ) (captures : List (List NotedReading)) (found : List Found)
+    → 1 ≤ plan.captures → length captures ≡ plan.captures → AreCaptures plan format streams n captures
+    → AreReadings (header_at format (track_at format n)) (sector_at format (track_at format n)) (cells_in format streams n 0 Following) 0 found
+    → (sector good bad : ℕ) (first : Place)
+    → verdict (readings_in 0 Following (streams n 0).times (streams n 0).indexes (cells_in format streams n 0 Following) found) sector ≡ Good good bad first
+    → StaysGoodOrIsContradicted (readings_in 0 Following (streams n 0).times (streams n 0).indexes (cells_in format streams n 0 Following) found) (joined captures) sector first

@@ -1,0 +1,127 @@
+-- What a disk comes to that is read by a plan: so many streams of each track, each by these clocks.
+use Rattle.std.specs.Prelude.{◌≡◌, ◌<◌, ◌⊎◌, ℕ, ◌+◌, ◌*◌, List, [], ◌++◌, length, flat_map, get_or, Option, Some, None}
+use Rattle.flux_base.specs.declared.track.TrackId.{TrackId}
+use Rattle.kryo_stream.specs.Stream.{first_fault, times, indexes}
+use Rattle.kryo_stream.specs.declared.fault.StreamFault.{StreamFault}
+use Rattle.kryo_stream.specs.declared.fault.StreamFault.TheVariants.{Truncated}
+use Rattle.sector_images.specs.Places.{tracks}
+use Rattle.sector_images.specs.declared.format.Format.{Format}
+use Rattle.sector_report.specs.Lines.{total_text}
+use Rattle.sector_report.specs.declared.naming.Naming.TheVariants.{Unnamed}
+use Rattle.sector_report.specs.declared.totals.Totals.{Totals}
+use Rattle.turn_merge.specs.Readings.{NotedReading}
+use Rattle.flux_engine.specs.Captured.{AreReadingsOf}
+use Rattle.flux_engine.specs.Disks.{images, lines, part_at, totals_over}
+use Rattle.flux_engine.specs.Recordings.{track_at}
+use Rattle.flux_engine.specs.Streams.{stream_at}
+use Rattle.flux_engine.specs.Tracks.{TrackPart}
+use Rattle.flux_engine.specs.declared.plan.Clocks.TheVariants.{FollowingAlone}
+use Rattle.flux_engine.specs.declared.plan.Plan.{Plan}
+
+-- what a stream says: its first fault and the number of its block, or else its transitions and index times
+pub record Seen : Type 0 where
+  pub fault : Option (ℕ × StreamFault)
+  pub times : List ℕ
+  pub indexes : List ℕ
+
+-- what the bytes that begin with a stream say of it
+abbrev pub seen : List ℕ → Seen
+seen x = record { fault = first_fault x; times = times x; indexes = indexes x }
+
+-- the streams of a disk, by the number of the track and that of the capture
+abbrev pub Streams : Type 0
+Streams = ℕ → ℕ → Seen
+
+-- those of an input in which they follow one another: the captures of a track, and then those of the next
+abbrev pub streams_in : Plan → List ℕ → Streams
+streams_in plan x n q = seen (stream_at x (n * plan.captures + q))
+
+-- the readings of the first captures of track number n
+abbrev pub AreCaptures : Plan → Format → Streams → (n : ℕ) → List (List NotedReading) → Type 0
+AreCaptures plan format streams n captures =
+    (q : ℕ) → q < length captures
+    → AreReadingsOf plan.clocks format (track_at format n) (streams n q).times (streams n q).indexes q (get_or captures q [])
+
+-- lists of readings, joined in order
+abbrev pub joined : List (List NotedReading) → List NotedReading
+joined captures = flat_map (λ readings. readings) captures
+
+-- what becomes of a track's readings: its part of the image, what is said of it, and its totals
+abbrev pub PartOf : Type 0
+PartOf = Format → TrackId → List NotedReading → TrackPart
+
+-- no capture of track number n has a fault, and this is what the track comes to by all their readings, joined in order
+pub record IsPlannedPart (plan : Plan) (of : PartOf) (format : Format) (streams : Streams) (n : ℕ) (part : TrackPart) : Type 0 where
+  pub no_fault : (q : ℕ) → q < plan.captures → (streams n q).fault ≡ None
+  pub captures : List (List NotedReading)
+  pub many : length captures ≡ plan.captures
+  pub each : AreCaptures plan format streams n captures
+  pub is : part ≡ of format (track_at format n) (joined captures)
+
+-- the first tracks, one for each part
+abbrev pub ArePlannedParts : Plan → PartOf → Format → Streams → List TrackPart → Type 0
+ArePlannedParts plan of format streams parts = (n : ℕ) → n < length parts → IsPlannedPart plan of format streams n (part_at parts n)
+
+-- the number of a track, that of a capture of it, the number of a block in its stream, and the fault there
+pub record PlanStop : Type 0 where
+  pub track : ℕ
+  pub capture : ℕ
+  pub block : ℕ
+  pub fault : StreamFault
+
+-- a capture of a track is read before another
+abbrev pub IsBefore : (track capture later_track later_capture : ℕ) → Type 0
+IsBefore track capture later_track later_capture = (track < later_track) ⊎ ((track ≡ later_track) × (capture < later_capture))
+
+-- the first of the streams that has a fault, and that fault
+pub record IsFirstFault (plan : Plan) (format : Format) (streams : Streams) (stop : PlanStop) : Type 0 where
+  pub low : stop.track < length (tracks format)
+  pub few : stop.capture < plan.captures
+  pub clean : (n q : ℕ) → q < plan.captures → IsBefore n q stop.track stop.capture → (streams n q).fault ≡ None
+  pub is : (streams stop.track stop.capture).fault ≡ Some (stop.block, stop.fault)
+
+-- where reading stops: there, or nowhere
+abbrev pub StopsAt : Plan → Format → Streams → Option PlanStop → Type 0
+StopsAt plan format streams (Some stop) = IsFirstFault plan format streams stop
+StopsAt plan format streams None = (n q : ℕ) → n < length (tracks format) → q < plan.captures → (streams n q).fault ≡ None
+
+-- how many tracks are decoded: all before that of the stop, or all
+abbrev pub planned_count : Format → Option PlanStop → ℕ
+planned_count format (Some stop) = stop.track
+planned_count format None = length (tracks format)
+
+-- the bytes of the image and of the report, the totals, and where reading stopped
+pub record Planned : Type 0 where
+  pub image : List ℕ
+  pub notes : List ℕ
+  pub totals : Totals
+  pub stop : Option PlanStop
+
+-- the line after all sector lines, where all tracks are decoded
+abbrev pub planned_last_line : Totals → Option PlanStop → List ℕ
+planned_last_line totals (Some stop) = []
+planned_last_line totals None = total_text totals
+
+abbrev pub planned_of : List TrackPart → Option PlanStop → Planned
+planned_of parts stop = record {
+  image = images parts;
+  notes = lines parts ++ planned_last_line (totals_over parts) stop;
+  totals = totals_over parts;
+  stop = stop;
+}
+
+-- what these streams come to: all tracks before that of the first stream with a fault, or all tracks
+pub record IsPlanned (plan : Plan) (of : PartOf) (format : Format) (streams : Streams) (o : Planned) : Type 0 where
+  pub parts : List TrackPart
+  pub each : ArePlannedParts plan of format streams parts
+  pub stops : StopsAt plan format streams o.stop
+  pub many : length parts ≡ planned_count format o.stop
+  pub is : o ≡ planned_of parts o.stop
+
+-- the streams go on after these bytes: they end inside a block, and no stream before has a fault
+abbrev pub EndsInPlan : Plan → Format → List ℕ → Type 0
+EndsInPlan plan format x = (stop : PlanStop) × IsFirstFault plan format (streams_in plan x) stop × (stop.fault ≡ Truncated)
+
+-- the plan by which a disk is decoded: one stream of each track, by the clock that follows the drive, and lines that name no source
+abbrev pub decoding : Plan
+decoding = record { captures = 1; clocks = FollowingAlone; naming = Unnamed }
