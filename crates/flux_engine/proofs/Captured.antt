@@ -8,8 +8,8 @@ use Rattle.std.proofs.Math.Nat.{div-mul-le_self, lt-div-mul-add, le-div_iff_mul-
 use Rattle.flux_writer.specs.Reading.{HasEarlyOne, IsStreamOf}
 use Rattle.flux_writer.specs.Written.{cell_time, ones_of, quarter, stream_of, track_cells, track_turns}
 use Rattle.track_rings.specs.Rings.{AreNeighbours, cell_of, last_in}
-use Rattle.flux_engine.specs.Captures.{Capture, mean_cell}
-use Rattle.phase_loop.specs.Carried.{AreClose, Carried, DRIFT, OFF_SPEED, OFF_START}
+use Rattle.flux_engine.specs.Captures.{Capture, IsSteady, mean_cell}
+use Rattle.phase_loop.specs.Carried.{AreClose, Carried, DRIFT, OFF_MEAN, OFF_SPEED, OFF_START}
 use Rattle.flux_engine.proofs.Chosen.{AreChosen, are_chosen}
 use Rattle.flux_engine.proofs.Repeated.{begin, own_cell, same_later, written_length, written_runs}
 
@@ -217,3 +217,20 @@ captures ring nominal early many least stream =
       two_turns = two_turns ring nominal early;
       start = rw (stream.turns_are, mapped (λ (K : ℕ). nominal) (ones ring nominal) 0 some) (start ring nominal many least);
     }
+
+-- a drive that is as far off at its start is as near all along
+steady_near : (nominal mean : ℕ) → AreClose OFF_START nominal mean nominal → AreClose OFF_MEAN nominal mean nominal
+steady_near nominal mean near = omega (arith, near)
+
+-- whose local periods are all the same
+pub steady_captures : (ring : List Bool) (nominal : ℕ) → HasEarlyOne ring → 1024 ≤ length ring → 16384 ≤ nominal
+    → IsStreamOf (stream_of ring nominal) (map (cell_time nominal) (ones_of (track_cells ring))) (map (cell_time nominal) (track_turns ring))
+    → (capture : Capture (stream_of ring nominal) ring nominal) × IsSteady (stream_of ring nominal) ring nominal capture
+unfolding captures
+steady_captures ring nominal early many least stream = (
+  captures ring nominal early many least stream,
+  λ i within.
+      let here : i < length (ones ring nominal) = omega (arith, within, length-map (ones ring nominal) (λ (K : ℕ). nominal)) in
+      rw (stream.turns_are, mapped (λ (K : ℕ). nominal) (ones ring nominal) i here)
+      (steady_near nominal (mean_cell (map (cell_time nominal) (track_turns ring)) (length ring)) (start ring nominal many least)),
+)

@@ -19,11 +19,11 @@ use Rattle.track_rings.specs.Rings.{AreSectors}
 use Rattle.sector_images.specs.Formats.{row, zone}
 use Rattle.sector_images.specs.Places.{IsTrack, NumbersNameTracks, SectorsLieInImages, TracksKeepBounds, sector_place, tracks}
 use Rattle.sector_images.specs.declared.format.Format.{Format}
-use Rattle.flux_engine.specs.Captures.{ImagesHaveRings, WritesCaptures}
+use Rattle.flux_engine.specs.Captures.{ImagesHaveRings, WritesCaptures, WritesSteadyCaptures}
 use Rattle.flux_engine.specs.Recordings.{sectors_of, track_at}
 use Rattle.flux_engine.specs.Rings.{IsImage, IsRing, disk_id, nominal_of, ring_cells_of, ring_of, ring_with, HasRoomForRings, track_stream, sector_bytes, track_bytes}
 use Rattle.flux_engine.specs.declared.sectors.Sectors.{Sectors}
-use Rattle.flux_engine.proofs.Captured.{captures}
+use Rattle.flux_engine.proofs.Captured.{steady_captures}
 use Rattle.flux_engine.specs.lemmas.Pieces.{pieces-more}
 use Rattle.flux_engine.proofs.Repeated.{early_one}
 
@@ -174,17 +174,20 @@ track_known names format k below =
     let named = names format k below in
     subst (IsTrack format) (sym (is_track_at format k named.0 named.1)) named.2
 
-pub writes_captures : RingsHaveCells → TracksKeepBounds → NumbersNameTracks → SectorsLieInImages → RingsAreRead → WritesCaptures
-writes_captures have keep names lie reads format image k is below =
+pub writes_steady_captures : RingsHaveCells → TracksKeepBounds → NumbersNameTracks → SectorsLieInImages → RingsAreRead → WritesSteadyCaptures
+writes_steady_captures have keep names lie reads format image k is below =
     let track : TrackId = track_at format k in
     let known : IsTrack format track = track_known names format k below in
     let ring : IsRing (zone format track.cylinder).ring_cells (ring_with format track image) =
     is_ring have format track image known (are_sectors lie format track image is known) in
     let bounds = keep format track known in
     let early : HasEarlyOne (ring_with format track image) = is_early keep format track known (ring_with format track image) ring in
-    captures (ring_with format track image) (nominal_of format k) early (omega (arith, ring.cells_are, bounds.shortest_ring)) bounds.shortest_cell
+    steady_captures (ring_with format track image) (nominal_of format k) early (omega (arith, ring.cells_are, bounds.shortest_ring)) bounds.shortest_cell
     (reads (ring_with format track image) (nominal_of format k) (omega (arith, bounds.shortest_cell)) bounds.longest_cell
     (omega (arith, ring.cells_are, bounds.longest_ring)) early)
+
+pub writes_captures : RingsHaveCells → TracksKeepBounds → NumbersNameTracks → SectorsLieInImages → RingsAreRead → WritesCaptures
+writes_captures have keep names lie reads format image k is below = (writes_steady_captures have keep names lie reads format image k is below).0
 
 pub images_have_rings : RingsHaveCells → NumbersNameTracks → SectorsLieInImages → ImagesHaveRings
 images_have_rings have names lie format image k is below =

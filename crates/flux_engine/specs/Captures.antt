@@ -1,16 +1,17 @@
 -- Streams that capture a ring: what a drive within the bounds of disturbance gives of a written track.
-use Rattle.std.specs.Prelude.{◌≡◌, ◌≤◌, ◌<◌, ℕ, ◌+◌, ◌*◌, ◌/◌, Bool, List, [], length, slice_index, None}
+use Rattle.std.specs.Prelude.{◌≡◌, ◌≤◌, ◌<◌, ℕ, ◌+◌, ◌*◌, ◌/◌, Bool, List, [], ◌∷◌, length, slice_index, None}
 use Rattle.flux_base.specs.declared.track.TrackId.{TrackId}
 use Rattle.index_turns.specs.Track.{turn_length}
 use Rattle.kryo_stream.specs.Stream.{first_fault, indexes, stream_length, times}
-use Rattle.phase_loop.specs.Carried.{AreClose, Carried, OFF_START}
-use Rattle.phase_loop.specs.Pieces.{CarryPieces, Piece, cells_between, cells_of_pieces}
+use Rattle.phase_loop.specs.Carried.{AreClose, Carried, KeepsSpeed, OFF_START}
+use Rattle.phase_loop.specs.Pieces.{CarryPieces, EachKeepsSpeed, Piece, cells_between, cells_of_pieces}
 use Rattle.phase_loop.specs.Start.{FINE_PER_TICK}
 use Rattle.sector_images.specs.Formats.{zone}
 use Rattle.sector_images.specs.Places.{IsTrack, tracks}
 use Rattle.sector_images.specs.declared.format.Format.{Format}
 use Rattle.track_rings.specs.Rings.{IsSpaced, last_in, stretch}
-use Rattle.flux_engine.specs.Recordings.{cells_of, track_at}
+use Rattle.flux_engine.specs.Recordings.{cells_by, cells_of, track_at}
+use Rattle.turn_merge.specs.declared.clock.Clock.{Clock}
 use Rattle.flux_engine.specs.Rings.{IsImage, IsRing, nominal_of, ring_cells_of, ring_of, track_stream}
 
 -- the mean cell of the first turn in fine units, where a ring of so many cells turns
@@ -37,6 +38,14 @@ pub record ErasedCapture (x : List ℕ) (ring : List Bool) (nominal : ℕ) : Typ
   pub later : List Piece
   pub carried : CarryPieces nominal (mean_cell (indexes x) (length ring)) ring (times x) first later
 
+-- the drive of a capture keeps the speed that the first turn tells
+abbrev pub IsSteady : (x : List ℕ) (ring : List Bool) (nominal : ℕ) → Capture x ring nominal → Type 0
+IsSteady x ring nominal capture = KeepsSpeed nominal (mean_cell (indexes x) (length ring)) capture.periods
+
+-- and in each piece of one that is erased in parts
+abbrev pub IsSteadyErased : (x : List ℕ) (ring : List Bool) (nominal : ℕ) → ErasedCapture x ring nominal → Type 0
+IsSteadyErased x ring nominal capture = EachKeepsSpeed nominal (mean_cell (indexes x) (length ring)) (capture.first ∷ capture.later)
+
 -- the recovered cells of a track's stream
 abbrev pub cells_of_stream : Format → TrackId → List ℕ → List Bool
 cells_of_stream format track x = cells_of format track (times x) (indexes x)
@@ -53,6 +62,17 @@ abbrev pub ErasedCapturesAreRecovered : Type 0
 ErasedCapturesAreRecovered = (format : Format) (track : TrackId) (x : List ℕ) (ring : List Bool) → IsTrack format track → IsRing (zone format track.cylinder).ring_cells ring
     → (capture : ErasedCapture x ring (zone format track.cylinder).nominal)
     → cells_of_stream format track x ≡ cells_of_pieces ring capture.first capture.later
+
+-- Where the drive keeps its speed, either clock recovers these cells.
+abbrev pub SteadyCapturesAreRecovered : Type 0
+SteadyCapturesAreRecovered = (clock : Clock) (format : Format) (track : TrackId) (x : List ℕ) (ring : List Bool) → IsTrack format track → IsRing (zone format track.cylinder).ring_cells ring
+    → (capture : Capture x ring (zone format track.cylinder).nominal) → IsSteady x ring (zone format track.cylinder).nominal capture
+    → cells_by clock format track (times x) (indexes x) ≡ cells_between ring (slice_index capture.places 0) (last_in capture.places)
+
+abbrev pub SteadyErasedCapturesAreRecovered : Type 0
+SteadyErasedCapturesAreRecovered = (clock : Clock) (format : Format) (track : TrackId) (x : List ℕ) (ring : List Bool) → IsTrack format track → IsRing (zone format track.cylinder).ring_cells ring
+    → (capture : ErasedCapture x ring (zone format track.cylinder).nominal) → IsSteadyErased x ring (zone format track.cylinder).nominal capture
+    → cells_by clock format track (times x) (indexes x) ≡ cells_of_pieces ring capture.first capture.later
 
 -- a capture is one of a ring of which nothing is erased: one piece carries it, at the same places
 abbrev pub CapturesAreErasedCaptures : Type 0
@@ -74,3 +94,9 @@ ImagesHaveRings = (format : Format) (image : List ℕ) (k : ℕ) → IsImage for
 abbrev pub WritesCaptures : Type 0
 WritesCaptures = (format : Format) (image : List ℕ) (k : ℕ) → IsImage format image → k < length (tracks format)
     → Capture (track_stream format image k) (ring_of format image k) (nominal_of format k)
+
+-- and it is one of a drive that keeps its speed
+abbrev pub WritesSteadyCaptures : Type 0
+WritesSteadyCaptures = (format : Format) (image : List ℕ) (k : ℕ) → IsImage format image → k < length (tracks format)
+    → (capture : Capture (track_stream format image k) (ring_of format image k) (nominal_of format k))
+    × IsSteady (track_stream format image k) (ring_of format image k) (nominal_of format k) capture

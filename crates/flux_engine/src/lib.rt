@@ -50,6 +50,8 @@ pub use sectors::Sectors;
 pub use track::decode_track;
 pub use track_part::{PartFault, write_part};
 pub use write_fault::WriteFault;
-pub use write_laws::{captures_are_recovered, images_have_rings, streams_are_captures};
+pub use write_laws::{
+    captures_are_recovered, images_have_rings, steady_captures_are_recovered, streams_are_captures,
+};
 pub use write_room::WriteRoom;
 pub use writing::{count_verdict, no_totals};

@@ -1,10 +1,10 @@
 //! What the streams of a track come to, those that are written and those that a drive gives.
 
-ghost use Rattle.flux_engine.specs.Captures.{CapturesAreErasedCaptures, CapturesAreRecovered, ErasedCapturesAreRecovered, ImagesHaveRings, WrittenRingsAreRecovered, WritesCaptures};
+ghost use Rattle.flux_engine.specs.Captures.{CapturesAreErasedCaptures, CapturesAreRecovered, ErasedCapturesAreRecovered, ImagesHaveRings, SteadyCapturesAreRecovered, SteadyErasedCapturesAreRecovered, WrittenRingsAreRecovered, WritesCaptures, WritesSteadyCaptures};
 
 use disk_recordings::tracks_have_rings;
 use flux_writer::track_law;
-use phase_loop::disturbed_rings_are_recovered;
+use phase_loop::{disturbed_rings_are_recovered, steady_rings_are_recovered};
 use sector_images::{sectors_lie_in_images, tracks_keep_bounds};
 
 /// The stream of each track of an image is one stream without a fault that captures the track's ring: its
@@ -40,4 +40,19 @@ pub fn captures_are_recovered()
     tracks_keep_bounds();
     sectors_lie_in_images();
     streams_are_captures()
+}
+
+/// Where besides the drive keeps its speed, either clock recovers these cells, the one that follows the drive and the one that
+/// holds the mean cell of the first turn. The stream of each track of an image is a capture of such a drive.
+pub fn steady_captures_are_recovered()
+    ensures captures { SteadyCapturesAreRecovered }
+    ensures erased { SteadyErasedCapturesAreRecovered }
+    ensures written { WritesSteadyCaptures }
+{
+    disturbed_rings_are_recovered();
+    steady_rings_are_recovered();
+    tracks_have_rings();
+    tracks_keep_bounds();
+    track_law();
+    sectors_lie_in_images()
 }
