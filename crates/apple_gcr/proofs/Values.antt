@@ -7,9 +7,9 @@ use Rattle.std.proofs.Math.ListN.{get_or-append}
 use Rattle.std.proofs.Math.Seq.{get_or-append_seam}
 use Rattle.std.specs.Int.Bits.{bit_xor, xor_zero_l}
 use Rattle.apple_nibbles.specs.Nibbles.{nibble}
-use Rattle.apple_nibbles.specs.lemmas.NibbleLaws.{one_value}
+use Rattle.apple_nibbles.specs.lemmas.NibbleLaws.{one_value, xor-undo}
 use Rattle.apple_gcr.specs.SixAndTwo.{AreCoded, code_at}
-use Rattle.apple_gcr.specs.lemmas.ValueLaws.{AreSixBits, FirstStand, code-fits, same_value, xor-undo}
+use Rattle.apple_gcr.specs.lemmas.ValueLaws.{AreSixBits, FirstStand, code-fits, same_value}
 
 -- the first values, so many, the last of which is given
 pub record AreRead (bytes : ℕ → ℕ) (values : List ℕ) (count last : ℕ) : Type 0 where

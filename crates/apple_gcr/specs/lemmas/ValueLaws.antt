@@ -7,12 +7,12 @@ use Rattle.std.proofs.lemmas.Bool.Decides.{nat_tests}
 use Rattle.std.proofs.lemmas.List.{ext_get_or, get_or_past, length-map}
 use Rattle.std.proofs.lemmas.List.FromFn.{get_or-map-range_with_len, length-range_with_len}
 use Rattle.std.proofs.lemmas.Nat.{xor_lt}
-use Rattle.std.specs.Int.Bits.{xor_assoc, xor_self, xor_zero_r}
+use Rattle.std.specs.Int.Bits.{xor_zero_r}
 use Rattle.std.specs.List.{range_with_len}
 use Rattle.track_rings.specs.Rings.{AreBytes}
 use Rattle.apple_nibbles.specs.Nibbles.{nibble}
 use Rattle.apple_nibbles.specs.lemmas.FieldBytes.{AreFieldBytes, AreFieldBytes-map, IsFieldByte-nibble}
-use Rattle.apple_nibbles.specs.lemmas.NibbleLaws.{one_value}
+use Rattle.apple_nibbles.specs.lemmas.NibbleLaws.{one_value, xor-undo}
 use Rattle.apple_gcr.specs.SixAndTwo.{Carries, code_at, data_nibbles, swapped, value_at, values_of}
 
 -- each of a list of bytes
@@ -87,10 +87,6 @@ pub get_or-data_nibbles : (bytes : List ℕ) (k : ℕ) → k < 343 → get_or (d
 unfolding data_nibbles
 get_or-data_nibbles bytes k within =
     get_or-map-range_with_len (λ k. nibble (code_at (values_of bytes) k)) 0 343 k k 0 within (omega arith)
-
--- what was put before a number by exclusive or is taken off by it again
-pub xor-undo : (a b : ℕ) → bit_xor (bit_xor a b) b ≡ a
-xor-undo a b = xor_assoc a b b ∙ ap (bit_xor a) (xor_self b) ∙ xor_zero_r a
 
 -- the first disk bytes that are read, so many, are the nibbles of the values
 abbrev pub FirstStand : (ℕ → ℕ) → List ℕ → ℕ → Type 0

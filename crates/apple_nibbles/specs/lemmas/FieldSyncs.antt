@@ -1,9 +1,10 @@
 -- Where a sync that begins with the byte D5, as the marks of fields do, begins in fields, self-syncs and marks.
-use Rattle.std.specs.Prelude.{◌≡◌, ℕ, zero, suc, ◌⊎◌, Bool, true, List, [], ◌∷◌, ◌++◌, length, drop, Option, Some, refl}
+use Rattle.std.specs.Prelude.{◌≡◌, ℕ, zero, suc, ◌⊎◌, Bool, true, false, List, [], ◌∷◌, ◌++◌, length, drop, Option, Some, refl}
 use Rattle.std.proofs.Common.{sym, subst, arith, inl, inr}
 use Rattle.std.proofs.lemmas.List.{length-map, take_all}
 use Rattle.cell_bits.specs.Word.{Stands, word_cells}
 use Rattle.cell_bits.specs.lemmas.WordLaws.{length-word_cells}
+use Rattle.track_rings.specs.Rows.{coded, rows_cells}
 use Rattle.track_rings.specs.lemmas.Owning.{Leads}
 use Rattle.track_rings.specs.lemmas.Syncs.{Nowhere, QuietPart, SyncPart, Syncs, all_known, clashes, clashes-not, clashes_at_all, fits, fits-append, fits-front, fits-known, fits-word, nowhere-known, only-first, quiet-append, quiet-none}
 use Rattle.apple_nibbles.specs.Marks.{ADDRESS_MARK, DATA_MARK, SELF_SYNC, self_syncs}
@@ -139,3 +140,20 @@ address_mark_first rest follows = (
 pub data_mark_quiet : QuietPart (Syncs address_sync) Follows Follows (word_cells 24 DATA_MARK)
 unfolding sync_rest word_cells clashes_at_all clashes fits
 data_mark_quiet = mark_quiet address_sync address_is DATA_MARK (λ rest. refl) refl refl
+
+-- all of some rows
+abbrev pub AreQuiet : {Row : Type 0} → (Row → Type 0) → List Row → Type 0
+AreQuiet IsQuiet [] = Unit {0}
+AreQuiet IsQuiet (row ∷ rows) = IsQuiet row × AreQuiet IsQuiet rows
+
+-- rows one after another, in none of which the sync begins
+module _ (sync : List (Option Bool)) {Row : Type 0} (IsQuiet : Row → Type 0) (cells_of : Bool → ℕ → List ℕ → Row → List Bool)
+    (sector : ℕ) (bytes : List ℕ)
+    (row_quiet : (before : Bool) (row : Row) → IsQuiet row → QuietPart (Syncs sync) Follows Follows (cells_of before sector bytes row)) where
+  pub rows_quiet : (before : Bool) (rows : List Row) → AreQuiet IsQuiet rows
+      → QuietPart (Syncs sync) Follows Follows (rows_cells false cells_of before sector bytes rows)
+  unfolding rows_cells coded
+  rows_quiet before [] quiet = quiet-none (Syncs sync) Follows
+  rows_quiet before (row ∷ rows) quiet =
+      quiet-append (Syncs sync) Follows Follows Follows (cells_of before sector bytes row) (rows_cells false cells_of false sector bytes rows)
+      (row_quiet before row quiet.0) (rows_quiet false rows quiet.1)

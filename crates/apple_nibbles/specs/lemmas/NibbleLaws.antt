@@ -1,5 +1,6 @@
 -- The nibbles by the code's tables: each of 64, and each of one value.
 use Rattle.std.specs.Prelude.{◌≡◌, ℕ, ◌%◌, ◌<◌, List, get_or, map, refl}
+use Rattle.std.specs.Int.Bits.{bit_xor, xor_assoc, xor_self, xor_zero_r}
 use Rattle.std.specs.List.{range_with_len}
 use Rattle.std.proofs.Common.{ap, sym, subst, ◌∙◌, arith, lit<}
 use Rattle.std.proofs.Math.Nat.{mod-lt}
@@ -45,3 +46,7 @@ pub value-fits : (place : ℕ) → place < 128 → get_or VALUES_BY_BYTE place 0
 value-fits place within =
     subst (λ (n : ℕ). n < 64) (agree-below (λ p. get_or VALUES_BY_BYTE p 0 % 64) (λ p. get_or VALUES_BY_BYTE p 0) 128 place within values_table)
     (mod-lt (get_or VALUES_BY_BYTE place 0) (lit< tt))
+
+-- what was put before a number by exclusive or is taken off by it again
+pub xor-undo : (a b : ℕ) → bit_xor (bit_xor a b) b ≡ a
+xor-undo a b = xor_assoc a b b ∙ ap (bit_xor a) (xor_self b) ∙ xor_zero_r a
