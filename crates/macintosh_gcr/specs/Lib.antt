@@ -1,0 +1,4 @@
+pub mod Coding
+pub mod Layout
+pub mod Sectors
+pub mod lemmas

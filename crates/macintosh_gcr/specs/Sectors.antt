@@ -1,0 +1,87 @@
+-- The sectors of the Macintosh's disks of 400 and 800 KB: what a header names and what data hold.
+use Rattle.std.specs.Prelude.{◌≡◌, ℕ, ◌+◌, ◌*◌, ◌/◌, ◌%◌, ◌<◌, Bool, List, [], ◌∷◌, ◌++◌, length, get_or}
+use Rattle.flux_base.specs.declared.track.TrackId.{TrackId}
+use Rattle.check_values.specs.Sums.{xor}
+use Rattle.disk_zones.specs.Zones.{macintosh_zone}
+use Rattle.disk_zones.specs.declared.zones.Zone.{Zone}
+use Rattle.frame_law.specs.Frames.{DataStand, HeaderStands as Header, SectorStands as Sector}
+use Rattle.apple_nibbles.specs.Marks.{ADDRESS_MARK, DATA_BYTE, IsSync, MARK_CELLS}
+use Rattle.apple_nibbles.specs.Nibbles.{disk_byte, nibble}
+use Rattle.macintosh_gcr.specs.Coding.{IsCoded, TAGS}
+use Rattle.macintosh_gcr.specs.declared.recording.MacintoshGcr.{MacintoshGcr}
+use Rattle.macintosh_gcr.specs.declared.recording.MacintoshGcr.TheVariants.{SingleSided, DoubleSided}
+
+-- the heads of a disk
+abbrev pub heads_of : MacintoshGcr → ℕ
+heads_of SingleSided = 1
+heads_of DoubleSided = 2
+
+-- the tracks: 80 cylinders
+pub record IsMacintoshTrack (disk : MacintoshGcr) (track : TrackId) : Type 0 where
+  pub cylinder : track.cylinder < 80
+  pub head : track.head < heads_of disk
+
+-- the zone of a track
+abbrev pub zone_of : TrackId → Zone
+zone_of track = macintosh_zone track.cylinder
+
+-- the sectors of a track, numbered from 0
+abbrev pub sectors_of : TrackId → ℕ
+sectors_of track = (zone_of track).sectors
+
+-- the bytes of a sector
+abbrev pub SECTOR_SIZE : ℕ
+SECTOR_SIZE = 512
+
+-- Nibbles of these values stand one after another from a place on.
+abbrev pub NibblesAt : List Bool → ℕ → List ℕ → Type 0
+NibblesAt cells place values = (k : ℕ) → k < length values → disk_byte cells (place + 8 * k) ≡ nibble (get_or values k 0)
+
+-- the name of a sector: the low six bits of its cylinder, its number, its head and the cylinder's seventh bit, and a number that says
+-- how the disk was formatted
+abbrev pub name_of : TrackId → ℕ → ℕ → List ℕ
+name_of track sector format = track.cylinder % 64 ∷ sector ∷ (32 * track.head + track.cylinder / 64) ∷ format ∷ []
+
+-- a header's values: the name, and its check value
+abbrev pub header_values : TrackId → ℕ → ℕ → List ℕ
+header_values track sector format = name_of track sector format ++ xor (name_of track sector format) ∷ []
+
+-- a header names a sector: the nibbles of its values stand after the mark, whatever the disk's format
+pub record NamesSector (track : TrackId) (cells : List Bool) (sector : ℕ) : Type 0 where
+  pub format : ℕ
+  pub format_fits : format < 64
+  pub sector_fits : sector < 64
+  pub values : NibblesAt cells MARK_CELLS (header_values track sector format)
+
+-- the cells of a header: its mark and five nibbles
+abbrev pub HEADER_CELLS : ℕ
+HEADER_CELLS = 64
+
+-- the place of the nibble that has the sector's number
+abbrev pub SECTOR_PLACE : ℕ
+SECTOR_PLACE = 32
+
+-- Data hold a sector's bytes: AD after their sync, the nibble of the sector's number as the header has it, and the nibbles of the
+-- bytes with tags before them. What the tags and the two spare bits are does not matter.
+pub record Hold (cells : List Bool) (sync : ℕ) (bytes : List ℕ) : Type 0 where
+  pub opens : disk_byte cells (sync + 16) ≡ DATA_BYTE
+  pub of_sector : disk_byte cells (sync + 24) ≡ disk_byte cells SECTOR_PLACE
+  pub tags : List ℕ
+  pub coded_values : List ℕ
+  pub tags_size : length tags ≡ TAGS
+  pub size : length bytes ≡ SECTOR_SIZE
+  pub coded : IsCoded coded_values (tags ++ bytes)
+  pub stand : NibblesAt cells (sync + 32) coded_values
+
+-- the cells of data: their mark, the sector's nibble, 699 of bytes and four of check values
+abbrev pub DATA_CELLS : ℕ
+DATA_CELLS = 5656
+
+-- a header and a sector stand, as on any track
+abbrev pub HeaderStands : TrackId → List Bool → ℕ → Type 0
+HeaderStands track cells sector =
+    Header ADDRESS_MARK MARK_CELLS (λ some. HEADER_CELLS) 0 (sectors_of track) (NamesSector track) cells sector
+
+abbrev pub SectorStands : TrackId → List Bool → ℕ → List ℕ → Type 0
+SectorStands track cells sector bytes =
+    Sector (HeaderStands track cells sector) (DataStand (λ some. HEADER_CELLS) (λ some sync. sync + DATA_CELLS) IsSync Hold cells bytes)
