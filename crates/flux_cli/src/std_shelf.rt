@@ -6,16 +6,12 @@ ghost use Rattle.flux_base.specs.Outside.{Rose};
 ghost use Rattle.sector_images.specs.Places.{tracks};
 
 use crate::standard::StdSource;
-use arrayvec::ArrayString;
-use flux_base::{Failed, Source};
-use sector_images::{Format, track_count, track_id, tracks_keep_bounds};
+use flux_base::{Failed, Source, TrackId};
+use sector_images::{Format, track_count, track_id};
 use std::fs;
 use std::io::ErrorKind;
 use std::rt::Files;
-use track_shelf::{Shelf, file_name};
-
-/// A path of at most 4096 bytes.
-type Path = ArrayString<4096>;
+use track_shelf::{Path, Shelf, TrackPath};
 
 /// The wanted files of a folder: those of the format's tracks from a number on.
 #[derive(Debug, Drop)]
@@ -26,8 +22,8 @@ struct Wanted {
 }
 
 /// The files of the system as a shelf. One is open at a time, and no memory is taken. Each error of std is counted as a
-/// fault, save where `begin` does not find a file; so is a folder that is no text, and a path of more than 4096 bytes.
-/// It tells no bytes and no files.
+/// fault, save where `begin` and `open_file` do not find a file; so is a name that is no text, and a path of more than
+/// 4096 bytes. A folder in the place of a track's file fails when it is read. It tells no bytes and no files.
 #[derive(Drop)]
 pub struct StdShelf<'a, R: Files> {
     files: &'a R,
@@ -58,7 +54,7 @@ impl<'a, R: Files> StdShelf<'a, R> {
             Ok(folder) => folder,
             Err(failed) => return Err(failed),
         };
-        match first_missing(self.files, folder.as_str(), format) {
+        match first_missing(self.files, folder.as_str().as_bytes(), format) {
             Ok(None) => {
                 self.open = None;
                 self.wanted = Some(Wanted {
@@ -82,7 +78,9 @@ impl<'a, R: Files> StdShelf<'a, R> {
         if wanted.number >= track_count(wanted.format) {
             return Ok(false);
         }
-        match open_track(self.files, &wanted.folder, wanted.format, wanted.number) {
+        let track = track_id(wanted.format, wanted.number);
+        let folder = wanted.folder.as_str().as_bytes();
+        match open_path(self.files, &TrackPath::in_folder(folder, track)) {
             Ok(Some(file)) => {
                 wanted.number += 1;
                 self.open = Some(StdSource::new(file));
@@ -90,6 +88,21 @@ impl<'a, R: Files> StdShelf<'a, R> {
             }
             // It was there when `begin` looked.
             Ok(None) => Err(Failed),
+            Err(failed) => Err(failed),
+        }
+    }
+
+    /// Opens a track's file of a dump, in place of all that was to be read, where it is found. Says whether it is.
+    fn open_one(&mut self, dump: &[u8], track: TrackId) -> Result<bool, Failed>
+        ensures { self.new.faults ≡ self.old.faults }
+    {
+        match open_path(self.files, &TrackPath::of_dump(dump, track)) {
+            Ok(file) => {
+                let there = file.is_some();
+                self.wanted = None;
+                self.open = file.map(StdSource::new);
+                Ok(there)
+            }
             Err(failed) => Err(failed),
         }
     }
@@ -129,24 +142,12 @@ impl<'a, R: Files> StdShelf<'a, R> {
     }
 }
 
-/// The file of the track of a number, in a folder, opened; None where it is not found.
-fn open_track<R: Files>(
-    files: &R,
-    folder: &str,
-    format: Format,
-    number: u32,
-) -> Result<Option<R::File>, Failed>
-    requires { number < length (tracks format) }
-{
-    tracks_keep_bounds();
-    let name = file_name(track_id(format, number));
-    let mut path = Path::new();
-    for part in [folder, "/", name.as_str()] {
-        if path.try_push_str(part).is_err() {
-            return Err(Failed);
-        }
-    }
-    match fs::open(files, path.as_str()) {
+/// The file of a path, opened; None where it is not found.
+fn open_path<R: Files>(files: &R, path: &TrackPath) -> Result<Option<R::File>, Failed> {
+    let Some(text) = path.text() else {
+        return Err(Failed);
+    };
+    match fs::open(files, text.as_str()) {
         Ok(file) => Ok(Some(file)),
         Err(error) if error.kind() == ErrorKind::NotFound => Ok(None),
         Err(_) => Err(Failed),
@@ -154,11 +155,12 @@ fn open_track<R: Files>(
 }
 
 /// Looks for all wanted files. The answer is the number of the first track whose file is not found, if one is not.
-fn first_missing<R: Files>(files: &R, folder: &str, format: Format) -> Result<Option<u32>, Failed>
+fn first_missing<R: Files>(files: &R, folder: &[u8], format: Format) -> Result<Option<u32>, Failed>
     ensures { IfOk result (λ missing. IfSome missing (λ number. number < length (tracks format))) }
 {
     for number in 0..track_count(format) {
-        match open_track(files, folder, format, number) {
+        let path = TrackPath::in_folder(folder, track_id(format, number));
+        match open_path(files, &path) {
             Ok(Some(_)) => {}
             Ok(None) => return Ok(Some(number)),
             Err(failed) => return Err(failed),
@@ -194,6 +196,14 @@ impl<'a, R: Files> Source for StdShelf<'a, R> {
 impl<'a, R: Files> Shelf for StdShelf<'a, R> {
     fn begin(&mut self, folder: &[u8], format: Format) -> Result<Option<u32>, Failed> {
         let answer = self.look(folder, format);
+        if answer.is_err() {
+            self.faults = self.faults.saturating_add(1);
+        }
+        answer
+    }
+
+    fn open_file(&mut self, dump: &[u8], track: TrackId) -> Result<bool, Failed> {
+        let answer = self.open_one(dump, track);
         if answer.is_err() {
             self.faults = self.faults.saturating_add(1);
         }

@@ -1,13 +1,13 @@
--- What is still to come of the wanted files.
-use Rattle.std.proofs.Common.{◌≡◌, ◌<◌, ◌≤◌, ◌+◌, ℕ, List, [], ◌∷◌, ◌++◌, length, take, drop, map, get_or, arith, refl, sym, ◌∙◌, ap, append_assoc, length-drop, length-take, min, Bool, false, Option, None, if◌then◌else◌}
-use Rattle.std.proofs.lemmas.List.{drop_all, drop_more, drop-drop, take-append-drop, take-take}
+-- What is still to come of the files that are read.
+use Rattle.std.proofs.Common.{◌≡◌, ◌<◌, ◌≤◌, ◌+◌, ℕ, List, [], ◌∷◌, ◌++◌, length, take, drop, map, get_or, arith, refl, sym, ◌∙◌, ap, append_assoc, append-nil, length-drop, length-take, min, not, ◌==◌, Bool, true, false, Option, None, Some, Ok, if◌then◌else◌}
+use Rattle.std.proofs.lemmas.List.{drop_all, drop_more, drop-drop, length-map, take-append-drop, take-take}
 use Rattle.std.specs.List.{concat, flat_map}
+use Rattle.std.specs.Option.{is_some}
 use Rattle.flux_base.specs.Memory.{is_failing, next_count}
-use Rattle.flux_base.specs.declared.track.TrackId.{TrackId}
 use Rattle.sector_images.specs.Places.{tracks}
 use Rattle.sector_images.specs.declared.format.Format.{Format}
-use Rattle.track_shelf.specs.Files.{File, first_missing, joined, track_bytes}
-use Rattle.track_shelf.specs.Memory.{NO_TRACK, ShelfState, after_begin, ahead_by, ahead_from, bytes_at, cut_first, failed, first_piece, folder_at, with_bytes}
+use Rattle.track_shelf.specs.Files.{File, LeavesFile, bytes_in, file_at, first_missing, joined, track_bytes}
+use Rattle.track_shelf.specs.Memory.{ShelfState, after_begin, ahead_by, ahead_from, bytes_at, cut_first, failed, first_piece, pieces_of, with_bytes}
 
 -- pieces without those that are empty have the same bytes
 pub concat-with_bytes : (pieces : List (List ℕ)) → concat (with_bytes pieces) ≡ concat pieces
@@ -115,44 +115,65 @@ concat-map : {X : Type 0} (content : X → List ℕ) (items : List X) → concat
 concat-map content [] = refl
 concat-map content (item ∷ items) = ap (λ (later : List ℕ). content item ++ later) (concat-map content items)
 
-module _ (files : List File) (folder : List ℕ) (format : Format) (place : ℕ) (in_folder : 0 < length (tracks format) → folder_at files place ≡ folder) where
-  same-content : (ids : List TrackId) → (0 < length ids → folder_at files place ≡ folder) → map (track_bytes files (folder_at files place)) ids ≡ map (track_bytes files folder) ids
-  same-content [] same = refl
-  same-content (id ∷ ids) same = ap (λ (f : List ℕ). map (track_bytes files f) (id ∷ ids)) (same (omega arith))
+-- from the first place on all files are ahead
+pub all-ahead : (files : List File) (places : List ℕ) → ahead_from files places 0 0 ≡ with_bytes (map (bytes_at files) places)
+unfolding ahead_from
+all-ahead files places = ap with_bytes (cut-none (map (bytes_at files) places))
 
-  -- from the first track on all wanted files are ahead
-  pub all-ahead : ahead_from files place format 0 0 ≡ with_bytes (map (track_bytes files folder) (tracks format))
-  unfolding ahead_from
-  all-ahead = ap with_bytes (cut-none (map (track_bytes files (folder_at files place)) (tracks format)) ∙ same-content (tracks format) in_folder)
+-- of no files nothing is
+pub none-places : (files : List File) → ahead_from files [] 0 0 ≡ []
+unfolding ahead_from
+none-places files = none-ahead (bytes_at files) [] 0 0 (omega arith)
 
-  -- and these are their bytes
-  pub all-joined : concat (ahead_from files place format 0 0) ≡ joined files folder format
-  unfolding joined
-  all-joined =
-      ap concat all-ahead ∙ concat-with_bytes (map (track_bytes files folder) (tracks format))
-      ∙ concat-map (track_bytes files folder) (tracks format)
+-- the wanted files joined
+pub all-joined : (files : List File) (folder : List ℕ) (format : Format) → concat (with_bytes (map (track_bytes files folder) (tracks format))) ≡ joined files folder format
+unfolding joined
+all-joined files folder format =
+    concat-with_bytes (map (track_bytes files folder) (tracks format)) ∙ concat-map (track_bytes files folder) (tracks format)
+
+-- a single file
+pub one-joined : (file : Option File) → concat (with_bytes (pieces_of file)) ≡ bytes_in file
+one-joined None = ap concat with-none
+one-joined (Some file) = concat-with_bytes (file.bytes ∷ []) ∙ append-nil file.bytes
 
 -- the file at hand, and what is ahead after so many of its bytes
-pub record Next (files : List File) (place : ℕ) (format : Format) (number start : ℕ) : Type 0 where
+pub record AtFile (files : List File) (places : List ℕ) (number start : ℕ) : Type 0 where
   pub rest : List (List ℕ)
-  pub is : ahead_from files place format number start ≡ drop start (bytes_at files place format number) ∷ rest
-  pub after : (m : ℕ) → ahead_from files place format number (start + m) ≡ with_bytes (drop m (drop start (bytes_at files place format number)) ∷ rest)
+  pub is : ahead_from files places number start ≡ drop start (bytes_at files (get_or places number 0)) ∷ rest
+  pub after : (m : ℕ) → ahead_from files places number (start + m) ≡ with_bytes (drop m (drop start (bytes_at files (get_or places number 0))) ∷ rest)
 
-pub next-at : (files : List File) (place : ℕ) (format : Format) (number start : ℕ) → number < length (tracks format) → start < length (bytes_at files place format number)
-    → Next files place format number start
+pub next-at : (files : List File) (places : List ℕ) (number start : ℕ) → number < length places → start < length (bytes_at files (get_or places number 0))
+    → AtFile files places number start
 unfolding ahead_from
-next-at files place format number start below within =
-    let size = length-drop start (bytes_at files place format number) in
-    let h = at-hand (track_bytes files (folder_at files place)) (tracks format) number NO_TRACK below start (omega (arith, within, size)) in
+next-at files places number start below within =
+    let size = length-drop start (bytes_at files (get_or places number 0)) in
+    let h = at-hand (bytes_at files) places number 0 below start (omega (arith, within, size)) in
     record { rest = h.rest; is = h.is; after = h.after }
 
 -- the shelf after a `begin` that found all wanted files
-pub begun : (s : ShelfState) (folder : List ℕ) (format : Format) (ahead : List (List ℕ)) (calls : ℕ) → is_failing s.failing s.calls ≡ false
-    → first_missing s.files folder format ≡ None → ahead ≡ with_bytes (map (track_bytes s.files folder) (tracks format)) → calls ≡ next_count s.calls
-    → record s { ahead = ahead; calls = calls } ≡ after_begin s folder format
-begun s folder format ahead calls works none is count =
+pub begun : (s : ShelfState) (folder : List ℕ) (format : Format) (ahead : List (List ℕ)) → is_failing s.failing s.calls ≡ false
+    → first_missing s.files folder format ≡ None → ahead ≡ with_bytes (map (track_bytes s.files folder) (tracks format))
+    → record s { ahead = ahead; calls = next_count s.calls } ≡ after_begin s folder format
+begun s folder format ahead works none is =
     let wanted = with_bytes (map (track_bytes s.files folder) (tracks format)) in
-    ap (λ (a : List (List ℕ)). record s { ahead = a; calls = calls }) is
-    ∙ ap (λ (n : ℕ). record s { ahead = wanted; calls = n }) count
+    ap (λ (a : List (List ℕ)). record s { ahead = a; calls = next_count s.calls }) is
     ∙ ap (λ (m : Option ℕ). record s { ahead = ahead_by m s.ahead wanted; calls = next_count s.calls }) (sym none)
     ∙ ap (λ (b : Bool). if b then failed s else record s { ahead = ahead_by (first_missing s.files folder format) s.ahead wanted; calls = next_count s.calls }) (sym works)
+
+-- what a file leaves, by whether it is there
+none-bytes : (file : Option File) → is_some file ≡ false → bytes_in file ≡ []
+none-bytes None gone = refl
+none-bytes (Some file) gone = absurd (cc)
+
+pub leaves-file : (files : List File) (path : List ℕ) (there : Bool) (old : Option (List ℕ)) (left : List ℕ) → there ≡ is_some (file_at files path)
+    → left ≡ bytes_in (file_at files path) → LeavesFile (Some files) path (Ok there) old (Some left)
+leaves-file files path true old left is same = ap Some same
+leaves-file files path false old left is same = same ∙ none-bytes (file_at files path) (sym is)
+
+-- a file is there where it has a place
+pub there-is : (files : List File) (places : List ℕ) (file : Option File) → map (bytes_at files) places ≡ pieces_of file → not (length places == 0) ≡ is_some file
+there-is files places file same = by file (sym (length-map places (bytes_at files)) ∙ ap length same)
+  where
+    by : (f : Option File) → length places ≡ length (pieces_of f) → not (length places == 0) ≡ is_some f
+    by None size = ap (λ n. not (n == 0)) size
+    by (Some f) size = ap (λ n. not (n == 0)) size

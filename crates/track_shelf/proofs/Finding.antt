@@ -1,16 +1,16 @@
--- Which wanted files are there.
-use Rattle.std.proofs.Common.{◌≡◌, ◌<◌, ◌≤◌, ◌+◌, ◌&&◌, ◌⊎◌, ℕ, zero, suc, Bool, true, false, inl, inr, List, [], ◌∷◌, Option, Some, None, length, arith, refl, sym, ◌∙◌, ap, subst, cond}
+-- Which files are there, and where.
+use Rattle.std.proofs.Common.{◌≡◌, ◌<◌, ◌≤◌, ◌+◌, ◌⊎◌, ℕ, zero, suc, Bool, true, false, inl, inr, List, [], ◌∷◌, ◌++◌, take, map, Option, Some, None, length, arith, refl, sym, ◌∙◌, ap, subst, cond}
 use Rattle.std.specs.List.{find, position_from, slice_get}
 use Rattle.std.specs.Option.{is_none}
-use Rattle.std.specs.Str.{bytes_eq}
 use Rattle.std.proofs.lemmas.Bool.{cases_lt}
-use Rattle.std.proofs.lemmas.Option.{slice_get_within}
-use Rattle.std.proofs.lemmas.Slice.Eq.{bytes_eq-Decides}
+use Rattle.std.proofs.lemmas.Option.{get_or_from_slice_get, slice_get_within}
+use Rattle.std.proofs.lemmas.List.{map-append, take_more}
 use Rattle.flux_base.specs.declared.track.TrackId.{TrackId}
 use Rattle.sector_images.specs.Places.{tracks}
 use Rattle.sector_images.specs.declared.format.Format.{Format}
-use Rattle.track_shelf.specs.Files.{File, file_of, first_missing, is_file_of}
-use Rattle.track_shelf.specs.Memory.{folder_at, folder_in}
+use Rattle.track_shelf.specs.Files.{File, bytes_in, file_at, file_of, first_missing, has_path, track_bytes}
+use Rattle.track_shelf.specs.Memory.{bytes_at, pieces_of}
+use Rattle.track_shelf.specs.Names.{folder_path}
 
 some_none : {X : Type 0} (x : X) → Some x ≡ None → ⊥
 some_none x same = cc
@@ -75,18 +75,36 @@ module _ {X : Type 0} (p : X → Bool) where
 abbrev pub AllThere : List File → List ℕ → List TrackId → ℕ → Type 0
 AllThere files folder tracks count = (k : ℕ) (track : TrackId) → k < count → slice_get tracks k ≡ Some track → is_none (file_of files folder track) ≡ false
 
-left_true : (a b : Bool) → (a && b) ≡ true → a ≡ true
-left_true true b both = refl
-left_true false b both = both
+-- the file that stands where a path was found
+module _ (files : List File) (path : List ℕ) (place : ℕ) (found : position_from (has_path path) 0 files ≡ Some place) where
+  found-bytes : bytes_at files place ≡ bytes_in (file_at files path)
+  found-bytes =
+      let f = find-some (has_path path) 0 files place found in
+      let here : place ≡ f.after = omega (arith, f.place) in
+      ap (bytes_at files) here ∙ ap bytes_in (f.stands ∙ sym f.found)
+
+  pub found-pieces : map (bytes_at files) (place ∷ []) ≡ pieces_of (file_at files path)
+  found-pieces =
+      let f = find-some (has_path path) 0 files place found in
+      let here : place ≡ f.after = omega (arith, f.place) in
+      ap (λ (n : ℕ). bytes_at files n ∷ []) here ∙ ap (λ (o : Option File). bytes_in o ∷ []) f.stands ∙ sym (ap pieces_of f.found)
+
+-- where none was found there is none
+pub none-pieces : (files : List File) (path : List ℕ) → position_from (has_path path) 0 files ≡ None → [] ≡ pieces_of (file_at files path)
+none-pieces files path none = sym (ap pieces_of (find-none (has_path path) 0 files none))
+
+taken-next : {X : Type 0} (xs : List X) (n : ℕ) (x : X) → slice_get xs n ≡ Some x → take (n + 1) xs ≡ take n xs ++ x ∷ []
+taken-next {X = X} xs n x at =
+    take_more xs n x (slice_get_within xs n x at) ∙ ap (λ (y : X). take n xs ++ y ∷ []) (get_or_from_slice_get xs n x x at)
 
 module _ (files : List File) (folder : List ℕ) where
   -- so is that of the next one
   pub AllThere-more : (ids : List TrackId) (count : ℕ) (track : TrackId) (place : ℕ) → AllThere files folder ids count → slice_get ids count ≡ Some track
-      → position_from (is_file_of folder track) 0 files ≡ Some place → AllThere files folder ids (count + 1)
+      → position_from (has_path (folder_path folder track)) 0 files ≡ Some place → AllThere files folder ids (count + 1)
   AllThere-more ids count track place there at found k id below got = by (cases_lt k count)
     where
       here : is_none (file_of files folder track) ≡ false
-      here = ap is_none (find-some (is_file_of folder track) 0 files place found).found
+      here = ap is_none (find-some (has_path (folder_path folder track)) 0 files place found).found
 
       by : (k < count) ⊎ (count ≤ k) → is_none (file_of files folder id) ≡ false
       by (inl less) = there k id less got
@@ -95,22 +113,28 @@ module _ (files : List File) (folder : List ℕ) where
           let one : track ≡ id = some_same track id (sym at ∙ ap (slice_get ids) (sym same) ∙ got) in
           subst (λ t. is_none (file_of files folder t) ≡ false) one here
 
-  -- the file that was found is in the folder
-  pub folder-found : (track : TrackId) (place : ℕ) → position_from (is_file_of folder track) 0 files ≡ Some place → folder_at files place ≡ folder
-  folder-found track place found =
-      let f = find-some (is_file_of folder track) 0 files place found in
-      let here : place ≡ f.after = omega (arith, f.place) in
-      let same : bytes_eq f.item.folder folder ≡ true = left_true (bytes_eq f.item.folder folder) _ f.passes in
-      ap folder_in (ap (slice_get files) here ∙ f.stands) ∙ (bytes_eq-Decides f.item.folder folder).0 same
+  -- and its place is that of its bytes
+  pub places-more : (ids : List TrackId) (count : ℕ) (track : TrackId) (places : List ℕ) (place : ℕ) → slice_get ids count ≡ Some track
+      → position_from (has_path (folder_path folder track)) 0 files ≡ Some place
+      → map (bytes_at files) places ≡ map (track_bytes files folder) (take count ids)
+      → map (bytes_at files) (places ++ place ∷ []) ≡ map (track_bytes files folder) (take (count + 1) ids)
+  places-more ids count track places place at found before =
+      let here : bytes_at files place ≡ track_bytes files folder track = found-bytes files (folder_path folder track) place found in
+      let next : take (count + 1) ids ≡ take count ids ++ track ∷ [] = taken-next ids count track at in
+      map-append (bytes_at files) places (place ∷ [])
+      ∙ ap (λ (ps : List (List ℕ)). ps ++ bytes_at files place ∷ []) before
+      ∙ ap (λ (b : List ℕ). map (track_bytes files folder) (take count ids) ++ b ∷ []) here
+      ∙ sym (map-append (track_bytes files folder) (take count ids) (track ∷ []))
+      ∙ sym (ap (map (track_bytes files folder)) next)
 
   module _ (format : Format) where
     -- the first file that is missing
     pub first-missing : (number : ℕ) (track : TrackId) → AllThere files folder (tracks format) number → slice_get (tracks format) number ≡ Some track
-        → position_from (is_file_of folder track) 0 files ≡ None → first_missing files folder format ≡ Some number
+        → position_from (has_path (folder_path folder track)) 0 files ≡ None → first_missing files folder format ≡ Some number
     unfolding first_missing
     first-missing number track there at none =
         let same : 0 + number ≡ number = omega arith in
-        first-passes (λ id. is_none (file_of files folder id)) 0 number (tracks format) track there at (ap is_none (find-none (is_file_of folder track) 0 files none))
+        first-passes (λ id. is_none (file_of files folder id)) 0 number (tracks format) track there at (ap is_none (find-none (has_path (folder_path folder track)) 0 files none))
         ∙ ap Some same
 
     -- none is missing

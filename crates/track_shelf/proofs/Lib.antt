@@ -1,2 +1,4 @@
 pub mod Finding
 pub mod Ahead
+pub mod Paths
+pub mod Joins

@@ -1,17 +1,16 @@
 -- A shelf in memory: what it holds, what is still to come of the wanted files, and which of its calls fail.
-use Rattle.std.specs.Prelude.{if◌then◌else◌, ℕ, Bool, true, false, min, List, [], ◌∷◌, length, drop, get_or, map, filter, Option, Some, None, Result, Ok, Err}
+use Rattle.std.specs.Prelude.{if◌then◌else◌, ℕ, Bool, true, false, min, List, [], ◌∷◌, length, drop, map, filter, Option, Some, None, Result, Ok, Err}
 use Rattle.std.specs.List.{slice_get}
+use Rattle.std.specs.Option.{is_some}
 use Rattle.flux_base.specs.Memory.{is_failing, next_count}
 use Rattle.flux_base.specs.declared.outside.Failed.{Failed}
-use Rattle.flux_base.specs.declared.track.TrackId.{TrackId}
 use Rattle.sector_images.specs.Places.{tracks}
 use Rattle.sector_images.specs.declared.format.Format.{Format}
-use Rattle.track_shelf.specs.declared.memory.Ahead.{Ahead}
-use Rattle.track_shelf.specs.Files.{File, first_missing, track_bytes}
+use Rattle.track_shelf.specs.Files.{File, bytes_in, file_at, first_missing, track_bytes}
 
 pub record ShelfState : Type 0 where
   pub files : List File
-  -- the bytes still to come of each wanted file that has some
+  -- the bytes still to come of each file that is read and has some
   pub ahead : List (List ℕ)
   -- the most bytes of one read
   pub chunk : ℕ
@@ -78,26 +77,26 @@ after_begin s folder format =
       calls = next_count s.calls;
     }
 
--- the folder of the file at a place
-abbrev pub folder_in : Option File → List ℕ
-folder_in None = []
-folder_in (Some file) = file.folder
+-- what `open_file` answers for a path
+abbrev pub open_of : ShelfState → (path : List ℕ) → Result Bool Failed
+open_of s path = if is_failing s.failing s.calls then Err (record {}) else Ok (is_some (file_at s.files path))
 
-abbrev pub folder_at : List File → ℕ → List ℕ
-folder_at files place = folder_in (slice_get files place)
+-- the bytes of a file, as pieces to be read
+abbrev pub pieces_of : Option File → List (List ℕ)
+pieces_of None = []
+pieces_of (Some file) = file.bytes ∷ []
 
-abbrev pub NO_TRACK : TrackId
-NO_TRACK = record { cylinder = 0; head = 0 }
+-- the shelf after it
+abbrev pub after_open : ShelfState → (path : List ℕ) → ShelfState
+after_open s path =
+    if is_failing s.failing s.calls
+    then failed s
+    else record s { ahead = with_bytes (pieces_of (file_at s.files path)); calls = next_count s.calls }
 
--- the bytes of the file of the track of a number, in the folder of the file at a place
-abbrev pub bytes_at : List File → (place : ℕ) → Format → (number : ℕ) → List ℕ
-bytes_at files place format number = track_bytes files (folder_at files place) (get_or (tracks format) number NO_TRACK)
+-- the bytes of the file at a place among the files
+abbrev pub bytes_at : List File → (place : ℕ) → List ℕ
+bytes_at files place = bytes_in (slice_get files place)
 
--- what is ahead, by a file of the folder, the number of the track that comes next, and the byte in its file
-unfoldable pub ahead_from : List File → (place : ℕ) → Format → (number start : ℕ) → List (List ℕ)
-ahead_from files place format number start =
-    with_bytes (cut_first start (map (track_bytes files (folder_at files place)) (drop number (tracks format))))
-
-abbrev pub ahead_at : List File → Option Ahead → List (List ℕ)
-ahead_at files None = []
-ahead_at files (Some next) = ahead_from files next.place next.format next.number next.start
+-- what is ahead of the files at these places, from a number among the places on, and from a byte of that file on
+unfoldable pub ahead_from : List File → (places : List ℕ) → (number start : ℕ) → List (List ℕ)
+ahead_from files places number start = with_bytes (cut_first start (map (bytes_at files) (drop number places)))

@@ -1,11 +1,15 @@
-//! A folder of track files, as a dump lies on the disk: the trait [`Shelf`], a shelf in memory, the names of the
-//! files, and the line for one that is missing.
+//! The track files of dumps, as they lie on the disk: the trait [`Shelf`], a shelf in memory, the names and the paths
+//! of the files, and the line for one that is missing.
 #![tactic(auto)]
 
+mod laws;
 mod memory;
 mod names;
+mod path;
 mod shelf;
 
+pub use laws::{files_name_dumps, folder_paths_tell};
 pub use memory::{MemoryShelf, ShelfFile};
 pub use names::{file_name, missing_line};
+pub use path::{Path, TrackPath};
 pub use shelf::Shelf;

@@ -1,59 +1,70 @@
-ghost use Rattle.std.specs.Prelude.{◌≡◌, ◌<◌, ◌≤◌, [], Some, Ok, length, min, take, IfOk, IfSome, IfErr, IfNone, OnErr, None};
+ghost use Rattle.std.specs.Prelude.{◌≡◌, ◌<◌, ◌≤◌, ◌++◌, [], false, true, Some, Ok, get_or, length, map, min, take, IfOk, IfSome, IfErr, IfNone, OnErr, OnOk, None};
 ghost use Rattle.std.specs.Io.{ReadsAtMost};
 ghost use Rattle.std.specs.Io.KnownBytes.{ReadConsumes};
 ghost use Rattle.std.specs.List.{concat, position_from};
-ghost use Rattle.std.specs.Option.{option_map};
+ghost use Rattle.std.specs.Bool.{Decides};
+ghost use Rattle.flux_base.specs.Memory.{is_failing, next_count};
 ghost use Rattle.flux_base.specs.Outside.{Rose};
 ghost use Rattle.sector_images.specs.Places.{tracks};
-ghost use Rattle.track_shelf.specs.Files.{LeavesWanted, NamesMissing, bytes_in, file_of, first_missing, is_file_of};
-ghost use Rattle.track_shelf.specs.Memory.{after_begin, after_read, ahead_at, ahead_from, begin_of, bytes_at, cut_first, first_piece, folder_at, read_of, with_bytes};
+ghost use Rattle.track_shelf.specs.Files.{LeavesFile, LeavesWanted, NamesMissing, SaysThere, file_at, first_missing, has_path, track_bytes};
+ghost use Rattle.track_shelf.specs.Memory.{after_begin, after_open, after_read, ahead_from, begin_of, bytes_at, cut_first, failed, first_piece, open_of, pieces_of, read_of, with_bytes};
+ghost use Rattle.track_shelf.specs.Names.{folder_path, path_text};
 
+use crate::path::{TrackPath, folder_end};
 use crate::shelf::Shelf;
+use arrayvec::ArrayVec;
 use flux_base::{Failed, Source, TrackId, copy_front};
-use sector_images::{Format, track_count, track_id};
+use sector_images::{Format, track_count, track_id, tracks_keep_bounds};
+use sector_report::Line;
 use std::marker::Model;
 
-/// A file of a dump.
+/// A file of a dump. Its path is kept in two parts, so that no memory is taken to join them.
 #[derive(Debug, Drop)]
 pub struct ShelfFile {
-    folder: Vec<u8>,
-    track: TrackId,
+    front: Vec<u8>,
+    back: Line,
     bytes: Vec<u8>,
 }
 
 impl Model for ShelfFile {
+    ghost use Rattle.std.specs.Prelude.{◌++◌};
     ghost use Rattle.track_shelf.specs.Files.{File};
 
     ghost Value = { File };
 
-    ghost view = { λ file. record { folder = file.folder.items; track = file.track; bytes = file.bytes.items } };
+    ghost view = { λ file. record { path = file.front.items ++ file.back.bytes; bytes = file.bytes.items } };
 }
 
 impl ShelfFile {
     /// The file of a track, in a folder of this name.
+    #[tactic(auto, unfolding(crate::specs::Names::folder_path))]
     pub fn new(folder: Vec<u8>, track: TrackId, bytes: Vec<u8>) -> ShelfFile
-        ensures { result ≡ record { folder = folder.items; track = track; bytes = bytes.items } }
+        ensures { result ≡ record { path = folder_path folder.items track; bytes = bytes.items } }
     {
         ShelfFile {
-            folder,
-            track,
+            front: folder,
+            back: folder_end(track),
             bytes,
         }
     }
 
-    /// Whether it is the file of this track in this folder.
-    fn is_of(&self, folder: &[u8], track: TrackId) -> bool
-        ensures { result ≡ is_file_of folder.now track self.now }
+    /// The file of this path.
+    pub fn at(path: Vec<u8>, bytes: Vec<u8>) -> ShelfFile
+        ensures { result ≡ record { path = path.items; bytes = bytes.items } }
     {
-        self.folder.as_slice() == folder
-            && self.track.cylinder == track.cylinder
-            && self.track.head == track.head
+        ShelfFile {
+            front: path,
+            back: Line::new(),
+            bytes,
+        }
     }
 
-    fn folder(&self) -> &[u8]
-        ensures { result.now ≡ self.now.folder }
+    /// Whether it is the file of this path.
+    fn is_at(&self, path: &TrackPath) -> bool
+        ensures { result ≡ has_path path.now self.now }
     {
-        &self.folder
+        let (front, back) = path.parts();
+        are_same(&self.front, self.back.as_str().as_bytes(), front, back)
     }
 
     fn bytes(&self) -> &[u8]
@@ -63,128 +74,153 @@ impl ShelfFile {
     }
 }
 
-/// Where a track's file lies among the files.
-fn place_of(files: &[ShelfFile], folder: &[u8], track: TrackId) -> Option<usize>
-    ensures { result ≡ position_from (is_file_of folder.now track) 0 files.now }
+/// Whether two texts are the same, each of which comes in two parts.
+fn are_same(front: &[u8], back: &[u8], other_front: &[u8], other_back: &[u8]) -> bool
+    ensures { Decides result (front.now ++ back.now ≡ other_front.now ++ other_back.now) }
 {
-    files.iter().position(|file| file.is_of(folder, track))
+    if front.len() <= other_front.len() {
+        goes_on(front, back, other_front, other_back)
+    } else {
+        goes_on(other_front, other_back, front, back)
+    }
 }
 
-/// The bytes of a track's file in a folder, none where it is missing.
-fn bytes_of<'a>(files: &'a [ShelfFile], folder: &[u8], track: TrackId) -> &'a [u8]
-    ensures { result.now ≡ bytes_in (file_of files.now folder.now track) }
+/// The same where the first front is not the longer one.
+fn goes_on(short: &[u8], after_short: &[u8], long: &[u8], after_long: &[u8]) -> bool
+    requires { length short.now ≤ length long.now }
+    ensures { Decides result (short.now ++ after_short.now ≡ long.now ++ after_long.now) }
 {
-    match file_of(files, folder, track) {
+    let (same, rest) = long.split_at(short.len());
+    if short != same {
+        return false;
+    }
+    if after_short.len() < rest.len() {
+        return false;
+    }
+    let (middle, end) = after_short.split_at(rest.len());
+    if middle != rest {
+        return false;
+    }
+    end == after_long
+}
+
+/// Where the file of a path lies among the files.
+fn place_of(files: &[ShelfFile], path: &TrackPath) -> Option<usize>
+    ensures { result ≡ position_from (has_path path.now) 0 files.now }
+{
+    files.iter().position(|file| file.is_at(path))
+}
+
+/// More than a format has tracks.
+const MOST_PLACES: usize = 1000;
+
+/// Places of files among the files.
+type Places = ArrayVec<usize, MOST_PLACES>;
+
+/// The place of the file of this path, if it is there.
+fn find_file(files: &[ShelfFile], path: &TrackPath) -> Places
+    ensures { map (bytes_at files.now) result.items ≡ pieces_of (file_at files.now path.now) }
+{
+    let mut places = Places::new();
+    if let Some(place) = place_of(files, path) {
+        places.push(place);
+    }
+    places
+}
+
+/// The places of the files of all the format's tracks, in a folder. Else the number of the first track whose file is
+/// missing.
+fn find_wanted(files: &[ShelfFile], folder: &[u8], format: Format) -> Result<Places, u32>
+    ensures missing { IfErr result (λ number. (first_missing files.now folder.now format ≡ Some number) × (number < length (tracks format))) }
+    ensures found { IfOk result (λ places. (first_missing files.now folder.now format ≡ None)
+        × (map (bytes_at files.now) places.items ≡ map (track_bytes files.now folder.now) (tracks format))) }
+{
+    tracks_keep_bounds();
+    let mut places = Places::new();
+    for number in 0..track_count(format) {
+        let path = TrackPath::in_folder(folder, track_id(format, number));
+        match place_of(files, &path) {
+            Some(place) => places.push(place),
+            None => return Err(number),
+        }
+    }
+    Ok(places)
+}
+
+/// The byte that comes next: the number of its file among the places, and where it stands in that file.
+#[derive(Clone, Copy, Debug)]
+struct Next {
+    number: usize,
+    start: usize,
+}
+
+/// The bytes of the file at the place of this number.
+fn bytes_of<'a>(files: &'a [ShelfFile], places: &[usize], number: usize) -> &'a [u8]
+    requires { number < length places.now }
+    ensures { result.now ≡ bytes_at files.now (get_or places.now number 0) }
+{
+    match files.get(places[number]) {
         Some(file) => file.bytes(),
         None => &[],
     }
 }
 
-/// A track's file in a folder.
-fn file_of<'a>(files: &'a [ShelfFile], folder: &[u8], track: TrackId) -> Option<&'a ShelfFile>
-    ensures { option_map (λ file. file.now) result ≡ file_of files.now folder.now track }
-{
-    files.iter().find(|file| file.is_of(folder, track))
-}
-
-/// Where a file lies that is in the same folder as the file of each of the format's tracks. Else the number of the
-/// first track whose file is missing.
-fn find_wanted(files: &[ShelfFile], folder: &[u8], format: Format) -> Result<usize, u32>
-    ensures missing { IfErr result (λ number. (first_missing files.now folder.now format ≡ Some number) × (number < length (tracks format))) }
-    ensures found { IfOk result (λ place. (first_missing files.now folder.now format ≡ None)
-        × (0 < length (tracks format) → folder_at files.now place ≡ folder.now)) }
-{
-    let mut found = 0;
-    for number in 0..track_count(format) {
-        match place_of(files, folder, track_id(format, number)) {
-            Some(place) => found = place,
-            None => return Err(number),
-        }
-    }
-    Ok(found)
-}
-
-/// What is still to come: the files of a folder from a track on, and the first of them from a byte on.
-#[derive(Clone, Copy, Debug)]
-struct Ahead {
-    /// Where a file of the folder lies among the files.
-    place: usize,
-    format: Format,
-    /// The track's number.
-    number: u32,
-    /// The byte of that track's file.
-    start: usize,
-}
-
-/// The bytes of the file that comes next.
-fn next_bytes(files: &[ShelfFile], ahead: Ahead) -> &[u8]
-    requires { ahead.number < length (tracks ahead.format) }
-    ensures { result.now ≡ bytes_at files.now ahead.place ahead.format ahead.number }
-{
-    let track = track_id(ahead.format, ahead.number);
-    match files.get(ahead.place) {
-        Some(file) => bytes_of(files, file.folder(), track),
-        None => bytes_of(files, &[], track),
-    }
-}
-
 /// Passes over files of which all bytes are taken. None where nothing is still to come.
-fn pass_taken(files: &[ShelfFile], ahead: Ahead) -> Option<Ahead>
-    ensures end { IfNone result (ahead_from files.now ahead.place ahead.format ahead.number ahead.start ≡ []) }
-    ensures same { IfSome result (λ next. ahead_from files.now next.place next.format next.number next.start
-        ≡ ahead_from files.now ahead.place ahead.format ahead.number ahead.start) }
-    ensures next { IfSome result (λ next. (next.number < length (tracks next.format))
-        × (next.start < length (bytes_at files.now next.place next.format next.number))) }
+fn pass_taken(files: &[ShelfFile], places: &[usize], from: Next) -> Option<Next>
+    ensures end { IfNone result (ahead_from files.now places.now from.number from.start ≡ []) }
+    ensures same { IfSome result (λ next. ahead_from files.now places.now next.number next.start
+        ≡ ahead_from files.now places.now from.number from.start) }
+    ensures next { IfSome result (λ next. (next.number < length places.now)
+        × (next.start < length (bytes_at files.now (get_or places.now next.number 0)))) }
 {
-    let mut next = ahead;
-    while next.number < track_count(next.format) {
-        if next.start < next_bytes(files, next).len() {
+    let mut next = from;
+    while next.number < places.len() {
+        if next.start < bytes_of(files, places, next.number).len() {
             return Some(next);
         }
-        next = Ahead {
+        next = Next {
             number: next.number + 1,
             start: 0,
-            ..next
         };
     }
     None
 }
 
-/// Puts bytes of the file at hand at the buffer's front, at most so many. Says what is still to come then, and how many
-/// they are.
+/// Puts bytes of the file at hand at the buffer's front, at most so many. Says what comes next then, and how many they
+/// are.
 fn give(
     files: &[ShelfFile],
-    ahead: Option<Ahead>,
+    places: &[usize],
+    from: Next,
     most: u32,
     buffer: &mut [u8],
-) -> (Option<Ahead>, usize)
+) -> (Next, usize)
     requires { 0 < most }
-    ensures count { result.1 ≡ min (min most (length buffer.old)) (length (first_piece (ahead_at files.now ahead))) }
-    ensures front { take result.1 buffer.new ≡ take result.1 (first_piece (ahead_at files.now ahead)) }
+    ensures count { result.1 ≡ min (min most (length buffer.old)) (length (first_piece (ahead_from files.now places.now from.number from.start))) }
+    ensures front { take result.1 buffer.new ≡ take result.1 (first_piece (ahead_from files.now places.now from.number from.start)) }
     ensures len { length buffer.new ≡ length buffer.old }
-    ensures later { ahead_at files.now result.0 ≡ with_bytes (cut_first result.1 (ahead_at files.now ahead)) }
-    ensures end { result.1 ≡ 0 → 0 < length buffer.old → ahead_at files.now ahead ≡ [] }
+    ensures later { ahead_from files.now places.now result.0.number result.0.start
+        ≡ with_bytes (cut_first result.1 (ahead_from files.now places.now from.number from.start)) }
+    ensures end { result.1 ≡ 0 → 0 < length buffer.old → ahead_from files.now places.now from.number from.start ≡ [] }
 {
-    let Some(ahead) = ahead else {
-        return (None, 0);
+    let Some(next) = pass_taken(files, places, from) else {
+        return (from, 0);
     };
-    let Some(next) = pass_taken(files, ahead) else {
-        return (None, 0);
-    };
-    let left = &next_bytes(files, next)[next.start..];
+    let left = &bytes_of(files, places, next.number)[next.start..];
     let given = copy_front(&left[..left.len().min(most as usize)], buffer);
     let start = next.start + given;
-    (Some(Ahead { start, ..next }), given)
+    (Next { start, ..next }, given)
 }
 
 /// A shelf whose files lie in memory. A read gives the least of the chunk, the buffer's length and the bytes left of
-/// the file at hand, which is the first wanted one whose bytes are not all taken. The calls of `begin` and `read`
-/// whose numbers, from 0, are on a list answer `Failed` and are counted as faults.
+/// the file at hand, which is the first one that is asked for whose bytes are not all taken. The calls of `begin`,
+/// `open_file` and `read` whose numbers, from 0, are on a list answer `Failed` and are counted as faults.
 #[derive(Debug, Drop)]
 pub struct MemoryShelf {
     files: Vec<ShelfFile>,
-    /// What is still to come, once `begin` has found all wanted files.
-    ahead: Option<Ahead>,
+    /// Where the files lie that are read, in their order.
+    places: Places,
+    next: Next,
     chunk: u32,
     failing: Vec<u64>,
     calls: u64,
@@ -193,30 +229,60 @@ pub struct MemoryShelf {
 
 impl Model for MemoryShelf {
     ghost use Rattle.std.specs.Prelude.{◌<◌};
-    ghost use Rattle.track_shelf.specs.Memory.{ShelfState, ahead_at};
+    ghost use Rattle.track_shelf.specs.Memory.{ShelfState, ahead_from};
 
     ghost Value = { ShelfState };
 
-    ghost view = { λ s. record { files = s.files.items; ahead = ahead_at s.files.items s.ahead; chunk = s.chunk; failing = s.failing.items; calls = s.calls; faults = s.faults } };
+    ghost view = { λ s. record { files = s.files.items; ahead = ahead_from s.files.items s.places.items s.next.number s.next.start; chunk = s.chunk; failing = s.failing.items; calls = s.calls; faults = s.faults } };
 
     ghost invariant = { λ s. 0 < s.chunk };
 }
 
 impl MemoryShelf {
-    /// A shelf with these files, from which nothing is to be read before `begin`. Of two files of one track in one
-    /// folder the first counts. The chunk is at least 1.
+    /// A shelf with these files, from which nothing is to be read before `begin` and `open_file`. Of two files of one
+    /// path the first counts. The chunk is at least 1.
     pub fn new(files: Vec<ShelfFile>, chunk: u32, failing: Vec<u64>) -> MemoryShelf
         requires { 0 < chunk }
         ensures { result ≡ record { files = files.items; ahead = []; chunk = chunk; failing = failing.items; calls = 0; faults = 0 } }
     {
         MemoryShelf {
             files,
-            ahead: None,
+            places: Places::new(),
+            next: Next {
+                number: 0,
+                start: 0,
+            },
             chunk,
             failing,
             calls: 0,
             faults: 0,
         }
+    }
+
+    /// Counts a call. One whose number is on the list fails, and is counted as a fault.
+    fn count_call(&mut self) -> Result<(), Failed>
+        ensures ok { OnOk result ((is_failing self.old.failing self.old.calls ≡ false) × (self.new ≡ record self.old { calls = next_count self.old.calls })) }
+        ensures err { OnErr result ((is_failing self.old.failing self.old.calls ≡ true) × (self.new ≡ failed self.old)) }
+        ensures later { self.old.faults ≤ self.new.faults }
+    {
+        let failing = self.failing.contains(&self.calls);
+        self.calls = self.calls.saturating_add(1);
+        if failing {
+            self.faults = self.faults.saturating_add(1);
+            return Err(Failed);
+        }
+        Ok(())
+    }
+
+    /// Reads from now on the files at these places.
+    fn read_at(&mut self, places: Places)
+        ensures { self.new ≡ record self.old { ahead = with_bytes (map (bytes_at self.old.files) places.items) } }
+    {
+        self.places = places;
+        self.next = Next {
+            number: 0,
+            start: 0,
+        };
     }
 }
 
@@ -233,14 +299,9 @@ impl Source for MemoryShelf {
         ensures answer { result ≡ read_of self.old (length buffer.old) }
         ensures after { self.new ≡ after_read self.old (length buffer.old) }
     {
-        let failing = self.failing.contains(&self.calls);
-        self.calls = self.calls.saturating_add(1);
-        if failing {
-            self.faults = self.faults.saturating_add(1);
-            return Err(Failed);
-        }
-        let (ahead, given) = give(&self.files, self.ahead, self.chunk, buffer);
-        self.ahead = ahead;
+        self.count_call()?;
+        let (next, given) = give(&self.files, &self.places, self.next, self.chunk, buffer);
+        self.next = next;
         Ok(given)
     }
 }
@@ -258,23 +319,29 @@ impl Shelf for MemoryShelf {
         ensures answer { result ≡ begin_of self.old folder.now format }
         ensures after { self.new ≡ after_begin self.old folder.now format }
     {
-        let failing = self.failing.contains(&self.calls);
-        self.calls = self.calls.saturating_add(1);
-        if failing {
-            self.faults = self.faults.saturating_add(1);
-            return Err(Failed);
-        }
+        self.count_call()?;
         match find_wanted(&self.files, folder, format) {
-            Ok(place) => {
-                self.ahead = Some(Ahead {
-                    place,
-                    format,
-                    number: 0,
-                    start: 0,
-                });
+            Ok(places) => {
+                self.read_at(places);
                 Ok(None)
             }
             Err(number) => Ok(Some(number)),
         }
+    }
+
+    fn open_file(&mut self, dump: &[u8], track: TrackId) -> Result<bool, Failed>
+        ensures there { SaysThere (Some self.old.files) (path_text dump.now track) result }
+        ensures left { LeavesFile (Some self.old.files) (path_text dump.now track) result (Some (concat self.old.ahead)) (Some (concat self.new.ahead)) }
+        ensures kept { self.new.files ≡ self.old.files }
+        ensures later { self.old.faults ≤ self.new.faults }
+        ensures cause { OnErr result (Rose self.old.faults self.new.faults) }
+        ensures answer { result ≡ open_of self.old (path_text dump.now track) }
+        ensures after { self.new ≡ after_open self.old (path_text dump.now track) }
+    {
+        self.count_call()?;
+        let places = find_file(&self.files, &TrackPath::of_dump(dump, track));
+        let there = !places.is_empty();
+        self.read_at(places);
+        Ok(there)
     }
 }

@@ -1,6 +1,6 @@
 ghost use Rattle.std.specs.Prelude.{◌≡◌, ◌+◌, ◌≤◌, ◌<◌, ◌++◌};
 ghost use Rattle.arrayvec.specs.ArrayString.{array_string_len};
-ghost use Rattle.track_shelf.specs.Names.{file_name_text, missing_text};
+ghost use Rattle.track_shelf.specs.Names.{ending_text, file_name_text, missing_text};
 
 use flux_base::TrackId;
 use sector_report::{Line, put, put_two_digits, put_u32};
@@ -35,13 +35,22 @@ pub fn missing_line(number: u32, track: TrackId) -> Line
 
 /// Appends `trackCC.H.raw`.
 #[tactic(auto, unfolding(crate::specs::Names::file_name_text))]
-fn put_file_name(line: &mut Line, track: TrackId)
-    requires cylinder { track.cylinder < 100 }
+pub(crate) fn put_file_name(line: &mut Line, track: TrackId)
     requires room { array_string_len line.old + 60 ≤ 192 }
     ensures bytes { line.new.bytes ≡ line.old.bytes ++ file_name_text track }
     ensures len { array_string_len line.new ≤ array_string_len line.old + 60 }
 {
     put(line, "track");
+    put_ending(line, track);
+}
+
+/// Appends `CC.H.raw`, with which the name of a track's file ends.
+#[tactic(auto, unfolding(crate::specs::Names::ending_text))]
+pub(crate) fn put_ending(line: &mut Line, track: TrackId)
+    requires room { array_string_len line.old + 50 ≤ 192 }
+    ensures bytes { line.new.bytes ≡ line.old.bytes ++ ending_text track }
+    ensures len { array_string_len line.new ≤ array_string_len line.old + 50 }
+{
     put_two_digits(line, track.cylinder);
     put(line, ".");
     put_u32(line, u32::from(track.head));
