@@ -1,2 +1,11 @@
 pub mod Times
 pub mod Streams
+pub mod Ones
+pub mod Drive
+pub mod Blocks
+pub mod Listed
+pub mod Driven
+pub mod Turns
+pub mod Reached
+pub mod ReachedPieces
+pub mod Tracks

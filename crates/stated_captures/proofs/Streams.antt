@@ -47,7 +47,7 @@ no_other_captures x ring nominal capture = (
 )
 
 -- from each piece to the next so many nominal cells
-abbrev NextIsFar : ℕ → List Piece → Type 0
+abbrev pub NextIsFar : ℕ → List Piece → Type 0
 NextIsFar nominal pieces = (before : List Piece) (piece next : Piece) (behind : List Piece) → before ++ piece ∷ next ∷ behind ≡ pieces
     → 1024 * last_of piece.times + 48 * nominal ≤ 1024 * slice_index next.times 0
 
@@ -77,7 +77,7 @@ none_after : (piece next : Piece) (before behind : List Piece) → before ++ pie
 none_after piece next [] behind is = cc
 none_after piece next (b ∷ before) behind is = cc
 
-next_is_far : (nominal : ℕ) (first : Piece) (later : List Piece) → 0 < nominal → AreApart nominal first later → NextIsFar nominal (first ∷ later)
+pub next_is_far : (nominal : ℕ) (first : Piece) (later : List Piece) → 0 < nominal → AreApart nominal first later → NextIsFar nominal (first ∷ later)
 next_is_far nominal first [] some apart [] piece next behind is = absurd (no_more piece next first behind is)
 next_is_far nominal first [] some apart (b ∷ before) piece next behind is =
     absurd (none_after piece next before behind (same_rest b first (before ++ piece ∷ next ∷ behind) [] is))

@@ -1,3 +1,5 @@
 pub mod Bounds
 pub mod Streams
 pub mod Laws
+pub mod Reaching
+pub mod Reached
