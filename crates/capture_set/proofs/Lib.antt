@@ -1,5 +1,1 @@
-pub mod Parts
-pub mod Decoding
-pub mod Telling
-pub mod Outcomes
-pub mod GoodSets
+pub mod OneCapture

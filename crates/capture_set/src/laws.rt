@@ -2,13 +2,13 @@
 
 ghost use Rattle.capture_set.specs.Laws.{GoodIsRightInSets, OneSet, SetsOfOneAreDecoded};
 
-use disk_recordings::tracks_are_read;
+use flux_engine::plans_are_right;
 
 /// An input comes to one outcome.
 pub fn sets_are_one()
     ensures { OneSet }
 {
-    tracks_are_read()
+    plans_are_right()
 }
 
 /// A set with one capture of each track has the image and the totals of a decoded disk.
@@ -21,5 +21,5 @@ pub fn sets_of_one_are_decoded()
 pub fn good_is_right_in_sets()
     ensures { GoodIsRightInSets }
 {
-    tracks_are_read()
+    plans_are_right()
 }

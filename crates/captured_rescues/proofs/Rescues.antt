@@ -1,6 +1,5 @@
 -- Captured disks are rescued.
-use Rattle.std.specs.Prelude.{◌≡◌, ◌≤◌, ◌<◌, ℕ, ◌+◌, ◌-◌, ◌*◌, Bool, List, [], drop, is_some, length, replicate, slice_index, sum_by, take, unwrap_or, Option, None, Some, refl}
-use Rattle.std.specs.Option.{option_and_then}
+use Rattle.std.specs.Prelude.{◌≡◌, ◌≤◌, ◌<◌, ℕ, ◌+◌, ◌-◌, ◌*◌, Bool, List, [], drop, length, replicate, slice_index, sum_by, take, unwrap_or, Option, None, Some, refl}
 use Rattle.std.proofs.Common.{ap, sym, subst, ◌∙◌, arith, append-nil, length-drop}
 use Rattle.std.proofs.lemmas.List.{length-replicate, length-take-le}
 use Rattle.flux_base.specs.declared.track.TrackId.{TrackId}
@@ -8,7 +7,7 @@ use Rattle.disk_recordings.specs.Laws.{RingsHaveCells, TracksAreRead}
 use Rattle.disk_recordings.specs.Members.{header_at, sector_at}
 use Rattle.kryo_stream.specs.Growth.{StreamsStay}
 use Rattle.kryo_stream.specs.Joined.{PaddingIsPassed}
-use Rattle.kryo_stream.specs.Stream.{indexes, times}
+use Rattle.kryo_stream.specs.Stream.{first_fault, indexes, times}
 use Rattle.sector_images.specs.Formats.{row, slot, zone}
 use Rattle.sector_images.specs.Places.{IsSector, IsTrack, NumbersHoldSectors, NumbersNameTracks, SectorsFillTracks, SectorsLieInImages, TracksJoin, bytes_of, place_of, sector_in, sector_place, tracks}
 use Rattle.sector_images.specs.declared.format.Format.{Format}
@@ -22,20 +21,20 @@ use Rattle.decoded_rings.specs.Written.{HasSector}
 use Rattle.flux_engine.specs.Captured.{AreReadingsBy}
 use Rattle.flux_engine.specs.Captures.{Capture, CapturesAreRecovered}
 use Rattle.flux_engine.specs.DiskLaws.{HasVerdict, bytes_at, cells_at}
-use Rattle.flux_engine.specs.Disks.{Decoded, decoded_count, images, part_at, stop_at, stop_of}
+use Rattle.flux_engine.specs.Disks.{images, part_at}
+use Rattle.flux_engine.specs.Plans.{PlanStop, Planned, StopsAt, joined, planned_count}
 use Rattle.flux_engine.specs.Recordings.{cells_of, sectors_of, track_at}
 use Rattle.flux_engine.specs.Rings.{IsImage, IsRing, nominal_of, ring_cells_of, ring_of, sector_bytes}
-use Rattle.flux_engine.specs.Streams.{has_fault, stream_at}
+use Rattle.flux_engine.specs.Streams.{stream_at}
 use Rattle.flux_engine.specs.Tracks.{TrackPart, image_bytes, image_of, image_piece, readings_of}
 use Rattle.turn_merge.specs.declared.clock.Clock.TheVariants.{Following}
-use Rattle.flux_engine.specs.lemmas.Finding.{find-none}
 use Rattle.captured_disks.specs.Frames.{written_track}
 use Rattle.captured_disks.specs.Inputs.{IsCapturedDisk}
 use Rattle.captured_disks.specs.lemmas.Readings.{are_readings_of}
 use Rattle.captured_disks.specs.lemmas.Streams.{IsStreamNumber, is_stream_number}
 use Rattle.captured_disks.specs.lemmas.TrackBytes.{are_sectors, own_bytes}
 use Rattle.disk_rescue.specs.Laws.{GoodStays, HasRescuedVerdict}
-use Rattle.disk_rescue.specs.Rescued.{IsRescued, IsRescuedPartAt}
+use Rattle.disk_rescue.specs.Rescued.{IsRescued, IsRescuedPartAt, rescuing, track_streams}
 use Rattle.captured_rescues.specs.Headline.{CapturedDisksAreRescued, IsOwnOrContradictory, RescuesRightly}
 use Rattle.captured_rescues.proofs.Places.{one_more, piece_at, pieces_size, stands_in_part}
 use Rattle.captured_rescues.proofs.Verdicts.{good_one, own_or_contradictory}
@@ -66,21 +65,27 @@ own_size format own held (Contradictory g b p q) size is = ap length is ∙ leng
 own_size format own held (Bad b p) size is = absurd is
 own_size format own held Missing size is = absurd is
 
-module _ (laws : Laws) (format : Format) (image x : List ℕ) (o : Decoded) (is : IsImage format image) (captured : IsCapturedDisk format image x)
+none_some : {X : Type 0} (o : Option X) (a : X) → o ≡ None → o ≡ Some a → ⊥
+none_some o a none some = cc
+
+module _ (laws : Laws) (format : Format) (image x : List ℕ) (o : Planned) (is : IsImage format image) (captured : IsCapturedDisk format image x)
     (rescued : IsRescued format x o) where
   stream : (n : ℕ) → n < length (tracks format) → IsStreamNumber x n (captured.stream n)
   stream n known =
       is_stream_number laws.stay laws.passed (length (tracks format)) captured.stream x captured.joined
       (λ k below. ((captured.captured k below).no_fault, (captured.captured k below).whole)) n known
 
-  no_fault : stop_of format x ≡ None
-  unfolding stop_of
-  no_fault =
-      ap (option_and_then (stop_at x))
-      (find-none (has_fault x) 0 (length (tracks format)) (λ k above below. ap is_some (stream k (omega (arith, below))).no_fault))
+  no_fault : o.stop ≡ None
+  no_fault = nowhere o.stop rescued.stops
+    where
+      nowhere : (stop : Option PlanStop) → StopsAt rescuing format (track_streams x) stop → stop ≡ None
+      nowhere None clean = refl
+      nowhere (Some s) first =
+          let only : s.track * 1 + s.capture ≡ s.track = omega (arith, first.few) in
+          absurd (none_some _ _ (ap (λ (k : ℕ). first_fault (stream_at x k)) only ∙ (stream s.track first.low).no_fault) first.is)
 
   many : length rescued.parts ≡ length (tracks format)
-  many = rescued.many ∙ ap (decoded_count format) no_fault
+  many = rescued.many ∙ ap (planned_count format) no_fault
 
   module _ (n : ℕ) (known : n < length (tracks format)) where
     abbrev track : TrackId
@@ -121,10 +126,12 @@ module _ (laws : Laws) (format : Format) (image x : List ℕ) (o : Decoded) (is 
 
     -- what both clocks read makes the sector good with its own bytes, or contradictory
     rescued_sector : (sector : ℕ) → IsSector format track sector → (outcome : Verdict) (v : HasRescuedVerdict format x n sector outcome)
-        → IsOwnOrContradictory format (sector_bytes format track image sector) (image_bytes (sectors_of format track) v.readings sector) outcome
+        → IsOwnOrContradictory format (sector_bytes format track image sector) (image_bytes (sectors_of format track) (joined v.captures) sector) outcome
     rescued_sector sector one outcome v =
-        let noted : AreReadingsBy Following format track (times (stream_at x n)) (indexes (stream_at x n)) 0 (v.all.by_clock Following) =
-        v.all.each Following in
+        let one_stream : stream_at x (n * 1 + 0) ≡ stream_at x n = (let number : n * 1 + 0 ≡ n = omega arith in ap (stream_at x) number) in
+        let both = v.all 0 (omega (arith, v.many)) in
+        let noted : AreReadingsBy Following format track (times (stream_at x n)) (indexes (stream_at x n)) 0 (both.by_clock Following) =
+        subst (λ (y : List ℕ). AreReadingsBy Following format track (times y) (indexes y) 0 (both.by_clock Following)) one_stream (both.each Following tt) in
         let found : List NotedReading = readings_of (times (stream_at x n)) (indexes (stream_at x n)) (cells_at format x n) noted.found in
         let are : AreReadingsOf (sector_at format track) (cells_of_ring_pieces ring piece []) found =
         subst (λ (cs : List Bool). AreReadingsOf (sector_at format track) cs found) cells
@@ -140,7 +147,7 @@ module _ (laws : Laws) (format : Format) (image x : List ℕ) (o : Decoded) (is 
         ap (λ (held : Option (List ℕ)). unwrap_or held (replicate size 0)) good.held_is
         ∙ own_bytes laws.lie format track image is known_track sector one in
         own_or_contradictory format x n sector good.first (sector_bytes format track image sector) (image_bytes (sectors_of format track) found sector)
-        v.readings outcome bytes v.is (laws.stays format x n sector good.good good.bad good.first decoded outcome v)
+        (joined v.captures) outcome bytes v.is (laws.stays format x n sector good.good good.bad good.first decoded outcome v)
 
     own_length : (sector : ℕ) → IsSector format track sector → length (sector_bytes format track image sector) ≡ size
     own_length sector one =
@@ -151,39 +158,39 @@ module _ (laws : Laws) (format : Format) (image x : List ℕ) (o : Decoded) (is 
       abbrev sectors : ℕ
       sectors = (zone format track.cylinder).sectors
 
-      abbrev has : (sector : ℕ) → HasRescuedVerdict format x n sector (verdict at.readings sector)
-      has sector = record { readings = at.readings; all = at.all; is = refl }
+      abbrev has : (sector : ℕ) → HasRescuedVerdict format x n sector (verdict (joined at.captures) sector)
+      has sector = record { captures = at.captures; many = at.many; all = at.each; is = refl }
 
       says : (sector : ℕ) → IsSector format track sector
-          → IsOwnOrContradictory format (sector_bytes format track image sector) (image_bytes (sectors_of format track) at.readings sector) (verdict at.readings sector)
-      says sector one = rescued_sector sector one (verdict at.readings sector) (has sector)
+          → IsOwnOrContradictory format (sector_bytes format track image sector) (image_bytes (sectors_of format track) (joined at.captures) sector) (verdict (joined at.captures) sector)
+      says sector one = rescued_sector sector one (verdict (joined at.captures) sector) (has sector)
 
-      piece_size : (j : ℕ) → j < sectors → length (image_piece format track at.readings j) ≡ size
+      piece_size : (j : ℕ) → j < sectors → length (image_piece format track (joined at.captures) j) ≡ size
       piece_size j low =
           let there = laws.hold format track j low in
           let sector : ℕ = sector_in format track j in
-          own_size format (sector_bytes format track image sector) (image_bytes (sectors_of format track) at.readings sector) (verdict at.readings sector)
+          own_size format (sector_bytes format track image sector) (image_bytes (sectors_of format track) (joined at.captures) sector) (verdict (joined at.captures) sector)
           (own_length sector there.0) (says sector there.0)
 
       part_size : length part.image ≡ bytes_of format track
       unfolding image_of
       part_size =
-          ap (λ (p : TrackPart). length p.image) at.is ∙ pieces_size size (image_piece format track at.readings) sectors piece_size
+          ap (λ (p : TrackPart). length p.image) at.is ∙ pieces_size size (image_piece format track (joined at.captures)) sectors piece_size
 
       in_part : (sector : ℕ) → IsSector format track sector
-          → take size (drop (size * slot format sector) part.image) ≡ image_bytes (sectors_of format track) at.readings sector
+          → take size (drop (size * slot format sector) part.image) ≡ image_bytes (sectors_of format track) (joined at.captures) sector
       unfolding image_of
       in_part sector one =
           let fill = laws.fill format track sector one in
           ap (λ (p : TrackPart). take size (drop (size * slot format sector) p.image)) at.is
-          ∙ piece_at size (image_piece format track at.readings) sectors piece_size (slot format sector) fill.0
-          ∙ ap (image_bytes (sectors_of format track) at.readings) fill.1
+          ∙ piece_at size (image_piece format track (joined at.captures)) sectors piece_size (slot format sector) fill.0
+          ∙ ap (image_bytes (sectors_of format track) (joined at.captures)) fill.1
 
   part : (n : ℕ) (known : n < length (tracks format)) → IsRescuedPartAt format x n (part_at rescued.parts n)
   part n known = rescued.each n (omega (arith, known, many))
 
   image_is : o.image ≡ images rescued.parts
-  image_is = ap (λ (d : Decoded). d.image) rescued.is
+  image_is = ap (λ (d : Planned). d.image) rescued.is
 
   module _ (n : ℕ) (known : n < length (tracks format)) (sector : ℕ) (one : IsSector format (track_at format n) sector) where
     place : place_of format (track_at format n) ≡ sum_by (bytes_of format) (take n (tracks format))
@@ -196,7 +203,7 @@ module _ (laws : Laws) (format : Format) (image x : List ℕ) (o : Decoded) (is 
     inside = one_more (row format).sector_size (slot format sector) (zone format (track_at format n).cylinder).sectors (laws.fill format (track_at format n) sector one).0
 
     in_image : bytes_at format o.image (track_at format n) sector
-        ≡ image_bytes (sectors_of format (track_at format n)) (part n known).readings sector
+        ≡ image_bytes (sectors_of format (track_at format n)) (joined (part n known).captures) sector
     unfolding sector_place
     in_image =
         let at : ℕ = (row format).sector_size * slot format sector in
@@ -208,10 +215,10 @@ module _ (laws : Laws) (format : Format) (image x : List ℕ) (o : Decoded) (is 
 
   pub rescues_rightly : RescuesRightly format image x o
   rescues_rightly = record {
-    no_stop = ap (λ (d : Decoded). d.stop) rescued.is ∙ no_fault;
+    no_stop = no_fault;
     each = λ n sector one.
         let here = part n one.track in
-        let outcome : Verdict = verdict here.readings sector in
+        let outcome : Verdict = verdict (joined here.captures) sector in
         record {
           outcome = outcome;
           has = has n one.track (part_at rescued.parts n) here sector;

@@ -5,7 +5,7 @@ use Rattle.sector_images.specs.declared.format.Format.{Format}
 use Rattle.turn_merge.specs.declared.verdict.Verdict.{Verdict}
 use Rattle.turn_merge.specs.declared.verdict.Verdict.TheVariants.{Good, Contradictory, Bad, Missing}
 use Rattle.flux_engine.specs.DiskLaws.{bytes_at}
-use Rattle.flux_engine.specs.Disks.{Decoded}
+use Rattle.flux_engine.specs.Plans.{Planned}
 use Rattle.flux_engine.specs.Recordings.{track_at}
 use Rattle.flux_engine.specs.Rings.{IsImage, sector_bytes}
 use Rattle.captured_disks.specs.Headline.{IsSectorOf}
@@ -22,18 +22,18 @@ IsOwnOrContradictory format own held Missing = ⊥
 
 -- the verdict on a sector of track number n over all that both clocks read there, and what stands at its place in the rescued
 -- image
-pub record IsRescuedSector (format : Format) (image x : List ℕ) (o : Decoded) (n sector : ℕ) : Type 0 where
+pub record IsRescuedSector (format : Format) (image x : List ℕ) (o : Planned) (n sector : ℕ) : Type 0 where
   pub outcome : Verdict
   pub has : HasRescuedVerdict format x n sector outcome
   pub is : IsOwnOrContradictory format (sector_bytes format (track_at format n) image sector) (bytes_at format o.image (track_at format n) sector) outcome
 
 -- All tracks are rescued, and each sector is good with its own bytes, or contradictory.
-pub record RescuesRightly (format : Format) (image x : List ℕ) (o : Decoded) : Type 0 where
+pub record RescuesRightly (format : Format) (image x : List ℕ) (o : Planned) : Type 0 where
   pub no_stop : o.stop ≡ None
   pub each : (n sector : ℕ) → IsSectorOf format n sector → IsRescuedSector format image x o n sector
 
 -- From any streams that carry an image's written tracks, disturbed within the bounds, what both clocks read is never wrong
 -- unsaid: a sector that is called good has its own bytes, and every other one is called contradictory.
 abbrev pub CapturedDisksAreRescued : Type 0
-CapturedDisksAreRescued = (format : Format) (image x : List ℕ) (o : Decoded) → IsImage format image → IsCapturedDisk format image x
+CapturedDisksAreRescued = (format : Format) (image x : List ℕ) (o : Planned) → IsImage format image → IsCapturedDisk format image x
     → IsRescued format x o → RescuesRightly format image x o

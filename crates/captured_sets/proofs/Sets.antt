@@ -1,6 +1,5 @@
 -- Captured sets decode.
-use Rattle.std.specs.Prelude.{◌≡◌, ◌≤◌, ◌<◌, ℕ, ◌+◌, ◌-◌, ◌*◌, ◌/◌, ◌%◌, Bool, List, [], drop, get_or, is_some, length, replicate, slice_index, sum_by, take, unwrap_or, Option, None, Some, refl}
-use Rattle.std.specs.Option.{option_and_then}
+use Rattle.std.specs.Prelude.{◌≡◌, ◌≤◌, ◌<◌, ℕ, ◌+◌, ◌-◌, ◌*◌, ◌/◌, ◌%◌, Bool, List, [], drop, get_or, length, replicate, slice_index, sum_by, take, unwrap_or, Option, None, Some, refl}
 use Rattle.std.proofs.Common.{ap, sym, subst, ◌∙◌, arith, append-nil}
 use Rattle.std.proofs.lemmas.List.{drop-drop, take_all}
 use Rattle.std.proofs.lemmas.Nat.{div-add-mod', mul-add-lt}
@@ -29,17 +28,16 @@ use Rattle.flux_engine.specs.Captures.{Capture, CapturesAreRecovered}
 use Rattle.flux_engine.specs.Disks.{lines, part_at}
 use Rattle.flux_engine.specs.Recordings.{cells_of, sectors_of, track_at}
 use Rattle.flux_engine.specs.Rings.{IsImage, IsRing, nominal_of, ring_cells_of, ring_of, sector_bytes}
-use Rattle.flux_engine.specs.Streams.{has_fault}
 use Rattle.flux_engine.specs.Tracks.{TrackPart, image_of, image_piece, is_good, line_by, lines_by, readings_in}
-use Rattle.flux_engine.specs.lemmas.Finding.{find-none}
 use Rattle.captured_disks.specs.Frames.{written_track}
 use Rattle.captured_disks.specs.Headline.{IsSectorOf}
 use Rattle.captured_disks.specs.lemmas.Readings.{are_readings_of}
 use Rattle.captured_disks.specs.lemmas.Streams.{IsStreamNumber, is_stream_number}
 use Rattle.captured_disks.specs.lemmas.Totals.{all_counted, totals_good}
 use Rattle.captured_disks.specs.lemmas.TrackBytes.{are_sectors, own_bytes}
-use Rattle.capture_set.specs.Laws.{cells_of_capture}
-use Rattle.capture_set.specs.Sets.{DecodedSet, IsDecodedSet, IsSetPartAt, capture_stream, joined, set_count, set_stop_at, set_stop_of}
+use Rattle.flux_engine.specs.PlanLaws.{cells_in}
+use Rattle.flux_engine.specs.Plans.{PlanStop, Planned, StopsAt, joined, planned_count}
+use Rattle.capture_set.specs.Sets.{IsDecodedSet, IsSetPartAt, capture_stream, set_plan, set_streams}
 use Rattle.captured_sets.specs.Headline.{CapturedSetsDecode, DecodesWholeSet, HasText, SaysGoodInSet}
 use Rattle.captured_sets.specs.Inputs.{IsCapturedSet}
 use Rattle.captured_sets.proofs.Images.{parts_join, pieces_join}
@@ -77,7 +75,10 @@ good_one (Contradictory g b place other) held bytes is = absurd is
 good_one (Bad b place) held bytes is = absurd is
 good_one Missing held bytes is = absurd is
 
-module _ (laws : Laws) (format : Format) (count : ℕ) (image x : List ℕ) (o : DecodedSet) (some : 1 ≤ count) (is : IsImage format image)
+none_some : {X : Type 0} (o : Option X) (a : X) → o ≡ None → o ≡ Some a → ⊥
+none_some o a none some = cc
+
+module _ (laws : Laws) (format : Format) (count : ℕ) (image x : List ℕ) (o : Planned) (some : 1 ≤ count) (is : IsImage format image)
     (captured : IsCapturedSet format count image x) (decoded : IsDecodedSet format count x o) where
   abbrev streams : ℕ
   streams = length (tracks format) * count
@@ -101,14 +102,15 @@ module _ (laws : Laws) (format : Format) (count : ℕ) (image x : List ℕ) (o :
   stream : (i : ℕ) → i < streams → IsStreamNumber x i (captured.stream i)
   stream = is_stream_number laws.stay laws.passed streams captured.stream x captured.joined sound
 
-  no_fault : set_stop_of format count x ≡ None
-  unfolding set_stop_of
-  no_fault =
-      ap (option_and_then (set_stop_at count x))
-      (find-none (has_fault x) 0 streams (λ i above below. ap is_some (stream i (omega (arith, below))).no_fault))
+  no_fault : o.stop ≡ None
+  no_fault = nowhere o.stop decoded.stops
+    where
+      nowhere : (stop : Option PlanStop) → StopsAt (set_plan count) format (set_streams count x) stop → stop ≡ None
+      nowhere None clean = refl
+      nowhere (Some s) first = absurd (none_some _ _ (stream (s.track * count + s.capture) (number s.track s.capture first.low first.few)).no_fault first.is)
 
   many : length decoded.parts ≡ length (tracks format)
-  many = decoded.many ∙ ap (set_count format) no_fault
+  many = decoded.many ∙ ap (planned_count format) no_fault
 
   module _ (n : ℕ) (known : n < length (tracks format)) where
     abbrev track : TrackId
@@ -143,7 +145,7 @@ module _ (laws : Laws) (format : Format) (count : ℕ) (image x : List ℕ) (o :
       long : 2 * length ring ≤ piece.count
       long = omega (arith, capture.two_turns)
 
-      cells : cells_of_capture format count x n q ≡ cells_of_ring_pieces ring piece []
+      cells : cells_in format (set_streams count x) n q Following ≡ cells_of_ring_pieces ring piece []
       cells =
           let one = stream (n * count + q) (number n q known low) in
           let bytes : List ℕ = captured.stream (n * count + q) in
@@ -159,15 +161,15 @@ module _ (laws : Laws) (format : Format) (count : ℕ) (image x : List ℕ) (o :
       one_with : (sector : ℕ) → IsSector format track sector → (q : ℕ) → q < length at.captures → IsWith sector (mine sector) (get_or at.captures q [])
       one_with sector one q within =
           let low : q < count = omega (arith, within, at.many) in
-          let noted = at.each q within in
-          let here = cells_of_capture format count x n q in
+          let noted = (at.each q within).each Following tt in
+          let here = cells_in format (set_streams count x) n q Following in
           let found : List NotedReading = readings_in q Following (times (capture_stream count x n q)) (indexes (capture_stream count x n q)) here noted.found in
           let are : AreReadingsOf (sector_at format track) (cells_of_ring_pieces ring (piece q low) []) found =
           subst (λ (cs : List Bool). AreReadingsOf (sector_at format track) cs found) (cells q low)
           (are_readings_of (header_at format track) (sector_at format track) (laws.read.all format track)
           q Following (times (capture_stream count x n q)) (indexes (capture_stream count x n q)) here noted.found noted.all) in
           let has : HasSector (written_track format image n) sector = record { least = one.0; most = one.1 } in
-          subst (IsWith sector (mine sector)) (sym noted.are)
+          subst (IsWith sector (mine sector)) (sym ((at.each q within).are ∙ noted.are))
           (((laws.pieces format image n is known (piece q low) []).1 found are).whole sector has
           (laws.two_rings format image n is known (piece q low) sector (long q low) has))
 
@@ -216,17 +218,17 @@ module _ (laws : Laws) (format : Format) (count : ℕ) (image x : List ℕ) (o :
 
   image_is : o.image ≡ image
   image_is =
-      ap (λ (d : DecodedSet). d.image) decoded.is
+      ap (λ (d : Planned). d.image) decoded.is
       ∙ parts_join (bytes_of format) (tracks format) decoded.parts image many (λ n known. part_image n known (part_at decoded.parts n) (part n known))
       ∙ ap (λ (n : ℕ). take n image) (laws.filled format ∙ sym is.size)
       ∙ take_all (length image) image (omega arith)
 
   all_good : o.totals.good ≡ o.totals.sectors
   all_good =
-      ap (λ (d : DecodedSet). d.totals.good) decoded.is
+      ap (λ (d : Planned). d.totals.good) decoded.is
       ∙ totals_good decoded.parts
       (λ n below. let known : n < length (tracks format) = omega (arith, below, many) in part_good n known (part_at decoded.parts n) (part n known))
-      ∙ sym (ap (λ (d : DecodedSet). d.totals.sectors) decoded.is)
+      ∙ sym (ap (λ (d : Planned). d.totals.sectors) decoded.is)
 
   says_good : (n sector : ℕ) → IsSectorOf format n sector → SaysGoodInSet format o n sector
   says_good n sector one =
@@ -241,12 +243,12 @@ module _ (laws : Laws) (format : Format) (count : ℕ) (image x : List ℕ) (o :
         good = says.good;
         bad = says.bad;
         first = says.first;
-        line = subst (λ (d : DecodedSet). HasText d.notes line) (sym decoded.is) (text_left (lines decoded.parts) _ line of_all);
+        line = subst (λ (d : Planned). HasText d.notes line) (sym decoded.is) (text_left (lines decoded.parts) _ line of_all);
       }
 
   pub decodes_whole_set : DecodesWholeSet format image o
   decodes_whole_set = record {
-    no_stop = ap (λ (d : DecodedSet). d.stop) decoded.is ∙ no_fault;
+    no_stop = no_fault;
     image_is = image_is;
     all_good = all_good;
     lines = says_good;

@@ -10,7 +10,7 @@ use Rattle.turn_merge.specs.declared.verdict.Verdict.TheVariants.{Good, Contradi
 use Rattle.decoded_rings.specs.Verdicts.{IsGoodWith}
 use Rattle.flux_engine.specs.lemmas.Each.{Each, each-append, each-filter, each-map, each-unfilter, each-unflat}
 use Rattle.flux_engine.specs.lemmas.GoodSectors.{Head, agreed_head, head_of, is_good_of, same_bytes}
-use Rattle.capture_set.specs.Sets.{joined}
+use Rattle.flux_engine.specs.Plans.{joined}
 
 same_eq : (xs ys : List ℕ) → xs ≡ ys → not (bytes_eq xs ys) ≡ false
 same_eq xs ys same = ap not ((bytes_eq-Decides xs ys).1 same)

@@ -1,4 +1,1 @@
-pub mod Parts
-pub mod Rescuing
-pub mod Telling
-pub mod Outcomes
+pub mod Staying

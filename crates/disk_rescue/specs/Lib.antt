@@ -1,4 +1,3 @@
 pub mod Rescued
 pub mod Answers
-pub mod Progress
 pub mod Laws

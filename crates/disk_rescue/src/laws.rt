@@ -2,13 +2,13 @@
 
 ghost use Rattle.disk_rescue.specs.Laws.{GoodStays, OneRescue, RescuedGoodIsRight};
 
-use flux_engine::both_clocks_are_right;
+use flux_engine::plans_are_right;
 
 /// An input comes to one outcome.
 pub fn rescues_are_one()
     ensures { OneRescue }
 {
-    both_clocks_are_right()
+    plans_are_right()
 }
 
 /// A sector is called good only where the clock, turn and place that are named have cells that hold it, with the bytes that
@@ -16,7 +16,7 @@ pub fn rescues_are_one()
 pub fn rescued_good_is_right()
     ensures { RescuedGoodIsRight }
 {
-    both_clocks_are_right()
+    plans_are_right()
 }
 
 /// A sector that decoding calls good is good by both clocks, with the same bytes and the same first place, or contradictory,
@@ -24,5 +24,5 @@ pub fn rescued_good_is_right()
 pub fn good_stays()
     ensures { GoodStays }
 {
-    both_clocks_are_right()
+    plans_are_right()
 }

@@ -3,8 +3,7 @@ pub mod Inputs
 pub mod DisksRun
 pub mod ImagesRun
 pub mod G64Run
-pub mod SetRun
-pub mod RescueRun
+pub mod PlanRun
 pub mod MapRun
 pub mod TurnsRun
 pub mod Runs

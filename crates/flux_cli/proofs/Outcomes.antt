@@ -22,7 +22,8 @@ use Rattle.flux_cli.specs.DisksWork.{disk_outcome}
 use Rattle.flux_cli.specs.G64Disks.{format_of}
 use Rattle.flux_cli.specs.G64Work.{from_g64_outcome}
 use Rattle.flux_cli.specs.MapWork.{map_outcome}
-use Rattle.flux_cli.specs.SetWork.{set_outcome}
+use Rattle.flux_cli.specs.PlanWork.{planned_outcome}
+use Rattle.sector_report.specs.declared.naming.Naming.TheVariants.{ByCapture, ByClock}
 use Rattle.flux_cli.specs.Work.{Outcome}
 use Rattle.flux_cli.specs.Works.{IsOutcome, work_of}
 use Rattle.flux_cli.specs.declared.command.Command.{Command}
@@ -262,9 +263,9 @@ module _ (names : WordsNameFormats) (one : OneOutcome) (one_file : OneFileDisk) 
   one_of (Some (FromG64 disk)) x a b first second =
       first.2 ∙ ap from_g64_outcome (one_file (format_of disk) x first.0 second.0 first.1 second.1) ∙ sym second.2
   one_of (Some (DecodeSet format count)) x a b first second =
-      first.2 ∙ ap set_outcome (one_set format count x first.0 second.0 first.1 second.1) ∙ sym second.2
+      first.2 ∙ ap (planned_outcome ByCapture) (one_set format count x first.0 second.0 first.1 second.1) ∙ sym second.2
   one_of (Some (Rescue format)) x a b first second =
-      first.2 ∙ ap (disk_outcome ImageAndReport) (one_rescue format x first.0 second.0 first.1 second.1) ∙ sym second.2
+      first.2 ∙ ap (planned_outcome ByClock) (one_rescue format x first.0 second.0 first.1 second.1) ∙ sym second.2
   one_of (Some (Tell page)) x a b first second = first ∙ sym second
 
   pub one_outcome : (words : List (List ℕ)) (x : List ℕ) (a b : Outcome) → IsOutcome words x a → IsOutcome words x b → a ≡ b

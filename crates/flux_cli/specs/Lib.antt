@@ -11,11 +11,11 @@ pub mod ImagesWork
 pub mod G64Work
 pub mod TrialWork
 pub mod PagesWork
-pub mod SetWork
-pub mod RescueWork
+pub mod PlanWork
 pub mod MapWork
 pub mod Works
 pub mod Runs
+pub mod PlanRuns
 pub mod DisksRuns
 pub mod FolderRuns
 pub mod Captured

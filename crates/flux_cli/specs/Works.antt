@@ -1,5 +1,7 @@
 -- What there is to do for the words: a row for each command, and one for words that are none.
 use Rattle.std.specs.Prelude.{◌≡◌, ℕ, List, [], Option, Some, None}
+use Rattle.capture_set.specs.Sets.{set_plan}
+use Rattle.disk_rescue.specs.Rescued.{rescuing}
 use Rattle.flux_base.specs.declared.status.Status.{Status}
 use Rattle.flux_base.specs.declared.status.Status.TheVariants.{Usage, NotesFault}
 use Rattle.sector_report.specs.Lines.{usage_text}
@@ -9,8 +11,7 @@ use Rattle.flux_cli.specs.FolderWords.{NamesFolder}
 use Rattle.flux_cli.specs.G64Disks.{format_of}
 use Rattle.flux_cli.specs.G64Work.{from_g64_work, to_g64_work}
 use Rattle.flux_cli.specs.ImagesWork.{write_work}
-use Rattle.flux_cli.specs.RescueWork.{rescue_work}
-use Rattle.flux_cli.specs.SetWork.{set_work}
+use Rattle.flux_cli.specs.PlanWork.{planned_work}
 use Rattle.flux_cli.specs.MapWork.{map_work}
 use Rattle.flux_cli.specs.PagesWork.{page_work}
 use Rattle.flux_cli.specs.TrialWork.{trial_work}
@@ -47,8 +48,8 @@ work_of (Some (Write format)) = write_work format
 work_of (Some (Trial format seed)) = trial_work format seed
 work_of (Some (ToG64 disk)) = to_g64_work (format_of disk)
 work_of (Some (FromG64 disk)) = from_g64_work (format_of disk)
-work_of (Some (DecodeSet format count)) = set_work format count
-work_of (Some (Rescue format)) = rescue_work format
+work_of (Some (DecodeSet format count)) = planned_work (set_plan count) format
+work_of (Some (Rescue format)) = planned_work rescuing format
 work_of (Some (Tell page)) = page_work page
 
 -- this is the outcome of the words over the input, where they name no folder

@@ -10,8 +10,8 @@ use Rattle.flux_writer.specs.Written.{cell_time, ones_of, quarter, stream_of, tr
 use Rattle.track_rings.specs.Rings.{AreNeighbours, cell_of, last_in}
 use Rattle.flux_engine.specs.Captures.{Capture, IsSteady, mean_cell}
 use Rattle.phase_loop.specs.Carried.{AreClose, Carried, DRIFT, OFF_MEAN, OFF_SPEED, OFF_START}
-use Rattle.flux_engine.proofs.Chosen.{AreChosen, are_chosen}
-use Rattle.flux_engine.proofs.Repeated.{begin, own_cell, same_later, written_length, written_runs}
+use Rattle.flux_engine.specs.lemmas.Chosen.{AreChosen, are_chosen}
+use Rattle.flux_engine.specs.lemmas.Repeated.{begin, own_cell, same_later, written_length, written_runs}
 
 mapped : (f : ℕ → ℕ) (xs : List ℕ) (i : ℕ) → i < length xs → slice_index (map f xs) i ≡ f (slice_index xs i)
 mapped f xs i within = get_or-map f xs i 0 0 within

@@ -5,7 +5,7 @@ use Rattle.std.proofs.lemmas.List.Elements.{filter-append}
 use Rattle.turn_merge.specs.Readings.{NotedReading, agreed, agreed_of, bad_ones, bytes_of, first_other, good_ones, verdict, verdict_of, verdict_with}
 use Rattle.turn_merge.specs.declared.verdict.Place.{Place}
 use Rattle.turn_merge.specs.declared.verdict.Verdict.TheVariants.{Contradictory, Good}
-use Rattle.flux_engine.specs.ClockLaws.{StaysGoodOrIsContradicted}
+use Rattle.flux_engine.specs.PlanLaws.{StaysGoodOrIsContradicted}
 use Rattle.flux_engine.specs.lemmas.Each.{Each}
 use Rattle.flux_engine.specs.lemmas.GoodSectors.{agreed_head, head_of, is_good_of}
 

@@ -12,15 +12,12 @@ pub mod PlanTelling
 pub mod DecodedPlans
 pub mod Outcomes
 pub mod Clashes
-pub mod BothClocks
 pub mod PlanSectors
 pub mod PlanOutcomes
 pub mod DiskParts
 pub mod LineNumbers
 pub mod DiskSectors
 pub mod Telling
-pub mod Chosen
-pub mod Repeated
 pub mod Captured
 pub mod CapturedCells
 pub mod RingLaws

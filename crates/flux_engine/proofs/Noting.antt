@@ -10,7 +10,7 @@ use Rattle.turn_merge.specs.Readings.{NotedReading, verdict, agreed}
 use Rattle.turn_merge.specs.declared.verdict.Verdict.{Verdict}
 use Rattle.turn_merge.specs.declared.verdict.Verdict.TheVariants.{Missing}
 use Rattle.index_turns.specs.Track.{TrackState}
-use Rattle.flux_engine.specs.Answers.{CaptureAnswer, ReadsByBoth, ReadsCapture, ReadsStream}
+use Rattle.flux_engine.specs.Answers.{CaptureAnswer, ReadsCapture, ReadsStream}
 use Rattle.flux_engine.specs.Captured.{AreReadingsBy, IsUsed}
 use Rattle.flux_engine.specs.Gathering.{Gathers, HasNoted, HasNotedBy}
 use Rattle.flux_engine.specs.PlanAnswers.{ReadsByClocks}
@@ -97,21 +97,6 @@ module _ (format : Format) (track : TrackId) (left left' : Option (List ℕ)) (u
     );
   }
   reads_capture capture (Err fault) c = record { times = c.times; indexes = c.indexes; read = c.read; noted = tt }
-
-  -- by both
-  pub reads_by_both : (answer : CaptureAnswer) → ReadsByClocks Both format track 0 left left' used held held' old new answer
-      → ReadsByBoth format track left left' used held held' old new answer
-  reads_by_both (Ok u) c = record {
-    times = c.times;
-    indexes = c.indexes;
-    read = c.read;
-    noted = (
-      c.noted.0,
-      record { by_clock = c.noted.1.by_clock; each = λ clock. c.noted.1.each clock tt; joined = c.noted.1.are },
-      c.noted.2,
-    );
-  }
-  reads_by_both (Err fault) c = record { times = c.times; indexes = c.indexes; read = c.read; noted = tt }
 
 -- what is known of a sector without a reading
 abbrev nothing : Found

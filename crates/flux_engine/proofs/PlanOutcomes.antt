@@ -12,8 +12,8 @@ use Rattle.turn_merge.specs.declared.clock.Clock.{Clock}
 use Rattle.turn_merge.specs.declared.clock.Clock.TheVariants.{Following, Held}
 use Rattle.flux_engine.specs.Captured.{AreReadingsBy, AreReadingsOf, IsUsed, joined_by}
 use Rattle.flux_engine.specs.Disks.{no_totals, part_at}
-use Rattle.flux_engine.specs.PlanLaws.{OnePlanned}
-use Rattle.flux_engine.specs.Plans.{AreCaptures, ArePlannedParts, IsBefore, IsFirstFault, IsPlannedPart, PartOf, PlanStop, StopsAt, Streams, joined, planned_count, planned_of}
+use Rattle.flux_engine.specs.PlanLaws.{OnePlanned, ReadingsInPlansAreOne}
+use Rattle.flux_engine.specs.Plans.{ArePlannedParts, IsBefore, IsFirstFault, IsPlannedPart, PartOf, PlanStop, StopsAt, Streams, joined, planned_count, planned_of}
 use Rattle.flux_engine.specs.Recordings.{cells_by, track_at}
 use Rattle.flux_engine.specs.Tracks.{Found, TrackPart, readings_in}
 use Rattle.flux_engine.specs.declared.plan.Clocks.{Clocks}
@@ -89,16 +89,16 @@ module _ (read : TracksAreRead) where
       ∙ joined-same clocks p.by_clock q.by_clock (λ clock used. one_by_clock clock format track times indexes capture (p.by_clock clock) (q.by_clock clock) (p.each clock used) (q.each clock used))
       ∙ sym q.are
 
-  module _ (plan : Plan) (of : PartOf) (format : Format) (streams : Streams) where
-    one_captures : (n : ℕ) (a b : List (List NotedReading)) → AreCaptures plan format streams n a → AreCaptures plan format streams n b → length a ≡ length b → a ≡ b
-    one_captures n a b p q same =
-        ext_get_or [] a b same
-        (λ k low. one_capture plan.clocks format (track_at format n) (streams n k).times (streams n k).indexes k (get_or a k []) (get_or b k []) (p k low) (q k (omega (arith, low, same))))
+  pub one_captures : ReadingsInPlansAreOne
+  one_captures plan format streams n a b p q same =
+      ext_get_or [] a b same
+      (λ k low. one_capture plan.clocks format (track_at format n) (streams n k).times (streams n k).indexes k (get_or a k []) (get_or b k []) (p k low) (q k (omega (arith, low, same))))
 
+  module _ (plan : Plan) (of : PartOf) (format : Format) (streams : Streams) where
     one_part : (n : ℕ) (a b : TrackPart) → IsPlannedPart plan of format streams n a → IsPlannedPart plan of format streams n b → a ≡ b
     one_part n a b p q =
         p.is ∙ ap (λ (captures : List (List NotedReading)). of format (track_at format n) (joined captures))
-        (one_captures n p.captures q.captures p.each q.each (p.many ∙ sym q.many)) ∙ sym q.is
+        (one_captures plan format streams n p.captures q.captures p.each q.each (p.many ∙ sym q.many)) ∙ sym q.is
 
     one_parts : (ps qs : List TrackPart) → ArePlannedParts plan of format streams ps → ArePlannedParts plan of format streams qs → length ps ≡ length qs → ps ≡ qs
     unfolding no_part

@@ -15,8 +15,7 @@ use Rattle.turn_merge.specs.declared.clock.Clock.{Clock}
 use Rattle.turn_merge.specs.declared.clock.Clock.TheVariants.{Following, Held}
 use Rattle.turn_merge.specs.declared.verdict.Place.{Place}
 use Rattle.flux_engine.specs.Captured.{IsUsed, joined_by}
-use Rattle.flux_engine.specs.ClockLaws.{StaysGoodOrIsContradicted}
-use Rattle.flux_engine.specs.PlanLaws.{ContradictionsAreNamedInPlans, FirstSourceStaysGood, GoodIsRightInPlans, IsNamedIn, IsRightlyContradictoryIn, IsRightlyGoodIn, StandsIn, cells_in}
+use Rattle.flux_engine.specs.PlanLaws.{ContradictionsAreNamedInPlans, FirstReadingsLead, FirstSourceStaysGood, GoodIsRightInPlans, GoodReadingsStandInPlans, IsNamedIn, IsRightlyContradictoryIn, IsRightlyGoodIn, StandsIn, StaysGoodOrIsContradicted, cells_in, first_readings}
 use Rattle.flux_engine.specs.Plans.{AreCaptures, Streams, joined}
 use Rattle.flux_engine.specs.Recordings.{sectors_of, track_at}
 use Rattle.flux_engine.specs.Tracks.{Found, readings_in}
@@ -154,6 +153,10 @@ module _ (read : TracksAreRead) (plan : Plan) (format : Format) (streams : Strea
             absurd (cc (equal, unequal));
       }
 
+pub good_readings_stand : TracksAreRead → GoodReadingsStandInPlans
+good_readings_stand read plan format streams n captures many each reading bytes has is =
+    each-at (NamesOne read plan format streams n captures many each) (joined captures) reading (all_name read plan format streams n captures many each) has bytes is
+
 pub good_in_plans : TracksAreRead → GoodIsRightInPlans
 good_in_plans read plan format streams n captures many each sector good bad first is =
     rightly read plan format streams n captures many each sector first (head_of (joined captures) sector good bad first is)
@@ -180,20 +183,25 @@ first_capture : (captures : List (List NotedReading)) → 1 ≤ length captures 
 first_capture [] some = absurd (omega (arith, some))
 first_capture (rs ∷ more) some = (joined more, refl)
 
-pub first_stays : TracksAreRead → FirstSourceStaysGood
-first_stays read plan format streams n captures found some many each all sector good bad first verdict_is =
+pub first_lead : TracksAreRead → FirstReadingsLead
+first_lead read plan format streams n captures found some many each all =
     let track : TrackId = track_at format n in
     let cells : List Bool = cells_in format streams n 0 Following in
-    let own : List NotedReading = readings_in 0 Following (streams n 0).times (streams n 0).indexes cells found in
+    let own : List NotedReading = first_readings format streams n found in
     let low : 0 < length captures = omega (arith, some, many) in
     let one = each 0 low in
     let a = one.each Following (always_first plan.clocks) in
     let mine : one.by_clock Following ≡ own =
     a.are ∙ ap (λ (fs : List Found). readings_in 0 Following (streams n 0).times (streams n 0).indexes cells fs) (read.one format track cells 0 a.found found a.all all) in
     let clocks = first_clock plan.clocks one.by_clock in
-    let others = first_capture captures (omega (arith, low)) in
-    let rest : List NotedReading = clocks.0 ++ others.0 in
-    let lead : joined captures ≡ own ++ rest =
-    others.1 ∙ ap (λ (rs : List NotedReading). rs ++ others.0) (one.are ∙ clocks.1 ∙ ap (λ (rs : List NotedReading). rs ++ clocks.0) mine)
-    ∙ append_assoc own clocks.0 others.0 in
-    subst (λ (rs : List NotedReading). StaysGoodOrIsContradicted own rs sector first) (sym lead) (stays own rest sector good bad first verdict_is)
+    let others = first_capture captures (omega (arith, low)) in (
+      clocks.0 ++ others.0,
+      others.1 ∙ ap (λ (rs : List NotedReading). rs ++ others.0) (one.are ∙ clocks.1 ∙ ap (λ (rs : List NotedReading). rs ++ clocks.0) mine)
+          ∙ append_assoc own clocks.0 others.0,
+    )
+
+pub first_stays : TracksAreRead → FirstSourceStaysGood
+first_stays read plan format streams n captures found some many each all sector good bad first verdict_is =
+    let own : List NotedReading = first_readings format streams n found in
+    let lead = first_lead read plan format streams n captures found some many each all in
+    subst (λ (rs : List NotedReading). StaysGoodOrIsContradicted own rs sector first) (sym lead.1) (stays own lead.0 sector good bad first verdict_is)

@@ -25,7 +25,7 @@ use Rattle.flux_engine.specs.Rings.{IsImage, IsRing, disk_id, nominal_of, ring_c
 use Rattle.flux_engine.specs.declared.sectors.Sectors.{Sectors}
 use Rattle.flux_engine.proofs.Captured.{steady_captures}
 use Rattle.flux_engine.specs.lemmas.Pieces.{pieces-more}
-use Rattle.flux_engine.proofs.Repeated.{early_one}
+use Rattle.flux_engine.specs.lemmas.Repeated.{early_one}
 
 -- the ring of a format's track
 pub is_ring : RingsHaveCells → (format : Format) (track : TrackId) (image : List ℕ) → IsTrack format track

@@ -12,7 +12,7 @@ use Rattle.sector_report.specs.Lines.{total_text}
 use Rattle.sector_report.specs.declared.totals.Totals.{Totals}
 use Rattle.turn_merge.specs.Book.{Knowledge}
 use Rattle.turn_merge.specs.Readings.{NotedReading}
-use Rattle.flux_engine.specs.Captured.{AppendsReadings, AreReadingsAt, AreReadingsByBoth}
+use Rattle.flux_engine.specs.Captured.{AppendsReadings, AreReadingsAt}
 use Rattle.flux_engine.specs.Disks.{Stop, Decoded, IsDecoded, AreParts, images, lines, totals_over}
 use Rattle.flux_engine.specs.Streams.{behind, behind_stream}
 use Rattle.flux_engine.specs.Tracks.{TrackPart, IsPart}
@@ -105,15 +105,6 @@ pub record ReadsCapture (format : Format) (track : TrackId) (capture : ℕ) (lef
   pub indexes : List ℕ
   pub read : ReadsStream left left' used held held' times indexes answer
   pub noted : OnOk answer ((readings : List NotedReading) × AreReadingsAt format track times indexes capture readings × AppendsReadings old new readings)
-
--- A call that reads the one stream of a track by both clocks: where the stream has no fault, all its readings by both were noted
--- after those before.
-pub record ReadsByBoth (format : Format) (track : TrackId) (left left' : Option (List ℕ)) (used : Bool) (held held' : List ℕ)
-    (old new : Knowledge) (answer : CaptureAnswer) : Type 0 where
-  pub times : List ℕ
-  pub indexes : List ℕ
-  pub read : ReadsStream left left' used held held' times indexes answer
-  pub noted : OnOk answer ((readings : List NotedReading) × AreReadingsByBoth format track times indexes readings × AppendsReadings old new readings)
 
 -- what the answer says of the bytes that were written: the track's part of the image, and after it its lines
 abbrev pub SaysOfSinks : (TrackPart → Type 0) → (image image' notes notes' : Option (List ℕ)) → Answer → Type 0

@@ -24,13 +24,6 @@ pub record AreReadingsBy (clock : Clock) (format : Format) (track : TrackId) (ti
 abbrev pub AreReadingsAt : Format → TrackId → (times indexes : List ℕ) → (capture : ℕ) → List NotedReading → Type 0
 AreReadingsAt format track times indexes capture readings = AreReadingsBy Following format track times indexes capture readings
 
--- These are all that can be read of one stream by both clocks: first by the one that follows the drive's speed, then by the one that is
--- held.
-pub record AreReadingsByBoth (format : Format) (track : TrackId) (times indexes : List ℕ) (readings : List NotedReading) : Type 0 where
-  pub by_clock : Clock → List NotedReading
-  pub each : (clock : Clock) → AreReadingsBy clock format track times indexes 0 (by_clock clock)
-  pub joined : readings ≡ by_clock Following ++ by_clock Held
-
 -- the clock is one of those
 abbrev pub IsUsed : Clocks → Clock → Type 0
 IsUsed FollowingAlone Following = Unit {0}

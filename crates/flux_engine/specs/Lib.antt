@@ -11,7 +11,6 @@ pub mod Answers
 pub mod Reading
 pub mod Laws
 pub mod DiskLaws
-pub mod ClockLaws
 pub mod Rings
 pub mod Captures
 pub mod Writes

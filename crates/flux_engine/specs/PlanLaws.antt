@@ -1,15 +1,14 @@
 -- What the definition of a disk that is read by a plan comes to.
-use Rattle.std.specs.Prelude.{◌≡◌, ◌<◌, ◌≤◌, ℕ, Bool, List, drop, length}
+use Rattle.std.specs.Prelude.{◌≡◌, ◌<◌, ◌≤◌, ◌⊎◌, ℕ, Bool, Contains, List, ◌++◌, drop, length, Some}
 use Rattle.disk_recordings.specs.Members.{header_at, sector_at}
 use Rattle.frame_law.specs.Readings.{AreReadings}
 use Rattle.sector_images.specs.declared.format.Format.{Format}
-use Rattle.turn_merge.specs.Readings.{NotedReading, verdict}
+use Rattle.turn_merge.specs.Readings.{NotedReading, agreed, verdict}
 use Rattle.turn_merge.specs.declared.clock.Clock.{Clock}
 use Rattle.turn_merge.specs.declared.clock.Clock.TheVariants.{Following}
 use Rattle.turn_merge.specs.declared.verdict.Place.{Place}
 use Rattle.turn_merge.specs.declared.verdict.Verdict.TheVariants.{Contradictory, Good}
 use Rattle.flux_engine.specs.Captured.{IsUsed}
-use Rattle.flux_engine.specs.ClockLaws.{StaysGoodOrIsContradicted}
 use Rattle.flux_engine.specs.Plans.{AreCaptures, IsPlanned, PartOf, Planned, Streams, joined}
 use Rattle.flux_engine.specs.Recordings.{cells_by, sectors_of, track_at}
 use Rattle.flux_engine.specs.Tracks.{Found, image_bytes, place_in, readings_in}
@@ -19,6 +18,11 @@ use Rattle.flux_engine.specs.declared.plan.Plan.{Plan}
 abbrev pub OnePlanned : Type 0
 OnePlanned = (plan : Plan) (of : PartOf) (format : Format) (streams : Streams) (a b : Planned)
     → IsPlanned plan of format streams a → IsPlanned plan of format streams b → a ≡ b
+
+-- the first captures of a track have one list of readings each
+abbrev pub ReadingsInPlansAreOne : Type 0
+ReadingsInPlansAreOne = (plan : Plan) (format : Format) (streams : Streams) (n : ℕ) (a b : List (List NotedReading))
+    → AreCaptures plan format streams n a → AreCaptures plan format streams n b → length a ≡ length b → a ≡ b
 
 -- the cells that a clock recovers of a capture of track number n
 abbrev pub cells_in : Format → Streams → (n q : ℕ) → Clock → List Bool
@@ -38,6 +42,13 @@ pub record IsNamedIn (plan : Plan) (format : Format) (streams : Streams) (n : �
   pub place : ℕ
   pub is : named ≡ place_in capture clock (streams n capture).times (streams n capture).indexes (cells_in format streams n capture clock) place
   pub stands : StandsIn format streams n capture clock place sector bytes
+
+-- each good reading names such a place
+abbrev pub GoodReadingsStandInPlans : Type 0
+GoodReadingsStandInPlans = (plan : Plan) (format : Format) (streams : Streams) (n : ℕ) (captures : List (List NotedReading))
+    → length captures ≡ plan.captures → AreCaptures plan format streams n captures
+    → (reading : NotedReading) (bytes : List ℕ) → Contains (joined captures) reading → reading.bytes ≡ Some bytes
+    → IsNamedIn plan format streams n reading.place reading.sector bytes
 
 -- A sector of track number n is good with its first good reading at this place: the cells that it names hold the sector; the track's
 -- part of the image has these bytes for it; and each place whose cells hold it, of any capture and by any clock of the plan, holds
@@ -70,6 +81,24 @@ ContradictionsAreNamedInPlans = (plan : Plan) (format : Format) (streams : Strea
     → (sector good bad : ℕ) (first other : Place) → verdict (joined captures) sector ≡ Contradictory good bad first other
     → IsRightlyContradictoryIn plan format streams n sector first other
 
+-- the readings of the first capture by the clock that follows the drive, where all of these are found in its cells
+abbrev pub first_readings : Format → Streams → (n : ℕ) → List Found → List NotedReading
+first_readings format streams n found =
+    readings_in 0 Following (streams n 0).times (streams n 0).indexes (cells_in format streams n 0 Following) found
+
+-- they are the first of all
+abbrev pub FirstReadingsLead : Type 0
+FirstReadingsLead = (plan : Plan) (format : Format) (streams : Streams) (n : ℕ) (captures : List (List NotedReading)) (found : List Found)
+    → 1 ≤ plan.captures → length captures ≡ plan.captures → AreCaptures plan format streams n captures
+    → AreReadings (header_at format (track_at format n)) (sector_at format (track_at format n)) (cells_in format streams n 0 Following) 0 found
+    → (rest : List NotedReading) × (joined captures ≡ first_readings format streams n found ++ rest)
+
+-- over more readings a sector is good with the same first place and the same bytes, or contradictory with the same first place
+abbrev pub StaysGoodOrIsContradicted : (readings longer : List NotedReading) → (sector : ℕ) → (first : Place) → Type 0
+StaysGoodOrIsContradicted readings longer sector first =
+    ((good bad : ℕ) × (verdict longer sector ≡ Good good bad first) × (agreed longer sector ≡ agreed readings sector))
+    ⊎ ((good bad : ℕ) × (other : Place) × (verdict longer sector ≡ Contradictory good bad first other))
+
 -- A sector that is good by the first capture alone and the clock that follows the drive is so by all, with the same first place and
 -- the same bytes, or contradictory, with the same first place.
 abbrev pub FirstSourceStaysGood : Type 0
@@ -77,5 +106,5 @@ FirstSourceStaysGood = (plan : Plan) (format : Format) (streams : Streams) (n : 
     → 1 ≤ plan.captures → length captures ≡ plan.captures → AreCaptures plan format streams n captures
     → AreReadings (header_at format (track_at format n)) (sector_at format (track_at format n)) (cells_in format streams n 0 Following) 0 found
     → (sector good bad : ℕ) (first : Place)
-    → verdict (readings_in 0 Following (streams n 0).times (streams n 0).indexes (cells_in format streams n 0 Following) found) sector ≡ Good good bad first
-    → StaysGoodOrIsContradicted (readings_in 0 Following (streams n 0).times (streams n 0).indexes (cells_in format streams n 0 Following) found) (joined captures) sector first
+    → verdict (first_readings format streams n found) sector ≡ Good good bad first
+    → StaysGoodOrIsContradicted (first_readings format streams n found) (joined captures) sector first

@@ -8,3 +8,5 @@ pub mod Coming
 pub mod OneCapture
 pub mod Each
 pub mod GoodSectors
+pub mod Chosen
+pub mod Repeated

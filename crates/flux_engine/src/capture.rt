@@ -2,7 +2,7 @@
 
 ghost use Rattle.std.specs.Prelude.{◌≡◌, ◌+◌, ◌*◌, ◌≤◌, ◌<◌, [], List, length, IfOk, OnOk, OnErr, true, false};
 ghost use Rattle.std.specs.Option.{option_copied};
-ghost use Rattle.flux_engine.specs.Answers.{CaptureCause, ReadsByBoth, ReadsCapture, ReadsStream};
+ghost use Rattle.flux_engine.specs.Answers.{CaptureCause, ReadsCapture, ReadsStream};
 ghost use Rattle.flux_engine.specs.Captured.{count_of_clocks};
 ghost use Rattle.flux_engine.specs.Gathering.{HasNoted, HasNotedBy, IsBookFor};
 ghost use Rattle.flux_engine.specs.PlanAnswers.{ReadsByClocks};
@@ -81,40 +81,6 @@ pub fn read_capture<S: Source>(
     ensures later { S.faults source.old ≤ S.faults source.new }
 {
     read_by_clocks(Clocks::FollowingAlone, room, number, capture, source)
-}
-
-/// Reads the next stream as the one of the started track, and notes all its readings by both clocks after those before: first those
-/// by the following clock, then those by the held one. No answer is for want of memory.
-///
-/// It counts as two of the at most 32 streams of a track, and a room is not used again for reading after a fault.
-pub fn read_by_both_clocks<S: Source>(
-    room: &mut DiskRoom,
-    number: u32,
-    source: &mut S,
-) -> Result<(), CaptureFault>
-    requires started { number ≡ room.old.started }
-    requires few { room.old.captures + 2 ≤ MOST_SOURCES }
-    requires sound { room.old.failed ≡ false }
-    ensures read { ReadsByBoth room.old.format (track_at room.old.format number) (S.left source.old) (S.left source.new) room.old.used room.old.held room.new.held room.old.book room.new.book result }
-
-    // The source is read only where the bytes at hand do not tell the answer.
-    ensures needed { IsReadWhereNeeded (source_at S.left S.given S.faults source.old) (source_at S.left S.given S.faults source.new) room.old.used room.old.held }
-
-    // The room after the call.
-    ensures format { room.new.format ≡ room.old.format }
-    ensures held { length room.new.held ≤ 4096 }
-    ensures used { room.new.used ≡ true }
-    ensures next { room.new.next ≡ room.old.next }
-    ensures started { room.new.started ≡ number }
-    ensures captures { OnOk result (room.new.captures ≡ room.old.captures + 2) }
-    ensures shape { SameShape room.old.book room.new.book }
-    ensures sound { OnOk result (room.new.failed ≡ false) }
-    ensures failed { OnErr result (room.new.failed ≡ true) }
-
-    ensures cause { CaptureCause (S.faults source.old) (S.faults source.new) result }
-    ensures later { S.faults source.old ≤ S.faults source.new }
-{
-    read_by_clocks(Clocks::Both, room, number, 0, source)
 }
 
 /// Reads the next stream as one more that captures the started track, and notes all its readings by these clocks after those

@@ -1,8 +1,7 @@
 //! What the definitions behind `decode_track` and `decode_disk` come to.
 
-ghost use Rattle.flux_engine.specs.ClockLaws.{ContradictionsAreNamed, DecodedReadingsLead, DecodedStaysGood, GoodIsRightByBoth, GoodReadingsStandByBoth, ReadingsByBothAreOne};
 ghost use Rattle.flux_engine.specs.DiskLaws.{EachHasOneVerdict, GoodIsRightOnDisks, LinesNameVerdicts, LinesTellVerdicts, OthersAreZeros, PartsFitImages, PartsStandAtTheirPlaces, ReportsHaveNoOtherLines, WholeDisksFillImages};
-ghost use Rattle.flux_engine.specs.PlanLaws.{ContradictionsAreNamedInPlans, FirstSourceStaysGood, GoodIsRightInPlans, OnePlanned};
+ghost use Rattle.flux_engine.specs.PlanLaws.{ContradictionsAreNamedInPlans, FirstReadingsLead, FirstSourceStaysGood, GoodIsRightInPlans, GoodReadingsStandInPlans, OnePlanned, ReadingsInPlansAreOne};
 ghost use Rattle.flux_engine.specs.Laws.{CutInputsLead, FirstTracksLead, GoodIsRight, OneOutcome, PartsStay};
 
 use disk_recordings::tracks_are_read;
@@ -88,33 +87,20 @@ pub fn lines_tell_verdicts()
     sectors_lie_in_images()
 }
 
-/// The readings of a stream by both clocks are one list. Each good one names a clock and a place of its cells which hold the sector,
-/// so that a sector is called good or contradictory only where the places that are named hold it; where it is good, all places
-/// of both clocks that hold it hold the bytes that the image has of it.
-///
-/// First of these readings are those from which the track is decoded; so a sector that decoding calls good is good, with the same
-/// place and the same bytes, or contradictory.
-pub fn both_clocks_are_right()
-    ensures one { ReadingsByBothAreOne }
-    ensures stand { GoodReadingsStandByBoth }
-    ensures good { GoodIsRightByBoth }
-    ensures contradictory { ContradictionsAreNamed }
-    ensures decoded { DecodedReadingsLead }
-    ensures stays { DecodedStaysGood }
-{
-    tracks_are_read()
-}
-
-/// Streams that are read by a plan come to one outcome. A sector is called good, or contradictory, only where the places that are named
-/// hold it, each in its turn of its capture, by its clock; where it is good, all places of all captures and of all clocks of the
+/// Streams that are read by a plan come to one outcome, and their captures have one list of readings each. Each good reading names a
+/// place whose cells hold the sector, in its turn of its capture, by its clock; so a sector is called good, or contradictory, only
+/// where the places that are named hold it; where it is good, all places of all captures and of all clocks of the
 /// plan that hold it hold the bytes that the image has of it.
 ///
-/// A sector that the first capture alone makes good, by the clock that follows the drive, is good by all, with the same place and the
-/// same bytes, or contradictory.
+/// First of all readings are those of the first capture by the clock that follows the drive. So a sector that it alone makes good is
+/// good by all, with the same place and the same bytes, or contradictory.
 pub fn plans_are_right()
     ensures one { OnePlanned }
+    ensures readings { ReadingsInPlansAreOne }
+    ensures stand { GoodReadingsStandInPlans }
     ensures good { GoodIsRightInPlans }
     ensures contradictory { ContradictionsAreNamedInPlans }
+    ensures lead { FirstReadingsLead }
     ensures stays { FirstSourceStaysGood }
 {
     tracks_are_read()

@@ -30,16 +30,15 @@ mod write_room;
 mod writing;
 
 pub use capture::{
-    bytes, read_by_both_clocks, read_by_clocks, read_capture, room_format, start_track, verdict,
-    write_started_part,
+    bytes, read_by_clocks, read_capture, room_format, start_track, verdict, write_started_part,
 };
 pub use disk::{add_totals, decode_disk};
 pub use disk_streams::{fill, write_disk};
 pub use fault::{CaptureFault, EngineFault, PlanFault};
 pub use gathering::note_reading;
 pub use laws::{
-    both_clocks_are_right, good_is_right, good_is_right_on_disks, lines_tell_verdicts,
-    outcomes_are_one, parts_fill_images, parts_stay, plans_are_right,
+    good_is_right, good_is_right_on_disks, lines_tell_verdicts, outcomes_are_one,
+    parts_fill_images, parts_stay, plans_are_right,
 };
 pub use plan::{Clocks, Plan};
 pub use planned::{decode_planned, decode_planned_tracks};

@@ -13,11 +13,11 @@ use Rattle.flux_trial.specs.Drive.{Drive, base, ideal, period, time_of}
 use Rattle.flux_trial.specs.Hole.{hole_begin, hole_cells, ring_cell}
 use Rattle.flux_trial.specs.Times.{IsTrialRing, is_seen, times_seen, trial_indexes, trial_times}
 use Rattle.flux_trial.proofs.Bounds.{near_place, near_speed, period-first, steady}
-use Rattle.flux_trial.proofs.Chosen.{AreChosen, are_chosen}
+use Rattle.flux_engine.specs.lemmas.Chosen.{AreChosen, are_chosen}
 use Rattle.flux_trial.proofs.Drives.{ideal-next}
 use Rattle.flux_trial.proofs.Indexes.{filter_all}
 use Rattle.flux_trial.proofs.Near.{one_near, same_later}
-use Rattle.flux_trial.proofs.Repeated.{begin, written_length, written_runs}
+use Rattle.flux_engine.specs.lemmas.Repeated.{begin, written_length, written_runs}
 use Rattle.flux_trial.proofs.Sound.{IsUsual}
 use Rattle.flux_trial.proofs.Streams.{first-turn}
 

@@ -4,13 +4,11 @@ mod Passing
 mod Drives
 mod Parts
 mod Indexes
-mod Chosen
 mod Near
 mod Turns
 mod Sound
 mod Bounds
 mod Streams
-mod Repeated
 mod Captured
 mod Rings
 mod Joined

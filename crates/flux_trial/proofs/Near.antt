@@ -5,7 +5,7 @@ use Rattle.std.proofs.Common.{arith, ap, sym, subst, ◌∙◌, inl, inr}
 use Rattle.std.proofs.lemmas.Bool.{cases_lt}
 use Rattle.std.proofs.Math.Nat.{add-mod_right, add-mul-mod_self_left, div-add-mod, mod-eq_of_lt, mod-lt}
 use Rattle.track_rings.specs.Rings.{AreNeighbours, IsSpaced, cell_of}
-use Rattle.flux_trial.proofs.Chosen.{AreChosen, are_chosen}
+use Rattle.flux_engine.specs.lemmas.Chosen.{AreChosen, are_chosen}
 
 module _ (ring : List Bool) where
   -- a turn later comes the same cell

@@ -1,34 +1,11 @@
-use Rattle.std.proofs.Common.{Ok, Err, subst}
-use Rattle.std.specs.Io.KnownBytes.{Appends}
-use Rattle.flux_base.specs.Outside.{AppendsPart}
-use Rattle.capture_set.specs.declared.fault.SetFault.TheVariants.{NotesFault}
-use Rattle.capture_set.proofs.Decoding.{set_all, set_no_total}
-use Rattle.capture_set.proofs.Telling.{says_of_input, whole_or_refused}
+use Rattle.std.proofs.Common.{subst}
+use Rattle.kryo_stream.specs.Reads.{source_at}
+use Rattle.flux_engine.specs.Needed.{ReadsWhereOpen}
+use Rattle.flux_engine.specs.Plans.{EndsInPlan}
+use Rattle.flux_engine.specs.declared.plan.Plan.{Plan}
 use Rattle.capture_set.proofs.disk.decode_set.Goals as goal
 
-pub returns-in-Err-clause-told : goal.returns-in-Err-clause-told
-returns-in-Err-clause-told g c = λ bytes told.
-    says_of_input c.args.room.now.format c.args.count bytes (g.S.Source.left c.args.source.now) _ _ _ _ _ told (Err c.in-Err.fault) c.in-Err.ensures.err
-
-pub returns-in-Err-clause-complete : goal.returns-in-Err-clause-complete
-returns-in-Err-clause-complete g c = whole_or_refused _ _ _ _ _ _ (Err c.in-Err.fault) c.in-Err.ensures.cause
-
-pub returns-in-Ok-write_line-clause-decoded : goal.returns-in-Ok-write_line-clause-decoded
-returns-in-Ok-write_line-clause-decoded g c =
-    set_all c.args.room.now.format c.args.count _ _ _ _ _ (g.N.Sink.written c.decode_tracks.new.notes) _ c.decode_tracks.new.room c.in-Ok.totals c.in-Ok.ensures.ok
-    (subst (Appends (g.N.Sink.written c.decode_tracks.new.notes) (g.N.Sink.written c.write_line.new.sink)) c.total_line.ensures c.in-Ok-write_line.ensures.ok)
-
-pub returns-in-Ok-write_line-clause-told : goal.returns-in-Ok-write_line-clause-told
-returns-in-Ok-write_line-clause-told g c = λ bytes told.
-    says_of_input c.args.room.now.format c.args.count bytes (g.S.Source.left c.args.source.now) _ _ _ _ _ told (Ok c.in-Ok.totals)
-    (returns-in-Ok-write_line-clause-decoded g c)
-
-pub returns-in-Err-write_line-clause-decoded : goal.returns-in-Err-write_line-clause-decoded
-returns-in-Err-write_line-clause-decoded g c =
-    set_no_total c.args.room.now.format c.args.count _ _ _ _ _ (g.N.Sink.written c.decode_tracks.new.notes) _ c.decode_tracks.new.room c.in-Ok.totals c.in-Ok.ensures.ok
-    (subst (AppendsPart (g.N.Sink.written c.decode_tracks.new.notes) (g.N.Sink.written c.write_line.new.sink)) c.total_line.ensures c.in-Err-write_line.ensures.err)
-
-pub returns-in-Err-write_line-clause-told : goal.returns-in-Err-write_line-clause-told
-returns-in-Err-write_line-clause-told g c = λ bytes told.
-    says_of_input c.args.room.now.format c.args.count bytes (g.S.Source.left c.args.source.now) _ _ _ _ _ told (Err NotesFault)
-    (returns-in-Err-write_line-clause-decoded g c)
+pub returns-clause-needed : goal.returns-clause-needed
+returns-clause-needed g c = λ bytes told.
+    subst (λ (p : Plan). ReadsWhereOpen (EndsInPlan p c.args.room.now.format) (source_at g.S.Source.left g.S.Source.given g.S.Source.faults c.args.source.now)
+    (source_at g.S.Source.left g.S.Source.given g.S.Source.faults c.decode_planned.new.source)) c.set_plan.ensures (c.decode_planned.ensures.needed bytes told)

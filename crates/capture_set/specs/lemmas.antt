@@ -1,2 +1,0 @@
--- What follows from the definitions: nobody has to believe it.
-pub mod Coming

@@ -1,0 +1,102 @@
+//! Disks that are read by a plan: one of which several streams capture each track, and one whose streams are each read by two clocks.
+
+ghost use Rattle.std.specs.Prelude.{◌≡◌, ◌≢◌, ◌≤◌, Some};
+ghost use Rattle.flux_base.specs.Moments.{moment};
+ghost use Rattle.flux_base.specs.declared.status.Status.{Status};
+ghost use Rattle.flux_cli.specs.PlanRuns.{DoesPlanned};
+ghost use Rattle.flux_cli.specs.PlanWork.{stop_text};
+ghost use Rattle.flux_cli.specs.Runs.{Does, outside};
+ghost use Rattle.flux_cli.specs.declared.command.Command.TheVariants.{DecodeSet, Rescue};
+ghost use Rattle.flux_engine.specs.Room.{fresh};
+
+use crate::disks::status_of;
+use capture_set::set_plan;
+use disk_rescue::rescue_plan;
+use flux_base::{Sink, Source, Status};
+use flux_engine::{DiskRoom, Plan, PlanFault, decode_planned};
+use kryo_stream::StreamFault;
+use sector_report::{Line, Naming, refused_capture_line, refused_line, write_line};
+
+/// Decodes a disk from so many captures of each track: its image goes to `image`, and its report to `notes`. Notes say
+/// why it is refused.
+pub fn decode_captures<S: Source, W: Sink, N: Sink>(
+    room: &mut DiskRoom,
+    count: u32,
+    source: &mut S,
+    image: &mut W,
+    notes: &mut N,
+) -> Status
+    requires fresh { room.old ≡ fresh room.old.format }
+    requires some { 1 ≤ count }
+    requires few { count ≤ 16 }
+    ensures does { Does (Some (DecodeSet room.old.format count)) result
+        (outside (moment S.left S.faults source.old) (S.given source.old) (moment W.written W.faults image.old) (moment N.written N.faults notes.old))
+        (outside (moment S.left S.faults source.new) (S.given source.new) (moment W.written W.faults image.new) (moment N.written N.faults notes.new)) }
+    ensures memory { result ≢ Status.Memory }
+{
+    decode_by_plan(set_plan(count), room, source, image, notes)
+}
+
+/// Decodes a disk by two clocks: its image goes to `image`, and its report to `notes`. Notes say why it is refused.
+pub fn rescue<S: Source, W: Sink, N: Sink>(
+    room: &mut DiskRoom,
+    source: &mut S,
+    image: &mut W,
+    notes: &mut N,
+) -> Status
+    requires fresh { room.old ≡ fresh room.old.format }
+    ensures does { Does (Some (Rescue room.old.format)) result
+        (outside (moment S.left S.faults source.old) (S.given source.old) (moment W.written W.faults image.old) (moment N.written N.faults notes.old))
+        (outside (moment S.left S.faults source.new) (S.given source.new) (moment W.written W.faults image.new) (moment N.written N.faults notes.new)) }
+    ensures memory { result ≢ Status.Memory }
+{
+    decode_by_plan(rescue_plan(), room, source, image, notes)
+}
+
+/// Decodes a disk by a plan.
+fn decode_by_plan<S: Source, W: Sink, N: Sink>(
+    plan: Plan,
+    room: &mut DiskRoom,
+    source: &mut S,
+    image: &mut W,
+    notes: &mut N,
+) -> Status
+    requires fresh { room.old ≡ fresh room.old.format }
+    requires few { plan.captures ≤ 16 }
+    ensures does { DoesPlanned plan room.old.format result
+        (outside (moment S.left S.faults source.old) (S.given source.old) (moment W.written W.faults image.old) (moment N.written N.faults notes.old))
+        (outside (moment S.left S.faults source.new) (S.given source.new) (moment W.written W.faults image.new) (moment N.written N.faults notes.new)) }
+    ensures memory { result ≢ Status.Memory }
+{
+    match decode_planned(plan, room, source, image, notes) {
+        Ok(totals) => status_of(&totals),
+        Err(PlanFault::ReadFault) => Status::ReadFault,
+        Err(PlanFault::ImageFault) => Status::ImageFault,
+        Err(PlanFault::NotesFault) => Status::NotesFault,
+        Err(
+            PlanFault::Refused {
+                track,
+                capture,
+                block,
+                fault,
+            },
+        ) => match write_line(
+            notes,
+            &stop_line(plan.naming, track, capture, block, &fault),
+        ) {
+            Ok(()) => Status::Refused,
+            Err(_) => Status::NotesFault,
+        },
+    }
+}
+
+/// Why a stream was refused: with the capture's number where lines name captures.
+fn stop_line(naming: Naming, track: u32, capture: u32, block: u32, fault: &StreamFault) -> Line
+    ensures { result.bytes ≡ stop_text naming (record { track = track; capture = capture; block = block; fault = fault.now }) }
+{
+    match naming {
+        Naming::Unnamed => refused_line(track, block, fault),
+        Naming::ByCapture => refused_capture_line(track, capture, block, fault),
+        Naming::ByClock => refused_line(track, block, fault),
+    }
+}
