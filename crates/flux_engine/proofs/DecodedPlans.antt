@@ -1,94 +1,23 @@
 -- Decoding a disk is reading it by the plan of one stream of each track, by the clock that follows the drive.
-use Rattle.std.specs.Prelude.{◌≡◌, ◌<◌, ℕ, ◌+◌, ◌*◌, List, [], ◌∷◌, ◌++◌, find, get_or, is_some, length, option_and_then, option_map, true, false, Option, Some, None, Ok, Err, refl}
-use Rattle.std.specs.List.{range_with_len}
-use Rattle.std.proofs.Common.{ap, sym, subst, ◌∙◌, arith, inl, inr, append-nil}
-use Rattle.kryo_stream.specs.Reads.{SourceMoment}
-use Rattle.kryo_stream.specs.Stream.{first_fault, indexes, times}
-use Rattle.kryo_stream.specs.declared.fault.StreamFault.{StreamFault}
+use Rattle.std.specs.Prelude.{◌≡◌, ℕ, ◌+◌, ◌*◌, List, [], ◌∷◌, ◌++◌, length, Option, Some, None, Ok, Err, refl}
+use Rattle.std.proofs.Common.{ap, sym, subst, ◌∙◌, arith, inl, inr}
 use Rattle.sector_images.specs.Places.{tracks}
 use Rattle.sector_images.specs.declared.format.Format.{Format}
-use Rattle.turn_merge.specs.Readings.{NotedReading}
-use Rattle.turn_merge.specs.declared.clock.Clock.TheVariants.{Following}
 use Rattle.flux_engine.specs.Answers.{DecodesDisk, EngineCause, IsOfBytesAtHand, IsTakenBehind, IsTruncated, SaysOfDisk, WroteAll}
-use Rattle.flux_engine.specs.Captured.{AreReadingsAt}
-use Rattle.flux_engine.specs.Disks.{AreParts, Decoded, IsDecoded, IsPartAt, Stop, decoded_count, decoded_of, part_at, stop_at, stop_of}
-use Rattle.flux_engine.specs.Needed.{EndsInStreams, ReadsWhereOpen}
+use Rattle.flux_engine.specs.Disks.{AreParts, Decoded, IsDecoded, IsPartAt, decoded_count, decoded_of, part_at}
 use Rattle.flux_engine.specs.PlanAnswers.{DecodesPlanned, IsOfBytesTaken, PlanAnswer, PlanCause, SaysOfPlanned, SaysTruncated, WrotePlanned, engine_answer}
-use Rattle.flux_engine.specs.Plans.{ArePlannedParts, EndsInPlan, IsFirstFault, IsPlanned, IsPlannedPart, PlanStop, Planned, StopsAt, decoding, joined, planned_count, planned_of, streams_in}
-use Rattle.flux_engine.specs.Recordings.{track_at}
-use Rattle.flux_engine.specs.Streams.{has_fault, stream_at}
+use Rattle.flux_engine.specs.Plans.{ArePlannedParts, IsFirstFault, IsPlanned, IsPlannedPart, PlanStop, Planned, StopsAt, decoding, planned_count, planned_of, streams_in}
 use Rattle.flux_engine.specs.Tracks.{TrackPart, part_of}
 use Rattle.flux_engine.specs.declared.fault.PlanFault.TheVariants.{ReadFault, ImageFault, NotesFault, Refused}
-use Rattle.flux_engine.specs.lemmas.Finding.{find-first, find-none}
-use Rattle.flux_engine.specs.lemmas.OneCapture.{one_capture}
-
--- the one stream of track number n
-number-is : (n : ℕ) → n * 1 + 0 ≡ n
-number-is n = omega arith
-
-one_joined : (captures : List (List NotedReading)) → length captures ≡ 1 → joined captures ≡ get_or captures 0 []
-one_joined [] many = absurd (omega (arith, many))
-one_joined (readings ∷ []) many = append-nil readings
-one_joined (readings ∷ more ∷ others) many = absurd (omega (arith, many))
+use Rattle.flux_engine.specs.lemmas.OneStream.{one_stream, plain_stop, stop_same}
 
 one_part : (format : Format) (x : List ℕ) (n : ℕ) (part : TrackPart) → IsPlannedPart decoding part_of format (streams_in decoding x) n part → IsPartAt format x n part
 one_part format x n part p =
-    let here : stream_at x (n * 1 + 0) ≡ stream_at x n = ap (stream_at x) (number-is n) in
-    let first : 0 < 1 = omega arith in
-    let readings : List NotedReading = get_or p.captures 0 [] in
-    let one = p.each 0 (omega (arith, p.many)) in
-    let at : AreReadingsAt format (track_at format n) (times (stream_at x n)) (indexes (stream_at x n)) 0 readings =
-    subst (λ (y : List ℕ). AreReadingsAt format (track_at format n) (times y) (indexes y) 0 readings) here
-    (subst (AreReadingsAt format (track_at format n) (times (stream_at x (n * 1 + 0))) (indexes (stream_at x (n * 1 + 0))) 0) (sym one.are) (one.each Following tt)) in
-    let all : part ≡ part_of format (track_at format n) readings =
-    p.is ∙ ap (part_of format (track_at format n)) (one_joined p.captures p.many) in
-    record {
-      no_fault = subst (λ (y : List ℕ). first_fault y ≡ None) here (p.no_fault 0 first);
-      comes = (let is = one_capture format (track_at format n) (times (stream_at x n)) (indexes (stream_at x n)) readings at in
-          record { found = is.found; all = is.all; is = all ∙ is.is });
-    }
+    let is = one_stream part_of format x n part p in
+    record { no_fault = is.no_fault; comes = record { found = is.found; all = is.all; is = is.is } }
 
 one_parts : (format : Format) (x : List ℕ) (parts : List TrackPart) → ArePlannedParts decoding part_of format (streams_in decoding x) parts → AreParts format x parts
 one_parts format x parts are = λ n low. one_part format x n (part_at parts n) (are n low)
-
-some-fault : (x : List ℕ) (n block : ℕ) (fault : StreamFault) → first_fault (stream_at x n) ≡ Some (block, fault) → has_fault x n ≡ true
-some-fault x n block fault is = ap (λ (o : Option (ℕ × StreamFault)). is_some o) is
-
-no-fault : (x : List ℕ) (n : ℕ) → first_fault (stream_at x n) ≡ None → has_fault x n ≡ false
-no-fault x n is = ap (λ (o : Option (ℕ × StreamFault)). is_some o) is
-
--- the stop is the first stream that has a fault
-stop_is : (format : Format) (x : List ℕ) (n block : ℕ) (fault : StreamFault) → n < length (tracks format)
-    → ((k : ℕ) → k < n → first_fault (stream_at x k) ≡ None) → first_fault (stream_at x n) ≡ Some (block, fault)
-    → stop_of format x ≡ Some (record { track = n; block = block; fault = fault })
-unfolding stop_of
-stop_is format x n block fault low clean is =
-    let here : 0 + n ≡ n = omega arith in
-    let found : find (has_fault x) (range_with_len 0 (length (tracks format))) ≡ Some n =
-    find-first (has_fault x) 0 n (length (tracks format)) low (λ k above below. no-fault x k (clean k (omega (arith, below))))
-    (ap (has_fault x) here ∙ some-fault x n block fault is) ∙ ap Some here in
-    ap (option_and_then (stop_at x)) found
-    ∙ ap (λ (o : Option (ℕ × StreamFault)). option_map (λ (f : ℕ × StreamFault). let s : Stop = record { track = n; block = f.0; fault = f.1 } in s) o) is
-
-no_stop : (format : Format) (x : List ℕ) → ((k : ℕ) → k < length (tracks format) → first_fault (stream_at x k) ≡ None) → stop_of format x ≡ None
-unfolding stop_of
-no_stop format x clean =
-    ap (option_and_then (stop_at x))
-    (find-none (has_fault x) 0 (length (tracks format)) (λ k above below. no-fault x k (clean k (omega (arith, below)))))
-
--- a stop that does not name the one capture
-abbrev plain_stop : Option PlanStop → Option Stop
-plain_stop None = None
-plain_stop (Some s) = Some (record { track = s.track; block = s.block; fault = s.fault })
-
-stop_same : (format : Format) (x : List ℕ) (stop : Option PlanStop) → StopsAt decoding format (streams_in decoding x) stop → stop_of format x ≡ plain_stop stop
-stop_same format x None clean =
-    no_stop format x (λ k low. subst (λ (i : ℕ). first_fault (stream_at x i) ≡ None) (number-is k) (clean k 0 low (omega arith)))
-stop_same format x (Some s) f =
-    let only : s.track * 1 + s.capture ≡ s.track = omega (arith, f.few) in
-    stop_is format x s.track s.block s.fault f.low
-    (λ k low. subst (λ (i : ℕ). first_fault (stream_at x i) ≡ None) (number-is k) (f.clean k 0 (omega arith) (inl low)))
-    (subst (λ (i : ℕ). first_fault (stream_at x i) ≡ Some (s.block, s.fault)) only f.is)
 
 abbrev plain : Planned → Decoded
 plain o = record { image = o.image; notes = o.notes; totals = o.totals; stop = plain_stop o.stop }
@@ -190,17 +119,3 @@ engine_cause s s' i i' n n' (Err ReadFault) cause = cause
 engine_cause s s' i i' n n' (Err ImageFault) cause = cause
 engine_cause s s' i i' n n' (Err NotesFault) cause = cause
 engine_cause s s' i i' n n' (Err (Refused track capture block fault)) cause = tt
-
--- reads that are needed for the plan are needed for the disk
-pub ends_in_streams : (format : Format) (x : List ℕ) → EndsInPlan decoding format x → EndsInStreams format x
-ends_in_streams format x (stop, first, cut) =
-    (record { track = stop.track; block = stop.block; fault = stop.fault }, stop_same format x (Some stop) first, cut)
-
-pub reads_weaken : (A B : List ℕ → Type 0) (old new : SourceMoment) → ((x : List ℕ) → A x → B x) → ReadsWhereOpen A old new → ReadsWhereOpen B old new
-reads_weaken A B old new weaker r = record {
-  pieces = r.pieces;
-  gave = r.gave;
-  consumed = r.consumed;
-  needed = λ k below. weaker _ (r.needed k below);
-  still = r.still;
-}

@@ -24,7 +24,7 @@ use Rattle.flux_engine.specs.Tracks.{TrackPart}
 use Rattle.flux_engine.specs.Writing.{sum_of}
 use Rattle.flux_engine.specs.lemmas.PartLaws.{images-more, lines-more, totals-more}
 use Rattle.flux_engine.specs.PlanAnswers.{DecodesPlanned, SaysOfPlanned, WrotePlanned, most_of_track, of_part}
-use Rattle.flux_engine.specs.PlanProgress.{HasCaptured, HasPlanned, StoppedAt, WasStopped}
+use Rattle.flux_engine.specs.PlanProgress.{EndedInStream, EndsInTracks, HasCaptured, HasPlanned, StoppedAt, WasStopped}
 use Rattle.flux_engine.specs.Plans.{ArePlannedParts, PartOf, PlanStop, Planned, joined, planned_of, streams_in}
 use Rattle.flux_engine.specs.declared.track_part.PartFault.{PartFault}
 use Rattle.flux_engine.specs.declared.track_part.PartFault.TheVariants.{ImageFault as PartImageFault, NotesFault as PartNotesFault}
@@ -237,3 +237,28 @@ module _ (plan : Plan) (of : PartOf) (format : Format) (left left' image image' 
     });
     ended = λ cannot. absurd cannot;
   }
+
+module _ (plan : Plan) (of : PartOf) (format : Format) (left left' image image' notes notes' : Option (List ℕ)) (totals : Totals) where
+  pub ends_in_part : (fault : PartFault) → DecodesPlanned plan of format left left' image image' notes notes' (Err (of_part fault))
+      → EndsInTracks plan of format left left' image image' notes notes' totals (Err (of_part fault))
+  ends_in_part PartImageFault d = d
+  ends_in_part PartNotesFault d = d
+
+  pub ends_in_stream : (fault : PlanFault) → EndedInStream plan of format left left' image image' notes notes' totals (Err fault)
+      → EndsInTracks plan of format left left' image image' notes notes' totals (Err fault)
+  ends_in_stream ReadFault e = e
+  ends_in_stream ImageFault e = absurd (e.stopped.says [] (λ cannot. absurd cannot))
+  ends_in_stream NotesFault e = absurd (e.stopped.says [] (λ cannot. absurd cannot))
+  ends_in_stream (Refused track capture block fault) e = e
+
+  in_stream : (fault : PlanFault) → EndedInStream plan of format left left' image image' notes notes' totals (Err fault)
+      → DecodesPlanned plan of format left left' image image' notes notes' (Err fault)
+  in_stream fault e = planned_fault plan of format left e.mid left' image image' image' notes notes' notes' e.room e.number totals e.before fault e.low e.stopped refl refl
+
+  -- where the tracks end with a fault, the disk does
+  pub planned_ends : (fault : PlanFault) → EndsInTracks plan of format left left' image image' notes notes' totals (Err fault)
+      → DecodesPlanned plan of format left left' image image' notes notes' (Err fault)
+  planned_ends ReadFault e = in_stream ReadFault e
+  planned_ends ImageFault e = e
+  planned_ends NotesFault e = e
+  planned_ends (Refused track capture block fault) e = in_stream (Refused track capture block fault) e

@@ -61,6 +61,13 @@ module _ (plan : Plan) (of : PartOf) (format : Format) (x : List ℕ) (left left
   says_of_planned (Err ImageFault) d = (let r = rest_is d.taken d.consumed in (r.rest, r.left, whole (Err ImageFault) d r (λ cannot. absurd cannot)))
   says_of_planned (Err NotesFault) d = (let r = rest_is d.taken d.consumed in (r.rest, r.left, whole (Err NotesFault) d r (λ cannot. absurd cannot)))
 
+-- a cause is one whatever the answer would be without the fault
+pub same_cause : (s s' i i' n n' : ℕ) (fault : PlanFault) → PlanCause {A = Unit {0}} s s' i i' n n' (Err fault) → PlanCause {A = Totals} s s' i i' n n' (Err fault)
+same_cause s s' i i' n n' ReadFault cause = cause
+same_cause s s' i i' n n' ImageFault cause = cause
+same_cause s s' i i' n n' NotesFault cause = cause
+same_cause s s' i i' n n' (Refused track capture block fault) cause = tt
+
 pub is_finished : (s s' i i' n n' : ℕ) (answer : PlanAnswer) → PlanCause s s' i i' n n' answer → Stayed s s' → Stayed i i' → Stayed n n' → IsFinished answer
 is_finished s s' i i' n n' (Ok totals) cause source image notes = tt
 is_finished s s' i i' n n' (Err (Refused track capture block fault)) cause source image notes = tt
@@ -110,7 +117,7 @@ captures_cause A s s' i i' n n' ImageFault cause before least = omega (arith, ca
 captures_cause A s s' i i' n n' NotesFault cause before least = omega (arith, cause)
 captures_cause A s s' i i' n n' (Refused track capture block fault) cause before least = tt
 
-pub part_cause : (s s' i mid i' n nmid n' : ℕ) (fault : PartFault) → PartCause mid i' nmid n' (Err fault) → i ≤ mid → n ≤ nmid
-    → PlanCause {A = Totals} s s' i i' n n' (Err (of_part fault))
-part_cause s s' i mid i' n nmid n' PartImageFault cause image_later notes_later = omega (arith, cause, image_later)
-part_cause s s' i mid i' n nmid n' PartNotesFault cause image_later notes_later = omega (arith, cause, notes_later)
+pub part_cause : (A : Type 0) (s s' i mid i' n nmid n' : ℕ) (fault : PartFault) → PartCause mid i' nmid n' (Err fault) → i ≤ mid → n ≤ nmid
+    → PlanCause {A = A} s s' i i' n n' (Err (of_part fault))
+part_cause A s s' i mid i' n nmid n' PartImageFault cause image_later notes_later = omega (arith, cause, image_later)
+part_cause A s s' i mid i' n nmid n' PartNotesFault cause image_later notes_later = omega (arith, cause, notes_later)

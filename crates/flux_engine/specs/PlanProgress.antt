@@ -4,6 +4,7 @@ use Rattle.std.specs.Io.KnownBytes.{Appends, Consumes, IsAtEnd}
 use Rattle.kryo_stream.specs.Stream.{first_fault}
 use Rattle.kryo_stream.specs.declared.fault.StreamFault.{StreamFault}
 use Rattle.kryo_stream.specs.declared.fault.StreamFault.TheVariants.{Truncated}
+use Rattle.sector_images.specs.Places.{tracks}
 use Rattle.sector_images.specs.declared.format.Format.{Format}
 use Rattle.sector_report.specs.declared.totals.Totals.{Totals}
 use Rattle.turn_merge.specs.Book.{StandsFor}
@@ -13,11 +14,11 @@ use Rattle.flux_engine.specs.Disks.{images, lines, totals_over}
 use Rattle.flux_engine.specs.Room.{RoomState}
 use Rattle.flux_engine.specs.Streams.{behind, stream_at}
 use Rattle.flux_engine.specs.Tracks.{TrackPart}
-use Rattle.flux_engine.specs.PlanAnswers.{IsOfBytesTaken, SaysTruncated, MOST_OF_STREAM}
+use Rattle.flux_engine.specs.PlanAnswers.{DecodesPlanned, IsOfBytesTaken, SaysTruncated, MOST_OF_STREAM}
 use Rattle.flux_engine.specs.Plans.{AreCaptures, ArePlannedParts, PartOf, joined, streams_in}
 use Rattle.flux_engine.specs.declared.plan.Plan.{Plan}
 use Rattle.flux_engine.specs.declared.fault.PlanFault.{PlanFault}
-use Rattle.flux_engine.specs.declared.fault.PlanFault.TheVariants.{ReadFault, Refused}
+use Rattle.flux_engine.specs.declared.fault.PlanFault.TheVariants.{ImageFault, NotesFault, ReadFault, Refused}
 
 -- The first m streams of an input were read, and none has a fault: these bytes were taken, and those behind the streams are held.
 pub record HasCome (left left' : Option (List ℕ)) (taken : List ℕ) (room : RoomState) (m : ℕ) : Type 0 where
@@ -73,3 +74,18 @@ pub record HasPlanned (plan : Plan) (of : PartOf) (format : Format) (left left' 
   pub notes_grew : Appends notes notes' (lines parts)
   pub totals_are : totals ≡ totals_over parts
   pub format_is : room.format ≡ format
+
+-- Reading ended with a fault of a stream, after so many tracks that were decoded and written whole, of which these are the totals.
+pub record EndedInStream (plan : Plan) (of : PartOf) (format : Format) (left left' image image' notes notes' : Option (List ℕ)) (totals : Totals) (answer : Result (Unit {0}) PlanFault) : Type 0 where
+  pub number : ℕ
+  pub low : number < length (tracks format)
+  pub mid : Option (List ℕ)
+  pub room : RoomState
+  pub before : HasPlanned plan of format left mid image image' notes notes' room number totals
+  pub stopped : WasStopped plan number left left' before.taken answer
+
+-- Reading ended with a fault: that of a stream, or that of a sink in the track after those that were written whole.
+abbrev pub EndsInTracks : Plan → PartOf → Format → (left left' image image' notes notes' : Option (List ℕ)) → Totals → Result (Unit {0}) PlanFault → Type 0
+EndsInTracks plan of format left left' image image' notes notes' totals (Err ImageFault) = DecodesPlanned plan of format left left' image image' notes notes' (Err ImageFault)
+EndsInTracks plan of format left left' image image' notes notes' totals (Err NotesFault) = DecodesPlanned plan of format left left' image image' notes notes' (Err NotesFault)
+EndsInTracks plan of format left left' image image' notes notes' totals answer = EndedInStream plan of format left left' image image' notes notes' totals answer

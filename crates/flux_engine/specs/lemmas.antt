@@ -10,3 +10,4 @@ pub mod Each
 pub mod GoodSectors
 pub mod Chosen
 pub mod Repeated
+pub mod OneStream

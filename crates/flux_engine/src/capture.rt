@@ -24,7 +24,8 @@ use crate::gathering::gather;
 use crate::plan::Clocks;
 use crate::recordings::sectors_of;
 use crate::room::{DiskRoom, Tools};
-use crate::track_part::{PartFault, write_part};
+use crate::track_part::PartFault;
+use crate::track_writer::{ImageAndReport, TrackWriter};
 use disk_recordings::{DiskId, recording_of};
 use flux_base::{Sink, Source, TrackId};
 use index_turns::TrackFlux;
@@ -184,9 +185,27 @@ pub fn write_started_part<W: Sink, N: Sink>(
     ensures image_later { W.faults image.old ≤ W.faults image.new }
     ensures notes_later { N.faults notes.old ≤ N.faults notes.new }
 {
+    write_started(&ImageAndReport { naming }, room, image, notes)
+}
+
+/// Writes what the gathered readings of the started track come to.
+pub(crate) fn write_started<O: TrackWriter, W: Sink, N: Sink>(
+    writer: &O,
+    room: &DiskRoom,
+    image: &mut W,
+    notes: &mut N,
+) -> Result<Totals, PartFault>
+    ensures wrote { (readings : List NotedReading) → StandsFor room.now.book readings
+        → WritesPart (O.part_of writer.now room.now.format (track_at room.now.format room.now.started) readings) (W.written image.old) (W.written image.new) (N.written notes.old) (N.written notes.new) result }
+    ensures sum { IfOk result IsSum }
+    ensures few { IfOk result (λ totals. totals.sectors ≤ 100) }
+    ensures cause { PartCause (W.faults image.old) (W.faults image.new) (N.faults notes.old) (N.faults notes.new) result }
+    ensures image_later { W.faults image.old ≤ W.faults image.new }
+    ensures notes_later { N.faults notes.old ≤ N.faults notes.new }
+{
     tracks_keep_bounds();
     let track = track_id(room.format, room.started);
-    write_part(naming, room.format, track, &room.tools.book, image, notes)
+    writer.write_track(room.format, track, &room.tools.book, image, notes)
 }
 
 /// Reads the next stream.

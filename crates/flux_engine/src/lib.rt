@@ -24,6 +24,7 @@ mod room;
 mod sectors;
 mod track;
 mod track_part;
+mod track_writer;
 mod write_fault;
 mod write_laws;
 mod write_room;
@@ -48,6 +49,7 @@ pub use room::DiskRoom;
 pub use sectors::Sectors;
 pub use track::decode_track;
 pub use track_part::{PartFault, write_part};
+pub use track_writer::{ImageAndReport, TrackWriter};
 pub use write_fault::WriteFault;
 pub use write_laws::{
     captures_are_recovered, images_have_rings, steady_captures_are_recovered, streams_are_captures,

@@ -1,10 +1,11 @@
 //! Disks that are read by a plan: one loop over the tracks and one over the captures of a track.
 
-ghost use Rattle.std.specs.Prelude.{◌≡◌, ◌≤◌, ◌<◌, ◌*◌, ℕ, List, Option, Some, false, length, OnErr, IfOk};
+ghost use Rattle.std.specs.Prelude.{◌≡◌, ◌≤◌, ◌<◌, ◌*◌, ℕ, List, Option, Some, false, length, OnErr, OnOk};
 ghost use Rattle.flux_engine.specs.Answers.{Stayed};
+ghost use Rattle.flux_engine.specs.Disks.{no_totals};
 ghost use Rattle.flux_engine.specs.Needed.{ReadsWhereOpen};
 ghost use Rattle.flux_engine.specs.PlanAnswers.{DecodesPlanned, IsFinished, PlanCause, SaysOfPlannedInput, of_part as of_part_fault, of_stream as of_stream_fault};
-ghost use Rattle.flux_engine.specs.PlanProgress.{HasCome, HasPlanned, ReadsCaptures};
+ghost use Rattle.flux_engine.specs.PlanProgress.{EndsInTracks, HasCome, HasPlanned, ReadsCaptures};
 ghost use Rattle.flux_engine.specs.Plans.{EndsInPlan};
 ghost use Rattle.flux_engine.specs.Recordings.{sectors_of as sectors_in, track_at};
 ghost use Rattle.flux_engine.specs.Room.{fresh};
@@ -13,12 +14,13 @@ ghost use Rattle.flux_engine.specs.Writing.{Knows};
 ghost use Rattle.kryo_stream.specs.Reads.{SourceMoment, source_at};
 ghost use Rattle.sector_images.specs.Places.{tracks};
 
-use crate::capture::{read_by_clocks, start_track, write_started_part};
+use crate::capture::{read_by_clocks, start_track, write_started};
 use crate::disk::add_totals;
 use crate::fault::{CaptureFault, PlanFault};
 use crate::plan::Plan;
 use crate::room::DiskRoom;
 use crate::track_part::PartFault;
+use crate::track_writer::{ImageAndReport, TrackWriter};
 use crate::writing::no_totals;
 use flux_base::{Sink, Source};
 use kryo_stream::{growth_law, padding_law};
@@ -54,29 +56,39 @@ pub fn decode_planned<S: Source, W: Sink, N: Sink>(
     ensures image_later { W.faults image.old ≤ W.faults image.new }
     ensures notes_later { N.faults notes.old ≤ N.faults notes.new }
 {
-    let totals = match decode_planned_tracks(plan, room, source, image, notes) {
-        Ok(totals) => totals,
-        Err(fault) => return Err(fault),
+    let writer = ImageAndReport {
+        naming: plan.naming,
     };
+    let mut totals = no_totals();
+    match decode_planned_tracks(plan, &writer, room, source, image, notes, &mut totals) {
+        Ok(()) => {}
+        Err(fault) => return Err(fault),
+    }
     match write_line(notes, &total_line(&totals)) {
         Ok(()) => Ok(totals),
         Err(_) => Err(PlanFault::NotesFault),
     }
 }
 
-/// Decodes all tracks of a disk in order by a plan, and gives the totals of all.
-pub fn decode_planned_tracks<S: Source, W: Sink, N: Sink>(
+/// Decodes all tracks of a disk in order by a plan, writes what each comes to, and adds up the totals of those that were written
+/// whole. No answer is for want of memory.
+///
+/// After a fault nothing more is read or written. `Refused` names the first stream with a fault.
+pub fn decode_planned_tracks<O: TrackWriter, S: Source, W: Sink, N: Sink>(
     plan: Plan,
+    writer: &O,
     room: &mut DiskRoom,
     source: &mut S,
     image: &mut W,
     notes: &mut N,
-) -> Result<Totals, PlanFault>
+    totals: &mut Totals,
+) -> Result<(), PlanFault>
+    requires none { totals.old ≡ no_totals }
     requires fresh { room.old ≡ fresh room.old.format }
     requires few { plan.captures ≤ 16 }
-    ensures ok { IfOk result (λ totals. HasPlanned plan (part_by plan.naming) room.old.format (S.left source.old) (S.left source.new) (W.written image.old) (W.written image.new) (N.written notes.old) (N.written notes.new) room.new (length (tracks room.old.format)) totals) }
+    ensures ok { OnOk result (HasPlanned plan (O.part_of writer.now) room.old.format (S.left source.old) (S.left source.new) (W.written image.old) (W.written image.new) (N.written notes.old) (N.written notes.new) room.new (length (tracks room.old.format)) totals.new) }
     ensures needed { (bytes : List ℕ) → S.left source.old ≡ Some bytes → ReadsWhereOpen (EndsInPlan plan room.old.format) (source_at S.left S.given S.faults source.old) (source_at S.left S.given S.faults source.new) }
-    ensures err { OnErr result (DecodesPlanned plan (part_by plan.naming) room.old.format (S.left source.old) (S.left source.new) (W.written image.old) (W.written image.new) (N.written notes.old) (N.written notes.new) result) }
+    ensures err { OnErr result (EndsInTracks plan (O.part_of writer.now) room.old.format (S.left source.old) (S.left source.new) (W.written image.old) (W.written image.new) (N.written notes.old) (N.written notes.new) totals.new result) }
     ensures cause { PlanCause (S.faults source.old) (S.faults source.new) (W.faults image.old) (W.faults image.new) (N.faults notes.old) (N.faults notes.new) result }
     ensures source_later { S.faults source.old ≤ S.faults source.new }
     ensures image_later { W.faults image.old ≤ W.faults image.new }
@@ -86,18 +98,17 @@ pub fn decode_planned_tracks<S: Source, W: Sink, N: Sink>(
     sectors_lie_in_images();
     growth_law();
     padding_law();
-    let mut totals = no_totals();
     for number in 0..track_count(room.format) {
         match read_captures(plan, room, number, source) {
             Ok(()) => {}
             Err(fault) => return Err(fault),
         }
-        match write_started_part(plan.naming, room, image, notes) {
-            Ok(more) => add_totals(&mut totals, more),
+        match write_started(writer, room, image, notes) {
+            Ok(more) => add_totals(totals, more),
             Err(fault) => return Err(of_part(fault)),
         }
     }
-    Ok(totals)
+    Ok(())
 }
 
 /// Reads all captures of a track: the next streams, so many. Their readings are gathered.

@@ -41,3 +41,18 @@ totals-more parts part = totals-same (totals_over (parts ++ part ∷ [])) (sum_o
     (sum-more (λ (p : TrackPart). p.totals.bad) parts part)
     (sum-more (λ (p : TrackPart). p.totals.missing) parts part)
     (sum-more (λ (p : TrackPart). p.totals.contradictory) parts part)
+
+-- and one track before the others
+sum-first : (f : TrackPart → ℕ) (part : TrackPart) (parts : List TrackPart) → sum_by f (part ∷ parts) ≡ f part + sum_by f parts
+sum-first f part parts =
+    let whole = sum_by-append f (part ∷ []) parts in
+    let one : sum_by f (part ∷ []) ≡ f part = omega arith in
+    whole ∙ ap (λ (n : ℕ). n + sum_by f parts) one
+
+pub totals-first : (part : TrackPart) (parts : List TrackPart) → totals_over (part ∷ parts) ≡ sum_of part.totals (totals_over parts)
+totals-first part parts = totals-same (totals_over (part ∷ parts)) (sum_of part.totals (totals_over parts))
+    (sum-first (λ (p : TrackPart). p.totals.sectors) part parts)
+    (sum-first (λ (p : TrackPart). p.totals.good) part parts)
+    (sum-first (λ (p : TrackPart). p.totals.bad) part parts)
+    (sum-first (λ (p : TrackPart). p.totals.missing) part parts)
+    (sum-first (λ (p : TrackPart). p.totals.contradictory) part parts)

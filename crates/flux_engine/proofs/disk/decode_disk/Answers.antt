@@ -1,7 +1,8 @@
 use Rattle.kryo_stream.specs.Reads.{source_at}
 use Rattle.flux_engine.specs.Needed.{EndsInStreams}
 use Rattle.flux_engine.specs.Plans.{EndsInPlan, decoding}
-use Rattle.flux_engine.proofs.DecodedPlans.{decodes_disk, ends_in_streams, engine_cause, reads_weaken}
+use Rattle.flux_engine.specs.lemmas.OneStream.{ends_in_streams, reads_weaken}
+use Rattle.flux_engine.proofs.DecodedPlans.{decodes_disk, engine_cause}
 use Rattle.flux_engine.proofs.Telling.{says_of_input, whole_or_refused}
 use Rattle.flux_engine.proofs.disk.decode_disk.Goals as goal
 

@@ -3,30 +3,38 @@ use Rattle.std.specs.Io.KnownBytes.{Appends}
 use Rattle.flux_base.specs.Outside.{AppendsPart}
 use Rattle.flux_engine.specs.declared.fault.PlanFault.TheVariants.{NotesFault}
 use Rattle.flux_engine.specs.Tracks.{part_by}
-use Rattle.flux_engine.proofs.PlanDecoding.{planned_all, planned_no_total}
-use Rattle.flux_engine.proofs.PlanTelling.{says_of_planned, is_finished}
+use Rattle.flux_engine.proofs.PlanDecoding.{planned_all, planned_ends, planned_no_total}
+use Rattle.flux_engine.proofs.PlanTelling.{says_of_planned, is_finished, same_cause}
 use Rattle.flux_engine.proofs.planned.decode_planned.Goals as goal
+
+pub returns-in-Err-clause-decoded : goal.returns-in-Err-clause-decoded
+returns-in-Err-clause-decoded g c =
+    planned_ends c.args.plan (part_by c.args.plan.naming) c.args.room.now.format _ _ _ _ _ _ c.decode_planned_tracks.new.totals c.in-Err.fault c.in-Err.ensures.err
 
 pub returns-in-Err-clause-told : goal.returns-in-Err-clause-told
 returns-in-Err-clause-told g c = λ bytes told.
-    says_of_planned c.args.plan (part_by c.args.plan.naming) c.args.room.now.format bytes (g.S.Source.left c.args.source.now) _ _ _ _ _ told (Err c.in-Err.fault) c.in-Err.ensures.err
+    says_of_planned c.args.plan (part_by c.args.plan.naming) c.args.room.now.format bytes (g.S.Source.left c.args.source.now) _ _ _ _ _ told (Err c.in-Err.fault)
+    (returns-in-Err-clause-decoded g c)
+
+pub returns-in-Err-clause-cause : goal.returns-in-Err-clause-cause
+returns-in-Err-clause-cause g c = same_cause _ _ _ _ _ _ c.in-Err.fault c.in-Err.ensures.cause
 
 pub returns-in-Err-clause-complete : goal.returns-in-Err-clause-complete
-returns-in-Err-clause-complete g c = is_finished _ _ _ _ _ _ (Err c.in-Err.fault) c.in-Err.ensures.cause
+returns-in-Err-clause-complete g c = is_finished _ _ _ _ _ _ (Err c.in-Err.fault) (returns-in-Err-clause-cause g c)
 
 pub returns-in-Ok-write_line-clause-decoded : goal.returns-in-Ok-write_line-clause-decoded
 returns-in-Ok-write_line-clause-decoded g c =
-    planned_all c.args.plan (part_by c.args.plan.naming) c.args.room.now.format _ _ _ _ _ (g.N.Sink.written c.decode_planned_tracks.new.notes) _ c.decode_planned_tracks.new.room c.in-Ok.totals c.in-Ok.ensures.ok
+    planned_all c.args.plan (part_by c.args.plan.naming) c.args.room.now.format _ _ _ _ _ (g.N.Sink.written c.decode_planned_tracks.new.notes) _ c.decode_planned_tracks.new.room c.decode_planned_tracks.new.totals c.in-Ok.ensures.ok
     (subst (Appends (g.N.Sink.written c.decode_planned_tracks.new.notes) (g.N.Sink.written c.write_line.new.sink)) c.total_line.ensures c.in-Ok-write_line.ensures.ok)
 
 pub returns-in-Ok-write_line-clause-told : goal.returns-in-Ok-write_line-clause-told
 returns-in-Ok-write_line-clause-told g c = λ bytes told.
-    says_of_planned c.args.plan (part_by c.args.plan.naming) c.args.room.now.format bytes (g.S.Source.left c.args.source.now) _ _ _ _ _ told (Ok c.in-Ok.totals)
+    says_of_planned c.args.plan (part_by c.args.plan.naming) c.args.room.now.format bytes (g.S.Source.left c.args.source.now) _ _ _ _ _ told (Ok c.decode_planned_tracks.new.totals)
     (returns-in-Ok-write_line-clause-decoded g c)
 
 pub returns-in-Err-write_line-clause-decoded : goal.returns-in-Err-write_line-clause-decoded
 returns-in-Err-write_line-clause-decoded g c =
-    planned_no_total c.args.plan (part_by c.args.plan.naming) c.args.room.now.format _ _ _ _ _ (g.N.Sink.written c.decode_planned_tracks.new.notes) _ c.decode_planned_tracks.new.room c.in-Ok.totals c.in-Ok.ensures.ok
+    planned_no_total c.args.plan (part_by c.args.plan.naming) c.args.room.now.format _ _ _ _ _ (g.N.Sink.written c.decode_planned_tracks.new.notes) _ c.decode_planned_tracks.new.room c.decode_planned_tracks.new.totals c.in-Ok.ensures.ok
     (subst (AppendsPart (g.N.Sink.written c.decode_planned_tracks.new.notes) (g.N.Sink.written c.write_line.new.sink)) c.total_line.ensures c.in-Err-write_line.ensures.err)
 
 pub returns-in-Err-write_line-clause-told : goal.returns-in-Err-write_line-clause-told

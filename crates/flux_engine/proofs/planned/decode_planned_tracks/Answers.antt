@@ -9,18 +9,17 @@ use Rattle.flux_engine.specs.TrackParts.{WritesPart}
 use Rattle.flux_engine.specs.lemmas.ReadLaws.{no_reads}
 use Rattle.flux_engine.specs.PlanProgress.{HasCaptured, HasPlanned}
 use Rattle.flux_engine.specs.Plans.{EndsInPlan, joined}
-use Rattle.flux_engine.proofs.PlanDecoding.{planned_fault, planned_more, planned_part_fault, planned_start}
+use Rattle.flux_engine.proofs.PlanDecoding.{ends_in_part, ends_in_stream, planned_more, planned_part_fault, planned_start}
 use Rattle.flux_engine.proofs.PlanTelling.{captures_cause, part_cause}
 use Rattle.flux_engine.specs.Room.{RoomState}
-use Rattle.flux_engine.specs.Tracks.{part_by}
 use Rattle.flux_engine.proofs.planned.decode_planned_tracks.Goals as goal
 
 pub loop-number-init : goal.loop-number-init
 loop-number-init g c = record {
-  decoded = planned_start c.args.plan (part_by c.args.plan.naming) c.args.room.now.format _ _ _ c.args.room.now c.no_totals-totals.result c.requires.fresh c.no_totals-totals.ensures.value;
+  decoded = planned_start c.args.plan (g.O.TrackWriter.part_of c.args.writer.now) c.args.room.now.format _ _ _ c.args.room.now c.args.totals.now c.requires.fresh c.requires.none;
   needed = λ bytes told. no_reads (EndsInPlan c.args.plan c.args.room.now.format) (source_at g.S.Source.left g.S.Source.given g.S.Source.faults c.args.source.now);
-  sum = c.no_totals-totals.ensures.sum;
-  few = (let none : c.no_totals-totals.result.sectors ≡ 0 = ap (λ (t : Totals). t.sectors) c.no_totals-totals.ensures.value in omega (arith, none));
+  sum = rw c.requires.none refl;
+  few = (let none : c.args.totals.now.sectors ≡ 0 = ap (λ (t : Totals). t.sectors) c.requires.none in omega (arith, none));
   source_later = omega arith;
   image_later = omega arith;
   notes_later = omega arith;
@@ -28,21 +27,17 @@ loop-number-init g c = record {
 
 pub returns-in-Err-clause-err : goal.returns-in-Err-clause-err
 returns-in-Err-clause-err g c =
-    let i = c.loop-number.invariant in
-    let h = i.decoded in
-    let n = c.loop-number.number in
+    let h = c.loop-number.invariant.decoded in
     let format = c.args.room.now.format in
-    let left = g.S.Source.left c.args.source.now in
-    let mid = g.S.Source.left c.loop-number.source in
-    let left' = g.S.Source.left c.read_captures.new.source in
-    let image = g.W.Sink.written c.args.image.now in
-    let imid = g.W.Sink.written c.loop-number.image in
-    let notes = g.N.Sink.written c.args.notes.now in
-    let nmid = g.N.Sink.written c.loop-number.notes in
     let all : c.track_count-number-end.result ≡ length (tracks format) = c.track_count-number-end.ensures ∙ ap (λ (r : RoomState). length (tracks r.format)) c.room.view_is in
-    let low : n < length (tracks format) = omega (arith, all) in
-    planned_fault c.args.plan (part_by c.args.plan.naming) format left mid left' image imid imid notes nmid nmid c.loop-number.room n c.loop-number.totals h c.in-Err.fault low
-    (c.in-Err.ensures.read left h.taken h.come) refl refl
+    ends_in_stream c.args.plan (g.O.TrackWriter.part_of c.args.writer.now) format _ _ _ _ _ _ _ c.in-Err.fault (record {
+      number = c.loop-number.number;
+      low = omega (arith, all);
+      mid = g.S.Source.left c.loop-number.source;
+      room = c.loop-number.room;
+      before = h;
+      stopped = c.in-Err.ensures.read (g.S.Source.left c.args.source.now) h.taken h.come;
+    })
 
 pub returns-in-Err-clause-needed : goal.returns-in-Err-clause-needed
 returns-in-Err-clause-needed g c = λ bytes told.
@@ -52,16 +47,16 @@ returns-in-Err-clause-needed g c = λ bytes told.
     (c.in-Err.ensures.needed (source_at g.S.Source.left g.S.Source.given g.S.Source.faults c.args.source.now) c.loop-number.invariant.decoded.taken bytes told c.loop-number.invariant.decoded.come)
     (c.loop-number.invariant.needed bytes told)
 
-pub returns-in-Err-write_started_part-clause-needed : goal.returns-in-Err-write_started_part-clause-needed
-returns-in-Err-write_started_part-clause-needed g c = λ bytes told.
+pub returns-in-Err-write_started-clause-needed : goal.returns-in-Err-write_started-clause-needed
+returns-in-Err-write_started-clause-needed g c = λ bytes told.
     subst (λ (f : Format). ReadsWhereOpen (EndsInPlan c.args.plan f) (source_at g.S.Source.left g.S.Source.given g.S.Source.faults c.args.source.now) (source_at g.S.Source.left g.S.Source.given g.S.Source.faults c.loop-number.source)
     → ReadsWhereOpen (EndsInPlan c.args.plan f) (source_at g.S.Source.left g.S.Source.given g.S.Source.faults c.args.source.now) (source_at g.S.Source.left g.S.Source.given g.S.Source.faults c.read_captures.new.source))
     c.loop-number.invariant.decoded.format_is
     (c.in-Ok.ensures.needed (source_at g.S.Source.left g.S.Source.given g.S.Source.faults c.args.source.now) c.loop-number.invariant.decoded.taken bytes told c.loop-number.invariant.decoded.come)
     (c.loop-number.invariant.needed bytes told)
 
-pub returns-in-Err-write_started_part-clause-err : goal.returns-in-Err-write_started_part-clause-err
-returns-in-Err-write_started_part-clause-err g c =
+pub returns-in-Err-write_started-clause-err : goal.returns-in-Err-write_started-clause-err
+returns-in-Err-write_started-clause-err g c =
     let i = c.loop-number.invariant in
     let h = i.decoded in
     let n = c.loop-number.number in
@@ -77,28 +72,29 @@ returns-in-Err-write_started_part-clause-err g c =
     let low : n < length (tracks format) = omega (arith, all) in
     let room' = c.read_captures.new.room in
     let captured = subst (λ (f : Format). HasCaptured c.args.plan f n left left' h.taken room' c.args.plan.captures) h.format_is (c.in-Ok.ensures.read left h.taken h.come) in
-    let image' = g.W.Sink.written c.write_started_part.new.image in
-    let notes' = g.N.Sink.written c.write_started_part.new.notes in
+    let image' = g.W.Sink.written c.write_started.new.image in
+    let notes' = g.N.Sink.written c.write_started.new.notes in
     let format_is = c.in-Ok.ensures.format ∙ h.format_is in
-    let fault = c.in-Err-write_started_part.fault in
-    let wrote = subst (λ (f : Format). WritesPart (part_by c.args.plan.naming f (track_at f n) (joined captured.captures)) imid image' nmid notes' (Err fault)) format_is
-    (subst (λ (k : ℕ). WritesPart (part_by c.args.plan.naming room'.format (track_at room'.format k) (joined captured.captures)) imid image' nmid notes' (Err fault)) c.in-Ok.ensures.started
-    (c.in-Err-write_started_part.ensures.wrote (joined captured.captures) captured.stands)) in
+    let fault = c.in-Err-write_started.fault in
+    let wrote = subst (λ (f : Format). WritesPart (g.O.TrackWriter.part_of c.args.writer.now f (track_at f n) (joined captured.captures)) imid image' nmid notes' (Err fault)) format_is
+    (subst (λ (k : ℕ). WritesPart (g.O.TrackWriter.part_of c.args.writer.now room'.format (track_at room'.format k) (joined captured.captures)) imid image' nmid notes' (Err fault)) c.in-Ok.ensures.started
+    (c.in-Err-write_started.ensures.wrote (joined captured.captures) captured.stands)) in
     rw c.of_part.ensures
-    (planned_part_fault c.args.plan (part_by c.args.plan.naming) format left mid left' image imid image' notes nmid notes' c.loop-number.room n c.loop-number.totals h room' captured
-    c.growth_law.ensures.limit c.padding_law.ensures low fault wrote)
+    (ends_in_part c.args.plan (g.O.TrackWriter.part_of c.args.writer.now) format left left' image image' notes notes' _ fault
+    (planned_part_fault c.args.plan (g.O.TrackWriter.part_of c.args.writer.now) format left mid left' image imid image' notes nmid notes' c.loop-number.room n c.loop-number.totals h room' captured
+    c.growth_law.ensures.limit c.padding_law.ensures low fault wrote))
 
-pub returns-in-Err-write_started_part-clause-cause : goal.returns-in-Err-write_started_part-clause-cause
-returns-in-Err-write_started_part-clause-cause g c =
+pub returns-in-Err-write_started-clause-cause : goal.returns-in-Err-write_started-clause-cause
+returns-in-Err-write_started-clause-cause g c =
     let i = c.loop-number.invariant in
     rw c.of_part.ensures
-    (part_cause (g.S.Source.faults c.args.source.now) (g.S.Source.faults c.read_captures.new.source) (g.W.Sink.faults c.args.image.now) (g.W.Sink.faults c.loop-number.image)
-    (g.W.Sink.faults c.write_started_part.new.image) (g.N.Sink.faults c.args.notes.now) (g.N.Sink.faults c.loop-number.notes) (g.N.Sink.faults c.write_started_part.new.notes)
-    c.in-Err-write_started_part.fault c.in-Err-write_started_part.ensures.cause i.image_later i.notes_later)
+    (part_cause (Unit {0}) (g.S.Source.faults c.args.source.now) (g.S.Source.faults c.read_captures.new.source) (g.W.Sink.faults c.args.image.now) (g.W.Sink.faults c.loop-number.image)
+    (g.W.Sink.faults c.write_started.new.image) (g.N.Sink.faults c.args.notes.now) (g.N.Sink.faults c.loop-number.notes) (g.N.Sink.faults c.write_started.new.notes)
+    c.in-Err-write_started.fault c.in-Err-write_started.ensures.cause i.image_later i.notes_later)
 
 pub returns-in-Err-clause-cause : goal.returns-in-Err-clause-cause
 returns-in-Err-clause-cause g c =
-    captures_cause Totals (g.S.Source.faults c.loop-number.source) (g.S.Source.faults c.read_captures.new.source) (g.W.Sink.faults c.args.image.now) (g.W.Sink.faults c.loop-number.image)
+    captures_cause (Unit {0}) (g.S.Source.faults c.loop-number.source) (g.S.Source.faults c.read_captures.new.source) (g.W.Sink.faults c.args.image.now) (g.W.Sink.faults c.loop-number.image)
     (g.N.Sink.faults c.args.notes.now) (g.N.Sink.faults c.loop-number.notes) c.in-Err.fault c.in-Err.ensures.cause (g.S.Source.faults c.args.source.now) c.loop-number.invariant.source_later
 
 pub loop-number-preserved : goal.loop-number-preserved
@@ -118,15 +114,15 @@ loop-number-preserved g c =
     let low : n < length (tracks format) = omega (arith, all) in
     let room' = c.read_captures.new.room in
     let captured = subst (λ (f : Format). HasCaptured c.args.plan f n left left' h.taken room' c.args.plan.captures) h.format_is (c.in-Ok.ensures.read left h.taken h.come) in
-    let image' = g.W.Sink.written c.write_started_part.new.image in
-    let notes' = g.N.Sink.written c.write_started_part.new.notes in
+    let image' = g.W.Sink.written c.write_started.new.image in
+    let notes' = g.N.Sink.written c.write_started.new.notes in
     let format_is = c.in-Ok.ensures.format ∙ h.format_is in
-    let wrote = subst (λ (f : Format). WritesPart (part_by c.args.plan.naming f (track_at f n) (joined captured.captures)) imid image' nmid notes' (Ok c.in-Ok-write_started_part.more)) format_is
-    (rw c.in-Ok.ensures.started at (c.in-Ok-write_started_part.ensures.wrote (joined captured.captures) captured.stands)) in
-    let e = c.in-Ok-write_started_part.ensures in
-    let sum : c.add_totals.new.totals.sectors ≡ c.loop-number.totals.sectors + c.in-Ok-write_started_part.more.sectors = ap (λ (t : Totals). t.sectors) c.add_totals.ensures.value in
+    let wrote = subst (λ (f : Format). WritesPart (g.O.TrackWriter.part_of c.args.writer.now f (track_at f n) (joined captured.captures)) imid image' nmid notes' (Ok c.in-Ok-write_started.more)) format_is
+    (rw c.in-Ok.ensures.started at (c.in-Ok-write_started.ensures.wrote (joined captured.captures) captured.stands)) in
+    let e = c.in-Ok-write_started.ensures in
+    let sum : c.add_totals.new.totals.sectors ≡ c.loop-number.totals.sectors + c.in-Ok-write_started.more.sectors = ap (λ (t : Totals). t.sectors) c.add_totals.ensures.value in
     record {
-      decoded = planned_more c.args.plan (part_by c.args.plan.naming) format left mid left' image imid image' notes nmid notes' c.loop-number.room n c.loop-number.totals h room' captured c.in-Ok-write_started_part.more c.add_totals.new.totals c.in-Ok.ensures.format wrote c.add_totals.ensures.value;
+      decoded = planned_more c.args.plan (g.O.TrackWriter.part_of c.args.writer.now) format left mid left' image imid image' notes nmid notes' c.loop-number.room n c.loop-number.totals h room' captured c.in-Ok-write_started.more c.add_totals.new.totals c.in-Ok.ensures.format wrote c.add_totals.ensures.value;
       needed = λ bytes told.
           subst (λ (f : Format). ReadsWhereOpen (EndsInPlan c.args.plan f) (source_at g.S.Source.left g.S.Source.given g.S.Source.faults c.args.source.now) (source_at g.S.Source.left g.S.Source.given g.S.Source.faults c.loop-number.source)
           → ReadsWhereOpen (EndsInPlan c.args.plan f) (source_at g.S.Source.left g.S.Source.given g.S.Source.faults c.args.source.now) (source_at g.S.Source.left g.S.Source.given g.S.Source.faults c.read_captures.new.source))
@@ -145,6 +141,6 @@ returns-clause-ok g c =
     let format = c.args.room.now.format in
     let count : c.track_count-number-end.result ≡ length (tracks format) = c.track_count-number-end.ensures ∙ ap (λ (r : RoomState). length (tracks r.format)) c.room.view_is in
     let all : c.loop-number.number ≡ length (tracks format) = omega (arith, count) in
-    subst (λ (n : ℕ). HasPlanned c.args.plan (part_by c.args.plan.naming) format (g.S.Source.left c.args.source.now) (g.S.Source.left c.loop-number.source)
+    subst (λ (n : ℕ). HasPlanned c.args.plan (g.O.TrackWriter.part_of c.args.writer.now) format (g.S.Source.left c.args.source.now) (g.S.Source.left c.loop-number.source)
     (g.W.Sink.written c.args.image.now) (g.W.Sink.written c.loop-number.image) (g.N.Sink.written c.args.notes.now) (g.N.Sink.written c.loop-number.notes)
     c.loop-number.room n c.loop-number.totals) all c.loop-number.invariant.decoded
