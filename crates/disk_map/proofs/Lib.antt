@@ -1,5 +1,5 @@
 pub mod Drawing
-pub mod Tracks
+pub mod Drawn
 pub mod Telling
 pub mod Joined
 pub mod Reports

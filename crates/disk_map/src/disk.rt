@@ -1,36 +1,37 @@
-ghost use Rattle.std.specs.Prelude.{◌≡◌, ◌+◌, ◌≤◌, ℕ, List, Some, flat_map, length, OnErr, IfOk};
+ghost use Rattle.std.specs.Prelude.{◌≡◌, ◌+◌, ◌≤◌, ℕ, List, Some, flat_map};
 ghost use Rattle.std.specs.List.{range_with_len};
 ghost use Rattle.flux_base.specs.Moments.{Puts, moment};
 ghost use Rattle.flux_engine.specs.Answers.{Stayed};
 ghost use Rattle.flux_engine.specs.Needed.{EndsInStreams, ReadsWhereOpen};
 ghost use Rattle.flux_engine.specs.Room.{fresh};
 ghost use Rattle.kryo_stream.specs.Reads.{source_at};
-ghost use Rattle.sector_images.specs.Places.{tracks};
 ghost use Rattle.disk_map.specs.Answers.{IsWholeOrRefused, MapCause, MapsDisk, SaysOfMapInput};
 ghost use Rattle.disk_map.specs.Places.{layout_of};
-ghost use Rattle.disk_map.specs.Progress.{EndsEarly, HasMapped};
+ghost use Rattle.disk_map.specs.Progress.{EndsEarly};
 ghost use Rattle.disk_map.specs.Texts.{grid_text, grids_text, top_text};
 
-use crate::fault::MapFault;
+use crate::field_writer::FieldWriter;
 use crate::layout::Layout;
 use crate::text::write_text;
 use crate::texts::{begin_text, foot_text, grid_text, labels};
-use crate::track::map_track;
-use flux_base::{Failed, Sink, Source, write_whole};
-use flux_engine::{DiskRoom, add_totals, no_totals, room_format};
-use sector_images::{Format, track_count, tracks_keep_bounds};
-use sector_report::{Totals, refused_line, total_line};
+use flux_base::{CountingSink, Failed, Sink, Source, write_whole};
+use flux_engine::{
+    Clocks, DiskRoom, Plan, PlanFault, decode_planned_tracks, no_totals, room_format,
+};
+use sector_images::Format;
+use sector_report::{Naming, Totals, refused_line, total_line};
 
-/// Draws a disk: reads the streams of its tracks in order, as `decode_disk` of the engine does, and writes the picture of what they
-/// come to, the fields of each track as soon as it is read. No answer is for want of memory.
+/// Draws a disk: reads the streams of its tracks in order, by the plan of `decode_disk` of the engine, and writes the picture of what
+/// they come to, the fields of each track as soon as it is read. No answer is for want of memory.
 ///
-/// What stands after the last stream is not looked at. After a fault of the source or of the sink nothing more is read or
-/// written. Where a stream is refused, the picture of the tracks before it is brought to its end, and says why.
+/// What stands after the last stream is not looked at. After `ReadFault`, and after `ImageFault`, where the picture was not
+/// written, nothing more is read or written. Where a stream is refused, the picture of the tracks before it is brought to its
+/// end, and says why. No notes are written, so `NotesFault` does not come.
 pub fn map_disk<S: Source, P: Sink>(
     room: &mut DiskRoom,
     source: &mut S,
     picture: &mut P,
-) -> Result<Totals, MapFault>
+) -> Result<Totals, PlanFault>
     requires { room.old ≡ fresh room.old.format }
     ensures mapped { MapsDisk room.old.format (S.left source.old) (S.left source.new) (P.written picture.old) (P.written picture.new) result }
     ensures told { (bytes : List ℕ) → S.left source.old ≡ Some bytes → SaysOfMapInput room.old.format bytes (S.left source.new) (P.written picture.old) (P.written picture.new) result }
@@ -46,58 +47,51 @@ pub fn map_disk<S: Source, P: Sink>(
     ensures picture_later { P.faults picture.old ≤ P.faults picture.new }
 {
     let format = room_format(room);
-    let totals = match map_tracks(room, format, source, picture) {
-        Ok(totals) => totals,
-        Err(fault) => return Err(fault),
+    match write_top(format, picture) {
+        Ok(()) => {}
+        Err(_) => return Err(PlanFault::ImageFault),
+    }
+    let plan = Plan {
+        captures: 1,
+        clocks: Clocks::FollowingAlone,
+        naming: Naming::Unnamed,
     };
+    let mut nothing = CountingSink::new();
+    let mut totals = no_totals();
+    match decode_planned_tracks(
+        plan,
+        &FieldWriter,
+        room,
+        source,
+        picture,
+        &mut nothing,
+        &mut totals,
+    ) {
+        Ok(()) => {}
+        Err(fault) => return Err(end_early(format, &totals, fault, picture)),
+    }
     let foot = foot_text(Layout::of_format(format), &totals, &total_line(&totals));
     match write_text(picture, &foot) {
         Ok(()) => Ok(totals),
-        Err(_) => Err(MapFault::PictureFault),
+        Err(_) => Err(PlanFault::ImageFault),
     }
-}
-
-/// Draws what stands before the fields, and all tracks in order, and gives the totals of all. Where a stream is refused, it
-/// draws the foot too.
-fn map_tracks<S: Source, P: Sink>(
-    room: &mut DiskRoom,
-    format: Format,
-    source: &mut S,
-    picture: &mut P,
-) -> Result<Totals, MapFault>
-    requires fresh { room.old ≡ fresh room.old.format }
-    requires format { format ≡ room.old.format }
-    ensures ok { IfOk result (λ totals. HasMapped format (S.left source.old) (S.left source.new) (P.written picture.old) (P.written picture.new) room.new (length (tracks format)) totals) }
-    ensures needed { (bytes : List ℕ) → S.left source.old ≡ Some bytes → ReadsWhereOpen (EndsInStreams format) (source_at S.left S.given S.faults source.old) (source_at S.left S.given S.faults source.new) }
-    ensures err { OnErr result (MapsDisk format (S.left source.old) (S.left source.new) (P.written picture.old) (P.written picture.new) result) }
-    ensures cause { MapCause (S.faults source.old) (S.faults source.new) (P.faults picture.old) (P.faults picture.new) result }
-    ensures source_later { S.faults source.old ≤ S.faults source.new }
-    ensures picture_later { P.faults picture.old ≤ P.faults picture.new }
-{
-    tracks_keep_bounds();
-    match write_top(format, picture) {
-        Ok(()) => {}
-        Err(_) => return Err(MapFault::PictureFault),
-    }
-    let mut totals = no_totals();
-    for number in 0..track_count(format) {
-        match map_track(room, number, source, picture) {
-            Ok(more) => add_totals(&mut totals, more),
-            Err(fault) => return Err(end_early(format, &totals, fault, picture)),
-        }
-    }
-    Ok(totals)
 }
 
 /// Writes the foot of a picture of which a stream was refused. After another fault nothing is written.
-fn end_early<P: Sink>(format: Format, totals: &Totals, fault: MapFault, picture: &mut P) -> MapFault
+fn end_early<P: Sink>(
+    format: Format,
+    totals: &Totals,
+    fault: PlanFault,
+    picture: &mut P,
+) -> PlanFault
     ensures { EndsEarly format totals.now (moment P.written P.faults picture.old) (moment P.written P.faults picture.new) fault result }
 {
     match fault {
-        MapFault::Refused {
+        PlanFault::Refused {
             track,
             block,
             fault: stream_fault,
+            ..
         } => {
             let last = refused_line(track, block, &stream_fault);
             match write_text(
@@ -105,11 +99,10 @@ fn end_early<P: Sink>(format: Format, totals: &Totals, fault: MapFault, picture:
                 &foot_text(Layout::of_format(format), totals, &last),
             ) {
                 Ok(()) => fault,
-                Err(_) => MapFault::PictureFault,
+                Err(_) => PlanFault::ImageFault,
             }
         }
-        MapFault::ReadFault => MapFault::ReadFault,
-        MapFault::PictureFault => MapFault::PictureFault,
+        PlanFault::ReadFault | PlanFault::ImageFault | PlanFault::NotesFault => fault,
     }
 }
 

@@ -1,21 +1,19 @@
 //! A picture of a disk, as SVG: a grid for each head, cylinders across and sectors down, and in it a field for each sector, whose
 //! colour and shape are its verdict and whose title is its line of the report.
 //!
-//! A disk is read as the engine reads it for its report (`flux_engine`), track by track, and the fields of a track are
-//! written as soon as it is read. What is written depends on the format and on the verdicts alone.
+//! A disk is read by the engine's loop (`flux_engine`), by the plan of its report, and the fields of a track are written as soon as
+//! it is read. What is written depends on the format and on the verdicts alone.
 #![tactic(auto)]
 
 mod disk;
-mod fault;
+mod field_writer;
 mod kind;
 mod laws;
 mod layout;
 mod text;
 mod texts;
-mod track;
 
 pub use disk::map_disk;
-pub use fault::MapFault;
 pub use kind::Kind;
 pub use laws::{
     each_sector_has_its_field, fields_tell_verdicts, maps_are_of_reports, maps_are_one,

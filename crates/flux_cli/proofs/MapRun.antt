@@ -1,15 +1,16 @@
 -- What `map` does by what the drawing of the disk says.
 use Rattle.std.proofs.Common.{◌≡◌, ◌==◌, ◌≤◌, ℕ, ◌++◌, Bool, true, false, if◌then◌else◌, List, [], length, Some, None, Ok, Err, refl, sym, ap, ◌∙◌, subst, append-nil, arith}
 use Rattle.std.specs.Io.KnownBytes.{Appends, Keeps}
-use Rattle.disk_map.specs.Answers.{DrewFront, MapAnswer, MapCause, MapsDisk}
+use Rattle.disk_map.specs.Answers.{DrewFront, MapCause, MapsDisk}
 use Rattle.disk_map.specs.Maps.{Mapped}
-use Rattle.disk_map.specs.declared.fault.MapFault.TheVariants.{ReadFault, PictureFault, Refused}
 use Rattle.flux_base.specs.Moments.{Moment}
 use Rattle.flux_base.specs.Outside.{Rose}
 use Rattle.flux_base.specs.declared.status.Status.{Status}
 use Rattle.flux_base.specs.declared.status.Status.TheVariants.{AllGood, NotAllGood, Refused as RefusedStatus, ReadFault as ReadFaultStatus, ImageFault as ImageFaultStatus, NotesFault as NotesFaultStatus}
 use Rattle.flux_engine.specs.Answers.{IsTakenBehind}
 use Rattle.flux_engine.specs.Disks.{Stop}
+use Rattle.flux_engine.specs.PlanAnswers.{PlanAnswer}
+use Rattle.flux_engine.specs.declared.fault.PlanFault.TheVariants.{ReadFault, ImageFault, Refused}
 use Rattle.kryo_stream.specs.declared.fault.StreamFault.{StreamFault}
 use Rattle.sector_images.specs.Places.{tracks}
 use Rattle.sector_images.specs.declared.format.Format.{Format}
@@ -30,10 +31,10 @@ leaves-if format x later false few = few
 -- the notes were not touched
 module _ {S W N : Type 0} (format : Format) (before after : Outside S W N) (counts : NoCountFell before after) (needed : WasReadWhereNeeded (map_work format) before after)
     (nothing : Appends before.notes.bytes after.notes.bytes []) (kept : Keeps before.notes.bytes after.notes.bytes) where
-  abbrev Maps : MapAnswer → Type 0
+  abbrev Maps : PlanAnswer → Type 0
   Maps answer = MapsDisk format before.source.bytes after.source.bytes before.image.bytes after.image.bytes answer
 
-  abbrev Caused : MapAnswer → Type 0
+  abbrev Caused : PlanAnswer → Type 0
   Caused answer = MapCause {A = Totals} before.source.faults after.source.faults before.image.faults after.image.faults answer
 
   -- all was drawn
@@ -72,7 +73,7 @@ module _ {S W N : Type 0} (format : Format) (before after : Outside S W N) (coun
         needed = needed;
       }
 
-  pub map-image-fault : Maps (Err PictureFault) → Caused (Err PictureFault) → Does (Some (Map format)) ImageFaultStatus before after
+  pub map-image-fault : Maps (Err ImageFault) → Caused (Err ImageFault) → Does (Some (Map format)) ImageFaultStatus before after
   map-image-fault d cause =
       let r = rest before.source after.source d.taken d.consumed in record {
         answer = tt;
@@ -82,8 +83,8 @@ module _ {S W N : Type 0} (format : Format) (before after : Outside S W N) (coun
       }
 
 -- the line of the refusal goes to the notes
-module _ {S W N : Type 0} (format : Format) (before after : Outside S W N) (track block : ℕ) (fault : StreamFault)
-    (d : MapsDisk format before.source.bytes after.source.bytes before.image.bytes after.image.bytes (Err (Refused track block fault)))
+module _ {S W N : Type 0} (format : Format) (before after : Outside S W N) (track capture block : ℕ) (fault : StreamFault)
+    (d : MapsDisk format before.source.bytes after.source.bytes before.image.bytes after.image.bytes (Err (Refused track capture block fault)))
     (counts : NoCountFell before after) (needed : WasReadWhereNeeded (map_work format) before after) where
   pub map-refused : Got (growth before.notes after.notes) (refused_text track block fault) → Does (Some (Map format)) RefusedStatus before after
   map-refused line =

@@ -8,9 +8,9 @@ ghost use Rattle.flux_cli.specs.declared.command.Command.TheVariants.{Map};
 ghost use Rattle.flux_engine.specs.Room.{fresh};
 
 use crate::disks::status_of;
-use disk_map::{MapFault, map_disk};
+use disk_map::map_disk;
 use flux_base::{Sink, Source, Status};
-use flux_engine::DiskRoom;
+use flux_engine::{DiskRoom, PlanFault};
 use sector_report::{refused_line, write_line};
 
 /// Draws a disk: its picture goes to `image`. Notes say why it is refused, as the picture does.
@@ -28,13 +28,16 @@ pub fn draw<S: Source, W: Sink, N: Sink>(
 {
     match map_disk(room, source, image) {
         Ok(totals) => status_of(&totals),
-        Err(MapFault::ReadFault) => Status::ReadFault,
-        Err(MapFault::PictureFault) => Status::ImageFault,
+        Err(PlanFault::ReadFault) => Status::ReadFault,
+        Err(PlanFault::ImageFault) => Status::ImageFault,
+        // A picture has no notes.
+        Err(PlanFault::NotesFault) => unreachable!(),
         Err(
-            MapFault::Refused {
+            PlanFault::Refused {
                 track,
                 block,
                 fault,
+                ..
             },
         ) => match write_line(notes, &refused_line(track, block, &fault)) {
             Ok(()) => Status::Refused,

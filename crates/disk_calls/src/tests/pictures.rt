@@ -1,7 +1,7 @@
 //! Pictures, and the fields of which they are made.
-use disk_map::{Layout, MapFault, field_text, foot_text, map_disk};
+use disk_map::{Layout, field_text, foot_text, map_disk};
 use flux_base::{Memory, MemorySink, MemorySource, TrackId};
-use flux_engine::DiskRoom;
+use flux_engine::{DiskRoom, PlanFault};
 use kryo_stream::StreamFault;
 use sector_images::Format;
 use sector_report::{Totals, refused_line};
@@ -106,7 +106,7 @@ const ONE_TURN: &[u8] =
 /// What drawing a disk came to.
 #[derive(Drop)]
 struct Drawn {
-    answer: Result<Totals, MapFault>,
+    answer: Result<Totals, PlanFault>,
     picture: MemorySink,
 }
 
@@ -125,8 +125,9 @@ fn draw_after(alloc: Global, rest: &[u8]) -> Result<Drawn, Memory> {
 #[test]
 fn a_refused_disk_has_a_whole_picture(rt: HostRuntime) -> Result<(), Fail> {
     let drawn = draw_after(rt.alloc(), b"\x0D\x05\0\0")?;
-    let refused = MapFault::Refused {
+    let refused = PlanFault::Refused {
         track: 1,
+        capture: 0,
         block: 0,
         fault: StreamFault::UnknownType(5),
     };

@@ -1,41 +1,78 @@
 use Rattle.std.proofs.Common.{Ok, Err, subst}
+use Rattle.std.specs.Io.KnownBytes.{Appends}
+use Rattle.flux_base.specs.Moments.{moment}
+use Rattle.flux_base.specs.Outside.{AppendsPart}
+use Rattle.kryo_stream.specs.Reads.{source_at}
 use Rattle.sector_images.specs.declared.format.Format.{Format}
-use Rattle.disk_map.specs.Answers.{MapsDisk}
-use Rattle.disk_map.specs.declared.fault.MapFault.TheVariants.{PictureFault}
-use Rattle.disk_map.proofs.Drawing.{mapped_all, mapped_no_foot}
-use Rattle.disk_map.proofs.Telling.{says_of_input, whole_or_refused}
+use Rattle.flux_engine.specs.Needed.{EndsInStreams}
+use Rattle.flux_engine.specs.Plans.{EndsInPlan, decoding}
+use Rattle.flux_engine.specs.declared.fault.PlanFault.TheVariants.{ImageFault}
+use Rattle.flux_engine.specs.lemmas.OneStream.{ends_in_streams, reads_weaken}
+use Rattle.disk_map.specs.Progress.{EndsEarly}
+use Rattle.disk_map.specs.Texts.{top_text}
+use Rattle.disk_map.proofs.Drawing.{mapped_all, mapped_fault, mapped_no_foot, mapped_no_top}
+use Rattle.disk_map.proofs.Telling.{no_notes_fault, says_of_input}
 use Rattle.disk_map.proofs.disk.map_disk.Goals as goal
 
 pub returns-in-Err-clause-mapped : goal.returns-in-Err-clause-mapped
 returns-in-Err-clause-mapped g c =
-    subst (λ (f : Format). MapsDisk f (g.S.Source.left c.args.source.now) (g.S.Source.left c.map_tracks.new.source) (g.P.Sink.written c.args.picture.now) (g.P.Sink.written c.map_tracks.new.picture) (Err c.in-Err.fault))
-    c.room_format-format.ensures c.in-Err.ensures.err
+    mapped_no_top c.args.room.now.format (g.S.Source.left c.args.source.now) (g.P.Sink.written c.args.picture.now) (g.P.Sink.written c.write_top.new.picture)
+    (subst (λ (f : Format). AppendsPart (g.P.Sink.written c.args.picture.now) (g.P.Sink.written c.write_top.new.picture) (top_text f)) c.room_format-format.ensures c.in-Err.ensures.err)
 
 pub returns-in-Err-clause-told : goal.returns-in-Err-clause-told
 returns-in-Err-clause-told g c = λ bytes told.
-    says_of_input c.args.room.now.format bytes (g.S.Source.left c.args.source.now) _ _ _ told (Err c.in-Err.fault) (returns-in-Err-clause-mapped g c)
+    says_of_input c.args.room.now.format bytes (g.S.Source.left c.args.source.now) _ _ _ told (Err ImageFault) (returns-in-Err-clause-mapped g c)
 
-pub returns-in-Err-clause-complete : goal.returns-in-Err-clause-complete
-returns-in-Err-clause-complete g c = whole_or_refused _ _ _ _ (Err c.in-Err.fault) c.in-Err.ensures.cause
+pub returns-in-Err-decode_planned_tracks-clause-mapped : goal.returns-in-Err-decode_planned_tracks-clause-mapped
+returns-in-Err-decode_planned_tracks-clause-mapped g c =
+    let e = c.in-Err-decode_planned_tracks.ensures in
+    let picture = moment g.P.Sink.written g.P.Sink.faults c.decode_planned_tracks.new.image in
+    let picture' = moment g.P.Sink.written g.P.Sink.faults c.end_early.new.picture in
+    mapped_fault c.args.room.now.format _ _ _ (g.P.Sink.written c.write_top.new.picture) _ _ c.decode_planned_tracks.new.totals
+    (subst (λ (f : Format). Appends (g.P.Sink.written c.args.picture.now) (g.P.Sink.written c.write_top.new.picture) (top_text f)) c.room_format-format.ensures c.in-Ok.ensures.ok)
+    picture picture' c.in-Err-decode_planned_tracks.fault c.end_early.result e.err (no_notes_fault _ _ _ _ c.in-Err-decode_planned_tracks.fault e.cause)
+    (subst (λ (f : Format). EndsEarly f c.decode_planned_tracks.new.totals picture picture' c.in-Err-decode_planned_tracks.fault c.end_early.result) c.room_format-format.ensures c.end_early.ensures)
+
+pub returns-in-Err-decode_planned_tracks-clause-told : goal.returns-in-Err-decode_planned_tracks-clause-told
+returns-in-Err-decode_planned_tracks-clause-told g c = λ bytes told.
+    says_of_input c.args.room.now.format bytes (g.S.Source.left c.args.source.now) _ _ _ told (Err c.end_early.result) (returns-in-Err-decode_planned_tracks-clause-mapped g c)
+
+pub returns-in-Err-decode_planned_tracks-clause-needed : goal.returns-in-Err-decode_planned_tracks-clause-needed
+returns-in-Err-decode_planned_tracks-clause-needed g c = λ bytes told.
+    reads_weaken (EndsInPlan decoding c.args.room.now.format) (EndsInStreams c.args.room.now.format)
+    (source_at g.S.Source.left g.S.Source.given g.S.Source.faults c.args.source.now) (source_at g.S.Source.left g.S.Source.given g.S.Source.faults c.decode_planned_tracks.new.source)
+    (ends_in_streams c.args.room.now.format) (c.decode_planned_tracks.ensures.needed bytes told)
 
 pub returns-in-Ok-write_text-clause-mapped : goal.returns-in-Ok-write_text-clause-mapped
 returns-in-Ok-write_text-clause-mapped g c =
-    subst (λ (f : Format). MapsDisk f (g.S.Source.left c.args.source.now) (g.S.Source.left c.map_tracks.new.source) (g.P.Sink.written c.args.picture.now) (g.P.Sink.written c.write_text.new.sink) (Ok c.in-Ok.totals))
-    c.room_format-format.ensures
-    (mapped_all c.room_format-format.result _ _ _ (g.P.Sink.written c.map_tracks.new.picture) _ c.map_tracks.new.room c.in-Ok.totals c.in-Ok.ensures.ok
-    ((rw (c.foot_text-foot.ensures, c.total_line.ensures, c.of_format.ensures) at c.in-Ok-write_text.ensures.ok)))
+    mapped_all c.args.room.now.format _ _ _ (g.P.Sink.written c.write_top.new.picture) _
+    (subst (λ (f : Format). Appends (g.P.Sink.written c.args.picture.now) (g.P.Sink.written c.write_top.new.picture) (top_text f)) c.room_format-format.ensures c.in-Ok.ensures.ok)
+    _ _ (g.P.Sink.written c.decode_planned_tracks.new.image) c.decode_planned_tracks.new.room c.decode_planned_tracks.new.totals c.in-Ok-decode_planned_tracks.ensures.ok
+    (rw (c.foot_text-foot.ensures, c.total_line.ensures, c.of_format.ensures, c.room_format-format.ensures) at c.in-Ok-write_text.ensures.ok)
 
 pub returns-in-Ok-write_text-clause-told : goal.returns-in-Ok-write_text-clause-told
 returns-in-Ok-write_text-clause-told g c = λ bytes told.
-    says_of_input c.args.room.now.format bytes (g.S.Source.left c.args.source.now) _ _ _ told (Ok c.in-Ok.totals) (returns-in-Ok-write_text-clause-mapped g c)
+    says_of_input c.args.room.now.format bytes (g.S.Source.left c.args.source.now) _ _ _ told (Ok c.decode_planned_tracks.new.totals) (returns-in-Ok-write_text-clause-mapped g c)
+
+pub returns-in-Ok-write_text-clause-needed : goal.returns-in-Ok-write_text-clause-needed
+returns-in-Ok-write_text-clause-needed g c = λ bytes told.
+    reads_weaken (EndsInPlan decoding c.args.room.now.format) (EndsInStreams c.args.room.now.format)
+    (source_at g.S.Source.left g.S.Source.given g.S.Source.faults c.args.source.now) (source_at g.S.Source.left g.S.Source.given g.S.Source.faults c.decode_planned_tracks.new.source)
+    (ends_in_streams c.args.room.now.format) (c.decode_planned_tracks.ensures.needed bytes told)
 
 pub returns-in-Err-write_text-clause-mapped : goal.returns-in-Err-write_text-clause-mapped
 returns-in-Err-write_text-clause-mapped g c =
-    subst (λ (f : Format). MapsDisk f (g.S.Source.left c.args.source.now) (g.S.Source.left c.map_tracks.new.source) (g.P.Sink.written c.args.picture.now) (g.P.Sink.written c.write_text.new.sink) (Err PictureFault))
-    c.room_format-format.ensures
-    (mapped_no_foot c.room_format-format.result _ _ _ (g.P.Sink.written c.map_tracks.new.picture) _ c.map_tracks.new.room c.in-Ok.totals c.in-Ok.ensures.ok
-    ((rw (c.foot_text-foot.ensures, c.total_line.ensures, c.of_format.ensures) at c.in-Err-write_text.ensures.err)))
+    mapped_no_foot c.args.room.now.format _ _ _ (g.P.Sink.written c.write_top.new.picture) _
+    (subst (λ (f : Format). Appends (g.P.Sink.written c.args.picture.now) (g.P.Sink.written c.write_top.new.picture) (top_text f)) c.room_format-format.ensures c.in-Ok.ensures.ok)
+    _ _ (g.P.Sink.written c.decode_planned_tracks.new.image) c.decode_planned_tracks.new.room c.decode_planned_tracks.new.totals c.in-Ok-decode_planned_tracks.ensures.ok
+    (rw (c.foot_text-foot.ensures, c.total_line.ensures, c.of_format.ensures, c.room_format-format.ensures) at c.in-Err-write_text.ensures.err)
 
 pub returns-in-Err-write_text-clause-told : goal.returns-in-Err-write_text-clause-told
 returns-in-Err-write_text-clause-told g c = λ bytes told.
-    says_of_input c.args.room.now.format bytes (g.S.Source.left c.args.source.now) _ _ _ told (Err PictureFault) (returns-in-Err-write_text-clause-mapped g c)
+    says_of_input c.args.room.now.format bytes (g.S.Source.left c.args.source.now) _ _ _ told (Err ImageFault) (returns-in-Err-write_text-clause-mapped g c)
+
+pub returns-in-Err-write_text-clause-needed : goal.returns-in-Err-write_text-clause-needed
+returns-in-Err-write_text-clause-needed g c = λ bytes told.
+    reads_weaken (EndsInPlan decoding c.args.room.now.format) (EndsInStreams c.args.room.now.format)
+    (source_at g.S.Source.left g.S.Source.given g.S.Source.faults c.args.source.now) (source_at g.S.Source.left g.S.Source.given g.S.Source.faults c.decode_planned_tracks.new.source)
+    (ends_in_streams c.args.room.now.format) (c.decode_planned_tracks.ensures.needed bytes told)

@@ -15,17 +15,17 @@ returns-in-Err-ReadFault-clause-does g c =
     map-unread c.args.room.now.format _ _ (record { source = e.source_later; image = e.picture_later; notes = omega arith }) e.needed (Appends-nil _) (Keeps-refl _)
     (rw c.in-Err-ReadFault.field-0-is at e.mapped) (rw c.in-Err-ReadFault.field-0-is at e.cause)
 
-pub returns-in-Err-PictureFault-clause-does : goal.returns-in-Err-PictureFault-clause-does
-returns-in-Err-PictureFault-clause-does g c =
-    let e = c.in-Err-PictureFault.ensures in
+pub returns-in-Err-ImageFault-clause-does : goal.returns-in-Err-ImageFault-clause-does
+returns-in-Err-ImageFault-clause-does g c =
+    let e = c.in-Err-ImageFault.ensures in
     map-image-fault c.args.room.now.format _ _ (record { source = e.source_later; image = e.picture_later; notes = omega arith }) e.needed (Appends-nil _) (Keeps-refl _)
-    (rw c.in-Err-PictureFault.field-0-is at e.mapped) (rw c.in-Err-PictureFault.field-0-is at e.cause)
+    (rw c.in-Err-ImageFault.field-0-is at e.mapped) (rw c.in-Err-ImageFault.field-0-is at e.cause)
 
 pub returns-in-Ok-write_line-clause-does : goal.returns-in-Ok-write_line-clause-does
 returns-in-Ok-write_line-clause-does g c =
     let r = c.in-Err-Refused in
     let e = r.ensures in
-    map-refused c.args.room.now.format _ _ r.track r.block r.fault (rw r.field-0-is at e.mapped)
+    map-refused c.args.room.now.format _ _ r.track r.capture r.block r.fault (rw r.field-0-is at e.mapped)
     (record { source = e.source_later; image = e.picture_later; notes = c.in-Ok-write_line.ensures.later }) e.needed
     (rw c.refused_line.ensures at c.in-Ok-write_line.ensures.ok)
 
@@ -33,6 +33,6 @@ pub returns-in-Err-clause-does : goal.returns-in-Err-clause-does
 returns-in-Err-clause-does g c =
     let r = c.in-Err-Refused in
     let e = r.ensures in
-    map-cut-refusal c.args.room.now.format _ _ r.track r.block r.fault (rw r.field-0-is at e.mapped)
+    map-cut-refusal c.args.room.now.format _ _ r.track r.capture r.block r.fault (rw r.field-0-is at e.mapped)
     (record { source = e.source_later; image = e.picture_later; notes = c.in-Err.ensures.later }) e.needed
     (rw c.refused_line.ensures at c.in-Err.ensures.err) c.in-Err.ensures.cause

@@ -1,26 +1,23 @@
-use Rattle.std.proofs.Common.{◌≡◌, ◌+◌, ℕ, List, Option, arith, subst, ap, sym, ◌∙◌, map, [], ◌∷◌, ◌++◌, unwrap_or}
+use Rattle.std.proofs.Common.{◌≡◌, ◌+◌, ℕ, List, arith, subst, ap, sym, ◌∙◌, map, [], ◌∷◌, ◌++◌}
 use Rattle.std.proofs.lemmas.List.FromFn.{map-range_with_len_more}
 use Rattle.std.specs.List.{flat_map, range_with_len}
 use Rattle.std.specs.Io.KnownBytes.{Appends}
 use Rattle.flux_base.specs.Outside.{AppendsPart}
-use Rattle.flux_base.specs.declared.track.TrackId.{TrackId}
 use Rattle.turn_merge.specs.Readings.{verdict}
 use Rattle.turn_merge.specs.declared.verdict.Verdict.{Verdict}
-use Rattle.flux_engine.specs.Recordings.{sectors_of, track_at}
 use Rattle.flux_engine.specs.Tracks.{totals_of}
 use Rattle.flux_engine.specs.declared.sectors.Sectors.{Sectors}
 use Rattle.flux_engine.specs.lemmas.Pieces.{pieces_next, pieces_stop}
 use Rattle.disk_map.specs.Maps.{field_of, fields_of}
-use Rattle.disk_map.specs.Places.{layout_of}
 use Rattle.disk_map.specs.Texts.{field_text}
 use Rattle.disk_map.specs.declared.layout.Layout.{Layout}
-use Rattle.disk_map.proofs.track.write_fields.Goals as goal
+use Rattle.disk_map.proofs.field_writer.write_fields.Goals as goal
 
 pub loop-index-preserved : goal.loop-index-preserved
 loop-index-preserved g c = record {
   grew = λ readings stands.
       let layout = c.of_format-layout.result in
-      let track = c.track_id-track.result in
+      let track = c.args.track in
       let first = c.sectors_of-sectors.result.first in
       let sector : ℕ = first + c.loop-index.index in
       let is : c.field_text.result.bytes ≡ field_text layout track sector (verdict readings sector) =
@@ -42,41 +39,27 @@ pub returns-in-Err-clause-err : goal.returns-in-Err-clause-err
 unfolding fields_of
 returns-in-Err-clause-err g c = λ readings stands.
     let l = c.of_format-layout.result in
-    let t = c.track_id-track.result in
+    let t = c.args.track in
     let s = c.sectors_of-sectors.result in
-    let format = c.args.room.now.format in
-    let layout : l ≡ layout_of format = rw c.room_format.ensures at c.of_format-layout.ensures in
-    let track : t ≡ track_at format c.args.number =
-    sym (ap (λ (o : Option TrackId). unwrap_or o (record { cylinder = 0; head = 0 })) (rw c.room_format-2.ensures at c.track_id-track.ensures.at)) in
-    let sectors : s ≡ sectors_of format (track_at format c.args.number) =
-    ◌∙◌ {b = sectors_of format t} (rw c.room_format-3.ensures at c.sectors_of-sectors.ensures) (ap (sectors_of format) track) in
     let sector : ℕ = s.first + c.loop-index.index in
     let is : c.field_text.result.bytes ≡ field_text l t sector (verdict readings sector) =
     c.field_text.ensures ∙ ap (field_text l t sector) (c.verdict-outcome.ensures readings stands) in
     let old = g.P.Sink.written c.args.picture.now in
     let new = g.P.Sink.written c.write_text.new.sink in
-    subst (λ (v : Sectors). AppendsPart old new (flat_map (field_of format (track_at format c.args.number) readings) (range_with_len v.first v.count))) sectors
-    (subst (λ (u : TrackId). AppendsPart old new (flat_map (field_of format u readings) (range_with_len s.first s.count))) track
-    (subst (λ (m : Layout). AppendsPart old new (flat_map (λ (k : ℕ). field_text m t k (verdict readings k)) (range_with_len s.first s.count))) layout
+    subst (λ (v : Sectors). AppendsPart old new (flat_map (field_of c.args.format t readings) (range_with_len v.first v.count))) c.sectors_of-sectors.ensures
+    (subst (λ (m : Layout). AppendsPart old new (flat_map (λ (k : ℕ). field_text m t k (verdict readings k)) (range_with_len s.first s.count))) c.of_format-layout.ensures
     (pieces_stop (λ (k : ℕ). field_text l t k (verdict readings k)) _ _ _ s.first c.loop-index.index s.count c.field_text.result.bytes
-    (omega arith) is (c.loop-index.invariant.grew readings stands) c.in-Err.ensures.err)))
+    (omega arith) is (c.loop-index.invariant.grew readings stands) c.in-Err.ensures.err))
 
 pub returns-clause-ok : goal.returns-clause-ok
 unfolding fields_of
 returns-clause-ok g c = λ readings stands.
     let l = c.of_format-layout.result in
-    let t = c.track_id-track.result in
+    let t = c.args.track in
     let s = c.sectors_of-sectors.result in
-    let format = c.args.room.now.format in
-    let layout : l ≡ layout_of format = rw c.room_format.ensures at c.of_format-layout.ensures in
-    let track : t ≡ track_at format c.args.number =
-    sym (ap (λ (o : Option TrackId). unwrap_or o (record { cylinder = 0; head = 0 })) (rw c.room_format-2.ensures at c.track_id-track.ensures.at)) in
-    let sectors : s ≡ sectors_of format (track_at format c.args.number) =
-    ◌∙◌ {b = sectors_of format t} (rw c.room_format-3.ensures at c.sectors_of-sectors.ensures) (ap (sectors_of format) track) in
     let all : c.loop-index.index ≡ s.count = omega arith in
     let old = g.P.Sink.written c.args.picture.now in
     let new = g.P.Sink.written c.loop-index.picture in
-    subst (λ (v : Sectors). Appends old new (flat_map (field_of format (track_at format c.args.number) readings) (range_with_len v.first v.count))) sectors
-    (subst (λ (u : TrackId). Appends old new (flat_map (field_of format u readings) (range_with_len s.first s.count))) track
-    (subst (λ (m : Layout). Appends old new (flat_map (λ (k : ℕ). field_text m t k (verdict readings k)) (range_with_len s.first s.count))) layout
-    (subst (λ (n : ℕ). Appends old new (flat_map (λ (k : ℕ). field_text l t k (verdict readings k)) (range_with_len s.first n))) all (c.loop-index.invariant.grew readings stands))))
+    subst (λ (v : Sectors). Appends old new (flat_map (field_of c.args.format t readings) (range_with_len v.first v.count))) c.sectors_of-sectors.ensures
+    (subst (λ (m : Layout). Appends old new (flat_map (λ (k : ℕ). field_text m t k (verdict readings k)) (range_with_len s.first s.count))) c.of_format-layout.ensures
+    (subst (λ (n : ℕ). Appends old new (flat_map (λ (k : ℕ). field_text l t k (verdict readings k)) (range_with_len s.first n))) all (c.loop-index.invariant.grew readings stands)))

@@ -1,0 +1,73 @@
+//! The fields of a track: what becomes of its verdicts in a picture.
+
+ghost use Rattle.std.specs.Prelude.{◌≡◌, ◌≤◌, List, map, OnErr, OnOk, IfOk};
+ghost use Rattle.std.specs.Io.KnownBytes.{Appends};
+ghost use Rattle.flux_base.specs.Outside.{AppendsPart, Rose};
+ghost use Rattle.flux_engine.specs.Recordings.{sectors_of as sectors_in};
+ghost use Rattle.flux_engine.specs.Tracks.{numbers, totals_of};
+ghost use Rattle.flux_engine.specs.Writing.{IsSum, Knows};
+ghost use Rattle.sector_images.specs.Places.{IsTrack};
+ghost use Rattle.turn_merge.specs.Book.{StandsFor};
+ghost use Rattle.turn_merge.specs.Readings.{NotedReading, verdict as verdict_over};
+ghost use Rattle.disk_map.specs.Maps.{drawn_part, fields_of};
+
+use crate::layout::Layout;
+use crate::text::write_text;
+use crate::texts::field_text;
+use flux_base::{Failed, Sink, TrackId};
+use flux_engine::{PartFault, TrackWriter, count_verdict, no_totals, sectors_of};
+use sector_images::{Format, tracks_keep_bounds};
+use sector_report::Totals;
+use turn_merge::Book;
+
+/// Writes the fields of a track to the sink of the image, and nothing to that of the notes.
+pub(crate) struct FieldWriter;
+
+impl TrackWriter for FieldWriter {
+    ghost part_of = { λ _. drawn_part };
+
+    fn write_track<W: Sink, N: Sink>(
+        &self,
+        format: Format,
+        track: TrackId,
+        book: &Book,
+        image: &mut W,
+        notes: &mut N,
+    ) -> Result<Totals, PartFault> {
+        match write_fields(format, track, book, image) {
+            Ok(totals) => Ok(totals),
+            Err(_) => Err(PartFault::ImageFault),
+        }
+    }
+}
+
+/// Writes the fields of a track, one for each sector, by the sectors' numbers, each in one piece, and gives the track's totals.
+fn write_fields<P: Sink>(
+    format: Format,
+    track: TrackId,
+    book: &Book,
+    picture: &mut P,
+) -> Result<Totals, Failed>
+    requires track { IsTrack format track }
+    requires knows { Knows (sectors_in format track) book.now }
+    ensures ok { OnOk result ((readings : List NotedReading) → StandsFor book.now readings → Appends (P.written picture.old) (P.written picture.new) (fields_of format track readings)) }
+    ensures counted { IfOk result (λ totals. IsSum totals × (totals.sectors ≤ 100)) }
+    ensures totals { IfOk result (λ totals. (readings : List NotedReading) → StandsFor book.now readings → totals ≡ totals_of (map (verdict_over readings) (numbers (sectors_in format track)))) }
+    ensures err { OnErr result ((readings : List NotedReading) → StandsFor book.now readings → AppendsPart (P.written picture.old) (P.written picture.new) (fields_of format track readings)) }
+    ensures later { P.faults picture.old ≤ P.faults picture.new }
+    ensures cause { OnErr result (Rose (P.faults picture.old) (P.faults picture.new)) }
+{
+    tracks_keep_bounds();
+    let layout = Layout::of_format(format);
+    let sectors = sectors_of(format, track);
+    let mut totals = no_totals();
+    for index in 0..sectors.count {
+        let sector = sectors.first + index;
+        let outcome = book.verdict(sector);
+        match write_text(picture, &field_text(layout, track, sector, &outcome)) {
+            Ok(()) => count_verdict(&mut totals, outcome),
+            Err(failed) => return Err(failed),
+        }
+    }
+    Ok(totals)
+}
