@@ -1,4 +1,5 @@
 mod decoding;
 mod disturbance;
+mod plans;
 mod streams;
 mod writing;

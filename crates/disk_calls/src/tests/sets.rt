@@ -63,8 +63,14 @@ const LINES: &[(Verdict, &str, &str)] = &[
 #[test]
 fn lines_name_the_source(rt: HostRuntime) {
     for (verdict, by_capture, by_clock) in LINES {
-        assert_eq!(rt; named_line(Naming::ByCapture, TRACK, 1, verdict).as_str(), *by_capture);
-        assert_eq!(rt; named_line(Naming::ByClock, TRACK, 1, verdict).as_str(), *by_clock);
+        assert_eq!(rt;
+            named_line(Naming::ByCapture, TRACK, 1, verdict).as_str(),
+            *by_capture
+        );
+        assert_eq!(rt;
+            named_line(Naming::ByClock, TRACK, 1, verdict).as_str(),
+            *by_clock
+        );
     }
     let fault = StreamFault::WrongPosition {
         said: 1,

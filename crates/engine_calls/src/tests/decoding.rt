@@ -125,7 +125,7 @@ const APPLE_PO: Wanted = Wanted {
 };
 
 /// A byte of padding, and a stream of one turn with two transitions that make no sector.
-const PADDED_TURN: &[u8] =
+pub const PADDED_TURN: &[u8] =
     b"\x0D\x0D\x02\x0C\0\0\0\0\0\0\0\0\0\0\0\0\0\x60\x60\x0D\x02\x0C\0\x02\0\0\0\x05\0\0\0\x18\0\0\0\
     \x0D\x03\x08\0\x02\0\0\0\0\0\0\0\x0D\x0D\x0D\x0D";
 
@@ -153,7 +153,7 @@ fn push_ring(bytes: &mut Vec<u8>, ring: &Cells, ticks: u16) -> Result<u32, Memor
 }
 
 /// A stream that turns three times over a ring with cells of so many ticks.
-fn three_turns(alloc: Global, ring: &Cells, ticks: u16) -> Result<Vec<u8>, Memory> {
+pub fn three_turns(alloc: Global, ring: &Cells, ticks: u16) -> Result<Vec<u8>, Memory> {
     let mut bytes = Vec::new(alloc);
     let mut position = 0u32;
     for _ in 0..3 {
