@@ -2,6 +2,7 @@ mod disks;
 mod lines;
 mod objects;
 mod pages;
+mod shelves;
 mod sums;
 mod times;
 mod verdicts;

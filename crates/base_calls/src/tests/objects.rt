@@ -94,5 +94,8 @@ fn a_shelf_gives_the_wanted_files_in_order(rt: HostRuntime) -> Result<(), Fail> 
         assert_eq!(rt; (read, buffer[0]), (Ok(1), cylinder));
     }
     assert_eq!(rt; shelf.read(&mut buffer), Ok(0));
+    assert_eq!(rt; shelf.open_file(b"a", TRACK), Ok(true));
+    assert_eq!(rt; (shelf.read(&mut buffer), buffer[0]), (Ok(1), b'x'));
+    assert_eq!(rt; shelf.read(&mut buffer), Ok(0));
     Ok(())
 }
