@@ -1,2 +1,3 @@
 pub mod LineEnds
 pub mod LineWords
+pub mod DumpWords

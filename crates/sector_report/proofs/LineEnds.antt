@@ -8,10 +8,15 @@ use Rattle.flux_base.specs.declared.track.TrackId.{TrackId}
 use Rattle.turn_merge.specs.declared.verdict.Place.{Place}
 use Rattle.turn_merge.specs.declared.verdict.Verdict.{Verdict}
 use Rattle.turn_merge.specs.declared.verdict.Verdict.TheVariants.{Good, Contradictory, Bad, Missing}
-use Rattle.sector_report.specs.LineLaws.{SectorsHaveOneLine, TotalsHaveOneLine, line_ends}
-use Rattle.sector_report.specs.Lines.{named_text, number_of_clock, place_text, sector_name, source_text, total_text, two_digits, verdict_text}
+use Rattle.kryo_stream.specs.declared.fault.StreamFault.{StreamFault}
+use Rattle.kryo_stream.specs.declared.fault.StreamFault.TheVariants.{Truncated, UnknownType, BadSize, WrongPosition, DeviceFault, DataAfterEnd, IndexPosition, IndexOrder, NoTurn, TooLong}
+use Rattle.sector_report.specs.DumpLines.{DumpsHaveLines, dump_name, no_files_text, passed_text, unread_text}
+use Rattle.sector_report.specs.declared.dump_lines.Passed.{Passed}
+use Rattle.sector_report.specs.declared.dump_lines.Passed.TheVariants.{Absent, Refused}
+use Rattle.sector_report.specs.LineLaws.{IsOneLine, SectorsHaveOneLine, TotalsHaveOneLine, line_ends}
+use Rattle.sector_report.specs.Lines.{fault_text, named_text, number_of_clock, place_text, sector_name, source_text, total_text, two_digits, verdict_text}
 use Rattle.sector_report.specs.declared.naming.Naming.{Naming}
-use Rattle.sector_report.specs.declared.naming.Naming.TheVariants.{ByCapture, ByClock, Unnamed}
+use Rattle.sector_report.specs.declared.naming.Naming.TheVariants.{ByCapture, ByCaptureAndClock, ByClock, Unnamed}
 
 -- the text has no line end
 record HasNone (text : List ℕ) : Type 0 where
@@ -67,6 +72,7 @@ none-source : (naming : Naming) (place : Place) → HasNone (source_text naming 
 none-source Unnamed place = record { none = refl }
 none-source ByCapture place = none-append space (none-decimal place.capture)
 none-source ByClock place = none-append space (none-decimal (number_of_clock place.clock))
+none-source ByCaptureAndClock place = none-append (none-append (none-append space (none-decimal place.capture)) space) (none-decimal (number_of_clock place.clock))
 
 none-place : (naming : Naming) (place : Place) → HasNone (place_text naming place)
 unfolding place_text
@@ -107,4 +113,58 @@ totals_have_one_line totals = record {
       (none-number (codes "total " ++ decimal totals.sectors ++ codes " good " ++ decimal totals.good) (codes " bad ") totals.bad
       (none-number (codes "total " ++ decimal totals.sectors) (codes " good ") totals.good
       (none-append (none-codes (codes "total ") refl) (none-decimal totals.sectors)) refl) refl) refl) refl).none;
+}
+
+none-fault : (fault : StreamFault) → HasNone (fault_text fault)
+unfolding fault_text
+none-fault Truncated = none-codes (codes "Truncated") refl
+none-fault (UnknownType kind) = none-append (none-codes (codes "UnknownType ") refl) (none-decimal kind)
+none-fault (BadSize size) = none-append (none-codes (codes "BadSize ") refl) (none-decimal size)
+none-fault (WrongPosition said counted) =
+    none-append (none-append (none-append (none-codes (codes "WrongPosition ") refl) (none-decimal said)) space) (none-decimal counted)
+none-fault (DeviceFault code) = none-append (none-codes (codes "DeviceFault ") refl) (none-decimal code)
+none-fault DataAfterEnd = none-codes (codes "DataAfterEnd") refl
+none-fault IndexPosition = none-codes (codes "IndexPosition") refl
+none-fault IndexOrder = none-codes (codes "IndexOrder") refl
+none-fault NoTurn = none-codes (codes "NoTurn") refl
+none-fault TooLong = none-codes (codes "TooLong") refl
+
+none-dump : (track : TrackId) (dump : ℕ) → HasNone (dump_name track dump)
+unfolding dump_name
+none-dump track dump =
+    none-append (none-number (two_digits track.cylinder ++ codes "." ++ decimal track.head) (codes " dump ") dump
+    (none-number (two_digits track.cylinder) (codes ".") track.head (none-two track.cylinder) refl) refl) space
+
+passed-line : (track : TrackId) (dump : ℕ) (why : Passed) → IsOneLine (passed_text track dump why)
+unfolding passed_text
+passed-line track dump Absent = record {
+  front = dump_name track dump ++ codes "missing";
+  ends = refl;
+  once = (none-append (none-dump track dump) (none-codes (codes "missing") refl)).none;
+}
+passed-line track dump (Refused block fault) = record {
+  front = dump_name track dump ++ (codes "refused block " ++ decimal block) ++ codes " " ++ fault_text fault;
+  ends = refl;
+  once =
+      (none-append (none-append (none-append (none-dump track dump) (none-append (none-codes (codes "refused block ") refl) (none-decimal block))) space)
+      (none-fault fault)).none;
+}
+
+pub dumps_have_lines : DumpsHaveLines
+unfolding unread_text no_files_text
+dumps_have_lines = record {
+  passed = passed-line;
+  unread = λ streams others whole. record {
+    front = codes "unread " ++ decimal streams ++ codes " other " ++ decimal others ++ codes " whole " ++ decimal whole;
+    ends = refl;
+    once =
+        (none-number (codes "unread " ++ decimal streams ++ codes " other " ++ decimal others) (codes " whole ") whole
+        (none-number (codes "unread " ++ decimal streams) (codes " other ") others
+        (none-append (none-codes (codes "unread ") refl) (none-decimal streams)) refl) refl).none;
+  };
+  no_files = λ dump. record {
+    front = codes "refused dump " ++ decimal dump ++ codes " no track files";
+    ends = refl;
+    once = (none-append (none-append (none-codes (codes "refused dump ") refl) (none-decimal dump)) (none-codes (codes " no track files") refl)).none;
+  };
 }

@@ -20,14 +20,14 @@ use Rattle.sector_report.specs.declared.naming.Naming.TheVariants.{Unnamed}
 use Rattle.sector_report.specs.declared.totals.Totals.{Totals}
 
 -- a blank, a point or a line end
-abbrev is_gap : ℕ → Bool
+abbrev pub is_gap : ℕ → Bool
 is_gap byte = (byte == 32) || ((byte == 46) || (byte == 10))
 
-abbrev words : List ℕ → List (List ℕ)
+abbrev pub words : List ℕ → List (List ℕ)
 words text = slice_split is_gap text
 
 -- the text has no gap
-abbrev IsWord : List ℕ → Type 0
+abbrev pub IsWord : List ℕ → Type 0
 IsWord text = All (λ (byte : ℕ). is_gap byte ≡ false) text
 
 -- the bytes above the point are no gaps
@@ -50,7 +50,7 @@ word-digits (suc k) n acc is =
     let here : IsWord (glyph ∷ acc) = All-cons (λ (byte : ℕ). is_gap byte ≡ false) glyph acc (digit_no_gap (nat_lt (n % 10) 10) (n % 10)) is in
     word-if (n / 10 == 0) (glyph ∷ acc) (digits_onto k 10 false (n / 10) (glyph ∷ acc)) here (word-digits k (n / 10) (glyph ∷ acc) here)
 
-word-decimal : (n : ℕ) → IsWord (decimal n)
+pub word-decimal : (n : ℕ) → IsWord (decimal n)
 unfolding digits
 word-decimal n = word-digits 64 n [] (All-nil (λ (byte : ℕ). is_gap byte ≡ false))
 
@@ -59,18 +59,18 @@ none_step byte rest true is none = absurd (omega (arith, none))
 none_step byte rest false is none = (refl, omega (arith, none))
 
 -- a text that is written out
-word-codes : (text : List ℕ) → count_by is_gap text ≡ 0 → IsWord text
+pub word-codes : (text : List ℕ) → count_by is_gap text ≡ 0 → IsWord text
 word-codes [] none = All-nil (λ (byte : ℕ). is_gap byte ≡ false)
 word-codes (byte ∷ rest) none =
     let step = none_step byte rest (is_gap byte) refl (sym (sum_by-cons (λ (b : ℕ). cond (is_gap b) 1 0) byte rest) ∙ none) in
     All-cons (λ (b : ℕ). is_gap b ≡ false) byte rest step.0 (word-codes rest step.1)
 
-word-two : (n : ℕ) → IsWord (two_digits n)
+pub word-two : (n : ℕ) → IsWord (two_digits n)
 unfolding two_digits
 word-two n = All-append (λ (byte : ℕ). is_gap byte ≡ false) (decimal (n / 10)) (decimal (n % 10)) (word-decimal (n / 10)) (word-decimal (n % 10))
 
 -- a word stands in front of a gap
-next : (word rest : List ℕ) (gap : ℕ) → IsWord word → is_gap gap ≡ true → words (word ++ gap ∷ rest) ≡ word ∷ words rest
+pub next : (word rest : List ℕ) (gap : ℕ) → IsWord word → is_gap gap ≡ true → words (word ++ gap ∷ rest) ≡ word ∷ words rest
 next word rest gap is ends = slice_split_at is_gap word gap rest is ends
 
 -- the words of the parts of a line
@@ -167,7 +167,7 @@ sector_words track sector verdict =
     ∙ ap (λ ws. two_digits track.cylinder ∷ decimal track.head ∷ two_digits sector ∷ ws) (verdict_words-are verdict)
 
 -- the words of two lines that are the same, one by one
-abbrev word_at : List (List ℕ) → ℕ → List ℕ
+abbrev pub word_at : List (List ℕ) → ℕ → List ℕ
 word_at ws n = get_or ws n []
 
 -- two digits determine their number
@@ -194,7 +194,7 @@ last-is : (n : ℕ) → two_digits n ≡ decimal (n / 10) ++ (48 + n % 10) ∷ [
 unfolding two_digits
 last-is n = ap (λ d. decimal (n / 10) ++ d) (decimal_digit (n % 10) (mod-lt n (lit< tt)))
 
-two-same : (m n : ℕ) → m < 2 ^ 64 → n < 2 ^ 64 → two_digits m ≡ two_digits n → m ≡ n
+pub two-same : (m n : ℕ) → m < 2 ^ 64 → n < 2 ^ 64 → two_digits m ≡ two_digits n → m ≡ n
 two-same m n low low' same =
     let both = sym (last-is m) ∙ same ∙ last-is n in
     let ends : (48 + m % 10 ≡ 48 + n % 10) × (decimal (m / 10) ≡ decimal (n / 10)) =

@@ -11,7 +11,7 @@ use Rattle.turn_merge.specs.declared.verdict.Place.{Place}
 use Rattle.turn_merge.specs.declared.verdict.Verdict.{Verdict}
 use Rattle.turn_merge.specs.declared.verdict.Verdict.TheVariants.{Good, Contradictory, Bad, Missing}
 use Rattle.sector_report.specs.declared.naming.Naming.{Naming}
-use Rattle.sector_report.specs.declared.naming.Naming.TheVariants.{ByCapture, ByClock, Unnamed}
+use Rattle.sector_report.specs.declared.naming.Naming.TheVariants.{ByCapture, ByCaptureAndClock, ByClock, Unnamed}
 use Rattle.sector_report.specs.declared.totals.Totals.{Totals}
 
 unfoldable pub usage_text : List ℕ
@@ -69,6 +69,7 @@ abbrev pub source_text : Naming → Place → List ℕ
 source_text Unnamed place = []
 source_text ByCapture place = codes " " ++ decimal place.capture
 source_text ByClock place = codes " " ++ decimal (number_of_clock place.clock)
+source_text ByCaptureAndClock place = codes " " ++ decimal place.capture ++ codes " " ++ decimal (number_of_clock place.clock)
 
 -- what is named of the source, a turn and a cell
 unfoldable pub place_text : Naming → Place → List ℕ

@@ -1,6 +1,7 @@
 //! The lines that the program prints: each ends with one byte 0A, and its numbers are decimal.
 #![tactic(auto)]
 
+mod dump_lines;
 mod laws;
 mod line;
 mod naming;
@@ -11,7 +12,8 @@ mod totals;
 mod trial_lines;
 mod usage;
 
-pub use laws::{sector_lines_tell, sectors_have_one_line, totals_have_one_line};
+pub use dump_lines::{Passed, no_files_line, passed_line, unread_line};
+pub use laws::{dumps_have_lines, sector_lines_tell, sectors_have_one_line, totals_have_one_line};
 pub use line::{Line, put, put_named, put_u32, write_line};
 pub use naming::Naming;
 pub use refused::{image_line, put_fault, refused_capture_line, refused_line};

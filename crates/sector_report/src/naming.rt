@@ -7,4 +7,6 @@ pub enum Naming {
     ByCapture,
     /// The number of the clock: 0 is the one that follows the drive, 1 the held one.
     ByClock,
+    /// Both, the capture first.
+    ByCaptureAndClock,
 }

@@ -76,9 +76,9 @@ pub fn put_two_digits(line: &mut Line, number: u8)
 /// Appends a verdict's name and numbers.
 #[tactic(auto, unfolding(crate::specs::Lines::verdict_text))]
 fn put_verdict(line: &mut Line, naming: Naming, verdict: &Verdict)
-    requires { array_string_len line.old + 127 ≤ 192 }
+    requires { array_string_len line.old + 135 ≤ 192 }
     ensures bytes { line.new.bytes ≡ line.old.bytes ++ verdict_text naming verdict.now }
-    ensures len { array_string_len line.new ≤ array_string_len line.old + 127 }
+    ensures len { array_string_len line.new ≤ array_string_len line.old + 135 }
 {
     match *verdict {
         Verdict::Good { good, bad, first } => {
@@ -119,9 +119,9 @@ fn put_counts(line: &mut Line, name: &str, good: u64, bad: u64)
 /// Appends what is named of a place's source, and its turn and cell.
 #[tactic(auto, unfolding(crate::specs::Lines::place_text))]
 fn put_place(line: &mut Line, naming: Naming, place: Place)
-    requires { array_string_len line.old + 36 ≤ 192 }
+    requires { array_string_len line.old + 40 ≤ 192 }
     ensures bytes { line.new.bytes ≡ line.old.bytes ++ place_text naming place }
-    ensures len { array_string_len line.new ≤ array_string_len line.old + 36 }
+    ensures len { array_string_len line.new ≤ array_string_len line.old + 40 }
 {
     put_source(line, naming, place);
     put_named(line, " ", place.turn);
@@ -131,21 +131,29 @@ fn put_place(line: &mut Line, naming: Naming, place: Place)
 
 /// Appends the number of a place's source that is named, with a blank before it.
 fn put_source(line: &mut Line, naming: Naming, place: Place)
-    requires { array_string_len line.old + 4 ≤ 192 }
+    requires { array_string_len line.old + 8 ≤ 192 }
     ensures bytes { line.new.bytes ≡ line.old.bytes ++ source_text naming place }
-    ensures len { array_string_len line.new ≤ array_string_len line.old + 4 }
+    ensures len { array_string_len line.new ≤ array_string_len line.old + 8 }
 {
     match naming {
         Naming::Unnamed => {}
-        Naming::ByCapture => {
-            put(line, " ");
-            put_u8(line, place.capture);
-        }
-        Naming::ByClock => {
-            put(line, " ");
-            put_u8(line, clock_number(place.clock));
+        Naming::ByCapture => put_number(line, place.capture),
+        Naming::ByClock => put_number(line, clock_number(place.clock)),
+        Naming::ByCaptureAndClock => {
+            put_number(line, place.capture);
+            put_number(line, clock_number(place.clock));
         }
     }
+}
+
+/// Appends a number with a blank before it.
+fn put_number(line: &mut Line, number: u8)
+    requires { array_string_len line.old + 4 ≤ 192 }
+    ensures bytes { line.new.bytes ≡ line.old.bytes ++ codes " " ++ decimal number }
+    ensures len { array_string_len line.new ≤ array_string_len line.old + 4 }
+{
+    put(line, " ");
+    put_u8(line, number);
 }
 
 /// The number by which a clock is named.

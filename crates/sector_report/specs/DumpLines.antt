@@ -1,0 +1,58 @@
+-- The lines of a disk that is read of several dumps, beside those of its sectors.
+use Rattle.std.specs.Prelude.{◌≡◌, ◌<◌, ◌^◌, ℕ, List, ◌++◌, codes, decimal}
+use Rattle.flux_base.specs.declared.track.TrackId.{TrackId}
+use Rattle.kryo_stream.specs.declared.fault.StreamFault.{StreamFault}
+use Rattle.kryo_stream.specs.declared.fault.StreamFault.TheVariants.{UnknownType, BadSize, WrongPosition, DeviceFault}
+use Rattle.sector_report.specs.LineLaws.{IsOneLine}
+use Rattle.sector_report.specs.Lines.{fault_text, two_digits}
+use Rattle.sector_report.specs.declared.dump_lines.Passed.{Passed}
+use Rattle.sector_report.specs.declared.dump_lines.Passed.TheVariants.{Absent, Refused}
+
+-- a track, and a dump of it
+unfoldable pub dump_name : TrackId → (dump : ℕ) → List ℕ
+dump_name track dump = two_digits track.cylinder ++ codes "." ++ decimal track.head ++ codes " dump " ++ decimal dump ++ codes " "
+
+-- that a stream was passed over, and why
+unfoldable pub passed_text : TrackId → (dump : ℕ) → Passed → List ℕ
+passed_text track dump Absent = dump_name track dump ++ codes "missing" ++ codes "\n"
+passed_text track dump (Refused block fault) =
+    dump_name track dump ++ (codes "refused block " ++ decimal block) ++ codes " " ++ fault_text fault ++ codes "\n"
+
+-- how many streams were passed over, how many names of other headers were told, and how many of these have whole data
+unfoldable pub unread_text : (unread others whole : ℕ) → List ℕ
+unread_text unread others whole = codes "unread " ++ decimal unread ++ codes " other " ++ decimal others ++ codes " whole " ++ decimal whole ++ codes "\n"
+
+-- that a dump has no file of any track
+unfoldable pub no_files_text : (dump : ℕ) → List ℕ
+no_files_text dump = codes "refused dump " ++ decimal dump ++ codes " no track files" ++ codes "\n"
+
+-- each of these is one line
+pub record DumpsHaveLines : Type 0 where
+  pub passed : (track : TrackId) (dump : ℕ) (why : Passed) → IsOneLine (passed_text track dump why)
+  pub unread : (streams others whole : ℕ) → IsOneLine (unread_text streams others whole)
+  pub no_files : (dump : ℕ) → IsOneLine (no_files_text dump)
+
+-- the numbers of a fault, and of a stream that is refused, fit in 64 bits
+abbrev pub FaultFits : StreamFault → Type 0
+FaultFits (UnknownType kind) = kind < 2 ^ 64
+FaultFits (BadSize size) = size < 2 ^ 64
+FaultFits (WrongPosition said counted) = (said < 2 ^ 64) × (counted < 2 ^ 64)
+FaultFits (DeviceFault code) = code < 2 ^ 64
+FaultFits fault = Unit {0}
+
+abbrev pub PassedFits : Passed → Type 0
+PassedFits Absent = Unit {0}
+PassedFits (Refused block fault) = (block < 2 ^ 64) × FaultFits fault
+
+-- all numbers of a line of a stream that was passed over do
+pub record PassedLineFits (track : TrackId) (dump : ℕ) (why : Passed) : Type 0 where
+  pub cylinder_fits : track.cylinder < 2 ^ 64
+  pub head_fits : track.head < 2 ^ 64
+  pub dump_fits : dump < 2 ^ 64
+  pub why_fits : PassedFits why
+
+-- such a line tells its track, its dump and the reason: no two have the same line
+abbrev pub PassedLinesTell : Type 0
+PassedLinesTell = (track track' : TrackId) (dump dump' : ℕ) (why why' : Passed)
+    → PassedLineFits track dump why → PassedLineFits track' dump' why' → passed_text track dump why ≡ passed_text track' dump' why'
+    → (track ≡ track') × (dump ≡ dump') × (why ≡ why')

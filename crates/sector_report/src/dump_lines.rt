@@ -1,0 +1,86 @@
+//! The lines of a disk that is read of several dumps, beside those of its sectors. Dumps are numbered from 0.
+
+ghost use Rattle.std.specs.Prelude.{◌≡◌, ◌+◌, ◌≤◌, ◌<◌, ◌++◌};
+ghost use Rattle.arrayvec.specs.ArrayString.{array_string_len};
+ghost use Rattle.sector_report.specs.DumpLines.{dump_name, no_files_text, passed_text, unread_text};
+
+use crate::line::{Line, put, put_named, put_u8, put_u32};
+use crate::refused::put_fault;
+use crate::sector_lines::put_two_digits;
+use flux_base::TrackId;
+use kryo_stream::StreamFault;
+
+/// Why a dump's stream of a track was passed over.
+#[derive(Clone, Copy, Debug, PartialEq, Eq)]
+pub enum Passed {
+    /// The dump has no file of the track.
+    Absent,
+    /// The stream is refused.
+    Refused {
+        /// The block's number from 0 in the stream.
+        block: u32,
+        fault: StreamFault,
+    },
+}
+
+/// That a dump's stream of a track was passed over, and why: `CC.H dump D missing`, or `CC.H dump D refused block B` and the
+/// fault with its numbers. The cylinder is below 100.
+#[tactic(auto, unfolding(crate::specs::DumpLines::passed_text))]
+pub fn passed_line(track: TrackId, dump: u8, passed: &Passed) -> Line
+    requires { track.cylinder < 100 }
+    ensures { result.bytes ≡ passed_text track dump passed.now }
+{
+    let mut line = Line::new();
+    put_dump(&mut line, track, dump);
+    match *passed {
+        Passed::Absent => put(&mut line, "missing"),
+        Passed::Refused { block, fault } => {
+            put_named(&mut line, "refused block ", block);
+            put(&mut line, " ");
+            put_fault(&mut line, &fault);
+        }
+    }
+    put(&mut line, "\n");
+    line
+}
+
+/// How many streams were passed over, how many names of other headers were told, and after how many of them whole data
+/// stand.
+#[tactic(auto, unfolding(crate::specs::DumpLines::unread_text))]
+pub fn unread_line(unread: u32, others: u32, whole: u32) -> Line
+    ensures { result.bytes ≡ unread_text unread others whole }
+{
+    let mut line = Line::new();
+    put_named(&mut line, "unread ", unread);
+    put_named(&mut line, " other ", others);
+    put_named(&mut line, " whole ", whole);
+    put(&mut line, "\n");
+    line
+}
+
+/// That a dump has the file of none of the tracks.
+#[tactic(auto, unfolding(crate::specs::DumpLines::no_files_text))]
+pub fn no_files_line(dump: u8) -> Line
+    ensures { result.bytes ≡ no_files_text dump }
+{
+    let mut line = Line::new();
+    put(&mut line, "refused dump ");
+    put_u8(&mut line, dump);
+    put(&mut line, " no track files\n");
+    line
+}
+
+/// Appends `CC.H dump D `.
+#[tactic(auto, unfolding(crate::specs::DumpLines::dump_name))]
+fn put_dump(line: &mut Line, track: TrackId, dump: u8)
+    requires { array_string_len line.old + 60 ≤ 192 }
+    ensures bytes { line.new.bytes ≡ line.old.bytes ++ dump_name track dump }
+    ensures len { array_string_len line.new ≤ array_string_len line.old + 60 }
+{
+    put_two_digits(line, track.cylinder);
+    put(line, ".");
+    put_u32(line, u32::from(track.head));
+    put(line, " dump ");
+    put_u8(line, dump);
+    put(line, " ");
+}
