@@ -5,6 +5,8 @@ use Rattle.std.specs.Int.{to_be_bytes, w32}
 use Rattle.flux_base.specs.declared.track.TrackId.{TrackId}
 use Rattle.check_values.specs.Sums.{data_xor}
 use Rattle.frame_law.specs.Frames.{DataStand, HeaderStands as Header, SectorStands as Sector}
+use Rattle.frame_law.specs.declared.header_name.HeaderName.{HeaderName}
+use Rattle.frame_law.specs.declared.header_name.HeaderName.TheVariants.{Address, TrackSector}
 use Rattle.mfm_coding.specs.Coding.{SYNC_MARK}
 use Rattle.amiga_mfm.specs.Longs.{HALF_CELLS, bytes_at, long_at, raw_longs}
 
@@ -59,11 +61,20 @@ HEADER_CELLS = 480
 abbrev pub DATA_CELLS : ℕ
 DATA_CELLS = 8192
 
--- A header names a sector: the bytes of the info are FF, this track, this sector, and the number of sectors to the gap, which is
--- not looked at; and the check value is that of the halves of info and label.
-pub record NamesSector (track : TrackId) (cells : List Bool) (sector : ℕ) : Type 0 where
-  pub info : take 3 (to_be_bytes w32 (long_at cells INFO HALF_CELLS)) ≡ FORMAT_BYTE ∷ track_number track ∷ sector ∷ []
+-- A header names the numbers of a track and a sector: the bytes of the info are FF, these two, and the number of sectors to the gap,
+-- which is not looked at; and the check value is that of the halves of info and label.
+pub record NamesNumbers (track : ℕ) (cells : List Bool) (sector : ℕ) : Type 0 where
+  pub info : take 3 (to_be_bytes w32 (long_at cells INFO HALF_CELLS)) ≡ FORMAT_BYTE ∷ track ∷ sector ∷ []
   pub check : long_at cells HEADER_CHECK HALF_CELLS ≡ data_xor (raw_longs cells INFO HEADER_HALVES)
+
+-- it has a name
+abbrev pub Names : List Bool → HeaderName → Type 0
+Names cells (TrackSector track sector) = NamesNumbers track cells sector
+Names cells (Address cylinder head sector size) = ⊥
+
+-- it names a sector of this track
+abbrev pub NamesSector : TrackId → List Bool → ℕ → Type 0
+NamesSector track cells sector = NamesNumbers (track_number track) cells sector
 
 -- the data have no sync: they begin where the header ends
 abbrev pub IsDataPlace : List Bool → ℕ → Type 0

@@ -1,17 +1,18 @@
 ghost use Rattle.std.specs.Prelude.{◌≡◌, ℕ, ◌+◌, [], true, refl};
-ghost use Rattle.std.proofs.Common.{lit<, lit≤, sym, ◌∙◌};
+ghost use Rattle.std.proofs.Common.{inl, inr, lit<, lit≤, sym, ◌∙◌};
+ghost use Rattle.frame_law.specs.declared.header_name.HeaderName.TheVariants.{TrackSector};
 ghost use Rattle.mfm_coding.specs.lemmas.CodingLaws.{length-coded};
 ghost use Rattle.mfm_coding.specs.lemmas.SymbolRows.{rows-end, symbols-follow};
 ghost use Rattle.frame_law.specs.lemmas.OwnFrames.{fixed_ends};
 ghost use Rattle.amiga_mfm.specs.lemmas.FrameLaws.{frame_stands};
 ghost use Rattle.amiga_mfm.specs.Layout.{row_cells, row_size, row_symbols, rows};
 ghost use Rattle.amiga_mfm.specs.lemmas.OwnLaws.{tells};
-ghost use Rattle.amiga_mfm.specs.lemmas.RowLaws.{bytes_held, one_name, sizes, sums, symbols_sized};
-ghost use Rattle.amiga_mfm.specs.Sectors.{Hold, IsDataPlace, IsAmigaTrack, NamesSector};
+ghost use Rattle.amiga_mfm.specs.lemmas.RowLaws.{bytes_held, named_sector, one_name, sizes, sums, symbols_sized};
+ghost use Rattle.amiga_mfm.specs.Sectors.{Hold, IsDataPlace, IsAmigaTrack, Names, NamesSector, track_number as number_of_track};
 ghost use Rattle.amiga_mfm.specs.lemmas.Syncs.{own_syncs};
 
 use crate::data_field::read_content;
-use crate::header::named_sector;
+use crate::header::{header_name, track_number};
 use crate::layout::{
     CONTENT_CELLS, FIRST_SECTOR, HEADER_CELLS, LEAD_OUT, RING_CELLS, Row, SECTOR, SECTOR_SIZE,
     SECTORS, SYNC, SYNC_CELLS,
@@ -19,7 +20,7 @@ use crate::layout::{
 use crate::rows::push_row;
 use cell_bits::Cells;
 use flux_base::{Memory, TrackId};
-use frame_law::{CellsFrom, Layout, SectorBuffer};
+use frame_law::{CellsFrom, HeaderName, Layout, SectorBuffer};
 
 /// The recording of Amiga disks (Amiga trackdisk, double density). Its tracks are the cylinders 0 to 79 with
 /// the heads 0 and 1, its sectors are numbered 0 to 10.
@@ -58,6 +59,10 @@ impl Layout for AmigaMfm {
     ghost track_cells = { λ r track. 100000 };
 
     ghost names_sector = { λ r track cells s. NamesSector track cells s };
+
+    ghost names = { λ r cells name. Names cells name };
+
+    ghost name_of = { λ r track s. TrackSector (number_of_track track) s };
 
     ghost is_sync = { λ r cells place. IsDataPlace cells place };
 
@@ -124,8 +129,12 @@ impl Layout for AmigaMfm {
         frame.end_within(HEADER_CELLS)
     }
 
-    fn read_header(&self, frame: &CellsFrom, track: TrackId) -> Option<u8> {
-        named_sector(frame, track)
+    fn read_name(&self, frame: &CellsFrom) -> Option<HeaderName> {
+        header_name(frame)
+    }
+
+    fn sector_named(&self, track: TrackId, name: HeaderName) -> Option<u8> {
+        name.sector_of_track(track_number(track))
     }
 
     fn next_sync(&self, _frame: &CellsFrom, from: usize, to: usize) -> Option<usize> {
@@ -161,7 +170,9 @@ impl Layout for AmigaMfm {
 
     ghost ends = { λ r track before known. rows-end (row_symbols track) before 0 [] rows.lead_out };
 
-    ghost one_name = { λ r track cells s t first second. one_name track cells s t first second };
+    ghost named_sector = { λ r track. named_sector track };
+
+    ghost one_name = { λ r cells n m first second. one_name cells n m first second };
 
     ghost one_content = { λ r cells place xs ys first second. sym first.content ∙ second.content };
 
@@ -175,7 +186,11 @@ impl Layout for AmigaMfm {
 
     ghost tells_ends = { λ r. fixed_ends 480 8192 (lit≤ tt) (lit≤ tt) };
 
-    ghost tells = { λ r track. tells track };
+    ghost tells = { λ r. tells };
 
     ghost own_syncs = { λ r track known. own_syncs track };
+
+    ghost header_syncs = { λ r. inr (λ cells sync is. is) };
+
+    ghost own_data = { λ r track known. inl (λ cells sync is. is) };
 }

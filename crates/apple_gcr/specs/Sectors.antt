@@ -3,6 +3,8 @@ use Rattle.std.specs.Prelude.{◌≡◌, ℕ, ◌+◌, ◌<◌, Bool, List, [], 
 use Rattle.flux_base.specs.declared.track.TrackId.{TrackId}
 use Rattle.check_values.specs.Sums.{xor}
 use Rattle.frame_law.specs.Frames.{DataStand, HeaderStands as Header, SectorStands as Sector}
+use Rattle.frame_law.specs.declared.header_name.HeaderName.{HeaderName}
+use Rattle.frame_law.specs.declared.header_name.HeaderName.TheVariants.{Address, TrackSector}
 use Rattle.apple_gcr.specs.DiskBytes.{byte_place, byte_read, bytes_end}
 use Rattle.apple_gcr.specs.FourAndFour.{AreHalves}
 use Rattle.apple_gcr.specs.SixAndTwo.{AreCoded, Carries, NIBBLES}
@@ -26,22 +28,31 @@ SECTOR_SIZE = 256
 abbrev pub check_of : ℕ → ℕ → ℕ → ℕ
 check_of volume cylinder sector = xor (volume ∷ cylinder ∷ sector ∷ [])
 
--- an address, which is eight disk bytes: any volume, this track, this sector, and their check value, each in 4-and-4
-pub record IsAddress (track : TrackId) (read : ℕ → ℕ) (sector : ℕ) : Type 0 where
+-- an address, which is eight disk bytes: any volume, the track of this number, this sector, and their check value, each in 4-and-4
+pub record IsAddress (track : ℕ) (read : ℕ → ℕ) (sector : ℕ) : Type 0 where
   pub volume : ℕ
   pub has_volume : AreHalves (read 0) (read 1) volume
-  pub has_track : AreHalves (read 2) (read 3) track.cylinder
+  pub has_track : AreHalves (read 2) (read 3) track
   pub has_sector : AreHalves (read 4) (read 5) sector
-  pub has_check : AreHalves (read 6) (read 7) (check_of volume track.cylinder sector)
+  pub has_check : AreHalves (read 6) (read 7) (check_of volume track sector)
+
+-- that of this name
+abbrev pub IsAddressOf : (ℕ → ℕ) → HeaderName → Type 0
+IsAddressOf read (TrackSector track sector) = IsAddress track read sector
+IsAddressOf read (Address cylinder head sector size) = ⊥
 
 abbrev pub ADDRESS_BYTES : ℕ
 ADDRESS_BYTES = 8
 
 -- In all that follows `passed` is how many zeros before a byte are passed over at most.
 
--- a header names a sector: the bytes that are read after its mark are the sector's address
+-- a header has a name: the bytes that are read after its mark are the address of this name
+abbrev pub Names : (passed : ℕ) → List Bool → HeaderName → Type 0
+Names passed cells name = IsAddressOf (byte_read passed cells MARK_CELLS) name
+
+-- it names a sector of this track
 abbrev pub NamesSector : (passed : ℕ) → TrackId → List Bool → ℕ → Type 0
-NamesSector passed track cells sector = IsAddress track (byte_read passed cells MARK_CELLS) sector
+NamesSector passed track cells sector = IsAddress track.cylinder (byte_read passed cells MARK_CELLS) sector
 
 -- it ends after them
 abbrev pub header_end : (passed : ℕ) → List Bool → ℕ

@@ -1,5 +1,6 @@
 -- What follows from the definitions: nobody has to believe it.
 pub mod ByteLaws
+pub mod DataSyncs
 pub mod HalfLaws
 pub mod FrameLaws
 pub mod RowLaws

@@ -1,6 +1,7 @@
 ghost use Rattle.std.specs.Prelude.{◌≡◌, ℕ, ◌<◌, ◌≤◌, get_or, length, IfNone, IfSome};
 ghost use Rattle.apple_gcr.specs.DiskBytes.{byte_read, zeros_passed};
-ghost use Rattle.apple_gcr.specs.Sectors.{IsAddress, NamesSector, header_end};
+ghost use Rattle.apple_gcr.specs.Sectors.{IsAddressOf, Names, header_end};
+ghost use Rattle.frame_law.specs.declared.header_name.HeaderName.{HeaderName};
 
 use crate::disk_bytes::{ByteRule, byte_place, bytes_end};
 use crate::four_and_four::byte_of;
@@ -8,8 +9,7 @@ use crate::layout::{ADDRESS_BYTES, ADDRESS_PLACE};
 use apple_nibbles::{BYTE_CELLS, disk_byte_at};
 use arrayvec::ArrayVec;
 use check_values::xor_bytes;
-use flux_base::TrackId;
-use frame_law::CellsFrom;
+use frame_law::{CellsFrom, HeaderName};
 
 /// The bytes of a header after its mark.
 type Address = ArrayVec<u8, 8>;
@@ -22,14 +22,15 @@ pub(crate) fn header_end(rule: ByteRule, frame: &CellsFrom) -> Option<usize>
     bytes_end(rule, frame, ADDRESS_PLACE, ADDRESS_BYTES)
 }
 
-/// The sector of this track that the header at the front of the cells, which is whole, names.
-pub(crate) fn named_sector(rule: ByteRule, frame: &CellsFrom, track: TrackId) -> Option<u8>
+/// What the header at the front of the cells, which is whole, names. None where it is none, or its check value is
+/// another.
+pub(crate) fn header_name(rule: ByteRule, frame: &CellsFrom) -> Option<HeaderName>
     requires { header_end (zeros_passed rule) frame.now ≤ length frame.now }
-    ensures named { IfSome result (λ s. NamesSector (zeros_passed rule) track frame.now s) }
-    ensures none { IfNone result ((s : ℕ) → ¬ NamesSector (zeros_passed rule) track frame.now s) }
+    ensures named { IfSome result (λ name. Names (zeros_passed rule) frame.now name) }
+    ensures none { IfNone result ((name : HeaderName) → ¬ Names (zeros_passed rule) frame.now name) }
 {
     let address = address_bytes(rule, frame);
-    sector_of(&address, track)
+    name_of(&address)
 }
 
 /// The bytes that are read after the header's mark.
@@ -48,21 +49,18 @@ fn address_bytes(rule: ByteRule, frame: &CellsFrom) -> Address
     address
 }
 
-/// The sector of this track whose address the eight bytes are.
-fn sector_of(address: &[u8], track: TrackId) -> Option<u8>
+/// The name whose address the eight bytes are.
+fn name_of(address: &[u8]) -> Option<HeaderName>
     requires { length address.now ≡ 8 }
-    ensures named { IfSome result (λ s. IsAddress track (λ k. get_or address.now k 0) s) }
-    ensures none { IfNone result ((s : ℕ) → ¬ IsAddress track (λ k. get_or address.now k 0) s) }
+    ensures named { IfSome result (λ name. IsAddressOf (λ k. get_or address.now k 0) name) }
+    ensures none { IfNone result ((name : HeaderName) → ¬ IsAddressOf (λ k. get_or address.now k 0) name) }
 {
     let volume = byte_of(address[0], address[1])?;
-    let cylinder = byte_of(address[2], address[3])?;
+    let track = byte_of(address[2], address[3])?;
     let sector = byte_of(address[4], address[5])?;
     let check = byte_of(address[6], address[7])?;
-    if cylinder != track.cylinder {
+    if check != xor_bytes(&[volume, track, sector]) {
         return None;
     }
-    if check != xor_bytes(&[volume, cylinder, sector]) {
-        return None;
-    }
-    Some(sector)
+    Some(HeaderName::TrackSector { track, sector })
 }

@@ -1,18 +1,21 @@
 ghost use Rattle.std.specs.Prelude.{◌≡◌, ℕ, ◌+◌, false, refl};
-ghost use Rattle.std.proofs.Common.{lit≤};
+ghost use Rattle.std.proofs.Common.{inl, inr, lit≤};
+ghost use Rattle.frame_law.specs.declared.header_name.HeaderName.TheVariants.{TrackSector};
+ghost use Rattle.apple_gcr.specs.lemmas.DataSyncs.{own_data};
 ghost use Rattle.apple_gcr.specs.lemmas.FrameLaws.{frame_ends, frame_stands};
 ghost use Rattle.apple_gcr.specs.Layout.{row_cells, row_size, rows};
 ghost use Rattle.apple_gcr.specs.lemmas.RowLaws.{row_follows, row_length};
 ghost use Rattle.apple_gcr.specs.DiskBytes.{zeros_passed};
-ghost use Rattle.apple_gcr.specs.Sectors.{Hold, IsAppleTrack, NamesSector, data_end, header_end};
+ghost use Rattle.apple_gcr.specs.Sectors.{Hold, IsAppleTrack, Names, NamesSector, data_end, header_end};
 ghost use Rattle.apple_nibbles.specs.Marks.{IsSync};
 ghost use Rattle.apple_gcr.specs.lemmas.ByteLaws.{zeros-few};
-ghost use Rattle.apple_gcr.specs.lemmas.StandLaws.{one_content, one_name, sizes, sums, tells, tells_ends, within_reach};
+ghost use Rattle.apple_gcr.specs.lemmas.StandLaws.{named_sector, one_content, one_name, sizes, sums, tells, tells_ends, within_reach};
 ghost use Rattle.apple_gcr.specs.lemmas.Syncs.{own_syncs};
+ghost use Rattle.apple_nibbles.specs.lemmas.FieldSyncs.{mark_syncs};
 
 use crate::data_field::{data_end, read_field};
 use crate::disk_bytes::ByteRule;
-use crate::header::{header_end, named_sector};
+use crate::header::{header_end, header_name};
 use crate::layout::{
     FIRST_SECTOR, LEAD_IN, LEAD_OUT, RING_CELLS, Row, SECTOR, SECTOR_SIZE, SECTORS,
 };
@@ -20,7 +23,7 @@ use crate::rows::push_row;
 use apple_nibbles::{ADDRESS_MARK, MARK_CELLS, next_sync};
 use cell_bits::Cells;
 use flux_base::{Memory, TrackId};
-use frame_law::{CellsFrom, Layout, SectorBuffer};
+use frame_law::{CellsFrom, HeaderName, Layout, SectorBuffer};
 
 /// The recording of Apple DOS 3.3 and ProDOS disks. Its tracks are the cylinders 0 to 34 with head 0. Its sectors
 /// are numbered 0 to 15 as their headers name them, which is the order in which they pass.
@@ -73,6 +76,10 @@ impl Layout for AppleGcr {
     ghost track_cells = { λ r track. 49994 };
 
     ghost names_sector = { λ r track cells s. NamesSector (zeros_passed r.rule) track cells s };
+
+    ghost names = { λ r cells name. Names (zeros_passed r.rule) cells name };
+
+    ghost name_of = { λ r track s. TrackSector track.cylinder s };
 
     ghost is_sync = { λ r cells place. IsSync cells place };
 
@@ -139,8 +146,12 @@ impl Layout for AppleGcr {
         header_end(self.rule, frame)
     }
 
-    fn read_header(&self, frame: &CellsFrom, track: TrackId) -> Option<u8> {
-        named_sector(self.rule, frame, track)
+    fn read_name(&self, frame: &CellsFrom) -> Option<HeaderName> {
+        header_name(self.rule, frame)
+    }
+
+    fn sector_named(&self, track: TrackId, name: HeaderName) -> Option<u8> {
+        name.sector_of_track(track.cylinder)
     }
 
     fn next_sync(&self, frame: &CellsFrom, from: usize, to: usize) -> Option<usize> {
@@ -170,8 +181,9 @@ impl Layout for AppleGcr {
 
     ghost ends = { λ r track before known. refl };
 
-    ghost one_name = { λ r track cells s t first second.
-        one_name (zeros_passed r.rule) track cells s t first second };
+    ghost named_sector = { λ r track. named_sector (zeros_passed r.rule) track };
+
+    ghost one_name = { λ r cells n m first second. one_name (zeros_passed r.rule) cells n m first second };
 
     ghost one_content = { λ r cells sync xs ys first second.
         one_content (zeros_passed r.rule) cells sync xs ys first second };
@@ -186,7 +198,11 @@ impl Layout for AppleGcr {
 
     ghost tells_ends = { λ r. tells_ends (zeros_passed r.rule) (zeros-few r.rule) };
 
-    ghost tells = { λ r track. tells (zeros_passed r.rule) (zeros-few r.rule) track };
+    ghost tells = { λ r. tells (zeros_passed r.rule) (zeros-few r.rule) };
 
     ghost own_syncs = { λ r track known. own_syncs (zeros_passed r.rule) track known };
+
+    ghost header_syncs = { λ r. inl (λ cells place name stands named. mark_syncs cells place stands) };
+
+    ghost own_data = { λ r track known. inr (own_data (zeros_passed r.rule) (zeros-few r.rule) track known) };
 }

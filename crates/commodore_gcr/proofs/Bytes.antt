@@ -2,10 +2,11 @@
 use Rattle.std.proofs.Common.{◌≡◌, ℕ, zero, suc, ◌+◌, ◌<◌, ◌≤◌, Bool, List, [], ◌∷◌, length, arith, Option, Some, None, IfSome, IfNone, ap, sym, ◌∙◌}
 use Rattle.cell_bits.specs.Word.{word, word_cells}
 use Rattle.frame_law.specs.lemmas.WordRowLaws.{word_cells-word}
-use Rattle.flux_base.specs.declared.track.TrackId.{TrackId}
 use Rattle.commodore_gcr.specs.Coding.{ByteAt, BytesAt, gcr}
 use Rattle.commodore_gcr.specs.lemmas.CodingLaws.{one_list_at}
-use Rattle.commodore_gcr.specs.Sectors.{NamesSector, header_bytes}
+use Rattle.commodore_gcr.specs.Sectors.{Names, numbered_bytes}
+use Rattle.frame_law.specs.declared.header_name.HeaderName.{HeaderName}
+use Rattle.frame_law.specs.declared.header_name.HeaderName.TheVariants.{Address, TrackSector}
 
 pub byte_at-some : (cells : List Bool) (place number : ℕ) (result : Option ℕ) → place + 10 ≤ length cells → number ≡ word cells place 10
     → IfSome result (λ byte. byte < 256) → IfSome result (λ byte. gcr byte ≡ word_cells 10 number)
@@ -36,11 +37,18 @@ six_bytes cells first second third fourth fifth sixth a b c d e f = at
     at (suc (suc (suc (suc (suc zero))))) within = f
     at (suc (suc (suc (suc (suc (suc k)))))) within = absurd (omega arith)
 
--- they are those of the sector that the header names
-pub header_is : (track : TrackId) (cells : List Bool) (header : List ℕ) (sector : ℕ) → length header ≡ 6 → BytesAt cells 10 header
-    → (names : NamesSector track cells sector) → header ≡ header_bytes names.id1 names.id2 track sector
-header_is track cells header sector size bytes names =
-    one_list_at cells 10 header (header_bytes names.id1 names.id2 track sector) size bytes names.bytes
+-- a header that has a name has six bytes
+pub named_bytes : (cells : List Bool) (name : HeaderName) → Names cells name
+    → (id1 id2 track sector : ℕ) × BytesAt cells 10 (numbered_bytes id1 id2 track sector)
+named_bytes cells (TrackSector track sector) names = (names.id1, names.id2, track, sector, names.bytes)
+named_bytes cells (Address cylinder head sector size) names = absurd names
+
+-- which are these
+pub header_is : (cells : List Bool) (header : List ℕ) (name : HeaderName) → length header ≡ 6 → BytesAt cells 10 header
+    → Names cells name → (id1 id2 track sector : ℕ) × (header ≡ numbered_bytes id1 id2 track sector)
+header_is cells header name size bytes names =
+    let there = named_bytes cells name names in
+    (there.0, there.1, there.2, there.3, one_list_at cells 10 header (numbered_bytes there.0 there.1 there.2 there.3) size bytes there.4)
 
 -- what holds whether or not there is a value
 pub in_any_case : {X P : Type 0} (found : Option X) → P → IfNone found P

@@ -4,6 +4,8 @@ use Rattle.flux_base.specs.declared.track.TrackId.{TrackId}
 use Rattle.cell_bits.specs.Word.{Stands}
 use Rattle.check_values.specs.Sums.{xor}
 use Rattle.frame_law.specs.Frames.{DataStand, HeaderStands as Header, SectorStands as Sector}
+use Rattle.frame_law.specs.declared.header_name.HeaderName.{HeaderName}
+use Rattle.frame_law.specs.declared.header_name.HeaderName.TheVariants.{Address, TrackSector}
 use Rattle.commodore_gcr.specs.Coding.{ByteAt, BytesAt}
 use Rattle.commodore_gcr.specs.Zones.{sectors_of, track_number}
 
@@ -18,15 +20,21 @@ HEADER_BYTE = 0x08
 abbrev pub DATA_BYTE : ℕ
 DATA_BYTE = 0x07
 
--- the address of a sector, with the two bytes of the disk's id
+-- the address of a sector of the track of this number, with the two bytes of the disk's id
+abbrev pub numbered : ℕ → ℕ → ℕ → ℕ → List ℕ
+numbered id1 id2 number sector = sector ∷ number ∷ id2 ∷ id1 ∷ []
+
 abbrev pub address_of : ℕ → ℕ → TrackId → ℕ → List ℕ
-address_of id1 id2 track sector = sector ∷ track_number track ∷ id2 ∷ id1 ∷ []
+address_of id1 id2 track sector = numbered id1 id2 (track_number track) sector
 
 -- a header: its first byte, the address's check value, and the address
-abbrev pub header_bytes : ℕ → ℕ → TrackId → ℕ → List ℕ
-header_bytes id1 id2 track sector =
-    let address = address_of id1 id2 track sector in
+abbrev pub numbered_bytes : ℕ → ℕ → ℕ → ℕ → List ℕ
+numbered_bytes id1 id2 number sector =
+    let address = numbered id1 id2 number sector in
     HEADER_BYTE ∷ xor address ∷ address
+
+abbrev pub header_bytes : ℕ → ℕ → TrackId → ℕ → List ℕ
+header_bytes id1 id2 track sector = numbered_bytes id1 id2 (track_number track) sector
 
 -- with the two bytes that fill the block up
 abbrev pub header_block : ℕ → ℕ → TrackId → ℕ → List ℕ
@@ -55,11 +63,20 @@ SYNC_ONES = 10
 abbrev pub HEADER_CELLS : ℕ
 HEADER_CELLS = 70
 
--- a header names a sector: the header's bytes of this sector of this track stand in it, for some id
-pub record NamesSector (track : TrackId) (cells : List Bool) (sector : ℕ) : Type 0 where
+-- a header names the numbers of a track and a sector: the header's bytes of these stand in it, for some id
+pub record NamesNumbers (number : ℕ) (cells : List Bool) (sector : ℕ) : Type 0 where
   pub id1 : ℕ
   pub id2 : ℕ
-  pub bytes : BytesAt cells SYNC_ONES (header_bytes id1 id2 track sector)
+  pub bytes : BytesAt cells SYNC_ONES (numbered_bytes id1 id2 number sector)
+
+-- it has a name
+abbrev pub Names : List Bool → HeaderName → Type 0
+Names cells (TrackSector track sector) = NamesNumbers track cells sector
+Names cells (Address cylinder head sector size) = ⊥
+
+-- it names a sector of this track
+abbrev pub NamesSector : TrackId → List Bool → ℕ → Type 0
+NamesSector track cells sector = NamesNumbers (track_number track) cells sector
 
 -- after a header any sync is one for data
 abbrev pub IsSync : List Bool → ℕ → Type 0

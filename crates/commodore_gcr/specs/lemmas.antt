@@ -5,3 +5,4 @@ pub mod RowLaws
 pub mod FrameLaws
 pub mod OwnLaws
 pub mod Syncs
+pub mod DataSyncs

@@ -1,6 +1,7 @@
 ghost use Rattle.std.specs.Prelude.{◌≡◌, ℕ, ◌≤◌, List, length, IfNone, IfSome};
+ghost use Rattle.frame_law.specs.declared.header_name.HeaderName.{HeaderName};
 ghost use Rattle.commodore_gcr.specs.Coding.{BytesAt};
-ghost use Rattle.commodore_gcr.specs.Sectors.{NamesSector, header_block as block_of_header};
+ghost use Rattle.commodore_gcr.specs.Sectors.{Names, header_block as block_of_header};
 ghost use Rattle.commodore_gcr.specs.Zones.{IsCommodoreTrack};
 
 use crate::fields::byte_at;
@@ -9,26 +10,23 @@ use crate::recording::CommodoreGcr;
 use crate::zones::track_number;
 use check_values::xor_bytes;
 use flux_base::TrackId;
-use frame_law::CellsFrom;
+use frame_law::{CellsFrom, HeaderName};
 
-/// The sector of this track that the header at the front of the cells, which are as many as one has, names.
-pub(crate) fn named_sector(frame: &CellsFrom, track: TrackId) -> Option<u8>
-    requires track { IsCommodoreTrack track }
-    requires whole { 70 ≤ length frame.now }
-    ensures named { IfSome result (λ s. NamesSector track frame.now s) }
-    ensures none { IfNone result ((s : ℕ) → ¬ NamesSector track frame.now s) }
+/// What the header at the front of the cells, which are as many as one has, names. None where it is none, or its check
+/// value is another.
+pub(crate) fn header_name(frame: &CellsFrom) -> Option<HeaderName>
+    requires { 70 ≤ length frame.now }
+    ensures named { IfSome result (λ name. Names frame.now name) }
+    ensures none { IfNone result ((name : HeaderName) → ¬ Names frame.now name) }
 {
-    let [first, check, sector, number, id2, id1] = header_bytes_at(frame)?;
+    let [first, check, sector, track, id2, id1] = header_bytes_at(frame)?;
     if first != HEADER_BYTE {
         return None;
     }
-    if number != track_number(track) {
+    if check != xor_bytes(&[sector, track, id2, id1]) {
         return None;
     }
-    if check != xor_bytes(&[sector, number, id2, id1]) {
-        return None;
-    }
-    Some(sector)
+    Some(HeaderName::TrackSector { track, sector })
 }
 
 /// The six bytes after the sync at the front of the cells. None where one of them is not two codes.

@@ -1,25 +1,27 @@
 ghost use Rattle.std.specs.Prelude.{◌≡◌, ℕ, ◌+◌, false, refl};
-ghost use Rattle.std.proofs.Common.{lit≤};
+ghost use Rattle.std.proofs.Common.{inl, inr, lit≤};
+ghost use Rattle.frame_law.specs.declared.header_name.HeaderName.TheVariants.{TrackSector};
+ghost use Rattle.commodore_gcr.specs.lemmas.DataSyncs.{own_data};
 ghost use Rattle.frame_law.specs.lemmas.OwnFrames.{fixed_ends};
 ghost use Rattle.commodore_gcr.specs.lemmas.FrameLaws.{frame_stands};
 ghost use Rattle.commodore_gcr.specs.Layout.{ring_cells_of, row_cells, row_size, rows};
-ghost use Rattle.commodore_gcr.specs.lemmas.OwnLaws.{one_content, one_name, sizes, tells, within_reach};
+ghost use Rattle.commodore_gcr.specs.lemmas.OwnLaws.{named_sector, one_content, one_name, sizes, tells, within_reach};
 ghost use Rattle.commodore_gcr.specs.lemmas.RowLaws.{row_follows, row_length};
-ghost use Rattle.commodore_gcr.specs.Sectors.{Hold, IsSync, NamesSector};
+ghost use Rattle.commodore_gcr.specs.Sectors.{Hold, IsSync, Names, NamesSector};
 ghost use Rattle.commodore_gcr.specs.lemmas.Syncs.{own_syncs};
 ghost use Rattle.commodore_gcr.specs.lemmas.ZoneLaws.{counts, sums};
-ghost use Rattle.commodore_gcr.specs.Zones.{IsCommodoreTrack, sectors_of, zone_of};
+ghost use Rattle.commodore_gcr.specs.Zones.{IsCommodoreTrack, sectors_of, track_number as number_of_track, zone_of};
 
 use crate::data_block::{next_sync, read_block};
-use crate::header_block::named_sector;
+use crate::header_block::header_name;
 use crate::layout::{
     DATA_CELLS, HEADER_CELLS, LEAD_IN, LEAD_OUT, Row, SECTOR, SECTOR_SIZE, SYNC, SYNC_CELLS,
 };
 use crate::rows::push_row;
-use crate::zones::zone_of;
+use crate::zones::{track_number, zone_of};
 use cell_bits::Cells;
 use flux_base::{Memory, TrackId};
-use frame_law::{CellsFrom, Layout, SectorBuffer};
+use frame_law::{CellsFrom, HeaderName, Layout, SectorBuffer};
 
 /// The recording of the Commodore 1541's disks. Its tracks are the cylinders 0 to 39 with head 0, of which a
 /// disk of 35 tracks has the first 35; headers number them from 1. Sectors are numbered from 0.
@@ -66,6 +68,10 @@ impl Layout for CommodoreGcr {
     ghost track_cells = { λ r track. ring_cells_of track };
 
     ghost names_sector = { λ r track cells s. NamesSector track cells s };
+
+    ghost names = { λ r cells name. Names cells name };
+
+    ghost name_of = { λ r track s. TrackSector (number_of_track track) s };
 
     ghost is_sync = { λ r cells place. IsSync cells place };
 
@@ -132,8 +138,12 @@ impl Layout for CommodoreGcr {
         frame.end_within(HEADER_CELLS)
     }
 
-    fn read_header(&self, frame: &CellsFrom, track: TrackId) -> Option<u8> {
-        named_sector(frame, track)
+    fn read_name(&self, frame: &CellsFrom) -> Option<HeaderName> {
+        header_name(frame)
+    }
+
+    fn sector_named(&self, track: TrackId, name: HeaderName) -> Option<u8> {
+        name.sector_of_track(track_number(track))
     }
 
     fn next_sync(&self, frame: &CellsFrom, from: usize, to: usize) -> Option<usize> {
@@ -162,7 +172,9 @@ impl Layout for CommodoreGcr {
 
     ghost ends = { λ r track before known. refl };
 
-    ghost one_name = { λ r track cells s t first second. one_name track cells s t first second };
+    ghost named_sector = { λ r track. named_sector track };
+
+    ghost one_name = { λ r cells n m first second. one_name cells n m first second };
 
     ghost one_content = { λ r cells sync xs ys first second. one_content cells sync xs ys first second };
 
@@ -176,7 +188,11 @@ impl Layout for CommodoreGcr {
 
     ghost tells_ends = { λ r. fixed_ends 70 2590 (lit≤ tt) (lit≤ tt) };
 
-    ghost tells = { λ r track. tells track };
+    ghost tells = { λ r. tells };
 
     ghost own_syncs = { λ r track known. own_syncs r track };
+
+    ghost header_syncs = { λ r. inl (λ cells place name stands named. stands) };
+
+    ghost own_data = { λ r track known. inr (own_data r track) };
 }

@@ -1,3 +1,4 @@
 pub mod Zones
 pub mod Agree
 pub mod Recorded
+pub mod Rewritten

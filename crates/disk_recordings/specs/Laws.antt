@@ -2,12 +2,13 @@
 use Rattle.std.specs.Prelude.{◌≡◌, ◌≤◌, ℕ, ◌+◌, Bool, List, length, drop}
 use Rattle.cell_bits.specs.Broken.{Unbroken}
 use Rattle.flux_base.specs.declared.track.TrackId.{TrackId}
+use Rattle.frame_law.specs.Controller.{DataAreTold, DataStandAlone, HasHeaderData, HasOnlyOwnData, SearchesFindAll, SectorStandsBy}
 use Rattle.frame_law.specs.Laws.{HasOnlyOwn, HasOnlyOwnBetweenZeros, ReadingsAreAll, ReadingsAreOne, SectorsAreTold, StandsAlone}
 use Rattle.sector_images.specs.Formats.{row, zone}
 use Rattle.sector_images.specs.Places.{IsSector, IsTrack}
 use Rattle.sector_images.specs.declared.format.Format.{Format}
 use Rattle.track_rings.specs.Rings.{AreSectors, IsSpaced, LiesAt, bytes_of, stretch}
-use Rattle.disk_recordings.specs.Members.{frame_cells, header_at, place_in_ring, ring_at, sector_at}
+use Rattle.disk_recordings.specs.Members.{as_controllers_read, data_at, frame_cells, header_at, place_in_ring, ring_at, sector_at}
 use Rattle.disk_recordings.specs.declared.disk_id.DiskId.{DiskId}
 
 -- Of each format's tracks, the cells tell which header and which sector stands in them, a list is what repeated searches find
@@ -69,3 +70,34 @@ StretchesHaveOnlyOwn = (format : Format) (id : DiskId) (track : TrackId) (bytes 
 pub record AreReadToo (format other : Format) : Type 0 where
   pub headers : (track : TrackId) (cells : List Bool) (s : ℕ) → header_at format track cells s → header_at other track cells s
   pub sectors : (track : TrackId) (cells : List Bool) (s : ℕ) (bytes : List ℕ) → sector_at format track cells s bytes → sector_at other track cells s bytes
+
+-- By the second rule, as controllers read: of each format's tracks, repeated searches find all data of a header, and all headers with
+-- all their data, and data at a place are one thing; and what stands by the strict rule stands by this one, as controllers read the
+-- format, with the same bytes.
+pub record DataAreRead : Type 0 where
+  pub of_header : (format : Format) (cells : List Bool) → SearchesFindAll (data_at format cells)
+  pub of_track : (format : Format) (track : TrackId) (cells : List Bool)
+      → SearchesFindAll (HasHeaderData (header_at format track) (data_at format) cells)
+  pub told : (format : Format) → DataAreTold (data_at format) (row format).sector_size
+  pub strict : (format : Format) (track : TrackId) (cells : List Bool) (s : ℕ) (bytes : List ℕ) → sector_at format track cells s bytes
+      → SectorStandsBy (header_at (as_controllers_read format) track) (data_at (as_controllers_read format)) cells s bytes
+
+-- by that rule too what stands on a track depends on its own cells alone, in which no clock started anew
+abbrev pub RewrittenStandAlone : Type 0
+RewrittenStandAlone = (format : Format) (track : TrackId) → DataStandAlone (header_at format track) (data_at format)
+
+-- in any stretch of the repeated ring between zeros, what stands by it is one of the ring's own sectors
+abbrev pub OnlyOwnDataStand : Type 0
+OnlyOwnDataStand = (format : Format) (id : DiskId) (track : TrackId) (bytes : List ℕ) (zeros from count behind : ℕ) → IsTrack format track
+    → AreTrackBytes format track bytes
+    → HasOnlyOwnData (header_at format track) (data_at format) (ring_at format id track bytes)
+    (zone format track.cylinder).ring_cells (place_in_ring format track)
+    (bytes_of (row format).first_sector (row format).sector_size bytes) zeros from count behind
+
+-- and in any stretch in which a sector's frame lies whole, the sector stands by it with its bytes
+abbrev pub SectorsStandToo : Type 0
+SectorsStandToo = (format : Format) (id : DiskId) (track : TrackId) (bytes : List ℕ) (s from count place : ℕ) → IsTrack format track
+    → AreTrackBytes format track bytes → IsSector format track s
+    → LiesAt (zone format track.cylinder).ring_cells (place_in_ring format track s) (frame_cells format) from count place
+    → let content = bytes_of (row format).first_sector (row format).sector_size bytes s in
+    SectorStandsBy (header_at format track) (data_at format) (drop place (stretch (ring_at format id track bytes) from count)) s content

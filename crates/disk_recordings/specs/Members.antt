@@ -2,6 +2,7 @@
 use Rattle.std.specs.Prelude.{ℕ, Bool, List}
 use Rattle.flux_base.specs.declared.track.TrackId.{TrackId}
 use Rattle.sector_images.specs.declared.format.Format.{Format}
+use Rattle.sector_images.specs.declared.format.Format.TheVariants.{AppleDo, ApplePo, AppleDos33, AppleProdos}
 use Rattle.disk_recordings.specs.Recordings.{ANY_ID, recording_of}
 use Rattle.disk_recordings.specs.contracts.meaning.DiskRecordingMeaning.TheImpl.{ghosts}
 use Rattle.disk_recordings.specs.declared.disk_id.DiskId.{DiskId}
@@ -13,6 +14,16 @@ header_at format = ghosts.header_at (recording_of format ANY_ID)
 -- this sector of the track stands at the front of the cells, with these bytes
 abbrev pub sector_at : Format → TrackId → List Bool → ℕ → List ℕ → Type 0
 sector_at format = ghosts.sector_at (recording_of format ANY_ID)
+
+-- by the second rule, as controllers read: data of the header at the front of the cells stand at this place, with these bytes
+abbrev pub data_at : Format → List Bool → ℕ → List ℕ → Type 0
+data_at format = ghosts.data_at (recording_of format ANY_ID)
+
+-- The format as which a controller reads the format's disks: it waits for the one with which a byte of an Apple disk begins.
+abbrev pub as_controllers_read : Format → Format
+as_controllers_read AppleDo = AppleDos33
+as_controllers_read ApplePo = AppleProdos
+as_controllers_read format = format
 
 -- the ring of a track with these bytes of its sectors, on a disk with this id
 abbrev pub ring_at : Format → DiskId → TrackId → List ℕ → List Bool

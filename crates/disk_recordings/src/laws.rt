@@ -1,11 +1,13 @@
 //! What the laws of the recordings come to for the formats: for all tracks, ids, bytes and cells.
 
 ghost use Rattle.sector_images.specs.declared.format.Format.TheVariants.{AppleDo, ApplePo, AppleDos33, AppleProdos};
-ghost use Rattle.disk_recordings.specs.Laws.{AreReadToo, FramesAreWhole, FramesHaveCells, OnlyOwnStand, RingsHaveCells, SectorsStand, StandAlone, StretchesHaveOnlyOwn, TracksAreRead};
+ghost use Rattle.disk_recordings.specs.Laws.{AreReadToo, DataAreRead, FramesAreWhole, FramesHaveCells, OnlyOwnDataStand, OnlyOwnStand, RewrittenStandAlone, RingsHaveCells, SectorsStand, SectorsStandToo, StandAlone, StretchesHaveOnlyOwn, TracksAreRead};
 
 use crate::recordings::DiskRecording;
 use apple_gcr::rules_agree;
-use frame_law::{only_own, readings_are_all, rings_hold_sectors, sectors_are_told};
+use frame_law::{
+    data_are_read, only_own, only_own_data, readings_are_all, rings_hold_sectors, sectors_are_told,
+};
 
 /// The cells of a format's track tell what stands in them, and repeated searches find all of it, as one list.
 pub fn tracks_are_read()
@@ -41,4 +43,24 @@ pub fn apple_disks_are_read_too()
     ensures prodos { AreReadToo ApplePo AppleProdos }
 {
     rules_agree()
+}
+
+/// By the second rule, as controllers read, the cells of a format's track tell all data of a header, and repeated
+/// searches find them; what stands by the strict rule stands by this one.
+pub fn rewritten_tracks_are_read()
+    ensures { DataAreRead }
+{
+    data_are_read::<DiskRecording>();
+    tracks_are_read();
+    apple_disks_are_read_too()
+}
+
+/// By that rule too nothing but its own sectors stands in the ring of a format's track, also in a stretch of it that
+/// zeros cut, and each sector stands wherever its frame lies whole.
+pub fn rewritten_tracks_have_only_own()
+    ensures alone { RewrittenStandAlone }
+    ensures between_zeros { OnlyOwnDataStand }
+    ensures stand { SectorsStandToo }
+{
+    only_own_data::<DiskRecording>()
 }

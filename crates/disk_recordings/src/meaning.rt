@@ -13,6 +13,8 @@ pub trait Meaning {
 
     ghost sector_at: { Self → TrackId → List Bool → ℕ → List ℕ → Type 0 };
 
+    ghost data_at: { Self → List Bool → ℕ → List ℕ → Type 0 };
+
     ghost ring: { Self → TrackId → List ℕ → List Bool };
 
     ghost sector_place: { Self → TrackId → ℕ → ℕ };
@@ -34,6 +36,8 @@ impl Meaning for DiskRecording {
     ghost header_at = { ⟦<DiskRecording as Recording>⟧.header_at };
 
     ghost sector_at = { ⟦<DiskRecording as Recording>⟧.sector_at };
+
+    ghost data_at = { ⟦<DiskRecording as Recording>⟧.data_at };
 
     ghost ring = { ⟦<DiskRecording as Recording>⟧.ring };
 

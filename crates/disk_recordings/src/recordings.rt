@@ -2,6 +2,7 @@
 
 ghost use Rattle.std.specs.Prelude.{◌≡◌, IsTrue, IsFalse};
 ghost use Rattle.disk_recordings.specs.Agreement.{Agrees, HasDirectory, HasNoId};
+ghost use Rattle.disk_recordings.specs.Members.{as_controllers_read};
 ghost use Rattle.disk_recordings.specs.Recordings.{recording_of as recording_in};
 
 use crate::disk_id::DiskId;
@@ -54,4 +55,16 @@ pub fn has_id(format: Format) -> bool
     ensures no { IsFalse result → HasNoId format }
 {
     matches!(format, Format::C1541 | Format::C1541Forty)
+}
+
+/// The format as which a controller reads the format's disks: by the second rule a byte of an Apple disk begins at the
+/// next one.
+pub fn controller_format(format: Format) -> Format
+    ensures { result ≡ as_controllers_read format }
+{
+    match format {
+        Format::AppleDo => Format::AppleDos33,
+        Format::ApplePo => Format::AppleProdos,
+        format => format,
+    }
 }

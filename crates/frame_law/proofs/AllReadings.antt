@@ -9,13 +9,13 @@ use Rattle.frame_law.specs.declared.reading.Reading.TheVariants.{Nothing, Bad, G
 use Rattle.frame_law.specs.Laws.{Found, places, HasHeader, AreAllFrom, ReadingsAreOne}
 use Rattle.frame_law.specs.Readings.{Reads, AreReadings, FirstReading}
 
-contains_first : {X : Type 0} (x : X) (xs : List X) → Contains (x ∷ xs) x
+pub contains_first : {X : Type 0} (x : X) (xs : List X) → Contains (x ∷ xs) x
 contains_first x xs = (0, omega arith, refl)
 
-contains_later : {X : Type 0} (y x : X) (xs : List X) → Contains xs x → Contains (y ∷ xs) x
+pub contains_later : {X : Type 0} (y x : X) (xs : List X) → Contains xs x → Contains (y ∷ xs) x
 contains_later y x xs has = (suc has.0, omega (arith, has.1), has.2)
 
-contains_cases : {X : Type 0} (y x : X) (xs : List X) → Contains (y ∷ xs) x → (y ≡ x) ⊎ Contains xs x
+pub contains_cases : {X : Type 0} (y x : X) (xs : List X) → Contains (y ∷ xs) x → (y ≡ x) ⊎ Contains xs x
 contains_cases y x xs (zero, within, same) = inl same
 contains_cases y x xs (suc k, within, same) = inr (k, omega arith, same)
 
@@ -51,13 +51,13 @@ behind_first f g rest above has =
       | inr later ↦ later
     ]
 
-rise_behind : (x : ℕ) (xs : List ℕ) → IsStrictlyIncreasing (x ∷ xs) → IsStrictlyIncreasing xs
+pub rise_behind : (x : ℕ) (xs : List ℕ) → IsStrictlyIncreasing (x ∷ xs) → IsStrictlyIncreasing xs
 rise_behind x xs rise k within =
     let e : suc k + 1 ≡ suc (k + 1) = omega arith in
     let step : slice_index xs k < slice_index (x ∷ xs) (suc k + 1) = rise (suc k) (omega (arith, within)) in
     subst (λ (n : ℕ). slice_index xs k < slice_index (x ∷ xs) n) e step
 
-rise_above : (x : ℕ) (xs : List ℕ) → IsStrictlyIncreasing (x ∷ xs) → (y : ℕ) → Contains xs y → x < y
+pub rise_above : (x : ℕ) (xs : List ℕ) → IsStrictlyIncreasing (x ∷ xs) → (y : ℕ) → Contains xs y → x < y
 rise_above x [] rise y has = absurd (omega (arith, has.1))
 rise_above x (z ∷ zs) rise y has =
     let next : x < z = rise 0 (omega arith) in

@@ -1,4 +1,9 @@
 pub mod AllReadings
+pub mod DataPlaces
+pub mod HeaderData
+pub mod Headers
+pub mod Names
 pub mod RowWrites
+pub mod Searches
 pub mod Shifts
 pub mod Skips

@@ -38,3 +38,14 @@ drop-unbroken place cells count whole k above below zeros =
     let e : place + (k - place) ≡ k = omega arith in
     whole (k - place) (omega arith) (omega arith)
     (ap (take 8) (drop-drop (k - place) place cells ∙ ap (λ n. drop n cells) e) ∙ zeros)
+
+-- the same between two places
+pub drop-between : (place : ℕ) (cells : List Bool) (from to : ℕ) → Unbroken (drop place cells) from to → Unbroken cells (place + from) (place + to)
+drop-between place cells from to whole k above below zeros =
+    let e : place + (k - place) ≡ k = omega arith in
+    whole (k - place) (omega arith) (omega arith)
+    (ap (take 8) (drop-drop (k - place) place cells ∙ ap (λ n. drop n cells) e) ∙ zeros)
+
+pub between-drop : (place : ℕ) (cells : List Bool) (from to : ℕ) → Unbroken cells (place + from) (place + to) → Unbroken (drop place cells) from to
+between-drop place cells from to whole k above below zeros =
+    whole (place + k) (omega arith) (omega arith) (ap (take 8) (sym (drop-drop k place cells)) ∙ zeros)

@@ -1,3 +1,4 @@
+pub mod Controller
 pub mod Frames
 pub mod Laws
 pub mod Readings

@@ -3,6 +3,7 @@ pub mod WordRowLaws
 pub mod WritingLaws
 pub mod RowWritingLaws
 pub mod FrameLaws
+pub mod ControllerLaws
 pub mod OwnData
 pub mod OwnFrames
 pub mod Spacing

@@ -105,6 +105,23 @@ impl<'a> CellsFrom<'a> {
         self.cells.data_bytes_at(self.place + offset)
     }
 
+    /// The cells from the offset on.
+    pub fn behind(&self, offset: usize) -> CellsFrom<'a>
+        requires { offset < 2 ^ 32 }
+        ensures { result ≡ drop offset self.now }
+    {
+        CellsFrom::new(self.cells, self.place + offset)
+    }
+
+    /// Whether no eight zeros in a row lie between the offsets, the second of which lies in the list.
+    pub fn unbroken_between(&self, from: usize, to: usize) -> bool
+        requires order { from ≤ to }
+        requires within { to ≤ length self.now }
+        ensures { IsTrue result ↔ Unbroken self.now from to }
+    {
+        self.cells.unbroken(self.place + from, self.place + to)
+    }
+
     /// Whether no eight zeros in a row lie in the first `count` cells, which lie in the list.
     pub fn unbroken_to(&self, count: usize) -> bool
         requires { count ≤ length self.now }

@@ -41,7 +41,7 @@ pub(crate) fn read_frame<L: Layout>(
 
 /// The number of the sector whose header, of this track, stands at the front of the cells after the sync. It ends at
 /// this place.
-fn header_sector<L: Layout>(
+pub(crate) fn header_sector<L: Layout>(
     layout: &L,
     frame: &CellsFrom,
     header_end: usize,
@@ -54,7 +54,7 @@ fn header_sector<L: Layout>(
     ensures stands { IfSome result (λ s. HeaderStands L.SYNC L.SYNC_CELLS (L.header_end layout.now) (L.lowest_sector layout.now) (L.sector_count layout.now track) (L.names_sector layout.now track) frame.now s) }
     ensures none { IfNone result ((s : ℕ) → ¬ HeaderStands L.SYNC L.SYNC_CELLS (L.header_end layout.now) (L.lowest_sector layout.now) (L.sector_count layout.now track) (L.names_sector layout.now track) frame.now s) }
 {
-    let sector = layout.read_header(frame, track)?;
+    let sector = named_sector(layout, frame, track)?;
     let first = layout.lowest_sector();
     if sector < first {
         return None;
@@ -66,6 +66,19 @@ fn header_sector<L: Layout>(
         return None;
     }
     Some(sector)
+}
+
+/// The sector of this track that the header at the front of the cells names.
+fn named_sector<L: Layout>(layout: &L, frame: &CellsFrom, track: TrackId) -> Option<u8>
+    requires track { L.has_track layout.now track }
+    requires whole { L.header_end layout.now frame.now ≤ length frame.now }
+    ensures named { IfSome result (λ sector. L.names_sector layout.now track frame.now sector) }
+    ensures none { IfNone result ((sector : ℕ) → ¬ L.names_sector layout.now track frame.now sector) }
+{
+    let Some(name) = layout.read_name(frame) else {
+        return None;
+    };
+    layout.sector_named(track, name)
 }
 
 /// Whether data stand after the header at the front of the cells, which ends at this place. Then the buffer, which was

@@ -1,8 +1,9 @@
 //! What the laws of every recording come to, for all its values, tracks, cells and bytes.
 
-ghost use Rattle.std.specs.Prelude.{◌≡◌, ◌≤◌, ℕ, ◌+◌, List, length, drop};
+ghost use Rattle.std.specs.Prelude.{◌≡◌, ◌≤◌, ℕ, ◌+◌, List, Bool, length, drop};
 ghost use Rattle.cell_bits.specs.Broken.{Unbroken};
 ghost use Rattle.flux_base.specs.declared.track.TrackId.{TrackId};
+ghost use Rattle.frame_law.specs.Controller.{DataAreTold, DataStandAlone, HasHeaderData, HasOnlyOwnData, SearchesFindAll, SectorStandsBy, StrictHasData};
 ghost use Rattle.frame_law.specs.Laws.{HasOnlyOwn, HasOnlyOwnBetweenZeros, ReadingsAreAll, ReadingsAreOne, SectorsAreTold, StandsAlone};
 ghost use Rattle.track_rings.specs.Rings.{AreSectors, IsSectorNumber, IsSpaced, LiesAt, bytes_of, stretch};
 
@@ -58,4 +59,31 @@ pub fn only_own<R: Recording>()
         → HasOnlyOwn (R.header_at r track) (R.sector_at r track) (R.ring r track bytes)
         (R.ring_cells r track) (R.sector_place r track)
         (bytes_of (R.first_sector r) (R.sector_size r) bytes) (R.frame_cells r) from count }
+{}
+
+/// By the second rule, as controllers read: repeated searches find all data of a header, and all headers with all their
+/// data, once each and by rising place; data at a place are one thing; and what stands by the strict rule stands by this
+/// one, with the same bytes.
+pub fn data_are_read<R: Recording>()
+    ensures of_header { (r : R) (cells : List Bool) → SearchesFindAll (R.data_at r cells) }
+    ensures of_track { (r : R) (track : TrackId) (cells : List Bool) → SearchesFindAll (HasHeaderData (R.header_at r track) (R.data_at r) cells) }
+    ensures told { (r : R) → DataAreTold (R.data_at r) (R.sector_size r) }
+    ensures strict { (r : R) (track : TrackId) → StrictHasData (R.sector_at r track) (R.data_at r) }
+{}
+
+/// Nothing but a ring's own sectors stands in it by the second rule either: what stands depends on its own cells alone,
+/// without 31 zeros in a row; in any stretch of the repeated ring between zeros it is one of the ring's sectors; and a
+/// sector stands wherever its frame lies whole.
+pub fn only_own_data<R: Recording>()
+    ensures alone { (r : R) (track : TrackId) → DataStandAlone (R.header_at r track) (R.data_at r) }
+    ensures between_zeros { (r : R) (track : TrackId) (bytes : List ℕ) (zeros from count behind : ℕ) → R.has_track r track
+        → AreSectors (R.sectors r track) (R.sector_size r) bytes
+        → HasOnlyOwnData (R.header_at r track) (R.data_at r) (R.ring r track bytes) (R.ring_cells r track) (R.sector_place r track)
+        (bytes_of (R.first_sector r) (R.sector_size r) bytes) zeros from count behind }
+    ensures stand { (r : R) (track : TrackId) (bytes : List ℕ) (s from count place : ℕ) → R.has_track r track
+        → AreSectors (R.sectors r track) (R.sector_size r) bytes
+        → IsSectorNumber (R.first_sector r) (R.sectors r track) s
+        → LiesAt (R.ring_cells r track) (R.sector_place r track s) (R.frame_cells r) from count place
+        → SectorStandsBy (R.header_at r track) (R.data_at r) (drop place (stretch (R.ring r track bytes) from count)) s
+        (bytes_of (R.first_sector r) (R.sector_size r) bytes s) }
 {}

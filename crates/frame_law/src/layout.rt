@@ -1,14 +1,16 @@
-ghost use Rattle.std.specs.Prelude.{◌≡◌, ℕ, ◌+◌, ◌*◌, ◌^◌, ◌<◌, ◌≤◌, ◌⊎◌, ◌&&◌, List, [], ◌++◌, Bool, false, length, IfSome, IfNone, IsTrue};
+ghost use Rattle.std.specs.Prelude.{◌≡◌, ◌≢◌, ℕ, ◌+◌, ◌*◌, ◌^◌, ◌<◌, ◌≤◌, ◌⊎◌, ◌&&◌, List, [], ◌++◌, Bool, false, length, IfSome, IfNone, IsTrue};
 ghost use Rattle.cell_bits.specs.Bytes.{last_cell};
 ghost use Rattle.flux_base.specs.declared.track.TrackId.{TrackId};
 ghost use Rattle.frame_law.specs.Frames.{AreSizes, EndsAt, FrameStands, IsFirstSync, IsSyncInReach, IsWithinReach, NoSync};
-ghost use Rattle.frame_law.specs.lemmas.OwnFrames.{HasOwnSyncs, TellsEarly, TellsEnds};
+ghost use Rattle.frame_law.specs.declared.header_name.HeaderName.{HeaderName};
+ghost use Rattle.frame_law.specs.lemmas.OwnData.{AreSyncsOrNone, BeginAtOnce, HasOwnDataSyncs};
+ghost use Rattle.frame_law.specs.lemmas.OwnFrames.{HasOwnSyncs, NamesSectors, TellsEarly, TellsEnds};
 ghost use Rattle.frame_law.specs.Writing.{AppendsCells};
 ghost use Rattle.track_rings.specs.Rings.{AreSectors, IsSectorNumber, AreBytes};
 ghost use Rattle.track_rings.specs.Rows.{IsContent, Rows, frame_size, last_of, place_of, ring_of, ring_size, rows_cells, sector_rows};
 ghost use Rattle.track_rings.specs.Spaced.{MayFollow};
 
-use crate::{CellsFrom, SectorBuffer};
+use crate::{CellsFrom, HeaderName, SectorBuffer};
 use cell_bits::Cells;
 use flux_base::{Memory, TrackId};
 
@@ -59,6 +61,12 @@ pub trait Layout {
 
     /// The header at the front of the cells, which is whole, names this sector of this track.
     ghost names_sector: { Self → TrackId → List Bool → ℕ → Type 0 };
+
+    /// The header at the front of the cells, which is whole, has this name and the check value of it.
+    ghost names: { Self → List Bool → HeaderName → Type 0 };
+
+    /// How a header names this sector of this track.
+    ghost name_of: { Self → TrackId → ℕ → HeaderName };
 
     /// A sync for data, whether it opens them or not, stands at this place of the cells.
     ghost is_sync: { Self → List Bool → ℕ → Type 0 };
@@ -144,12 +152,17 @@ pub trait Layout {
         ensures some { IfSome result (λ end. (end ≡ header_end self.now frame.now) × (end ≤ length frame.now)) }
         ensures none { IfNone result (length frame.now < header_end self.now frame.now) };
 
-    /// The sector of this track that the header at the front of the cells names.
-    fn read_header(&self, frame: &CellsFrom, track: TrackId) -> Option<u8>
-        requires track { has_track self.now track }
+    /// What the header at the front of the cells names. None where its check value is another.
+    fn read_name(&self, frame: &CellsFrom) -> Option<HeaderName>
         requires whole { header_end self.now frame.now ≤ length frame.now }
-        ensures named { IfSome result (λ sector. names_sector self.now track frame.now sector) }
-        ensures none { IfNone result ((sector : ℕ) → ¬ names_sector self.now track frame.now sector) };
+        ensures named { IfSome result (λ name. names self.now frame.now name) }
+        ensures none { IfNone result ((name : HeaderName) → ¬ names self.now frame.now name) };
+
+    /// The sector of this track that has the name. None where none has it.
+    fn sector_named(&self, track: TrackId, name: HeaderName) -> Option<u8>
+        requires { has_track self.now track }
+        ensures named { IfSome result (λ sector. name ≡ name_of self.now track sector) }
+        ensures none { IfNone result ((sector : ℕ) → name ≢ name_of self.now track sector) };
 
     /// The first sync at a place from `from` to below `to`, which are after the header.
     fn next_sync(&self, frame: &CellsFrom, from: usize, to: usize) -> Option<usize>
@@ -202,9 +215,12 @@ pub trait Layout {
         let last = rows_cells asks (row_cells r track) before (lowest_sector r) [] (rows r track).lead_out in
         (asks && last_of before last) ≡ false };
 
+    /// A header names a sector of a track where it has its name, which no other sector of the track has.
+    ghost named_sector: { (r : Self) (track : TrackId) → NamesSectors (names r) (name_of r track) (names_sector r track) };
+
     /// What cells name and hold is one thing.
-    ghost one_name: { (r : Self) (track : TrackId) (cells : List Bool) (s t : ℕ) →
-        names_sector r track cells s → names_sector r track cells t → s ≡ t };
+    ghost one_name: { (r : Self) (cells : List Bool) (n m : HeaderName) →
+        names r cells n → names r cells m → n ≡ m };
 
     ghost one_content: { (r : Self) (cells : List Bool) (sync : ℕ) (xs ys : List ℕ) →
         hold r cells sync xs → hold r cells sync ys → xs ≡ ys };
@@ -231,12 +247,23 @@ pub trait Layout {
     ghost tells_ends: { (r : Self) → TellsEnds header_cells (data_cells r) (header_end r) (data_end r) };
 
     /// What a header names, and what data hold, is told by their own cells, and by all of these but the last seven.
-    ghost tells: { (r : Self) (track : TrackId) →
-        TellsEarly SYNC_CELLS header_cells (data_cells r) (header_end r) (data_end r) (names_sector r track) (is_sync r) (hold r) };
+    ghost tells: { (r : Self) →
+        TellsEarly SYNC_CELLS header_cells (data_cells r) (header_end r) (data_end r) (names r) (is_sync r) (hold r) };
 
     /// The first cells of a header stand in a ring only where a header begins.
     ghost own_syncs: { (r : Self) (track : TrackId) → has_track r track →
-        HasOwnSyncs SYNC SYNC_CELLS header_cells (lowest_sector r) (sector_count r track) (names_sector r track)
+        HasOwnSyncs SYNC SYNC_CELLS header_cells (lowest_sector r) (sector_count r track) (names r)
+        (place_of (row_size r track) (lowest_sector r) (sector_bytes r) (rows r track))
+        (AreSectors (sector_count r track) (sector_bytes r))
+        (λ bytes. ring_of asks (row_cells r track) (lowest_sector r) (sector_count r track) (sector_bytes r) bytes (rows r track)) };
+
+    /// A header after another is a data sync, or data begin where their header ends.
+    ghost header_syncs: { (r : Self) → AreSyncsOrNone SYNC SYNC_CELLS (header_end r) (names r) (is_sync r) };
+
+    /// Data begin where their header ends, or their first cells stand in a ring only where data do, and within headers.
+    ghost own_data: { (r : Self) (track : TrackId) → has_track r track →
+        BeginAtOnce (header_end r) (is_sync r)
+        ⊎ HasOwnDataSyncs header_cells (data_cells r) (data_place r) (lowest_sector r) (sector_count r track) (header_end r) (is_sync r) (hold r)
         (place_of (row_size r track) (lowest_sector r) (sector_bytes r) (rows r track))
         (AreSectors (sector_count r track) (sector_bytes r))
         (λ bytes. ring_of asks (row_cells r track) (lowest_sector r) (sector_count r track) (sector_bytes r) bytes (rows r track)) };

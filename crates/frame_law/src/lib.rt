@@ -4,7 +4,9 @@
 #![tactic(auto)]
 
 mod cells_from;
+mod data_search;
 mod frame_reading;
+mod header_name;
 mod laws;
 mod layout;
 mod one_of_two;
@@ -15,8 +17,11 @@ mod search;
 mod table_recording;
 
 pub use cells_from::CellsFrom;
-pub use laws::{only_own, readings_are_all, rings_hold_sectors, sectors_are_told};
+pub use header_name::HeaderName;
+pub use laws::{
+    data_are_read, only_own, only_own_data, readings_are_all, rings_hold_sectors, sectors_are_told,
+};
 pub use layout::Layout;
 pub use reading::{Reading, SectorBuffer};
 pub use recording::Recording;
-pub use search::next_reading;
+pub use search::{next_header, next_reading};

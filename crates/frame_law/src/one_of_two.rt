@@ -37,6 +37,8 @@ impl<A: Recording, B: Recording> Recording for Either<A, B> {
 
     ghost sector_at = { elim [ Left r ↦ A.sector_at r | Right r ↦ B.sector_at r ] };
 
+    ghost data_at = { elim [ Left r ↦ A.data_at r | Right r ↦ B.data_at r ] };
+
     ghost ring = { elim [ Left r ↦ A.ring r | Right r ↦ B.ring r ] };
 
     ghost sector_place = { elim [ Left r ↦ A.sector_place r | Right r ↦ B.sector_place r ] };
@@ -99,6 +101,20 @@ impl<A: Recording, B: Recording> Recording for Either<A, B> {
         for_both!(self, r => r.read_after_sync(cells, place, track, buffer))
     }
 
+    fn header_after_sync(&self, cells: &Cells, place: usize, track: TrackId) -> Option<u8> {
+        for_both!(self, r => r.header_after_sync(cells, place, track))
+    }
+
+    fn next_data(
+        &self,
+        cells: &Cells,
+        place: usize,
+        from: usize,
+        buffer: &mut SectorBuffer,
+    ) -> Option<usize> {
+        for_both!(self, r => r.next_data(cells, place, from, buffer))
+    }
+
     ghost sync_size = { elim [ Left r ↦ A.sync_size r | Right r ↦ B.sync_size r ] };
 
     ghost sync_leads = { elim [ Left r ↦ A.sync_leads r | Right r ↦ B.sync_leads r ] };
@@ -143,6 +159,18 @@ impl<A: Recording, B: Recording> Recording for Either<A, B> {
     ghost header_own = { elim [ Left r ↦ A.header_own r | Right r ↦ B.header_own r ] };
 
     ghost sector_own = { elim [ Left r ↦ A.sector_own r | Right r ↦ B.sector_own r ] };
+
+    ghost data_is_one = { elim [ Left r ↦ A.data_is_one r | Right r ↦ B.data_is_one r ] };
+
+    ghost data_size = { elim [ Left r ↦ A.data_size r | Right r ↦ B.data_size r ] };
+
+    ghost data_inside = { elim [ Left r ↦ A.data_inside r | Right r ↦ B.data_inside r ] };
+
+    ghost data_of_sector = { elim [ Left r ↦ A.data_of_sector r | Right r ↦ B.data_of_sector r ] };
+
+    ghost data_alone = { elim [ Left r ↦ A.data_alone r | Right r ↦ B.data_alone r ] };
+
+    ghost data_own = { elim [ Left r ↦ A.data_own r | Right r ↦ B.data_own r ] };
 
     ghost no_header = { elim [ Left r ↦ A.no_header r | Right r ↦ B.no_header r ] };
 }

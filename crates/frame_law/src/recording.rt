@@ -3,8 +3,9 @@ ghost use Rattle.cell_bits.specs.Broken.{Unbroken};
 ghost use Rattle.cell_bits.specs.State.{room};
 ghost use Rattle.cell_bits.specs.Word.{Stands};
 ghost use Rattle.flux_base.specs.declared.track.TrackId.{TrackId};
+ghost use Rattle.frame_law.specs.Controller.{FirstData, START_ZEROS, SectorOf, StrictHasData};
 ghost use Rattle.frame_law.specs.Readings.{Reads};
-ghost use Rattle.track_rings.specs.OwnSectors.{IsAlone, IsOwnPlace, between_zeros};
+ghost use Rattle.track_rings.specs.OwnSectors.{IsAlone, IsAloneWithin, IsOwnPlace, between_zeros};
 ghost use Rattle.track_rings.specs.Rings.{AreSectors, IsSectorNumber, IsSpaced, LiesAt, bytes_of, stretch};
 
 use crate::{Reading, SectorBuffer};
@@ -40,6 +41,10 @@ pub trait Recording {
 
     /// This sector of the track stands at the front of the cells, with these bytes.
     ghost sector_at: { Self → TrackId → List Bool → ℕ → List ℕ → Type 0 };
+
+    /// By the second rule, as controllers read: data with these bytes stand at this place, counted from the front of the
+    /// cells, where a header stands. It may have data at several places.
+    ghost data_at: { Self → List Bool → ℕ → List ℕ → Type 0 };
 
     /// The ring of a track: its cells, from one index hole to the next, with these bytes of all its sectors.
     ghost ring: { Self → TrackId → List ℕ → List Bool };
@@ -125,6 +130,23 @@ pub trait Recording {
         self.read_at(cells, place, track, buffer)
     }
 
+    /// The sector of the track whose header stands at the place, where the caller has found the sync.
+    fn header_after_sync(&self, cells: &Cells, place: usize, track: TrackId) -> Option<u8>
+        requires track { has_track self.now track }
+        requires sync { Stands cells.now.cells (sync self.now) (sync_cells self.now) place }
+        ensures { SectorOf (header_at self.now track (drop place cells.now.cells)) result };
+
+    /// The first place, counted from a header's and at least `from`, at which data of that header stand by the second
+    /// rule. The buffer then has their bytes, and is else empty.
+    fn next_data(
+        &self,
+        cells: &Cells,
+        place: usize,
+        from: usize,
+        buffer: &mut SectorBuffer,
+    ) -> Option<usize>
+        ensures { FirstData (data_at self.now (drop place cells.now.cells)) from result buffer.new.items };
+
     /// Each header begins with the sync cells.
     ghost sync_size: { (r : Self) → (1 ≤ sync_cells r) × (sync_cells r ≤ 32) };
 
@@ -202,6 +224,30 @@ pub trait Recording {
     ghost sector_own: { (r : Self) (track : TrackId) (bytes : List ℕ) (s zeros from count behind place : ℕ) (xs : List ℕ) →
         has_track r track → AreSectors (sectors r track) (sector_size r) bytes →
         sector_at r track (drop place (between_zeros (ring r track bytes) zeros from count behind)) s xs →
+        xs ≡ bytes_of (first_sector r) (sector_size r) bytes s };
+
+    /// Data that stand by the second rule are one thing at a place, have a sector's size, and begin in the cells.
+    ghost data_is_one: { (r : Self) (cells : List Bool) (place : ℕ) (xs ys : List ℕ) →
+        data_at r cells place xs → data_at r cells place ys → xs ≡ ys };
+
+    ghost data_size: { (r : Self) (cells : List Bool) (place : ℕ) (xs : List ℕ) →
+        data_at r cells place xs → length xs ≡ sector_size r };
+
+    ghost data_inside: { (r : Self) (cells : List Bool) (place : ℕ) (xs : List ℕ) →
+        data_at r cells place xs → place < length cells };
+
+    /// What stands by the strict rule stands by the second.
+    ghost data_of_sector: { (r : Self) (track : TrackId) → StrictHasData (sector_at r track) (data_at r) };
+
+    /// Data depend on their own cells and those before them alone, in which no clock started anew.
+    ghost data_alone: { (r : Self) (cells : List Bool) (place : ℕ) (xs : List ℕ) →
+        data_at r cells place xs → IsAloneWithin START_ZEROS (λ others. data_at r others place xs) cells };
+
+    /// In a stretch of the repeated ring between zeros, data after a header are its sector's.
+    ghost data_own: { (r : Self) (track : TrackId) (bytes : List ℕ) (s zeros from count behind place at : ℕ) (xs : List ℕ) →
+        has_track r track → AreSectors (sectors r track) (sector_size r) bytes →
+        header_at r track (drop place (between_zeros (ring r track bytes) zeros from count behind)) s →
+        data_at r (drop place (between_zeros (ring r track bytes) zeros from count behind)) at xs →
         xs ≡ bytes_of (first_sector r) (sector_size r) bytes s };
 
     /// No header stands in cells without a one.

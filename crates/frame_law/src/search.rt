@@ -1,9 +1,34 @@
-ghost use Rattle.std.specs.Prelude.{◌≡◌, ◌<◌, length, IfSome};
+ghost use Rattle.std.specs.Prelude.{◌≡◌, ◌<◌, length, drop, IfSome};
+ghost use Rattle.frame_law.specs.Controller.{FirstAt};
 ghost use Rattle.frame_law.specs.Readings.{FirstReading};
 
 use crate::{Reading, Recording, SectorBuffer};
 use cell_bits::Cells;
 use flux_base::TrackId;
+
+/// The first place that is at least `from` and at which a header of the track stands, and its sector. None exactly where
+/// there is none.
+pub fn next_header<R: Recording>(
+    recording: &R,
+    cells: &Cells,
+    from: usize,
+    track: TrackId,
+) -> Option<(usize, u8)>
+    requires { R.has_track recording.now track }
+    ensures first { FirstAt (λ place sector. R.header_at recording.now track (drop place cells.now.cells) sector) from result }
+    ensures within { IfSome result (λ found. found.0 < length cells.now.cells) }
+{
+    let word = recording.sync();
+    let word_cells = recording.sync_cells();
+    let mut behind = from;
+    while let Some(place) = cells.find_word(behind, cells.len(), word, word_cells) {
+        if let Some(sector) = recording.header_after_sync(cells, place, track) {
+            return Some((place, sector));
+        }
+        behind = place + 1;
+    }
+    None
+}
 
 /// The first reading at a place that is at least `from`: the least such place at which a header of the track
 /// stands, and what is read there. None exactly where there is none. The buffer then has a good sector's

@@ -3,6 +3,8 @@
 use Rattle.std.specs.Prelude.{ℕ, zero, suc, ◌+◌, ◌*◌, ◌/◌, ◌%◌, Bool, List, [], ◌∷◌}
 use Rattle.flux_base.specs.declared.track.TrackId.{TrackId}
 use Rattle.cell_bits.specs.Bytes.{data_byte}
+use Rattle.frame_law.specs.declared.header_name.HeaderName.{HeaderName}
+use Rattle.frame_law.specs.declared.header_name.HeaderName.TheVariants.{Address, TrackSector}
 
 -- the bytes with which fields begin: that of a header, and those that open data, which are data and deleted data
 abbrev pub ID_BYTE : ℕ
@@ -18,13 +20,17 @@ DELETED_DATA_BYTE = 0xF8
 abbrev pub CHECK_START : ℕ
 CHECK_START = 0xFFFF
 
--- the sync of the data begins less than this number of cells after the header
-abbrev pub DATA_REACH : ℕ
-DATA_REACH = 1024
-
 -- the address of a sector: cylinder, head, sector, and the code of its length
 abbrev pub address : TrackId → ℕ → ℕ → List ℕ
 address track sector size = track.cylinder ∷ track.head ∷ sector ∷ size ∷ []
+
+-- how a header names a sector, and the address that stands in a header of a name
+abbrev pub sector_name : TrackId → ℕ → ℕ → HeaderName
+sector_name track sector size = Address track.cylinder track.head sector size
+
+abbrev pub address_named : HeaderName → List ℕ
+address_named (Address cylinder head sector size) = cylinder ∷ head ∷ sector ∷ size ∷ []
+address_named (TrackSector track sector) = []
 
 -- the data bytes of so many bytes in a row
 unfoldable pub bytes_at : List Bool → ℕ → ℕ → List ℕ

@@ -4,7 +4,8 @@ use Rattle.flux_base.specs.declared.track.TrackId.{TrackId}
 use Rattle.cell_bits.specs.Bytes.{data_byte}
 use Rattle.cell_bits.specs.Word.{Stands}
 use Rattle.check_values.specs.Crc.{crc}
-use Rattle.ibm_fields.specs.Fields.{CHECK_START, ID_BYTE, address, bytes_at, number_at}
+use Rattle.frame_law.specs.declared.header_name.HeaderName.{HeaderName}
+use Rattle.ibm_fields.specs.Fields.{CHECK_START, ID_BYTE, address, address_named, bytes_at, number_at, sector_name}
 
 -- the address marks by their cells: the ID mark is the byte FE, the data mark FB and the deleted data mark F8, with clock
 -- C7, and the index mark FC with clock D7
@@ -42,10 +43,14 @@ ADDRESS_PLACE = 16
 abbrev pub ADDRESS_CHECK_PLACE : ℕ
 ADDRESS_CHECK_PLACE = 80
 
+-- a header has a name: the address of this name, and the address's check value
+pub record Names (cells : List Bool) (name : HeaderName) : Type 0 where
+  pub address : bytes_at cells ADDRESS_PLACE 4 ≡ address_named name
+  pub check : number_at cells ADDRESS_CHECK_PLACE ≡ check_of ID_BYTE (address_named name)
+
 -- a header names a sector: the address of this sector of this track, and the address's check value
-pub record NamesSector (size_code : ℕ) (track : TrackId) (cells : List Bool) (sector : ℕ) : Type 0 where
-  pub address : bytes_at cells ADDRESS_PLACE 4 ≡ address_of size_code track sector
-  pub check : number_at cells ADDRESS_CHECK_PLACE ≡ check_of ID_BYTE (address_of size_code track sector)
+abbrev pub NamesSector : ℕ → TrackId → List Bool → ℕ → Type 0
+NamesSector size_code track cells sector = Names cells (sector_name track sector size_code)
 
 -- the marks that open data: the data mark and the deleted data mark
 abbrev pub DataMarkAt : List Bool → ℕ → Type 0

@@ -1,4 +1,5 @@
 -- What follows from the definitions: nobody has to believe it.
+pub mod DataSyncs
 pub mod DiskLaws
 pub mod FrameLaws
 pub mod OwnLaws

@@ -1,27 +1,28 @@
-ghost use Rattle.std.specs.Prelude.{◌≡◌, ℕ, ◌≤◌, length, IfNone, IfSome};
-ghost use Rattle.ibm_fm.specs.Sectors.{NamesSector};
+ghost use Rattle.std.specs.Prelude.{◌≡◌, ◌≤◌, length, IfNone, IfSome};
+ghost use Rattle.frame_law.specs.declared.header_name.HeaderName.{HeaderName};
+ghost use Rattle.ibm_fm.specs.Sectors.{Names};
 
 use crate::layout::{ADDRESS_CHECK_PLACE, ADDRESS_PLACE};
 use crate::rows::field_check;
-use flux_base::TrackId;
-use frame_law::CellsFrom;
+use frame_law::{CellsFrom, HeaderName};
 use ibm_fields::{ID_BYTE, address_at, number_at};
 
-/// The sector of this track, of this code of a length, that the header at the front of the cells, which are as many
-/// as one has, names.
-pub(crate) fn named_sector(frame: &CellsFrom, track: TrackId, size_code: u8) -> Option<u8>
+/// What the header at the front of the cells, which are as many as one has, names. None where its check value is
+/// another.
+pub(crate) fn header_name(frame: &CellsFrom) -> Option<HeaderName>
     requires { 112 ≤ length frame.now }
-    ensures named { IfSome result (λ s. NamesSector size_code track frame.now s) }
-    ensures none { IfNone result ((s : ℕ) → ¬ NamesSector size_code track frame.now s) }
+    ensures named { IfSome result (λ name. Names frame.now name) }
+    ensures none { IfNone result ((name : HeaderName) → ¬ Names frame.now name) }
 {
-    let [cylinder, head, sector, size] = address_at(frame, ADDRESS_PLACE);
-    if cylinder != track.cylinder || head != track.head || size != size_code {
+    let [cylinder, head, sector, size_code] = address_at(frame, ADDRESS_PLACE);
+    let check = field_check(ID_BYTE, &[cylinder, head, sector, size_code]);
+    if number_at(frame, ADDRESS_CHECK_PLACE) != check {
         return None;
     }
-    if number_at(frame, ADDRESS_CHECK_PLACE)
-        != field_check(ID_BYTE, &[cylinder, head, sector, size])
-    {
-        return None;
-    }
-    Some(sector)
+    Some(HeaderName::Address {
+        cylinder,
+        head,
+        sector,
+        size_code,
+    })
 }

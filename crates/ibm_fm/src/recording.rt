@@ -1,5 +1,7 @@
 ghost use Rattle.std.specs.Prelude.{◌≡◌, ℕ, ◌+◌, false, refl};
-ghost use Rattle.std.proofs.Common.{lit≤, sym, ◌∙◌};
+ghost use Rattle.std.proofs.Common.{inl, inr, lit≤, sym, ◌∙◌};
+ghost use Rattle.ibm_fields.specs.Fields.{sector_name};
+ghost use Rattle.ibm_fm.specs.lemmas.DataSyncs.{own_data};
 ghost use Rattle.frame_law.specs.lemmas.OwnFrames.{fixed_ends};
 ghost use Rattle.ibm_fm.specs.lemmas.FrameLaws.{frame_stands};
 ghost use Rattle.ibm_fm.specs.Disks.{IsFmTrack, disk_of as numbers_of, rows_of};
@@ -7,19 +9,19 @@ ghost use Rattle.ibm_fm.specs.lemmas.DiskLaws.{counts, sums, within_reach};
 ghost use Rattle.ibm_fm.specs.Layout.{row_cells, row_size};
 ghost use Rattle.ibm_fm.specs.lemmas.OwnLaws.{data_long, header_short, tells};
 ghost use Rattle.ibm_fm.specs.lemmas.RowLaws.{row_follows, row_length};
-ghost use Rattle.ibm_fm.specs.Sectors.{DATA_CELLS, Hold, IsSync, NamesSector};
-ghost use Rattle.ibm_fm.specs.lemmas.StandLaws.{bytes_held, one_name, sizes};
+ghost use Rattle.ibm_fm.specs.Sectors.{DATA_CELLS, Hold, IsSync, Names, NamesSector};
+ghost use Rattle.ibm_fm.specs.lemmas.StandLaws.{bytes_held, id_mark_syncs, named_sector, one_name, sizes};
 ghost use Rattle.ibm_fm.specs.lemmas.Syncs.{own_syncs};
 
 use crate::data_field::{next_sync, read_field};
-use crate::header::named_sector;
+use crate::header::header_name;
 use crate::layout::{
     ACORN_LEAD_IN, HEADER_CELLS, LEAD_IN, LEAD_OUT, MARK_CELLS, Row, SECTOR, data_cells, disk_of,
 };
 use crate::rows::push_row;
 use cell_bits::{Cells, FM_ID_MARK};
 use flux_base::{Memory, TrackId};
-use frame_law::{CellsFrom, Layout, SectorBuffer};
+use frame_law::{CellsFrom, HeaderName, Layout, SectorBuffer};
 
 /// The single density recording of the IBM 3740 diskette, with its numbers or with those of another disk that has
 /// it.
@@ -64,6 +66,10 @@ impl Layout for IbmFm {
     ghost track_cells = { λ r track. (numbers_of r).cells };
 
     ghost names_sector = { λ r track cells s. NamesSector (numbers_of r).size_code track cells s };
+
+    ghost names = { λ r cells name. Names cells name };
+
+    ghost name_of = { λ r track s. sector_name track s (numbers_of r).size_code };
 
     ghost is_sync = { λ r cells place. IsSync cells place };
 
@@ -133,8 +139,12 @@ impl Layout for IbmFm {
         frame.end_within(HEADER_CELLS)
     }
 
-    fn read_header(&self, frame: &CellsFrom, track: TrackId) -> Option<u8> {
-        named_sector(frame, track, disk_of(*self).size_code)
+    fn read_name(&self, frame: &CellsFrom) -> Option<HeaderName> {
+        header_name(frame)
+    }
+
+    fn sector_named(&self, track: TrackId, name: HeaderName) -> Option<u8> {
+        name.sector_of_cylinder(track.cylinder, track.head, disk_of(*self).size_code)
     }
 
     fn next_sync(&self, frame: &CellsFrom, from: usize, to: usize) -> Option<usize> {
@@ -163,7 +173,9 @@ impl Layout for IbmFm {
 
     ghost ends = { λ r track before known. refl };
 
-    ghost one_name = { λ r track cells s t first second. one_name (numbers_of r).size_code track cells s t first second };
+    ghost named_sector = { λ r track. named_sector (numbers_of r).size_code track };
+
+    ghost one_name = { λ r cells n m first second. one_name cells n m first second };
 
     ghost one_content = { λ r cells sync xs ys first second. sym first.content ∙ second.content };
 
@@ -177,7 +189,11 @@ impl Layout for IbmFm {
 
     ghost tells_ends = { λ r. fixed_ends 112 (DATA_CELLS (numbers_of r).sector_size) (data_long (numbers_of r).sector_size) (header_short r) };
 
-    ghost tells = { λ r track. tells (numbers_of r).size_code (numbers_of r).sector_size track };
+    ghost tells = { λ r. tells (numbers_of r).sector_size };
 
     ghost own_syncs = { λ r track known. own_syncs r track };
+
+    ghost header_syncs = { λ r. inl (λ cells place name stands named. id_mark_syncs cells place stands) };
+
+    ghost own_data = { λ r track known. inr (own_data r track) };
 }

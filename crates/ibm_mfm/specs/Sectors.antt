@@ -5,7 +5,8 @@ use Rattle.flux_base.specs.declared.track.TrackId.{TrackId}
 use Rattle.cell_bits.specs.Bytes.{data_byte}
 use Rattle.cell_bits.specs.Word.{Stands}
 use Rattle.check_values.specs.Crc.{crc}
-use Rattle.ibm_fields.specs.Fields.{CHECK_START, DATA_BYTE, DELETED_DATA_BYTE, ID_BYTE, address, bytes_at, number_at}
+use Rattle.frame_law.specs.declared.header_name.HeaderName.{HeaderName}
+use Rattle.ibm_fields.specs.Fields.{CHECK_START, DATA_BYTE, DELETED_DATA_BYTE, ID_BYTE, address, address_named, bytes_at, number_at, sector_name}
 use Rattle.mfm_coding.specs.Coding.{SYNC_MARK}
 
 -- the bytes of a sector
@@ -42,13 +43,17 @@ ADDRESS_PLACE = 64
 abbrev pub ADDRESS_CHECK_PLACE : ℕ
 ADDRESS_CHECK_PLACE = 128
 
--- a header names a sector of this track: its third mark (the two before it are the sync with which all headers begin), the byte FE,
--- the sector's address, and the check value of the marks' bytes, of this byte and of the address
-pub record NamesSector (track : TrackId) (cells : List Bool) (sector : ℕ) : Type 0 where
+-- a header has a name: its third mark (the two before it are the sync with which all headers begin), the byte FE, the address of
+-- this name, and the check value of the marks' bytes, of this byte and of the address
+pub record Names (cells : List Bool) (name : HeaderName) : Type 0 where
   pub third : Stands cells SYNC_MARK 16 THIRD_MARK_PLACE
   pub first : data_byte cells FIRST_BYTE_PLACE ≡ ID_BYTE
-  pub address : bytes_at cells ADDRESS_PLACE 4 ≡ address_of track sector
-  pub check : number_at cells ADDRESS_CHECK_PLACE ≡ check_of ID_BYTE (address_of track sector)
+  pub address : bytes_at cells ADDRESS_PLACE 4 ≡ address_named name
+  pub check : number_at cells ADDRESS_CHECK_PLACE ≡ check_of ID_BYTE (address_named name)
+
+-- a header names a sector: its name is that of this sector of this track
+abbrev pub NamesSector : TrackId → List Bool → ℕ → Type 0
+NamesSector track cells sector = Names cells (sector_name track sector SIZE_CODE)
 
 -- a byte that opens data
 abbrev pub OpensData : ℕ → Type 0

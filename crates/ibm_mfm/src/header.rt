@@ -1,20 +1,21 @@
-ghost use Rattle.std.specs.Prelude.{◌≡◌, ℕ, ◌≤◌, length, IfNone, IfSome};
-ghost use Rattle.ibm_mfm.specs.Sectors.{NamesSector};
+ghost use Rattle.std.specs.Prelude.{◌≡◌, ◌≤◌, length, IfNone, IfSome};
+ghost use Rattle.frame_law.specs.declared.header_name.HeaderName.{HeaderName};
+ghost use Rattle.ibm_mfm.specs.Sectors.{Names};
 
 use crate::layout::{
-    ADDRESS_CHECK_PLACE, ADDRESS_PLACE, FIRST_BYTE_PLACE, MARK_CELLS, SIZE_CODE, THIRD_MARK_PLACE,
+    ADDRESS_CHECK_PLACE, ADDRESS_PLACE, FIRST_BYTE_PLACE, MARK_CELLS, THIRD_MARK_PLACE,
 };
 use crate::rows::field_check;
 use cell_bits::MFM_A1_MARK;
-use flux_base::TrackId;
-use frame_law::CellsFrom;
+use frame_law::{CellsFrom, HeaderName};
 use ibm_fields::{ID_BYTE, address_at, number_at};
 
-/// The sector of this track that the header at the front of the cells, which are as many as one has, names.
-pub(crate) fn named_sector(frame: &CellsFrom, track: TrackId) -> Option<u8>
+/// What the header at the front of the cells, which are as many as one has, names. None where it is none, or its check
+/// value is another.
+pub(crate) fn header_name(frame: &CellsFrom) -> Option<HeaderName>
     requires { 160 ≤ length frame.now }
-    ensures named { IfSome result (λ s. NamesSector track frame.now s) }
-    ensures none { IfNone result ((s : ℕ) → ¬ NamesSector track frame.now s) }
+    ensures named { IfSome result (λ name. Names frame.now name) }
+    ensures none { IfNone result ((name : HeaderName) → ¬ Names frame.now name) }
 {
     if !frame.stands_at(THIRD_MARK_PLACE, MFM_A1_MARK, MARK_CELLS) {
         return None;
@@ -22,14 +23,15 @@ pub(crate) fn named_sector(frame: &CellsFrom, track: TrackId) -> Option<u8>
     if frame.byte_at(FIRST_BYTE_PLACE) != ID_BYTE {
         return None;
     }
-    let [cylinder, head, sector, size] = address_at(frame, ADDRESS_PLACE);
-    if cylinder != track.cylinder || head != track.head || size != SIZE_CODE {
+    let [cylinder, head, sector, size_code] = address_at(frame, ADDRESS_PLACE);
+    let check = field_check(ID_BYTE, &[cylinder, head, sector, size_code]);
+    if number_at(frame, ADDRESS_CHECK_PLACE) != check {
         return None;
     }
-    if number_at(frame, ADDRESS_CHECK_PLACE)
-        != field_check(ID_BYTE, &[cylinder, head, sector, size])
-    {
-        return None;
-    }
-    Some(sector)
+    Some(HeaderName::Address {
+        cylinder,
+        head,
+        sector,
+        size_code,
+    })
 }

@@ -1,26 +1,28 @@
 ghost use Rattle.std.specs.Prelude.{◌≡◌, ℕ, ◌+◌, true, refl};
-ghost use Rattle.std.proofs.Common.{lit≤, sym, ◌∙◌};
+ghost use Rattle.std.proofs.Common.{inl, inr, lit≤, sym, ◌∙◌};
+ghost use Rattle.ibm_fields.specs.Fields.{sector_name};
+ghost use Rattle.ibm_mfm.specs.lemmas.DataSyncs.{own_data};
 ghost use Rattle.frame_law.specs.lemmas.OwnFrames.{fixed_ends};
 ghost use Rattle.ibm_mfm.specs.lemmas.DiskLaws.{counts, ends, sums};
 ghost use Rattle.ibm_mfm.specs.Disks.{IsMfmTrack, disk_of as numbers_of};
 ghost use Rattle.ibm_mfm.specs.lemmas.FrameLaws.{frame_stands};
 ghost use Rattle.ibm_mfm.specs.lemmas.HeaderSyncs.{own_syncs};
 ghost use Rattle.ibm_mfm.specs.Layout.{row_cells, row_size, rows};
-ghost use Rattle.ibm_mfm.specs.lemmas.OwnLaws.{bytes_held, one_name, sizes, tells, within_reach};
+ghost use Rattle.ibm_mfm.specs.lemmas.OwnLaws.{bytes_held, marks_sync, named_sector, one_name, sizes, tells, within_reach};
 ghost use Rattle.ibm_mfm.specs.lemmas.RowLaws.{row_follows, row_length};
-ghost use Rattle.ibm_mfm.specs.Sectors.{Hold, NamesSector};
+ghost use Rattle.ibm_mfm.specs.Sectors.{Hold, Names, NamesSector};
 ghost use Rattle.ibm_mfm.specs.Syncs.{SyncAt};
 
 use crate::data_field::{next_sync, read_field};
-use crate::header::named_sector;
+use crate::header::header_name;
 use crate::layout::{
-    DATA_CELLS, HEADER_CELLS, LEAD_IN, LEAD_OUT, Row, SECTOR, SECTOR_SIZE, TWO_MARKS,
+    DATA_CELLS, HEADER_CELLS, LEAD_IN, LEAD_OUT, Row, SECTOR, SECTOR_SIZE, SIZE_CODE, TWO_MARKS,
     TWO_MARKS_CELLS, disk_of,
 };
 use crate::rows::push_row;
 use cell_bits::Cells;
 use flux_base::{Memory, TrackId};
-use frame_law::{CellsFrom, Layout, SectorBuffer};
+use frame_law::{CellsFrom, HeaderName, Layout, SectorBuffer};
 
 /// The double density recording of the PC's disks, in the form of the IBM System 34, with the numbers of one of
 /// the disks that have it. The tracks are the cylinders 0 to 79 with the heads 0 and 1. Sectors are numbered from
@@ -75,6 +77,10 @@ impl Layout for IbmMfm {
     ghost track_cells = { λ r track. (numbers_of r).cells };
 
     ghost names_sector = { λ r track cells s. NamesSector track cells s };
+
+    ghost names = { λ r cells name. Names cells name };
+
+    ghost name_of = { λ r track s. sector_name track s 2 };
 
     ghost is_sync = { λ r cells place. SyncAt cells place };
 
@@ -141,8 +147,12 @@ impl Layout for IbmMfm {
         frame.end_within(HEADER_CELLS)
     }
 
-    fn read_header(&self, frame: &CellsFrom, track: TrackId) -> Option<u8> {
-        named_sector(frame, track)
+    fn read_name(&self, frame: &CellsFrom) -> Option<HeaderName> {
+        header_name(frame)
+    }
+
+    fn sector_named(&self, track: TrackId, name: HeaderName) -> Option<u8> {
+        name.sector_of_cylinder(track.cylinder, track.head, SIZE_CODE)
     }
 
     fn next_sync(&self, frame: &CellsFrom, from: usize, to: usize) -> Option<usize> {
@@ -171,7 +181,9 @@ impl Layout for IbmMfm {
 
     ghost ends = { λ r track before known. ends r track before };
 
-    ghost one_name = { λ r track cells s t first second. one_name track cells s t first second };
+    ghost named_sector = { λ r track. named_sector track };
+
+    ghost one_name = { λ r cells n m first second. one_name cells n m first second };
 
     ghost one_content = { λ r cells sync xs ys first second. sym first.content ∙ second.content };
 
@@ -185,7 +197,11 @@ impl Layout for IbmMfm {
 
     ghost tells_ends = { λ r. fixed_ends 160 8288 (lit≤ tt) (lit≤ tt) };
 
-    ghost tells = { λ r track. tells track };
+    ghost tells = { λ r. tells };
 
     ghost own_syncs = { λ r track known. own_syncs r track };
+
+    ghost header_syncs = { λ r. inl (λ cells place name stands named. marks_sync cells place name stands named) };
+
+    ghost own_data = { λ r track known. inr (own_data r track) };
 }

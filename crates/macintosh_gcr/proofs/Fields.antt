@@ -1,12 +1,13 @@
 -- A header's name and what data hold, by the values that are read.
-use Rattle.std.proofs.Common.{◌≡◌, ℕ, zero, suc, ◌+◌, ◌*◌, ◌/◌, ◌%◌, ◌<◌, Bool, List, [], ◌∷◌, length, take, drop, get_or, ap, sym, subst, ◌∙◌, arith, refl, length-drop, Option, Some, None, IfNone}
+use Rattle.std.proofs.Common.{◌≡◌, ℕ, zero, suc, ◌+◌, ◌*◌, Bool, List, [], ◌∷◌, length, take, drop, get_or, ap, sym, subst, ◌∙◌, arith, refl, length-drop, Option, Some, None, IfNone}
 use Rattle.std.proofs.lemmas.List.{ext_get_or, length-take, take-append-drop}
 use Rattle.check_values.specs.Sums.{xor}
-use Rattle.flux_base.specs.declared.track.TrackId.{TrackId}
 use Rattle.apple_nibbles.specs.Nibbles.{disk_byte, nibble}
 use Rattle.macintosh_gcr.specs.Coding.{AreSixBits, IsCoded}
-use Rattle.macintosh_gcr.specs.Sectors.{Hold, NamesSector, NibblesAt, header_values, name_of}
-use Rattle.macintosh_gcr.specs.lemmas.RowLaws.{name-fit}
+use Rattle.macintosh_gcr.specs.Sectors.{Hold, Names, NamesValues, NibblesAt, checked, named_values}
+use Rattle.frame_law.specs.declared.header_name.HeaderName.{HeaderName}
+use Rattle.frame_law.specs.declared.header_name.HeaderName.TheVariants.{Address, TrackSector}
+use Rattle.macintosh_gcr.specs.lemmas.RowLaws.{values-fit}
 use Rattle.macintosh_gcr.specs.lemmas.Values.{one_nibble}
 
 -- what holds whether or not there is a value
@@ -33,39 +34,46 @@ one_list cells place xs ys same fit also first second =
     one_nibble (disk_byte cells (place + 8 * k)) (disk_byte cells (place + 8 * k)) xs ys k fit also refl (first k below)
     (second k (omega (arith, same, below))))
 
-module _ (track : TrackId) (cells : List Bool) (values : List ℕ) (cylinder : track.cylinder < 80) (head : track.head < 2)
-    (size : length values ≡ 5) (fit : AreSixBits values) (stand : NibblesAt cells 24 values) where
-  -- a header that names a sector has these values
-  module _ (s : ℕ) (names : NamesSector track cells s) where
-    pub all-named : values ≡ header_values track s names.format
-    all-named =
-        one_list cells 24 values (header_values track s names.format) size fit
-        (name-fit track s names.format cylinder head names.sector_fits names.format_fits) stand names.values
+-- a header that has a name has five values, the last of which is the check value of the others
+pub named-list : (cells : List Bool) (name : HeaderName) → Names cells name
+    → (values : List ℕ) × (length values ≡ 5) × AreSixBits values × NibblesAt cells 24 values
+    × (get_or values 4 0 ≡ xor (get_or values 0 0 ∷ get_or values 1 0 ∷ get_or values 2 0 ∷ get_or values 3 0 ∷ []))
+named-list cells (TrackSector track sector) names = absurd names
+named-list cells (Address low side sector size) names =
+    let own = names.0 in (
+      checked (named_values low side sector own.format),
+      refl,
+      values-fit low side sector own.format own.low_fits own.side_fits own.sector_fits own.format_fits,
+      own.values,
+      refl,
+    )
 
-    pub value-named : (k : ℕ) → get_or values k 0 ≡ get_or (header_values track s names.format) k 0
-    value-named k = ap (λ (some : List ℕ). get_or some k 0) all-named
-
-    pub check-named : get_or values 4 0 ≡ xor (get_or values 0 0 ∷ get_or values 1 0 ∷ get_or values 2 0 ∷ get_or values 3 0 ∷ [])
-    check-named =
-        value-named 4
-        ∙ ap xor (sym (ap (λ (some : List ℕ). get_or some 0 0 ∷ get_or some 1 0 ∷ get_or some 2 0 ∷ get_or some 3 0 ∷ []) all-named))
-
-  -- and one that has them names a sector
-  pub names-so : get_or values 0 0 ≡ track.cylinder % 64 → get_or values 2 0 ≡ 32 * track.head + track.cylinder / 64
+module _ (cells : List Bool) (values : List ℕ) (size : length values ≡ 5) (fit : AreSixBits values) (stand : NibblesAt cells 24 values) where
+  -- these are they
+  pub check-named : (name : HeaderName) → Names cells name
       → get_or values 4 0 ≡ xor (get_or values 0 0 ∷ get_or values 1 0 ∷ get_or values 2 0 ∷ get_or values 3 0 ∷ [])
-      → NamesSector track cells (get_or values 1 0)
-  names-so low side check =
+  check-named name names =
+      let there = named-list cells name names in
+      let same = one_list cells 24 there.0 values (there.1 ∙ sym size) there.2 fit there.3 stand in
+      subst (λ (some : List ℕ). get_or some 4 0 ≡ xor (get_or some 0 0 ∷ get_or some 1 0 ∷ get_or some 2 0 ∷ get_or some 3 0 ∷ [])) same there.4
+
+  -- and a header that has such values has a name
+  pub names-so : get_or values 4 0 ≡ xor (get_or values 0 0 ∷ get_or values 1 0 ∷ get_or values 2 0 ∷ get_or values 3 0 ∷ [])
+      → NamesValues (get_or values 0 0) (get_or values 2 0) cells (get_or values 1 0)
+  names-so check =
+      let low = get_or values 0 0 in
       let s = get_or values 1 0 in
+      let side = get_or values 2 0 in
       let format = get_or values 3 0 in
-      let last : get_or values 4 0 ≡ xor (name_of track s format) =
-      check ∙ ap (λ (n : ℕ). xor (n ∷ s ∷ get_or values 2 0 ∷ format ∷ [])) low ∙ ap (λ (n : ℕ). xor (track.cylinder % 64 ∷ s ∷ n ∷ format ∷ [])) side in
       record {
         format = format;
         format_fits = fit 3;
+        low_fits = fit 0;
+        side_fits = fit 2;
         sector_fits = fit 1;
-        values = five-stand cells (track.cylinder % 64) s (32 * track.head + track.cylinder / 64) format (xor (name_of track s format))
-            (stand 0 (omega (arith, size)) ∙ ap nibble low) (stand 1 (omega (arith, size))) (stand 2 (omega (arith, size)) ∙ ap nibble side)
-            (stand 3 (omega (arith, size))) (stand 4 (omega (arith, size)) ∙ ap nibble last);
+        values = five-stand cells low s side format (xor (named_values low side s format))
+            (stand 0 (omega (arith, size))) (stand 1 (omega (arith, size))) (stand 2 (omega (arith, size)))
+            (stand 3 (omega (arith, size))) (stand 4 (omega (arith, size)) ∙ ap nibble check);
       }
 
 -- data that hold what was read

@@ -5,6 +5,8 @@ use Rattle.check_values.specs.Sums.{xor}
 use Rattle.disk_zones.specs.Zones.{macintosh_zone}
 use Rattle.disk_zones.specs.declared.zones.Zone.{Zone}
 use Rattle.frame_law.specs.Frames.{DataStand, HeaderStands as Header, SectorStands as Sector}
+use Rattle.frame_law.specs.declared.header_name.HeaderName.{HeaderName}
+use Rattle.frame_law.specs.declared.header_name.HeaderName.TheVariants.{Address, TrackSector}
 use Rattle.apple_nibbles.specs.Marks.{ADDRESS_MARK, DATA_BYTE, IsSync, MARK_CELLS}
 use Rattle.apple_nibbles.specs.Nibbles.{disk_byte, nibble}
 use Rattle.macintosh_gcr.specs.Coding.{IsCoded, TAGS}
@@ -37,21 +39,49 @@ SECTOR_SIZE = 512
 abbrev pub NibblesAt : List Bool → ℕ → List ℕ → Type 0
 NibblesAt cells place values = (k : ℕ) → k < length values → disk_byte cells (place + 8 * k) ≡ nibble (get_or values k 0)
 
--- the name of a sector: the low six bits of its cylinder, its number, its head and the cylinder's seventh bit, and a number that says
--- how the disk was formatted
+-- the values by which a header names a track: the low six bits of its cylinder, and its head with the cylinder's seventh bit
+abbrev pub low_value : TrackId → ℕ
+low_value track = track.cylinder % 64
+
+abbrev pub side_value : TrackId → ℕ
+side_value track = 32 * track.head + track.cylinder / 64
+
+-- the values of a name: those of the track, the sector's number between them, and a number that says how the disk was formatted
+abbrev pub named_values : ℕ → ℕ → ℕ → ℕ → List ℕ
+named_values low side sector format = low ∷ sector ∷ side ∷ format ∷ []
+
+-- the name of a sector
 abbrev pub name_of : TrackId → ℕ → ℕ → List ℕ
-name_of track sector format = track.cylinder % 64 ∷ sector ∷ (32 * track.head + track.cylinder / 64) ∷ format ∷ []
+name_of track sector format = named_values (low_value track) (side_value track) sector format
+
+-- with its check value
+abbrev pub checked : List ℕ → List ℕ
+checked values = values ++ xor values ∷ []
 
 -- a header's values: the name, and its check value
 abbrev pub header_values : TrackId → ℕ → ℕ → List ℕ
-header_values track sector format = name_of track sector format ++ xor (name_of track sector format) ∷ []
+header_values track sector format = checked (name_of track sector format)
 
--- a header names a sector: the nibbles of its values stand after the mark, whatever the disk's format
-pub record NamesSector (track : TrackId) (cells : List Bool) (sector : ℕ) : Type 0 where
+-- a header names a track by such values and a sector: their nibbles stand after the mark, whatever the disk's format
+pub record NamesValues (low side : ℕ) (cells : List Bool) (sector : ℕ) : Type 0 where
   pub format : ℕ
   pub format_fits : format < 64
+  pub low_fits : low < 64
+  pub side_fits : side < 64
   pub sector_fits : sector < 64
-  pub values : NibblesAt cells MARK_CELLS (header_values track sector format)
+  pub values : NibblesAt cells MARK_CELLS (checked (named_values low side sector format))
+
+-- it has a name: the two values, and no code of a size
+abbrev pub Names : List Bool → HeaderName → Type 0
+Names cells (Address low side sector size) = NamesValues low side cells sector × (size ≡ 0)
+Names cells (TrackSector track sector) = ⊥
+
+abbrev pub sector_name : TrackId → ℕ → HeaderName
+sector_name track sector = Address (low_value track) (side_value track) sector 0
+
+-- it names a sector of this track
+abbrev pub NamesSector : TrackId → List Bool → ℕ → Type 0
+NamesSector track cells sector = NamesValues (low_value track) (side_value track) cells sector
 
 -- the cells of a header: its mark and five nibbles
 abbrev pub HEADER_CELLS : ℕ

@@ -1,34 +1,43 @@
-ghost use Rattle.std.specs.Prelude.{◌≡◌, ℕ, ◌+◌, ◌*◌, ◌/◌, ◌<◌, ◌≤◌, List, length, IfNone, IfSome};
+ghost use Rattle.std.specs.Prelude.{◌≡◌, ◌≢◌, ℕ, ◌+◌, ◌*◌, ◌/◌, ◌<◌, ◌≤◌, List, length, IfNone, IfSome};
 ghost use Rattle.macintosh_gcr.specs.Coding.{AreSixBits};
 ghost use Rattle.macintosh_gcr.specs.Layout.{format_of};
-ghost use Rattle.macintosh_gcr.specs.Sectors.{IsMacintoshTrack, NamesSector, NibblesAt, header_values as values_of_header};
+ghost use Rattle.macintosh_gcr.specs.Sectors.{IsMacintoshTrack, Names, NibblesAt, header_values as values_of_header, sector_name};
+ghost use Rattle.frame_law.specs.declared.header_name.HeaderName.{HeaderName};
 
 use crate::layout::NAME_PLACE;
 use crate::recording::MacintoshGcr;
 use apple_nibbles::{disk_byte_at, value_of};
 use check_values::xor_bytes;
 use flux_base::TrackId;
-use frame_law::CellsFrom;
+use frame_law::{CellsFrom, HeaderName};
 
-/// The sector of this track that the header at the front of the cells, which are as many as one has, names.
-pub(crate) fn named_sector(frame: &CellsFrom, track: TrackId) -> Option<u8>
+/// What the header at the front of the cells, which are as many as one has, names. None where it is none, or its check
+/// value is another.
+pub(crate) fn header_name(frame: &CellsFrom) -> Option<HeaderName>
+    requires { 64 ≤ length frame.now }
+    ensures named { IfSome result (λ name. Names frame.now name) }
+    ensures none { IfNone result ((name : HeaderName) → ¬ Names frame.now name) }
+{
+    let [low, sector, side, format, check] = header_values_at(frame)?;
+    if check != xor_bytes(&[low, sector, side, format]) {
+        return None;
+    }
+    Some(HeaderName::Address {
+        cylinder: low,
+        head: side,
+        sector,
+        size_code: 0,
+    })
+}
+
+/// The sector of this track that has the name.
+pub(crate) fn sector_named(track: TrackId, name: HeaderName) -> Option<u8>
     requires cylinder { track.cylinder < 80 }
     requires head { track.head < 2 }
-    requires whole { 64 ≤ length frame.now }
-    ensures named { IfSome result (λ s. NamesSector track frame.now s) }
-    ensures none { IfNone result ((s : ℕ) → ¬ NamesSector track frame.now s) }
+    ensures named { IfSome result (λ sector. name ≡ sector_name track sector) }
+    ensures none { IfNone result ((sector : ℕ) → name ≢ sector_name track sector) }
 {
-    let [low, sector, high, format, check] = header_values_at(frame)?;
-    if low != track.cylinder % 64 {
-        return None;
-    }
-    if high != side_value(track) {
-        return None;
-    }
-    if check != xor_bytes(&[low, sector, high, format]) {
-        return None;
-    }
-    Some(sector)
+    name.sector_of_cylinder(track.cylinder % 64, side_value(track), 0)
 }
 
 /// The five values after the mark at the front of the cells. None where one of them is no nibble.

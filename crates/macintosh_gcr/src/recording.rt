@@ -1,17 +1,18 @@
 ghost use Rattle.std.specs.Prelude.{◌≡◌, ℕ, ◌+◌, false, refl};
-ghost use Rattle.std.proofs.Common.{lit≤};
+ghost use Rattle.std.proofs.Common.{inl, inr, lit≤};
 ghost use Rattle.frame_law.specs.lemmas.OwnFrames.{fixed_ends};
 ghost use Rattle.apple_nibbles.specs.Marks.{IsSync};
 ghost use Rattle.macintosh_gcr.specs.lemmas.FrameLaws.{frame_stands};
 ghost use Rattle.macintosh_gcr.specs.Layout.{format_of, row_cells, row_size, rows};
-ghost use Rattle.macintosh_gcr.specs.lemmas.OwnLaws.{one_content, one_name, sizes, tells, within_reach};
+ghost use Rattle.macintosh_gcr.specs.lemmas.OwnLaws.{named_sector, one_content, one_name, sizes, tells, within_reach};
 ghost use Rattle.macintosh_gcr.specs.lemmas.RowLaws.{row_follows, row_length};
-ghost use Rattle.macintosh_gcr.specs.Sectors.{Hold, IsMacintoshTrack, NamesSector, sectors_of, zone_of};
-ghost use Rattle.macintosh_gcr.specs.lemmas.Syncs.{own_syncs};
+ghost use Rattle.macintosh_gcr.specs.Sectors.{Hold, IsMacintoshTrack, Names, NamesSector, sector_name, sectors_of, zone_of};
+ghost use Rattle.macintosh_gcr.specs.lemmas.Syncs.{own_data, own_syncs};
+ghost use Rattle.apple_nibbles.specs.lemmas.FieldSyncs.{mark_syncs};
 ghost use Rattle.macintosh_gcr.specs.lemmas.ZoneLaws.{counts, sums};
 
 use crate::data_field::read_field;
-use crate::header::named_sector;
+use crate::header::{header_name, sector_named};
 use crate::layout::{
     DATA_CELLS, FIRST_SECTOR, HEADER_CELLS, LEAD_IN, LEAD_OUT, Row, SECTOR, SECTOR_SIZE,
 };
@@ -20,7 +21,7 @@ use apple_nibbles::{ADDRESS_MARK, MARK_CELLS, next_sync};
 use cell_bits::Cells;
 use disk_zones::macintosh_zone;
 use flux_base::{Memory, TrackId};
-use frame_law::{CellsFrom, Layout, SectorBuffer};
+use frame_law::{CellsFrom, HeaderName, Layout, SectorBuffer};
 
 /// The recording of the Macintosh's disks of 400 and 800 KB. Its tracks are the cylinders 0 to 79. Its sectors are
 /// numbered from 0, as their headers name them, and are written in this order.
@@ -76,6 +77,10 @@ impl Layout for MacintoshGcr {
     ghost track_cells = { λ r track. (zone_of track).ring_cells };
 
     ghost names_sector = { λ r track cells s. NamesSector track cells s };
+
+    ghost names = { λ r cells name. Names cells name };
+
+    ghost name_of = { λ r track s. sector_name track s };
 
     ghost is_sync = { λ r cells place. IsSync cells place };
 
@@ -142,8 +147,12 @@ impl Layout for MacintoshGcr {
         frame.end_within(HEADER_CELLS)
     }
 
-    fn read_header(&self, frame: &CellsFrom, track: TrackId) -> Option<u8> {
-        named_sector(frame, track)
+    fn read_name(&self, frame: &CellsFrom) -> Option<HeaderName> {
+        header_name(frame)
+    }
+
+    fn sector_named(&self, track: TrackId, name: HeaderName) -> Option<u8> {
+        sector_named(track, name)
     }
 
     fn next_sync(&self, frame: &CellsFrom, from: usize, to: usize) -> Option<usize> {
@@ -172,7 +181,9 @@ impl Layout for MacintoshGcr {
 
     ghost ends = { λ r track before known. refl };
 
-    ghost one_name = { λ r track cells s t first second. one_name track cells s t first second };
+    ghost named_sector = { λ r track. named_sector track };
+
+    ghost one_name = { λ r cells n m first second. one_name cells n m first second };
 
     ghost one_content = { λ r cells sync xs ys first second. one_content cells sync xs ys first second };
 
@@ -186,7 +197,11 @@ impl Layout for MacintoshGcr {
 
     ghost tells_ends = { λ r. fixed_ends 64 5656 (lit≤ tt) (lit≤ tt) };
 
-    ghost tells = { λ r track. tells track };
+    ghost tells = { λ r. tells };
 
     ghost own_syncs = { λ r track known. own_syncs r track known };
+
+    ghost header_syncs = { λ r. inl (λ cells place name stands named. mark_syncs cells place stands) };
+
+    ghost own_data = { λ r track known. inr (own_data r track known) };
 }

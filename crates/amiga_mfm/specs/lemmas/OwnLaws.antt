@@ -7,7 +7,6 @@ use Rattle.std.specs.Simd.Lanes.{zip2}
 use Rattle.std.proofs.Common.{ap, sym, ◌∙◌, arith, lit≤}
 use Rattle.std.proofs.lemmas.List.{map-append}
 use Rattle.std.proofs.lemmas.List.Sums.{fold-append}
-use Rattle.flux_base.specs.declared.track.TrackId.{TrackId}
 use Rattle.cell_bits.specs.Word.{word}
 use Rattle.check_values.specs.Sums.{data_xor, xor}
 use Rattle.track_rings.specs.lemmas.Fronts.{AgreeTo, agree-word}
@@ -15,7 +14,9 @@ use Rattle.frame_law.specs.lemmas.OwnFrames.{TellsEarly}
 use Rattle.amiga_mfm.specs.lemmas.LongLaws.{length-raw, longs-read, raw-append, raw-last}
 use Rattle.amiga_mfm.specs.Longs.{long_at, long_of_halves, longs_at, raw_longs, without_clocks}
 use Rattle.amiga_mfm.specs.lemmas.Masks.{masked-xor}
-use Rattle.amiga_mfm.specs.Sectors.{Hold, IsDataPlace, NamesSector, track_number}
+use Rattle.amiga_mfm.specs.Sectors.{Hold, IsDataPlace, Names}
+use Rattle.frame_law.specs.declared.header_name.HeaderName.{HeaderName}
+use Rattle.frame_law.specs.declared.header_name.HeaderName.TheVariants.{Address, TrackSector}
 
 -- longs are the same in all cells that agree
 module _ (total : ℕ) (cells others : List Bool) (same : AgreeTo total cells others) where
@@ -39,17 +40,19 @@ module _ (total : ℕ) (cells others : List Bool) (same : AgreeTo total cells ot
       let even = agree-raw (place + 32 * count) count (omega (arith, long)) in
       λ i. zip2 long_of_halves (odd i) (even i)
 
-named : (track : TrackId) (cells others : List Bool) (s : ℕ) → AgreeTo 480 cells others → NamesSector track cells s → NamesSector track others s
-named track cells others s same names = record {
+named : (cells others : List Bool) (n : HeaderName) → AgreeTo 480 cells others → Names cells n → Names others n
+named cells others (Address cylinder head sector size) same names = absurd names
+named cells others (TrackSector track s) same names = record {
   info = ap (λ (info : ℕ). take 3 (to_be_bytes w32 info)) (sym (agree-long 480 cells others same 32 32 (lit≤ tt) (lit≤ tt))) ∙ names.info;
   check = sym (agree-long 480 cells others same 352 32 (lit≤ tt) (lit≤ tt)) ∙ names.check ∙ ap data_xor (agree-raw 480 cells others same 32 10 (lit≤ tt));
 }
 
 -- the info stands before the last seven cells
-named_early : (track : TrackId) (cells others : List Bool) (s t : ℕ) → AgreeTo 473 cells others → NamesSector track cells s
-    → NamesSector track others t → s ≡ t
-named_early track cells others s t same first second =
-    let both : 0xFF ∷ track_number track ∷ s ∷ [] ≡ 0xFF ∷ track_number track ∷ t ∷ [] =
+named_early : (cells others : List Bool) (n m : HeaderName) → AgreeTo 473 cells others → Names cells n → Names others m → n ≡ m
+named_early cells others (Address cylinder head sector size) m same first second = absurd first
+named_early cells others (TrackSector track s) (Address cylinder head sector size) same first second = absurd second
+named_early cells others (TrackSector track s) (TrackSector other t) same first second =
+    let both : 0xFF ∷ track ∷ s ∷ [] ≡ 0xFF ∷ other ∷ t ∷ [] =
     sym first.info ∙ ap (λ (info : ℕ). take 3 (to_be_bytes w32 info)) (agree-long 473 cells others same 32 32 (lit≤ tt) (lit≤ tt)) ∙ second.info in
     cc
 
@@ -99,11 +102,11 @@ held_early cells others place xs ys same first second =
     (longs-read cells place 128 (raw_longs others place 128) (raw_longs others (place + 4096) 128) (length-raw others place 128) all)
     ∙ second.content
 
-pub tells : (track : TrackId) → TellsEarly 32 480 8192 (λ cells. 480) (λ cells sync. sync + 8192) (NamesSector track) IsDataPlace Hold
-tells track = record {
+pub tells : TellsEarly 32 480 8192 (λ cells. 480) (λ cells sync. sync + 8192) Names IsDataPlace Hold
+tells = record {
   sync_within = lit≤ tt;
-  named = named track;
-  named_early = named_early track;
+  named = named;
+  named_early = named_early;
   synced = λ cells others place same is. is;
   held = held;
   held_early = held_early;

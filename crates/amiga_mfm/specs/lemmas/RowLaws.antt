@@ -15,7 +15,10 @@ use Rattle.amiga_mfm.specs.declared.layout.Row.TheVariants.{Run, Header, Content
 use Rattle.amiga_mfm.specs.Layout.{content_halves, halves_symbols, header_halves, info_of, row_size, row_symbols, rows}
 use Rattle.amiga_mfm.specs.lemmas.LongLaws.{length-raw}
 use Rattle.amiga_mfm.specs.Longs.{half_bytes, half_of, halves, long_of_halves, longs_at, longs_of, raw_longs}
-use Rattle.amiga_mfm.specs.Sectors.{Hold, NamesSector, track_number}
+use Rattle.amiga_mfm.specs.Sectors.{Hold, Names, NamesSector, track_number}
+use Rattle.frame_law.specs.declared.header_name.HeaderName.{HeaderName}
+use Rattle.frame_law.specs.declared.header_name.HeaderName.TheVariants.{Address, TrackSector}
+use Rattle.frame_law.specs.lemmas.OwnFrames.{NamesSectors}
 
 pub length-halves : (longs : List ℕ) → length (halves longs) ≡ 2 * length longs
 length-halves longs =
@@ -55,10 +58,22 @@ pub sums : (frame_size row_size 512 rows ≡ 8672) × (ring_size row_size 11 512
 unfolding total
 sums = (refl, refl)
 
-pub one_name : (track : TrackId) (cells : List Bool) (s t : ℕ) → NamesSector track cells s → NamesSector track cells t → s ≡ t
-one_name track cells s t first second =
-    let same : 0xFF ∷ track_number track ∷ s ∷ [] ≡ 0xFF ∷ track_number track ∷ t ∷ [] = sym first.info ∙ second.info in
+pub one_name : (cells : List Bool) (n m : HeaderName) → Names cells n → Names cells m → n ≡ m
+one_name cells (TrackSector track s) (TrackSector other t) first second =
+    let same : 0xFF ∷ track ∷ s ∷ [] ≡ 0xFF ∷ other ∷ t ∷ [] = sym first.info ∙ second.info in
     cc
+one_name cells (TrackSector track s) (Address cylinder head sector size) first second = absurd second
+one_name cells (Address cylinder head sector size) m first second = absurd first
+
+pub named_sector : (track : TrackId) → NamesSectors Names (λ s. TrackSector (track_number track) s) (NamesSector track)
+named_sector track = record {
+  has_name = λ cells s named. named;
+  is_named = λ cells s named. named;
+  differ = λ s t same. one_sector (track_number track) s t same;
+}
+  where
+    one_sector : (number s t : ℕ) → TrackSector number s ≡ TrackSector number t → s ≡ t
+    one_sector number s t same = cc
 
 length-bytes : (longs : List ℕ) → length (flat_map (to_be_bytes w32) longs) ≡ 4 * length longs
 length-bytes [] = refl

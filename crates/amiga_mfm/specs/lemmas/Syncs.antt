@@ -22,7 +22,7 @@ use Rattle.amiga_mfm.specs.lemmas.FrameLaws.{after_marks, marks}
 use Rattle.amiga_mfm.specs.Layout.{content_halves, header_halves, info_of, ring_of, row_size, row_symbols, rows}
 use Rattle.amiga_mfm.specs.Longs.{half_bytes, longs_of}
 use Rattle.amiga_mfm.specs.lemmas.RowLaws.{symbols_sized}
-use Rattle.amiga_mfm.specs.Sectors.{NamesSector, SYNC}
+use Rattle.amiga_mfm.specs.Sectors.{Names, SYNC}
 
 -- the two marks after the first cells of the first, which are a zero and then eleven cells that data can't hold
 unfoldable pub sync_after : List (Option Bool)
@@ -119,7 +119,7 @@ lead_out_quiet =
     (quiet-symbols TwoMarks (replicate 133 (Data 0x00)) [] (quiet-run sync_after 133 0x00) (no-symbols TwoMarks))
 
 -- so in the ring they begin where headers do, after the zero with which the first begins
-pub own_syncs : (track : TrackId) → HasOwnSyncs SYNC 32 480 0 11 (NamesSector track) (place_of row_size 0 512 rows) (AreSectors 11 512) (ring_of track)
+pub own_syncs : (track : TrackId) → HasOwnSyncs SYNC 32 480 0 11 Names (place_of row_size 0 512 rows) (AreSectors 11 512) (ring_of track)
 unfolding total coded
 own_syncs track = record {
   lead = 1;

@@ -23,7 +23,7 @@ high_half high low byte halves =
     let both = IsFieldByte-halves byte halves.fits in
     (omega (arith, halves.first, both.0.high), omega (arith, halves.second, both.1.high))
 
-address_high : (track : TrackId) (read : ℕ → ℕ) (s : ℕ) → IsAddress track read s → (k : ℕ) → k < 8 → 128 ≤ read k
+address_high : (track : ℕ) (read : ℕ → ℕ) (s : ℕ) → IsAddress track read s → (k : ℕ) → k < 8 → 128 ≤ read k
 address_high track read s address zero below = (high_half _ _ _ address.has_volume).0
 address_high track read s address (suc zero) below = (high_half _ _ _ address.has_volume).1
 address_high track read s address (suc (suc zero)) below = (high_half _ _ _ address.has_track).0
@@ -42,10 +42,10 @@ coded_high read values coded k below =
 module _ (passed : ℕ) where
   module _ (track : TrackId) (cells : List Bool) (s : ℕ) (names : NamesSector 0 track cells s) where
     high : AreHigh passed cells 24 8
-    high = address_high track (byte_read 0 cells 24) s names
+    high = address_high track.cylinder (byte_read 0 cells 24) s names
 
     pub names_by : NamesSector passed track cells s
-    names_by = same_address track (byte_read 0 cells 24) (byte_read passed cells 24) s (λ k below. lift-read passed cells 24 k 8 below high) names
+    names_by = same_address track.cylinder (byte_read 0 cells 24) (byte_read passed cells 24) s (λ k below. lift-read passed cells 24 k 8 below high) names
 
     pub header_same : header_end passed cells ≡ header_end 0 cells
     header_same = lift-end passed cells 24 8 high

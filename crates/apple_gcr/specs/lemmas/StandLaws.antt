@@ -10,11 +10,13 @@ use Rattle.apple_gcr.specs.FourAndFour.{AreHalves}
 use Rattle.apple_gcr.specs.Layout.{row_size, rows}
 use Rattle.apple_gcr.specs.lemmas.ByteLaws.{end-least, end-more, end-most, place-least, same_end, same_place, same_read}
 use Rattle.apple_gcr.specs.lemmas.HalfLaws.{halves-read}
-use Rattle.apple_gcr.specs.Sectors.{Hold, IsAddress, NamesSector, data_end, header_end, opening_end, opening_place}
+use Rattle.apple_gcr.specs.Sectors.{Hold, IsAddress, IsAddressOf, Names, NamesSector, data_end, header_end, opening_end, opening_place}
 use Rattle.apple_gcr.specs.SixAndTwo.{AreCoded}
 use Rattle.apple_gcr.specs.lemmas.ValueLaws.{one_carried, one_list}
 use Rattle.track_rings.specs.lemmas.Fronts.{AgreeTo, agree-stands}
-use Rattle.frame_law.specs.lemmas.OwnFrames.{TellsEarly, TellsEnds}
+use Rattle.frame_law.specs.lemmas.OwnFrames.{NamesSectors, TellsEarly, TellsEnds}
+use Rattle.frame_law.specs.declared.header_name.HeaderName.{HeaderName}
+use Rattle.frame_law.specs.declared.header_name.HeaderName.TheVariants.{Address, TrackSector}
 use Rattle.apple_nibbles.specs.Marks.{IsSync}
 use Rattle.apple_nibbles.specs.Nibbles.{disk_byte}
 use Rattle.apple_nibbles.specs.lemmas.FieldBytes.{same_byte}
@@ -46,8 +48,24 @@ byte_read_from high low byte halves =
 pub one_byte : (high low x y : ℕ) → AreHalves high low x → AreHalves high low y → x ≡ y
 one_byte high low x y first second = sym (byte_read_from high low x first) ∙ byte_read_from high low y second
 
-pub one_name : (passed : ℕ) (track : TrackId) (cells : List Bool) (s t : ℕ) → NamesSector passed track cells s → NamesSector passed track cells t → s ≡ t
-one_name passed track cells s t first second = one_byte _ _ s t first.has_sector second.has_sector
+one_pair : (a b c d : ℕ) → a ≡ b → c ≡ d → TrackSector a c ≡ TrackSector b d
+one_pair a b c d first second = cc
+
+pub one_name : (passed : ℕ) (cells : List Bool) (n m : HeaderName) → Names passed cells n → Names passed cells m → n ≡ m
+one_name passed cells (Address cylinder head sector size) m first second = absurd first
+one_name passed cells (TrackSector track s) (Address cylinder head sector size) first second = absurd second
+one_name passed cells (TrackSector track s) (TrackSector other t) first second =
+    one_pair track other s t (one_byte _ _ track other first.has_track second.has_track) (one_byte _ _ s t first.has_sector second.has_sector)
+
+pub named_sector : (passed : ℕ) (track : TrackId) → NamesSectors (Names passed) (λ s. TrackSector track.cylinder s) (NamesSector passed track)
+named_sector passed track = record {
+  has_name = λ cells s named. named;
+  is_named = λ cells s named. named;
+  differ = λ s t same. one_sector track.cylinder s t same;
+}
+  where
+    one_sector : (number s t : ℕ) → TrackSector number s ≡ TrackSector number t → s ≡ t
+    one_sector number s t same = cc
 
 pub one_content : (passed : ℕ) (cells : List Bool) (sync : ℕ) (xs ys : List ℕ) → Hold passed cells sync xs → Hold passed cells sync ys → xs ≡ ys
 one_content passed cells sync xs ys first second =
@@ -59,11 +77,11 @@ one_content passed cells sync xs ys first second =
     first.carried second.carried
 
 -- an address of bytes that are the same
-pub same_address : (track : TrackId) (read other : ℕ → ℕ) (s : ℕ) → ((k : ℕ) → k < 8 → other k ≡ read k) → IsAddress track read s → IsAddress track other s
+pub same_address : (track : ℕ) (read other : ℕ → ℕ) (s : ℕ) → ((k : ℕ) → k < 8 → other k ≡ read k) → IsAddress track read s → IsAddress track other s
 same_address track read other s same address = record {
   volume = address.volume;
   has_volume = same_halves 0 1 address.volume (lit< tt) (lit< tt) address.has_volume;
-  has_track = same_halves 2 3 track.cylinder (lit< tt) (lit< tt) address.has_track;
+  has_track = same_halves 2 3 track (lit< tt) (lit< tt) address.has_track;
   has_sector = same_halves 4 5 s (lit< tt) (lit< tt) address.has_sector;
   has_check = same_halves 6 7 _ (lit< tt) (lit< tt) address.has_check;
 }
@@ -71,6 +89,15 @@ same_address track read other s same address = record {
     same_halves : (i j byte : ℕ) → i < 8 → j < 8 → AreHalves (read i) (read j) byte → AreHalves (other i) (other j) byte
     same_halves i j byte first second halves =
         record { fits = halves.fits; first = same i first ∙ halves.first; second = same j second ∙ halves.second }
+
+pub same_named : (read other : ℕ → ℕ) (name : HeaderName) → ((k : ℕ) → k < 8 → other k ≡ read k) → IsAddressOf read name → IsAddressOf other name
+same_named read other (TrackSector track s) same address = same_address track read other s same address
+same_named read other (Address cylinder head sector size) same address = absurd address
+
+-- the numbers of a name
+pub address_numbers : (read : ℕ → ℕ) (name : HeaderName) → IsAddressOf read name → (track sector : ℕ) × IsAddress track read sector
+address_numbers read (TrackSector track sector) address = (track, sector, address)
+address_numbers read (Address cylinder head sector size) address = absurd address
 
 -- and values of such
 pub same_coded : (read other : ℕ → ℕ) (values : List ℕ) → ((k : ℕ) → k < 343 → other k ≡ read k) → AreCoded read values → AreCoded other values
@@ -120,27 +147,32 @@ module _ (passed : ℕ) (few : passed ≤ 7) where
         ap (λ (n : ℕ). byte_read passed others n k) (opening_same sync (omega (arith, least, within)))
         ∙ same_read passed few total cells others same from k (omega (arith, all, more, within))
 
-  named : (track : TrackId) (cells others : List Bool) (s : ℕ) → AgreeTo (header_end passed cells) cells others
-      → NamesSector passed track cells s → NamesSector passed track others s
-  named track cells others s same names =
+  named : (cells others : List Bool) (n : HeaderName) → AgreeTo (header_end passed cells) cells others → Names passed cells n
+      → Names passed others n
+  named cells others (Address cylinder head sector size) same names = absurd names
+  named cells others (TrackSector track s) same names =
       same_address track (byte_read passed cells 24) (byte_read passed others 24) s
       (λ k below. header_bytes (header_end passed cells) cells others same 8 k (omega arith) below) names
 
-  -- the sector's number stands before the last seven cells
-  named_early : (track : TrackId) (cells others : List Bool) (s t : ℕ) → AgreeTo (header_end passed cells - 7) cells others
-      → NamesSector passed track cells s → NamesSector passed track others t → s ≡ t
-  named_early track cells others s t same first second =
+  -- the numbers stand before the last seven cells
+  named_early : (cells others : List Bool) (n m : HeaderName) → AgreeTo (header_end passed cells - 7) cells others
+      → Names passed cells n → Names passed others m → n ≡ m
+  named_early cells others (Address cylinder head sector size) m same first second = absurd first
+  named_early cells others (TrackSector track s) (Address cylinder head sector size) same first second = absurd second
+  named_early cells others (TrackSector track s) (TrackSector number t) same first second =
       let total = header_end passed cells - 7 in
       let more = end-more passed cells 24 6 2 in
       let at : (k : ℕ) → k < 6 → byte_read passed others 24 k ≡ byte_read passed cells 24 k =
       λ k below. header_bytes total cells others same 6 k (omega (arith, more)) below in
-      one_byte (byte_read passed others 24 4) (byte_read passed others 24 5) s t
-      (record {
-        fits = first.has_sector.fits;
-        first = at 4 (lit< tt) ∙ first.has_sector.first;
-        second = at 5 (lit< tt) ∙ first.has_sector.second;
-      })
-      second.has_sector
+      let there : (i j byte : ℕ) → i < 6 → j < 6 → AreHalves (byte_read passed cells 24 i) (byte_read passed cells 24 j) byte
+      → AreHalves (byte_read passed others 24 i) (byte_read passed others 24 j) byte =
+      λ i j byte low high halves.
+      record { fits = halves.fits; first = at i low ∙ halves.first; second = at j high ∙ halves.second } in
+      one_pair track number s t
+      (one_byte (byte_read passed others 24 2) (byte_read passed others 24 3) track number
+      (there 2 3 track (lit< tt) (lit< tt) first.has_track) second.has_track)
+      (one_byte (byte_read passed others 24 4) (byte_read passed others 24 5) s t
+      (there 4 5 s (lit< tt) (lit< tt) first.has_sector) second.has_sector)
 
   held : (cells others : List Bool) (sync : ℕ) (bytes : List ℕ) → AgreeTo (data_end passed cells sync) cells others
       → Hold passed cells sync bytes → Hold passed others sync bytes
@@ -185,11 +217,11 @@ module _ (passed : ℕ) (few : passed ≤ 7) where
         ∙ same_end passed few total cells others same from 343 (omega arith);
   }
 
-  pub tells : (track : TrackId) → TellsEarly 24 88 2768 (header_end passed) (data_end passed) (NamesSector passed track) IsSync (Hold passed)
-  tells track = record {
+  pub tells : TellsEarly 24 88 2768 (header_end passed) (data_end passed) (Names passed) IsSync (Hold passed)
+  tells = record {
     sync_within = lit≤ tt;
-    named = named track;
-    named_early = named_early track;
+    named = named;
+    named_early = named_early;
     synced = synced;
     held = held;
     held_early = held_early;

@@ -1,13 +1,13 @@
 -- Where a sync that begins with the byte D5, as the marks of fields do, begins in fields, self-syncs and marks.
-use Rattle.std.specs.Prelude.{◌≡◌, ℕ, zero, suc, ◌⊎◌, Bool, true, false, List, [], ◌∷◌, ◌++◌, length, drop, Option, Some, refl}
-use Rattle.std.proofs.Common.{sym, subst, arith, inl, inr}
-use Rattle.std.proofs.lemmas.List.{length-map, take_all}
-use Rattle.cell_bits.specs.Word.{Stands, word_cells}
+use Rattle.std.specs.Prelude.{◌≡◌, ℕ, zero, suc, ◌+◌, ◌⊎◌, Bool, true, false, List, [], ◌∷◌, ◌++◌, length, take, drop, Option, Some, refl}
+use Rattle.std.proofs.Common.{ap, sym, subst, ◌∙◌, arith, inl, inr, lit≤}
+use Rattle.std.proofs.lemmas.List.{length-map, take-take, take_all}
+use Rattle.cell_bits.specs.Word.{Stands, digit, word_cells}
 use Rattle.cell_bits.specs.lemmas.WordLaws.{length-word_cells}
 use Rattle.track_rings.specs.Rows.{coded, rows_cells}
 use Rattle.track_rings.specs.lemmas.Owning.{Leads}
-use Rattle.track_rings.specs.lemmas.Syncs.{Nowhere, QuietPart, SyncPart, Syncs, all_known, clashes, clashes-not, clashes_at_all, fits, fits-append, fits-front, fits-known, fits-word, nowhere-known, only-first, quiet-append, quiet-none}
-use Rattle.apple_nibbles.specs.Marks.{ADDRESS_MARK, DATA_MARK, SELF_SYNC, self_syncs}
+use Rattle.track_rings.specs.lemmas.Syncs.{Nowhere, QuietPart, SyncPart, Syncs, all_known, clashes, clashes-not, clashes_at_all, fits, fits-append, fits-front, fits-known, fits-word, nowhere-known, only-first, part-append, part-skip, part-then, quiet-append, quiet-none}
+use Rattle.apple_nibbles.specs.Marks.{ADDRESS_MARK, DATA_MARK, DATA_SYNC, IsSync, SELF_SYNC, self_syncs}
 use Rattle.apple_nibbles.specs.Nibbles.{bytes_cells}
 use Rattle.apple_nibbles.specs.lemmas.FieldBytes.{AreFieldBytes, IsFieldByte, mark_byte, one_byte}
 
@@ -127,14 +127,93 @@ module _ (sync : List (Option Bool)) (is : IsMarkSync sync) where
         inl (begins rest),
       )
 
+  -- and in one that begins with it at its begin alone
+  pub mark_first : (Here : ℕ → Type 0) (mark : ℕ) → Here 0 → ((rest : List Bool) → fits two_bytes (word_cells 24 mark ++ rest) ≡ true)
+      → clashes_at_all sync 23 (all_known (word_cells 23 mark) ++ two_bytes) ≡ true
+      → clashes_at_all sync 23 (all_known (word_cells 23 mark) ++ self_sync) ≡ true
+      → SyncPart (Syncs sync) Here Follows Follows (word_cells 24 mark)
+  unfolding Follows word_cells
+  mark_first Here mark here begins first second rest follows =
+      let cells = word_cells 23 mark in
+      let size = length-word_cells 23 mark in
+      let none = known_quiet (all_known cells) cells 23 size (length-map cells (λ cell. Some cell))
+      (fits-word cells cells 23 size (take_all 23 cells (omega (arith, size)))) first second rest follows in (
+        λ place within test. subst Here (sym (only-first (Syncs sync) (digit mark 23) cells rest none place within test)) here,
+        inl (begins rest),
+      )
+
+  -- A sector's two fields, between which all is quiet: it begins in their marks at such places only, counted from the first one.
+  pub fields_part : (At : ℕ → Type 0) (header close gap last : List Bool) (data_place : ℕ)
+      → 24 + (length header + (length close + length gap)) ≡ data_place
+      → SyncPart (Syncs sync) At Follows Follows (word_cells 24 ADDRESS_MARK)
+      → SyncPart (Syncs sync) (λ place. At (data_place + place)) Follows Follows (word_cells 24 DATA_MARK)
+      → QuietPart (Syncs sync) Follows Follows header → QuietPart (Syncs sync) Follows Follows close → QuietPart (Syncs sync) Follows Follows gap
+      → QuietPart (Syncs sync) Follows Follows last
+      → SyncPart (Syncs sync) At Follows Follows
+      (word_cells 24 ADDRESS_MARK ++ (header ++ (close ++ (gap ++ (word_cells 24 DATA_MARK ++ last)))))
+  fields_part At header close gap last data_place there address_part data_part in_header in_close in_gap in_last =
+      let opened = word_cells 24 DATA_MARK ++ last in
+      let after = header ++ (close ++ (gap ++ opened)) in
+      let behind : SyncPart (Syncs sync) (λ place. At (24 + place)) Follows Follows after =
+      part-skip (Syncs sync) (λ place. At (24 + place)) Follows Follows Follows header (close ++ (gap ++ opened)) in_header
+      (part-skip (Syncs sync) (λ place. At (24 + (length header + place))) Follows Follows Follows close (gap ++ opened) in_close
+      (part-skip (Syncs sync) (λ place. At (24 + (length header + (length close + place)))) Follows Follows Follows gap opened in_gap
+      (part-then (Syncs sync) (λ place. At (24 + (length header + (length close + (length gap + place))))) Follows Follows Follows
+      (word_cells 24 DATA_MARK) last
+      (λ rest follows.
+      let one = data_part rest follows in (
+        λ place within test.
+            let e : data_place + place ≡ 24 + (length header + (length close + (length gap + place))) = omega (arith, there) in
+            subst At e (one.0 place within test),
+        one.1,
+      ))
+      in_last))) in
+      part-append (Syncs sync) At Follows Follows Follows (word_cells 24 ADDRESS_MARK) after address_part
+      (subst (λ (n : ℕ). SyncPart (Syncs sync) (λ place. At (n + place)) Follows Follows after) (sym (length-word_cells 24 ADDRESS_MARK)) behind)
+
+-- the sync of data, with which the marks of both fields begin
+unfoldable pub data_sync : List (Option Bool)
+data_sync = all_known (word_cells 16 DATA_SYNC)
+
+pub length-data_sync : length data_sync ≡ 16
+unfolding data_sync word_cells
+length-data_sync = refl
+
+pub data-leads : (cells : List Bool) (sync : ℕ) → IsSync cells sync → Syncs data_sync (drop (sync + 0) cells)
+unfolding data_sync
+data-leads cells sync stands =
+    let e : sync ≡ sync + 0 = omega arith in
+    subst (λ (n : ℕ). Syncs (all_known (word_cells 16 DATA_SYNC)) (drop n cells)) e
+    (fits-word (word_cells 16 DATA_SYNC) (drop sync cells) 16 (length-word_cells 16 DATA_SYNC) stands)
+
+pub data_is : IsMarkSync data_sync
+unfolding data_sync word_cells clashes_at_all clashes
+data_is = record {
+  rest = all_known (word_cells 8 0xAA);
+  begins = refl;
+  in_byte = refl;
+  in_last_byte = refl;
+  in_self_sync = refl;
+}
+
+-- a header's mark begins with a data sync
+pub mark_syncs : (cells : List Bool) (place : ℕ) → Stands (drop place cells) 0xD5AA96 24 0 → IsSync cells place
+unfolding word_cells
+mark_syncs cells place stands = sym (take-take 16 24 (drop place cells) (lit≤ tt)) ∙ ap (take 16) stands
+
+-- it stands at their begins
+pub data_in_address_mark : (At : ℕ → Type 0) → At 0 → SyncPart (Syncs data_sync) At Follows Follows (word_cells 24 ADDRESS_MARK)
+unfolding data_sync word_cells clashes_at_all clashes fits
+data_in_address_mark At here = mark_first data_sync data_is At ADDRESS_MARK here (λ rest. refl) refl refl
+
+pub data_in_data_mark : (At : ℕ → Type 0) → At 0 → SyncPart (Syncs data_sync) At Follows Follows (word_cells 24 DATA_MARK)
+unfolding data_sync word_cells clashes_at_all clashes fits
+data_in_data_mark At here = mark_first data_sync data_is At DATA_MARK here (λ rest. refl) refl refl
+
 -- the mark of an address field, at its begin alone
 pub address_mark_first : SyncPart (Syncs address_sync) (λ place. place ≡ 0) Follows Follows (word_cells 24 ADDRESS_MARK)
-unfolding Follows sync_rest word_cells clashes_at_all clashes fits
-address_mark_first rest follows = (
-  only-first (Syncs address_sync) true (word_cells 23 ADDRESS_MARK) rest
-      (known_quiet address_sync address_is (all_known (word_cells 23 ADDRESS_MARK)) (word_cells 23 ADDRESS_MARK) 23 refl refl refl refl refl rest follows),
-  inl refl,
-)
+unfolding sync_rest word_cells clashes_at_all clashes fits
+address_mark_first = mark_first address_sync address_is (λ place. place ≡ 0) ADDRESS_MARK refl (λ rest. refl) refl refl
 
 -- and that of a data field nowhere
 pub data_mark_quiet : QuietPart (Syncs address_sync) Follows Follows (word_cells 24 DATA_MARK)

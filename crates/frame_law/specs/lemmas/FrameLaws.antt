@@ -1,11 +1,13 @@
 -- The laws of a recording, of the facts of its table.
-use Rattle.std.specs.Prelude.{◌≡◌, ℕ, ◌+◌, ◌*◌, ◌%◌, ◌<◌, ◌≤◌, Bool, false, ◌&&◌, List, [], ◌++◌, length, drop}
+use Rattle.std.specs.Prelude.{◌≡◌, ℕ, ◌+◌, ◌-◌, ◌*◌, ◌%◌, ◌<◌, ◌≤◌, Bool, false, ◌&&◌, List, [], ◌++◌, length, drop}
 use Rattle.std.proofs.Common.{ap, sym, subst, ◌∙◌, arith, length-append}
 use Rattle.cell_bits.specs.Broken.{Unbroken}
 use Rattle.track_rings.specs.lemmas.Gaps.{one-first}
 use Rattle.track_rings.specs.Rings.{AreSectors, IsSectorNumber, IsSpaced, LiesAt, bytes_of, stretch, AreBytes}
-use Rattle.track_rings.specs.Rows.{IsContent, Rows, frame_size, last_of, place_of, ring_of, ring_size, rows_cells, total}
+use Rattle.track_rings.specs.Rows.{IsContent, Rows, frame_size, last_of, pitch_of, place_of, ring_of, ring_size, rows_cells, total}
 use Rattle.track_rings.specs.Spaced.{MayFollow}
+use Rattle.std.proofs.Math.Nat.{mul-le-mul_right}
+use Rattle.track_rings.specs.lemmas.RowLaws.{total-append}
 use Rattle.track_rings.specs.lemmas.TrackLaws.{content_of, frame-at, frame-within, length-bytes_of, length-ring_of, length-rows_cells, ring-spaced, ring-unbroken, rows-unbroken}
 use Rattle.frame_law.specs.Frames.{AreSizes, DATA_REACH, DataStand, EndsAt, FrameStands, HeaderStands, IsDataSync, IsWithinReach, SectorStands}
 
@@ -60,6 +62,22 @@ module _ (header_end : List Bool → ℕ) (data_end : List Bool → ℕ → ℕ)
         unbroken = unbroken-less cells (data_end cells data_place) (data_place + data_cells) whole (omega (arith, ends.data_ends));
       };
     }
+
+-- the frames of a track lie apart
+pub frames-apart : {Row : Type 0} (size_of : ℕ → Row → ℕ) (first sectors size : ℕ) (rows : Rows Row) (frame_cells : ℕ)
+    → frame_size size_of size rows ≡ frame_cells
+    → (s t : ℕ) → IsSectorNumber first sectors s → IsSectorNumber first sectors t → s < t
+    → place_of size_of first size rows s + frame_cells ≤ place_of size_of first size rows t
+frames-apart size_of first sectors size rows frame_cells sum s t of_s of_t before =
+    let pitch = pitch_of size_of size rows in
+    let steps : (s - first + 1) * pitch ≤ (t - first) * pitch = mul-le-mul_right pitch (omega (arith, of_s.least, before)) in
+    let one : (s - first + 1) * pitch ≡ (s - first) * pitch + pitch = one_more (s - first) pitch in
+    let all = total-append (size_of size) rows.before (rows.frame ++ rows.after) in
+    let rest = total-append (size_of size) rows.frame rows.after in
+    omega (arith, steps, one, all, rest, sum)
+  where
+    one_more : (n m : ℕ) → (n + 1) * m ≡ n * m + m
+    one_more n m = omega arith
 
 module _ {Row : Type 0} (asks : Bool) (cells_of : Bool → ℕ → List ℕ → Row → List Bool) (size_of : ℕ → Row → ℕ)
     (sized : (before : Bool) (s : ℕ) (bytes : List ℕ) (row : Row) → length (cells_of before s bytes row) ≡ size_of (length bytes) row)

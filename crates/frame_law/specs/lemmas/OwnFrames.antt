@@ -14,7 +14,7 @@ use Rattle.track_rings.specs.Rows.{Rows, frame_size, ring_size}
 use Rattle.track_rings.specs.lemmas.Syncs.{Only, Syncs}
 use Rattle.track_rings.specs.lemmas.TrackLaws.{frame-within}
 use Rattle.frame_law.specs.lemmas.FrameLaws.{IsWhole, one_sync}
-use Rattle.frame_law.specs.Frames.{AreSizes, HeaderStands, IsDataSync, IsWithinReach}
+use Rattle.frame_law.specs.Frames.{AreSizes, DataStand, HeaderStands, IsDataSync, IsWithinReach}
 
 -- Where headers and data end: not before so many cells, a header after no more than data have at least, and where their own cells up to the end tell.
 pub record TellsEnds (header_cells data_cells : ℕ) (header_end : List Bool → ℕ) (data_end : List Bool → ℕ → ℕ) : Type 0 where
@@ -39,11 +39,11 @@ fixed_ends header_cells data_cells some less = record {
 
 -- What a header names, and what data hold, is told by their own cells, and by all of these but the last seven: they name and hold
 -- nothing else where the last seven are others. A sync is told by fewer cells than data have.
-pub record TellsEarly (sync_cells header_cells data_cells : ℕ) (header_end : List Bool → ℕ) (data_end : List Bool → ℕ → ℕ)
-    (names : List Bool → ℕ → Type 0) (is_sync : List Bool → ℕ → Type 0) (hold : List Bool → ℕ → List ℕ → Type 0) : Type 0 where
+pub record TellsEarly {Name : Type 0} (sync_cells header_cells data_cells : ℕ) (header_end : List Bool → ℕ) (data_end : List Bool → ℕ → ℕ)
+    (names : List Bool → Name → Type 0) (is_sync : List Bool → ℕ → Type 0) (hold : List Bool → ℕ → List ℕ → Type 0) : Type 0 where
   pub sync_within : sync_cells ≤ header_cells
-  pub named : (cells others : List Bool) (s : ℕ) → AgreeTo (header_end cells) cells others → names cells s → names others s
-  pub named_early : (cells others : List Bool) (s t : ℕ) → AgreeTo (header_end cells - 7) cells others → names cells s → names others t → s ≡ t
+  pub named : (cells others : List Bool) (s : Name) → AgreeTo (header_end cells) cells others → names cells s → names others s
+  pub named_early : (cells others : List Bool) (s t : Name) → AgreeTo (header_end cells - 7) cells others → names cells s → names others t → s ≡ t
   pub synced : (cells others : List Bool) (place : ℕ) → AgreeTo (place + data_cells - 7) cells others → is_sync cells place → is_sync others place
   pub held : (cells others : List Bool) (sync : ℕ) (bytes : List ℕ) → AgreeTo (data_end cells sync) cells others → hold cells sync bytes
       → hold others sync bytes
@@ -52,13 +52,58 @@ pub record TellsEarly (sync_cells header_cells data_cells : ℕ) (header_end : L
 
 -- Each header begins with some zeros, a one and what more is known of its first cells, and in the ring of given bytes, where
 -- another follows it, these cells begin only where headers do.
-pub record HasOwnSyncs (sync sync_cells header_cells first sectors : ℕ) (names : List Bool → ℕ → Type 0) (place_of : ℕ → ℕ)
+pub record HasOwnSyncs {Name : Type 0} (sync sync_cells header_cells first sectors : ℕ) (names : List Bool → Name → Type 0) (place_of : ℕ → ℕ)
     (Given : List ℕ → Type 0) (ring : List ℕ → List Bool) : Type 0 where
   pub lead : ℕ
   pub rest : List (Option Bool)
   pub short : lead + suc (length rest) + 7 ≤ header_cells
-  pub leads : (cells : List Bool) (s : ℕ) → Stands cells sync sync_cells 0 → names cells s → Leads lead rest cells
+  pub leads : (cells : List Bool) (s : Name) → Stands cells sync sync_cells 0 → names cells s → Leads lead rest cells
   pub only : (bytes : List ℕ) → Given bytes → Only (Syncs (Some true ∷ rest)) (IsSyncPlace place_of first sectors lead) (ring bytes) (ring bytes)
+
+-- A header names a sector where it has the sector's name, which no other sector has.
+pub record NamesSectors {Name : Type 0} (names : List Bool → Name → Type 0) (name_of : ℕ → Name) (names_sector : List Bool → ℕ → Type 0) : Type 0 where
+  pub has_name : (cells : List Bool) (s : ℕ) → names_sector cells s → names cells (name_of s)
+  pub is_named : (cells : List Bool) (s : ℕ) → names cells (name_of s) → names_sector cells s
+  pub differ : (s t : ℕ) → name_of s ≡ name_of t → s ≡ t
+
+module _ {Name : Type 0} (names : List Bool → Name → Type 0) (name_of : ℕ → Name) (names_sector : List Bool → ℕ → Type 0)
+    (is : NamesSectors names name_of names_sector) where
+  -- so what is told of names is told of sectors
+  pub tells_sector : (sync_cells header_cells data_cells : ℕ) (header_end : List Bool → ℕ) (data_end : List Bool → ℕ → ℕ)
+      (is_sync : List Bool → ℕ → Type 0) (hold : List Bool → ℕ → List ℕ → Type 0)
+      → TellsEarly sync_cells header_cells data_cells header_end data_end names is_sync hold
+      → TellsEarly sync_cells header_cells data_cells header_end data_end names_sector is_sync hold
+  tells_sector sync_cells header_cells data_cells header_end data_end is_sync hold tells = record {
+    sync_within = tells.sync_within;
+    named = λ cells others s same named. is.is_named others s (tells.named cells others (name_of s) same (is.has_name cells s named));
+    named_early = λ cells others s t same first second.
+        is.differ s t (tells.named_early cells others (name_of s) (name_of t) same (is.has_name cells s first) (is.has_name others t second));
+    synced = tells.synced;
+    held = tells.held;
+    held_early = tells.held_early;
+  }
+
+  pub sector_syncs : (sync sync_cells header_cells first sectors : ℕ) (place_of : ℕ → ℕ) (Given : List ℕ → Type 0) (ring : List ℕ → List Bool)
+      → HasOwnSyncs sync sync_cells header_cells first sectors names place_of Given ring
+      → HasOwnSyncs sync sync_cells header_cells first sectors names_sector place_of Given ring
+  sector_syncs sync sync_cells header_cells first sectors place_of Given ring own = record {
+    lead = own.lead;
+    rest = own.rest;
+    short = own.short;
+    leads = λ cells s stands named. own.leads cells (name_of s) stands (is.has_name cells s named);
+    only = own.only;
+  }
+
+-- Cells at whose front a header of a ring's sector stands: they agree with the sector's frame up to seven before an end, where they
+-- are unbroken from some place on; and in the ring the frame has its data.
+pub record AgreesWithFrame (header_end : List Bool → ℕ) (data_end : List Bool → ℕ → ℕ) (is_sync : List Bool → ℕ → Type 0)
+    (hold : List Bool → ℕ → List ℕ → Type 0) (first sectors : ℕ) (place_of : ℕ → ℕ) (ring : List Bool) (frame_cells s : ℕ)
+    (content : List ℕ) (cells : List Bool) : Type 0 where
+  pub number : IsSectorNumber first sectors s
+  pub room : (t : ℕ) → IsSectorNumber first sectors t → place_of t + frame_cells ≤ length ring
+  pub agree : (low end size : ℕ) → low + 8 ≤ end → end ≤ length cells → Unbroken cells low end → end ≤ size → frame_cells ≤ size
+      → AgreeTo (end - 7) cells (stretch ring (place_of s) size)
+  pub stands : (size : ℕ) → frame_cells ≤ size → DataStand header_end data_end is_sync hold (stretch ring (place_of s) size) content
 
 pub some_header : {shortest longest sync_cells header_cells zeros : ℕ} → AreSizes shortest longest sync_cells header_cells zeros → 0 < header_cells
 some_header sizes = omega (arith, sizes.header)
@@ -239,3 +284,16 @@ module _ (header_cells data_cells : ℕ) (header_end : List Bool → ℕ) (data_
           pub sector_own : (xs : List ℕ) → Sector (drop place (between_zeros (ring bytes) zeros from count behind)) s xs → xs ≡ content bytes s
           unfolding owner
           sector_own xs sector = (owning.sector_own owner owns zeros from count behind place s xs sector).1
+
+          pub header_agrees : Header (drop place (between_zeros (ring bytes) zeros from count behind)) s
+              → AgreesWithFrame header_end data_end is_sync hold first sectors place_of (ring bytes) frame_cells s (content bytes s)
+              (drop place (between_zeros (ring bytes) zeros from count behind))
+          unfolding owner
+          header_agrees header =
+              let here = owning.header_found owner owns zeros from count behind place s header in
+              record {
+                number = here.number;
+                room = λ t number. (let within = low t number in omega (arith, within, size));
+                agree = here.agree;
+                stands = λ many enough. (owns.stands s many here.number enough).content;
+              }

@@ -4,7 +4,10 @@ use Rattle.std.proofs.Common.{ap, ◌∙◌, arith, add-one, sym}
 use Rattle.cell_bits.specs.Bytes.{data_byte, data_cells}
 use Rattle.cell_bits.specs.Word.{number_of}
 use Rattle.track_rings.specs.lemmas.Parts.{drop-past}
-use Rattle.ibm_fields.specs.Fields.{bytes_at, high_first, number_at}
+use Rattle.flux_base.specs.declared.track.TrackId.{TrackId}
+use Rattle.frame_law.specs.declared.header_name.HeaderName.{HeaderName}
+use Rattle.frame_law.specs.declared.header_name.HeaderName.TheVariants.{Address, TrackSector}
+use Rattle.ibm_fields.specs.Fields.{address_named, bytes_at, high_first, number_at, sector_name}
 
 pub data_byte-past : (xs ys : List Bool) (size offset : ℕ) → length xs ≡ size → data_byte (xs ++ ys) (size + offset) ≡ data_byte ys offset
 unfolding data_byte
@@ -103,3 +106,14 @@ bytes_at-four_more cells place fours four is =
     ap (λ (bytes : List ℕ). bytes_at cells place (4 * fours) ++ bytes)
     (is ∙ sym (bytes_at-four cells (place + 64 * fours)) ∙ ap (λ (p : ℕ). bytes_at cells p 4) (sym there))
     ∙ sym (bytes_at-add cells place (4 * fours) 4) ∙ ap (bytes_at cells place) more
+
+-- an address is that of one name
+pub one_address : (bytes : List ℕ) (n m : HeaderName) → length bytes ≡ 4 → bytes ≡ address_named n → bytes ≡ address_named m → n ≡ m
+one_address bytes (Address a b c d) (Address e f g h) size first second =
+    let same : a ∷ b ∷ c ∷ d ∷ [] ≡ e ∷ f ∷ g ∷ h ∷ [] = sym first ∙ second in
+    cc
+one_address bytes (TrackSector track sector) m size first second = absurd (let none = ap length first in omega (arith, size, none))
+one_address bytes (Address a b c d) (TrackSector track sector) size first second = absurd (let none = ap length second in omega (arith, size, none))
+
+pub one_sector : (track : TrackId) (s t size : ℕ) → sector_name track s size ≡ sector_name track t size → s ≡ t
+one_sector track s t size same = cc

@@ -1,28 +1,28 @@
 -- What an FM header names, and what FM data hold, is told by their own cells, and by all of these but the last seven.
 use Rattle.std.specs.Prelude.{◌≡◌, ℕ, ◌+◌, ◌-◌, ◌≤◌, Bool, List}
 use Rattle.std.proofs.Common.{ap, sym, ◌∙◌, arith, inl, inr, lit≤}
-use Rattle.flux_base.specs.declared.track.TrackId.{TrackId}
 use Rattle.track_rings.specs.lemmas.Fronts.{AgreeTo, agree-data_byte, agree-stands}
 use Rattle.frame_law.specs.lemmas.OwnFrames.{TellsEarly}
+use Rattle.frame_law.specs.declared.header_name.HeaderName.{HeaderName}
+use Rattle.ibm_fields.specs.Fields.{bytes_at}
+use Rattle.ibm_fields.specs.lemmas.FieldLaws.{length-bytes_at, one_address}
 use Rattle.ibm_fields.specs.lemmas.FieldFronts.{agree-bytes_at, agree-number_at}
 use Rattle.ibm_fm.specs.declared.recording.IbmFm.{IbmFm}
 use Rattle.ibm_fm.specs.declared.recording.IbmFm.TheVariants.{Ibm3740, Acorn}
 use Rattle.ibm_fm.specs.Disks.{disk_of}
-use Rattle.ibm_fm.specs.Sectors.{CONTENT_CHECK_PLACE, DATA_CELLS, DataMarkAt, Hold, IsSync, NamesSector, address_of, check_of}
+use Rattle.ibm_fm.specs.Sectors.{CONTENT_CHECK_PLACE, DATA_CELLS, DataMarkAt, Hold, IsSync, Names, check_of}
 
-named : (code : ℕ) (track : TrackId) (cells others : List Bool) (s : ℕ) → AgreeTo 112 cells others → NamesSector code track cells s → NamesSector code track others s
-named code track cells others s same names = record {
+named : (cells others : List Bool) (n : HeaderName) → AgreeTo 112 cells others → Names cells n → Names others n
+named cells others n same names = record {
   address = sym (agree-bytes_at 112 cells others same 16 4 (omega arith)) ∙ names.address;
   check = sym (agree-number_at 112 cells others same 80 (omega arith)) ∙ names.check;
 }
 
 -- the address stands before the last seven cells
-named_early : (code : ℕ) (track : TrackId) (cells others : List Bool) (s t : ℕ) → AgreeTo 105 cells others → NamesSector code track cells s
-    → NamesSector code track others t → s ≡ t
-named_early code track cells others s t same first second =
-    let both : address_of code track s ≡ address_of code track t =
-    sym first.address ∙ agree-bytes_at 105 cells others same 16 4 (omega arith) ∙ second.address in
-    cc
+named_early : (cells others : List Bool) (n m : HeaderName) → AgreeTo 105 cells others → Names cells n → Names others m → n ≡ m
+named_early cells others n m same first second =
+    one_address (bytes_at cells 16 4) n m (length-bytes_at cells 16 4) first.address
+    (agree-bytes_at 105 cells others same 16 4 (omega arith) ∙ second.address)
 
 opens : (total : ℕ) (cells others : List Bool) (place : ℕ) → AgreeTo total cells others → place + 16 ≤ total → DataMarkAt cells place
     → DataMarkAt others place
@@ -60,11 +60,11 @@ pub header_short : (recording : IbmFm) → 112 ≤ DATA_CELLS (disk_of recording
 header_short Ibm3740 = lit≤ tt
 header_short Acorn = lit≤ tt
 
-pub tells : (code size : ℕ) (track : TrackId) → TellsEarly 16 112 (DATA_CELLS size) (λ cells. 112) (λ cells sync. sync + DATA_CELLS size) (NamesSector code track) IsSync (Hold size)
-tells code size track = record {
+pub tells : (size : ℕ) → TellsEarly 16 112 (DATA_CELLS size) (λ cells. 112) (λ cells sync. sync + DATA_CELLS size) Names IsSync (Hold size)
+tells size = record {
   sync_within = omega arith;
-  named = named code track;
-  named_early = named_early code track;
+  named = named;
+  named_early = named_early;
   synced = synced size;
   held = held size;
   held_early = held_early size;

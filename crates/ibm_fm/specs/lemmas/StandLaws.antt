@@ -1,10 +1,14 @@
 -- What cells name and hold is one thing, and the numbers of the coding.
-use Rattle.std.specs.Prelude.{◌≡◌, ℕ, ◌+◌, Bool, List, length}
-use Rattle.std.proofs.Common.{ap, sym, ◌∙◌, lit≤}
+use Rattle.std.specs.Prelude.{◌≡◌, ℕ, ◌+◌, Bool, List, drop, length}
+use Rattle.std.proofs.Common.{ap, sym, ◌∙◌, inl, inr, lit≤}
 use Rattle.flux_base.specs.declared.track.TrackId.{TrackId}
 use Rattle.frame_law.specs.Frames.{AreSizes}
-use Rattle.ibm_fields.specs.lemmas.FieldLaws.{length-bytes_at}
-use Rattle.ibm_fm.specs.Sectors.{Hold, NamesSector, address_of}
+use Rattle.cell_bits.specs.Word.{Stands}
+use Rattle.frame_law.specs.declared.header_name.HeaderName.{HeaderName}
+use Rattle.frame_law.specs.lemmas.OwnFrames.{NamesSectors}
+use Rattle.ibm_fields.specs.Fields.{bytes_at, sector_name}
+use Rattle.ibm_fields.specs.lemmas.FieldLaws.{length-bytes_at, one_address, one_sector}
+use Rattle.ibm_fm.specs.Sectors.{Hold, IsSync, Names, NamesSector}
 
 pub sizes : AreSizes 1 2 16 112 1
 sizes = record {
@@ -17,10 +21,19 @@ sizes = record {
   last = lit≤ tt;
 }
 
-pub one_name : (code : ℕ) (track : TrackId) (cells : List Bool) (s t : ℕ) → NamesSector code track cells s → NamesSector code track cells t → s ≡ t
-one_name code track cells s t first second =
-    let same : address_of code track s ≡ address_of code track t = sym first.address ∙ second.address in
-    cc
+pub one_name : (cells : List Bool) (n m : HeaderName) → Names cells n → Names cells m → n ≡ m
+one_name cells n m first second = one_address (bytes_at cells 16 4) n m (length-bytes_at cells 16 4) first.address second.address
+
+pub named_sector : (code : ℕ) (track : TrackId) → NamesSectors Names (λ s. sector_name track s code) (NamesSector code track)
+named_sector code track = record {
+  has_name = λ cells s named. named;
+  is_named = λ cells s named. named;
+  differ = λ s t same. one_sector track s t code same;
+}
+
+-- a header's mark is a sync too
+pub id_mark_syncs : (cells : List Bool) (place : ℕ) → Stands (drop place cells) 0xF57E 16 0 → IsSync cells place
+id_mark_syncs cells place stands = inr (inl stands)
 
 pub bytes_held : (size : ℕ) (cells : List Bool) (sync : ℕ) (xs : List ℕ) → Hold size cells sync xs → length xs ≡ size
 bytes_held size cells sync xs held = sym (ap length held.content) ∙ length-bytes_at cells (sync + 16) size

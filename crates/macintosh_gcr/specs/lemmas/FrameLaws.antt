@@ -17,7 +17,7 @@ use Rattle.macintosh_gcr.specs.Layout.{EPILOGUE, field_values, format_of, nibble
 use Rattle.macintosh_gcr.specs.Sectors.{Hold, IsMacintoshTrack, NamesSector, NibblesAt, header_values, sectors_of}
 use Rattle.macintosh_gcr.specs.declared.recording.MacintoshGcr.{MacintoshGcr}
 use Rattle.macintosh_gcr.specs.lemmas.CodingLaws.{length-with_tags, with_tags-fit, with_tags-is}
-use Rattle.macintosh_gcr.specs.lemmas.RowLaws.{field-fit, format-fits, header-fit, length-field_values, low-sector}
+use Rattle.macintosh_gcr.specs.lemmas.RowLaws.{few-heads, field-fit, format-fits, header-fit, length-field_values, low-sector, side-fits}
 use Rattle.macintosh_gcr.specs.lemmas.Values.{length-nibble_cells, nibbles-read}
 
 -- the epilogue and the gap from a header to the data, and the mark of the data
@@ -59,6 +59,8 @@ names-sector disk track sector rest known few =
     record {
       format = format_of disk;
       format_fits = format-fits disk;
+      low_fits = omega arith;
+      side_fits = side-fits track known.cylinder (let heads = few-heads disk in omega (arith, heads, known.head));
       sector_fits = few;
       values = subst (λ (cells : List Bool). NibblesAt cells 24 values) (sym (append_assoc mark (nibble_cells values) rest))
           (nibbles-read mark values rest 24 (length-word_cells 24 ADDRESS_MARK) (header-fit disk track sector known few));

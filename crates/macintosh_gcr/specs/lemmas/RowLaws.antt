@@ -1,5 +1,5 @@
 -- The cells of a row: how many they are, and how far their ones are apart.
-use Rattle.std.specs.Prelude.{◌≡◌, ℕ, ◌+◌, ◌*◌, ◌/◌, ◌%◌, ◌<◌, ◌≤◌, Bool, true, false, List, [], ◌∷◌, length, map, replicate, refl}
+use Rattle.std.specs.Prelude.{◌≡◌, ℕ, ◌+◌, ◌*◌, ◌/◌, ◌<◌, ◌≤◌, Bool, true, false, List, [], ◌∷◌, length, map, replicate, refl}
 use Rattle.std.proofs.Common.{ap, ◌∙◌, arith, lit<}
 use Rattle.std.proofs.lemmas.List.{length-replicate}
 use Rattle.std.proofs.lemmas.Nat.{xor_lt}
@@ -16,7 +16,7 @@ use Rattle.apple_nibbles.specs.Nibbles.{nibble}
 use Rattle.apple_nibbles.specs.lemmas.FieldSpacing.{FollowsAny, bytes-follow, follows, self_syncs-follow}
 use Rattle.macintosh_gcr.specs.Coding.{AreSixBits, NO_SUMS, data_values, with_tags}
 use Rattle.macintosh_gcr.specs.Layout.{field_values, format_of, gap_syncs, nibble_cells, row_cells, row_size, word_of}
-use Rattle.macintosh_gcr.specs.Sectors.{IsMacintoshTrack, header_values, heads_of, sectors_of, zone_of}
+use Rattle.macintosh_gcr.specs.Sectors.{checked, header_values, heads_of, IsMacintoshTrack, low_value, named_values, sectors_of, side_value, zone_of}
 use Rattle.macintosh_gcr.specs.declared.layout.Mark.{Mark}
 use Rattle.macintosh_gcr.specs.declared.layout.Mark.TheVariants.{AddressField, DataField, Epilogue}
 use Rattle.macintosh_gcr.specs.declared.layout.Row.{Row}
@@ -50,37 +50,33 @@ pub format-fits : (disk : MacintoshGcr) → format_of disk < 64
 format-fits SingleSided = lit< tt
 format-fits DoubleSided = lit< tt
 
-few-heads : (disk : MacintoshGcr) → heads_of disk ≤ 2
+pub few-heads : (disk : MacintoshGcr) → heads_of disk ≤ 2
 few-heads SingleSided = omega arith
 few-heads DoubleSided = omega arith
 
-side-fits : (track : TrackId) → track.cylinder < 80 → track.head < 2 → 32 * track.head + track.cylinder / 64 < 64
+pub side-fits : (track : TrackId) → track.cylinder < 80 → track.head < 2 → 32 * track.head + track.cylinder / 64 < 64
 side-fits track known low =
     let cylinder : track.cylinder / 64 < 2 = omega (arith, known) in
     omega (arith, low, cylinder)
 
 -- so do those of any header
-pub name-fit : (track : TrackId) (sector format : ℕ) → track.cylinder < 80 → track.head < 2 → sector < 64 → format < 64
-    → AreSixBits (header_values track sector format)
-name-fit track sector format known head few small =
-    let low : track.cylinder % 64 < 64 = omega arith in
-    let side = side-fits track known head in
-    let side_value = 32 * track.head + track.cylinder / 64 in
-    let two : bit_xor (bit_xor 0 (track.cylinder % 64)) sector < 64 =
-    xor_lt 6 (bit_xor 0 (track.cylinder % 64)) sector (xor_lt 6 0 (track.cylinder % 64) (lit< tt) low) few in
-    let check_value = bit_xor (bit_xor (bit_xor (bit_xor 0 (track.cylinder % 64)) sector) side_value) format in
+pub values-fit : (low side sector format : ℕ) → low < 64 → side < 64 → sector < 64 → format < 64
+    → AreSixBits (checked (named_values low side sector format))
+values-fit low side sector format low_fits side_fits few small =
+    let two : bit_xor (bit_xor 0 low) sector < 64 = xor_lt 6 (bit_xor 0 low) sector (xor_lt 6 0 low (lit< tt) low_fits) few in
+    let check_value = bit_xor (bit_xor (bit_xor (bit_xor 0 low) sector) side) format in
     let check : check_value < 64 =
-    xor_lt 6 (bit_xor (bit_xor (bit_xor 0 (track.cylinder % 64)) sector) side_value) format
-    (xor_lt 6 (bit_xor (bit_xor 0 (track.cylinder % 64)) sector) side_value two side) small in
-    six-more (track.cylinder % 64) (sector ∷ side_value ∷ format ∷ check_value ∷ []) low
-    (six-more sector (side_value ∷ format ∷ check_value ∷ []) few
-    (six-more side_value (format ∷ check_value ∷ []) side
+    xor_lt 6 (bit_xor (bit_xor (bit_xor 0 low) sector) side) format (xor_lt 6 (bit_xor (bit_xor 0 low) sector) side two side_fits) small in
+    six-more low (sector ∷ side ∷ format ∷ check_value ∷ []) low_fits
+    (six-more sector (side ∷ format ∷ check_value ∷ []) few
+    (six-more side (format ∷ check_value ∷ []) side_fits
     (six-more format (check_value ∷ []) small (six-more check_value [] check nothing-fits))))
 
 pub header-fit : (disk : MacintoshGcr) (track : TrackId) (sector : ℕ) → IsMacintoshTrack disk track → sector < 64
     → AreSixBits (header_values track sector (format_of disk))
 header-fit disk track sector known few =
-    name-fit track sector (format_of disk) known.cylinder (let heads = few-heads disk in omega (arith, heads, known.head)) few (format-fits disk)
+    values-fit (low_value track) (side_value track) sector (format_of disk) (omega arith)
+    (side-fits track known.cylinder (let heads = few-heads disk in omega (arith, heads, known.head))) few (format-fits disk)
 
 pub field-fit : (sector : ℕ) (bytes : List ℕ) → sector < 64 → AreBytes bytes → AreSixBits (field_values sector bytes)
 field-fit sector bytes few fit = six-more sector (data_values 0 NO_SUMS (with_tags bytes)) few (data-fit 0 NO_SUMS (with_tags bytes) (lit< tt) no_sums_fit (with_tags-fit bytes fit))

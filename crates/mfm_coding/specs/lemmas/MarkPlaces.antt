@@ -4,7 +4,7 @@ use Rattle.std.specs.List.{flat_map, range_with_len}
 use Rattle.std.proofs.Common.{ap, subst, sym, arith}
 use Rattle.cell_bits.specs.Bytes.{mfm, mfm_cells}
 use Rattle.cell_bits.specs.Word.{digit, word_cells}
-use Rattle.track_rings.specs.lemmas.Syncs.{QuietPart, SyncPart, Syncs, all_known, clashes, clashes-not, fits, fits-append, fits-drop, fits-front, fits-known, part-append, part-skip, part-then, quiet-append, quiet-none}
+use Rattle.track_rings.specs.lemmas.Syncs.{QuietPart, SyncPart, Syncs, all_known, clashes, clashes-not, fits, fits-append, fits-drop, fits-front, fits-known, part-append, quiet-append, quiet-none}
 use Rattle.mfm_coding.specs.declared.symbol.Symbol.{Symbol}
 use Rattle.mfm_coding.specs.declared.symbol.Symbol.TheVariants.{Data, SyncMark, IndexMark}
 use Rattle.mfm_coding.specs.Coding.{bytes_as_data, coded, symbol_cells}
@@ -195,24 +195,32 @@ module _ (Test : List Bool → Type 0) where
       (subst (λ (cells : List Bool). SyncPart Test Here (FollowsBit (last_bit (last_bit before xs) ys)) (FollowsBit before) cells)
       (sym (coded-append before xs ys)) part)
 
-  -- quiet ones, and then more
-  pub symbols-skip : (Here : ℕ → Type 0) (xs ys : List Symbol) → QuietSymbols Test xs → SyncSymbols Test (λ place. Here (16 * length xs + place)) ys
+  -- some, and then more
+  pub symbols-append : (Here : ℕ → Type 0) (xs ys : List Symbol) → SyncSymbols Test Here xs → SyncSymbols Test (λ place. Here (16 * length xs + place)) ys
       → SyncSymbols Test Here (xs ++ ys)
-  symbols-skip Here xs ys first second before =
+  symbols-append Here xs ys first second before =
       let bit = last_bit before xs in
       let size = length-coded before xs in
       symbols-joined Here xs ys before
-      (part-skip Test Here (FollowsBit (last_bit bit ys)) (FollowsBit bit) (FollowsBit before) (coded before xs) (coded bit ys) (first before)
+      (part-append Test Here (FollowsBit (last_bit bit ys)) (FollowsBit bit) (FollowsBit before) (coded before xs) (coded bit ys) (first before)
       (λ rest follows.
       let at = second bit rest follows in
       (λ place within test. subst (λ (n : ℕ). Here (n + place)) (sym size) (at.0 place within test), at.1)))
 
+  -- quiet ones, wherever it may begin
+  quiet-anywhere : (Here : ℕ → Type 0) (symbols : List Symbol) → QuietSymbols Test symbols → SyncSymbols Test Here symbols
+  quiet-anywhere Here symbols quiet before rest follows =
+      let one = quiet before rest follows in (λ place within test. absurd (one.0 place within test), one.1)
+
+  -- quiet ones, and then more
+  pub symbols-skip : (Here : ℕ → Type 0) (xs ys : List Symbol) → QuietSymbols Test xs → SyncSymbols Test (λ place. Here (16 * length xs + place)) ys
+      → SyncSymbols Test Here (xs ++ ys)
+  symbols-skip Here xs ys first second = symbols-append Here xs ys (quiet-anywhere Here xs first) second
+
   -- symbols, and then quiet ones
   pub symbols-then : (Here : ℕ → Type 0) (xs ys : List Symbol) → SyncSymbols Test Here xs → QuietSymbols Test ys → SyncSymbols Test Here (xs ++ ys)
-  symbols-then Here xs ys first second before =
-      let bit = last_bit before xs in
-      symbols-joined Here xs ys before
-      (part-then Test Here (FollowsBit (last_bit bit ys)) (FollowsBit bit) (FollowsBit before) (coded before xs) (coded bit ys) (first before) (second bit))
+  symbols-then Here xs ys first second =
+      symbols-append Here xs ys first (quiet-anywhere (λ place. Here (16 * length xs + place)) ys second)
 
   pub quiet-symbols : (xs ys : List Symbol) → QuietSymbols Test xs → QuietSymbols Test ys → QuietSymbols Test (xs ++ ys)
   quiet-symbols xs ys first second = symbols-then (λ place. ⊥) xs ys first second

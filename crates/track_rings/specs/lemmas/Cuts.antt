@@ -55,7 +55,7 @@ zero_cell (suc count) zero = refl
 zero_cell (suc count) (suc k) = zero_cell count k
 
 -- zeros among zeros
-zeros_inside : (past count : ℕ) → past + 8 ≤ count → take 8 (drop past (replicate count false)) ≡ replicate 8 false
+pub zeros_inside : (past count : ℕ) → past + 8 ≤ count → take 8 (drop past (replicate count false)) ≡ replicate 8 false
 zeros_inside zero count enough = take-replicate 8 count false (omega (arith, enough))
 zeros_inside (suc past) zero enough = absurd (omega arith)
 zeros_inside (suc past) (suc count) enough = zeros_inside past count (omega arith)

@@ -1,4 +1,5 @@
 use Rattle.std.proofs.Common.{arith}
+use Rattle.frame_law.specs.Controller.{START_ZEROS, SectorStandsBy}
 use Rattle.decoded_rings.proofs.Agreeing.{verdicts_are_right}
 use Rattle.decoded_rings.proofs.Standing.{stands_as_written}
 use Rattle.decoded_rings.proofs.TwoRings.{two_rings_have_sectors}
@@ -14,3 +15,13 @@ returns-clause-pieces g c =
 pub returns-clause-two_rings : goal.returns-clause-two_rings
 returns-clause-two_rings g c =
     λ r track written read. two_rings_have_sectors (g.R.Recording.sector_at r track) written 8 read
+
+pub returns-clause-rewritten : goal.returns-clause-rewritten
+returns-clause-rewritten g c =
+    λ r track written read.
+    let sector = SectorStandsBy (g.R.Recording.header_at r track) (g.R.Recording.data_at r) in (
+      λ first later.
+          let stands = stands_as_written START_ZEROS (omega arith) written first later sector read in
+          (stands, λ readings are. verdicts_are_right START_ZEROS sector written first later stands readings are),
+      two_rings_have_sectors sector written START_ZEROS read,
+    )
