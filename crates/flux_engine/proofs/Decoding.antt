@@ -1,28 +1,44 @@
 -- From a track's one stream that was read, and the track that was written out, to what decoding the track says.
-use Rattle.std.specs.Prelude.{◌≡◌, ℕ, Bool, List, [], Option, Result, Ok, Err, refl}
+use Rattle.std.specs.Prelude.{◌≡◌, ◌++◌, ℕ, Bool, List, [], Option, Result, Ok, Err, refl}
 use Rattle.std.proofs.Common.{ap, subst, ◌∙◌}
 use Rattle.flux_base.specs.declared.track.TrackId.{TrackId}
+use Rattle.kryo_stream.specs.Outcome.{input_of}
 use Rattle.sector_images.specs.declared.format.Format.{Format}
 use Rattle.sector_report.specs.declared.totals.Totals.{Totals}
 use Rattle.turn_merge.specs.Book.{Knowledge, StandsFor}
 use Rattle.turn_merge.specs.Readings.{NotedReading}
-use Rattle.flux_engine.specs.Answers.{Answer, CaptureAnswer, DecodesTrack, ReadsCapture, of_capture}
+use Rattle.flux_engine.specs.Answers.{Answer, CaptureAnswer, DecodesTrack, IsTrackStream, IsTruncated, ReadsCapture, SaysOfSinks, SaysOfStream, of_capture, of_sink}
 use Rattle.flux_engine.specs.Recordings.{track_at}
 use Rattle.flux_engine.specs.Room.{RoomState}
 use Rattle.flux_engine.specs.lemmas.OneCapture.{one_capture}
 use Rattle.flux_engine.specs.TrackParts.{WritesPart}
-use Rattle.flux_engine.specs.Tracks.{part_of}
+use Rattle.flux_engine.specs.Tracks.{IsPart, TrackPart, part_of}
 use Rattle.flux_engine.specs.declared.fault.CaptureFault.{CaptureFault}
 use Rattle.flux_engine.specs.declared.fault.CaptureFault.TheVariants.{ReadFault as UnreadCapture, Refused as RefusedCapture}
-use Rattle.flux_engine.specs.declared.fault.EngineFault.TheVariants.{ImageFault, NotesFault}
 use Rattle.flux_engine.specs.declared.track_part.PartFault.{PartFault}
 use Rattle.flux_engine.specs.declared.track_part.PartFault.TheVariants.{ImageFault as PartImageFault, NotesFault as PartNotesFault}
 
 -- what writing the track answers
 abbrev pub of_part : Result Totals PartFault → Answer
 of_part (Ok totals) = Ok totals
-of_part (Err PartImageFault) = Err ImageFault
-of_part (Err PartNotesFault) = Err NotesFault
+of_part (Err fault) = Err (of_sink fault)
+
+says_stream : (number : ℕ) (answer : Result Totals PartFault) (x times indexes stays : List ℕ) → IsTrackStream x times indexes stays
+    → SaysOfStream number (of_part answer) x times indexes stays
+says_stream number (Ok totals) x times indexes stays s = s
+says_stream number (Err PartImageFault) x times indexes stays s = s
+says_stream number (Err PartNotesFault) x times indexes stays s = s
+
+not_truncated : (answer : Result Totals PartFault) → IsTruncated (of_part answer) → ⊥
+not_truncated (Ok totals) cannot = cannot
+not_truncated (Err PartImageFault) cannot = cannot
+not_truncated (Err PartNotesFault) cannot = cannot
+
+says_sinks : (Is : TrackPart → Type 0) (part : TrackPart) (image image' notes notes' : Option (List ℕ)) (answer : Result Totals PartFault) → Is part
+    → WritesPart part image image' notes notes' answer → SaysOfSinks Is image image' notes notes' (of_part answer)
+says_sinks Is part image image' notes notes' (Ok totals) is w = (part, is, w.0, w.1, w.2)
+says_sinks Is part image image' notes notes' (Err PartImageFault) is w = (part, is, w.0, w.1)
+says_sinks Is part image image' notes notes' (Err PartNotesFault) is w = (part, is, w.0, w.1)
 
 module _ (format : Format) (track : TrackId) (number : ℕ) (left left' : Option (List ℕ)) (used : Bool) (held held' : List ℕ) (old new : Knowledge) where
   pub decodes_fault : (image notes : Option (List ℕ)) (fault : CaptureFault) → ReadsCapture format track 0 left left' used held held' old new (Err fault)
@@ -52,44 +68,20 @@ module _ (format : Format) (track : TrackId) (number : ℕ) (left left' : Option
       → ReadsCapture format track 0 left left' used held held' old new (Ok u) → StandsFor old []
       → ((readings : List NotedReading) → StandsFor new readings → WritesPart (part_of format track readings) image image' notes notes' answer)
       → DecodesTrack format track number left left' used held held' image image' notes notes' (of_part answer)
-  decodes_part image image' notes notes' u (Ok totals) c empty wrote =
+  decodes_part image image' notes notes' u answer c empty wrote =
       let readings = c.noted.0 in
-      let w = wrote readings (c.noted.2 [] empty) in
+      let part : TrackPart = part_of format track readings in
       record {
         taken = c.read.taken;
         consumed = c.read.consumed;
         few = c.read.few;
         times = c.times;
         indexes = c.indexes;
-        stream = λ later only. c.read.stream later (λ cannot. absurd cannot);
-        ended = λ cannot. absurd cannot;
-        wrote = (part_of format track readings, one_capture format track c.times c.indexes readings c.noted.1, w.0, w.1, w.2);
-      }
-  decodes_part image image' notes notes' u (Err PartImageFault) c empty wrote =
-      let readings = c.noted.0 in
-      let w = wrote readings (c.noted.2 [] empty) in
-      record {
-        taken = c.read.taken;
-        consumed = c.read.consumed;
-        few = c.read.few;
-        times = c.times;
-        indexes = c.indexes;
-        stream = λ later only. c.read.stream later (λ cannot. absurd cannot);
-        ended = λ cannot. absurd cannot;
-        wrote = (part_of format track readings, one_capture format track c.times c.indexes readings c.noted.1, w.0, w.1);
-      }
-  decodes_part image image' notes notes' u (Err PartNotesFault) c empty wrote =
-      let readings = c.noted.0 in
-      let w = wrote readings (c.noted.2 [] empty) in
-      record {
-        taken = c.read.taken;
-        consumed = c.read.consumed;
-        few = c.read.few;
-        times = c.times;
-        indexes = c.indexes;
-        stream = λ later only. c.read.stream later (λ cannot. absurd cannot);
-        ended = λ cannot. absurd cannot;
-        wrote = (part_of format track readings, one_capture format track c.times c.indexes readings c.noted.1, w.0, w.1);
+        stream = λ (later : List ℕ) only.
+            says_stream number answer (input_of used ((held ++ c.read.taken) ++ later)) c.times c.indexes (held' ++ later) (c.read.stream later (λ cannot. absurd cannot));
+        ended = λ cut. absurd (not_truncated answer cut);
+        wrote = says_sinks (IsPart format track c.times c.indexes) part image image' notes notes' answer
+            (one_capture format track c.times c.indexes readings c.noted.1) (wrote readings (c.noted.2 [] empty));
       }
 
 module _ (old start : RoomState) (number : ℕ) (is : start ≡ record old { started = number; captures = 0; book = start.book }) (left left' : Option (List ℕ)) where

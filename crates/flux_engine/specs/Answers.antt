@@ -19,6 +19,8 @@ use Rattle.flux_engine.specs.Tracks.{TrackPart, IsPart}
 use Rattle.flux_engine.specs.declared.fault.CaptureFault.{CaptureFault}
 use Rattle.flux_engine.specs.declared.fault.CaptureFault.TheVariants.{ReadFault as UnreadCapture, Refused as RefusedCapture}
 use Rattle.flux_engine.specs.declared.fault.EngineFault.{EngineFault}
+use Rattle.flux_engine.specs.declared.track_part.PartFault.{PartFault}
+use Rattle.flux_engine.specs.declared.track_part.PartFault.TheVariants.{ImageFault as PartImageFault, NotesFault as PartNotesFault}
 use Rattle.flux_engine.specs.declared.fault.EngineFault.TheVariants.{ReadFault, ImageFault, NotesFault, Refused}
 
 abbrev pub Answer : Type 0
@@ -86,6 +88,11 @@ CaptureCause source source' _ = Unit {0}
 abbrev pub of_capture : (number : ℕ) → CaptureFault → EngineFault
 of_capture number UnreadCapture = ReadFault
 of_capture number (RefusedCapture block fault) = Refused number block fault
+
+-- the fault of a sink as a track was written
+abbrev pub of_sink : PartFault → EngineFault
+of_sink PartImageFault = ImageFault
+of_sink PartNotesFault = NotesFault
 
 -- A call that reads a stream: it took these bytes, which with the held ones are no more than padding, a stream and an
 -- intake can be, and what it says of the stream is right whatever follows the bytes at hand, unless it is of them alone.

@@ -1,5 +1,5 @@
 ghost use Rattle.std.specs.Prelude.{◌≡◌, ◌+◌, ◌≤◌, ◌<◌, length, OnOk, OnErr, true, false};
-ghost use Rattle.flux_engine.specs.Answers.{DecodesTrack, EngineCause, of_capture};
+ghost use Rattle.flux_engine.specs.Answers.{DecodesTrack, EngineCause, of_capture, of_sink};
 ghost use Rattle.flux_engine.specs.Recordings.{track_at};
 ghost use Rattle.kryo_stream.specs.Outcome.{IsReadWhereNeeded};
 ghost use Rattle.kryo_stream.specs.Reads.{source_at};
@@ -69,8 +69,7 @@ pub fn decode_track<S: Source, W: Sink, N: Sink>(
             room.failed = false;
             Ok(totals)
         }
-        Err(PartFault::ImageFault) => Err(EngineFault::ImageFault),
-        Err(PartFault::NotesFault) => Err(EngineFault::NotesFault),
+        Err(fault) => Err(of_part(fault)),
     }
 }
 
@@ -85,5 +84,15 @@ fn of_track(track: u32, fault: CaptureFault) -> EngineFault
             block,
             fault,
         },
+    }
+}
+
+/// The fault of a sink as the track was written.
+fn of_part(fault: PartFault) -> EngineFault
+    ensures { result ≡ of_sink fault }
+{
+    match fault {
+        PartFault::ImageFault => EngineFault::ImageFault,
+        PartFault::NotesFault => EngineFault::NotesFault,
     }
 }

@@ -8,7 +8,6 @@ use Rattle.flux_engine.specs.Room.{RoomState}
 use Rattle.flux_engine.specs.TrackParts.{WritesPart}
 use Rattle.flux_engine.specs.Tracks.{part_of}
 use Rattle.flux_engine.specs.declared.fault.EngineFault.{EngineFault}
-use Rattle.flux_engine.specs.declared.track_part.PartFault.TheVariants.{ImageFault, NotesFault}
 use Rattle.flux_engine.proofs.Decoding.{decodes_fault, decodes_started, from_start, of_part}
 use Rattle.flux_engine.proofs.track.decode_track.Goals as goal
 
@@ -48,8 +47,8 @@ returns-in-Ok-write_part-clause-decoded g c =
     subst (λ (r : RoomState). DecodesTrack c.args.room.now.format (track_at c.args.room.now.format n) n left left' c.args.room.now.used c.args.room.now.held r.held image image' notes notes' (of_part (Ok c.in-Ok-write_part.totals)))
     (sym c.room.view_is) whole
 
-pub returns-in-Err-ImageFault-clause-decoded : goal.returns-in-Err-ImageFault-clause-decoded
-returns-in-Err-ImageFault-clause-decoded g c =
+pub returns-in-Err-write_part-clause-decoded : goal.returns-in-Err-write_part-clause-decoded
+returns-in-Err-write_part-clause-decoded g c =
     let inside = c.room.inside in
     let start = c.start_track.new.room in
     let read = c.read_capture.new.room in
@@ -62,34 +61,12 @@ returns-in-Err-ImageFault-clause-decoded g c =
     let notes' = g.N.Sink.written c.write_part.new.notes in
     let is : c.track_id-track.result ≡ track_at inside.format n =
     sym (ap (λ (o : Option TrackId). unwrap_or o (record { cylinder = 0; head = 0 })) c.track_id-track.ensures.at) in
-    let here = subst (λ (t : TrackId). (readings : List NotedReading) → StandsFor inside.tools.book readings → WritesPart (part_of inside.format t readings) image image' notes notes' (Err ImageFault))
-    is (rw c.in-Err-ImageFault.field-0-is at c.in-Err-ImageFault.ensures.wrote) in
-    let wrote = subst (λ (r : RoomState). (readings : List NotedReading) → StandsFor r.book readings → WritesPart (part_of r.format (track_at r.format n) readings) image image' notes notes' (Err ImageFault))
+    let here = subst (λ (t : TrackId). (readings : List NotedReading) → StandsFor inside.tools.book readings → WritesPart (part_of inside.format t readings) image image' notes notes' (Err c.in-Err-write_part.fault))
+    is c.in-Err-write_part.ensures.wrote in
+    let wrote = subst (λ (r : RoomState). (readings : List NotedReading) → StandsFor r.book readings → WritesPart (part_of r.format (track_at r.format n) readings) image image' notes notes' (Err c.in-Err-write_part.fault))
     c.room.view_is here in
-    let whole = decodes_started c.args.room.now start n c.start_track.ensures.started left left' read c.in-Ok.ensures.format image image' notes notes' c.in-Ok.field-0 (Err ImageFault)
+    let whole = decodes_started c.args.room.now start n c.start_track.ensures.started left left' read c.in-Ok.ensures.format image image' notes notes' c.in-Ok.field-0 (Err c.in-Err-write_part.fault)
     c.in-Ok.ensures.read c.start_track.ensures.empty wrote in
-    subst (λ (r : RoomState). DecodesTrack c.args.room.now.format (track_at c.args.room.now.format n) n left left' c.args.room.now.used c.args.room.now.held r.held image image' notes notes' (of_part (Err ImageFault)))
-    (sym c.room.view_is) whole
-
-pub returns-in-Err-NotesFault-clause-decoded : goal.returns-in-Err-NotesFault-clause-decoded
-returns-in-Err-NotesFault-clause-decoded g c =
-    let inside = c.room.inside in
-    let start = c.start_track.new.room in
-    let read = c.read_capture.new.room in
-    let n = c.args.number in
-    let left = g.S.Source.left c.args.source.now in
-    let left' = g.S.Source.left c.read_capture.new.source in
-    let image = g.W.Sink.written c.args.image.now in
-    let image' = g.W.Sink.written c.write_part.new.image in
-    let notes = g.N.Sink.written c.args.notes.now in
-    let notes' = g.N.Sink.written c.write_part.new.notes in
-    let is : c.track_id-track.result ≡ track_at inside.format n =
-    sym (ap (λ (o : Option TrackId). unwrap_or o (record { cylinder = 0; head = 0 })) c.track_id-track.ensures.at) in
-    let here = subst (λ (t : TrackId). (readings : List NotedReading) → StandsFor inside.tools.book readings → WritesPart (part_of inside.format t readings) image image' notes notes' (Err NotesFault))
-    is (rw c.in-Err-NotesFault.field-0-is at c.in-Err-NotesFault.ensures.wrote) in
-    let wrote = subst (λ (r : RoomState). (readings : List NotedReading) → StandsFor r.book readings → WritesPart (part_of r.format (track_at r.format n) readings) image image' notes notes' (Err NotesFault))
-    c.room.view_is here in
-    let whole = decodes_started c.args.room.now start n c.start_track.ensures.started left left' read c.in-Ok.ensures.format image image' notes notes' c.in-Ok.field-0 (Err NotesFault)
-    c.in-Ok.ensures.read c.start_track.ensures.empty wrote in
-    subst (λ (r : RoomState). DecodesTrack c.args.room.now.format (track_at c.args.room.now.format n) n left left' c.args.room.now.used c.args.room.now.held r.held image image' notes notes' (of_part (Err NotesFault)))
-    (sym c.room.view_is) whole
+    rw c.of_part.ensures
+    (subst (λ (r : RoomState). DecodesTrack c.args.room.now.format (track_at c.args.room.now.format n) n left left' c.args.room.now.used c.args.room.now.held r.held image image' notes notes' (of_part (Err c.in-Err-write_part.fault)))
+    (sym c.room.view_is) whole)
