@@ -3,13 +3,14 @@ use Rattle.std.proofs.Common.{ℕ, List, [], Option, None, Some, refl, sym, arit
 use Rattle.std.proofs.KnownBytes.{Consumes-nil}
 use Rattle.std.specs.Io.KnownBytes.{Consumes}
 use Rattle.flux_base.specs.Outside.{Gives}
-use Rattle.flux_base.specs.declared.status.Status.TheVariants.{Usage, NotesFault}
+use Rattle.flux_base.specs.declared.status.Status.TheVariants.{Usage, NotesFault, Memory}
 use Rattle.flux_engine.specs.Needed.{ReadsWhereOpen}
 use Rattle.kryo_stream.specs.Reads.{SourceMoment}
 use Rattle.sector_report.specs.Lines.{usage_text}
-use Rattle.flux_cli.specs.Runs.{Finished, IsCut, Outside, growth}
+use Rattle.flux_cli.specs.Runs.{Does, Finished, IsCut, Outside, growth, reads_of}
 use Rattle.flux_cli.specs.Work.{Got, GotNothing, GotPart}
-use Rattle.flux_cli.specs.Works.{usage_work}
+use Rattle.flux_cli.specs.Works.{usage_work, work_of}
+use Rattle.flux_cli.specs.declared.command.Command.{Command}
 use Rattle.flux_cli.proofs.Inputs.{rest}
 
 Gives-nil : (given : Option (List (List ℕ))) → Gives given given []
@@ -24,6 +25,15 @@ not_read IsOpen m = record {
   consumed = Consumes-nil m.left;
   needed = λ k below. absurd (omega (arith, below));
   still = λ _. refl;
+}
+
+-- a command for which there was no memory
+pub out_of_memory : {S W N : Type 0} (command : Command) (now : Outside S W N) → Does (Some command) Memory now now
+out_of_memory command now = record {
+  answer = tt;
+  says = (refl, refl);
+  counts = record { source = omega arith; image = omega arith; notes = omega arith };
+  needed = λ x told. not_read (work_of (Some command)).untold (reads_of now);
 }
 
 module _ {S W N : Type 0} (before after : Outside S W N) (unread : Consumes before.source.bytes after.source.bytes []) where
