@@ -1,7 +1,8 @@
 //! What captured disks come to by both clocks.
 
-ghost use Rattle.captured_rescues.specs.Headline.{CapturedDisksAreRescued};
+ghost use Rattle.captured_rescues.specs.Headline.{CapturedDisksAreRescued, SteadyDisksAreRescued};
 
+use captured_plans::captured_plans_are_read;
 use decoded_rings::own_sectors_are_right;
 use disk_recordings::{DiskRecording, tracks_are_read, tracks_have_only_own, tracks_have_rings};
 use disk_rescue::good_stays;
@@ -26,4 +27,11 @@ pub fn captured_disks_are_rescued()
     sectors_fill_tracks();
     tracks_fill_images();
     good_stays()
+}
+
+/// Where besides the drive keeps its speed, the rescued image is the disk's, and every sector is good.
+pub fn steady_disks_are_rescued()
+    ensures { SteadyDisksAreRescued }
+{
+    captured_plans_are_read()
 }

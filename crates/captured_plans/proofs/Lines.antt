@@ -5,7 +5,7 @@ use Rattle.std.proofs.Common.{ap, sym, ◌∙◌, arith, append_assoc}
 use Rattle.track_rings.specs.lemmas.SectorParts.{sectors-parts}
 use Rattle.flux_engine.specs.Disks.{lines, part_at}
 use Rattle.flux_engine.specs.Tracks.{TrackPart}
-use Rattle.captured_sets.specs.Headline.{HasText}
+use Rattle.captured_plans.specs.Headline.{HasText}
 
 pub text_left : (a b line : List ℕ) → HasText a line → HasText (a ++ b) line
 text_left a b line has = record {

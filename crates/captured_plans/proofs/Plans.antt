@@ -1,4 +1,4 @@
--- Captured sets decode.
+-- Captured disks are read by a plan.
 use Rattle.std.specs.Prelude.{◌≡◌, ◌≤◌, ◌<◌, ℕ, ◌+◌, ◌-◌, ◌*◌, ◌/◌, ◌%◌, Bool, List, [], drop, get_or, length, replicate, slice_index, sum_by, take, unwrap_or, Option, None, Some, refl}
 use Rattle.std.proofs.Common.{ap, sym, subst, ◌∙◌, arith, append-nil}
 use Rattle.std.proofs.lemmas.List.{drop-drop, take_all}
@@ -14,21 +14,24 @@ use Rattle.sector_images.specs.Formats.{row, zone}
 use Rattle.sector_images.specs.Places.{IsSector, IsTrack, NumbersHoldSectors, NumbersNameTracks, SectorsLieInImages, TracksFillImages, TracksJoin, bytes_of, place_of, sector_in, sector_place, tracks}
 use Rattle.sector_images.specs.declared.format.Format.{Format}
 use Rattle.sector_report.specs.Lines.{named_text}
-use Rattle.sector_report.specs.declared.naming.Naming.TheVariants.{ByCapture}
 use Rattle.track_rings.specs.Rings.{last_in, stretch}
 use Rattle.turn_merge.specs.Readings.{NotedReading, agreed, verdict}
 use Rattle.turn_merge.specs.declared.verdict.Place.{Place}
 use Rattle.turn_merge.specs.declared.verdict.Verdict.{Verdict}
 use Rattle.turn_merge.specs.declared.verdict.Verdict.TheVariants.{Good, Contradictory, Bad, Missing}
-use Rattle.turn_merge.specs.declared.clock.Clock.TheVariants.{Following}
+use Rattle.turn_merge.specs.declared.clock.Clock.{Clock}
+use Rattle.turn_merge.specs.declared.clock.Clock.TheVariants.{Following, Held}
 use Rattle.decoded_rings.specs.Pieces.{RingPiece, cells_of_ring_pieces}
 use Rattle.decoded_rings.specs.Verdicts.{AreReadingsOf, IsGoodWith, PiecesAreRight, TwoRingsHaveSectors}
 use Rattle.decoded_rings.specs.Written.{HasSector}
-use Rattle.flux_engine.specs.Captures.{Capture, CapturesAreRecovered}
+use Rattle.flux_engine.specs.Captures.{Capture, CapturesAreRecovered, SteadyCapturesAreRecovered}
+use Rattle.flux_engine.specs.Captured.{AreReadingsBy, IsUsed}
+use Rattle.flux_engine.specs.Streams.{stream_at}
+use Rattle.flux_engine.specs.declared.plan.Plan.{Plan}
 use Rattle.flux_engine.specs.Disks.{lines, part_at}
-use Rattle.flux_engine.specs.Recordings.{cells_of, sectors_of, track_at}
+use Rattle.flux_engine.specs.Recordings.{cells_by, sectors_of, track_at}
 use Rattle.flux_engine.specs.Rings.{IsImage, IsRing, nominal_of, ring_cells_of, ring_of, sector_bytes}
-use Rattle.flux_engine.specs.Tracks.{TrackPart, image_of, image_piece, is_good, line_by, lines_by, readings_in}
+use Rattle.flux_engine.specs.Tracks.{TrackPart, image_of, image_piece, is_good, line_by, lines_by, part_by, readings_in}
 use Rattle.captured_disks.specs.Frames.{written_track}
 use Rattle.captured_disks.specs.Headline.{IsSectorOf}
 use Rattle.captured_disks.specs.lemmas.Readings.{are_readings_of}
@@ -36,19 +39,19 @@ use Rattle.captured_disks.specs.lemmas.Streams.{IsStreamNumber, is_stream_number
 use Rattle.captured_disks.specs.lemmas.Totals.{all_counted, totals_good}
 use Rattle.captured_disks.specs.lemmas.TrackBytes.{are_sectors, own_bytes}
 use Rattle.flux_engine.specs.PlanLaws.{cells_in}
-use Rattle.flux_engine.specs.Plans.{PlanStop, Planned, StopsAt, joined, planned_count}
-use Rattle.capture_set.specs.Sets.{IsDecodedSet, IsSetPartAt, capture_stream, set_plan, set_streams}
-use Rattle.captured_sets.specs.Headline.{CapturedSetsDecode, DecodesWholeSet, HasText, SaysGoodInSet}
-use Rattle.captured_sets.specs.Inputs.{IsCapturedSet}
-use Rattle.captured_sets.proofs.Images.{parts_join, pieces_join}
-use Rattle.captured_sets.proofs.Lines.{text_left, text_of_parts, text_of_range}
-use Rattle.captured_sets.proofs.Verdicts.{IsWith, joined_with}
+use Rattle.flux_engine.specs.Plans.{IsPlanned, IsPlannedPart, PlanStop, Planned, StopsAt, joined, planned_count, streams_in}
+use Rattle.captured_plans.specs.Headline.{CapturedPlansAreRead, HasText, IsReadWhole, SaysGoodBy}
+use Rattle.captured_plans.specs.Inputs.{IsCapturedSet, IsSteadySet}
+use Rattle.captured_plans.proofs.Images.{parts_join, pieces_join}
+use Rattle.captured_plans.proofs.Lines.{text_left, text_of_parts, text_of_range}
+use Rattle.captured_plans.proofs.Verdicts.{IsWith, joined_by_with, joined_with}
 
 -- what the crates below promise
 pub record Laws : Type 0 where
   pub stay : StreamsStay
   pub passed : PaddingIsPassed
   pub recovered : CapturesAreRecovered
+  pub steady : SteadyCapturesAreRecovered
   pub read : TracksAreRead
   pub rings : RingsHaveCells
   pub names : NumbersNameTracks
@@ -78,8 +81,12 @@ good_one Missing held bytes is = absurd is
 none_some : {X : Type 0} (o : Option X) (a : X) → o ≡ None → o ≡ Some a → ⊥
 none_some o a none some = cc
 
-module _ (laws : Laws) (format : Format) (count : ℕ) (image x : List ℕ) (o : Planned) (some : 1 ≤ count) (is : IsImage format image)
-    (captured : IsCapturedSet format count image x) (decoded : IsDecodedSet format count x o) where
+module _ (laws : Laws) (plan : Plan) (format : Format) (image x : List ℕ) (o : Planned) (some : 1 ≤ plan.captures) (is : IsImage format image)
+    (captured : IsCapturedSet format plan.captures image x) (steady : IsUsed plan.clocks Held → IsSteadySet format plan.captures image x captured)
+    (decoded : IsPlanned plan (part_by plan.naming) format (streams_in plan x) o) where
+  abbrev count : ℕ
+  count = plan.captures
+
   abbrev streams : ℕ
   streams = length (tracks format) * count
 
@@ -105,7 +112,7 @@ module _ (laws : Laws) (format : Format) (count : ℕ) (image x : List ℕ) (o :
   no_fault : o.stop ≡ None
   no_fault = nowhere o.stop decoded.stops
     where
-      nowhere : (stop : Option PlanStop) → StopsAt (set_plan count) format (set_streams count x) stop → stop ≡ None
+      nowhere : (stop : Option PlanStop) → StopsAt plan format (streams_in plan x) stop → stop ≡ None
       nowhere None clean = refl
       nowhere (Some s) first = absurd (none_some _ _ (stream (s.track * count + s.capture) (number s.track s.capture first.low first.few)).no_fault first.is)
 
@@ -145,33 +152,48 @@ module _ (laws : Laws) (format : Format) (count : ℕ) (image x : List ℕ) (o :
       long : 2 * length ring ≤ piece.count
       long = omega (arith, capture.two_turns)
 
-      cells : cells_in format (set_streams count x) n q Following ≡ cells_of_ring_pieces ring piece []
-      cells =
+      abbrev bytes : List ℕ
+      bytes = captured.stream (n * count + q)
+
+      recovered : (clock : Clock) → IsUsed plan.clocks clock → cells_by clock format track (times bytes) (indexes bytes) ≡ stretch ring piece.from piece.count
+      recovered Following used = laws.recovered format track bytes ring known_track is_ring capture
+      recovered Held used = laws.steady Held format track bytes ring known_track is_ring capture (steady used n q known low)
+
+      cells : (clock : Clock) → IsUsed plan.clocks clock → cells_in format (streams_in plan x) n q clock ≡ cells_of_ring_pieces ring piece []
+      cells clock used =
           let one = stream (n * count + q) (number n q known low) in
-          let bytes : List ℕ = captured.stream (n * count + q) in
-          ap (λ (ts : List ℕ). cells_of format track ts (indexes (capture_stream count x n q))) one.times_are
-          ∙ ap (cells_of format track (times bytes)) one.indexes_are
-          ∙ laws.recovered format track bytes ring known_track is_ring capture
+          ap (λ (ts : List ℕ). cells_by clock format track ts (indexes (stream_at x (n * count + q)))) one.times_are
+          ∙ ap (cells_by clock format track (times bytes)) one.indexes_are
+          ∙ recovered clock used
           ∙ sym (append-nil (stretch ring piece.from piece.count))
 
-    module _ (part : TrackPart) (at : IsSetPartAt format count x n part) where
+      -- each clock's readings make each sector good with its own bytes
+      good_by : (clock : Clock) → IsUsed plan.clocks clock → (noted : List NotedReading)
+          → AreReadingsBy clock format track (times (stream_at x (n * count + q))) (indexes (stream_at x (n * count + q))) q noted
+          → (sector : ℕ) → IsSector format track sector → IsWith sector (mine sector) noted
+      good_by clock used noted by sector one =
+          let here = cells_in format (streams_in plan x) n q clock in
+          let found : List NotedReading = readings_in q clock (times (stream_at x (n * count + q))) (indexes (stream_at x (n * count + q))) here by.found in
+          let are : AreReadingsOf (sector_at format track) (cells_of_ring_pieces ring piece []) found =
+          subst (λ (cs : List Bool). AreReadingsOf (sector_at format track) cs found) (cells clock used)
+          (are_readings_of (header_at format track) (sector_at format track) (laws.read.all format track)
+          q clock (times (stream_at x (n * count + q))) (indexes (stream_at x (n * count + q))) here by.found by.all) in
+          let has : HasSector (written_track format image n) sector = record { least = one.0; most = one.1 } in
+          subst (IsWith sector (mine sector)) (sym by.are)
+          (((laws.pieces format image n is known piece []).1 found are).whole sector has
+          (laws.two_rings format image n is known piece sector long has))
+
+    module _ (part : TrackPart) (at : IsPlannedPart plan (part_by plan.naming) format (streams_in plan x) n part) where
       abbrev readings : List NotedReading
       readings = joined at.captures
 
       one_with : (sector : ℕ) → IsSector format track sector → (q : ℕ) → q < length at.captures → IsWith sector (mine sector) (get_or at.captures q [])
       one_with sector one q within =
           let low : q < count = omega (arith, within, at.many) in
-          let noted = (at.each q within).each Following tt in
-          let here = cells_in format (set_streams count x) n q Following in
-          let found : List NotedReading = readings_in q Following (times (capture_stream count x n q)) (indexes (capture_stream count x n q)) here noted.found in
-          let are : AreReadingsOf (sector_at format track) (cells_of_ring_pieces ring (piece q low) []) found =
-          subst (λ (cs : List Bool). AreReadingsOf (sector_at format track) cs found) (cells q low)
-          (are_readings_of (header_at format track) (sector_at format track) (laws.read.all format track)
-          q Following (times (capture_stream count x n q)) (indexes (capture_stream count x n q)) here noted.found noted.all) in
-          let has : HasSector (written_track format image n) sector = record { least = one.0; most = one.1 } in
-          subst (IsWith sector (mine sector)) (sym ((at.each q within).are ∙ noted.are))
-          (((laws.pieces format image n is known (piece q low) []).1 found are).whole sector has
-          (laws.two_rings format image n is known (piece q low) sector (long q low) has))
+          let noted = at.each q within in
+          subst (IsWith sector (mine sector)) (sym noted.are)
+          (joined_by_with sector (mine sector) plan.clocks noted.by_clock
+          (λ clock used. good_by q low clock used (noted.by_clock clock) (noted.each clock used) sector one))
 
       good : (sector : ℕ) → IsSector format track sector → IsGoodOne (verdict readings sector) (agreed readings sector) (mine sector)
       good sector one =
@@ -207,13 +229,13 @@ module _ (laws : Laws) (format : Format) (count : ℕ) (image x : List ℕ) (o :
           (λ sector least most. ap is_good (good sector (least, most)).outcome_is)
           ∙ sym (ap (λ (p : TrackPart). p.totals.sectors) at.is)
 
-      part_line : (sector : ℕ) (one : IsSector format track sector) → HasText part.lines (named_text ByCapture track sector (verdict readings sector))
+      part_line : (sector : ℕ) (one : IsSector format track sector) → HasText part.lines (named_text plan.naming track sector (verdict readings sector))
       unfolding lines_by
       part_line sector one =
-          subst (λ (p : TrackPart). HasText p.lines (named_text ByCapture track sector (verdict readings sector))) (sym at.is)
-          (text_of_range (line_by ByCapture track readings) (sectors_of format track).first (sectors_of format track).count sector one.0 one.1)
+          subst (λ (p : TrackPart). HasText p.lines (named_text plan.naming track sector (verdict readings sector))) (sym at.is)
+          (text_of_range (line_by plan.naming track readings) (sectors_of format track).first (sectors_of format track).count sector one.0 one.1)
 
-  part : (n : ℕ) (known : n < length (tracks format)) → IsSetPartAt format count x n (part_at decoded.parts n)
+  part : (n : ℕ) (known : n < length (tracks format)) → IsPlannedPart plan (part_by plan.naming) format (streams_in plan x) n (part_at decoded.parts n)
   part n known = decoded.each n (omega (arith, known, many))
 
   image_is : o.image ≡ image
@@ -230,13 +252,13 @@ module _ (laws : Laws) (format : Format) (count : ℕ) (image x : List ℕ) (o :
       (λ n below. let known : n < length (tracks format) = omega (arith, below, many) in part_good n known (part_at decoded.parts n) (part n known))
       ∙ sym (ap (λ (d : Planned). d.totals.sectors) decoded.is)
 
-  says_good : (n sector : ℕ) → IsSectorOf format n sector → SaysGoodInSet format o n sector
+  says_good : (n sector : ℕ) → IsSectorOf format n sector → SaysGoodBy plan.naming format o n sector
   says_good n sector one =
       let here = part n one.track in
       let says = good n one.track (part_at decoded.parts n) here sector one.known in
-      let line : List ℕ = named_text ByCapture (track_at format n) sector (Good says.good says.bad says.first) in
+      let line : List ℕ = named_text plan.naming (track_at format n) sector (Good says.good says.bad says.first) in
       let there : HasText (part_at decoded.parts n).lines line =
-      subst (λ (v : Verdict). HasText (part_at decoded.parts n).lines (named_text ByCapture (track_at format n) sector v)) says.outcome_is
+      subst (λ (v : Verdict). HasText (part_at decoded.parts n).lines (named_text plan.naming (track_at format n) sector v)) says.outcome_is
       (part_line n one.track (part_at decoded.parts n) here sector one.known) in
       let of_all : HasText (lines decoded.parts) line = text_of_parts decoded.parts n line (omega (arith, one.track, many)) there in
       record {
@@ -246,13 +268,13 @@ module _ (laws : Laws) (format : Format) (count : ℕ) (image x : List ℕ) (o :
         line = subst (λ (d : Planned). HasText d.notes line) (sym decoded.is) (text_left (lines decoded.parts) _ line of_all);
       }
 
-  pub decodes_whole_set : DecodesWholeSet format image o
-  decodes_whole_set = record {
+  pub is_read_whole : IsReadWhole plan.naming format image o
+  is_read_whole = record {
     no_stop = no_fault;
     image_is = image_is;
     all_good = all_good;
     lines = says_good;
   }
 
-pub captured_sets_decode : Laws → CapturedSetsDecode
-captured_sets_decode laws format count image x o some is captured decoded = decodes_whole_set laws format count image x o some is captured decoded
+pub captured_plans_are_read : Laws → CapturedPlansAreRead
+captured_plans_are_read laws plan format image x o some is captured steady decoded = is_read_whole laws plan format image x o some is captured steady decoded

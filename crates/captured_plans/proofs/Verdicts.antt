@@ -1,7 +1,7 @@
 -- The verdict over the readings of several captures, each of which alone makes the sector good with the same bytes.
-use Rattle.std.specs.Prelude.{◌≡◌, ◌<◌, ℕ, suc, Bool, true, false, not, cond, List, [], ◌∷◌, length, get_or, is_none, Option, Some, None, if◌then◌else◌, refl}
+use Rattle.std.specs.Prelude.{◌≡◌, ◌<◌, ℕ, zero, suc, Bool, true, false, not, cond, List, [], ◌∷◌, ◌++◌, length, get_or, is_none, Option, Some, None, if◌then◌else◌, refl}
 use Rattle.std.specs.Str.{bytes_eq}
-use Rattle.std.proofs.Common.{ap, sym, subst, ◌∙◌, arith}
+use Rattle.std.proofs.Common.{ap, append-nil, sym, subst, ◌∙◌, arith}
 use Rattle.std.proofs.lemmas.Slice.Eq.{bytes_eq-Decides}
 use Rattle.turn_merge.specs.Readings.{NotedReading, agreed, agreed_of, bad_ones, bytes_of, first_other, good_ones, verdict, verdict_of, verdict_with}
 use Rattle.turn_merge.specs.declared.verdict.Place.{Place}
@@ -11,6 +11,11 @@ use Rattle.decoded_rings.specs.Verdicts.{IsGoodWith}
 use Rattle.flux_engine.specs.lemmas.Each.{Each, each-append, each-filter, each-map, each-unfilter, each-unflat}
 use Rattle.flux_engine.specs.lemmas.GoodSectors.{Head, agreed_head, head_of, is_good_of, same_bytes}
 use Rattle.flux_engine.specs.Plans.{joined}
+use Rattle.flux_engine.specs.Captured.{IsUsed, joined_by}
+use Rattle.flux_engine.specs.declared.plan.Clocks.{Clocks}
+use Rattle.flux_engine.specs.declared.plan.Clocks.TheVariants.{Both, FollowingAlone}
+use Rattle.turn_merge.specs.declared.clock.Clock.{Clock}
+use Rattle.turn_merge.specs.declared.clock.Clock.TheVariants.{Following, Held}
 
 same_eq : (xs ys : List ℕ) → xs ≡ ys → not (bytes_eq xs ys) ≡ false
 same_eq xs ys same = ap not ((bytes_eq-Decides xs ys).1 same)
@@ -103,3 +108,16 @@ module _ (s : ℕ) (bytes : List ℕ) where
   pub joined_with : (captures : List (List NotedReading)) → 0 < length captures
       → ((q : ℕ) → q < length captures → IsWith (get_or captures q [])) → IsWith (joined captures)
   joined_with captures some each = with_all (joined captures) (joined_hold captures each) (joined_some captures some each)
+
+  with_two : (xs ys : List NotedReading) → IsWith xs → IsWith ys → (q : ℕ) → q < 2 → IsWith (get_or (xs ∷ ys ∷ []) q [])
+  with_two xs ys first second zero low = first
+  with_two xs ys first second (suc zero) low = second
+  with_two xs ys first second (suc (suc q)) low = absurd (omega (arith, low))
+
+  -- and over the readings by each of the clocks
+  pub joined_by_with : (clocks : Clocks) (by_clock : Clock → List NotedReading) → ((clock : Clock) → IsUsed clocks clock → IsWith (by_clock clock))
+      → IsWith (joined_by clocks by_clock)
+  joined_by_with FollowingAlone by_clock each = each Following tt
+  joined_by_with Both by_clock each =
+      subst (λ (readings : List NotedReading). IsWith (by_clock Following ++ readings)) (append-nil (by_clock Held))
+      (joined_with (by_clock Following ∷ by_clock Held ∷ []) (omega arith) (with_two (by_clock Following) (by_clock Held) (each Following tt) (each Held tt)))

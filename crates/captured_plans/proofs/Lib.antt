@@ -1,4 +1,4 @@
 pub mod Verdicts
 pub mod Images
 pub mod Lines
-pub mod Sets
+pub mod Plans
