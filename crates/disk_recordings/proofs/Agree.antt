@@ -1,11 +1,11 @@
 -- The recording of each format is one for the format.
 use Rattle.std.proofs.Common.{arith, rules}
 use Rattle.sector_images.specs.declared.format.Format.{Format}
-use Rattle.sector_images.specs.declared.format.Format.TheVariants.{Ibm3740, Ibm360, Ibm720, Ibm1440, Amiga, C1541, C1541Forty, AppleDo, ApplePo, Ibm160, Ibm180, Ibm320, Ibm1200, AtariSt800, CpcData, CpcSystem, AcornDfs40, AcornDfs80, AppleDos33, AppleProdos}
+use Rattle.sector_images.specs.declared.format.Format.TheVariants.{Ibm3740, Ibm360, Ibm720, Ibm1440, Amiga, C1541, C1541Forty, AppleDo, ApplePo, Ibm160, Ibm180, Ibm320, Ibm1200, AtariSt800, CpcData, CpcSystem, AcornDfs40, AcornDfs80, AppleDos33, AppleProdos, Mac400, Mac800}
 use Rattle.disk_recordings.specs.Agreement.{Agrees}
 use Rattle.disk_recordings.specs.Recordings.{recording_of}
 use Rattle.disk_recordings.specs.declared.disk_id.DiskId.{DiskId}
-use Rattle.disk_recordings.proofs.Zones.{cells_same, sectors_same}
+use Rattle.disk_recordings.proofs.Zones.{cells_same, macintosh_cells, macintosh_sectors, sectors_same}
 
 pub agrees : (format : Format) (id : DiskId) → Agrees format (recording_of format id)
 agrees Ibm3740 id = search (rules, arith)
@@ -28,3 +28,5 @@ agrees AcornDfs40 id = search (rules, arith)
 agrees AcornDfs80 id = search (rules, arith)
 agrees AppleDos33 id = search (rules, arith)
 agrees AppleProdos id = search (rules, arith)
+agrees Mac400 id = search (rules, arith, macintosh_cells, macintosh_sectors)
+agrees Mac800 id = search (rules, arith, macintosh_cells, macintosh_sectors)

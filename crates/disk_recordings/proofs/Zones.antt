@@ -1,4 +1,4 @@
--- The zones of a Commodore 1541's disk are the same in its recording and in its format.
+-- The zones of a disk are the same in its recording and in its format.
 use Rattle.std.specs.Prelude.{◌≡◌, ◌<◌, ℕ, List, get_or, map, refl}
 use Rattle.std.specs.List.{range_with_len}
 use Rattle.std.proofs.Common.{ap, arith, sym, ◌∙◌}
@@ -6,7 +6,9 @@ use Rattle.std.proofs.lemmas.List.FromFn.{get_or-map-range_with_len}
 use Rattle.commodore_gcr.specs.Layout.{ring_cells_of}
 use Rattle.commodore_gcr.specs.Zones.{sectors_of, zone_of}
 use Rattle.flux_base.specs.declared.track.TrackId.{TrackId}
-use Rattle.sector_images.specs.Formats.{commodore_zone}
+use Rattle.disk_zones.specs.Zones.{macintosh_zone as zone_of_macintosh}
+use Rattle.macintosh_gcr.specs.Sectors.{zone_of as macintosh_zone_of}
+use Rattle.sector_images.specs.Formats.{commodore_zone, macintosh_zone}
 
 abbrev at : ℕ → ℕ → TrackId
 at head cylinder = record { cylinder = cylinder; head = head }
@@ -31,3 +33,12 @@ sectors_same track below =
 pub cells_same : (track : TrackId) → track.cylinder < 40 → ring_cells_of track ≡ (commodore_zone track.cylinder).ring_cells
 cells_same track below =
     same_by_table (λ n. ring_cells_of (at track.head n)) (λ n. (commodore_zone n).ring_cells) track.cylinder below (same_cells track.head)
+
+-- a Macintosh's disk has them from one table
+pub macintosh_sectors : (track : TrackId) → (macintosh_zone_of track).sectors ≡ (macintosh_zone track.cylinder).sectors
+unfolding zone_of_macintosh
+macintosh_sectors track = refl
+
+pub macintosh_cells : (track : TrackId) → (macintosh_zone_of track).ring_cells ≡ (macintosh_zone track.cylinder).ring_cells
+unfolding zone_of_macintosh
+macintosh_cells track = refl

@@ -12,12 +12,13 @@ use commodore_gcr::CommodoreGcr;
 use either::{Either, Left, Right};
 use ibm_fm::IbmFm;
 use ibm_mfm::IbmMfm;
+use macintosh_gcr::MacintoshGcr;
 use sector_images::Format;
 
 /// One of the recordings.
 pub type DiskRecording = Either<
     IbmFm,
-    Either<IbmMfm, Either<AmigaMfm, Either<CommodoreGcr, AppleGcr>>>,
+    Either<IbmMfm, Either<AmigaMfm, Either<CommodoreGcr, Either<AppleGcr, MacintoshGcr>>>>,
 >;
 
 /// The recording of the format's tracks, on a disk with this id. Its tracks, sectors, bytes and cells are those
@@ -41,10 +42,12 @@ pub fn recording_of(format: Format, id: DiskId) -> DiskRecording
             id1: id.first,
             id2: id.second,
         })))),
-        Format::AppleDo | Format::ApplePo => Right(Right(Right(Right(AppleGcr::STRICT)))),
+        Format::AppleDo | Format::ApplePo => Right(Right(Right(Right(Left(AppleGcr::STRICT))))),
         Format::AppleDos33 | Format::AppleProdos => {
-            Right(Right(Right(Right(AppleGcr::CONTROLLER))))
+            Right(Right(Right(Right(Left(AppleGcr::CONTROLLER)))))
         }
+        Format::Mac400 => Right(Right(Right(Right(Right(MacintoshGcr::SingleSided))))),
+        Format::Mac800 => Right(Right(Right(Right(Right(MacintoshGcr::DoubleSided))))),
     }
 }
 

@@ -1,6 +1,6 @@
 -- Where the tracks of each format lie.
-use Rattle.std.proofs.Common.{◌≡◌, ℕ, suc, ◌+◌, ◌-◌, ◌*◌, ◌/◌, ◌%◌, ◌<◌, ◌≤◌, ◌^◌, Bool, true, length, get_or, slice_get, sum_by, take, Some, refl, sym, ◌∙◌, ap, arith}
-use Rattle.std.specs.List.{list_all}
+use Rattle.std.proofs.Common.{◌≡◌, ℕ, suc, ◌+◌, ◌-◌, ◌*◌, ◌/◌, ◌%◌, ◌<◌, ◌≤◌, ◌^◌, Bool, true, length, map, get_or, slice_get, sum_by, take, Some, refl, sym, ◌∙◌, ap, arith}
+use Rattle.std.specs.List.{list_all, range_with_len}
 use Rattle.std.specs.Prelude.{nat_eq, nat_lt}
 use Rattle.std.proofs.Math.Nat.{mul-le-mul_right, suc-mul}
 use Rattle.std.proofs.lemmas.Bool.{eqb-true, ltb-true}
@@ -8,9 +8,9 @@ use Rattle.std.proofs.lemmas.Nat.{div-mul-add, mod-mul-add}
 use Rattle.std.proofs.lemmas.Option.{get_or_from_slice_get, slice_get-get_or, slice_get_within}
 use Rattle.flux_base.specs.declared.track.TrackId.{TrackId}
 use Rattle.sector_images.specs.declared.format.Format.{Format}
-use Rattle.sector_images.specs.Formats.{begin_of, formats, row, zone}
-use Rattle.sector_images.specs.Places.{ImagesAreSmall, IsTrack, TracksAreFew, TracksKeepBounds, tracks, bytes_of, place_of}
-use Rattle.sector_images.proofs.EachFormat.{each_format, each_track, tracks_pass}
+use Rattle.sector_images.specs.Formats.{formats, row, zone}
+use Rattle.sector_images.specs.Places.{ImagesAreSmall, IsTrack, TracksAreFew, TracksKeepBounds, tracks, bytes_of, place_of, sectors_before}
+use Rattle.sector_images.proofs.EachFormat.{each_below, each_format, each_track, tracks_pass}
 
 -- the track of a number, where each cylinder has so many heads
 abbrev pub numbered : ℕ → ℕ → TrackId
@@ -28,7 +28,7 @@ counted f n = numbered (row f).heads n
 
 -- the place that the table's numbers give
 abbrev in_table : Format → TrackId → ℕ
-in_table f t = (begin_of f t.cylinder).place + ((t.cylinder - (begin_of f t.cylinder).first_cylinder) * (row f).heads + t.head) * bytes_of f t
+in_table f t = (sectors_before f t.cylinder * (row f).heads + t.head * (zone f t.cylinder).sectors) * (row f).sector_size
 
 -- what holds of each format
 sum_test : list_all (λ f. nat_eq (row f).image_size (sum_by (bytes_of f) (tracks f))) formats ≡ true
@@ -69,6 +69,17 @@ pub few_tracks : TracksAreFew
 few_tracks f =
     let few : length (tracks f) < 1001 = ltb-true _ _ (each_format (λ g. nat_lt (length (tracks g)) 1001) few_test f) in
     omega (arith, few)
+
+before_small_test : list_all (λ f. list_all (λ b. b) (map (λ c. nat_lt (sectors_before f c) 65536) (range_with_len 0 (row f).cylinders))) formats ≡ true
+unfolding sectors_before
+before_small_test = refl
+
+-- few sectors stand before a cylinder
+pub few_before : (f : Format) (c : ℕ) → c < (row f).cylinders → sectors_before f c < 65536
+few_before f c below =
+    ltb-true _ _
+    (each_below (λ n. nat_lt (sectors_before f n) 65536) (row f).cylinders
+    (each_format (λ g. list_all (λ b. b) (map (λ n. nat_lt (sectors_before g n) 65536) (range_with_len 0 (row g).cylinders))) before_small_test f) c below)
 
 -- what holds of each track
 cylinder_test : list_all (tracks_pass (λ f n. nat_eq (listed f n).cylinder (counted f n).cylinder)) formats ≡ true
@@ -123,11 +134,11 @@ has_number f t known = record {
 }
 
 place_test : list_all (tracks_pass (λ f n. nat_eq (place_of f (counted f n)) (in_table f (counted f n)))) formats ≡ true
-unfolding place_of
+unfolding place_of sectors_before
 place_test = refl
 
 pub place_by_table : (f : Format) (t : TrackId) → IsTrack f t
-    → place_of f t ≡ (begin_of f t.cylinder).place + ((t.cylinder - (begin_of f t.cylinder).first_cylinder) * (row f).heads + t.head) * bytes_of f t
+    → place_of f t ≡ (sectors_before f t.cylinder * (row f).heads + t.head * (zone f t.cylinder).sectors) * (row f).sector_size
 place_by_table f t known =
     let h = has_number f t known in
     ap (place_of f) h.is
@@ -135,6 +146,7 @@ place_by_table f t known =
     ∙ sym (ap (in_table f) h.is)
 
 within_test : list_all (tracks_pass (λ f n. nat_lt (in_table f (counted f n) + bytes_of f (counted f n)) ((row f).image_size + 1))) formats ≡ true
+unfolding sectors_before
 within_test = refl
 
 -- a track lies in the image
@@ -148,6 +160,7 @@ track_within f t known =
     omega (arith, place_by_table f t known, there, here)
 
 before_test : list_all (tracks_pass (λ f n. nat_eq (in_table f (counted f n)) (sum_by (bytes_of f) (take n (tracks f))))) formats ≡ true
+unfolding sectors_before
 before_test = refl
 
 -- the tracks before the one of a number

@@ -1,15 +1,18 @@
 -- The formats of sector images, a row for each.
-use Rattle.std.specs.Prelude.{◌≡◌, ℕ, ◌+◌, ◌-◌, ◌*◌, ◌/◌, List, [], ◌∷◌, codes, Contains, get_or, refl, nat_lt, if◌then◌else◌, Option, Some, None}
+use Rattle.std.specs.Prelude.{◌≡◌, ℕ, ◌-◌, List, [], ◌∷◌, codes, Contains, get_or, refl, Option, Some, None}
 use Rattle.std.proofs.Common.{arith}
+use Rattle.disk_zones.specs.Units.{fine_units}
+use Rattle.disk_zones.specs.Zones.{commodore_inner, commodore_outer, macintosh_inner, macintosh_outer, zone_in}
+use Rattle.disk_zones.specs.declared.zones.Zone.{Zone}
 use Rattle.sector_images.specs.declared.format.Format.{Format}
-use Rattle.sector_images.specs.declared.format.Format.TheVariants.{Ibm3740, Ibm360, Ibm720, Ibm1440, Amiga, C1541, C1541Forty, AppleDo, ApplePo, Ibm160, Ibm180, Ibm320, Ibm1200, AtariSt800, CpcData, CpcSystem, AcornDfs40, AcornDfs80, AppleDos33, AppleProdos}
+use Rattle.sector_images.specs.declared.format.Format.TheVariants.{Ibm3740, Ibm360, Ibm720, Ibm1440, Amiga, C1541, C1541Forty, AppleDo, ApplePo, Ibm160, Ibm180, Ibm320, Ibm1200, AtariSt800, CpcData, CpcSystem, AcornDfs40, AcornDfs80, AppleDos33, AppleProdos, Mac400, Mac800}
 
 -- all formats
 abbrev pub formats : List Format
 formats =
     Ibm3740 ∷ Ibm360 ∷ Ibm720 ∷ Ibm1440 ∷ Amiga ∷ C1541 ∷ C1541Forty ∷ AppleDo ∷ ApplePo
     ∷ Ibm160 ∷ Ibm180 ∷ Ibm320 ∷ Ibm1200 ∷ AtariSt800 ∷ CpcData ∷ CpcSystem ∷ AcornDfs40 ∷ AcornDfs80
-    ∷ AppleDos33 ∷ AppleProdos ∷ []
+    ∷ AppleDos33 ∷ AppleProdos ∷ Mac400 ∷ Mac800 ∷ []
 
 -- each is among them
 unfoldable pub is_listed : (f : Format) → Contains formats f
@@ -33,11 +36,8 @@ is_listed AcornDfs40 = (16, omega arith, refl)
 is_listed AcornDfs80 = (17, omega arith, refl)
 is_listed AppleDos33 = (18, omega arith, refl)
 is_listed AppleProdos = (19, omega arith, refl)
-
--- a cell of so many quarters of a microsecond, in fine units, which are 1/1024 of a period of the capture's clock of
--- 168192000/7 Hz
-abbrev pub fine_units : ℕ → ℕ
-fine_units quarters = quarters * 168192000 * 1024 / (7 * 4000000)
+is_listed Mac400 = (20, omega arith, refl)
+is_listed Mac800 = (21, omega arith, refl)
 
 -- what each physical sector of an Apple track holds, from sector 0 on: in DOS 3.3 a logical sector, in ProDOS a half block
 abbrev pub dos_order : List ℕ
@@ -241,22 +241,33 @@ row AppleProdos = record {
   image_size = 143360;
   order = Some prodos_order;
 }
+row Mac400 = record {
+  word = codes "mac-400";
+  cylinders = 80;
+  heads = 1;
+  first_sector = 0;
+  sector_size = 512;
+  image_size = 409600;
+  order = None;
+}
+row Mac800 = record {
+  word = codes "mac-800";
+  cylinders = 80;
+  heads = 2;
+  first_sector = 0;
+  sector_size = 512;
+  image_size = 819200;
+  order = None;
+}
 
--- the sectors of a track, its nominal cell in fine units and the cells of its ring
-pub record Zone : Type 0 where
-  pub sectors : ℕ
-  pub nominal : ℕ
-  pub ring_cells : ℕ
-
--- the zones of a Commodore 1541 disk, whose tracks are numbered from 1: 1 to 17, 18 to 24, 25 to 30, and from 31 on
+-- The zone of a cylinder: the sectors of a track, its nominal cell in fine units and the cells of its ring. Disks whose outer tracks
+-- have more sectors have zones of their own.
 abbrev pub commodore_zone : ℕ → Zone
-commodore_zone cylinder =
-    if nat_lt (cylinder + 1) 18 then record { sectors = 21; nominal = fine_units 13; ring_cells = 61488 }
-    else if nat_lt (cylinder + 1) 25 then record { sectors = 19; nominal = fine_units 14; ring_cells = 57000 }
-    else if nat_lt (cylinder + 1) 31 then record { sectors = 18; nominal = fine_units 15; ring_cells = 53280 }
-    else record { sectors = 17; nominal = fine_units 16; ring_cells = 49912 }
+commodore_zone cylinder = zone_in commodore_outer commodore_inner cylinder
 
--- the zone of a cylinder
+abbrev pub macintosh_zone : ℕ → Zone
+macintosh_zone cylinder = zone_in macintosh_outer macintosh_inner cylinder
+
 abbrev pub zone : Format → ℕ → Zone
 zone Ibm3740 cylinder = record { sectors = 26; nominal = fine_units 8; ring_cells = 83328 }
 zone Ibm360 cylinder = record { sectors = 9; nominal = fine_units 8; ring_cells = 100000 }
@@ -278,23 +289,8 @@ zone AcornDfs40 cylinder = record { sectors = 10; nominal = fine_units 16; ring_
 zone AcornDfs80 cylinder = record { sectors = 10; nominal = fine_units 16; ring_cells = 50000 }
 zone AppleDos33 cylinder = record { sectors = 16; nominal = fine_units 16; ring_cells = 49994 }
 zone AppleProdos cylinder = record { sectors = 16; nominal = fine_units 16; ring_cells = 49994 }
-
--- the first of the neighbouring cylinders whose tracks have as many bytes, and where it begins in the image
-pub record Begin : Type 0 where
-  pub first_cylinder : ℕ
-  pub place : ℕ
-
-abbrev pub commodore_begin : ℕ → Begin
-commodore_begin cylinder =
-    if nat_lt (cylinder + 1) 18 then record { first_cylinder = 0; place = 0 }
-    else if nat_lt (cylinder + 1) 25 then record { first_cylinder = 17; place = 91392 }
-    else if nat_lt (cylinder + 1) 31 then record { first_cylinder = 24; place = 125440 }
-    else record { first_cylinder = 30; place = 153088 }
-
-abbrev pub begin_of : Format → ℕ → Begin
-begin_of C1541 cylinder = commodore_begin cylinder
-begin_of C1541Forty cylinder = commodore_begin cylinder
-begin_of format cylinder = record { first_cylinder = 0; place = 0 }
+zone Mac400 cylinder = macintosh_zone cylinder
+zone Mac800 cylinder = macintosh_zone cylinder
 
 -- where a sector stands in an order, or else by its number
 abbrev pub slot_by : Option (List ℕ) → (first sector : ℕ) → ℕ

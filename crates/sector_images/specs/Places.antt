@@ -1,5 +1,5 @@
 -- Where tracks and sectors lie in an image.
-use Rattle.std.specs.Prelude.{◌≡◌, ℕ, ◌+◌, ◌*◌, ◌<◌, ◌≤◌, Bool, ◌||◌, ◌&&◌, nat_eq, nat_lt, List, length, filter, find, map, sum_by, slice_get, take, unwrap_or, Some}
+use Rattle.std.specs.Prelude.{◌≡◌, ℕ, zero, suc, ◌+◌, ◌*◌, ◌<◌, ◌≤◌, Bool, ◌||◌, ◌&&◌, nat_eq, nat_lt, List, length, filter, find, map, sum_by, slice_get, take, unwrap_or, Some}
 use Rattle.std.specs.List.{flat_map, range_with_len}
 use Rattle.flux_base.specs.declared.track.TrackId.{TrackId}
 use Rattle.sector_images.specs.declared.format.Format.{Format}
@@ -27,6 +27,11 @@ comes_before a b = nat_lt a.cylinder b.cylinder || (nat_eq a.cylinder b.cylinder
 -- the bytes of a track
 abbrev pub bytes_of : Format → TrackId → ℕ
 bytes_of format track = (zone format track.cylinder).sectors * (row format).sector_size
+
+-- the sectors of one head on so many first cylinders
+unfoldable pub sectors_before : Format → ℕ → ℕ
+sectors_before format zero = 0
+sectors_before format (suc cylinder) = sectors_before format cylinder + (zone format cylinder).sectors
 
 -- a track's first byte in the image: the bytes of all tracks before it
 unfoldable pub place_of : Format → TrackId → ℕ

@@ -1,6 +1,8 @@
-ghost use Rattle.std.specs.Prelude.{◌≡◌, ◌≢◌, ◌<◌, ◌≤◌, MatchOption, find, option_map};
+ghost use Rattle.std.specs.Prelude.{◌≡◌, ◌≢◌, MatchOption, find, option_map};
 ghost use Rattle.std.specs.Str.{bytes_eq};
-ghost use Rattle.sector_images.specs.Formats.{begin_of, commodore_begin, commodore_zone, formats, row, zone};
+ghost use Rattle.sector_images.specs.Formats.{formats, row, zone};
+
+use disk_zones::{Zone, commodore_zone, macintosh_zone};
 
 /// A format of sector images.
 #[derive(Clone, Copy, Debug, PartialEq, Eq)]
@@ -45,10 +47,14 @@ pub enum Format {
     AppleDos33,
     /// Apple's disk as ProDOS itself wrote it, read so, in the order of ProDOS.
     AppleProdos,
+    /// The Macintosh's 400 KB disk: 80 cylinders of one head, 12 to 8 sectors of 512 bytes by zone (GCR).
+    Mac400,
+    /// The Macintosh's 800 KB disk: the same with two heads.
+    Mac800,
 }
 
 /// All formats.
-const FORMATS: [Format; 20] = [
+const FORMATS: [Format; 22] = [
     Format::Ibm3740,
     Format::Ibm360,
     Format::Ibm720,
@@ -69,6 +75,8 @@ const FORMATS: [Format; 20] = [
     Format::AcornDfs80,
     Format::AppleDos33,
     Format::AppleProdos,
+    Format::Mac400,
+    Format::Mac800,
 ];
 
 /// All formats, in the order of their table.
@@ -117,6 +125,8 @@ impl Format {
             Format::ApplePo => "apple-po",
             Format::AppleDos33 => "apple-dos33",
             Format::AppleProdos => "apple-prodos",
+            Format::Mac400 => "mac-400",
+            Format::Mac800 => "mac-800",
         }
     }
 }
@@ -157,21 +167,6 @@ const DOS_ORDER: [u8; 16] = [
 const PRODOS_ORDER: [u8; 16] = [
     0x0, 0x8, 0x1, 0x9, 0x2, 0xA, 0x3, 0xB, 0x4, 0xC, 0x5, 0xD, 0x6, 0xE, 0x7, 0xF,
 ];
-
-/// What holds of the tracks of neighbouring cylinders.
-#[derive(Clone, Copy, Debug)]
-pub(crate) struct Zone {
-    /// The first of these cylinders.
-    pub first_cylinder: u8,
-    /// The place in the image where that cylinder begins.
-    pub place: u32,
-    /// Sectors of a track.
-    pub sectors: u8,
-    /// The nominal cell in fine units.
-    pub nominal: u32,
-    /// Cells of a whole written track.
-    pub ring_cells: u32,
-}
 
 impl Format {
     pub(crate) fn geometry(self) -> Geometry
@@ -327,23 +322,34 @@ impl Format {
                 image_size: 204800,
                 order: None,
             },
+            Format::Mac400 => Geometry {
+                cylinders: 80,
+                heads: 1,
+                first_sector: 0,
+                sector_size: 512,
+                image_size: 409600,
+                order: None,
+            },
+            Format::Mac800 => Geometry {
+                cylinders: 80,
+                heads: 2,
+                first_sector: 0,
+                sector_size: 512,
+                image_size: 819200,
+                order: None,
+            },
         }
     }
 
-    /// The zone of one of the format's cylinders.
+    /// The zone of a cylinder.
+    #[tactic(auto, unfolding(disk_zones::specs::Zones::commodore_zone, disk_zones::specs::Zones::macintosh_zone))]
     pub(crate) fn zone(self, cylinder: u8) -> Zone
-        requires { cylinder < (row self).cylinders }
-        ensures before { result.first_cylinder ≤ cylinder }
-        ensures first_cylinder { result.first_cylinder ≡ (begin_of self cylinder).first_cylinder }
-        ensures place { result.place ≡ (begin_of self cylinder).place }
         ensures sectors { result.sectors ≡ (zone self cylinder).sectors }
         ensures nominal { result.nominal ≡ (zone self cylinder).nominal }
         ensures ring_cells { result.ring_cells ≡ (zone self cylinder).ring_cells }
     {
         match self {
             Format::Ibm3740 => Zone {
-                first_cylinder: 0,
-                place: 0,
                 sectors: 26,
                 nominal: 49208,
                 ring_cells: 83328,
@@ -353,103 +359,47 @@ impl Format {
             | Format::Ibm180
             | Format::CpcData
             | Format::CpcSystem => Zone {
-                first_cylinder: 0,
-                place: 0,
                 sectors: 9,
                 nominal: 49208,
                 ring_cells: 100000,
             },
             Format::Ibm1440 => Zone {
-                first_cylinder: 0,
-                place: 0,
                 sectors: 18,
                 nominal: 24604,
                 ring_cells: 200000,
             },
             Format::Amiga => Zone {
-                first_cylinder: 0,
-                place: 0,
                 sectors: 11,
                 nominal: 49208,
                 ring_cells: 100000,
             },
             Format::C1541 | Format::C1541Forty => commodore_zone(cylinder),
+            Format::Mac400 | Format::Mac800 => macintosh_zone(cylinder),
             Format::AppleDo | Format::ApplePo | Format::AppleDos33 | Format::AppleProdos => Zone {
-                first_cylinder: 0,
-                place: 0,
                 sectors: 16,
                 nominal: 98416,
                 ring_cells: 49994,
             },
             Format::Ibm160 | Format::Ibm320 => Zone {
-                first_cylinder: 0,
-                place: 0,
                 sectors: 8,
                 nominal: 49208,
                 ring_cells: 100000,
             },
             Format::Ibm1200 => Zone {
-                first_cylinder: 0,
-                place: 0,
                 sectors: 15,
                 nominal: 24604,
                 ring_cells: 166656,
             },
             Format::AtariSt800 => Zone {
-                first_cylinder: 0,
-                place: 0,
                 sectors: 10,
                 nominal: 49208,
                 ring_cells: 100000,
             },
             Format::AcornDfs40 | Format::AcornDfs80 => Zone {
-                first_cylinder: 0,
-                place: 0,
                 sectors: 10,
                 nominal: 98416,
                 ring_cells: 50000,
             },
         }
-    }
-}
-
-/// The zones of a Commodore 1541 disk. Cylinder 0 is track 1.
-fn commodore_zone(cylinder: u8) -> Zone
-    ensures before { result.first_cylinder ≤ cylinder }
-    ensures first_cylinder { result.first_cylinder ≡ (commodore_begin cylinder).first_cylinder }
-    ensures place { result.place ≡ (commodore_begin cylinder).place }
-    ensures sectors { result.sectors ≡ (commodore_zone cylinder).sectors }
-    ensures nominal { result.nominal ≡ (commodore_zone cylinder).nominal }
-    ensures ring_cells { result.ring_cells ≡ (commodore_zone cylinder).ring_cells }
-{
-    match cylinder {
-        0..=16 => Zone {
-            first_cylinder: 0,
-            place: 0,
-            sectors: 21,
-            nominal: 79963,
-            ring_cells: 61488,
-        },
-        17..=23 => Zone {
-            first_cylinder: 17,
-            place: 91392,
-            sectors: 19,
-            nominal: 86114,
-            ring_cells: 57000,
-        },
-        24..=29 => Zone {
-            first_cylinder: 24,
-            place: 125440,
-            sectors: 18,
-            nominal: 92265,
-            ring_cells: 53280,
-        },
-        _ => Zone {
-            first_cylinder: 30,
-            place: 153088,
-            sectors: 17,
-            nominal: 98416,
-            ring_cells: 49912,
-        },
     }
 }

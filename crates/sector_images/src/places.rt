@@ -1,6 +1,6 @@
 ghost use Rattle.std.specs.Prelude.{◌≡◌, ℕ, ◌+◌, ◌<◌, ◌≤◌, get_or, length, sum_by, take, slice_get, Some};
 ghost use Rattle.sector_images.specs.Formats.{row, slot, zone};
-ghost use Rattle.sector_images.specs.Places.{IsTrack, IsSector, tracks, bytes_of, place_of, sector_in, sector_place};
+ghost use Rattle.sector_images.specs.Places.{IsTrack, IsSector, tracks, bytes_of, place_of, sector_in, sector_place, sectors_before as sectors_before_in};
 
 use crate::format::Format;
 use flux_base::TrackId;
@@ -52,10 +52,24 @@ pub fn track_place(format: Format, track: TrackId) -> u32
     ensures joined { (number : ℕ) → slice_get (tracks format) number ≡ Some track
         → result ≡ sum_by (bytes_of format) (take number (tracks format)) }
 {
-    let zone = format.zone(track.cylinder);
-    let heads = u32::from(format.geometry().heads);
-    let before = u32::from(track.cylinder - zone.first_cylinder) * heads + u32::from(track.head);
-    zone.place + before * track_bytes(format, track)
+    let geometry = format.geometry();
+    let sectors = u32::from(format.zone(track.cylinder).sectors);
+    let before = sectors_before(format, track.cylinder) * u32::from(geometry.heads)
+        + u32::from(track.head) * sectors;
+    before * u32::from(geometry.sector_size)
+}
+
+/// The sectors of one head on all cylinders before this one.
+fn sectors_before(format: Format, cylinder: u8) -> u32
+    requires { cylinder < (row format).cylinders }
+    ensures before { result ≡ sectors_before_in format cylinder }
+    ensures few { result < 65536 }
+{
+    let mut sectors = 0;
+    for before in 0..cylinder {
+        sectors += u32::from(format.zone(before).sectors);
+    }
+    sectors
 }
 
 /// The place of a sector's first byte in the image.

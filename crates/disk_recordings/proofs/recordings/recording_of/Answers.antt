@@ -1,6 +1,6 @@
 use Rattle.std.proofs.Common.{inl, inr, subst, sym}
 use Rattle.sector_images.specs.declared.format.Format.{Format}
-use Rattle.sector_images.specs.declared.format.Format.TheVariants.{C1541, C1541Forty}
+use Rattle.sector_images.specs.declared.format.Format.TheVariants.{C1541, C1541Forty, Mac400, Mac800}
 use Rattle.disk_recordings.specs.Agreement.{Agrees}
 use Rattle.disk_recordings.specs.Recordings.{recording_of}
 use Rattle.disk_recordings.proofs.Agree.{agrees}
@@ -12,3 +12,11 @@ returns-in-C1541-clause-agrees c =
       | inl is ↦ subst (λ (f : Format). Agrees f (recording_of C1541 c.args.id)) (sym is) (agrees C1541 c.args.id)
       | inr is ↦ subst (λ (f : Format). Agrees f (recording_of C1541 c.args.id)) (sym is) (agrees C1541Forty c.args.id)
     ]
+
+pub returns-in-Mac400-clause-agrees : goal.returns-in-Mac400-clause-agrees
+returns-in-Mac400-clause-agrees c =
+    subst (λ (f : Format). Agrees f (recording_of Mac400 c.args.id)) (sym c.in-Mac400.is) (agrees Mac400 c.args.id)
+
+pub returns-in-Mac800-clause-agrees : goal.returns-in-Mac800-clause-agrees
+returns-in-Mac800-clause-agrees c =
+    subst (λ (f : Format). Agrees f (recording_of Mac800 c.args.id)) (sym c.in-Mac800.is) (agrees Mac800 c.args.id)
