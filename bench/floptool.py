@@ -28,6 +28,7 @@ KNOWN = {
     "ibm-1440": ("pc", "img", b"35  DSHD", True), "atari-st-800": ("st", "st", b"35  DSDD", False),
     "acorn-dfs-40": ("ssd", "ssd", b"525 SSQD", True), "acorn-dfs-80": ("ssd", "ssd", b"525 DSQD", True),
     "cpc-data": ("dsk", "dsk", b"", False), "cpc-system": ("dsk", "dsk", b"", False),
+    "mac-400": ("apple_gcr", "dsk", b"35  SSDD", True), "mac-800": ("apple_gcr", "dsk", b"35  DSDD", True),
 }
 
 

@@ -148,8 +148,8 @@ def commodore_gcr(cylinder, head, sectors):
 
 # Apple
 
-NIBBLES = [byte for byte in range(0x96, 0x100)
-           if "11" in f"{byte:08b}"[1:] and len(re.findall("(?=00)", f"{byte:08b}")) <= 1 and byte not in (0xAA, 0xD5)]
+NIBBLES = bytes(byte for byte in range(0x96, 0x100)
+           if "11" in f"{byte:08b}"[1:] and len(re.findall("(?=00)", f"{byte:08b}")) <= 1 and byte not in (0xAA, 0xD5))
 SELF_SYNC = "1111111100"
 
 
@@ -182,6 +182,43 @@ def apple_gcr(cylinder, head, sectors, late=""):
 apple_gcr_late = functools.partial(apple_gcr, late="0")
 
 
+# Macintosh
+
+def rolled(byte):
+    return byte << 1 & 0xFF | byte >> 7
+
+
+def summed(data):
+    """The nibbles of 524 bytes with three running sums, and those of the check values."""
+    a = b = c = 0
+    values = []
+    for x, y, z in itertools.zip_longest(data[::3], data[1::3], data[2::3]):
+        c += a >> 7
+        a = rolled(a)
+        first, c = x ^ a, c + x
+        b, c = b + y + (c >> 8), c & 0xFF
+        second, third = y ^ c, 0
+        if z is not None:
+            third = z ^ b & 0xFF
+            a = a + z + (b >> 8) & 0xFF
+        b &= 0xFF
+        values += [first >> 6 << 4 | second >> 6 << 2 | third >> 6, first & 63, second & 63, third & 63]
+    values = values[:-1] + [a >> 6 | b >> 6 << 2 | c >> 6 << 4, c & 63, b & 63, a & 63]
+    return bytes(NIBBLES[value] for value in values)
+
+
+def macintosh_gcr(heads):
+    """The rings of a disk with so many heads."""
+    def ring(cylinder, head, sectors):
+        out = ""
+        for number, data in enumerate(sectors):
+            names = [cylinder & 63, number, head << 5 | cylinder >> 6, 0x22 if heads == 2 else 0x02]
+            out += SELF_SYNC * 16 + bits(b"\xd5\xaa\x96" + bytes(NIBBLES[v] for v in names + [xor_of(names)]) + b"\xde\xaa\xff")
+            out += SELF_SYNC * 6 + bits(b"\xd5\xaa\xad" + NIBBLES[number : number + 1] + summed(bytes(12) + data) + b"\xde\xaa\xff")
+        return out + SELF_SYNC * ((MAC_CELLS[cylinder // 16] - len(out)) // 10)
+    return ring
+
+
 # Formats
 
 class Format:
@@ -201,8 +238,20 @@ def by_zone(values):
 
 
 ZONE_SECTORS, ZONE_CELLS = by_zone((21, 19, 18, 17)), by_zone((3.25, 3.5, 3.75, 4))
+MAC_CELLS = (76946, 70688, 64230, 57742, 51384)
 DOS = (0, 7, 14, 6, 13, 5, 12, 4, 11, 3, 10, 2, 9, 1, 8, 15)
 PRODOS = (0, 8, 1, 9, 2, 10, 3, 11, 4, 12, 5, 13, 6, 14, 7, 15)
+
+
+
+def mac_sectors(cylinder):
+    return 12 - cylinder // 16
+
+
+def mac_microseconds(cylinder):
+    """Of a drive that makes 300 turns a minute for all cylinders."""
+    return 200_000 / MAC_CELLS[cylinder // 16]
+
 
 FORMATS = {
     "ibm-3740": Format(ibm_fm, 77, 1, 128, lambda _: 26, lambda _: 2),
@@ -225,6 +274,8 @@ FORMATS = {
     "acorn-dfs-80": Format(acorn_fm, 80, 1, 256, lambda _: 10, lambda _: 4),
     "apple-dos33": Format(apple_gcr_late, 35, 1, 256, lambda _: 16, lambda _: 4, DOS),
     "apple-prodos": Format(apple_gcr_late, 35, 1, 256, lambda _: 16, lambda _: 4, PRODOS),
+    "mac-400": Format(macintosh_gcr(1), 80, 1, 512, mac_sectors, mac_microseconds),
+    "mac-800": Format(macintosh_gcr(2), 80, 2, 512, mac_sectors, mac_microseconds),
 }
 
 

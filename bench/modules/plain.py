@@ -9,7 +9,7 @@ import itertools
 import struct
 
 from plain_map import picture
-from plain_recordings import AmigaMfm, AppleGcr, CommodoreGcr, IbmFm, IbmMfm, places_of, word
+from plain_recordings import AmigaMfm, AppleGcr, CommodoreGcr, IbmFm, IbmMfm, MacintoshGcr, places_of, word
 from plain_streams import LIMIT, Refused, Stream, number_at, padding_at, places_of_ones, recovered, stream_of_times
 
 # Formats
@@ -53,6 +53,9 @@ ZONE_CELLS, ZONE_RINGS = zone((79963, 86114, 92265, 98416)), zone((61488, 57000,
 DOS = [0x0, 0x7, 0xE, 0x6, 0xD, 0x5, 0xC, 0x4, 0xB, 0x3, 0xA, 0x2, 0x9, 0x1, 0x8, 0xF]
 PRODOS = [0x0, 0x8, 0x1, 0x9, 0x2, 0xA, 0x3, 0xB, 0x4, 0xC, 0x5, 0xD, 0x6, 0xE, 0x7, 0xF]
 
+MAC_CELLS = lambda cylinder: (63951, 69613, 76612, 85220, 95765)[cylinder // 16]
+MAC_RINGS = lambda cylinder: MacintoshGcr.RINGS[cylinder // 16]
+
 IBM_3740 = IbmFm(first=1, count=26, size=128, code=0, gap=27, end_gap=247, index_mark=True)
 ACORN = IbmFm(first=0, count=10, size=256, code=1, gap=21, end_gap=9, index_mark=False)
 
@@ -77,6 +80,8 @@ FORMATS = {form.word: form for form in (
     Format("acorn-dfs-80", ACORN, 80, 1, always(98416), always(50000)),
     Format("apple-dos33", AppleGcr(waits=True), 35, 1, always(98416), always(49994), DOS),
     Format("apple-prodos", AppleGcr(waits=True), 35, 1, always(98416), always(49994), PRODOS),
+    Format("mac-400", MacintoshGcr(1), 80, 1, MAC_CELLS, MAC_RINGS),
+    Format("mac-800", MacintoshGcr(2), 80, 2, MAC_CELLS, MAC_RINGS),
 )}
 
 

@@ -356,3 +356,89 @@ class AppleGcr:
             out += raw(b"\xd5\xaa\x96" + four_and_four(names + bytes([xor_of(names)])) + b"\xde\xaa\xeb") + sync * 6
             out += raw(b"\xd5\xaa\xad" + six_and_two(data) + b"\xde\xaa\xeb") + sync * 14
         return out
+
+
+def turned(byte):
+    return (byte << 1 | byte >> 7) & 0xFF
+
+
+def macintosh_values(plain, spare=0):
+    """The 699 values of 524 bytes, and their four check values; `spare` are the two bits without a byte."""
+    a = b = c = 0
+    out = []
+    for place in range(0, len(plain), 3):
+        carry, a, stored = a >> 7, turned(a), []
+        group = plain[place : place + 3]
+        for number, byte in enumerate(group):
+            if number == 0:
+                stored.append(byte ^ a)
+                carry, c = divmod(c + byte + carry, 256)
+            elif number == 1:
+                stored.append(byte ^ c)
+                carry, b = divmod(b + byte + carry, 256)
+            else:
+                stored.append(byte ^ b)
+                carry, a = divmod(a + byte + carry, 256)
+        tops = sum(byte >> 6 << shift for byte, shift in zip(stored, (4, 2, 0)))
+        out += [tops if len(group) == 3 else tops | spare] + [byte & 0x3F for byte in stored]
+    return out + [(a & 0xC0) >> 6 | (b & 0xC0) >> 4 | (c & 0xC0) >> 2, c & 0x3F, b & 0x3F, a & 0x3F]
+
+
+def macintosh_plain(values):
+    """The 524 bytes of 699 values."""
+    a = b = c = 0
+    out = []
+    for place in range(0, len(values), 4):
+        tops, *lows = values[place : place + 4]
+        stored = [(tops >> shift & 3) << 6 | low for low, shift in zip(lows, (4, 2, 0))]
+        carry, a = a >> 7, turned(a)
+        out.append(stored[0] ^ a)
+        carry, c = divmod(c + out[-1] + carry, 256)
+        out.append(stored[1] ^ c)
+        carry, b = divmod(b + out[-1] + carry, 256)
+        if len(stored) == 3:
+            out.append(stored[2] ^ b)
+            carry, a = divmod(a + out[-1] + carry, 256)
+    return bytes(out)
+
+
+class MacintoshGcr:
+    first, size, sync = 0, 512, word(0xD5AA96, 24)
+    RINGS = (76946, 70688, 64230, 57742, 51384)
+
+    def __init__(self, heads):
+        self.heads = heads
+
+    def sectors(self, cylinder):
+        return 12 - cylinder // 16
+
+    def header(self, cells, place, cylinder, head):
+        field = raw_bytes(cells, place + 24, 5)
+        values = None if field is None else [NIBBLE_VALUES.get(byte) for byte in field]
+        if values is None or None in values or not unbroken(cells, place, place + 64):
+            return None
+        low, sector, side, form, check = values
+        named = low == cylinder & 0x3F and side == head * 32 + cylinder // 64 and sector < self.sectors(cylinder)
+        return (sector, place + 64) if named and check == low ^ sector ^ side ^ form else None
+
+    def sector(self, cells, place, end):
+        q, _ = first_of(cells, end, [word(0xD5AA)])
+        field = None if q is None else raw_bytes(cells, q + 16, 705)
+        if field is None or field[0] != 0xAD or field[1:2] != raw_bytes(cells, place + 32, 1) or not unbroken(cells, place, q + 5656):
+            return None
+        values = [NIBBLE_VALUES.get(byte) for byte in field[2:]]
+        if None in values:
+            return None
+        plain = macintosh_plain(values[:699])
+        return plain[12:] if macintosh_values(plain)[699:] == values[699:] else None
+
+    def ring(self, cylinder, head, sectors, ids=None):
+        sync, form = "1111111100", 0x22 if self.heads == 2 else 0x02
+        out = ""
+        for number, data in enumerate(sectors):
+            name = [cylinder & 0x3F, number, head * 32 + cylinder // 64, form]
+            header = bytes(NIBBLES[value] for value in name + [xor_of(name)])
+            out += sync * 16 + raw(b"\xd5\xaa\x96" + header + b"\xde\xaa\xff") + sync * 6
+            content = bytes(NIBBLES[value] for value in [number] + macintosh_values(bytes(12) + data))
+            out += raw(b"\xd5\xaa\xad" + content + b"\xde\xaa\xff")
+        return out + sync * ((self.RINGS[cylinder // 16] - len(out)) // 10)
