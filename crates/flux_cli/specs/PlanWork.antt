@@ -12,7 +12,7 @@ use Rattle.sector_images.specs.Places.{tracks}
 use Rattle.sector_images.specs.declared.format.Format.{Format}
 use Rattle.sector_report.specs.Lines.{refused_capture_text, refused_text}
 use Rattle.sector_report.specs.declared.naming.Naming.{Naming}
-use Rattle.sector_report.specs.declared.naming.Naming.TheVariants.{ByCapture, ByClock, Unnamed}
+use Rattle.sector_report.specs.declared.naming.Naming.TheVariants.{ByCapture, ByCaptureAndClock, ByClock, Unnamed}
 use Rattle.sector_report.specs.declared.totals.Totals.{Totals}
 use Rattle.flux_cli.specs.DisksWork.{status_of}
 use Rattle.flux_cli.specs.TurnsWork.{MOST_AT_ONCE}
@@ -28,6 +28,7 @@ abbrev pub stop_text : Naming → PlanStop → List ℕ
 stop_text Unnamed stop = refused_text stop.track stop.block stop.fault
 stop_text ByClock stop = refused_text stop.track stop.block stop.fault
 stop_text ByCapture stop = refused_capture_text stop.track stop.capture stop.block stop.fault
+stop_text ByCaptureAndClock stop = refused_capture_text stop.track stop.capture stop.block stop.fault
 
 -- if it is
 abbrev pub planned_refusal : Naming → Option PlanStop → List ℕ

@@ -95,8 +95,9 @@ fn stop_line(naming: Naming, track: u32, capture: u32, block: u32, fault: &Strea
     ensures { result.bytes ≡ stop_text naming (record { track = track; capture = capture; block = block; fault = fault.now }) }
 {
     match naming {
-        Naming::Unnamed => refused_line(track, block, fault),
-        Naming::ByCapture => refused_capture_line(track, capture, block, fault),
-        Naming::ByClock => refused_line(track, block, fault),
+        Naming::Unnamed | Naming::ByClock => refused_line(track, block, fault),
+        Naming::ByCapture | Naming::ByCaptureAndClock => {
+            refused_capture_line(track, capture, block, fault)
+        }
     }
 }
