@@ -19,6 +19,8 @@ pub enum Zones {
     One(CylinderZone),
     /// The four zones of the Commodore 1541.
     Commodore,
+    /// The five zones of the Macintosh.
+    Macintosh,
 }
 
 /// What the tracks of neighbouring cylinders have alike.
@@ -46,6 +48,13 @@ impl Disk {
                 24..=29 => commodore_zone(18, 2960, 90),
                 _ => commodore_zone(17, 2936, 96),
             },
+            Zones::Macintosh => match cylinder {
+                0..=15 => macintosh_zone(12, 62),
+                16..=31 => macintosh_zone(11, 68),
+                32..=47 => macintosh_zone(10, 75),
+                48..=63 => macintosh_zone(9, 83),
+                _ => macintosh_zone(8, 94),
+            },
         }
     }
 }
@@ -55,6 +64,15 @@ fn commodore_zone(sectors: u8, step: u32, ticks: u8) -> CylinderZone {
         sectors,
         place: 30,
         step,
+        ticks,
+    }
+}
+
+fn macintosh_zone(sectors: u8, ticks: u8) -> CylinderZone {
+    CylinderZone {
+        sectors,
+        place: 160,
+        step: 5988,
         ticks,
     }
 }
@@ -245,4 +263,19 @@ pub const APPLE_DOS33: Disk = Disk {
 pub const APPLE_PRODOS: Disk = Disk {
     word: "apple-prodos",
     ..APPLE_DOS33
+};
+
+pub const MAC_400: Disk = Disk {
+    word: "mac-400",
+    heads: 1,
+    ..MAC_800
+};
+
+pub const MAC_800: Disk = Disk {
+    word: "mac-800",
+    cylinders: 80,
+    heads: 2,
+    first_sector: 0,
+    size: 512,
+    zones: Zones::Macintosh,
 };

@@ -14,7 +14,7 @@ mod text;
 pub use disk::{
     ACORN_DFS_40, ACORN_DFS_80, AMIGA, APPLE_DO, APPLE_DOS33, APPLE_PO, APPLE_PRODOS, ATARI_ST_800,
     C1541, C1541_40, CPC_DATA, CPC_SYSTEM, CylinderZone, Disk, IBM_160, IBM_180, IBM_320, IBM_360,
-    IBM_720, IBM_1200, IBM_1440, IBM_3740, Zones,
+    IBM_720, IBM_1200, IBM_1440, IBM_3740, MAC_400, MAC_800, Zones,
 };
 pub use dump::{Dump, short_dump};
 pub use runs::{

@@ -3,5 +3,6 @@ mod apple;
 mod commodore;
 mod fm;
 mod frames;
+mod macintosh;
 mod mfm;
 mod rings;

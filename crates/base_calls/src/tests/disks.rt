@@ -8,7 +8,7 @@ use sector_images::{
 };
 
 /// The word of a format, the bytes of its image, and its tracks.
-const FORMATS: [(&str, Format, u32, u32); 20] = [
+const FORMATS: [(&str, Format, u32, u32); 22] = [
     ("ibm-3740", Format::Ibm3740, 77 * 26 * 128, 77),
     ("ibm-160", Format::Ibm160, 40 * 8 * 512, 40),
     ("ibm-180", Format::Ibm180, 40 * 9 * 512, 40),
@@ -29,6 +29,8 @@ const FORMATS: [(&str, Format, u32, u32); 20] = [
     ("apple-po", Format::ApplePo, 35 * 16 * 256, 35),
     ("apple-dos33", Format::AppleDos33, 35 * 16 * 256, 35),
     ("apple-prodos", Format::AppleProdos, 35 * 16 * 256, 35),
+    ("mac-400", Format::Mac400, 800 * 512, 80),
+    ("mac-800", Format::Mac800, 1600 * 512, 160),
 ];
 
 const NO_FORMATS: [&[u8]; 5] = [b"", b"ibm-374", b"ibm-37400", b"IBM-3740", b"c1541-4"];
@@ -47,7 +49,7 @@ fn formats_have_their_words_and_sizes(rt: HostRuntime) {
 
 /// A track of a format by its number, its cylinder and head, its place in the image and its bytes, and its nominal cell in
 /// fine units and the cells of its ring.
-const TRACKS: [(Format, u32, (u8, u8), (u32, u32), (u32, u32)); 26] = [
+const TRACKS: [(Format, u32, (u8, u8), (u32, u32), (u32, u32)); 32] = [
     (Format::Ibm3740, 0, (0, 0), (0, 3328), (49208, 83328)),
     (Format::Ibm3740, 76, (76, 0), (252928, 3328), (49208, 83328)),
     (Format::Ibm360, 1, (0, 1), (4608, 4608), (49208, 100000)),
@@ -60,6 +62,12 @@ const TRACKS: [(Format, u32, (u8, u8), (u32, u32), (u32, u32)); 26] = [
     (Format::AcornDfs80, 0, (0, 0), (0, 2560), (98416, 50000)),
     (Format::Amiga, 0, (0, 0), (0, 5632), (49208, 100000)),
     (Format::Amiga, 159, (79, 1), (895488, 5632), (49208, 100000)),
+    (Format::Mac400, 15, (15, 0), (92160, 6144), (63951, 76946)),
+    (Format::Mac400, 16, (16, 0), (98304, 5632), (69613, 70688)),
+    (Format::Mac800, 64, (32, 0), (376832, 5120), (76612, 64230)),
+    (Format::Mac800, 97, (48, 1), (545280, 4608), (85220, 57742)),
+    (Format::Mac800, 128, (64, 0), (688128, 4096), (95765, 51384)),
+    (Format::Mac800, 159, (79, 1), (815104, 4096), (95765, 51384)),
     (Format::C1541, 0, (0, 0), (0, 5376), (79963, 61488)),
     (Format::C1541, 34, (34, 0), (170496, 4352), (98416, 49912)),
     (Format::C1541Forty, 0, (0, 0), (0, 5376), (79963, 61488)),

@@ -3,10 +3,11 @@ use super::rings::{Encoding, Order, image_part, ring};
 use flux_base::{Memory, TrackId};
 use flux_rows::{
     AMIGA, APPLE_DO, APPLE_DOS33, APPLE_PO, APPLE_PRODOS, ATARI_ST_800, C1541, C1541_40, Disk,
-    Dump, IBM_320, IBM_360, IBM_720, IBM_1200, IBM_1440, IBM_3740, comes_to, content_of,
-    first_lines,
+    Dump, IBM_320, IBM_360, IBM_720, IBM_1200, IBM_1440, IBM_3740, MAC_400, MAC_800, comes_to,
+    content_of, first_lines,
 };
 use ibm_mfm::IbmMfm;
+use macintosh_gcr::MacintoshGcr;
 use std::alloc::{AllocError, Global};
 use std::process::Abort;
 use std::test::Fail;
@@ -238,6 +239,47 @@ const HOME_COMPUTERS: &[Row] = &[
         disk: APPLE_PRODOS,
         encoding: Encoding::Apple(Order::ProDos, 1),
         ..APPLE_LATE
+    },
+    // The first track of each zone, which have 12 to 8 sectors of 512 bytes.
+    Row {
+        name: "Macintosh with one head",
+        disk: MAC_400,
+        encoding: Encoding::Macintosh(MacintoshGcr::SingleSided),
+        tracks: &[
+            Good(0, 0),
+            Missing(15),
+            Good(16, 0),
+            Missing(15),
+            Good(32, 0),
+            Missing(15),
+            Good(48, 0),
+            Missing(15),
+            Good(64, 0),
+            Missing(15),
+        ],
+        content: Content::Counted,
+        image: 409_600,
+        lines: &[
+            (0, "00.0 00 good 3 0 1 160\n"),
+            (203, "17.0 00 missing 0 0\n"),
+            (800, "total 800 good 50 bad 0 missing 750 contradictory 0\n"),
+        ],
+    },
+    // The last track, of the second head.
+    Row {
+        name: "Macintosh with two heads",
+        disk: MAC_800,
+        encoding: Encoding::Macintosh(MacintoshGcr::DoubleSided),
+        tracks: &[Missing(159), Good(79, 1)],
+        content: Content::Counted,
+        image: 819_200,
+        lines: &[
+            (1599, "79.1 07 good 3 0 1 42076\n"),
+            (
+                1600,
+                "total 1600 good 8 bad 0 missing 1592 contradictory 0\n",
+            ),
+        ],
     },
 ];
 

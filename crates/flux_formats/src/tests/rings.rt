@@ -8,6 +8,7 @@ use flux_rows::ring_of;
 use frame_law::Recording;
 use ibm_fm::IbmFm;
 use ibm_mfm::IbmMfm;
+use macintosh_gcr::MacintoshGcr;
 use std::alloc::{AllocError, Global};
 use std::process::Abort;
 
@@ -21,6 +22,7 @@ pub enum Encoding {
     /// The sectors lie in the image in this order, and so many zeros stand between the mark of each data field and its
     /// first nibble.
     Apple(Order, u8),
+    Macintosh(MacintoshGcr),
 }
 
 /// Where each sector of an Apple's track lies in the track's part of the image, in the order in which they pass.
@@ -48,6 +50,7 @@ pub fn ring(
         Encoding::Amiga => amiga_ring(rt, alloc, track, content),
         Encoding::Commodore => commodore_ring(rt, alloc, track, content),
         Encoding::Apple(_, zeros) => late_ring(rt, alloc, track, content, zeros),
+        Encoding::Macintosh(disk) => macintosh_ring(rt, alloc, disk, track, content),
     }
 }
 
@@ -121,6 +124,47 @@ fn apple_ring(
     assert_eq!(rt; content.len(), 4096);
     let track = TrackId { cylinder, head: 0 };
     ring_of(alloc, &AppleGcr::STRICT, track, content)
+}
+
+fn macintosh_ring(
+    rt: &impl Abort,
+    alloc: Global,
+    disk: MacintoshGcr,
+    track: TrackId,
+    content: &[u8],
+) -> Result<Cells, Memory> {
+    match disk {
+        MacintoshGcr::SingleSided => one_headed_ring(rt, alloc, track.cylinder, content),
+        MacintoshGcr::DoubleSided => two_headed_ring(rt, alloc, track, content),
+    }
+}
+
+fn one_headed_ring(
+    rt: &impl Abort,
+    alloc: Global,
+    cylinder: u8,
+    content: &[u8],
+) -> Result<Cells, Memory> {
+    let disk = MacintoshGcr::SingleSided;
+    assert!(rt; cylinder < 80);
+    let track = TrackId { cylinder, head: 0 };
+    assert_eq!(rt; content.len(), usize::from(disk.sectors(track)) * 512);
+    ring_of(alloc, &disk, track, content)
+}
+
+fn two_headed_ring(
+    rt: &impl Abort,
+    alloc: Global,
+    track: TrackId,
+    content: &[u8],
+) -> Result<Cells, Memory> {
+    let disk = MacintoshGcr::DoubleSided;
+    let TrackId { cylinder, head } = track;
+    assert!(rt; cylinder < 80);
+    assert!(rt; head < 2);
+    let track = TrackId { cylinder, head };
+    assert_eq!(rt; content.len(), usize::from(disk.sectors(track)) * 512);
+    ring_of(alloc, &disk, track, content)
 }
 
 fn late_ring(

@@ -3,7 +3,7 @@ use super::runs::streams_of;
 use flux_rows::{
     ACORN_DFS_40, ACORN_DFS_80, AMIGA, APPLE_DO, APPLE_DOS33, APPLE_PO, APPLE_PRODOS, ATARI_ST_800,
     C1541, C1541_40, CPC_DATA, CPC_SYSTEM, Disk, IBM_160, IBM_180, IBM_320, IBM_360, IBM_720,
-    IBM_1200, IBM_1440, IBM_3740, Mismatch, Run, Want, decode, end_of, gives,
+    IBM_1200, IBM_1440, IBM_3740, MAC_400, MAC_800, Mismatch, Run, Want, decode, end_of, gives,
 };
 use std::alloc::{AllocError, Global};
 use std::process::Abort;
@@ -262,7 +262,7 @@ const RANDOM_APPLE: Image = Image {
 
 // The ring of an Apple disk for the controller has 49994 cells. Its last quarter begins in a self-sync behind sector 11, with
 // its two zeros, and the first header stands at cell 330: 12498 - 2 cells further.
-const GROUP_CODES: [Image; 6] = [
+const GROUP_CODES: [Image; 8] = [
     Image {
         disk: C1541,
         bytes: 174_848,
@@ -289,6 +289,18 @@ const GROUP_CODES: [Image; 6] = [
         disk: APPLE_PRODOS,
         line: "00.0 00 good 4 0 1 12826\n",
         ..RANDOM_APPLE
+    },
+    Image {
+        disk: MAC_400,
+        bytes: 409_600,
+        sectors: 800,
+        ..RANDOM_360
+    },
+    Image {
+        disk: MAC_800,
+        bytes: 819_200,
+        sectors: 1600,
+        ..RANDOM_360
     },
 ];
 
