@@ -3,8 +3,9 @@ use flux_base::TrackId;
 use kryo_stream::StreamFault;
 use sector_images::Format;
 use sector_report::{
-    Totals, USAGE, image_line, refused_line, sector_line, total_line, transitions_line, trial_line,
-    turn_line, usage_line,
+    Naming, Passed, Totals, USAGE, image_line, named_line, no_files_line, passed_line,
+    refused_line, sector_line, total_line, transitions_line, trial_line, turn_line, unread_line,
+    usage_line,
 };
 use track_shelf::{file_name, missing_line};
 use turn_merge::{Clock, Place, Verdict};
@@ -208,5 +209,61 @@ fn lines_of_totals_and_trials(rt: HostRuntime) {
     assert_eq!(rt;
         trial_line(Format::C1541Forty, u32::MAX, u32::MAX, &MOST, u64::MAX).as_str(),
         "trial c1541-40 4294967295 tracks 4294967295 sectors 4294967295 good 4294967295 bad 4294967295 missing 4294967295 contradictory 4294967295 sum 18446744073709551615\n"
+    );
+}
+
+/// Why the stream of a dump was passed over, and the line.
+const PASSED: [(Passed, &str); 3] = [
+    (Passed::Absent, "07.1 dump 2 missing\n"),
+    (
+        Passed::Refused {
+            block: 40017,
+            fault: StreamFault::Truncated,
+        },
+        "07.1 dump 2 refused block 40017 Truncated\n",
+    ),
+    (
+        Passed::Refused {
+            block: 0,
+            fault: StreamFault::WrongPosition {
+                said: 1,
+                counted: 2,
+            },
+        },
+        "07.1 dump 2 refused block 0 WrongPosition 1 2\n",
+    ),
+];
+
+#[test]
+fn lines_of_dumps(rt: HostRuntime) {
+    for (passed, line) in PASSED {
+        assert_eq!(rt; passed_line(TRACK, 2, &passed).as_str(), line);
+    }
+    assert_eq!(rt; unread_line(2, 1, 0).as_str(), "unread 2 other 1 whole 0\n");
+    assert_eq!(rt;
+        no_files_line(1).as_str(),
+        "refused dump 1 no track files\n"
+    );
+}
+
+/// A reading of the third dump by the held clock.
+const HELD: Place = Place {
+    capture: 2,
+    clock: Clock::Held,
+    turn: 1,
+    cell: 112101,
+};
+
+#[test]
+fn lines_of_sectors_of_dumps(rt: HostRuntime) {
+    let verdict = Verdict::Contradictory {
+        good: 9,
+        bad: 1,
+        first: FIRST,
+        other: HELD,
+    };
+    assert_eq!(rt;
+        named_line(Naming::ByCaptureAndClock, TRACK, 2, &verdict).as_str(),
+        "07.1 02 contradictory 9 1 0 0 1 10 2 1 1 112101\n"
     );
 }
