@@ -1,6 +1,7 @@
 //! The IBM 3740 diskette and Acorn's disks.
 use super::frames::{
-    HandMade, Row, Search, assert_found, assert_found_in_cut, assert_read, push_cells,
+    HandMade, Rewritten, Row, Search, assert_found, assert_found_in_cut, assert_read,
+    assert_rewritten, push_cells,
 };
 use super::rings::{
     Numbers, assert_data_bytes, assert_found_in_joined, assert_words, filled_ring,
@@ -33,6 +34,8 @@ struct Frame {
     /// So many cells of ones stand between the header and the data, half of them before another mark.
     gap: u16,
     other: u32,
+    /// So many zeros stand before the data's half of the gap.
+    seam: u16,
     /// The data's mark, its byte and its 128 bytes FF, the last of which is `last`, of these cells.
     mark: u32,
     mark_byte: u8,
@@ -49,6 +52,7 @@ const PLAIN: Frame = Frame {
     header_error: 0,
     gap: 272,
     other: 0,
+    seam: 0,
     mark: FM_DATA_MARK,
     mark_byte: 0xFB,
     last: 0xFF,
@@ -101,6 +105,7 @@ impl HandMade for Frame {
         if self.other != 0 {
             cells.push_word(self.other, 16)?;
         }
+        push_cells(cells, self.seam, false)?;
         push_cells(cells, self.gap - self.gap / 2, true)?;
         push_data(cells, self)
     }
@@ -233,6 +238,94 @@ const FRAMES: &[Row<Frame>] = &[
 #[test]
 fn reads_frames_made_by_hand(rt: HostRuntime) -> Result<(), Fail> {
     assert_read(&rt, rt.alloc(), &DISK, TRACK, FRAMES)
+}
+
+/// The data are at most 1023 cells behind the header, which has 112 cells, and a mark has 16.
+const REWRITTEN: &[Rewritten<Frame>] = &[
+    ("the frame as it is", PLAIN, Some(384)),
+    (
+        "a false mark in the seam",
+        Frame {
+            other: FM_ID_MARK,
+            ..PLAIN
+        },
+        Some(400),
+    ),
+    (
+        "30 zeros in the seam",
+        Frame { seam: 30, ..PLAIN },
+        Some(414),
+    ),
+    ("31 zeros in the seam", Frame { seam: 31, ..PLAIN }, None),
+    (
+        "data at the reach's end",
+        Frame { gap: 1023, ..PLAIN },
+        Some(1135),
+    ),
+    ("data past it", Frame { gap: 1024, ..PLAIN }, None),
+    (
+        "eight zeros in the data",
+        Frame {
+            last: 0x00,
+            last_cells: 0x0000,
+            ..PLAIN
+        },
+        None,
+    ),
+    (
+        "another check value of the data",
+        Frame {
+            data_error: 1,
+            ..PLAIN
+        },
+        None,
+    ),
+];
+
+#[test]
+fn reads_data_that_were_written_again(rt: HostRuntime) -> Result<(), Fail> {
+    assert_rewritten(&rt, rt.alloc(), &DISK, TRACK, REWRITTEN)
+}
+
+/// A header, and a frame of another after it.
+struct HeaderBefore(Frame);
+
+impl HandMade for HeaderBefore {
+    fn push(&self, cells: &mut Cells) -> Result<(), Memory> {
+        push_header(cells, &PLAIN)?;
+        self.0.push(cells)
+    }
+}
+
+/// A header whose check value is right ends the search, whatever it names; any other is a false mark.
+const BEFORE_HEADERS: &[Rewritten<HeaderBefore>] = &[
+    (
+        "sector 8's data",
+        HeaderBefore(Frame { sector: 8, ..PLAIN }),
+        None,
+    ),
+    (
+        "data of a header that names no sector",
+        HeaderBefore(Frame {
+            sector: 66,
+            ..PLAIN
+        }),
+        None,
+    ),
+    (
+        "data behind another check value",
+        HeaderBefore(Frame {
+            sector: 66,
+            header_error: 1,
+            ..PLAIN
+        }),
+        Some(496),
+    ),
+];
+
+#[test]
+fn data_belong_to_the_nearest_header(rt: HostRuntime) -> Result<(), Fail> {
+    assert_rewritten(&rt, rt.alloc(), &DISK, TRACK, BEFORE_HEADERS)
 }
 
 /// A frame's header without its data.

@@ -3,7 +3,7 @@ ghost use Rattle.flux_base.specs.declared.track.TrackId.{TrackId};
 
 use cell_bits::Cells;
 use flux_base::{Memory, TrackId};
-use frame_law::{Reading, Recording, SectorBuffer, next_reading};
+use frame_law::{Reading, Recording, SectorBuffer, next_header, next_reading};
 use std::alloc::Global;
 use std::process::Abort;
 use std::test::Fail;
@@ -62,6 +62,40 @@ pub fn assert_read<R: Recording, F: HandMade>(
         let reading = recording.read_at(&cells, 0, track, &mut buffer);
         let length = bytes_read(recording, *want);
         assert_eq!(rt; (reading, buffer.len()), (*want, length), "{name}");
+    }
+    Ok(())
+}
+
+/// What a frame is, the frame, and the one place, from its begin, where data stand by the second rule.
+pub type Rewritten<F> = (&'static str, F, Option<usize>);
+
+/// Each frame has its header, and data by the second rule where its row says and nowhere else.
+pub fn assert_rewritten<R: Recording, F: HandMade>(
+    rt: &impl Abort,
+    alloc: Global,
+    recording: &R,
+    track: TrackId,
+    rows: &[Rewritten<F>],
+) -> Result<(), Fail>
+    requires { R.has_track recording.now track }
+{
+    let mut cells = Cells::new(alloc);
+    let mut buffer = SectorBuffer::new();
+    for (name, frame, want) in rows {
+        cells.clear();
+        frame.push(&mut cells)?;
+        let header = next_header(recording, &cells, 0, track);
+        assert_eq!(rt; header.map(|found| found.0), Some(0), "{name}");
+        let place = recording.next_data(&cells, 0, 0, &mut buffer);
+        let length = want.map_or(0, |_| usize::from(recording.sector_size()));
+        assert_eq!(rt; (place, buffer.len()), (*want, length), "{name}");
+        let more = recording.next_data(
+            &cells,
+            0,
+            want.map_or(0, |at| at.saturating_add(1)),
+            &mut buffer,
+        );
+        assert_eq!(rt; (more, buffer.len()), (None, 0), "{name}");
     }
     Ok(())
 }
