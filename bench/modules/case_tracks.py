@@ -180,8 +180,43 @@ def apple_sector(chance, kinds, cylinder, head, number, data):
     return out + raw(b"\xd5\xaa" + bytes([mark])) + between + raw(bytes(nibbles) + b"\xde\xaa\xeb") + "1111111100" * 14
 
 
+def macintosh_sector(chance, kinds, cylinder, head, number, data):
+    name = [cylinder & 0x3F, number, head * 32 + cylinder // 64, chance.choice([0x22, 0x02, chance.randrange(64)])]
+    if one_in(chance, 8):
+        field = chance.choice([0, 1, 2])
+        name[field] ^= chance.choice([1, 0x20])
+        kinds.add(("another track", "no sector", "another head")[field])
+    check = recordings.xor_of(name) ^ (one_in(chance, 10) << chance.randrange(6))
+    if check != recordings.xor_of(name):
+        kinds.add("wrong check of the header")
+    header = bytes(recordings.NIBBLES[value] for value in name + [check])
+    tags, spare, own = bytes(12), 0, name[1]
+    if one_in(chance, 3):
+        tags, spare = chance.randbytes(12), chance.randrange(4)
+        kinds.add("tags and spare bits")
+    if one_in(chance, 12):
+        own ^= 1
+        kinds.add("data of another sector")
+    values = recordings.macintosh_values(tags + data, spare)
+    if one_in(chance, 10):
+        values[699 + chance.randrange(4)] ^= 1 << chance.randrange(6)
+        kinds.add("wrong check of the data")
+    nibbles = bytearray(recordings.NIBBLES[value] for value in [own] + values)
+    if one_in(chance, 6):
+        nibbles[chance.randrange(704)] = chance.choice([0xAA, 0xD5, 0x95, 0xC0, chance.choice(recordings.NIBBLES), chance.randrange(128, 256)])
+        kinds.add("another nibble")
+    mark = 0xAD
+    if one_in(chance, 12):
+        mark = chance.choice([0x96, 0xAA, 0xB5, 0xFF])
+        kinds.add("wrong data mark")
+    out = raw(b"\xd5\xaa\x96" + header + chance.choice([b"\xde\xaa\xff", chance.randbytes(3)]))
+    out += gap_of(chance, kinds, "1111111100" * 6, "1111111100")
+    return out + raw(b"\xd5\xaa" + bytes([mark]) + bytes(nibbles) + b"\xde\xaa\xff") + "1111111100" * 16
+
+
 SECTORS = {recordings.IbmFm: ibm_fm_sector, recordings.IbmMfm: ibm_mfm_sector, recordings.AmigaMfm: amiga_sector,
-           recordings.CommodoreGcr: commodore_sector, recordings.AppleGcr: apple_sector}
+           recordings.CommodoreGcr: commodore_sector, recordings.AppleGcr: apple_sector,
+           recordings.MacintoshGcr: macintosh_sector}
 
 
 def damaged_cells(chance, kinds, cells):
