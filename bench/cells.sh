@@ -2,7 +2,7 @@
 # Cells a second of Cells::push_run and of Cells::find_word on a list of 134217728 cells, the longest that is
 # reserved. Needs rt on the path; the first run proves and builds the program.
 set -eu
-cd "$(dirname "$0")/../crates/cell_bench"
+cd "$(dirname "$0")/../crates/bench_cells"
 rt run <stdin >/dev/null
 
 cells=134217726
@@ -11,7 +11,7 @@ searches=20
 # The milliseconds of one run of the program: about so many cells, so many searches.
 milliseconds() {
     begin=$(date +%s%N)
-    printf '%s\n%s\n' "$1" "$2" | ./out/cell_bench >/dev/null
+    printf '%s\n%s\n' "$1" "$2" | ./out/bench_cells >/dev/null
     end=$(date +%s%N)
     echo $(((end - begin) / 1000000))
 }

@@ -28,8 +28,13 @@ KNOWN = {
     "ibm-1440": ("pc", "img", b"35  DSHD", True), "atari-st-800": ("st", "st", b"35  DSDD", False),
     "acorn-dfs-40": ("ssd", "ssd", b"525 SSQD", True), "acorn-dfs-80": ("ssd", "ssd", b"525 DSQD", True),
     "cpc-data": ("dsk", "dsk", b"", False), "cpc-system": ("dsk", "dsk", b"", False),
+    "amiga-hd": ("adf", "adf", b"35  DSHD", True), "c1571": ("d71", "d71", b"525 DSSD", True),
     "mac-400": ("apple_gcr", "dsk", b"35  SSDD", True), "mac-800": ("apple_gcr", "dsk", b"35  DSDD", True),
 }
+
+
+# how many places of MAME's own file a cylinder takes, where that is not one: the 1571's head moves by halves of one
+STEPS = {"c1571": 2}
 
 
 def cpc_file(image, first):
@@ -54,10 +59,23 @@ def tracks_of(data):
     return tracks
 
 
+def packed_in_file(packed, kind, step):
+    """A file of MAME's own with these tracks, each as its intervals packed and their size."""
+    cylinders, heads = (max(places) + 1 for places in zip(*packed))
+    out, contents = b"MAMEFLOPPYIMAGE\0" + struct.pack("<2I", step * (cylinders - 1) + 1, heads) + kind, b""
+    behind = len(out) + 16 * (step * (cylinders - 1) + 1) * heads
+    for number in range((step * (cylinders - 1) + 1) * heads):
+        place, head = divmod(number, heads)
+        content, size = packed[place // step, head] if place % step == 0 else (b"", 0)
+        out += struct.pack("<4I", behind + len(contents) if size else 0, len(content), size, 0)
+        contents += content
+    return out + contents
+
+
 def mame_file(form, kind, streams):
     """A file of MAME's own with the second revolution of each stream."""
-    packed, place = [], 0
-    for _ in form.tracks:
+    packed, place = {}, 0
+    for track in form.tracks:
         place += padding_at(streams, place)
         stream = Stream(streams, place)
         place += stream.length
@@ -65,14 +83,8 @@ def mame_file(form, kind, streams):
         times = [min(TURN - 1, (time - begin) * TURN // (end - begin)) for time in stream.times if begin < time <= end]
         values = [time - before for before, time in zip([0] + times, times)]
         content = struct.pack(f"<{len(values)}I", *values)
-        packed.append((zlib.compress(content), len(content)))
-    cylinders, heads = (max(places) + 1 for places in zip(*form.tracks))
-    out = b"MAMEFLOPPYIMAGE\0" + struct.pack("<2I", cylinders, heads) + kind
-    place = 32 + 16 * len(packed)
-    for content, size in packed:
-        out += struct.pack("<4I", place, len(content), size, 0)
-        place += len(content)
-    return out + b"".join(content for content, _ in packed)
+        packed[track] = (zlib.compress(content), len(content))
+    return packed_in_file(packed, kind, STEPS.get(form.word, 1))
 
 
 def convert(given, wanted, source, target):
@@ -86,9 +98,9 @@ def there(program, word, folder, image):
     convert(name, "mfi", source, folder / "disk.mfi")
     tracks, streams = tracks_of((folder / "disk.mfi").read_bytes()), b""
     ticks = disks.TICKS_A_MICROSECOND * form.nominal(0) / 24604 * form.ring_cells(0) / TURN
-    for track in form.tracks:
+    for cylinder, head in form.tracks:
         times, time = [], 0
-        for value in tracks[track] * 2:
+        for value in tracks[STEPS.get(word, 1) * cylinder, head] * 2:
             time += value
             times.append(round(time * ticks))
         values = [time - before for before, time in zip([0] + times, times)]

@@ -2,13 +2,13 @@
 # Transitions a second through recover, on a usual track of five revolutions and on the longest track. Needs rt on
 # the path; the first run proves and builds the program.
 set -eu
-cd "$(dirname "$0")/../crates/loop_bench"
+cd "$(dirname "$0")/../crates/bench_loop"
 rt run <stdin >/dev/null
 
 # The milliseconds of one run of the program: so many transitions, so many recoveries, 1 for a track without a format.
 milliseconds() {
     begin=$(date +%s%N)
-    printf '%s\n%s\n%s\n' "$1" "$2" "$3" | ./out/loop_bench >/dev/null
+    printf '%s\n%s\n%s\n' "$1" "$2" "$3" | ./out/bench_loop >/dev/null
     end=$(date +%s%N)
     echo $(((end - begin) / 1000000))
 }

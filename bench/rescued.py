@@ -1,4 +1,4 @@
-"""What the tests of crates/flux_rescued want: the lines of the very streams that they make, by the plain reading of modules/plain.py.
+"""What the tests of crates/test_rescued want: the lines of the very streams that they make, by the plain reading of modules/plain.py.
 
 Each capture has the two tables that stand here under its recording and its name, a row for lines that follow one another: how many, their
 text up to the place, the first one's place and how far the next is after it. Where a program is given, its answers have to be those of the plain reading, to the byte.

@@ -107,7 +107,7 @@ def amiga_sector(chance, kinds, cylinder, head, number, data):
             checks[which] = chance.choice([1 << 2 * chance.randrange(16), 1 << 2 * chance.randrange(16) + 1])
             kinds.add(f"wrong check of the {name}")
     out = MfmList()
-    recordings.AmigaMfm().frame(out, bytes(info), label, data, *checks)
+    recordings.AmigaMfm(11, 266).frame(out, bytes(info), label, data, *checks)
     return out.cells()
 
 

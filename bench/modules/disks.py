@@ -110,7 +110,7 @@ def squeezed(half):
 def amiga_mfm(cylinder, head, sectors):
     out = Mfm()
     for number, data in enumerate(sectors):
-        info = 0xFF000000 | (2 * cylinder + head) << 16 | number << 8 | (11 - number)
+        info = 0xFF000000 | (2 * cylinder + head) << 16 | number << 8 | (len(sectors) - number)
         header = halves([info]) + halves([0] * 4)
         content = halves(struct.unpack(">128I", data))
         sums = [functools.reduce(operator.xor, part) for part in (header, content)]
@@ -118,7 +118,7 @@ def amiga_mfm(cylinder, head, sectors):
         out.mark(0x4489, 2)
         every = header + halves(sums[:1]) + halves(sums[1:]) + content
         out.bytes(b"".join(squeezed(half) for half in every))
-    out.bytes(bytes(266))
+    out.bytes(bytes(266 * len(sectors) // 11))
     return out.cells()
 
 
@@ -140,7 +140,7 @@ def commodore_gcr(cylinder, head, sectors):
     id1, id2 = 0x41, 0x42
     out = ""
     for number, data in enumerate(sectors):
-        names = bytes([number, cylinder + 1, id2, id1])
+        names = bytes([number, cylinder + 1 + 35 * head, id2, id1])
         out += "1" * 40 + gcr(bytes([8, xor_of(names)]) + names + b"\x0f\x0f") + bits(b"\x55" * 9)
         out += "1" * 40 + gcr(b"\x07" + data + bytes([xor_of(data), 0, 0])) + bits(b"\x55" * GAPS[len(sectors)])
     return out
@@ -222,12 +222,13 @@ def macintosh_gcr(heads):
 # Formats
 
 class Format:
-    def __init__(self, ring, cylinders, heads, size, sectors, microseconds, order=None):
+    def __init__(self, ring, cylinders, heads, size, sectors, microseconds, order=None, by_head=False):
         self.ring, self.cylinders, self.heads, self.size = ring, cylinders, heads, size
-        self.sectors, self.microseconds, self.order = sectors, microseconds, order
+        self.sectors, self.microseconds, self.order, self.by_head = sectors, microseconds, order, by_head
 
     def tracks(self):
-        return itertools.product(range(self.cylinders), range(self.heads))
+        tracks = itertools.product(range(self.cylinders), range(self.heads))
+        return sorted(tracks, key=lambda track: track[::-1] if self.by_head else track)
 
     def image_bytes(self):
         return sum(self.sectors(cylinder) * self.size for cylinder, _ in self.tracks())
@@ -259,8 +260,10 @@ FORMATS = {
     "ibm-720": Format(ibm_mfm(80, 218), 80, 2, 512, lambda _: 9, lambda _: 2),
     "ibm-1440": Format(ibm_mfm(108, 78), 80, 2, 512, lambda _: 18, lambda _: 1),
     "amiga": Format(amiga_mfm, 80, 2, 512, lambda _: 11, lambda _: 2),
+    "amiga-hd": Format(amiga_mfm, 80, 2, 512, lambda _: 22, lambda _: 1),
     "c1541": Format(commodore_gcr, 35, 1, 256, ZONE_SECTORS, ZONE_CELLS),
     "c1541-40": Format(commodore_gcr, 40, 1, 256, ZONE_SECTORS, ZONE_CELLS),
+    "c1571": Format(commodore_gcr, 35, 2, 256, ZONE_SECTORS, ZONE_CELLS, by_head=True),
     "apple-do": Format(apple_gcr, 35, 1, 256, lambda _: 16, lambda _: 4, DOS),
     "apple-po": Format(apple_gcr, 35, 1, 256, lambda _: 16, lambda _: 4, PRODOS),
     "ibm-160": Format(ibm_mfm(80, 872), 40, 1, 512, lambda _: 8, lambda _: 2),

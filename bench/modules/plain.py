@@ -15,9 +15,9 @@ from plain_streams import LIMIT, Refused, Stream, number_at, padding_at, places_
 # Formats
 
 class Format:
-    def __init__(self, word, recording, cylinders, heads, nominal, ring_cells, order=None):
+    def __init__(self, word, recording, cylinders, heads, nominal, ring_cells, order=None, by_head=False):
         self.word, self.recording, self.nominal, self.ring_cells, self.order = word, recording, nominal, ring_cells, order
-        self.tracks = list(itertools.product(range(cylinders), range(heads)))
+        self.tracks = sorted(itertools.product(range(cylinders), range(heads)), key=lambda track: track[::-1] if by_head else track)
         self.places = list(itertools.accumulate((self.track_bytes(k) for k in range(len(self.tracks))), initial=0))
         self.image_bytes = self.places[-1]
 
@@ -64,8 +64,10 @@ FORMATS = {form.word: form for form in (
     Format("ibm-360", IbmMfm(9, 80, 218), 40, 2, always(49208), always(100000)),
     Format("ibm-720", IbmMfm(9, 80, 218), 80, 2, always(49208), always(100000)),
     Format("ibm-1440", IbmMfm(18, 108, 78), 80, 2, always(24604), always(200000)),
-    Format("amiga", AmigaMfm(), 80, 2, always(49208), always(100000)),
+    Format("amiga", AmigaMfm(11, 266), 80, 2, always(49208), always(100000)),
+    Format("amiga-hd", AmigaMfm(22, 532), 80, 2, always(24604), always(200000)),
     Format("c1541", CommodoreGcr(), 35, 1, ZONE_CELLS, ZONE_RINGS),
+    Format("c1571", CommodoreGcr(), 35, 2, ZONE_CELLS, ZONE_RINGS, by_head=True),
     Format("apple-do", AppleGcr(), 35, 1, always(98416), always(49994), DOS),
     Format("c1541-40", CommodoreGcr(), 40, 1, ZONE_CELLS, ZONE_RINGS),
     Format("apple-po", AppleGcr(), 35, 1, always(98416), always(49994), PRODOS),
@@ -93,6 +95,32 @@ def readings(recording, cells, cylinder, head):
         header = recording.header(cells, place, cylinder, head)
         if header:
             yield place, header[0], recording.sector(cells, place, header[1])
+
+
+AS_CONTROLLERS_READ = {"apple-do": "apple-dos33", "apple-po": "apple-prodos"}
+
+
+def as_controllers_read(form):
+    """The format as which a controller reads the format's disks."""
+    return FORMATS[AS_CONTROLLERS_READ.get(form.word, form.word)]
+
+
+def controller_readings(recording, cells, cylinder, head):
+    """By the second rule: the readings, one for each of the data of each header, or a bad one; and of each header that names none of the
+    track's sectors its place, its name, and whether data of the size that its name tells stand after it."""
+    found, others = [], []
+    for place in places_of(cells, recording.sync):
+        name, end = recording.name(cells, place) or (None, None)
+        if name is None:
+            continue
+        sector = recording.own(name, cylinder, head)
+        size = recording.size_of(name) if sector is None else recording.size
+        data = list(recording.data(cells, place, end, size)) if size else []
+        if sector is None:
+            others.append((place, name, bool(data)))
+        else:
+            found += [(place, sector, content) for content in data or [None]]
+    return found, others
 
 
 def verdict_of(entries):

@@ -27,6 +27,11 @@ def unbroken(cells, start, end):
     return "0" * 8 not in cells[start:end]
 
 
+def started_anew(cells, start, end):
+    """The zeros that the clock leaves where it starts anew stand there."""
+    return "0" * 31 in cells[start:end]
+
+
 def data_bytes(cells, place, count):
     """The data cells of coded bytes; None where they do not lie in the list."""
     if len(cells) < place + 16 * count:
@@ -59,18 +64,58 @@ def checked(before, content):
     return content + struct.pack(">H", crc(before + content))
 
 
-def first_of(cells, start, words):
-    """The first place from the header's end to below 1024 cells after it at which one of the words stands, and the word."""
-    found = [(place, sync) for sync in words for place in [cells.find(sync, start, start + 1023 + len(sync))] if place >= 0]
-    return min(found, default=(None, None))
+REACH = 1024
 
 
-# The recordings. `header(cells, place, cylinder, head)` gives the sector whose header stands at a place, and the header's end;
-# `sector(cells, place, end)` gives the data that stands with it. Both give None where nothing stands.
+def in_reach(cells, end, words):
+    """The places less than 1024 cells after a header's end at which one of the words stands, in their order."""
+    places = {cell for sync in words for cell in places_of(cells[end : end + REACH - 1 + len(sync)], sync)}
+    return [end + cell for cell in sorted(places)]
 
-class IbmFm:
+
+class Recording:
+    """What all recordings have in common. Of each is said: `name(cells, place)`, the name of the header that stands at a place and its
+    end; `own(name, cylinder, head)`, the sector of a track that has the name; `data_syncs`, the words with which data may begin;
+    `content(cells, place, q, size)`, the data that begin at q and have so many bytes, of the header at the place, and their end. Each
+    gives None where there is nothing.
+    """
+
+    def header(self, cells, place, cylinder, head):
+        """The sector whose header stands at the place, and the header's end."""
+        named = self.name(cells, place)
+        sector = None if named is None else self.own(named[0], cylinder, head)
+        return None if sector is None else (sector, named[1])
+
+    def data_places(self, cells, end):
+        return in_reach(cells, end, self.data_syncs)
+
+    def sector(self, cells, place, end):
+        """The data of the header at the place: those at the first sync, where all is unbroken."""
+        q = next(iter(self.data_places(cells, end)), None)
+        held = None if q is None else self.content(cells, place, q, self.size)
+        return held[0] if held and unbroken(cells, place, held[1]) else None
+
+    def size_of(self, name):
+        """How many bytes the data of a header with this name have."""
+        return self.size
+
+    def data(self, cells, place, end, size):
+        """All data of the header at the place by the second rule, as controllers read: at each sync up to the next header."""
+        nearest = next((other for other in in_reach(cells, end, [self.sync]) if self.name(cells, other)), len(cells))
+        for q in self.data_places(cells, end):
+            held = self.content(cells, place, q, size) if q <= nearest else None
+            if held and unbroken(cells, q, held[1]) and not started_anew(cells, place, held[1]):
+                yield held[0]
+
+
+def ibm_size(name):
+    return 128 << name[3] if name[3] < 4 else None
+
+
+class IbmFm(Recording):
     sync = word(0xF57E)
     MARKS = {word(0xF57E): 0xFE, word(0xF56F): 0xFB, word(0xF56A): 0xF8, word(0xF77A): 0xFC}
+    data_syncs = list(MARKS)
 
     def __init__(self, first, count, size, code, gap, end_gap, index_mark):
         self.first, self.count, self.size, self.code = first, count, size, code
@@ -79,21 +124,23 @@ class IbmFm:
     def sectors(self, cylinder):
         return self.count
 
-    def header(self, cells, place, cylinder, head):
+    def name(self, cells, place):
         field = data_bytes(cells, place + 16, 6)
         if field is None or not unbroken(cells, place, place + 112) or field != checked(b"\xfe", field[:4]):
             return None
-        named = field[:2] == bytes([cylinder, head]) and self.first <= field[2] < self.first + self.count and field[3] == self.code
-        return (field[2], place + 112) if named else None
+        return tuple(field[:4]), place + 112
 
-    def sector(self, cells, place, end):
-        q, sync = first_of(cells, end, self.MARKS)
-        if q is None or self.MARKS[sync] not in (0xFB, 0xF8):
+    def own(self, name, cylinder, head):
+        return name[2] if name[2] in range(self.first, self.first + self.count) and name == (cylinder, head, name[2], self.code) else None
+
+    def size_of(self, name):
+        return ibm_size(name)
+
+    def content(self, cells, place, q, size):
+        mark, field = self.MARKS[cells[q : q + 16]], data_bytes(cells, q + 16, size + 2)
+        if mark not in (0xFB, 0xF8) or field is None or field != checked(bytes([mark]), field[:size]):
             return None
-        field = data_bytes(cells, q + 16, self.size + 2)
-        if field is None or not unbroken(cells, place, q + 16 * (self.size + 3)):
-            return None
-        return field[: self.size] if field == checked(bytes([self.MARKS[sync]]), field[: self.size]) else None
+        return field[:size], q + 16 * (size + 3)
 
     def ring(self, cylinder, head, sectors, ids=None):
         out = fm(b"\xff" * 40 + bytes(6)) + word(0xF77A) + fm(b"\xff" * 26) if self.index_mark else fm(b"\xff" * 16)
@@ -138,8 +185,8 @@ class MfmList:
         return "".join(self.parts)
 
 
-class IbmMfm:
-    size, sync = 512, word(0x4489) * 3
+class IbmMfm(Recording):
+    size, sync, data_syncs = 512, word(0x4489) * 3, [word(0x4489) * 3]
 
     def __init__(self, count, gap, end_gap, first=1):
         self.count, self.gap, self.end_gap, self.first = count, gap, end_gap, first
@@ -147,21 +194,23 @@ class IbmMfm:
     def sectors(self, cylinder):
         return self.count
 
-    def header(self, cells, place, cylinder, head):
+    def name(self, cells, place):
         field = data_bytes(cells, place + 48, 7)
-        if field is None or not unbroken(cells, place, place + 160) or field != checked(b"\xa1" * 3, field[:5]):
+        if field is None or not unbroken(cells, place, place + 160) or field[0] != 0xFE or field != checked(b"\xa1" * 3, field[:5]):
             return None
-        named = field[:3] == bytes([0xFE, cylinder, head]) and self.first <= field[3] < self.first + self.count and field[4] == 2
-        return (field[3], place + 160) if named else None
+        return tuple(field[1:5]), place + 160
 
-    def sector(self, cells, place, end):
-        q, _ = first_of(cells, end, [self.sync])
-        if q is None:
+    def own(self, name, cylinder, head):
+        return name[2] if name[2] in range(self.first, self.first + self.count) and name == (cylinder, head, name[2], 2) else None
+
+    def size_of(self, name):
+        return ibm_size(name)
+
+    def content(self, cells, place, q, size):
+        field = data_bytes(cells, q + 48, size + 3)
+        if field is None or field[0] not in (0xFB, 0xF8) or field != checked(b"\xa1" * 3, field[: size + 1]):
             return None
-        field = data_bytes(cells, q + 48, 515)
-        if field is None or field[0] not in (0xFB, 0xF8) or not unbroken(cells, place, q + 8288):
-            return None
-        return field[1:513] if field == checked(b"\xa1" * 3, field[:513]) else None
+        return field[1 : size + 1], q + 48 + 16 * (size + 3)
 
     def ring(self, cylinder, head, sectors, ids=None):
         out = MfmList().bytes(b"\x4e" * 80 + bytes(12)).mark(0x5224, 3).bytes(b"\xfc" + b"\x4e" * 50)
@@ -187,34 +236,41 @@ def halves(values):
     return [x >> 1 & MASK for x in values] + [x & MASK for x in values]
 
 
-class AmigaMfm:
+class AmigaMfm(Recording):
     first, size, sync = 0, 512, word(0x4489) * 2
 
-    def sectors(self, cylinder):
-        return 11
+    def __init__(self, count, gap):
+        self.count, self.gap = count, gap
 
-    def header(self, cells, place, cylinder, head):
+    def sectors(self, cylinder):
+        return self.count
+
+    def name(self, cells, place):
         if len(cells) < place + 480 or not unbroken(cells, place, place + 480):
             return None
         raw = longs(cells, place + 32, 12)
         kind, track, sector, _ = long_of(*raw[:2]).to_bytes(4, "big")
-        if kind != 0xFF or track != 2 * cylinder + head or sector > 10 or long_of(*raw[10:]) != xor_of(raw[:10]) & MASK:
-            return None
-        return sector, place + 480
+        return ((track, sector), place + 480) if kind == 0xFF and long_of(*raw[10:]) == xor_of(raw[:10]) & MASK else None
 
-    def sector(self, cells, place, end):
-        if len(cells) < place + 8672 or not unbroken(cells, place, place + 8672):
+    def own(self, name, cylinder, head):
+        return name[1] if name[0] == 2 * cylinder + head and name[1] < self.count else None
+
+    def data_places(self, cells, end):
+        return [end]
+
+    def content(self, cells, place, q, size):
+        if len(cells) < q + 8192:
             return None
-        raw = longs(cells, end, 256)
+        raw = longs(cells, q, 256)
         if long_of(*longs(cells, place + 416, 2)) != xor_of(raw) & MASK:
             return None
-        return struct.pack(">128I", *map(long_of, raw[:128], raw[128:]))
+        return struct.pack(">128I", *map(long_of, raw[:128], raw[128:])), q + 8192
 
     def ring(self, cylinder, head, sectors, ids=None):
         out = MfmList()
         for number, data in enumerate(sectors):
-            self.frame(out, bytes([0xFF, 2 * cylinder + head, number, 11 - number]), bytes(16), data)
-        return out.bytes(bytes(266)).cells()
+            self.frame(out, bytes([0xFF, 2 * cylinder + head, number, self.count - number]), bytes(16), data)
+        return out.bytes(bytes(self.gap)).cells()
 
     def frame(self, out, info, label, data, header_check=0, data_check=0):
         """Appends a sector; the checks are off by what is given."""
@@ -247,32 +303,32 @@ def raw(data):
     return "".join(word(byte, 8) for byte in data)
 
 
-class CommodoreGcr:
-    first, size, sync = 0, 256, "1" * 10 + "0"
+class CommodoreGcr(Recording):
+    first, size, sync, data_syncs = 0, 256, "1" * 10 + "0", ["1" * 10 + "0"]
     GAPS = {21: 12, 19: 21, 18: 16, 17: 13}
 
     def sectors(self, cylinder):
         return 21 if cylinder < 17 else 19 if cylinder < 24 else 18 if cylinder < 30 else 17
 
-    def header(self, cells, place, cylinder, head):
-        if len(cells) < place + 70 or not unbroken(cells, place, place + 70):
-            return None
+    def name(self, cells, place):
         field = ungcr(cells, place + 10, 6)
-        if field is None or field[0] != 8 or field[3] != cylinder + 1 or field[2] >= self.sectors(cylinder):
+        if field is None or field[0] != 8 or field[1] != xor_of(field[2:]) or not unbroken(cells, place, place + 70):
             return None
-        return (field[2], place + 70) if field[1] == xor_of(field[2:]) else None
+        return (field[3], field[2]), place + 70
 
-    def sector(self, cells, place, end):
-        q, _ = first_of(cells, end, [self.sync])
-        field = None if q is None else ungcr(cells, q + 10, 258)
-        if field is None or field[0] != 7 or not unbroken(cells, place, q + 2590):
+    def own(self, name, cylinder, head):
+        return name[1] if name[0] == cylinder + 1 + 35 * head and name[1] < self.sectors(cylinder) else None
+
+    def content(self, cells, place, q, size):
+        field = ungcr(cells, q + 10, 258)
+        if field is None or field[0] != 7 or xor_of(field[1:257]) != field[257]:
             return None
-        return field[1:257] if xor_of(field[1:257]) == field[257] else None
+        return field[1:257], q + 2590
 
     def ring(self, cylinder, head, sectors, ids=(0, 0)):
         out = ""
         for number, data in enumerate(sectors):
-            names = bytes([number, cylinder + 1, ids[1], ids[0]])
+            names = bytes([number, cylinder + 1 + 35 * head, ids[1], ids[0]])
             out += "1" * 40 + gcr(bytes([8, xor_of(names)]) + names + b"\x0f\x0f") + raw(b"\x55" * 9)
             out += "1" * 40 + gcr(b"\x07" + data + bytes([xor_of(data), 0, 0])) + raw(b"\x55" * self.GAPS[self.sectors(cylinder)])
         return out
@@ -305,8 +361,8 @@ def six_and_two(data, unused=(0, 0)):
     return bytes(NIBBLES[value ^ before] for value, before in zip(values + [0], [0] + values))
 
 
-class AppleGcr:
-    first, size, sync = 0, 256, word(0xD5AA96, 24)
+class AppleGcr(Recording):
+    first, size, sync, data_syncs = 0, 256, word(0xD5AA96, 24), [word(0xD5AA)]
 
     def __init__(self, waits=False):
         # as the controller reads, which waits for the one with which a byte begins
@@ -328,17 +384,19 @@ class AppleGcr:
     def sectors(self, cylinder):
         return 16
 
-    def header(self, cells, place, cylinder, head):
+    def name(self, cells, place):
         field, end = self.bytes_from(cells, place + 24, 8)
         if field is None or not unbroken(cells, place, end) or any(byte & 0xAA != 0xAA for byte in field):
             return None
         volume, track, sector, check = ((m << 1 | 1) & n & 0xFF for m, n in zip(field[::2], field[1::2]))
-        return (sector, end) if track == cylinder and sector < 16 and check == volume ^ track ^ sector else None
+        return ((track, sector), end) if check == volume ^ track ^ sector else None
 
-    def sector(self, cells, place, end):
-        q, _ = first_of(cells, end, [word(0xD5AA)])
-        field, end = (None, None) if q is None else self.bytes_from(cells, q + 16, 344)
-        if field is None or field[0] != 0xAD or not unbroken(cells, place, end):
+    def own(self, name, cylinder, head):
+        return name[1] if name[0] == cylinder and name[1] < 16 else None
+
+    def content(self, cells, place, q, size):
+        field, end = self.bytes_from(cells, q + 16, 344)
+        if field is None or field[0] != 0xAD:
             return None
         coded = [NIBBLE_VALUES.get(byte) for byte in field[1:]]
         if None in coded:
@@ -346,7 +404,7 @@ class AppleGcr:
         values = list(itertools.accumulate(coded, operator.xor))
         if values[342] != 0:
             return None
-        return bytes(values[86 + j] << 2 | SWAPPED[values[j % 86] >> 2 * (j // 86) & 3] for j in range(256))
+        return bytes(values[86 + j] << 2 | SWAPPED[values[j % 86] >> 2 * (j // 86) & 3] for j in range(256)), end
 
     def ring(self, cylinder, head, sectors, ids=None):
         sync = "1111111100"
@@ -402,8 +460,8 @@ def macintosh_plain(values):
     return bytes(out)
 
 
-class MacintoshGcr:
-    first, size, sync = 0, 512, word(0xD5AA96, 24)
+class MacintoshGcr(Recording):
+    first, size, sync, data_syncs = 0, 512, word(0xD5AA96, 24), [word(0xD5AA)]
     RINGS = (76946, 70688, 64230, 57742, 51384)
 
     def __init__(self, heads):
@@ -412,25 +470,27 @@ class MacintoshGcr:
     def sectors(self, cylinder):
         return 12 - cylinder // 16
 
-    def header(self, cells, place, cylinder, head):
+    def name(self, cells, place):
         field = raw_bytes(cells, place + 24, 5)
         values = None if field is None else [NIBBLE_VALUES.get(byte) for byte in field]
         if values is None or None in values or not unbroken(cells, place, place + 64):
             return None
-        low, sector, side, form, check = values
-        named = low == cylinder & 0x3F and side == head * 32 + cylinder // 64 and sector < self.sectors(cylinder)
-        return (sector, place + 64) if named and check == low ^ sector ^ side ^ form else None
+        return (tuple(values[:4]), place + 64) if values[4] == xor_of(values[:4]) else None
 
-    def sector(self, cells, place, end):
-        q, _ = first_of(cells, end, [word(0xD5AA)])
-        field = None if q is None else raw_bytes(cells, q + 16, 705)
-        if field is None or field[0] != 0xAD or field[1:2] != raw_bytes(cells, place + 32, 1) or not unbroken(cells, place, q + 5656):
+    def own(self, name, cylinder, head):
+        low, sector, side, _ = name
+        named = low == cylinder & 0x3F and side == head * 32 + cylinder // 64 and sector < self.sectors(cylinder)
+        return sector if named else None
+
+    def content(self, cells, place, q, size):
+        field = raw_bytes(cells, q + 16, 705)
+        if field is None or field[0] != 0xAD or field[1:2] != raw_bytes(cells, place + 32, 1):
             return None
         values = [NIBBLE_VALUES.get(byte) for byte in field[2:]]
         if None in values:
             return None
         plain = macintosh_plain(values[:699])
-        return plain[12:] if macintosh_values(plain)[699:] == values[699:] else None
+        return (plain[12:], q + 5656) if macintosh_values(plain)[699:] == values[699:] else None
 
     def ring(self, cylinder, head, sectors, ids=None):
         sync, form = "1111111100", 0x22 if self.heads == 2 else 0x02

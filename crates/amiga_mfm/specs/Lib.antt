@@ -1,4 +1,5 @@
 pub mod Layout
 pub mod Longs
 pub mod Sectors
+pub mod Disks
 pub mod lemmas

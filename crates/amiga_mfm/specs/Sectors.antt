@@ -1,28 +1,19 @@
 -- The sectors of Amiga disks (Amiga trackdisk): what a header names and what data hold. A frame is the sync, two marks A1, and then
 -- longs: the info, the label of four longs, the check value of both, the check value of the data, and the data. There is no second sync.
-use Rattle.std.specs.Prelude.{◌≡◌, ℕ, ◌+◌, ◌*◌, ◌^◌, ◌<◌, Bool, List, [], ◌∷◌, take}
+use Rattle.std.specs.Prelude.{◌≡◌, ℕ, ◌+◌, ◌*◌, ◌^◌, Bool, List, [], ◌∷◌, take}
 use Rattle.std.specs.Int.{to_be_bytes, w32}
 use Rattle.flux_base.specs.declared.track.TrackId.{TrackId}
 use Rattle.check_values.specs.Sums.{data_xor}
-use Rattle.frame_law.specs.Frames.{DataStand, HeaderStands as Header, SectorStands as Sector}
-use Rattle.frame_law.specs.declared.header_name.HeaderName.{HeaderName}
-use Rattle.frame_law.specs.declared.header_name.HeaderName.TheVariants.{Address, TrackSector}
+use Rattle.flux_base.specs.declared.header_name.HeaderName.{HeaderName}
+use Rattle.flux_base.specs.declared.header_name.HeaderName.TheVariants.{Address, TrackSector, TrackSectorSide}
 use Rattle.mfm_coding.specs.Coding.{SYNC_MARK}
 use Rattle.amiga_mfm.specs.Longs.{HALF_CELLS, bytes_at, long_at, raw_longs}
-
--- the tracks: 80 cylinders of two heads
-pub record IsAmigaTrack (track : TrackId) : Type 0 where
-  pub cylinder : track.cylinder < 80
-  pub head : track.head < 2
 
 -- the number by which a header names its track
 abbrev pub track_number : TrackId → ℕ
 track_number track = 2 * track.cylinder + track.head
 
--- the sectors of a track, and the bytes and longs of each
-abbrev pub SECTORS : ℕ
-SECTORS = 11
-
+-- the bytes and longs of a sector
 abbrev pub SECTOR_SIZE : ℕ
 SECTOR_SIZE = 512
 
@@ -71,6 +62,7 @@ pub record NamesNumbers (track : ℕ) (cells : List Bool) (sector : ℕ) : Type 
 abbrev pub Names : List Bool → HeaderName → Type 0
 Names cells (TrackSector track sector) = NamesNumbers track cells sector
 Names cells (Address cylinder head sector size) = ⊥
+Names cells (TrackSectorSide number sector side format) = ⊥
 
 -- it names a sector of this track
 abbrev pub NamesSector : TrackId → List Bool → ℕ → Type 0
@@ -88,11 +80,3 @@ content_at cells place = bytes_at cells place (HALF_CELLS * SECTOR_LONGS) SECTOR
 pub record Hold (cells : List Bool) (place : ℕ) (bytes : List ℕ) : Type 0 where
   pub content : content_at cells place ≡ bytes
   pub check : long_at cells DATA_CHECK HALF_CELLS ≡ data_xor (raw_longs cells place (2 * SECTOR_LONGS))
-
--- a header and a sector stand, as on any track
-abbrev pub HeaderStands : TrackId → List Bool → ℕ → Type 0
-HeaderStands track cells sector = Header SYNC SYNC_CELLS (λ some. HEADER_CELLS) 0 SECTORS (NamesSector track) cells sector
-
-abbrev pub SectorStands : TrackId → List Bool → ℕ → List ℕ → Type 0
-SectorStands track cells sector bytes =
-    Sector (HeaderStands track cells sector) (DataStand (λ some. HEADER_CELLS) (λ some sync. sync + DATA_CELLS) IsDataPlace Hold cells bytes)

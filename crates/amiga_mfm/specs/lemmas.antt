@@ -4,4 +4,5 @@ pub mod LongLaws
 pub mod Masks
 pub mod OwnLaws
 pub mod RowLaws
+pub mod DiskLaws
 pub mod Syncs

@@ -1,11 +1,12 @@
 ghost use Rattle.std.specs.Prelude.{◌≡◌, ℕ, ◌≤◌, length, IfNone, IfSome};
-ghost use Rattle.frame_law.specs.declared.header_name.HeaderName.{HeaderName};
-ghost use Rattle.amiga_mfm.specs.Sectors.{IsAmigaTrack, Names, track_number as number_of_track};
+ghost use Rattle.flux_base.specs.declared.header_name.HeaderName.{HeaderName};
+ghost use Rattle.amiga_mfm.specs.Disks.{IsAmigaTrack};
+ghost use Rattle.amiga_mfm.specs.Sectors.{Names, track_number as number_of_track};
 
 use crate::layout::{FORMAT_BYTE, HALF_CELLS, HEADER_CHECK, HEADER_HALVES, INFO};
 use crate::longs::{check_at, read_long};
-use flux_base::TrackId;
-use frame_law::{CellsFrom, HeaderName};
+use flux_base::{HeaderName, TrackId};
+use frame_law::CellsFrom;
 
 /// What the header at the front of the cells, which are as many as one has, names. None where it is none, or its check
 /// value is another.

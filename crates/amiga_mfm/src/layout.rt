@@ -1,5 +1,38 @@
+ghost use Rattle.std.specs.Prelude.{◌≡◌};
+ghost use Rattle.amiga_mfm.specs.Disks.{disk_of as numbers_of};
+
+use crate::recording::AmigaMfm;
 use cell_bits::MFM_A1_MARK;
 use mfm_coding::Symbol;
+
+/// What the tracks of a disk have of their own.
+#[derive(Clone, Copy)]
+pub(crate) struct Disk {
+    /// How many sectors a track has.
+    pub(crate) sectors: u8,
+    /// The bytes of the gap after the last sector, which fills the track.
+    pub(crate) track_gap: u16,
+    /// The cells of a track, 16 a byte.
+    pub(crate) cells: u32,
+}
+
+/// The numbers of a disk.
+pub(crate) fn disk_of(recording: AmigaMfm) -> Disk
+    ensures { result ≡ numbers_of recording }
+{
+    match recording {
+        AmigaMfm::DoubleDensity => Disk {
+            sectors: 11,
+            track_gap: 266,
+            cells: 100_000,
+        },
+        AmigaMfm::HighDensity => Disk {
+            sectors: 22,
+            track_gap: 532,
+            cells: 200_000,
+        },
+    }
+}
 
 /// A row of a track.
 #[derive(Clone, Copy)]
@@ -10,10 +43,12 @@ pub enum Row {
     Header,
     /// The check value of the sector's bytes, and the bytes as longs.
     Content,
+    /// The gap after the last sector, as long as the disk has it.
+    TrackGap,
 }
 
 /// The byte of the gaps.
-const ZERO: Symbol = Symbol::Data(0x00);
+pub(crate) const ZERO: Symbol = Symbol::Data(0x00);
 
 /// A sector: two bytes of zeros, and its frame, which begins at its marks.
 pub(crate) const SECTOR: [Row; 4] = [
@@ -23,13 +58,10 @@ pub(crate) const SECTOR: [Row; 4] = [
     Row::Content,
 ];
 
-/// After the last sector: 266 bytes, which fill the track.
-pub(crate) const LEAD_OUT: [Row; 2] = [Row::Run(133, ZERO), Row::Run(133, ZERO)];
+/// After the last sector: a gap.
+pub(crate) const LEAD_OUT: [Row; 1] = [Row::TrackGap];
 
 pub(crate) const FIRST_SECTOR: u8 = 0;
-
-/// The sectors of a track.
-pub(crate) const SECTORS: u8 = 11;
 
 /// The bytes of a sector.
 pub(crate) const SECTOR_SIZE: u16 = 512;
@@ -39,9 +71,6 @@ pub(crate) const SECTOR_LONGS: usize = 128;
 
 /// The longs of a header's label, which are zeros.
 pub(crate) const LABEL: [u32; 4] = [0; 4];
-
-/// The cells of a track.
-pub(crate) const RING_CELLS: u32 = 100000;
 
 /// The sync, two marks A1 as one word, and its cells.
 pub(crate) const SYNC: u32 = MFM_A1_MARK << 16 | MFM_A1_MARK;

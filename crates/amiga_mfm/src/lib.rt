@@ -1,4 +1,4 @@
-//! The recording of Amiga disks (Amiga trackdisk): MFM, 80 cylinders of two heads, 11 sectors of 512 bytes on
+//! The recording of Amiga disks (Amiga trackdisk): MFM, 80 cylinders of two heads, 11 or 22 sectors of 512 bytes on
 //! each track.
 #![tactic(auto)]
 

@@ -1,5 +1,6 @@
 ghost use Rattle.std.specs.Prelude.{◌≡◌, ℕ, ◌+◌, ◌*◌, ◌^◌, ◌<◌, ◌≤◌, ◌++◌, [], length};
 ghost use Rattle.std.specs.Int.{to_be_bytes, w32};
+ghost use Rattle.flux_base.specs.Bounds.{MOST_SECTOR_BYTES};
 ghost use Rattle.check_values.specs.Sums.{data_xor};
 ghost use Rattle.amiga_mfm.specs.Longs.{long_at, longs_of, raw_longs};
 ghost use Rattle.amiga_mfm.specs.Sectors.{content_at};
@@ -69,7 +70,7 @@ pub(crate) fn take_data(frame: &CellsFrom, place: usize, buffer: &mut SectorBuff
 
 /// Appends the four bytes of a long, the high one first.
 fn push_long(buffer: &mut SectorBuffer, long: u32)
-    requires { length buffer.old.items + 4 ≤ 512 }
+    requires { length buffer.old.items + 4 ≤ MOST_SECTOR_BYTES }
     ensures { buffer.new.items ≡ buffer.old.items ++ to_be_bytes w32 long }
 {
     let [first, second, third, fourth] = long.to_be_bytes();

@@ -3,34 +3,36 @@ ghost use Rattle.check_values.specs.Sums.{xor};
 ghost use Rattle.mfm_coding.specs.Writes.{AppendsSymbols};
 ghost use Rattle.amiga_mfm.specs.Longs.{half_of, halves};
 ghost use Rattle.amiga_mfm.specs.Layout.{check_of_data, check_of_header, content_halves, halves_symbols, header_halves, info_of, row_symbols};
-ghost use Rattle.amiga_mfm.specs.Sectors.{IsAmigaTrack};
+ghost use Rattle.amiga_mfm.specs.Disks.{IsAmigaTrack};
 
 use crate::half::{Half, half_bytes};
 use crate::header::track_number;
-use crate::layout::{FORMAT_BYTE, LABEL, Row, SECTORS};
+use crate::layout::{Disk, FORMAT_BYTE, LABEL, Row, ZERO};
 use crate::longs::longs_in;
 use cell_bits::Cells;
 use check_values::amiga_xor;
 use flux_base::{Memory, TrackId};
 use mfm_coding::{push_bytes, push_run};
 
-/// Appends a row for this sector with these bytes.
+/// Appends a row of the disk's track for this sector with these bytes.
 pub(crate) fn push_row(
     cells: &mut Cells,
     row: Row,
+    disk: Disk,
     track: TrackId,
     sector: u8,
     bytes: &[u8],
 ) -> Result<(), Memory>
     requires track { IsAmigaTrack track }
-    requires sector { sector < 11 }
+    requires sector { sector < disk.sectors }
     requires bytes { length bytes.now ≤ 512 }
-    ensures { AppendsSymbols cells.old cells.new (row_symbols track sector bytes.now row) result }
+    ensures { AppendsSymbols cells.old cells.new (row_symbols disk track sector bytes.now row) result }
 {
     match row {
         Row::Run(count, symbol) => push_run(cells, u16::from(count), symbol),
-        Row::Header => push_header(cells, info(track, sector)),
+        Row::Header => push_header(cells, info(disk, track, sector)),
         Row::Content => push_content(cells, longs_in(bytes).as_slice()),
+        Row::TrackGap => push_run(cells, disk.track_gap, ZERO),
     }
 }
 
@@ -70,12 +72,13 @@ fn push_halves(cells: &mut Cells, longs: &[u32], half: Half) -> Result<(), Memor
 }
 
 /// The long that names the sector: FF, track, sector, and how many sectors there are from it to the gap.
-fn info(track: TrackId, sector: u8) -> u32
+fn info(disk: Disk, track: TrackId, sector: u8) -> u32
     requires track { IsAmigaTrack track }
-    requires sector { sector < 11 }
-    ensures { result ≡ info_of track sector }
+    requires sector { sector < disk.sectors }
+    ensures { result ≡ info_of disk track sector }
 {
-    u32::from_be_bytes([FORMAT_BYTE, track_number(track), sector, SECTORS - sector])
+    let to_gap = disk.sectors - sector;
+    u32::from_be_bytes([FORMAT_BYTE, track_number(track), sector, to_gap])
 }
 
 /// The check value of a header with this info and a label of zeros.

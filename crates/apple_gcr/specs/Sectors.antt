@@ -3,8 +3,8 @@ use Rattle.std.specs.Prelude.{◌≡◌, ℕ, ◌+◌, ◌<◌, Bool, List, [], 
 use Rattle.flux_base.specs.declared.track.TrackId.{TrackId}
 use Rattle.check_values.specs.Sums.{xor}
 use Rattle.frame_law.specs.Frames.{DataStand, HeaderStands as Header, SectorStands as Sector}
-use Rattle.frame_law.specs.declared.header_name.HeaderName.{HeaderName}
-use Rattle.frame_law.specs.declared.header_name.HeaderName.TheVariants.{Address, TrackSector}
+use Rattle.flux_base.specs.declared.header_name.HeaderName.{HeaderName}
+use Rattle.flux_base.specs.declared.header_name.HeaderName.TheVariants.{Address, TrackSector, TrackSectorSide}
 use Rattle.apple_gcr.specs.DiskBytes.{byte_place, byte_read, bytes_end}
 use Rattle.apple_gcr.specs.FourAndFour.{AreHalves}
 use Rattle.apple_gcr.specs.SixAndTwo.{AreCoded, Carries, NIBBLES}
@@ -40,6 +40,7 @@ pub record IsAddress (track : ℕ) (read : ℕ → ℕ) (sector : ℕ) : Type 0 
 abbrev pub IsAddressOf : (ℕ → ℕ) → HeaderName → Type 0
 IsAddressOf read (TrackSector track sector) = IsAddress track read sector
 IsAddressOf read (Address cylinder head sector size) = ⊥
+IsAddressOf read (TrackSectorSide number sector side format) = ⊥
 
 abbrev pub ADDRESS_BYTES : ℕ
 ADDRESS_BYTES = 8

@@ -1,7 +1,7 @@
 ghost use Rattle.std.specs.Prelude.{◌≡◌, ℕ, ◌<◌, ◌≤◌, get_or, length, IfNone, IfSome};
 ghost use Rattle.apple_gcr.specs.DiskBytes.{byte_read, zeros_passed};
 ghost use Rattle.apple_gcr.specs.Sectors.{IsAddressOf, Names, header_end};
-ghost use Rattle.frame_law.specs.declared.header_name.HeaderName.{HeaderName};
+ghost use Rattle.flux_base.specs.declared.header_name.HeaderName.{HeaderName};
 
 use crate::disk_bytes::{ByteRule, byte_place, bytes_end};
 use crate::four_and_four::byte_of;
@@ -9,7 +9,8 @@ use crate::layout::{ADDRESS_BYTES, ADDRESS_PLACE};
 use apple_nibbles::{BYTE_CELLS, disk_byte_at};
 use arrayvec::ArrayVec;
 use check_values::xor_bytes;
-use frame_law::{CellsFrom, HeaderName};
+use flux_base::HeaderName;
+use frame_law::CellsFrom;
 
 /// The bytes of a header after its mark.
 type Address = ArrayVec<u8, 8>;

@@ -1,6 +1,6 @@
-ghost use Rattle.std.specs.Prelude.{◌≡◌, ℕ, ◌+◌, false, refl};
-ghost use Rattle.std.proofs.Common.{inl, inr, lit≤};
-ghost use Rattle.frame_law.specs.declared.header_name.HeaderName.TheVariants.{TrackSector};
+ghost use Rattle.std.specs.Prelude.{◌≡◌, ℕ, ◌+◌, false, refl, Some};
+ghost use Rattle.std.proofs.Common.{arith, inl, inr, lit≤};
+ghost use Rattle.flux_base.specs.declared.header_name.HeaderName.TheVariants.{TrackSector};
 ghost use Rattle.apple_gcr.specs.lemmas.DataSyncs.{own_data};
 ghost use Rattle.apple_gcr.specs.lemmas.FrameLaws.{frame_ends, frame_stands};
 ghost use Rattle.apple_gcr.specs.Layout.{row_cells, row_size, rows};
@@ -22,8 +22,8 @@ use crate::layout::{
 use crate::rows::push_row;
 use apple_nibbles::{ADDRESS_MARK, MARK_CELLS, next_sync};
 use cell_bits::Cells;
-use flux_base::{Memory, TrackId};
-use frame_law::{CellsFrom, HeaderName, Layout, SectorBuffer};
+use flux_base::{HeaderName, Memory, TrackId};
+use frame_law::{CellsFrom, Layout, SectorBuffer};
 
 /// The recording of Apple DOS 3.3 and ProDOS disks. Its tracks are the cylinders 0 to 34 with head 0. Its sectors
 /// are numbered 0 to 15 as their headers name them, which is the order in which they pass.
@@ -79,17 +79,19 @@ impl Layout for AppleGcr {
 
     ghost names = { λ r cells name. Names (zeros_passed r.rule) cells name };
 
-    ghost name_of = { λ r track s. TrackSector track.cylinder s };
+    ghost is_name_of = { λ r track name s. name ≡ TrackSector track.cylinder s };
 
     ghost is_sync = { λ r cells place. IsSync cells place };
 
-    ghost hold = { λ r cells sync bytes. Hold (zeros_passed r.rule) cells sync bytes };
+    ghost size_named = { λ r name. Some 256 };
+
+    ghost hold = { λ r size cells sync bytes. Hold (zeros_passed r.rule) cells sync bytes };
 
     ghost data_cells = { λ r. 2768 };
 
     ghost header_end = { λ r cells. header_end (zeros_passed r.rule) cells };
 
-    ghost data_end = { λ r cells sync. data_end (zeros_passed r.rule) cells sync };
+    ghost data_end = { λ r size cells sync. data_end (zeros_passed r.rule) cells sync };
 
     ghost data_place = { λ r. 172 };
 
@@ -113,6 +115,10 @@ impl Layout for AppleGcr {
 
     fn sector_bytes(&self) -> u16 {
         SECTOR_SIZE
+    }
+
+    fn size_named(&self, _name: HeaderName) -> Option<u16> {
+        Some(SECTOR_SIZE)
     }
 
     fn track_cells(&self, _track: TrackId) -> u32 {
@@ -158,11 +164,17 @@ impl Layout for AppleGcr {
         next_sync(frame, from, to)
     }
 
-    fn data_end(&self, frame: &CellsFrom, sync: usize) -> Option<usize> {
+    fn data_end(&self, _size: u16, frame: &CellsFrom, sync: usize) -> Option<usize> {
         data_end(self.rule, frame, sync)
     }
 
-    fn read_data(&self, frame: &CellsFrom, sync: usize, buffer: &mut SectorBuffer) -> bool {
+    fn read_data(
+        &self,
+        _size: u16,
+        frame: &CellsFrom,
+        sync: usize,
+        buffer: &mut SectorBuffer,
+    ) -> bool {
         read_field(self.rule, frame, sync, buffer)
     }
 
@@ -182,6 +194,11 @@ impl Layout for AppleGcr {
     ghost ends = { λ r track before known. refl };
 
     ghost named_sector = { λ r track. named_sector (zeros_passed r.rule) track };
+
+    ghost own_size = { λ r track name s is. refl };
+
+    ghost data_some = { λ r size cells sync.
+        Prim.omega (arith, (tells_ends (zeros_passed r.rule) (zeros-few r.rule)).data_least cells sync) };
 
     ghost one_name = { λ r cells n m first second. one_name (zeros_passed r.rule) cells n m first second };
 

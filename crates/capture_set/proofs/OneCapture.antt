@@ -8,7 +8,7 @@ use Rattle.flux_engine.specs.Captured.{AreReadingsAt}
 use Rattle.flux_engine.specs.Plans.{joined}
 use Rattle.flux_engine.specs.Recordings.{track_at}
 use Rattle.flux_engine.specs.Streams.{stream_at}
-use Rattle.flux_engine.specs.Tracks.{TrackPart, part_of}
+use Rattle.flux_engine.specs.Tracks.{TrackPart, part_of, track_notes}
 use Rattle.flux_engine.specs.lemmas.OneCapture.{one_capture}
 use Rattle.capture_set.specs.Laws.{SetsOfOneAreDecoded}
 use Rattle.capture_set.specs.Sets.{capture_stream, set_part_of}
@@ -28,8 +28,8 @@ sets_of_one format x n part p =
     let at : AreReadingsAt format (track_at format n) (times (stream_at x n)) (indexes (stream_at x n)) 0 readings =
     subst (λ (y : List ℕ). AreReadingsAt format (track_at format n) (times y) (indexes y) 0 readings) here
     (subst (AreReadingsAt format (track_at format n) (times (capture_stream 1 x n 0)) (indexes (capture_stream 1 x n 0)) 0) (sym one.are) (one.each Following tt)) in
-    let all : part ≡ set_part_of format (track_at format n) readings =
-    p.is ∙ ap (set_part_of format (track_at format n)) (one_joined p.captures p.many) in
+    let all : part ≡ set_part_of format (track_at format n) (track_notes readings [] p.others) =
+    p.is ∙ ap (λ (rs : List NotedReading). set_part_of format (track_at format n) (track_notes rs [] p.others)) (one_joined p.captures p.many) in
     record {
       plain = part_of format (track_at format n) readings;
       is = record {

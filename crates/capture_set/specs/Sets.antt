@@ -7,10 +7,11 @@ use Rattle.flux_engine.specs.Streams.{stream_at}
 use Rattle.flux_engine.specs.Tracks.{TrackPart, part_by}
 use Rattle.flux_engine.specs.declared.plan.Clocks.TheVariants.{FollowingAlone}
 use Rattle.flux_engine.specs.declared.plan.Plan.{Plan}
+use Rattle.flux_engine.specs.declared.plan.Rule.TheVariants.{Strict}
 
 -- so many streams of each track, by the clock that follows the drive, and lines that name the capture
 abbrev pub set_plan : (count : ℕ) → Plan
-set_plan count = record { captures = count; clocks = FollowingAlone; naming = ByCapture }
+set_plan count = record { captures = count; rule = Strict; clocks = FollowingAlone; naming = ByCapture }
 
 -- the streams of an input: the captures of a track follow one another
 abbrev pub set_streams : (count : ℕ) → (x : List ℕ) → Streams

@@ -7,7 +7,7 @@ ghost use Rattle.capture_set.specs.Answers.{DecodesSet, IsWholeOrRefused, SaysOf
 ghost use Rattle.capture_set.specs.Sets.{EndsInCaptures, set_plan as plan_of_set};
 
 use flux_base::{Sink, Source};
-use flux_engine::{Clocks, DiskRoom, Plan, PlanFault, decode_planned};
+use flux_engine::{Clocks, DiskRoom, Plan, PlanFault, Rule, decode_planned};
 use sector_report::{Naming, Totals};
 
 /// Decodes all tracks of a disk in order, each from so many streams that stand one after another, and then writes the total
@@ -50,6 +50,7 @@ pub fn set_plan(count: u32) -> Plan
 {
     Plan {
         captures: count as u8,
+        rule: Rule::Strict,
         clocks: Clocks::FollowingAlone,
         naming: Naming::ByCapture,
     }

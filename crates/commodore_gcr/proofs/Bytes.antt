@@ -5,8 +5,8 @@ use Rattle.frame_law.specs.lemmas.WordRowLaws.{word_cells-word}
 use Rattle.commodore_gcr.specs.Coding.{ByteAt, BytesAt, gcr}
 use Rattle.commodore_gcr.specs.lemmas.CodingLaws.{one_list_at}
 use Rattle.commodore_gcr.specs.Sectors.{Names, numbered_bytes}
-use Rattle.frame_law.specs.declared.header_name.HeaderName.{HeaderName}
-use Rattle.frame_law.specs.declared.header_name.HeaderName.TheVariants.{Address, TrackSector}
+use Rattle.flux_base.specs.declared.header_name.HeaderName.{HeaderName}
+use Rattle.flux_base.specs.declared.header_name.HeaderName.TheVariants.{Address, TrackSector, TrackSectorSide}
 
 pub byte_at-some : (cells : List Bool) (place number : ℕ) (result : Option ℕ) → place + 10 ≤ length cells → number ≡ word cells place 10
     → IfSome result (λ byte. byte < 256) → IfSome result (λ byte. gcr byte ≡ word_cells 10 number)
@@ -42,6 +42,7 @@ pub named_bytes : (cells : List Bool) (name : HeaderName) → Names cells name
     → (id1 id2 track sector : ℕ) × BytesAt cells 10 (numbered_bytes id1 id2 track sector)
 named_bytes cells (TrackSector track sector) names = (names.id1, names.id2, track, sector, names.bytes)
 named_bytes cells (Address cylinder head sector size) names = absurd names
+named_bytes cells (TrackSectorSide number sector side format) names = absurd names
 
 -- which are these
 pub header_is : (cells : List Bool) (header : List ℕ) (name : HeaderName) → length header ≡ 6 → BytesAt cells 10 header

@@ -1,11 +1,11 @@
 -- The rows of a track of the Commodore 1541's disks: its sectors one after another, with no gap of its own where it begins.
-use Rattle.std.specs.Prelude.{ℕ, ◌+◌, ◌*◌, Bool, true, false, List, [], ◌∷◌, replicate}
+use Rattle.std.specs.Prelude.{ℕ, ◌+◌, ◌-◌, ◌*◌, ◌/◌, Bool, true, false, List, [], ◌∷◌, replicate}
 use Rattle.flux_base.specs.declared.track.TrackId.{TrackId}
+use Rattle.disk_zones.specs.declared.zones.Zone.{Zone}
 use Rattle.track_rings.specs.Rows.{Rows, ring_of as ring_of_rows}
 use Rattle.commodore_gcr.specs.declared.layout.Row.{Row}
 use Rattle.commodore_gcr.specs.declared.layout.Row.TheVariants.{SyncLead, SyncOnes, HeaderBlock, HeaderGap, DataBytes, DataFill, ZoneGap}
 use Rattle.commodore_gcr.specs.declared.recording.CommodoreGcr.{CommodoreGcr}
-use Rattle.commodore_gcr.specs.declared.zones.SpeedZone.{SpeedZone}
 use Rattle.commodore_gcr.specs.Coding.{gcr_bytes, raw_bytes}
 use Rattle.commodore_gcr.specs.Sectors.{DATA_FILL, SECTOR_SIZE, data_bytes, header_block}
 use Rattle.commodore_gcr.specs.Zones.{sectors_of, zone_of}
@@ -25,6 +25,14 @@ rows = record {
 abbrev pub gap_cells : ℕ → List Bool
 gap_cells count = raw_bytes (replicate count 0x55)
 
+-- the cells of a sector's rows but for those of the zone's gap
+abbrev pub SECTOR_CELLS : ℕ
+SECTOR_CELLS = 2832
+
+-- the bytes of the gap after each sector: the sectors of a track share its ring evenly, so that they are 12, 21, 16 and 13
+abbrev pub gap_bytes : Zone → ℕ
+gap_bytes zone = (zone.ring_cells / zone.sectors - SECTOR_CELLS) / 8
+
 -- the cells of a row of this disk, for this sector with these bytes
 abbrev pub row_cells : CommodoreGcr → TrackId → Bool → ℕ → List ℕ → Row → List Bool
 row_cells disk track before sector bytes SyncLead = replicate 30 true
@@ -33,17 +41,17 @@ row_cells disk track before sector bytes HeaderBlock = gcr_bytes (header_block d
 row_cells disk track before sector bytes HeaderGap = gap_cells 9
 row_cells disk track before sector bytes DataBytes = gcr_bytes (data_bytes bytes)
 row_cells disk track before sector bytes DataFill = gcr_bytes DATA_FILL
-row_cells disk track before sector bytes ZoneGap = gap_cells (zone_of track).gap
+row_cells disk track before sector bytes ZoneGap = gap_cells (gap_bytes (zone_of track))
 
 -- how many they are: one for each one, 10 for each byte of a block, and 8 for each byte of a gap
-abbrev pub row_size : SpeedZone → ℕ → Row → ℕ
+abbrev pub row_size : Zone → ℕ → Row → ℕ
 row_size zone count SyncLead = 30
 row_size zone count SyncOnes = 10
 row_size zone count HeaderBlock = 10 * 8
 row_size zone count HeaderGap = 8 * 9
 row_size zone count DataBytes = 10 * (count + 2)
 row_size zone count DataFill = 10 * 2
-row_size zone count ZoneGap = 8 * zone.gap
+row_size zone count ZoneGap = 8 * gap_bytes zone
 
 -- the ring
 abbrev pub ring_of : CommodoreGcr → TrackId → List ℕ → List Bool

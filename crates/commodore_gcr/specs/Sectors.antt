@@ -4,8 +4,8 @@ use Rattle.flux_base.specs.declared.track.TrackId.{TrackId}
 use Rattle.cell_bits.specs.Word.{Stands}
 use Rattle.check_values.specs.Sums.{xor}
 use Rattle.frame_law.specs.Frames.{DataStand, HeaderStands as Header, SectorStands as Sector}
-use Rattle.frame_law.specs.declared.header_name.HeaderName.{HeaderName}
-use Rattle.frame_law.specs.declared.header_name.HeaderName.TheVariants.{Address, TrackSector}
+use Rattle.flux_base.specs.declared.header_name.HeaderName.{HeaderName}
+use Rattle.flux_base.specs.declared.header_name.HeaderName.TheVariants.{Address, TrackSector, TrackSectorSide}
 use Rattle.commodore_gcr.specs.Coding.{ByteAt, BytesAt}
 use Rattle.commodore_gcr.specs.Zones.{sectors_of, track_number}
 
@@ -73,6 +73,7 @@ pub record NamesNumbers (number : ℕ) (cells : List Bool) (sector : ℕ) : Type
 abbrev pub Names : List Bool → HeaderName → Type 0
 Names cells (TrackSector track sector) = NamesNumbers track cells sector
 Names cells (Address cylinder head sector size) = ⊥
+Names cells (TrackSectorSide number sector side format) = ⊥
 
 -- it names a sector of this track
 abbrev pub NamesSector : TrackId → List Bool → ℕ → Type 0

@@ -1,25 +1,21 @@
--- The tracks of the Commodore 1541's disks, in four zones that differ in how many sectors a track has.
-use Rattle.std.specs.Prelude.{◌≡◌, ℕ, ◌+◌, ◌<◌, nat_lt, if◌then◌else◌}
+-- The tracks of the Commodore 1541's and 1571's disks, in zones that differ in how many sectors a track has.
+use Rattle.std.specs.Prelude.{ℕ, ◌+◌, ◌*◌, ◌<◌}
 use Rattle.flux_base.specs.declared.track.TrackId.{TrackId}
-use Rattle.commodore_gcr.specs.declared.zones.SpeedZone.{SpeedZone}
+use Rattle.disk_zones.specs.Zones.{commodore_zone}
+use Rattle.disk_zones.specs.declared.zones.Zone.{Zone}
 
--- the tracks: 40 cylinders of one side, of which a disk of 35 tracks has the first 35
+-- the tracks: 40 cylinders of two sides, of which a 1541's disk has the first 35 or all on one side, and a 1571's the first 35 on both
 pub record IsCommodoreTrack (track : TrackId) : Type 0 where
   pub cylinder : track.cylinder < 40
-  pub head : track.head ≡ 0
+  pub head : track.head < 2
 
--- tracks are numbered from 1
+-- tracks are numbered from 1, and on the second side from 36
 abbrev pub track_number : TrackId → ℕ
-track_number track = track.cylinder + 1
+track_number track = track.cylinder + 1 + 35 * track.head
 
--- tracks 1 to 17, 18 to 24, 25 to 30, and 31 to 40
-unfoldable pub zone_of : TrackId → SpeedZone
-zone_of track =
-    let number = track_number track in
-    if nat_lt number 18 then record { sectors = 21; gap = 12; ring_cells = 61488 }
-    else if nat_lt number 25 then record { sectors = 19; gap = 21; ring_cells = 57000 }
-    else if nat_lt number 31 then record { sectors = 18; gap = 16; ring_cells = 53280 }
-    else record { sectors = 17; gap = 13; ring_cells = 49912 }
+-- the zone of a track
+abbrev pub zone_of : TrackId → Zone
+zone_of track = commodore_zone track.cylinder
 
 -- the sectors of a track
 abbrev pub sectors_of : TrackId → ℕ

@@ -1,5 +1,5 @@
 ghost use Rattle.std.specs.Prelude.{◌≡◌, ℕ, ◌≤◌, List, length, IfNone, IfSome};
-ghost use Rattle.frame_law.specs.declared.header_name.HeaderName.{HeaderName};
+ghost use Rattle.flux_base.specs.declared.header_name.HeaderName.{HeaderName};
 ghost use Rattle.commodore_gcr.specs.Coding.{BytesAt};
 ghost use Rattle.commodore_gcr.specs.Sectors.{Names, header_block as block_of_header};
 ghost use Rattle.commodore_gcr.specs.Zones.{IsCommodoreTrack};
@@ -9,8 +9,8 @@ use crate::layout::{HEADER_BYTE, HEADER_FILL};
 use crate::recording::CommodoreGcr;
 use crate::zones::track_number;
 use check_values::xor_bytes;
-use flux_base::TrackId;
-use frame_law::{CellsFrom, HeaderName};
+use flux_base::{HeaderName, TrackId};
+use frame_law::CellsFrom;
 
 /// What the header at the front of the cells, which are as many as one has, names. None where it is none, or its check
 /// value is another.

@@ -1,5 +1,5 @@
-//! The recording of the Commodore 1541's disks: group code (GCR), which writes a nibble as five cells, on 40
-//! tracks of 17 to 21 sectors of 256 bytes.
+//! The recording of the Commodore 1541's and 1571's disks: group code (GCR), which writes a nibble as five cells, on 40
+//! cylinders of one head or two, with tracks of 17 to 21 sectors of 256 bytes.
 #![tactic(auto)]
 
 mod coding;

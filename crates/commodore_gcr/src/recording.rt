@@ -1,6 +1,6 @@
-ghost use Rattle.std.specs.Prelude.{◌≡◌, ℕ, ◌+◌, false, refl};
-ghost use Rattle.std.proofs.Common.{inl, inr, lit≤};
-ghost use Rattle.frame_law.specs.declared.header_name.HeaderName.TheVariants.{TrackSector};
+ghost use Rattle.std.specs.Prelude.{◌≡◌, ℕ, ◌+◌, false, refl, Some};
+ghost use Rattle.std.proofs.Common.{arith, inl, inr, lit≤};
+ghost use Rattle.flux_base.specs.declared.header_name.HeaderName.TheVariants.{TrackSector};
 ghost use Rattle.commodore_gcr.specs.lemmas.DataSyncs.{own_data};
 ghost use Rattle.frame_law.specs.lemmas.OwnFrames.{fixed_ends};
 ghost use Rattle.commodore_gcr.specs.lemmas.FrameLaws.{frame_stands};
@@ -18,13 +18,15 @@ use crate::layout::{
     DATA_CELLS, HEADER_CELLS, LEAD_IN, LEAD_OUT, Row, SECTOR, SECTOR_SIZE, SYNC, SYNC_CELLS,
 };
 use crate::rows::push_row;
-use crate::zones::{track_number, zone_of};
+use crate::zones::track_number;
 use cell_bits::Cells;
-use flux_base::{Memory, TrackId};
-use frame_law::{CellsFrom, HeaderName, Layout, SectorBuffer};
+use disk_zones::commodore_zone;
+use flux_base::{HeaderName, Memory, TrackId};
+use frame_law::{CellsFrom, Layout, SectorBuffer};
 
-/// The recording of the Commodore 1541's disks. Its tracks are the cylinders 0 to 39 with head 0, of which a
-/// disk of 35 tracks has the first 35; headers number them from 1. Sectors are numbered from 0.
+/// The recording of the Commodore 1541's and 1571's disks. Its tracks are the cylinders 0 to 39 with the heads 0 and 1, of
+/// which a 1541's disk has 35 or 40 with head 0, and a 1571's 35 with both; headers number them from 1, and those of head 1
+/// from 36. Sectors are numbered from 0.
 ///
 /// Each header has the two bytes of the disk's id. They are written, and are not looked at when a sector is
 /// read but through the header's check value: what stands is the same for all ids.
@@ -71,17 +73,19 @@ impl Layout for CommodoreGcr {
 
     ghost names = { λ r cells name. Names cells name };
 
-    ghost name_of = { λ r track s. TrackSector (number_of_track track) s };
+    ghost is_name_of = { λ r track name s. name ≡ TrackSector (number_of_track track) s };
 
     ghost is_sync = { λ r cells place. IsSync cells place };
 
-    ghost hold = { λ r cells sync bytes. Hold cells sync bytes };
+    ghost size_named = { λ r name. Some 256 };
+
+    ghost hold = { λ r size cells sync bytes. Hold cells sync bytes };
 
     ghost data_cells = { λ r. 2590 };
 
     ghost header_end = { λ r cells. 70 };
 
-    ghost data_end = { λ r cells sync. sync + 2590 };
+    ghost data_end = { λ r size cells sync. sync + 2590 };
 
     ghost data_place = { λ r. 192 };
 
@@ -100,15 +104,19 @@ impl Layout for CommodoreGcr {
     }
 
     fn sector_count(&self, track: TrackId) -> u8 {
-        zone_of(track).sectors
+        commodore_zone(track.cylinder).sectors
     }
 
     fn sector_bytes(&self) -> u16 {
         SECTOR_SIZE
     }
 
+    fn size_named(&self, _name: HeaderName) -> Option<u16> {
+        Some(SECTOR_SIZE)
+    }
+
     fn track_cells(&self, track: TrackId) -> u32 {
-        zone_of(track).ring_cells
+        commodore_zone(track.cylinder).ring_cells
     }
 
     fn lead_in(&self, _track: TrackId) -> &[Row] {
@@ -150,11 +158,17 @@ impl Layout for CommodoreGcr {
         next_sync(frame, from, to)
     }
 
-    fn data_end(&self, frame: &CellsFrom, sync: usize) -> Option<usize> {
+    fn data_end(&self, _size: u16, frame: &CellsFrom, sync: usize) -> Option<usize> {
         frame.end_within(sync + DATA_CELLS)
     }
 
-    fn read_data(&self, frame: &CellsFrom, sync: usize, buffer: &mut SectorBuffer) -> bool {
+    fn read_data(
+        &self,
+        _size: u16,
+        frame: &CellsFrom,
+        sync: usize,
+        buffer: &mut SectorBuffer,
+    ) -> bool {
         read_block(frame, sync, buffer)
     }
 
@@ -173,6 +187,10 @@ impl Layout for CommodoreGcr {
     ghost ends = { λ r track before known. refl };
 
     ghost named_sector = { λ r track. named_sector track };
+
+    ghost own_size = { λ r track name s is. refl };
+
+    ghost data_some = { λ r size cells sync. Prim.omega arith };
 
     ghost one_name = { λ r cells n m first second. one_name cells n m first second };
 

@@ -10,7 +10,7 @@ use crate::coding::coded;
 use crate::header_block::header_block;
 use crate::layout::{BYTE_CELLS, DATA_BYTE, DATA_FILL, GAP_BYTE, HEADER_GAP, Row};
 use crate::recording::CommodoreGcr;
-use crate::zones::zone_of;
+use crate::zones::zone_gap;
 use cell_bits::Cells;
 use check_values::xor_bytes;
 use flux_base::{Memory, TrackId};
@@ -34,7 +34,7 @@ pub(crate) fn push_row(
         Row::HeaderGap => push_gap(cells, HEADER_GAP),
         Row::DataBytes => push_data(cells, bytes),
         Row::DataFill => push_bytes(cells, &[DATA_FILL, DATA_FILL]),
-        Row::ZoneGap => push_gap(cells, zone_of(track).gap),
+        Row::ZoneGap => push_gap(cells, zone_gap(track)),
     }
 }
 

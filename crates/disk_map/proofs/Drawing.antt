@@ -133,17 +133,17 @@ module _ (format : Format) (left left' picture top picture' : Option (List ℕ))
   module _ (notes notes' : Option (List ℕ)) (written : Option (List ℕ)) (totals : Totals) (fault : PlanFault)
       (e : EndedInStream decoding drawn_part format left left' top written notes notes' totals (Err fault)) where
     abbrev input : (later : List ℕ) → List ℕ
-    input later = (e.before.taken ++ e.stopped.more) ++ later
+    input later = e.taken ++ later
 
-    before : (later : List ℕ) → DrawnTracks format (input later) e.before.parts
-    before later = drawn_tracks format (input later) e.before.parts
-        (subst (λ (x : List ℕ). ArePlannedParts decoding drawn_part format (streams_in decoding x) e.before.parts) (sym (append_assoc e.before.taken e.stopped.more later)) (e.before.each (e.stopped.more ++ later)))
+    before : (later : List ℕ) → DrawnTracks format (input later) e.parts
+    before later = drawn_tracks format (input later) e.parts
+        (e.each later)
 
     before_many : (later : List ℕ) → length (before later).drawn ≡ e.number
-    before_many later = (before later).many ∙ e.before.many
+    before_many later = (before later).many ∙ e.many
 
     grown : (later : List ℕ) → Appends picture written (front_of format (before later).drawn)
-    grown later = front (input later) (before later).drawn written (images e.before.parts) (before later).fields e.before.image_grew
+    grown later = front (input later) (before later).drawn written (images e.parts) (before later).fields e.image_grew
 
     stop_here : (later : List ℕ) (q block : ℕ) (at : StreamFault) → StoppedAt decoding e.number (input later) later q block at
         → stop_of format (input later) ≡ Some (record { track = e.number; block = block; fault = at })
@@ -157,14 +157,14 @@ module _ (format : Format) (left left' picture top picture' : Option (List ℕ))
     foot_is : (later : List ℕ) (block : ℕ) (at : StreamFault) → stop_of format (input later) ≡ Some (record { track = e.number; block = block; fault = at })
         → foot_text (layout_of format) totals (refused_text e.number block at) ≡ foot_of format (before later).drawn (stop_of format (input later))
     foot_is later block at stop =
-        ap (λ (t : Totals). foot_text (layout_of format) t (refused_text e.number block at)) (e.before.totals_are ∙ sym (before later).totals)
+        ap (λ (t : Totals). foot_text (layout_of format) t (refused_text e.number block at)) (e.totals_are ∙ sym (before later).totals)
         ∙ ap (λ (s : Option Stop). foot_of format (before later).drawn s) (sym stop)
 
   -- the source failed: nothing was written after the tracks before
   mapped_unread : (notes notes' written : Option (List ℕ)) (totals : Totals) → EndedInStream decoding drawn_part format left left' top written notes notes' totals (Err ReadFault)
       → picture' ≡ written → MapsDisk format left left' picture picture' (Err ReadFault)
   mapped_unread notes notes' written totals e same = record {
-    taken = e.before.taken ++ e.stopped.more;
+    taken = e.taken;
     consumed = e.stopped.consumed;
     says = λ (later : List ℕ) only.
         let s = e.stopped.says later only in
@@ -187,7 +187,7 @@ module _ (format : Format) (left left' picture top picture' : Option (List ℕ))
     mapped_refused : Appends written picture' (foot_text (layout_of format) totals (refused_text track block fault))
         → MapsDisk format left left' picture picture' (Err (Refused track capture block fault))
     mapped_refused foot = record {
-      taken = e.before.taken ++ e.stopped.more;
+      taken = e.taken;
       consumed = e.stopped.consumed;
       says = λ (later : List ℕ) only.
           let s = e.stopped.says later only in
@@ -213,7 +213,7 @@ module _ (format : Format) (left left' picture top picture' : Option (List ℕ))
 
     mapped_cut_refusal : AppendsPart written picture' (foot_text (layout_of format) totals (refused_text track block fault)) → MapsDisk format left left' picture picture' (Err ImageFault)
     mapped_cut_refusal foot = record {
-      taken = e.before.taken ++ e.stopped.more;
+      taken = e.taken;
       consumed = e.stopped.consumed;
       says = λ (later : List ℕ) only.
           let s = e.stopped.says later (λ cut. only (e.stopped.ended cut)) in

@@ -11,7 +11,7 @@ use Rattle.turn_merge.specs.Readings.{NotedReading, verdict}
 use Rattle.flux_engine.specs.Disks.{Stop, decoded_count, no_totals, stop_of, totals_over}
 use Rattle.flux_engine.specs.Recordings.{cells_of, sectors_of, track_at}
 use Rattle.flux_engine.specs.Streams.{stream_at}
-use Rattle.flux_engine.specs.Tracks.{Found, TrackPart, numbers, part_of, readings_of, totals_of}
+use Rattle.flux_engine.specs.Tracks.{Found, TrackNotes, TrackPart, numbers, part_of, readings_of, totals_of}
 use Rattle.disk_map.specs.Places.{layout_of}
 use Rattle.disk_map.specs.Texts.{field_text, foot_text, top_text}
 
@@ -24,11 +24,11 @@ unfoldable pub fields_of : Format → TrackId → List NotedReading → List ℕ
 fields_of format track readings = flat_map (field_of format track readings) (numbers (sectors_of format track))
 
 -- what the engine's loop writes of a track: its fields, and no notes
-abbrev pub drawn_part : Format → TrackId → List NotedReading → TrackPart
-drawn_part format track readings = record {
-  image = fields_of format track readings;
+abbrev pub drawn_part : Format → TrackId → TrackNotes → TrackPart
+drawn_part format track notes = record {
+  image = fields_of format track notes.readings;
   lines = [];
-  totals = totals_of (map (verdict readings) (numbers (sectors_of format track)));
+  totals = totals_of (map (verdict notes.readings) (numbers (sectors_of format track)));
 }
 
 -- what a track comes to: its fields, and what it comes to where the disk is decoded

@@ -16,7 +16,7 @@ use crate::text::write_text;
 use crate::texts::{begin_text, foot_text, grid_text, labels};
 use flux_base::{CountingSink, Failed, Sink, Source, write_whole};
 use flux_engine::{
-    Clocks, DiskRoom, Plan, PlanFault, decode_planned_tracks, no_totals, room_format,
+    Clocks, DiskRoom, Plan, PlanFault, Rule, decode_planned_tracks, no_totals, room_format,
 };
 use sector_images::Format;
 use sector_report::{Naming, Totals, refused_line, total_line};
@@ -53,6 +53,7 @@ pub fn map_disk<S: Source, P: Sink>(
     }
     let plan = Plan {
         captures: 1,
+        rule: Rule::Strict,
         clocks: Clocks::FollowingAlone,
         naming: Naming::Unnamed,
     };

@@ -15,7 +15,7 @@ use crate::layout::Layout;
 use crate::text::write_text;
 use crate::texts::field_text;
 use flux_base::{Failed, Sink, TrackId};
-use flux_engine::{PartFault, TrackWriter, count_verdict, no_totals, sectors_of};
+use flux_engine::{Gathered, PartFault, TrackWriter, count_verdict, no_totals, sectors_of};
 use sector_images::{Format, tracks_keep_bounds};
 use sector_report::Totals;
 use turn_merge::Book;
@@ -30,11 +30,11 @@ impl TrackWriter for FieldWriter {
         &self,
         format: Format,
         track: TrackId,
-        book: &Book,
+        gathered: &Gathered,
         image: &mut W,
         notes: &mut N,
     ) -> Result<Totals, PartFault> {
-        match write_fields(format, track, book, image) {
+        match write_fields(format, track, &gathered.book, image) {
             Ok(totals) => Ok(totals),
             Err(_) => Err(PartFault::ImageFault),
         }

@@ -3,12 +3,13 @@ use Rattle.std.specs.Prelude.{◌≡◌, ◌≤◌, ℕ, ◌+◌, Bool, List, le
 use Rattle.cell_bits.specs.Broken.{Unbroken}
 use Rattle.flux_base.specs.declared.track.TrackId.{TrackId}
 use Rattle.frame_law.specs.Controller.{DataAreTold, DataStandAlone, HasHeaderData, HasOnlyOwnData, SearchesFindAll, SectorStandsBy}
+use Rattle.frame_law.specs.Others.{HasNoOtherBetweenZeros, HeadersAreTold, NamedDataAreOwn}
 use Rattle.frame_law.specs.Laws.{HasOnlyOwn, HasOnlyOwnBetweenZeros, ReadingsAreAll, ReadingsAreOne, SectorsAreTold, StandsAlone}
 use Rattle.sector_images.specs.Formats.{row, zone}
 use Rattle.sector_images.specs.Places.{IsSector, IsTrack}
 use Rattle.sector_images.specs.declared.format.Format.{Format}
 use Rattle.track_rings.specs.Rings.{AreSectors, IsSpaced, LiesAt, bytes_of, stretch}
-use Rattle.disk_recordings.specs.Members.{as_controllers_read, data_at, frame_cells, header_at, place_in_ring, ring_at, sector_at}
+use Rattle.disk_recordings.specs.Members.{as_controllers_read, data_at, frame_cells, header_at, is_name_of, named_at, place_in_ring, ring_at, sector_at, whole_data_of}
 use Rattle.disk_recordings.specs.declared.disk_id.DiskId.{DiskId}
 
 -- Of each format's tracks, the cells tell which header and which sector stands in them, a list is what repeated searches find
@@ -101,3 +102,15 @@ SectorsStandToo = (format : Format) (id : DiskId) (track : TrackId) (bytes : Lis
     → LiesAt (zone format track.cylinder).ring_cells (place_in_ring format track s) (frame_cells format) from count place
     → let content = bytes_of (row format).first_sector (row format).sector_size bytes s in
     SectorStandsBy (header_at format track) (data_at format) (drop place (stretch (ring_at format id track bytes) from count)) s content
+
+-- Of each format's tracks, the cells tell the name of each header, and which of the track's sectors it is of, if any; repeated searches
+-- find all headers; and whole data of a sector's name are the sector's.
+pub record NamesAreTold : Type 0 where
+  pub told : (format : Format) (track : TrackId) → HeadersAreTold (named_at format) (is_name_of format track) (header_at format track)
+  pub own_data : (format : Format) (track : TrackId) → NamedDataAreOwn (whole_data_of format) (is_name_of format track) (data_at format)
+
+-- no other header than those of its sectors stands in any stretch of a track's repeated ring between zeros
+abbrev pub NoOtherStands : Type 0
+NoOtherStands = (format : Format) (id : DiskId) (track : TrackId) (bytes : List ℕ) (zeros from count behind : ℕ) → IsTrack format track
+    → AreTrackBytes format track bytes
+    → HasNoOtherBetweenZeros (named_at format) (header_at format track) (ring_at format id track bytes) zeros from count behind

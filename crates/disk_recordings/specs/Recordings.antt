@@ -2,17 +2,18 @@
 use Rattle.either.specs.declared.Either.{Either}
 use Rattle.either.specs.declared.Either.TheVariants.{Left, Right}
 use Rattle.amiga_mfm.specs.declared.recording.AmigaMfm.{AmigaMfm}
+use Rattle.amiga_mfm.specs.declared.recording.AmigaMfm.TheVariants.{DoubleDensity, HighDensity}
 use Rattle.apple_gcr.specs.declared.recording.AppleGcr.{AppleGcr}
 use Rattle.apple_gcr.specs.declared.disk_bytes.ByteRule.TheVariants.{Strict, Controller}
 use Rattle.commodore_gcr.specs.declared.recording.CommodoreGcr.{CommodoreGcr}
 use Rattle.ibm_fm.specs.declared.recording.IbmFm.{IbmFm}
-use Rattle.ibm_fm.specs.declared.recording.IbmFm.TheVariants.{Ibm3740 as Single, Acorn}
+use Rattle.ibm_fm.specs.Disks.{acorn, ibm_3740}
 use Rattle.ibm_mfm.specs.declared.recording.IbmMfm.{IbmMfm}
-use Rattle.ibm_mfm.specs.declared.recording.IbmMfm.TheVariants.{Pc8, Pc9, Pc15, Pc18, Atari10, CpcData as Data, CpcSystem as System}
+use Rattle.ibm_mfm.specs.Disks.{atari_10, cpc_data, cpc_system, pc_15, pc_18, pc_8, pc_9}
 use Rattle.macintosh_gcr.specs.declared.recording.MacintoshGcr.{MacintoshGcr}
 use Rattle.macintosh_gcr.specs.declared.recording.MacintoshGcr.TheVariants.{SingleSided, DoubleSided}
 use Rattle.sector_images.specs.declared.format.Format.{Format}
-use Rattle.sector_images.specs.declared.format.Format.TheVariants.{Ibm3740, Ibm360, Ibm720, Ibm1440, Amiga, C1541, C1541Forty, AppleDo, ApplePo, Ibm160, Ibm180, Ibm320, Ibm1200, AtariSt800, CpcData, CpcSystem, AcornDfs40, AcornDfs80, AppleDos33, AppleProdos, Mac400, Mac800}
+use Rattle.sector_images.specs.declared.format.Format.TheVariants.{Ibm3740, Ibm360, Ibm720, Ibm1440, Amiga, C1541, C1541Forty, AppleDo, ApplePo, Ibm160, Ibm180, Ibm320, Ibm1200, AtariSt800, CpcData, CpcSystem, AcornDfs40, AcornDfs80, AppleDos33, AppleProdos, Mac400, Mac800, C1571, AmigaHd}
 use Rattle.disk_recordings.specs.declared.disk_id.DiskId.{DiskId}
 
 -- one of the recordings
@@ -21,28 +22,30 @@ DiskRecording = Either IbmFm (Either IbmMfm (Either AmigaMfm (Either CommodoreGc
 
 -- the recording of a format's tracks, on a disk with this id
 abbrev pub recording_of : Format → DiskId → DiskRecording
-recording_of Ibm3740 id = Left Single
-recording_of Ibm360 id = Right (Left Pc9)
-recording_of Ibm720 id = Right (Left Pc9)
-recording_of Ibm1440 id = Right (Left Pc18)
-recording_of Amiga id = Right (Right (Left (record {})))
+recording_of Ibm3740 id = Left ibm_3740
+recording_of Ibm360 id = Right (Left pc_9)
+recording_of Ibm720 id = Right (Left pc_9)
+recording_of Ibm1440 id = Right (Left pc_18)
+recording_of Amiga id = Right (Right (Left DoubleDensity))
 recording_of C1541 id = Right (Right (Right (Left (record { id1 = id.first; id2 = id.second }))))
 recording_of C1541Forty id = Right (Right (Right (Left (record { id1 = id.first; id2 = id.second }))))
 recording_of AppleDo id = Right (Right (Right (Right (Left (record { rule = Strict })))))
 recording_of ApplePo id = Right (Right (Right (Right (Left (record { rule = Strict })))))
-recording_of Ibm160 id = Right (Left Pc8)
-recording_of Ibm180 id = Right (Left Pc9)
-recording_of Ibm320 id = Right (Left Pc8)
-recording_of Ibm1200 id = Right (Left Pc15)
-recording_of AtariSt800 id = Right (Left Atari10)
-recording_of CpcData id = Right (Left Data)
-recording_of CpcSystem id = Right (Left System)
-recording_of AcornDfs40 id = Left Acorn
-recording_of AcornDfs80 id = Left Acorn
+recording_of Ibm160 id = Right (Left pc_8)
+recording_of Ibm180 id = Right (Left pc_9)
+recording_of Ibm320 id = Right (Left pc_8)
+recording_of Ibm1200 id = Right (Left pc_15)
+recording_of AtariSt800 id = Right (Left atari_10)
+recording_of CpcData id = Right (Left cpc_data)
+recording_of CpcSystem id = Right (Left cpc_system)
+recording_of AcornDfs40 id = Left acorn
+recording_of AcornDfs80 id = Left acorn
 recording_of AppleDos33 id = Right (Right (Right (Right (Left (record { rule = Controller })))))
 recording_of AppleProdos id = Right (Right (Right (Right (Left (record { rule = Controller })))))
 recording_of Mac400 id = Right (Right (Right (Right (Right SingleSided))))
 recording_of Mac800 id = Right (Right (Right (Right (Right DoubleSided))))
+recording_of C1571 id = Right (Right (Right (Left (record { id1 = id.first; id2 = id.second }))))
+recording_of AmigaHd id = Right (Right (Left HighDensity))
 
 -- an id for disks that are read
 abbrev pub ANY_ID : DiskId

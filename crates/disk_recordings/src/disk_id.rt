@@ -1,4 +1,4 @@
-/// The two bytes of a Commodore 1541 disk's id. No other disk has one.
+/// The two bytes of the id of a Commodore 1541's or 1571's disk. No other disk has one.
 #[derive(Clone, Copy, Debug, PartialEq, Eq)]
 pub struct DiskId {
     /// The first character.

@@ -1,12 +1,13 @@
 //! What the laws of the recordings come to for the formats: for all tracks, ids, bytes and cells.
 
 ghost use Rattle.sector_images.specs.declared.format.Format.TheVariants.{AppleDo, ApplePo, AppleDos33, AppleProdos};
-ghost use Rattle.disk_recordings.specs.Laws.{AreReadToo, DataAreRead, FramesAreWhole, FramesHaveCells, OnlyOwnDataStand, OnlyOwnStand, RewrittenStandAlone, RingsHaveCells, SectorsStand, SectorsStandToo, StandAlone, StretchesHaveOnlyOwn, TracksAreRead};
+ghost use Rattle.disk_recordings.specs.Laws.{AreReadToo, DataAreRead, FramesAreWhole, FramesHaveCells, NamesAreTold, NoOtherStands, OnlyOwnDataStand, OnlyOwnStand, RewrittenStandAlone, RingsHaveCells, SectorsStand, SectorsStandToo, StandAlone, StretchesHaveOnlyOwn, TracksAreRead};
 
 use crate::recordings::DiskRecording;
 use apple_gcr::rules_agree;
 use frame_law::{
-    data_are_read, only_own, only_own_data, readings_are_all, rings_hold_sectors, sectors_are_told,
+    data_are_read, headers_are_told, no_others, only_own, only_own_data, readings_are_all,
+    rings_hold_sectors, sectors_are_told,
 };
 
 /// The cells of a format's track tell what stands in them, and repeated searches find all of it, as one list.
@@ -63,4 +64,19 @@ pub fn rewritten_tracks_have_only_own()
     ensures stand { SectorsStandToo }
 {
     only_own_data::<DiskRecording>()
+}
+
+/// The cells of a format's track tell the name of each header, and repeated searches find all headers.
+pub fn headers_have_names()
+    ensures { NamesAreTold }
+{
+    headers_are_told::<DiskRecording>()
+}
+
+/// No other header than those of its sectors stands in the ring of a format's track, also in a stretch of it that zeros
+/// cut.
+pub fn tracks_have_no_others()
+    ensures { NoOtherStands }
+{
+    no_others::<DiskRecording>()
 }

@@ -1,4 +1,5 @@
 ghost use Rattle.std.specs.Prelude.{ℕ, Bool, List};
+ghost use Rattle.flux_base.specs.declared.header_name.HeaderName.{HeaderName};
 ghost use Rattle.flux_base.specs.declared.track.TrackId.{TrackId};
 
 use crate::recordings::DiskRecording;
@@ -14,6 +15,12 @@ pub trait Meaning {
     ghost sector_at: { Self → TrackId → List Bool → ℕ → List ℕ → Type 0 };
 
     ghost data_at: { Self → List Bool → ℕ → List ℕ → Type 0 };
+
+    ghost named_at: { Self → List Bool → HeaderName → Type 0 };
+
+    ghost is_name_of: { Self → TrackId → HeaderName → ℕ → Type 0 };
+
+    ghost whole_data_of: { Self → List Bool → HeaderName → Type 0 };
 
     ghost ring: { Self → TrackId → List ℕ → List Bool };
 
@@ -38,6 +45,12 @@ impl Meaning for DiskRecording {
     ghost sector_at = { ⟦<DiskRecording as Recording>⟧.sector_at };
 
     ghost data_at = { ⟦<DiskRecording as Recording>⟧.data_at };
+
+    ghost named_at = { ⟦<DiskRecording as Recording>⟧.named_at };
+
+    ghost is_name_of = { ⟦<DiskRecording as Recording>⟧.is_name_of };
+
+    ghost whole_data_of = { ⟦<DiskRecording as Recording>⟧.whole_data_of };
 
     ghost ring = { ⟦<DiskRecording as Recording>⟧.ring };
 

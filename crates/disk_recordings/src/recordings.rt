@@ -28,20 +28,23 @@ pub fn recording_of(format: Format, id: DiskId) -> DiskRecording
     ensures agrees { Agrees format result }
 {
     match format {
-        Format::Ibm3740 => Left(IbmFm::Ibm3740),
-        Format::Ibm160 | Format::Ibm320 => Right(Left(IbmMfm::Pc8)),
-        Format::Ibm180 | Format::Ibm360 | Format::Ibm720 => Right(Left(IbmMfm::Pc9)),
-        Format::Ibm1200 => Right(Left(IbmMfm::Pc15)),
-        Format::Ibm1440 => Right(Left(IbmMfm::Pc18)),
-        Format::AtariSt800 => Right(Left(IbmMfm::Atari10)),
-        Format::CpcData => Right(Left(IbmMfm::CpcData)),
-        Format::CpcSystem => Right(Left(IbmMfm::CpcSystem)),
-        Format::AcornDfs40 | Format::AcornDfs80 => Left(IbmFm::Acorn),
-        Format::Amiga => Right(Right(Left(AmigaMfm))),
-        Format::C1541 | Format::C1541Forty => Right(Right(Right(Left(CommodoreGcr {
-            id1: id.first,
-            id2: id.second,
-        })))),
+        Format::Ibm3740 => Left(IbmFm::IBM_3740),
+        Format::Ibm160 | Format::Ibm320 => Right(Left(IbmMfm::PC_8)),
+        Format::Ibm180 | Format::Ibm360 | Format::Ibm720 => Right(Left(IbmMfm::PC_9)),
+        Format::Ibm1200 => Right(Left(IbmMfm::PC_15)),
+        Format::Ibm1440 => Right(Left(IbmMfm::PC_18)),
+        Format::AtariSt800 => Right(Left(IbmMfm::ATARI_10)),
+        Format::CpcData => Right(Left(IbmMfm::CPC_DATA)),
+        Format::CpcSystem => Right(Left(IbmMfm::CPC_SYSTEM)),
+        Format::AcornDfs40 | Format::AcornDfs80 => Left(IbmFm::ACORN),
+        Format::Amiga => Right(Right(Left(AmigaMfm::DoubleDensity))),
+        Format::AmigaHd => Right(Right(Left(AmigaMfm::HighDensity))),
+        Format::C1541 | Format::C1541Forty | Format::C1571 => {
+            Right(Right(Right(Left(CommodoreGcr {
+                id1: id.first,
+                id2: id.second,
+            }))))
+        }
         Format::AppleDo | Format::ApplePo => Right(Right(Right(Right(Left(AppleGcr::STRICT))))),
         Format::AppleDos33 | Format::AppleProdos => {
             Right(Right(Right(Right(Left(AppleGcr::CONTROLLER)))))
@@ -57,7 +60,7 @@ pub fn has_id(format: Format) -> bool
     ensures yes { IsTrue result → HasDirectory format }
     ensures no { IsFalse result → HasNoId format }
 {
-    matches!(format, Format::C1541 | Format::C1541Forty)
+    matches!(format, Format::C1541 | Format::C1541Forty | Format::C1571)
 }
 
 /// The format as which a controller reads the format's disks: by the second rule a byte of an Apple disk begins at the

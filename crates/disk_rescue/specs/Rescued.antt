@@ -6,10 +6,11 @@ use Rattle.flux_engine.specs.Plans.{IsPlanned, IsPlannedPart, PartOf, Planned, S
 use Rattle.flux_engine.specs.Tracks.{TrackPart, part_by}
 use Rattle.flux_engine.specs.declared.plan.Clocks.TheVariants.{Both}
 use Rattle.flux_engine.specs.declared.plan.Plan.{Plan}
+use Rattle.flux_engine.specs.declared.plan.Rule.TheVariants.{Strict}
 
 -- one stream of each track, by both clocks, and lines that name the clock
 abbrev pub rescuing : Plan
-rescuing = record { captures = 1; clocks = Both; naming = ByClock }
+rescuing = record { captures = 1; rule = Strict; clocks = Both; naming = ByClock }
 
 -- the streams of an input, one for each track
 abbrev pub track_streams : List ℕ → Streams

@@ -9,7 +9,7 @@ ghost use Rattle.disk_rescue.specs.Answers.{Rescues, SaysOfRescueInput};
 ghost use Rattle.disk_rescue.specs.Rescued.{rescuing};
 
 use flux_base::{Sink, Source};
-use flux_engine::{Clocks, DiskRoom, Plan, PlanFault, decode_planned};
+use flux_engine::{Clocks, DiskRoom, Plan, PlanFault, Rule, decode_planned};
 use sector_report::{Naming, Totals};
 
 /// Decodes all tracks of a disk in order by two clocks, and then writes the total line to `notes`. The stream of a track is
@@ -48,6 +48,7 @@ pub fn rescue_plan() -> Plan
 {
     Plan {
         captures: 1,
+        rule: Rule::Strict,
         clocks: Clocks::Both,
         naming: Naming::ByClock,
     }

@@ -1,3 +1,4 @@
+pub mod Bounds
 pub mod Outside
 pub mod Memory
 pub mod Status

@@ -1,41 +1,28 @@
 -- From what a run did to what it does with a captured disk.
-use Rattle.std.specs.Prelude.{◌≡◌, ◌≢◌, ◌≤◌, ◌==◌, ℕ, ◌++◌, Bool, true, false, List, [], ◌∷◌, length, Result, Ok, Err, if◌then◌else◌, Option, Some, None, refl}
-use Rattle.std.proofs.Common.{arith, inl, inr, ap, sym, subst, ◌∙◌, append-nil}
-use Rattle.std.proofs.lemmas.Bool.{eq-eqb}
+use Rattle.std.specs.Prelude.{◌≡◌, ◌≢◌, ◌≤◌, ℕ, List, [], ◌∷◌, Result, Ok, Err, Option, Some, None, refl}
+use Rattle.std.proofs.Common.{arith, inl, inr, ap, sym, subst, ◌∙◌}
 use Rattle.flux_base.specs.Moments.{Moment}
 use Rattle.flux_base.specs.Outside.{Rose}
 use Rattle.flux_base.specs.declared.outside.Failed.{Failed}
 use Rattle.flux_base.specs.declared.status.Status.{Status}
 use Rattle.flux_base.specs.declared.status.Status.TheVariants.{AllGood, NotAllGood, Refused, Usage, ReadFault, ImageFault, NotesFault, Memory, ShelfFault}
-use Rattle.sector_images.specs.Formats.{WordsNameFormats}
 use Rattle.sector_images.specs.declared.format.Format.{Format}
-use Rattle.sector_report.specs.declared.totals.Totals.{Totals}
 use Rattle.track_shelf.specs.Files.{File, LeavesWanted, NamesMissing}
-use Rattle.captured_disks.specs.Headline.{CapturedDisksDecode, DecodesRest, DecodesWhole, ErasedDisksDecode}
-use Rattle.captured_disks.specs.Inputs.{IsErasedDisk}
-use Rattle.flux_engine.specs.Disks.{Decoded, IsDecoded, Stop}
-use Rattle.flux_cli.specs.Captured.{Decodes, DecodesFolder, FolderCaptured, FolderErased, RunsCaptured, RunsErased, Wrote, WroteOrCut, WroteOrCutOnShelf}
-use Rattle.flux_cli.specs.Commands.{AreWordsOf, AskFor, words_of}
-use Rattle.flux_cli.specs.DisksWork.{disk_work, refusal_of, status_of}
-use Rattle.flux_cli.specs.Runs.{Finished, Outside, Says, growth}
+use Rattle.law_captured_disks.specs.Headline.{DecodesRest, DecodesWhole}
+use Rattle.law_captured_disks.specs.Inputs.{IsCapturedDisk, IsErasedDisk}
+use Rattle.flux_engine.specs.Disks.{Decoded}
+use Rattle.flux_engine.specs.Rings.{IsImage}
+use Rattle.flux_cli.specs.Captured.{DecodesFolder, FolderCaptured, FolderErased, RunsCaptured, RunsErased, Wrote, WroteOrCut, WroteOrCutOnShelf}
+use Rattle.flux_cli.specs.Commands.{words_of}
+use Rattle.flux_cli.specs.Headlines.{Gave, GaveOrCut, IsExpected, IsOfDecoded, WasRead}
+use Rattle.flux_cli.specs.Runs.{Outside, Says, growth}
 use Rattle.flux_cli.specs.FolderRuns.{Began, DidBy, DoesFolder, OnShelf, Ran, RanBy, ShelfMoment, Surroundings, as_source, on_shelf, over_shelf}
 use Rattle.flux_cli.specs.FolderWords.{NamesFolder, folder_words}
-use Rattle.flux_cli.specs.Work.{Got, Outcome}
-use Rattle.flux_cli.specs.declared.command.Command.{Command}
+use Rattle.flux_cli.specs.Work.{Got}
 use Rattle.flux_cli.specs.declared.command.Command.TheVariants.{Decode}
 use Rattle.flux_cli.specs.declared.command.Output.TheVariants.{ImageAndReport}
-use Rattle.flux_cli.proofs.Outcomes.{format_word, one_command}
-
-asked_is : WordsNameFormats → (words : List (List ℕ)) (command : Command) (asked : Option Command) → AreWordsOf command words → AskFor words asked → asked ≡ Some command
-asked_is names words command None are asks = absurd (asks command are)
-asked_is names words command (Some other) are asks = ap Some (one_command names words other command asks are)
-
-some_input : (x y : List ℕ) → Some x ≡ Some y → x ≡ y
-some_input x y same = cc
-
-good_status : (totals : Totals) (stop : Option Stop) → stop ≡ None → totals.good ≡ totals.sectors → status_of totals stop ≡ AllGood
-good_status totals stop none all =
-    ap (status_of totals) none ∙ ap (λ (b : Bool). if b then AllGood else NotAllGood) (eq-eqb totals.good totals.sectors all)
+use Rattle.flux_cli.proofs.Headlines.{Laws, expected, gave_or_cut, runs_as_expected}
+use Rattle.flux_cli.proofs.Outcomes.{format_word}
 
 -- what follows from a run that is done
 with_done : {S W N : Type 0} (before after : Outside S W N) (Done Done' : Status → Type 0) → ((s : Status) → Done s → Done' s)
@@ -50,9 +37,6 @@ with_done before after Done Done' f NotesFault w = w
 with_done before after Done Done' f Memory w = w
 with_done before after Done Done' f ShelfFault w = w
 
-two_are_not_three : (n : ℕ) → n ≡ 2 → n ≡ 3 → ⊥
-two_are_not_three n two three = omega (arith, two, three)
-
 some_none : (n : ℕ) → Some n ≡ None → ⊥
 some_none n same = cc
 
@@ -60,97 +44,56 @@ abbrev third_word : List (List ℕ) → List ℕ
 third_word (verb ∷ word ∷ folder ∷ words) = folder
 third_word words = []
 
-module _ {S W N : Type 0} (before after : Outside S W N) (format : Format) (x : List ℕ) (told : before.source.bytes ≡ Some x) where
-  -- a run that finished wrote what the input comes to
-  record Came (status : Status) : Type 0 where
-    decoded : Decoded
-    is : IsDecoded format x decoded
-    status_is : status ≡ status_of decoded.totals decoded.stop
-    image_got : Got (growth before.image after.image) decoded.image
-    notes_got : Got (growth before.notes after.notes) (decoded.notes ++ refusal_of decoded.stop)
-
-  came : (status : Status) → Finished (disk_work ImageAndReport format) status before after → Came status
-  came status done =
-      let d = done.gives in
-      let whole : x ≡ done.taken ++ done.later = (done.input x told).0 in
-      record {
-        decoded = d.0;
-        is = subst (λ (y : List ℕ). IsDecoded format y d.0) (sym whole) d.1;
-        status_is = done.status_is ∙ ap (λ (o : Outcome). o.status) d.2;
-        image_got = subst (λ (o : Outcome). Got (growth before.image after.image) o.image) d.2 done.image_got;
-        notes_got = subst (λ (o : Outcome). Got (growth before.notes after.notes) o.notes) d.2 done.notes_got;
-      }
-
-  wrote : (Holds : Decoded → Type 0) (status : Status) (c : Came status) → c.decoded.stop ≡ None → Holds c.decoded → Wrote Holds before after
-  wrote Holds status c none holds = record {
-    decoded = c.decoded;
-    image_got = c.image_got;
-    notes_got = subst (Got (growth before.notes after.notes)) (ap (λ (s : Option Stop). c.decoded.notes ++ refusal_of s) none ∙ append-nil c.decoded.notes) c.notes_got;
-    holds = holds;
+module _ {S W N : Type 0} (before after : Outside S W N) (format : Format) (image x : List ℕ) (is : IsImage format image) where
+  wrote : (Holds : Decoded → Type 0) (status : Status) (g : Gave (IsExpected (Decode format) x) status before after) → IsOfDecoded ImageAndReport Holds g.outcome
+      → Wrote Holds before after
+  wrote Holds status g of = record {
+    decoded = of.decoded;
+    image_got = subst (Got (growth before.image after.image)) of.image_is g.image_got;
+    notes_got = subst (Got (growth before.notes after.notes)) of.notes_are g.notes_got;
+    holds = of.holds;
   }
 
-  -- what holds of all that such an input comes to
-  module _ (Done : Status → Type 0) (from : (status : Status) → Came status → WroteOrCut Done status before after) where
-    finished_or_cut : (status : Status) → Says (Some (Decode format)) status before after → WroteOrCut Done status before after
-    finished_or_cut AllGood s = from AllGood (came AllGood s)
-    finished_or_cut NotAllGood s = from NotAllGood (came NotAllGood s)
-    finished_or_cut Refused s = from Refused (came Refused s)
-    finished_or_cut Usage s = from Usage (came Usage s)
-    finished_or_cut ReadFault s = s.1
-    finished_or_cut ImageFault s = s.1
-    finished_or_cut NotesFault s = s.1
-    finished_or_cut Memory s = s.1
-    finished_or_cut ShelfFault s = absurd s
+  -- what was given of a captured disk
+  module _ (disk : IsCapturedDisk format image x) where
+    abbrev Captured : Status → Type 0
+    Captured done = (done ≡ AllGood) × Wrote (DecodesWhole format image) before after
 
-  module _ (image : List ℕ) where
-    captured_status : (status : Status) (c : Came status) → DecodesWhole format image c.decoded
-        → WroteOrCut (λ done. (done ≡ AllGood) × Wrote (DecodesWhole format image) before after) status before after
-    captured_status status c holds = by status c holds (c.status_is ∙ good_status c.decoded.totals c.decoded.stop holds.no_stop holds.all_good)
-      where
-        by : (s : Status) (d : Came s) → DecodesWhole format image d.decoded → s ≡ AllGood
-            → WroteOrCut (λ done. (done ≡ AllGood) × Wrote (DecodesWhole format image) before after) s before after
-        by AllGood d whole is = (refl, wrote (DecodesWhole format image) AllGood d whole.no_stop whole)
-        by NotAllGood d whole is = absurd (cc)
-        by Refused d whole is = absurd (cc)
-        by Usage d whole is = absurd (cc)
-        by ReadFault d whole is = absurd (cc)
-        by ImageFault d whole is = absurd (cc)
-        by NotesFault d whole is = absurd (cc)
-        by Memory d whole is = absurd (cc)
-        by ShelfFault d whole is = absurd (cc)
+    captured_of : (status : Status) → GaveOrCut (IsExpected (Decode format) x) status before after → WroteOrCut Captured status before after
+    captured_of AllGood g = (refl, wrote (DecodesWhole format image) AllGood g (g.holds.captured image is disk).1)
+    captured_of NotAllGood g = (let other : NotAllGood ≡ AllGood = g.status_is ∙ (g.holds.captured image is disk).0 in absurd (cc))
+    captured_of Refused g = (let other : Refused ≡ AllGood = g.status_is ∙ (g.holds.captured image is disk).0 in absurd (cc))
+    captured_of Usage g = (let other : Usage ≡ AllGood = g.status_is ∙ (g.holds.captured image is disk).0 in absurd (cc))
+    captured_of ReadFault g = g
+    captured_of ImageFault g = g
+    captured_of NotesFault g = g
+    captured_of Memory g = g
+    captured_of ShelfFault g = g
 
-    erased_status : (disk : IsErasedDisk format image x) (status : Status) (c : Came status) → DecodesRest format image x c.decoded disk
-        → WroteOrCut (λ done. Wrote (λ o. DecodesRest format image x o disk) before after) status before after
-    erased_status disk status c holds = by status c holds (c.status_is ∙ ap (status_of c.decoded.totals) holds.no_stop)
-      where
-        not_other : (s : Status) (b : Bool) → s ≡ (if b then AllGood else NotAllGood) → (s ≡ AllGood → ⊥) → (s ≡ NotAllGood → ⊥) → ⊥
-        not_other s true is first second = first is
-        not_other s false is first second = second is
+  -- and of one that is erased in parts
+  module _ (disk : IsErasedDisk format image x) where
+    abbrev Erased : Status → Type 0
+    Erased done = Wrote (λ o. DecodesRest format image x o disk) before after
 
-        by : (s : Status) (d : Came s) → DecodesRest format image x d.decoded disk → s ≡ status_of d.decoded.totals None
-            → WroteOrCut (λ done. Wrote (λ o. DecodesRest format image x o disk) before after) s before after
-        by AllGood d rest is = wrote (λ o. DecodesRest format image x o disk) AllGood d rest.no_stop rest
-        by NotAllGood d rest is = wrote (λ o. DecodesRest format image x o disk) NotAllGood d rest.no_stop rest
-        by Refused d rest is = absurd (not_other Refused (d.decoded.totals.good == d.decoded.totals.sectors) is (λ e. cc) (λ e. cc))
-        by Usage d rest is = absurd (not_other Usage (d.decoded.totals.good == d.decoded.totals.sectors) is (λ e. cc) (λ e. cc))
-        by ReadFault d rest is = absurd (not_other ReadFault (d.decoded.totals.good == d.decoded.totals.sectors) is (λ e. cc) (λ e. cc))
-        by ImageFault d rest is = absurd (not_other ImageFault (d.decoded.totals.good == d.decoded.totals.sectors) is (λ e. cc) (λ e. cc))
-        by NotesFault d rest is = absurd (not_other NotesFault (d.decoded.totals.good == d.decoded.totals.sectors) is (λ e. cc) (λ e. cc))
-        by Memory d rest is = absurd (not_other Memory (d.decoded.totals.good == d.decoded.totals.sectors) is (λ e. cc) (λ e. cc))
-        by ShelfFault d rest is = absurd (not_other ShelfFault (d.decoded.totals.good == d.decoded.totals.sectors) is (λ e. cc) (λ e. cc))
+    erased_of : (status : Status) → GaveOrCut (IsExpected (Decode format) x) status before after → WroteOrCut Erased status before after
+    erased_of AllGood g = wrote (λ o. DecodesRest format image x o disk) AllGood g (g.holds.erased image is disk).1
+    erased_of NotAllGood g = wrote (λ o. DecodesRest format image x o disk) NotAllGood g (g.holds.erased image is disk).1
+    erased_of Refused g = subst WasRead (sym g.status_is) (g.holds.erased image is disk).0
+    erased_of Usage g = subst WasRead (sym g.status_is) (g.holds.erased image is disk).0
+    erased_of ReadFault g = g
+    erased_of ImageFault g = g
+    erased_of NotesFault g = g
+    erased_of Memory g = g
+    erased_of ShelfFault g = g
 
-module _ (names : WordsNameFormats) {S W N H : Type 0} (words : List (List ℕ)) (status : Status) (before after : Surroundings S W N H) (ran : Ran words status before after) where
-  -- what was done for `decode`
-  says : (format : Format) → words ≡ words_of (Decode format) → Says (Some (Decode format)) status before.outside after.outside
-  says format are = by ran.folder ran.names ran.did
-    where
-      by : (folder : Option (Format × List ℕ)) → NamesFolder words folder → RanBy folder words status before after
-          → Says (Some (Decode format)) status before.outside after.outside
-      by None none did =
-          subst (λ (asked : Option Command). Says asked status before.outside after.outside)
-          (asked_is names words (Decode format) did.0.asked are did.0.asks) did.0.does.says
-      by (Some named) named_is did = absurd (two_are_not_three (length words) (ap length are) (ap length named_is.0))
+-- what a run of `decode` gave
+decode_gave : Laws → {S W N : Type 0} (before after : Outside S W N) (format : Format) (x : List ℕ) → before.source.bytes ≡ Some x → (status : Status)
+    → Says (Some (Decode format)) status before after → GaveOrCut (IsExpected (Decode format) x) status before after
+decode_gave laws before after format x told status says =
+    gave_or_cut before after (Decode format) x told (IsExpected (Decode format) x)
+    (λ o gives. expected laws x o (Decode format) (words_of (Decode format)) refl gives) status says
 
+module _ (laws : Laws) {S W N H : Type 0} (words : List (List ℕ)) (status : Status) (before after : Surroundings S W N H) (ran : Ran words status before after) where
   -- what was done for `decode-folder`
   folder_did : (format : Format) (folder : List ℕ) → words ≡ folder_words format folder → folder ≢ []
       → DoesFolder format folder status (on_shelf before) (on_shelf after)
@@ -161,20 +104,18 @@ module _ (names : WordsNameFormats) {S W N H : Type 0} (words : List (List ℕ))
       by None none did = absurd (none format folder some are)
       by (Some named) named_is did =
           let same : folder_words named.0 named.1 ≡ folder_words format folder = sym named_is.0 ∙ are in
-          subst (λ (f : Format). DoesFolder f folder status (on_shelf before) (on_shelf after)) (names named.0 format (ap format_word same))
+          subst (λ (f : Format). DoesFolder f folder status (on_shelf before) (on_shelf after)) (laws.names named.0 format (ap format_word same))
           (subst (λ (n : List ℕ). DoesFolder named.0 n status (on_shelf before) (on_shelf after)) (ap third_word same) did.0)
 
-  pub runs_captured : CapturedDisksDecode → RunsCaptured words status before.outside after.outside
-  runs_captured laws format image x decodes is captured =
-      finished_or_cut before.outside after.outside format x decodes.input (λ done. (done ≡ AllGood) × Wrote (DecodesWhole format image) before.outside after.outside)
-      (λ s c. captured_status before.outside after.outside format x decodes.input image s c (laws format image x c.decoded is captured c.is)) status
-      (says format decodes.words_are)
+  pub runs_captured : RunsCaptured words status before.outside after.outside
+  runs_captured format image x decodes is disk =
+      captured_of before.outside after.outside format image x is disk status
+      (runs_as_expected laws words status before after ran (Decode format) x decodes.words_are decodes.input)
 
-  pub runs_erased : ErasedDisksDecode → RunsErased words status before.outside after.outside
-  runs_erased laws format image x decodes is disk =
-      finished_or_cut before.outside after.outside format x decodes.input (λ done. Wrote (λ o. DecodesRest format image x o disk) before.outside after.outside)
-      (λ s c. erased_status before.outside after.outside format x decodes.input image disk s c (laws format image x c.decoded is disk c.is)) status
-      (says format decodes.words_are)
+  pub runs_erased : RunsErased words status before.outside after.outside
+  runs_erased format image x decodes is disk =
+      erased_of before.outside after.outside format image x is disk status
+      (runs_as_expected laws words status before after ran (Decode format) x decodes.words_are decodes.input)
 
   -- what was written over the shelf that `begin` left was written over it as it was before
   rewrote : {Holds : Decoded → Type 0} (shelf : ShelfMoment H) → Wrote Holds (as_source (record (on_shelf before) { shelf = shelf })) (as_source (on_shelf after))
@@ -225,26 +166,20 @@ module _ (names : WordsNameFormats) {S W N H : Type 0} (words : List (List ℕ))
         by (inl memory) = on_memory status memory.0 memory.1
         by (inr did) = by_answer did.answer did.shelf did.began did.did
 
-  pub folder_captured : CapturedDisksDecode → FolderCaptured words status (on_shelf before) (on_shelf after)
-  folder_captured laws format image x decodes is captured =
-      all format x decodes (λ done. (done ≡ AllGood) × Wrote (DecodesWhole format image) (as_source (on_shelf before)) (as_source (on_shelf after)))
+  pub folder_captured : FolderCaptured words status (on_shelf before) (on_shelf after)
+  folder_captured format image x decodes is disk =
+      all format x decodes (Captured (as_source (on_shelf before)) (as_source (on_shelf after)) format image x is disk)
       (λ shelf told inner says.
       let mid = as_source (record (on_shelf before) { shelf = shelf }) in
       let end = as_source (on_shelf after) in
-      with_done mid end (λ done. (done ≡ AllGood) × Wrote (DecodesWhole format image) mid end)
-      (λ done. (done ≡ AllGood) × Wrote (DecodesWhole format image) (as_source (on_shelf before)) end)
-      (λ s d. (d.0, rewrote shelf d.1)) inner
-      (finished_or_cut mid end format x told (λ done. (done ≡ AllGood) × Wrote (DecodesWhole format image) mid end)
-      (λ s c. captured_status mid end format x told image s c (laws format image x c.decoded is captured c.is)) inner says))
+      with_done mid end (Captured mid end format image x is disk) (Captured (as_source (on_shelf before)) end format image x is disk)
+      (λ s d. (d.0, rewrote shelf d.1)) inner (captured_of mid end format image x is disk inner (decode_gave laws mid end format x told inner says)))
 
-  pub folder_erased : ErasedDisksDecode → FolderErased words status (on_shelf before) (on_shelf after)
-  folder_erased laws format image x decodes is disk =
-      all format x decodes (λ done. Wrote (λ o. DecodesRest format image x o disk) (as_source (on_shelf before)) (as_source (on_shelf after)))
+  pub folder_erased : FolderErased words status (on_shelf before) (on_shelf after)
+  folder_erased format image x decodes is disk =
+      all format x decodes (Erased (as_source (on_shelf before)) (as_source (on_shelf after)) format image x is disk)
       (λ shelf told inner says.
       let mid = as_source (record (on_shelf before) { shelf = shelf }) in
       let end = as_source (on_shelf after) in
-      with_done mid end (λ done. Wrote (λ o. DecodesRest format image x o disk) mid end)
-      (λ done. Wrote (λ o. DecodesRest format image x o disk) (as_source (on_shelf before)) end)
-      (λ s w. rewrote shelf w) inner
-      (finished_or_cut mid end format x told (λ done. Wrote (λ o. DecodesRest format image x o disk) mid end)
-      (λ s c. erased_status mid end format x told image disk s c (laws format image x c.decoded is disk c.is)) inner says))
+      with_done mid end (Erased mid end format image x is disk) (Erased (as_source (on_shelf before)) end format image x is disk)
+      (λ s w. rewrote shelf w) inner (erased_of mid end format image x is disk inner (decode_gave laws mid end format x told inner says)))

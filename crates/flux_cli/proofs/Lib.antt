@@ -8,8 +8,10 @@ pub mod MapRun
 pub mod TurnsRun
 pub mod Runs
 pub mod Outcomes
+pub mod Headlines
 pub mod Captured
 pub mod TrialRun
 pub mod PagesRun
 pub mod Digits
 pub mod FolderRun
+pub mod DumpWords

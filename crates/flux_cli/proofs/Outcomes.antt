@@ -19,6 +19,7 @@ use Rattle.sector_images.specs.declared.format.Format.{Format}
 use Rattle.sector_report.specs.Lines.{trial_text}
 use Rattle.flux_cli.specs.Commands.{AreWordsOf, AskFor}
 use Rattle.flux_cli.specs.DisksWork.{disk_outcome}
+use Rattle.flux_cli.specs.FolderWords.{folder_words}
 use Rattle.flux_cli.specs.G64Disks.{format_of}
 use Rattle.flux_cli.specs.G64Work.{from_g64_outcome}
 use Rattle.flux_cli.specs.MapWork.{map_outcome}
@@ -230,6 +231,21 @@ one_command names words (Map m) (Tell page) first second = absurd (no_page page 
 one_command names words (Tell page) (Map m) first second = absurd (no_page page words _ refl first second)
 one_command names words (Rescue f) (Map m) first second = absurd (differ 29285 28001 refl (ap letters (sym first ∙ second)))
 one_command names words (Map m) (Rescue f) first second = absurd (differ 28001 29285 refl (ap letters (sym first ∙ second)))
+
+-- and those that name a folder for none
+pub no_folder : (command : Command) (words : List (List ℕ)) → AreWordsOf command words → (format : Format) (folder : List ℕ)
+    → words ≡ folder_words format folder → ⊥
+no_folder Turns words are format folder same = differ 1 3 refl (ap length (sym are ∙ same))
+no_folder (Decode f) words are format folder same = differ 2 3 refl (ap length (sym are ∙ same))
+no_folder (Report f) words are format folder same = differ 2 3 refl (ap length (sym are ∙ same))
+no_folder (Map f) words are format folder same = differ 2 3 refl (ap length (sym are ∙ same))
+no_folder (Write f) words are format folder same = differ 2 3 refl (ap length (sym are ∙ same))
+no_folder (Trial f s) words are format folder same = differ 29810 25701 refl (ap letters (sym are.1 ∙ same))
+no_folder (ToG64 disk) words are format folder same = differ 2 3 refl (ap length (sym are ∙ same))
+no_folder (FromG64 disk) words are format folder same = differ 2 3 refl (ap length (sym are ∙ same))
+no_folder (DecodeSet f c) words are format folder same = differ 10 13 refl (ap first_size (sym are.1 ∙ same))
+no_folder (Rescue f) words are format folder same = differ 2 3 refl (ap length (sym are ∙ same))
+no_folder (Tell page) words are format folder same = no_page page words (folder_words format folder) refl are same
 
 -- words ask for one thing at most
 one_asked : WordsNameFormats → (words : List (List ℕ)) (a b : Option Command) → AskFor words a → AskFor words b → a ≡ b

@@ -5,8 +5,8 @@ use Rattle.flux_base.specs.declared.status.Status.{Status}
 use Rattle.flux_base.specs.declared.status.Status.TheVariants.{AllGood, NotAllGood, Refused, Usage, ReadFault, ImageFault, NotesFault, Memory, ShelfFault}
 use Rattle.sector_images.specs.declared.format.Format.{Format}
 use Rattle.track_shelf.specs.Files.{File, first_missing, joined}
-use Rattle.captured_disks.specs.Headline.{DecodesRest, DecodesWhole}
-use Rattle.captured_disks.specs.Inputs.{IsCapturedDisk, IsErasedDisk}
+use Rattle.law_captured_disks.specs.Headline.{DecodesRest, DecodesWhole}
+use Rattle.law_captured_disks.specs.Inputs.{IsCapturedDisk, IsErasedDisk}
 use Rattle.flux_engine.specs.Disks.{Decoded}
 use Rattle.flux_engine.specs.Rings.{IsImage}
 use Rattle.flux_cli.specs.Commands.{words_of}

@@ -3,6 +3,8 @@ pub mod Seeds
 pub mod Counts
 pub mod Commands
 pub mod FolderWords
+pub mod DumpWords
+pub mod DumpParts
 pub mod Turns
 pub mod Work
 pub mod TurnsWork
@@ -19,3 +21,4 @@ pub mod PlanRuns
 pub mod DisksRuns
 pub mod FolderRuns
 pub mod Captured
+pub mod Headlines

@@ -4,6 +4,7 @@ ghost use Rattle.flux_base.specs.declared.status.Status.{Status};
 ghost use Rattle.flux_cli.specs.Captured.{FolderCaptured, FolderErased, RunsCaptured, RunsErased};
 ghost use Rattle.flux_cli.specs.Commands.{command_for};
 ghost use Rattle.flux_cli.specs.FolderRuns.{Ran, on, shelf_moment, surroundings};
+ghost use Rattle.flux_cli.specs.Headlines.{RunsAsExpected};
 ghost use Rattle.flux_cli.specs.Runs.{Does, RanOverSource, outside};
 ghost use Rattle.flux_cli.specs.declared.command.Command.TheVariants.{DecodeSet, FromG64, Map, Rescue, ToG64, Trial, Turns, Write};
 ghost use Rattle.kryo_stream.specs.Room.{IsFresh};
@@ -19,12 +20,14 @@ use crate::pages::tell;
 use crate::planned::{decode_captures, rescue};
 use crate::trial::trial;
 use crate::turns::write_turns;
-use captured_disks::captured_disks_decode;
 use flux_base::{Memory, Sink, Source, Status, Word, write_whole};
 use flux_engine::{DiskRoom, WriteRoom};
-use flux_trial::TrialRoom;
-use g64_image::G64Room;
+use flux_trial::{TrialRoom, whole_trials_have_one_line};
+use g64_image::{G64Room, written_files_come_back};
 use kryo_stream::{RoomFault, StreamRoom};
+use law_captured_disks::captured_disks_decode;
+use law_captured_rescues::{captured_disks_are_rescued, steady_disks_are_rescued};
+use law_captured_sets::captured_sets_decode;
 use sector_images::{Format, words_name_formats};
 use sector_report::{refused_line, usage_line, write_line};
 use std::alloc::Global;
@@ -63,6 +66,14 @@ pub fn run<S: Source, W: Sink, N: Sink, H: Shelf>(
         (outside (moment S.left S.faults source.old) (S.given source.old) (moment W.written W.faults image.old) (moment N.written N.faults notes.old))
         (outside (moment S.left S.faults source.new) (S.given source.new) (moment W.written W.faults image.new) (moment N.written N.faults notes.new)) }
 
+    // So it is with the words whose inputs the laws speak of: `report` writes such a disk's report; a captured set comes to the
+    // image, a sector good that one capture has whole; `rescue` calls a captured disk's sectors good with their own bytes or
+    // contradictory, and all good where the drive keeps its speed; a file that was written of an image comes back by
+    // `from-g64`; and a trial of a number without a hole prints the line that is known beforehand.
+    ensures expected { RunsAsExpected words.now result
+        (outside (moment S.left S.faults source.old) (S.given source.old) (moment W.written W.faults image.old) (moment N.written N.faults notes.old))
+        (outside (moment S.left S.faults source.new) (S.given source.new) (moment W.written W.faults image.new) (moment N.written N.faults notes.new)) }
+
     // The same of `decode-folder`, where the files of a folder are such streams and none is missing.
     ensures folder_captured { FolderCaptured words.now result
         (on (shelf_moment (moment H.left H.faults shelf.old) (H.given shelf.old) (H.files shelf.old)) (moment W.written W.faults image.old) (moment N.written N.faults notes.old))
@@ -73,6 +84,11 @@ pub fn run<S: Source, W: Sink, N: Sink, H: Shelf>(
 {
     words_name_formats();
     captured_disks_decode();
+    captured_sets_decode();
+    captured_disks_are_rescued();
+    steady_disks_are_rescued();
+    written_files_come_back();
+    whole_trials_have_one_line();
     run_words(alloc, words, source, image, notes, shelf)
 }
 

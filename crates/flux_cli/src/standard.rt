@@ -19,6 +19,13 @@ impl<R: Read> StdSource<R> {
     {
         StdSource { reader, faults: 0 }
     }
+
+    /// How often it failed.
+    pub(crate) fn faults(&self) -> u64
+        ensures { result ≡ self.now.faults }
+    {
+        self.faults
+    }
 }
 
 impl<R: Read> Source for StdSource<R> {

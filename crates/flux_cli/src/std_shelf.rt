@@ -21,9 +21,8 @@ struct Wanted {
     number: u32,
 }
 
-/// The files of the system as a shelf. One is open at a time, and no memory is taken. Each error of std is counted as a
-/// fault, save where `begin` and `open_file` do not find a file; so is a name that is no text, and a path of more than
-/// 4096 bytes. A folder in the place of a track's file fails when it is read. It tells no bytes and no files.
+/// The files of the system as a shelf. No memory is taken. Each error of std is counted as a fault, save where `begin` and
+/// `open_file` do not find a file; so is a name that is no text, and a path of more than 4096 bytes. A folder in the place of a track's file fails when it is read. It tells no bytes and no files.
 #[derive(Drop)]
 pub struct StdShelf<'a, R: Files> {
     files: &'a R,
@@ -88,21 +87,6 @@ impl<'a, R: Files> StdShelf<'a, R> {
             }
             // It was there when `begin` looked.
             Ok(None) => Err(Failed),
-            Err(failed) => Err(failed),
-        }
-    }
-
-    /// Opens a track's file of a dump, in place of all that was to be read, where it is found. Says whether it is.
-    fn open_one(&mut self, dump: &[u8], track: TrackId) -> Result<bool, Failed>
-        ensures { self.new.faults ≡ self.old.faults }
-    {
-        match open_path(self.files, &TrackPath::of_dump(dump, track)) {
-            Ok(file) => {
-                let there = file.is_some();
-                self.wanted = None;
-                self.open = file.map(StdSource::new);
-                Ok(there)
-            }
             Err(failed) => Err(failed),
         }
     }
@@ -194,6 +178,8 @@ impl<'a, R: Files> Source for StdShelf<'a, R> {
 }
 
 impl<'a, R: Files> Shelf for StdShelf<'a, R> {
+    type File = StdSource<R::File>;
+
     fn begin(&mut self, folder: &[u8], format: Format) -> Result<Option<u32>, Failed> {
         let answer = self.look(folder, format);
         if answer.is_err() {
@@ -202,11 +188,22 @@ impl<'a, R: Files> Shelf for StdShelf<'a, R> {
         answer
     }
 
-    fn open_file(&mut self, dump: &[u8], track: TrackId) -> Result<bool, Failed> {
-        let answer = self.open_one(dump, track);
-        if answer.is_err() {
-            self.faults = self.faults.saturating_add(1);
+    fn open_file(
+        &mut self,
+        dump: &[u8],
+        track: TrackId,
+    ) -> Result<Option<StdSource<R::File>>, Failed> {
+        match open_path(self.files, &TrackPath::of_dump(dump, track)) {
+            Ok(Some(file)) => Ok(Some(StdSource::new(file))),
+            Ok(None) => Ok(None),
+            Err(failed) => {
+                self.faults = self.faults.saturating_add(1);
+                Err(failed)
+            }
         }
-        answer
+    }
+
+    fn close_file(&mut self, file: StdSource<R::File>) {
+        self.faults = self.faults.saturating_add(file.faults());
     }
 }

@@ -10,11 +10,9 @@ use Rattle.flux_writer.specs.Written.{cell_time, ones_of, quarter, stream_of, tr
 use Rattle.track_rings.specs.Rings.{AreNeighbours, cell_of, last_in}
 use Rattle.flux_engine.specs.Captures.{Capture, IsSteady, mean_cell}
 use Rattle.phase_loop.specs.Carried.{AreClose, Carried, DRIFT, OFF_MEAN, OFF_SPEED, OFF_START}
-use Rattle.flux_engine.specs.lemmas.Chosen.{AreChosen, are_chosen}
-use Rattle.flux_engine.specs.lemmas.Repeated.{begin, own_cell, same_later, written_length, written_runs}
-
-mapped : (f : ℕ → ℕ) (xs : List ℕ) (i : ℕ) → i < length xs → slice_index (map f xs) i ≡ f (slice_index xs i)
-mapped f xs i within = get_or-map f xs i 0 0 within
+use Rattle.track_rings.specs.lemmas.Near.{own_cell, same_later}
+use Rattle.flux_engine.specs.lemmas.Repeated.{begin, written_length, written_runs}
+use Rattle.flux_engine.specs.lemmas.WrittenOnes.{chosen, mapped, neighbours, one_here, place_of}
 
 -- a time in ticks is at most a tick before what it stands for
 time_near : (fine nominal : ℕ) → 8184 ≤ nominal → 8 * abs_diff (1024 * (fine / 1024) + nominal) (fine + nominal) ≤ nominal
@@ -61,45 +59,14 @@ module _ (ring : List Bool) (nominal : ℕ) where
   abbrev is_one : ℕ → Bool
   is_one K = get_or (track_cells ring) K false
 
-  chosen : AreChosen is_one 0 (length (track_cells ring)) ones
-  chosen =
-      let count : ℕ = length (track_cells ring) in
-      let all : 0 + count ≡ count = omega arith in
-      subst (λ (end : ℕ). AreChosen is_one 0 end ones) all (are_chosen is_one 0 count)
-
-  abbrev place_of : ℕ → ℕ
-  place_of K = begin ring + K
-
   abbrev ideal_of : ℕ → ℕ
   ideal_of K = (K + 2) * nominal
 
-  -- each one of the written cells
-  one_here : (i : ℕ) → i < length ones → cell_of ring (place_of (slice_index ones i)) ≡ true
-  one_here i within =
-      sym (written_runs ring (slice_index ones i) (chosen.to i within)) ∙ chosen.passes i within
-
-  neighbours : (i : ℕ) → suc i < length ones
-      → AreNeighbours ring (place_of (slice_index ones i)) (place_of (slice_index ones (suc i)) - place_of (slice_index ones i))
-  neighbours i within =
-      let here : ℕ = slice_index ones i in
-      let next : ℕ = slice_index ones (suc i) in
-      let rises : here < next = chosen.rises i within in
-      let joined : place_of here + (place_of next - place_of here) ≡ place_of next = omega (arith, rises) in record {
-        first = one_here i (omega (arith, within));
-        next = subst (λ (n : ℕ). cell_of ring n ≡ true) (sym joined) (one_here (suc i) within);
-        behind = omega (arith, rises);
-        zeros = λ k some under.
-            let to = chosen.to (suc i) within in
-            let at : begin ring + (here + k) ≡ place_of here + k = omega arith in
-            ap (cell_of ring) (sym at) ∙ sym (written_runs ring (here + k) (omega (arith, to, under, rises)))
-            ∙ chosen.between i (here + k) within (omega (arith, some)) (omega (arith, under, rises));
-      }
-
   -- so many cells further
-  further : (here next : ℕ) → here < next → ideal_of next ≡ ideal_of here + (place_of next - place_of here) * nominal
+  further : (here next : ℕ) → here < next → ideal_of next ≡ ideal_of here + (place_of ring next - place_of ring here) * nominal
   further here next rises =
       let steps : ℕ = next - here in
-      let same : place_of next - place_of here ≡ steps = omega arith in
+      let same : place_of ring next - place_of ring here ≡ steps = omega arith in
       let joined : here + steps ≡ next = omega (arith, rises) in
       ap ideal_of (sym joined) ∙ (omega arith)
       ∙ ap (λ (n : ℕ). ideal_of here + n * nominal) (sym same)
@@ -111,7 +78,7 @@ module _ (ring : List Bool) (nominal : ℕ) where
       subst (λ (n : ℕ). 8 * abs_diff (1024 * (fine / 1024) + nominal) n ≤ nominal) same (time_near fine nominal least)
 
   abbrev places : List ℕ
-  places = map place_of ones
+  places = map (place_of ring) ones
 
   abbrev periods : List ℕ
   periods = map (λ (K : ℕ). nominal) ones
@@ -119,16 +86,16 @@ module _ (ring : List Bool) (nominal : ℕ) where
   carried : 16384 ≤ nominal → Carried (map (cell_time nominal) ones) ring nominal places periods
   carried least =
       let size : length (map (cell_time nominal) ones) ≡ length ones = length-map ones (cell_time nominal) in record {
-        each_place = length-map ones place_of ∙ sym size;
+        each_place = length-map ones (place_of ring) ∙ sym size;
         each_period = length-map ones (λ (K : ℕ). nominal) ∙ sym size;
         ones = λ i within.
             let here : i < length ones = omega (arith, within, size) in
-            ap (cell_of ring) (mapped place_of ones i here) ∙ one_here i here;
+            ap (cell_of ring) (mapped (place_of ring) ones i here) ∙ one_here ring i here;
         consecutive = λ i within.
             let after : suc i < length ones = omega (arith, within, size) in
-            let here = mapped place_of ones i (omega (arith, after)) in
-            let next = mapped place_of ones (suc i) after in
-            rw (add-one i, here, next) (neighbours i after);
+            let here = mapped (place_of ring) ones i (omega (arith, after)) in
+            let next = mapped (place_of ring) ones (suc i) after in
+            rw (add-one i, here, next) (neighbours ring i after);
         ideal = map ideal_of ones;
         spaced = λ i within.
             let after : suc i < length ones = omega (arith, within, size) in
@@ -137,11 +104,11 @@ module _ (ring : List Bool) (nominal : ℕ) where
               add-one i,
               mapped ideal_of ones i before,
               mapped ideal_of ones (suc i) after,
-              mapped place_of ones i before,
-              mapped place_of ones (suc i) after,
+              mapped (place_of ring) ones i before,
+              mapped (place_of ring) ones (suc i) after,
               mapped (λ (K : ℕ). nominal) ones i before,
             )
-            (further (slice_index ones i) (slice_index ones (suc i)) (chosen.rises i after));
+            (further (slice_index ones i) (slice_index ones (suc i)) ((chosen ring).rises i after));
         near_speed = λ i within.
             rw (mapped (λ (K : ℕ). nominal) ones i (omega (arith, within, size))) (no_difference OFF_SPEED nominal);
         steady = λ i within.
@@ -178,17 +145,17 @@ module _ (ring : List Bool) (nominal : ℕ) where
         ∙ same_later ring early.0 ∙ early_cell
 
     some_ones : (0 < length ones) × (slice_index ones 0 ≤ first_K)
-    some_ones = chosen.first first_K (omega arith) (omega (arith, written_length ring, early.2)) first_is_one
+    some_ones = (chosen ring).first first_K (omega arith) (omega (arith, written_length ring, early.2)) first_is_one
 
     two_turns : slice_index places 0 + 2 * length ring ≤ last_in places
     two_turns =
         let some = some_ones.0 in
         let late : last_K ≤ slice_index ones (length ones - 1) =
-        chosen.last last_K (omega arith) (omega (arith, written_length ring, early.2)) last_is_one in
-        let size : length places ≡ length ones = length-map ones place_of in
-        let first = mapped place_of ones 0 some in
-        let last = mapped place_of ones (length ones - 1) (omega (arith, some)) in
-        let end : last_in places ≡ place_of (slice_index ones (length ones - 1)) = ap (λ (m : ℕ). slice_index places (m - 1)) size ∙ last in
+        (chosen ring).last last_K (omega arith) (omega (arith, written_length ring, early.2)) last_is_one in
+        let size : length places ≡ length ones = length-map ones (place_of ring) in
+        let first = mapped (place_of ring) ones 0 some in
+        let last = mapped (place_of ring) ones (length ones - 1) (omega (arith, some)) in
+        let end : last_in places ≡ place_of ring (slice_index ones (length ones - 1)) = ap (λ (m : ℕ). slice_index places (m - 1)) size ∙ last in
         omega (arith, first, end, late, some_ones.1)
 
   start : 1024 ≤ length ring → 16384 ≤ nominal

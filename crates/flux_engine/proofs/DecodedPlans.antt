@@ -3,20 +3,21 @@ use Rattle.std.specs.Prelude.{◌≡◌, ℕ, ◌+◌, ◌*◌, List, [], ◌∷
 use Rattle.std.proofs.Common.{ap, sym, subst, ◌∙◌, arith, inl, inr}
 use Rattle.sector_images.specs.Places.{tracks}
 use Rattle.sector_images.specs.declared.format.Format.{Format}
+use Rattle.sector_report.specs.declared.naming.Naming.TheVariants.{Unnamed}
 use Rattle.flux_engine.specs.Answers.{DecodesDisk, EngineCause, IsOfBytesAtHand, IsTakenBehind, IsTruncated, SaysOfDisk, WroteAll}
 use Rattle.flux_engine.specs.Disks.{AreParts, Decoded, IsDecoded, IsPartAt, decoded_count, decoded_of, part_at}
 use Rattle.flux_engine.specs.PlanAnswers.{DecodesPlanned, IsOfBytesTaken, PlanAnswer, PlanCause, SaysOfPlanned, SaysTruncated, WrotePlanned, engine_answer}
 use Rattle.flux_engine.specs.Plans.{ArePlannedParts, IsFirstFault, IsPlanned, IsPlannedPart, PlanStop, Planned, StopsAt, decoding, planned_count, planned_of, streams_in}
-use Rattle.flux_engine.specs.Tracks.{TrackPart, part_of}
+use Rattle.flux_engine.specs.Tracks.{TrackPart, part_by}
 use Rattle.flux_engine.specs.declared.fault.PlanFault.TheVariants.{ReadFault, ImageFault, NotesFault, Refused}
 use Rattle.flux_engine.specs.lemmas.OneStream.{one_stream, plain_stop, stop_same}
 
-one_part : (format : Format) (x : List ℕ) (n : ℕ) (part : TrackPart) → IsPlannedPart decoding part_of format (streams_in decoding x) n part → IsPartAt format x n part
+one_part : (format : Format) (x : List ℕ) (n : ℕ) (part : TrackPart) → IsPlannedPart decoding (part_by Unnamed) format (streams_in decoding x) n part → IsPartAt format x n part
 one_part format x n part p =
-    let is = one_stream part_of format x n part p in
+    let is = one_stream (part_by Unnamed) format x n part p in
     record { no_fault = is.no_fault; comes = record { found = is.found; all = is.all; is = is.is } }
 
-one_parts : (format : Format) (x : List ℕ) (parts : List TrackPart) → ArePlannedParts decoding part_of format (streams_in decoding x) parts → AreParts format x parts
+one_parts : (format : Format) (x : List ℕ) (parts : List TrackPart) → ArePlannedParts decoding (part_by Unnamed) format (streams_in decoding x) parts → AreParts format x parts
 one_parts format x parts are = λ n low. one_part format x n (part_at parts n) (are n low)
 
 abbrev plain : Planned → Decoded
@@ -30,7 +31,7 @@ same_of : (parts : List TrackPart) (stop : Option PlanStop) → plain (planned_o
 same_of parts None = refl
 same_of parts (Some s) = refl
 
-is_decoded : (format : Format) (x : List ℕ) (o : Planned) → IsPlanned decoding part_of format (streams_in decoding x) o → IsDecoded format x (plain o)
+is_decoded : (format : Format) (x : List ℕ) (o : Planned) → IsPlanned decoding (part_by Unnamed) format (streams_in decoding x) o → IsDecoded format x (plain o)
 is_decoded format x o p =
     let stop = stop_same format x o.stop p.stops in
     record {
@@ -41,19 +42,19 @@ is_decoded format x o p =
     }
 
 module _ (format : Format) (x later : List ℕ) (image image' notes notes' : Option (List ℕ)) where
-  wrote_all : (o : Planned) → WrotePlanned decoding part_of format x image image' notes notes' o → WroteAll format x image image' notes notes' (plain o)
+  wrote_all : (o : Planned) → WrotePlanned decoding (part_by Unnamed) format x image image' notes notes' o → WroteAll format x image image' notes notes' (plain o)
   wrote_all o w = record { decoded = is_decoded format x o w.decoded; image_grew = w.image_grew; notes_grew = w.notes_grew }
 
   behind_one : (n m most : ℕ) → n ≡ m → IsTakenBehind x later n most → IsTakenBehind x later m most
   behind_one n m most same taken = subst (λ (k : ℕ). IsTakenBehind x later k most) same taken
 
   -- a stop names the one capture
-  first_capture : (o : Planned) (stop : PlanStop) → IsPlanned decoding part_of format (streams_in decoding x) o → o.stop ≡ Some stop → stop.capture ≡ 0
+  first_capture : (o : Planned) (stop : PlanStop) → IsPlanned decoding (part_by Unnamed) format (streams_in decoding x) o → o.stop ≡ Some stop → stop.capture ≡ 0
   first_capture o stop p is =
       let f : IsFirstFault decoding format (streams_in decoding x) stop = subst (StopsAt decoding format (streams_in decoding x)) is p.stops in
       omega (arith, f.few)
 
-  says_of_disk : (answer : PlanAnswer) → SaysOfPlanned decoding part_of format x later image image' notes notes' answer
+  says_of_disk : (answer : PlanAnswer) → SaysOfPlanned decoding (part_by Unnamed) format x later image image' notes notes' answer
       → SaysOfDisk format x later image image' notes notes' (engine_answer answer)
   says_of_disk (Ok totals) (o, wrote, none, are, taken) =
       (plain o, wrote_all o wrote, ap plain_stop none, are, behind_one (length (tracks format) * 1) (length (tracks format)) 4096 (omega arith) taken)
@@ -105,7 +106,7 @@ truncated (Err NotesFault) cannot = cannot
 truncated (Err (Refused track capture block fault)) is = is
 
 pub decodes_disk : (format : Format) (left left' image image' notes notes' : Option (List ℕ)) (answer : PlanAnswer)
-    → DecodesPlanned decoding part_of format left left' image image' notes notes' answer → DecodesDisk format left left' image image' notes notes' (engine_answer answer)
+    → DecodesPlanned decoding (part_by Unnamed) format left left' image image' notes notes' answer → DecodesDisk format left left' image image' notes notes' (engine_answer answer)
 decodes_disk format left left' image image' notes notes' answer d = record {
   taken = d.taken;
   consumed = d.consumed;

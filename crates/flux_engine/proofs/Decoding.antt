@@ -84,7 +84,7 @@ module _ (format : Format) (track : TrackId) (number : ℕ) (left left' : Option
             (one_capture format track c.times c.indexes readings c.noted.1) (wrote readings (c.noted.2 [] empty));
       }
 
-module _ (old start : RoomState) (number : ℕ) (is : start ≡ record old { started = number; captures = 0; book = start.book }) (left left' : Option (List ℕ)) where
+module _ (old start : RoomState) (number : ℕ) (is : start ≡ record old { started = number; captures = 0; book = start.book; passed = []; others = start.others }) (left left' : Option (List ℕ)) where
   -- nothing but the book is another one where a track was started
   pub from_start : (held' : List ℕ) (book : Knowledge) (answer : CaptureAnswer)
       → ReadsCapture start.format (track_at start.format number) 0 left left' start.used start.held held' start.book book answer

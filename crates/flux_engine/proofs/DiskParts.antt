@@ -22,7 +22,7 @@ use Rattle.flux_engine.specs.Streams.{has_fault, stream_at}
 use Rattle.flux_engine.specs.Tracks.{TrackPart, IsPart, image_of}
 use Rattle.flux_engine.specs.lemmas.Finding.{find-below}
 use Rattle.turn_merge.specs.declared.clock.Clock.TheVariants.{Following}
-use Rattle.flux_engine.specs.lemmas.GoodSectors.{lengths}
+use Rattle.flux_engine.specs.lemmas.GoodSectors.{lengths, strict_good}
 use Rattle.flux_engine.proofs.Outcomes.{stop_track}
 
 -- a part of what stands after a list, and before another, is that part of it
@@ -53,8 +53,10 @@ part_size read format track times' indexes' part is =
     let count : ℕ = (sectors_of format track).count in
     let turned : size * count ≡ count * size = omega arith in
     ap (λ (p : TrackPart). length p.image) is.is
-    ∙ lengths (header_at format track) (sector_at format track) size (read.told format track) (read.all format track)
-    0 Following times' indexes' (cells_of format track times' indexes') is.found is.all (sectors_of format track) refl (sector_in format track) 0 count
+    ∙ lengths (sector_at format track) size (read.told format track).content_size
+    0 Following times' indexes' (cells_of format track times' indexes') is.found
+    (strict_good (header_at format track) (sector_at format track) (read.all format track) (cells_of format track times' indexes') is.found is.all)
+    (sectors_of format track) refl (sector_in format track) 0 count
     ∙ turned
 
 abbrev pub no_part : TrackPart

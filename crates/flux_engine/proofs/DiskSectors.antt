@@ -25,7 +25,7 @@ use Rattle.flux_engine.specs.Tracks.{Found, IsPart, TrackPart, image_bytes, imag
 use Rattle.flux_engine.proofs.DiskParts.{few_parts, image_is, image_split, lines_split, piece_within, place_is, size_at, stop_is}
 use Rattle.turn_merge.specs.declared.clock.Clock.TheVariants.{Following}
 use Rattle.sector_report.specs.declared.naming.Naming.TheVariants.{Unnamed}
-use Rattle.flux_engine.specs.lemmas.GoodSectors.{in_image}
+use Rattle.flux_engine.specs.lemmas.GoodSectors.{in_image, strict_good}
 use Rattle.flux_engine.proofs.LineNumbers.{Skips, line-first, sectors_on, skips-append, skips-lines, skips-tracks}
 use Rattle.flux_engine.proofs.Outcomes.{good_is_right, one_found, one_part}
 use Rattle.flux_engine.specs.lemmas.Pieces.{pieces-at}
@@ -111,8 +111,10 @@ module _ (read : TracksAreRead) (format : Format) (x : List ℕ) (o : Decoded) (
     unfolding image_of
     piece_is fills =
         let fill = fills format track sector s.sector_known in
-        in_image (header_at format track) (sector_at format track) (row format).sector_size (read.told format track) (read.all format track)
-        0 Following times_there indexes_there (cells_at format x n) h.found h.all (sectors_of format track) refl (sector_in format track) (slot format sector) fill.0
+        in_image (sector_at format track) (row format).sector_size (read.told format track).content_size
+        0 Following times_there indexes_there (cells_at format x n) h.found
+        (strict_good (header_at format track) (sector_at format track) (read.all format track) (cells_at format x n) h.found h.all)
+        (sectors_of format track) refl (sector_in format track) (slot format sector) fill.0
         ∙ ap (image_bytes (sectors_of format track) readings) fill.1
 
     zeros : SectorsFillTracks → TracksJoin → is_good outcome ≡ false

@@ -1,4 +1,9 @@
 pub mod Walks
+pub mod HeaderWalks
+pub mod Rising
+pub mod OtherWalks
+pub mod AsControllers
+pub mod ByRules
 pub mod Zeros
 pub mod ImagePieces
 pub mod RecoveredCells
@@ -9,10 +14,13 @@ pub mod Counting
 pub mod PlanParts
 pub mod PlanDecoding
 pub mod PlanTelling
+pub mod LoopSteps
+pub mod SourceLoop
 pub mod DecodedPlans
 pub mod Outcomes
 pub mod Clashes
 pub mod PlanSectors
+pub mod StrictSectors
 pub mod PlanOutcomes
 pub mod DiskParts
 pub mod LineNumbers

@@ -3,7 +3,9 @@ use Rattle.std.specs.Prelude.{◌≡◌, ◌≤◌, ◌<◌, ℕ, suc, ◌+◌, 
 use Rattle.std.proofs.Common.{ap, append_assoc, sym, subst, ◌∙◌, arith}
 use Rattle.std.specs.Prelude.{Bool}
 use Rattle.flux_base.specs.declared.track.TrackId.{TrackId}
-use Rattle.disk_recordings.specs.Members.{header_at, sector_at}
+use Rattle.disk_recordings.specs.Members.{as_controllers_read, data_at, header_at, named_at, sector_at, whole_data_of}
+use Rattle.frame_law.specs.Readings.{AreReadings}
+use Rattle.flux_engine.specs.Rules.{AreReadByControllers}
 use Rattle.sector_images.specs.declared.format.Format.{Format}
 use Rattle.turn_merge.specs.Book.{Found, HasShape, IsKnown, Knowledge, StandsFor, found_at}
 use Rattle.turn_merge.specs.Readings.{NotedReading, verdict, agreed}
@@ -11,80 +13,128 @@ use Rattle.turn_merge.specs.declared.verdict.Verdict.{Verdict}
 use Rattle.turn_merge.specs.declared.verdict.Verdict.TheVariants.{Missing}
 use Rattle.index_turns.specs.Track.{TrackState}
 use Rattle.flux_engine.specs.Answers.{CaptureAnswer, ReadsCapture, ReadsStream}
-use Rattle.flux_engine.specs.Captured.{AreReadingsBy, IsUsed}
-use Rattle.flux_engine.specs.Gathering.{Gathers, HasNoted, HasNotedBy}
+use Rattle.flux_engine.specs.Captured.{AreOthersOfClock, AreReadingsBy, IsUsed}
+use Rattle.flux_engine.specs.Gathering.{Gathers, GathersOthers, HasNoted, HasNotedBy}
 use Rattle.flux_engine.specs.PlanAnswers.{ReadsByClocks}
 use Rattle.flux_engine.specs.declared.plan.Clocks.{Clocks}
+use Rattle.flux_engine.specs.declared.plan.Rule.{Rule}
+use Rattle.flux_engine.specs.declared.plan.Rule.TheVariants.{Controller, Strict}
 use Rattle.flux_engine.specs.declared.plan.Clocks.TheVariants.{Both, FollowingAlone}
+use Rattle.turn_merge.specs.Others.{NotedOther, OthersKnown, OthersStandFor, others_over}
 use Rattle.flux_engine.specs.Recordings.{cells_by}
-use Rattle.flux_engine.specs.Room.{MOST_READINGS}
+use Rattle.flux_engine.proofs.OtherWalks.{appends_no_others}
+use Rattle.flux_engine.proofs.Walks.{append_others, appends_on, shape_on}
 use Rattle.turn_merge.specs.declared.clock.Clock.{Clock}
 use Rattle.turn_merge.specs.declared.clock.Clock.TheVariants.{Following, Held}
 
-pub has_noted : (clock : Clock) (format : Format) (track : TrackId) (times indexes : List ℕ) (cells : List Bool) (capture : ℕ) (old new : Knowledge)
-    → cells ≡ cells_by clock format track times indexes → length cells ≤ MOST_READINGS
-    → Gathers (header_at format track) (sector_at format track) times indexes cells capture clock old new
-    → HasNoted clock format track times indexes capture old new
-has_noted clock format track times indexes cells capture old new is few g =
-    let h = subst (λ (cs : List Bool). Gathers (header_at format track) (sector_at format track) times indexes cs capture clock old new) is g in
+-- by the strict rule, and as controllers read
+pub has_noted : (clock : Clock) (format : Format) (track : TrackId) (times indexes : List ℕ) (cells : List Bool) (capture : ℕ) (old new : Knowledge) (known : OthersKnown)
+    → cells ≡ cells_by clock format track times indexes
+    → Gathers (AreReadings (header_at format track) (sector_at format track) cells 0) times indexes cells capture clock old new
+    → HasNoted Strict clock format track times indexes capture old new known known
+has_noted clock format track times indexes cells capture old new known is g =
+    let h = subst (λ (cs : List Bool). Gathers (AreReadings (header_at format track) (sector_at format track) cs 0) times indexes cs capture clock old new) is g in
     record {
       readings = _;
       are = record { found = h.found; all = h.all; are = refl };
       noted = h.noted;
       shape = g.shape;
-      few = omega (arith, g.few, few);
+      few = g.few;
+      others = [];
+      others_are = record { found = []; all = refl; are = refl };
+      others_noted = appends_no_others known;
+      few_others = omega arith;
     }
 
-pub reads_by_clocks : (clocks : Clocks) (format : Format) (track : TrackId) (capture : ℕ) (left left' : Option (List ℕ)) (used : Bool) (held held' : List ℕ) (flux : TrackState) (old new : Knowledge)
-    (u : Unit {0}) → ReadsStream left left' used held held' flux.times flux.indexes (Ok u) → HasNotedBy clocks format track flux.times flux.indexes capture old new
-    → ReadsByClocks clocks format track capture left left' used held held' old new (Ok u)
-reads_by_clocks clocks format track capture left left' used held held' flux old new u read n =
+pub has_noted_too : (clock : Clock) (format other : Format) (track : TrackId) (times indexes : List ℕ) (cells : List Bool) (capture : ℕ) (old new : Knowledge) (before after : OthersKnown)
+    → cells ≡ cells_by clock format track times indexes → other ≡ as_controllers_read format
+    → Gathers (AreReadByControllers (header_at other track) (data_at other) cells) times indexes cells capture clock old new
+    → GathersOthers (named_at other) (header_at other track) (whole_data_of other) times indexes cells capture clock before after
+    → HasNoted Controller clock format track times indexes capture old new before after
+has_noted_too clock format other track times indexes cells capture old new before after is by g o =
+    let there = subst (λ (f : Format). Gathers (AreReadByControllers (header_at f track) (data_at f) cells) times indexes cells capture clock old new) by g in
+    let h = subst (λ (cs : List Bool). Gathers (AreReadByControllers (header_at (as_controllers_read format) track) (data_at (as_controllers_read format)) cs) times indexes cs capture clock old new) is there in
+    let there_too = subst (λ (f : Format). GathersOthers (named_at f) (header_at f track) (whole_data_of f) times indexes cells capture clock before after) by o in
+    let k = subst (λ (cs : List Bool). GathersOthers (named_at (as_controllers_read format)) (header_at (as_controllers_read format) track) (whole_data_of (as_controllers_read format))
+    times indexes cs capture clock before after) is there_too in
+    record {
+      readings = _;
+      are = record { found = h.found; all = h.all; are = refl };
+      noted = h.noted;
+      shape = g.shape;
+      few = g.few;
+      others = _;
+      others_are = record { found = k.found; all = k.all; are = refl };
+      others_noted = k.noted;
+      few_others = k.few;
+    }
+
+pub reads_by_clocks : (rule : Rule) (clocks : Clocks) (format : Format) (track : TrackId) (capture : ℕ) (left left' : Option (List ℕ)) (used : Bool) (held held' : List ℕ) (flux : TrackState) (old new : Knowledge) (before after : OthersKnown)
+    (u : Unit {0}) → ReadsStream left left' used held held' flux.times flux.indexes (Ok u) → HasNotedBy rule clocks format track flux.times flux.indexes capture old new before after
+    → ReadsByClocks rule clocks format track capture left left' used held held' old new (Ok u)
+reads_by_clocks rule clocks format track capture left left' used held held' flux old new before after u read n =
     record { times = flux.times; indexes = flux.indexes; read = read; noted = (n.readings, n.are, n.noted) }
 
--- a list of readings for each clock
-abbrev of_clocks : (following held : List NotedReading) → Clock → List NotedReading
+-- a list of what is noted for each clock
+abbrev of_clocks : {X : Type 0} → (following held : List X) → Clock → List X
 of_clocks following held Following = following
 of_clocks following held Held = held
 
-module _ (format : Format) (track : TrackId) (times indexes : List ℕ) (capture : ℕ) where
-  alone_of : (following : List NotedReading) → AreReadingsBy Following format track times indexes capture following
-      → (clock : Clock) → IsUsed FollowingAlone clock → AreReadingsBy clock format track times indexes capture (of_clocks following [] clock)
+module _ (rule : Rule) (format : Format) (track : TrackId) (times indexes : List ℕ) (capture : ℕ) where
+  alone_of : (following : List NotedReading) → AreReadingsBy rule Following format track times indexes capture following
+      → (clock : Clock) → IsUsed FollowingAlone clock → AreReadingsBy rule clock format track times indexes capture (of_clocks following [] clock)
   alone_of following a Following used = a
   alone_of following a Held cannot = absurd cannot
 
   each_of : (following held : List NotedReading)
-      → AreReadingsBy Following format track times indexes capture following → AreReadingsBy Held format track times indexes capture held
-      → (clock : Clock) → IsUsed Both clock → AreReadingsBy clock format track times indexes capture (of_clocks following held clock)
+      → AreReadingsBy rule Following format track times indexes capture following → AreReadingsBy rule Held format track times indexes capture held
+      → (clock : Clock) → IsUsed Both clock → AreReadingsBy rule clock format track times indexes capture (of_clocks following held clock)
   each_of following held a b Following used = a
   each_of following held a b Held used = b
 
-  pub noted_alone : (old new : Knowledge) → HasNoted Following format track times indexes capture old new → HasNotedBy FollowingAlone format track times indexes capture old new
-  noted_alone old new n = record {
+  -- the same of others
+  others_alone : (following : List NotedOther) → AreOthersOfClock rule Following format track times indexes capture following
+      → (clock : Clock) → IsUsed FollowingAlone clock → AreOthersOfClock rule clock format track times indexes capture (of_clocks following [] clock)
+  others_alone following a Following used = a
+  others_alone following a Held cannot = absurd cannot
+
+  others_each : (following held : List NotedOther)
+      → AreOthersOfClock rule Following format track times indexes capture following → AreOthersOfClock rule Held format track times indexes capture held
+      → (clock : Clock) → IsUsed Both clock → AreOthersOfClock rule clock format track times indexes capture (of_clocks following held clock)
+  others_each following held a b Following used = a
+  others_each following held a b Held used = b
+
+  pub noted_alone : (old new : Knowledge) (before after : OthersKnown) → HasNoted rule Following format track times indexes capture old new before after
+      → HasNotedBy rule FollowingAlone format track times indexes capture old new before after
+  noted_alone old new before after n = record {
     readings = n.readings;
     are = record { by_clock = of_clocks n.readings []; each = alone_of n.readings n.are; are = refl };
     noted = n.noted;
     shape = n.shape;
     few = omega (arith, n.few);
+    others = n.others;
+    others_are = record { by_clock = of_clocks n.others []; each = others_alone n.others n.others_are; are = refl };
+    others_noted = n.others_noted;
+    few_others = omega (arith, n.few_others);
   }
 
-  pub noted_both : (old mid new : Knowledge) → HasNoted Following format track times indexes capture old mid → HasNoted Held format track times indexes capture mid new
-      → HasNotedBy Both format track times indexes capture old new
-  noted_both old mid new n m = record {
+  pub noted_both : (old mid new : Knowledge) (before between after : OthersKnown) → HasNoted rule Following format track times indexes capture old mid before between
+      → HasNoted rule Held format track times indexes capture mid new between after → HasNotedBy rule Both format track times indexes capture old new before after
+  noted_both old mid new before between after n m = record {
     readings = n.readings ++ m.readings;
     are = record { by_clock = of_clocks n.readings m.readings; each = each_of n.readings m.readings n.are m.are; are = refl };
-    noted = λ readings stands. subst (StandsFor new) (append_assoc readings n.readings m.readings) (m.noted (readings ++ n.readings) (n.noted readings stands));
-    shape = record {
-      first_is = m.shape.first_is ∙ n.shape.first_is;
-      most_is = m.shape.most_is ∙ n.shape.most_is;
-      size_is = m.shape.size_is ∙ n.shape.size_is;
-      sectors_are = m.shape.sectors_are ∙ n.shape.sectors_are;
-    };
+    noted = appends_on old mid new n.readings m.readings n.noted m.noted;
+    shape = shape_on old mid new n.shape m.shape;
     few = omega (arith, n.few, m.few);
+    others = n.others ++ m.others;
+    others_are = record { by_clock = of_clocks n.others m.others; each = others_each n.others m.others n.others_are m.others_are; are = refl };
+    others_noted = append_others before between after n.others m.others n.others_noted m.others_noted;
+    few_others = omega (arith, n.few_others, m.few_others);
   }
 
 module _ (format : Format) (track : TrackId) (left left' : Option (List ℕ)) (used : Bool) (held held' : List ℕ) (old new : Knowledge) where
   -- by the one clock
-  pub reads_capture : (capture : ℕ) (answer : CaptureAnswer) → ReadsByClocks FollowingAlone format track capture left left' used held held' old new answer
+  pub reads_capture : (capture : ℕ) (answer : CaptureAnswer) → ReadsByClocks Strict FollowingAlone format track capture left left' used held held' old new answer
       → ReadsCapture format track capture left left' used held held' old new answer
   reads_capture capture (Ok u) c = record {
     times = c.times;
@@ -92,7 +142,7 @@ module _ (format : Format) (track : TrackId) (left left' : Option (List ℕ)) (u
     read = c.read;
     noted = (
       c.noted.0,
-      subst (AreReadingsBy Following format track c.times c.indexes capture) (sym c.noted.1.are) (c.noted.1.each Following tt),
+      subst (AreReadingsBy Strict Following format track c.times c.indexes capture) (sym c.noted.1.are) (c.noted.1.each Following tt),
       c.noted.2,
     );
   }
@@ -131,3 +181,10 @@ empty_is book first most size sectors stands shape =
     ∙ ap (λ (n : ℕ). let k : Knowledge = record { first_sector = first; most = most; size = n; notes = book.notes; found = book.found } in k) shape.size_is
     ∙ ap (λ (n : ℕ). let k : Knowledge = record { first_sector = first; most = most; size = size; notes = n; found = book.found } in k) stands.notes
     ∙ ap (λ (fs : List Found). let k : Knowledge = record { first_sector = first; most = most; size = size; notes = 0; found = fs } in k) found
+
+-- nor are others known where none was noted
+pub no_others_is : (known : OthersKnown) → OthersStandFor known [] → known ≡ record { notes = 0; told = [] }
+unfolding others_over
+no_others_is known stands =
+    ap (λ (n : ℕ). let k : OthersKnown = record { notes = n; told = known.told } in k) stands.notes
+    ∙ ap (λ ts. let k : OthersKnown = record { notes = 0; told = ts } in k) stands.told

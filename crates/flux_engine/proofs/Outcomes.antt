@@ -20,7 +20,7 @@ use Rattle.disk_recordings.specs.Members.{header_at, sector_at}
 use Rattle.flux_engine.specs.Recordings.{track_at, sectors_of, cells_of}
 use Rattle.flux_engine.specs.Streams.{stream_at, has_fault}
 use Rattle.flux_engine.specs.Tracks.{Found, TrackPart, IsPart, image_of, part_of, readings_of}
-use Rattle.flux_engine.specs.lemmas.GoodSectors.{head_of, head_holds, all_agree, good_image}
+use Rattle.flux_engine.specs.lemmas.GoodSectors.{head_of, head_holds, all_agree, good_image, strict_good}
 
 abbrev pub stop_track : Option Stop → ℕ
 stop_track None = 0
@@ -117,8 +117,9 @@ module _ (read : TracksAreRead) where
       let size : ℕ = (row format).sector_size in
       let fill = fills format track sector known in
       let place : sector_place format track sector - place_of format track ≡ size * slot format sector = omega arith in
-      let holds = head_holds (header_at format track) (sector_at format track) size (read.told format track) (read.all format track)
-      0 Following times' indexes' cells is.found is.all sector first h in
+      let stand = (strict_good (header_at format track) (sector_at format track) (read.all format track) cells is.found is.all) in
+      let holds = head_holds (sector_at format track) size (read.told format track).content_size
+      0 Following times' indexes' cells is.found stand sector first h in
       record {
         bytes = bytes_of h.head;
         stands = holds.0;
@@ -126,8 +127,8 @@ module _ (read : TracksAreRead) where
         in_image =
             ap (λ (n : ℕ). take {A = ℕ} size (drop n part.image)) place
             ∙ ap (λ (p : TrackPart). take {A = ℕ} size (drop (size * slot format sector) p.image)) is.is
-            ∙ good_image (header_at format track) (sector_at format track) size (read.told format track) (read.all format track)
-            0 Following times' indexes' cells is.found is.all (sectors_of format track) refl (sector_in format track) sector (slot format sector) first h fill.1 fill.0;
-        agreed = all_agree (header_at format track) (sector_at format track) size (read.told format track) (read.all format track)
-            0 Following times' indexes' cells is.found is.all sector first h;
+            ∙ good_image (sector_at format track) size (read.told format track).content_size
+            0 Following times' indexes' cells is.found stand (sectors_of format track) refl (sector_in format track) sector (slot format sector) first h fill.1 fill.0;
+        agreed = all_agree (sector_at format track) size (read.told format track).content_size
+            0 Following times' indexes' cells is.found stand sector first h;
       }

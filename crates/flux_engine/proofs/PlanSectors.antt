@@ -4,13 +4,11 @@ use Rattle.std.specs.Str.{bytes_eq}
 use Rattle.std.proofs.Common.{ap, sym, subst, ◌∙◌, arith, append_assoc}
 use Rattle.std.proofs.lemmas.Bool.{eqb-true, eq-eqb}
 use Rattle.std.proofs.lemmas.Slice.Eq.{bytes_eq-Decides}
-use Rattle.disk_recordings.specs.Laws.{TracksAreRead}
-use Rattle.disk_recordings.specs.Members.{header_at, sector_at}
 use Rattle.flux_base.specs.declared.track.TrackId.{TrackId}
 use Rattle.frame_law.specs.declared.reading.Reading.TheVariants.{Good as GoodFrame}
 use Rattle.sector_images.specs.Formats.{row}
 use Rattle.sector_images.specs.declared.format.Format.{Format}
-use Rattle.turn_merge.specs.Readings.{NotedReading, agreed, bytes_of, good_ones}
+use Rattle.turn_merge.specs.Readings.{NotedReading, agreed, bytes_of, good_ones, good_reading}
 use Rattle.turn_merge.specs.declared.clock.Clock.{Clock}
 use Rattle.turn_merge.specs.declared.clock.Clock.TheVariants.{Following, Held}
 use Rattle.turn_merge.specs.declared.verdict.Place.{Place}
@@ -18,9 +16,10 @@ use Rattle.flux_engine.specs.Captured.{IsUsed, joined_by}
 use Rattle.flux_engine.specs.PlanLaws.{ContradictionsAreNamedInPlans, FirstReadingsLead, FirstSourceStaysGood, GoodIsRightInPlans, GoodReadingsStandInPlans, IsNamedIn, IsRightlyContradictoryIn, IsRightlyGoodIn, StandsIn, StaysGoodOrIsContradicted, cells_in, first_readings}
 use Rattle.flux_engine.specs.Plans.{AreCaptures, Streams, joined}
 use Rattle.flux_engine.specs.Recordings.{sectors_of, track_at}
-use Rattle.flux_engine.specs.Tracks.{Found, readings_in}
+use Rattle.flux_engine.specs.Tracks.{Found, place_in, readings_in}
 use Rattle.flux_engine.specs.declared.plan.Clocks.{Clocks}
 use Rattle.flux_engine.specs.declared.plan.Clocks.TheVariants.{Both, FollowingAlone}
+use Rattle.flux_engine.specs.Rules.{RulesAreRead, StandsBy}
 use Rattle.flux_engine.specs.declared.plan.Plan.{Plan}
 use Rattle.flux_engine.specs.lemmas.Each.{Each, each-append, each-at, each-filter, each-flat, each-left, each-map, each-right, each-unfilter, each-unflat}
 use Rattle.flux_engine.specs.lemmas.GoodSectors.{Head, Named, agreed_head, and_both, each_named, head_of, is_good_of, of_found, same_bytes, some_bytes}
@@ -48,7 +47,7 @@ joined_each P FollowingAlone by_clock Held cannot all = absurd cannot
 joined_each P Both by_clock Following used all = each-left P (by_clock Following) (by_clock Held) all
 joined_each P Both by_clock Held used all = each-right P (by_clock Following) (by_clock Held) all
 
-module _ (read : TracksAreRead) (plan : Plan) (format : Format) (streams : Streams) (n : ℕ) (captures : List (List NotedReading)) (many : length captures ≡ plan.captures)
+module _ (read : RulesAreRead) (plan : Plan) (format : Format) (streams : Streams) (n : ℕ) (captures : List (List NotedReading)) (many : length captures ≡ plan.captures)
     (each : AreCaptures plan format streams n captures) where
   abbrev track : TrackId
   track = track_at format n
@@ -65,15 +64,15 @@ module _ (read : TracksAreRead) (plan : Plan) (format : Format) (streams : Strea
       let a = (each q low).each clock used in
       subst (Each NamesOne) (sym a.are)
       (each-map
-      (Named (header_at format track) (sector_at format track) (row format).sector_size (read.told format track) (read.all format track)
-      q clock (streams n q).times (streams n q).indexes (cells q clock) a.found a.all)
+      (Named (StandsBy plan.rule format track) (row format).sector_size (read.size plan.rule format track)
+      q clock (streams n q).times (streams n q).indexes (cells q clock) a.found (read.good plan.rule format track (cells q clock) a.found a.all))
       NamesOne
       (λ r says xs is.
       let here = says xs is in
       record { capture = q; low = omega (arith, low, many); clock = clock; used = used; place = r.place.cell; is = here.1; stands = here.0 })
       (readings_in q clock (streams n q).times (streams n q).indexes (cells q clock) a.found)
-      (each_named (header_at format track) (sector_at format track) (row format).sector_size (read.told format track) (read.all format track)
-      q clock (streams n q).times (streams n q).indexes (cells q clock) a.found a.all))
+      (each_named (StandsBy plan.rule format track) (row format).sector_size (read.size plan.rule format track)
+      q clock (streams n q).times (streams n q).indexes (cells q clock) a.found (read.good plan.rule format track (cells q clock) a.found a.all)))
 
   capture_names : (q : ℕ) → q < length captures → Each NamesOne (get_or captures q [])
   capture_names q low =
@@ -98,6 +97,23 @@ module _ (read : TracksAreRead) (plan : Plan) (format : Format) (streams : Strea
       each-map (λ (r : NotedReading). NamesOne r × (is_good_of sector r ≡ true)) (NamesSector sector) (λ r says. named_good sector r says.0 says.1) (good_ones (joined captures) sector)
       (each-filter (is_good_of sector) NamesOne (joined captures) all_name)
 
+  -- what all readings have, that of a sector has that stands
+  pub stands_has : (P : NotedReading → Type 0) → Each P (joined captures) → (q : ℕ) (clock : Clock) (place sector : ℕ) (bytes : List ℕ)
+      → q < plan.captures → IsUsed plan.clocks clock → StandsIn plan.rule format streams n q clock place sector bytes
+      → P (good_reading sector (place_in q clock (streams n q).times (streams n q).indexes (cells q clock) place) bytes)
+  stands_has P all q clock place sector bytes low used here =
+      let within : q < length captures = omega (arith, low, many) in
+      let a = (each q within).each clock used in
+      let in_each = each-unflat (λ (rs : List NotedReading). rs) P captures all in
+      let in_capture = subst (Each P) (each q within).are (each-index (Each P) [] captures q in_each within) in
+      let by_one = subst (Each P) a.are (joined_each P plan.clocks (each q within).by_clock clock used in_capture) in
+      let found_of = of_found (StandsBy plan.rule format track) (row format).sector_size (read.size plan.rule format track)
+      q clock (streams n q).times (streams n q).indexes (cells q clock) a.found (read.good plan.rule format track (cells q clock) a.found a.all) in
+      let per_found = each-unflat found_of P a.found by_one in
+      let at = each-at (λ (f : Found). Each P (found_of f)) a.found
+      (place, GoodFrame sector, bytes) per_found ((read.good plan.rule format track (cells q clock) a.found a.all place sector bytes).1 here) in
+      at.0
+
   module _ (sector : ℕ) (first : Place) (h : Head (good_ones (joined captures) sector) first) where
     abbrev mine : List ℕ
     mine = bytes_of h.head
@@ -106,24 +122,13 @@ module _ (read : TracksAreRead) (plan : Plan) (format : Format) (streams : Strea
     abbrev HoldsMine : NotedReading → Type 0
     HoldsMine r = is_good_of sector r ≡ true → bytes_of r ≡ mine
 
-    all_hold : Each (Each HoldsMine) captures
-    all_hold =
-        each-unflat (λ (rs : List NotedReading). rs) HoldsMine captures
-        (each-unfilter (is_good_of sector) (λ (r : NotedReading). bytes_of r ≡ mine) (joined captures) (same_bytes (good_ones (joined captures) sector) first h))
+    all_hold : Each HoldsMine (joined captures)
+    all_hold = each-unfilter (is_good_of sector) (λ (r : NotedReading). bytes_of r ≡ mine) (joined captures) (same_bytes (good_ones (joined captures) sector) first h)
 
-    agrees : (q : ℕ) (clock : Clock) (place : ℕ) (others : List ℕ) → q < plan.captures → IsUsed plan.clocks clock
-        → StandsIn format streams n q clock place sector others → others ≡ mine
+    pub agrees : (q : ℕ) (clock : Clock) (place : ℕ) (others : List ℕ) → q < plan.captures → IsUsed plan.clocks clock
+        → StandsIn plan.rule format streams n q clock place sector others → others ≡ mine
     agrees q clock place others low used here =
-        let within : q < length captures = omega (arith, low, many) in
-        let a = (each q within).each clock used in
-        let in_capture = subst (Each HoldsMine) (each q within).are (each-index (Each HoldsMine) [] captures q all_hold within) in
-        let by_one = subst (Each HoldsMine) a.are (joined_each HoldsMine plan.clocks (each q within).by_clock clock used in_capture) in
-        let found_of = of_found (header_at format track) (sector_at format track) (row format).sector_size (read.told format track) (read.all format track)
-        q clock (streams n q).times (streams n q).indexes (cells q clock) a.found a.all in
-        let per_found = each-unflat found_of HoldsMine a.found by_one in
-        let at = each-at (λ (f : Found). Each HoldsMine (found_of f)) a.found
-        (place, GoodFrame sector, others) per_found ((((read.all format track (cells q clock) 0 a.found).0 a.all).good place sector others (omega arith)).1 here) in
-        at.0 (ap (λ (b : Bool). b && true) (eq-eqb sector sector refl))
+        stands_has HoldsMine all_hold q clock place sector others low used here (ap (λ (b : Bool). b && true) (eq-eqb sector sector refl))
 
     rightly : IsRightlyGoodIn plan format streams n (joined captures) sector first
     unfolding agreed
@@ -153,15 +158,15 @@ module _ (read : TracksAreRead) (plan : Plan) (format : Format) (streams : Strea
             absurd (cc (equal, unequal));
       }
 
-pub good_readings_stand : TracksAreRead → GoodReadingsStandInPlans
+pub good_readings_stand : RulesAreRead → GoodReadingsStandInPlans
 good_readings_stand read plan format streams n captures many each reading bytes has is =
     each-at (NamesOne read plan format streams n captures many each) (joined captures) reading (all_name read plan format streams n captures many each) has bytes is
 
-pub good_in_plans : TracksAreRead → GoodIsRightInPlans
+pub good_in_plans : RulesAreRead → GoodIsRightInPlans
 good_in_plans read plan format streams n captures many each sector good bad first is =
     rightly read plan format streams n captures many each sector first (head_of (joined captures) sector good bad first is)
 
-pub contradictions_in_plans : TracksAreRead → ContradictionsAreNamedInPlans
+pub contradictions_in_plans : RulesAreRead → ContradictionsAreNamedInPlans
 contradictions_in_plans read plan format streams n captures many each sector good bad first other is =
     rightly_contradictory read plan format streams n captures many each sector first other (clash_of (joined captures) sector good bad first other is)
 
@@ -183,7 +188,7 @@ first_capture : (captures : List (List NotedReading)) → 1 ≤ length captures 
 first_capture [] some = absurd (omega (arith, some))
 first_capture (rs ∷ more) some = (joined more, refl)
 
-pub first_lead : TracksAreRead → FirstReadingsLead
+pub first_lead : RulesAreRead → FirstReadingsLead
 first_lead read plan format streams n captures found some many each all =
     let track : TrackId = track_at format n in
     let cells : List Bool = cells_in format streams n 0 Following in
@@ -192,7 +197,7 @@ first_lead read plan format streams n captures found some many each all =
     let one = each 0 low in
     let a = one.each Following (always_first plan.clocks) in
     let mine : one.by_clock Following ≡ own =
-    a.are ∙ ap (λ (fs : List Found). readings_in 0 Following (streams n 0).times (streams n 0).indexes cells fs) (read.one format track cells 0 a.found found a.all all) in
+    a.are ∙ ap (λ (fs : List Found). readings_in 0 Following (streams n 0).times (streams n 0).indexes cells fs) (read.one plan.rule format track cells a.found found a.all all) in
     let clocks = first_clock plan.clocks one.by_clock in
     let others = first_capture captures (omega (arith, low)) in (
       clocks.0 ++ others.0,
@@ -200,7 +205,7 @@ first_lead read plan format streams n captures found some many each all =
           ∙ append_assoc own clocks.0 others.0,
     )
 
-pub first_stays : TracksAreRead → FirstSourceStaysGood
+pub first_stays : RulesAreRead → FirstSourceStaysGood
 first_stays read plan format streams n captures found some many each all sector good bad first verdict_is =
     let own : List NotedReading = first_readings format streams n found in
     let lead = first_lead read plan format streams n captures found some many each all in

@@ -1,5 +1,5 @@
 -- What an answer says of the input that a source tells, and when the source is read.
-use Rattle.std.specs.Prelude.{◌≡◌, ◌<◌, ◌≤◌, ℕ, ◌+◌, ◌*◌, List, [], ◌++◌, length, nat_lt, take, Option, Some, None, Ok, Err, refl}
+use Rattle.std.specs.Prelude.{◌≡◌, ◌<◌, ◌≤◌, ℕ, ◌+◌, ◌*◌, Bool, List, [], ◌++◌, length, nat_lt, take, Option, Some, None, Ok, Err, refl}
 use Rattle.std.specs.List.{concat}
 use Rattle.std.specs.Io.KnownBytes.{Consumes, IsAtEnd}
 use Rattle.std.proofs.Common.{ap, sym, subst, ◌∙◌, arith, append-nil}
@@ -12,7 +12,6 @@ use Rattle.sector_images.specs.Places.{tracks}
 use Rattle.sector_images.specs.declared.format.Format.{Format}
 use Rattle.flux_engine.specs.Answers.{CaptureCause, Stayed}
 use Rattle.flux_engine.specs.Needed.{ReadsWhereOpen}
-use Rattle.flux_engine.specs.Room.{RoomState}
 use Rattle.flux_engine.specs.Streams.{stream_at}
 use Rattle.flux_engine.specs.lemmas.ReadLaws.{Rest, reads_more, rest_of, some_same}
 use Rattle.flux_engine.specs.PlanAnswers.{DecodesPlanned, IsOfBytesTaken, IsFinished, SaysOfPlanned, SaysOfPlannedInput, PlanAnswer, PlanCause, of_part, of_stream}
@@ -76,13 +75,13 @@ is_finished s s' i i' n n' (Err ImageFault) cause source image notes = omega (ar
 is_finished s s' i i' n n' (Err NotesFault) cause source image notes = omega (arith, cause, notes.0, notes.1)
 
 -- one stream more is read
-module _ (plan : Plan) (format : Format) (x : List ℕ) (old mid new : SourceMoment) (told : old.left ≡ Some x) (taken : List ℕ) (room : RoomState) (n q : ℕ)
-    (c : HasCome old.left mid.left taken room (n * plan.captures + q)) (low : n < length (tracks format)) (few : q < plan.captures) where
+module _ (plan : Plan) (format : Format) (x : List ℕ) (old mid new : SourceMoment) (told : old.left ≡ Some x) (taken held : List ℕ) (used : Bool) (n q : ℕ)
+    (c : HasCome old.left mid.left taken held used (n * plan.captures + q)) (low : n < length (tracks format)) (few : q < plan.captures) where
   -- bytes that do not tell the answer for this stream do not tell that for the set
-  untold : (more : List ℕ) → DoNotTell room.used (room.held ++ more) → EndsInPlan plan format (taken ++ more)
+  untold : (more : List ℕ) → DoNotTell used (held ++ more) → EndsInPlan plan format (taken ++ more)
   untold more open_still =
-      let here : stream_at (taken ++ more) (n * plan.captures + q) ≡ input_of room.used (room.held ++ more) =
-      ap (input_of (nat_lt 0 (n * plan.captures + q))) (c.rest more) ∙ ap (λ b. input_of b (room.held ++ more)) (sym c.used) in (
+      let here : stream_at (taken ++ more) (n * plan.captures + q) ≡ input_of used (held ++ more) =
+      ap (input_of (nat_lt 0 (n * plan.captures + q))) (c.rest more) ∙ ap (λ b. input_of b (held ++ more)) (sym c.used) in (
         record { track = n; capture = q; block = open_still.0; fault = Truncated },
         stops_here plan format (taken ++ more) n q open_still.0 Truncated low few (c.clean more) (ap first_fault here ∙ open_still.1),
         refl,
@@ -96,7 +95,7 @@ module _ (plan : Plan) (format : Format) (x : List ℕ) (old mid new : SourceMom
       let same : given.rest ≡ all.rest = some_same given.rest all.rest (sym given.left ∙ all.left) in
       append_cancel_right (concat r.pieces) taken all.rest (ap (λ rest. concat r.pieces ++ rest) (sym same) ∙ sym given.all ∙ all.all)
 
-  pub capture_more : ReadsWhereOpen (EndsInPlan plan format) old mid → IsReadWhereNeeded mid new room.used room.held
+  pub capture_more : ReadsWhereOpen (EndsInPlan plan format) old mid → IsReadWhereNeeded mid new used held
       → ReadsWhereOpen (EndsInPlan plan format) old new
   capture_more r p = reads_more (EndsInPlan plan format) old mid new r p.pieces (
     p.gave,
@@ -106,7 +105,7 @@ module _ (plan : Plan) (format : Format) (x : List ℕ) (old mid new : SourceMom
   )
 
 -- each fault that is passed on has its cause
-pub stream_cause : (s s' n q : ℕ) (fault : CaptureFault) → CaptureCause s s' (Err fault) → PlanCause {A = Unit {0}} s s' 0 0 0 0 (Err (of_stream n q fault))
+pub stream_cause : (s s' n q : ℕ) (fault : CaptureFault) → CaptureCause {A = Unit {0}} s s' (Err fault) → PlanCause {A = Unit {0}} s s' 0 0 0 0 (Err (of_stream n q fault))
 stream_cause s s' n q UnreadCapture cause = cause
 stream_cause s s' n q (RefusedCapture block fault) cause = tt
 

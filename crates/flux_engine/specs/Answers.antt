@@ -80,7 +80,7 @@ SaysOfCapture (Err (RefusedCapture block fault)) x times' indexes' stays = first
 SaysOfCapture (Err UnreadCapture) x times' indexes' stays = (block : ℕ) × (first_fault x ≡ Some (block, Truncated))
 
 -- the source fails only where its count rose
-abbrev pub CaptureCause : (source source' : ℕ) → CaptureAnswer → Type 0
+abbrev pub CaptureCause : {A : Type 0} → (source source' : ℕ) → Result A CaptureFault → Type 0
 CaptureCause source source' (Err UnreadCapture) = Rose source source'
 CaptureCause source source' _ = Unit {0}
 

@@ -2,6 +2,7 @@ pub mod Streams
 pub mod Recordings
 pub mod Tracks
 pub mod TrackParts
+pub mod Rules
 pub mod Captured
 pub mod Gathering
 pub mod Writing
@@ -16,7 +17,10 @@ pub mod Captures
 pub mod Writes
 pub mod Needed
 pub mod Plans
+pub mod Counts
 pub mod PlanAnswers
 pub mod PlanProgress
+pub mod LoopProgress
+pub mod SourceStreams
 pub mod PlanLaws
 pub mod lemmas

@@ -12,6 +12,7 @@ use Rattle.flux_engine.specs.Tracks.{TrackPart}
 use Rattle.flux_engine.specs.declared.track_part.PartFault.{PartFault}
 use Rattle.flux_engine.specs.declared.track_part.PartFault.TheVariants.{ImageFault as PartImageFault, NotesFault as PartNotesFault}
 use Rattle.flux_engine.specs.declared.plan.Clocks.{Clocks}
+use Rattle.flux_engine.specs.declared.plan.Rule.{Rule}
 use Rattle.flux_engine.specs.declared.plan.Plan.{Plan}
 use Rattle.kryo_stream.specs.declared.fault.StreamFault.TheVariants.{Truncated}
 use Rattle.sector_images.specs.Places.{tracks}
@@ -56,14 +57,14 @@ abbrev pub of_part : PartFault → PlanFault
 of_part PartImageFault = ImageFault
 of_part PartNotesFault = NotesFault
 
--- A call that reads one of the streams that capture a track by these clocks: where the stream has no fault, all its readings were
+-- A call that reads one of the streams that capture a track by a rule and these clocks: where the stream has no fault, all its readings were
 -- noted after those before.
-pub record ReadsByClocks (clocks : Clocks) (format : Format) (track : TrackId) (capture : ℕ) (left left' : Option (List ℕ)) (used : Bool) (held held' : List ℕ)
+pub record ReadsByClocks (rule : Rule) (clocks : Clocks) (format : Format) (track : TrackId) (capture : ℕ) (left left' : Option (List ℕ)) (used : Bool) (held held' : List ℕ)
     (old new : Knowledge) (answer : CaptureAnswer) : Type 0 where
   pub times : List ℕ
   pub indexes : List ℕ
   pub read : ReadsStream left left' used held held' times indexes answer
-  pub noted : OnOk answer ((readings : List NotedReading) × AreReadingsOf clocks format track times indexes capture readings × AppendsReadings old new readings)
+  pub noted : OnOk answer ((readings : List NotedReading) × AreReadingsOf rule clocks format track times indexes capture readings × AppendsReadings old new readings)
 
 -- the most bytes of padding, of a stream and of what an intake holds after it
 abbrev pub MOST_OF_STREAM : ℕ

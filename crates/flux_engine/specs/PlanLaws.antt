@@ -12,7 +12,9 @@ use Rattle.flux_engine.specs.Captured.{IsUsed}
 use Rattle.flux_engine.specs.Plans.{AreCaptures, IsPlanned, PartOf, Planned, Streams, joined}
 use Rattle.flux_engine.specs.Recordings.{cells_by, sectors_of, track_at}
 use Rattle.flux_engine.specs.Tracks.{Found, image_bytes, place_in, readings_in}
+use Rattle.flux_engine.specs.Rules.{AreAllBy, StandsBy}
 use Rattle.flux_engine.specs.declared.plan.Plan.{Plan}
+use Rattle.flux_engine.specs.declared.plan.Rule.{Rule}
 
 -- streams come to one outcome
 abbrev pub OnePlanned : Type 0
@@ -28,10 +30,10 @@ ReadingsInPlansAreOne = (plan : Plan) (format : Format) (streams : Streams) (n :
 abbrev pub cells_in : Format → Streams → (n q : ℕ) → Clock → List Bool
 cells_in format streams n q clock = cells_by clock format (track_at format n) (streams n q).times (streams n q).indexes
 
--- these cells hold this sector at the place, with its sync, header, data and check values
-abbrev pub StandsIn : Format → Streams → (n q : ℕ) → Clock → (place sector : ℕ) → List ℕ → Type 0
-StandsIn format streams n q clock place sector bytes =
-    sector_at format (track_at format n) (drop place (cells_in format streams n q clock)) sector bytes
+-- these cells hold this sector at the place by a rule, with its sync, header, data and check values
+abbrev pub StandsIn : Rule → Format → Streams → (n q : ℕ) → Clock → (place sector : ℕ) → List ℕ → Type 0
+StandsIn rule format streams n q clock place sector bytes =
+    StandsBy rule format (track_at format n) (drop place (cells_in format streams n q clock)) sector bytes
 
 -- what is named is a place of a capture, by a clock of the plan, in its turn there, and the cells hold this sector there
 pub record IsNamedIn (plan : Plan) (format : Format) (streams : Streams) (n : ℕ) (named : Place) (sector : ℕ) (bytes : List ℕ) : Type 0 where
@@ -41,7 +43,7 @@ pub record IsNamedIn (plan : Plan) (format : Format) (streams : Streams) (n : �
   pub used : IsUsed plan.clocks clock
   pub place : ℕ
   pub is : named ≡ place_in capture clock (streams n capture).times (streams n capture).indexes (cells_in format streams n capture clock) place
-  pub stands : StandsIn format streams n capture clock place sector bytes
+  pub stands : StandsIn plan.rule format streams n capture clock place sector bytes
 
 -- each good reading names such a place
 abbrev pub GoodReadingsStandInPlans : Type 0
@@ -58,7 +60,7 @@ pub record IsRightlyGoodIn (plan : Plan) (format : Format) (streams : Streams) (
   pub named : IsNamedIn plan format streams n first sector bytes
   pub in_image : image_bytes (sectors_of format (track_at format n)) readings sector ≡ bytes
   pub agreed : (q : ℕ) (clock : Clock) (place : ℕ) (others : List ℕ) → q < plan.captures → IsUsed plan.clocks clock
-      → StandsIn format streams n q clock place sector others → others ≡ bytes
+      → StandsIn plan.rule format streams n q clock place sector others → others ≡ bytes
 
 -- wherever the verdict on a sector over all readings of a track is good
 abbrev pub GoodIsRightInPlans : Type 0
@@ -90,7 +92,7 @@ first_readings format streams n found =
 abbrev pub FirstReadingsLead : Type 0
 FirstReadingsLead = (plan : Plan) (format : Format) (streams : Streams) (n : ℕ) (captures : List (List NotedReading)) (found : List Found)
     → 1 ≤ plan.captures → length captures ≡ plan.captures → AreCaptures plan format streams n captures
-    → AreReadings (header_at format (track_at format n)) (sector_at format (track_at format n)) (cells_in format streams n 0 Following) 0 found
+    → AreAllBy plan.rule format (track_at format n) (cells_in format streams n 0 Following) found
     → (rest : List NotedReading) × (joined captures ≡ first_readings format streams n found ++ rest)
 
 -- over more readings a sector is good with the same first place and the same bytes, or contradictory with the same first place
@@ -104,7 +106,24 @@ StaysGoodOrIsContradicted readings longer sector first =
 abbrev pub FirstSourceStaysGood : Type 0
 FirstSourceStaysGood = (plan : Plan) (format : Format) (streams : Streams) (n : ℕ) (captures : List (List NotedReading)) (found : List Found)
     → 1 ≤ plan.captures → length captures ≡ plan.captures → AreCaptures plan format streams n captures
-    → AreReadings (header_at format (track_at format n)) (sector_at format (track_at format n)) (cells_in format streams n 0 Following) 0 found
+    → AreAllBy plan.rule format (track_at format n) (cells_in format streams n 0 Following) found
     → (sector good bad : ℕ) (first : Place)
     → verdict (first_readings format streams n found) sector ≡ Good good bad first
     → StaysGoodOrIsContradicted (first_readings format streams n found) (joined captures) sector first
+
+-- over more readings a sector is good with the same bytes, or contradictory
+abbrev pub IsGoodTooOrContradicted : (readings others : List NotedReading) → (sector : ℕ) → Type 0
+IsGoodTooOrContradicted readings others sector =
+    ((good bad : ℕ) × (first : Place) × (verdict others sector ≡ Good good bad first) × (agreed others sector ≡ agreed readings sector))
+    ⊎ ((good bad : ℕ) × (first other : Place) × (verdict others sector ≡ Contradictory good bad first other))
+
+-- A sector that is good by the strict rule over the readings of one capture by a clock of the plan is good by the plan's rule over all
+-- readings, with the same bytes, or contradictory. (Its first place may be another: by the other rule more stands.)
+abbrev pub StrictGoodStays : Type 0
+StrictGoodStays = (plan : Plan) (format : Format) (streams : Streams) (n : ℕ) (captures : List (List NotedReading))
+    → length captures ≡ plan.captures → AreCaptures plan format streams n captures
+    → (q : ℕ) → q < plan.captures → (clock : Clock) → IsUsed plan.clocks clock → (found : List Found)
+    → AreReadings (header_at format (track_at format n)) (sector_at format (track_at format n)) (cells_in format streams n q clock) 0 found
+    → let strict = readings_in q clock (streams n q).times (streams n q).indexes (cells_in format streams n q clock) found in
+    (sector good bad : ℕ) (first : Place) → verdict strict sector ≡ Good good bad first
+    → IsGoodTooOrContradicted strict (joined captures) sector

@@ -1,5 +1,5 @@
--- How far the reading of a disk by a plan has come.
-use Rattle.std.specs.Prelude.{◌≡◌, ◌≤◌, ◌<◌, ℕ, ◌+◌, ◌*◌, false, List, [], ◌++◌, length, nat_lt, Option, None, Some, Result, Ok, Err}
+-- How far the reading of a disk by a plan has come, where its streams follow one another in a source.
+use Rattle.std.specs.Prelude.{◌≡◌, ◌≤◌, ◌<◌, ℕ, ◌+◌, ◌*◌, Bool, false, List, [], ◌++◌, length, nat_lt, Option, None, Some, Result, Err}
 use Rattle.std.specs.Io.KnownBytes.{Appends, Consumes, IsAtEnd}
 use Rattle.kryo_stream.specs.Stream.{first_fault}
 use Rattle.kryo_stream.specs.declared.fault.StreamFault.{StreamFault}
@@ -7,37 +7,24 @@ use Rattle.kryo_stream.specs.declared.fault.StreamFault.TheVariants.{Truncated}
 use Rattle.sector_images.specs.Places.{tracks}
 use Rattle.sector_images.specs.declared.format.Format.{Format}
 use Rattle.sector_report.specs.declared.totals.Totals.{Totals}
-use Rattle.turn_merge.specs.Book.{StandsFor}
-use Rattle.turn_merge.specs.Readings.{NotedReading}
 use Rattle.flux_engine.specs.Answers.{IsTakenBehind}
 use Rattle.flux_engine.specs.Disks.{images, lines, totals_over}
 use Rattle.flux_engine.specs.Room.{RoomState}
 use Rattle.flux_engine.specs.Streams.{behind, stream_at}
 use Rattle.flux_engine.specs.Tracks.{TrackPart}
 use Rattle.flux_engine.specs.PlanAnswers.{DecodesPlanned, IsOfBytesTaken, SaysTruncated, MOST_OF_STREAM}
-use Rattle.flux_engine.specs.Plans.{AreCaptures, ArePlannedParts, PartOf, joined, streams_in}
+use Rattle.flux_engine.specs.Plans.{ArePlannedParts, PartOf, streams_in}
 use Rattle.flux_engine.specs.declared.plan.Plan.{Plan}
 use Rattle.flux_engine.specs.declared.fault.PlanFault.{PlanFault}
 use Rattle.flux_engine.specs.declared.fault.PlanFault.TheVariants.{ImageFault, NotesFault, ReadFault, Refused}
 
--- The first m streams of an input were read, and none has a fault: these bytes were taken, and those behind the streams are held.
-pub record HasCome (left left' : Option (List ℕ)) (taken : List ℕ) (room : RoomState) (m : ℕ) : Type 0 where
+-- The first m streams of an input were read, and none has a fault: these bytes were taken, and those behind the streams are in hand.
+pub record HasCome (left left' : Option (List ℕ)) (taken in_hand : List ℕ) (was_used : Bool) (m : ℕ) : Type 0 where
   pub consumed : Consumes left left' taken
   pub clean : (later : List ℕ) (i : ℕ) → i < m → first_fault (stream_at (taken ++ later) i) ≡ None
-  pub rest : (later : List ℕ) → behind (taken ++ later) m ≡ room.held ++ later
-  pub held : length room.held ≤ 4096
-  pub used : room.used ≡ nat_lt 0 m
-  pub sound : room.failed ≡ false
-
--- After those, the first q captures of track number n were read: these more bytes were taken, and the book stands for all
--- readings of these captures.
-pub record HasCaptured (plan : Plan) (format : Format) (n : ℕ) (left left' : Option (List ℕ)) (taken : List ℕ) (room : RoomState) (q : ℕ) : Type 0 where
-  pub more : List ℕ
-  pub come : HasCome left left' (taken ++ more) room (n * plan.captures + q)
-  pub captures : List (List NotedReading)
-  pub many : length captures ≡ q
-  pub each : (later : List ℕ) → AreCaptures plan format (streams_in plan ((taken ++ more) ++ later)) n captures
-  pub stands : StandsFor room.book (joined captures)
+  pub rest : (later : List ℕ) → behind (taken ++ later) m ≡ in_hand ++ later
+  pub held : length in_hand ≤ 4096
+  pub used : was_used ≡ nat_lt 0 m
 
 -- capture number q of track number n is the first stream of x with a fault, and this is the fault
 pub record StoppedAt (plan : Plan) (n : ℕ) (x later : List ℕ) (q block : ℕ) (fault : StreamFault) : Type 0 where
@@ -51,22 +38,17 @@ SaysOfStop plan n (Err (Refused track capture block fault)) x later = (track ≡
 SaysOfStop plan n (Err ReadFault) x later = (q block : ℕ) × StoppedAt plan n x later q block Truncated
 SaysOfStop plan n _ x later = ⊥
 
--- The reading of a track's captures ended with a fault: these more bytes were taken, and what the answer says is right whatever
--- follows them, unless it is of them alone.
+-- The reading of a track's captures ended with a fault: these bytes were taken, and what the answer says is right whatever follows
+-- them, unless it is of them alone.
 pub record WasStopped (plan : Plan) (n : ℕ) (left left' : Option (List ℕ)) (taken : List ℕ) (answer : Result (Unit {0}) PlanFault) : Type 0 where
-  pub more : List ℕ
-  pub consumed : Consumes left left' (taken ++ more)
-  pub says : (later : List ℕ) → (IsOfBytesTaken answer → later ≡ []) → SaysOfStop plan n answer ((taken ++ more) ++ later) later
+  pub consumed : Consumes left left' taken
+  pub says : (later : List ℕ) → (IsOfBytesTaken answer → later ≡ []) → SaysOfStop plan n answer (taken ++ later) later
   pub ended : SaysTruncated answer → IsAtEnd left'
-
-abbrev pub ReadsCaptures : Plan → Format → (n : ℕ) → (left left' : Option (List ℕ)) → (taken : List ℕ) → RoomState → Result (Unit {0}) PlanFault → Type 0
-ReadsCaptures plan format n left left' taken room (Ok u) = HasCaptured plan format n left left' taken room plan.captures
-ReadsCaptures plan format n left left' taken room (Err fault) = WasStopped plan n left left' taken (Err fault)
 
 -- The first n tracks are decoded and written whole.
 pub record HasPlanned (plan : Plan) (of : PartOf) (format : Format) (left left' image image' notes notes' : Option (List ℕ)) (room : RoomState) (n : ℕ) (totals : Totals) : Type 0 where
   pub taken : List ℕ
-  pub come : HasCome left left' taken room (n * plan.captures)
+  pub come : HasCome left left' taken room.held room.used (n * plan.captures)
   pub parts : List TrackPart
   pub many : length parts ≡ n
   pub each : (later : List ℕ) → ArePlannedParts plan of format (streams_in plan (taken ++ later)) parts
@@ -74,15 +56,20 @@ pub record HasPlanned (plan : Plan) (of : PartOf) (format : Format) (left left' 
   pub notes_grew : Appends notes notes' (lines parts)
   pub totals_are : totals ≡ totals_over parts
   pub format_is : room.format ≡ format
+  pub sound : room.failed ≡ false
 
 -- Reading ended with a fault of a stream, after so many tracks that were decoded and written whole, of which these are the totals.
 pub record EndedInStream (plan : Plan) (of : PartOf) (format : Format) (left left' image image' notes notes' : Option (List ℕ)) (totals : Totals) (answer : Result (Unit {0}) PlanFault) : Type 0 where
   pub number : ℕ
   pub low : number < length (tracks format)
-  pub mid : Option (List ℕ)
-  pub room : RoomState
-  pub before : HasPlanned plan of format left mid image image' notes notes' room number totals
-  pub stopped : WasStopped plan number left left' before.taken answer
+  pub taken : List ℕ
+  pub parts : List TrackPart
+  pub many : length parts ≡ number
+  pub each : (later : List ℕ) → ArePlannedParts plan of format (streams_in plan (taken ++ later)) parts
+  pub image_grew : Appends image image' (images parts)
+  pub notes_grew : Appends notes notes' (lines parts)
+  pub totals_are : totals ≡ totals_over parts
+  pub stopped : WasStopped plan number left left' taken answer
 
 -- Reading ended with a fault: that of a stream, or that of a sink in the track after those that were written whole.
 abbrev pub EndsInTracks : Plan → PartOf → Format → (left left' image image' notes notes' : Option (List ℕ)) → Totals → Result (Unit {0}) PlanFault → Type 0

@@ -1,5 +1,5 @@
 -- What a disk comes to that is read by a plan: so many streams of each track, each by these clocks.
-use Rattle.std.specs.Prelude.{◌≡◌, ◌<◌, ◌⊎◌, ℕ, ◌+◌, ◌*◌, List, [], ◌++◌, length, flat_map, get_or, Option, Some, None}
+use Rattle.std.specs.Prelude.{◌≡◌, ◌<◌, ◌⊎◌, ℕ, zero, suc, ◌+◌, ◌*◌, List, [], ◌∷◌, ◌++◌, length, flat_map, get_or, Option, Some, None}
 use Rattle.flux_base.specs.declared.track.TrackId.{TrackId}
 use Rattle.kryo_stream.specs.Stream.{first_fault, times, indexes}
 use Rattle.kryo_stream.specs.declared.fault.StreamFault.{StreamFault}
@@ -7,26 +7,32 @@ use Rattle.kryo_stream.specs.declared.fault.StreamFault.TheVariants.{Truncated}
 use Rattle.sector_images.specs.Places.{tracks}
 use Rattle.sector_images.specs.declared.format.Format.{Format}
 use Rattle.sector_report.specs.Lines.{total_text}
+use Rattle.sector_report.specs.declared.dump_lines.Passed.{Passed}
 use Rattle.sector_report.specs.declared.naming.Naming.TheVariants.{Unnamed}
 use Rattle.sector_report.specs.declared.totals.Totals.{Totals}
+use Rattle.turn_merge.specs.Others.{NotedOther}
 use Rattle.turn_merge.specs.Readings.{NotedReading}
-use Rattle.flux_engine.specs.Captured.{AreReadingsOf}
+use Rattle.flux_engine.specs.Captured.{AreOthersOf, AreReadingsOf}
 use Rattle.flux_engine.specs.Disks.{images, lines, part_at, totals_over}
 use Rattle.flux_engine.specs.Recordings.{track_at}
 use Rattle.flux_engine.specs.Streams.{stream_at}
-use Rattle.flux_engine.specs.Tracks.{TrackPart}
+use Rattle.flux_engine.specs.Tracks.{TrackNotes, TrackPart, track_notes}
+use Rattle.flux_engine.specs.declared.gathered_track.PassedStream.{PassedStream}
 use Rattle.flux_engine.specs.declared.plan.Clocks.TheVariants.{FollowingAlone}
 use Rattle.flux_engine.specs.declared.plan.Plan.{Plan}
+use Rattle.flux_engine.specs.declared.plan.Rule.TheVariants.{Strict}
 
--- what a stream says: its first fault and the number of its block, or else its transitions and index times
+-- What a stream says: the fault that ends the disk there, with the number of its block; or why it is passed over; or else its
+-- transitions and index times. One that is passed over has no such fault, no transitions and no index times.
 pub record Seen : Type 0 where
   pub fault : Option (ℕ × StreamFault)
+  pub passed : Option Passed
   pub times : List ℕ
   pub indexes : List ℕ
 
--- what the bytes that begin with a stream say of it
+-- what the bytes that begin with a stream say of it: it is not passed over
 abbrev pub seen : List ℕ → Seen
-seen x = record { fault = first_fault x; times = times x; indexes = indexes x }
+seen x = record { fault = first_fault x; passed = None; times = times x; indexes = indexes x }
 
 -- the streams of a disk, by the number of the track and that of the capture
 abbrev pub Streams : Type 0
@@ -40,23 +46,43 @@ streams_in plan x n q = seen (stream_at x (n * plan.captures + q))
 abbrev pub AreCaptures : Plan → Format → Streams → (n : ℕ) → List (List NotedReading) → Type 0
 AreCaptures plan format streams n captures =
     (q : ℕ) → q < length captures
-    → AreReadingsOf plan.clocks format (track_at format n) (streams n q).times (streams n q).indexes q (get_or captures q [])
+    → AreReadingsOf plan.rule plan.clocks format (track_at format n) (streams n q).times (streams n q).indexes q (get_or captures q [])
 
 -- lists of readings, joined in order
 abbrev pub joined : List (List NotedReading) → List NotedReading
 joined captures = flat_map (λ readings. readings) captures
 
--- what becomes of a track's readings: its part of the image, what is said of it, and its totals
-abbrev pub PartOf : Type 0
-PartOf = Format → TrackId → List NotedReading → TrackPart
+-- a capture with its number, where it is passed over
+abbrev pub passed_one : ℕ → Option Passed → List PassedStream
+passed_one q None = []
+passed_one q (Some why) = record { capture = q; why = why } ∷ []
 
--- no capture of track number n has a fault, and this is what the track comes to by all their readings, joined in order
+-- which of the first captures of track number n are passed over, in order
+abbrev pub passed_to : Streams → (n : ℕ) → ℕ → List PassedStream
+passed_to streams n zero = []
+passed_to streams n (suc q) = passed_to streams n q ++ passed_one q (streams n q).passed
+
+-- all headers of the first captures of track number n that name none of its sectors, capture by capture
+abbrev pub AreOthersTo : Plan → Format → Streams → (n : ℕ) → ℕ → List NotedOther → Type 0
+AreOthersTo plan format streams n zero others = others ≡ []
+AreOthersTo plan format streams n (suc q) others =
+    (before now : List NotedOther) × AreOthersTo plan format streams n q before
+    × AreOthersOf plan.rule plan.clocks format (track_at format n) (streams n q).times (streams n q).indexes q now × (others ≡ before ++ now)
+
+-- what becomes of what was gathered of a track: its part of the image, what is said of it, and its totals
+abbrev pub PartOf : Type 0
+PartOf = Format → TrackId → TrackNotes → TrackPart
+
+-- no capture of track number n has a fault, and this is what the track comes to by all their readings, joined in order, and by those that
+-- are passed over, and by all others
 pub record IsPlannedPart (plan : Plan) (of : PartOf) (format : Format) (streams : Streams) (n : ℕ) (part : TrackPart) : Type 0 where
   pub no_fault : (q : ℕ) → q < plan.captures → (streams n q).fault ≡ None
   pub captures : List (List NotedReading)
   pub many : length captures ≡ plan.captures
   pub each : AreCaptures plan format streams n captures
-  pub is : part ≡ of format (track_at format n) (joined captures)
+  pub others : List NotedOther
+  pub others_are : AreOthersTo plan format streams n plan.captures others
+  pub is : part ≡ of format (track_at format n) (track_notes (joined captures) (passed_to streams n plan.captures) others)
 
 -- the first tracks, one for each part
 abbrev pub ArePlannedParts : Plan → PartOf → Format → Streams → List TrackPart → Type 0
@@ -124,4 +150,4 @@ EndsInPlan plan format x = (stop : PlanStop) × IsFirstFault plan format (stream
 
 -- the plan by which a disk is decoded: one stream of each track, by the clock that follows the drive, and lines that name no source
 abbrev pub decoding : Plan
-decoding = record { captures = 1; clocks = FollowingAlone; naming = Unnamed }
+decoding = record { captures = 1; rule = Strict; clocks = FollowingAlone; naming = Unnamed }

@@ -13,6 +13,7 @@ use Rattle.sector_report.specs.Lines.{named_text}
 use Rattle.sector_report.specs.declared.naming.Naming.{Naming}
 use Rattle.sector_report.specs.declared.naming.Naming.TheVariants.{Unnamed}
 use Rattle.sector_report.specs.declared.totals.Totals.{Totals}
+use Rattle.turn_merge.specs.Others.{NotedOther}
 use Rattle.turn_merge.specs.Readings.{NotedReading, good_reading, bad_reading, verdict, agreed}
 use Rattle.turn_merge.specs.declared.clock.Clock.{Clock}
 use Rattle.turn_merge.specs.declared.clock.Clock.TheVariants.{Following}
@@ -21,6 +22,7 @@ use Rattle.turn_merge.specs.declared.verdict.Verdict.{Verdict}
 use Rattle.turn_merge.specs.declared.verdict.Verdict.TheVariants.{Good, Contradictory, Bad, Missing}
 use Rattle.disk_recordings.specs.Members.{header_at, sector_at}
 use Rattle.flux_engine.specs.Recordings.{sectors_of, cells_of}
+use Rattle.flux_engine.specs.declared.gathered_track.PassedStream.{PassedStream}
 use Rattle.flux_engine.specs.declared.sectors.Sectors.{Sectors}
 
 -- what is read at a place of the cells, with the bytes of a good sector
@@ -117,17 +119,31 @@ pub record TrackPart : Type 0 where
   pub lines : List ℕ
   pub totals : Totals
 
+-- what was gathered of a track's streams: all their readings, joined in order, which of the streams were passed over, and all headers
+-- that name none of the track's sectors
+pub record TrackNotes : Type 0 where
+  pub readings : List NotedReading
+  pub passed : List PassedStream
+  pub others : List NotedOther
+
+abbrev pub track_notes : List NotedReading → List PassedStream → List NotedOther → TrackNotes
+track_notes readings passed others = record { readings = readings; passed = passed; others = others }
+
 -- what a track comes to by these readings, with lines that name so much of their sources
-abbrev pub part_by : Naming → Format → TrackId → List NotedReading → TrackPart
-part_by naming format track readings = record {
+abbrev pub named_part : Naming → Format → TrackId → List NotedReading → TrackPart
+named_part naming format track readings = record {
   image = image_of format track readings;
   lines = lines_by naming track (sectors_of format track) readings;
   totals = totals_of (map (verdict readings) (numbers (sectors_of format track)));
 }
 
--- the same where no source is named
+-- the same by what was gathered: of a stream that was passed over, and of others, nothing is told
+abbrev pub part_by : Naming → Format → TrackId → TrackNotes → TrackPart
+part_by naming format track notes = named_part naming format track notes.readings
+
+-- by readings, where no source is named
 abbrev pub part_of : Format → TrackId → List NotedReading → TrackPart
-part_of format track readings = part_by Unnamed format track readings
+part_of format track readings = named_part Unnamed format track readings
 
 -- all that can be read on a track with these transitions and index times, and what it comes to
 pub record IsPart (format : Format) (track : TrackId) (times indexes : List ℕ) (part : TrackPart) : Type 0 where

@@ -1,13 +1,14 @@
 -- The conditions under which a track is written out.
 use Rattle.std.specs.Prelude.{◌≡◌, ◌≤◌, ◌+◌, length}
+use Rattle.flux_base.specs.Bounds.{MOST_SECTOR_BYTES}
 use Rattle.sector_report.specs.declared.totals.Totals.{Totals}
 use Rattle.turn_merge.specs.Book.{Knowledge}
 use Rattle.flux_engine.specs.declared.sectors.Sectors.{Sectors}
 
--- the numbers of the sectors have 8 bits, and a sector has at most 512 bytes
+-- the numbers of the sectors have 8 bits, and a sector has not too many bytes
 pub record AreFew (sectors : Sectors) : Type 0 where
   pub below : sectors.first + sectors.count ≤ 256
-  pub size : sectors.size ≤ 512
+  pub size : sectors.size ≤ MOST_SECTOR_BYTES
 
 -- the book knows of these sectors
 pub record Knows (sectors : Sectors) (book : Knowledge) : Type 0 where

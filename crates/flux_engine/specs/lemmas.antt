@@ -8,6 +8,7 @@ pub mod Coming
 pub mod OneCapture
 pub mod Each
 pub mod GoodSectors
-pub mod Chosen
 pub mod Repeated
+pub mod WrittenOnes
 pub mod OneStream
+pub mod NoOthers

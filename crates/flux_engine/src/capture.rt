@@ -4,33 +4,36 @@ ghost use Rattle.std.specs.Prelude.{◌≡◌, ◌+◌, ◌*◌, ◌≤◌, ◌<
 ghost use Rattle.std.specs.Option.{option_copied};
 ghost use Rattle.flux_engine.specs.Answers.{CaptureCause, ReadsCapture, ReadsStream};
 ghost use Rattle.flux_engine.specs.Captured.{count_of_clocks};
-ghost use Rattle.flux_engine.specs.Gathering.{HasNoted, HasNotedBy, IsBookFor};
+ghost use Rattle.cell_bits.specs.State.{room};
+ghost use Rattle.flux_engine.specs.Gathering.{AreCellsOf, HasNoted, HasNotedBy, IsBookFor};
 ghost use Rattle.flux_engine.specs.PlanAnswers.{ReadsByClocks};
 ghost use Rattle.flux_engine.specs.Reading.{IsBounded};
-ghost use Rattle.flux_engine.specs.Recordings.{start_by as start_of_clock, track_at, sectors_of as sectors_in};
-ghost use Rattle.flux_engine.specs.Room.{IsRoomy, MOST_READINGS, MOST_SOURCES};
+ghost use Rattle.flux_engine.specs.Recordings.{cells_by, start_by as start_of_clock, track_at, sectors_of as sectors_in};
+ghost use Rattle.flux_engine.specs.Room.{IsRoomy, MOST_CELLS, MOST_READINGS, MOST_SOURCES};
 ghost use Rattle.flux_engine.specs.TrackParts.{PartCause, WritesPart};
-ghost use Rattle.flux_engine.specs.Tracks.{part_by};
+ghost use Rattle.flux_engine.specs.Tracks.{named_part, track_notes};
 ghost use Rattle.flux_engine.specs.Writing.{IsSum, Knows};
 ghost use Rattle.kryo_stream.specs.Outcome.{IsReadWhereNeeded};
 ghost use Rattle.kryo_stream.specs.Reads.{source_at};
 ghost use Rattle.phase_loop.specs.Start.{IsStart};
 ghost use Rattle.sector_images.specs.Places.{IsTrack, tracks};
 ghost use Rattle.turn_merge.specs.Book.{IsKnown, MOST_NOTES, SameShape, StandsFor};
+ghost use Rattle.turn_merge.specs.Others.{NotedOther, OthersStandFor};
 ghost use Rattle.turn_merge.specs.Readings.{NotedReading, agreed, verdict as verdict_over};
 
 use crate::fault::CaptureFault;
-use crate::gathering::gather;
-use crate::plan::Clocks;
+use crate::gathering::{gather, gather_as_controller};
+use crate::plan::{Clocks, Rule};
 use crate::recordings::sectors_of;
 use crate::room::{DiskRoom, Tools};
-use crate::track_part::PartFault;
-use crate::track_writer::{ImageAndReport, TrackWriter};
-use disk_recordings::{DiskId, recording_of};
+use crate::track_part::{PartFault, write_part};
+use crate::track_writer::TrackWriter;
+use cell_bits::Cells;
+use disk_recordings::{DiskId, controller_format, recording_of};
 use flux_base::{Sink, Source, TrackId};
 use index_turns::TrackFlux;
 use kryo_stream::{RoomFault, StreamRoom};
-use phase_loop::{LoopStart, recover};
+use phase_loop::{Loop, LoopStart, recover};
 use sector_images::{Format, nominal, ring_cells, track_id, tracks_keep_bounds};
 use sector_report::{Naming, Totals};
 use turn_merge::{Clock, Verdict};
@@ -38,13 +41,16 @@ use turn_merge::{Clock, Verdict};
 /// Begins a track: what was gathered before is forgotten.
 pub fn start_track(room: &mut DiskRoom, number: u32)
     requires { number < length (tracks room.old.format) }
-    ensures started { room.new ≡ record room.old { started = number; captures = 0; book = room.new.book } }
+    ensures started { room.new ≡ record room.old { started = number; captures = 0; book = room.new.book; passed = []; others = room.new.others } }
     ensures empty { StandsFor room.new.book [] }
+    ensures no_others { OthersStandFor room.new.others [] }
     ensures knows { Knows (sectors_in room.old.format (track_at room.old.format number)) room.new.book }
 {
     tracks_keep_bounds();
     let sectors = sectors_of(room.format, track_id(room.format, number));
-    room.tools.book.clear(sectors.count);
+    room.tools.gathered.book.clear(sectors.count);
+    room.tools.gathered.passed.clear();
+    room.tools.gathered.others.clear();
     room.started = number;
     room.captures = 0;
 }
@@ -81,14 +87,22 @@ pub fn read_capture<S: Source>(
     ensures cause { CaptureCause (S.faults source.old) (S.faults source.new) result }
     ensures later { S.faults source.old ≤ S.faults source.new }
 {
-    read_by_clocks(Clocks::FollowingAlone, room, number, capture, source)
+    read_by_clocks(
+        Rule::Strict,
+        Clocks::FollowingAlone,
+        room,
+        number,
+        capture,
+        source,
+    )
 }
 
-/// Reads the next stream as one more that captures the started track, and notes all its readings by these clocks after those
-/// before, as those of this capture. No answer is for want of memory.
+/// Reads the next stream as one more that captures the started track, and notes all its readings by the rule and these
+/// clocks after those before, as those of this capture. No answer is for want of memory.
 ///
 /// It counts once for each clock among the at most 32 streams of a track, and a room is not used again for reading after a fault.
 pub fn read_by_clocks<S: Source>(
+    rule: Rule,
     clocks: Clocks,
     room: &mut DiskRoom,
     number: u32,
@@ -98,7 +112,7 @@ pub fn read_by_clocks<S: Source>(
     requires started { number ≡ room.old.started }
     requires few { room.old.captures + count_of_clocks clocks ≤ MOST_SOURCES }
     requires sound { room.old.failed ≡ false }
-    ensures read { ReadsByClocks clocks room.old.format (track_at room.old.format number) capture (S.left source.old) (S.left source.new) room.old.used room.old.held room.new.held room.old.book room.new.book result }
+    ensures read { ReadsByClocks rule clocks room.old.format (track_at room.old.format number) capture (S.left source.old) (S.left source.new) room.old.used room.old.held room.new.held room.old.book room.new.book result }
 
     // The source is read only where the bytes at hand do not tell the answer.
     ensures needed { IsReadWhereNeeded (source_at S.left S.given S.faults source.old) (source_at S.left S.given S.faults source.new) room.old.used room.old.held }
@@ -125,6 +139,7 @@ pub fn read_by_clocks<S: Source>(
         Err(fault) => return Err(fault),
     }
     note_by_clocks(
+        rule,
         clocks,
         room.format,
         track,
@@ -138,7 +153,7 @@ pub fn read_by_clocks<S: Source>(
 }
 
 /// How many clocks these are.
-fn clock_count(clocks: Clocks) -> u32
+pub(crate) fn clock_count(clocks: Clocks) -> u32
     ensures { result ≡ count_of_clocks clocks }
 {
     match clocks {
@@ -159,7 +174,7 @@ pub fn verdict(room: &DiskRoom, sector: u8) -> Verdict
     requires { IsKnown room.now.book sector }
     ensures { (readings : List NotedReading) → StandsFor room.now.book readings → result ≡ verdict_over readings sector }
 {
-    room.tools.book.verdict(sector)
+    room.tools.gathered.book.verdict(sector)
 }
 
 /// The data of a sector of the started track, where its verdict is `Good`.
@@ -167,7 +182,7 @@ pub fn bytes(room: &DiskRoom, sector: u8) -> Option<&[u8]>
     requires { IsKnown room.now.book sector }
     ensures { (readings : List NotedReading) → StandsFor room.now.book readings → option_copied result ≡ agreed readings sector }
 {
-    room.tools.book.bytes(sector)
+    room.tools.gathered.book.bytes(sector)
 }
 
 /// Writes what the gathered readings of the started track come to, as `write_part` does.
@@ -178,14 +193,23 @@ pub fn write_started_part<W: Sink, N: Sink>(
     notes: &mut N,
 ) -> Result<Totals, PartFault>
     ensures wrote { (readings : List NotedReading) → StandsFor room.now.book readings
-        → WritesPart (part_by naming room.now.format (track_at room.now.format room.now.started) readings) (W.written image.old) (W.written image.new) (N.written notes.old) (N.written notes.new) result }
+        → WritesPart (named_part naming room.now.format (track_at room.now.format room.now.started) readings) (W.written image.old) (W.written image.new) (N.written notes.old) (N.written notes.new) result }
     ensures sum { IfOk result IsSum }
     ensures few { IfOk result (λ totals. totals.sectors ≤ 100) }
     ensures cause { PartCause (W.faults image.old) (W.faults image.new) (N.faults notes.old) (N.faults notes.new) result }
     ensures image_later { W.faults image.old ≤ W.faults image.new }
     ensures notes_later { N.faults notes.old ≤ N.faults notes.new }
 {
-    write_started(&ImageAndReport { naming }, room, image, notes)
+    tracks_keep_bounds();
+    let track = track_id(room.format, room.started);
+    write_part(
+        naming,
+        room.format,
+        track,
+        &room.tools.gathered.book,
+        image,
+        notes,
+    )
 }
 
 /// Writes what the gathered readings of the started track come to.
@@ -195,8 +219,8 @@ pub(crate) fn write_started<O: TrackWriter, W: Sink, N: Sink>(
     image: &mut W,
     notes: &mut N,
 ) -> Result<Totals, PartFault>
-    ensures wrote { (readings : List NotedReading) → StandsFor room.now.book readings
-        → WritesPart (O.part_of writer.now room.now.format (track_at room.now.format room.now.started) readings) (W.written image.old) (W.written image.new) (N.written notes.old) (N.written notes.new) result }
+    ensures wrote { (readings : List NotedReading) (others : List NotedOther) → StandsFor room.now.book readings → OthersStandFor room.now.others others
+        → WritesPart (O.part_of writer.now room.now.format (track_at room.now.format room.now.started) (track_notes readings room.now.passed others)) (W.written image.old) (W.written image.new) (N.written notes.old) (N.written notes.new) result }
     ensures sum { IfOk result IsSum }
     ensures few { IfOk result (λ totals. totals.sectors ≤ 100) }
     ensures cause { PartCause (W.faults image.old) (W.faults image.new) (N.faults notes.old) (N.faults notes.new) result }
@@ -205,11 +229,11 @@ pub(crate) fn write_started<O: TrackWriter, W: Sink, N: Sink>(
 {
     tracks_keep_bounds();
     let track = track_id(room.format, room.started);
-    writer.write_track(room.format, track, &room.tools.book, image, notes)
+    writer.write_track(room.format, track, &room.tools.gathered, image, notes)
 }
 
 /// Reads the next stream.
-fn read_stream<S: Source>(source: &mut S, stream: &mut StreamRoom) -> Result<(), CaptureFault>
+pub fn read_stream<S: Source>(source: &mut S, stream: &mut StreamRoom) -> Result<(), CaptureFault>
     ensures read { ReadsStream (S.left source.old) (S.left source.new) stream.old.used stream.old.held stream.new.held stream.new.flux.times stream.new.flux.indexes result }
     ensures needed { IsReadWhereNeeded (source_at S.left S.given S.faults source.old) (source_at S.left S.given S.faults source.new) stream.old.used stream.old.held }
     ensures bounded { OnOk result (IsBounded stream.new.flux) }
@@ -226,7 +250,8 @@ fn read_stream<S: Source>(source: &mut S, stream: &mut StreamRoom) -> Result<(),
 }
 
 /// Recovers the cells of a capture of a track by these clocks and notes all readings of its sectors in the book.
-fn note_by_clocks(
+pub(crate) fn note_by_clocks(
+    rule: Rule,
     clocks: Clocks,
     format: Format,
     track: TrackId,
@@ -236,21 +261,24 @@ fn note_by_clocks(
 )
     requires track { IsTrack format track }
     requires bounded { IsBounded flux.now }
-    requires roomy { IsRoomy format tools.old.cells tools.old.book }
-    requires knows { Knows (sectors_in format track) tools.old.book }
-    requires few { tools.old.book.notes + 2 * MOST_READINGS ≤ MOST_NOTES }
-    ensures noted { HasNotedBy clocks format track flux.now.times flux.now.indexes capture tools.old.book tools.new.book }
-    ensures roomy { IsRoomy format tools.new.cells tools.new.book }
+    requires roomy { IsRoomy format tools.old.cells tools.old.gathered.book }
+    requires knows { Knows (sectors_in format track) tools.old.gathered.book }
+    requires few { tools.old.gathered.book.notes + 2 * MOST_READINGS ≤ MOST_NOTES }
+    requires few_others { tools.old.gathered.others.notes + 2 * MOST_READINGS ≤ MOST_NOTES }
+    ensures noted { HasNotedBy rule clocks format track flux.now.times flux.now.indexes capture tools.old.gathered.book tools.new.gathered.book tools.old.gathered.others tools.new.gathered.others }
+    ensures kept { tools.new.gathered.passed ≡ tools.old.gathered.passed }
+    ensures roomy { IsRoomy format tools.new.cells tools.new.gathered.book }
 {
-    note_readings(Clock::Following, format, track, capture, flux, tools);
+    note_readings(rule, Clock::Following, format, track, capture, flux, tools);
     match clocks {
         Clocks::FollowingAlone => {}
-        Clocks::Both => note_readings(Clock::Held, format, track, capture, flux, tools),
+        Clocks::Both => note_readings(rule, Clock::Held, format, track, capture, flux, tools),
     }
 }
 
-/// Recovers the cells of a capture of a track by a clock and notes all readings of its sectors in the book.
+/// Recovers the cells of a capture of a track by a clock and notes all readings of its sectors by the rule in the book.
 fn note_readings(
+    rule: Rule,
     clock: Clock,
     format: Format,
     track: TrackId,
@@ -260,30 +288,68 @@ fn note_readings(
 )
     requires track { IsTrack format track }
     requires bounded { IsBounded flux.now }
-    requires roomy { IsRoomy format tools.old.cells tools.old.book }
-    requires knows { Knows (sectors_in format track) tools.old.book }
-    requires few { tools.old.book.notes + MOST_READINGS ≤ MOST_NOTES }
-    ensures noted { HasNoted clock format track flux.now.times flux.now.indexes capture tools.old.book tools.new.book }
-    ensures roomy { IsRoomy format tools.new.cells tools.new.book }
+    requires roomy { IsRoomy format tools.old.cells tools.old.gathered.book }
+    requires knows { Knows (sectors_in format track) tools.old.gathered.book }
+    requires few { tools.old.gathered.book.notes + MOST_READINGS ≤ MOST_NOTES }
+    requires few_others { tools.old.gathered.others.notes + MOST_READINGS ≤ MOST_NOTES }
+    ensures noted { HasNoted rule clock format track flux.now.times flux.now.indexes capture tools.old.gathered.book tools.new.gathered.book tools.old.gathered.others tools.new.gathered.others }
+    ensures kept { tools.new.gathered.passed ≡ tools.old.gathered.passed }
+    ensures roomy { IsRoomy format tools.new.cells tools.new.gathered.book }
+{
+    recover_cells(
+        clock,
+        format,
+        track,
+        flux,
+        &mut tools.clock,
+        &mut tools.cells,
+    );
+    let cells = &tools.cells;
+    let gathered = &mut tools.gathered;
+    match rule {
+        Rule::Strict => {
+            let recording = recording_of(format, DiskId::ANY);
+            gather(
+                &recording,
+                track,
+                flux,
+                cells,
+                capture,
+                clock,
+                &mut gathered.book,
+            );
+        }
+        Rule::Controller => {
+            let recording = recording_of(controller_format(format), DiskId::ANY);
+            gather_as_controller(&recording, track, flux, cells, capture, clock, gathered);
+        }
+    }
+}
+
+/// Recovers the cells of a capture of a track by a clock.
+fn recover_cells(
+    clock: Clock,
+    format: Format,
+    track: TrackId,
+    flux: &TrackFlux,
+    follower: &mut Loop,
+    cells: &mut Cells,
+)
+    requires track { IsTrack format track }
+    requires bounded { IsBounded flux.now }
+    requires room { MOST_CELLS ≤ room cells.old }
+    ensures cells { cells.new.cells ≡ cells_by clock format track flux.now.times flux.now.indexes }
+    ensures are { AreCellsOf flux.now.times cells.new.cells }
+    ensures room { room cells.old ≤ room cells.new }
 {
     let turn = flux.first_turn_ticks();
     let mean = LoopStart::for_turn(nominal(format, track), turn, ring_cells(format, track));
     let start = start_by(clock, mean);
-    match recover(flux, start, &mut tools.clock, &mut tools.cells) {
+    match recover(flux, start, follower, cells) {
         Ok(()) => {}
         // There is room for 32 cells of each transition.
         Err(_) => unreachable!(),
     }
-    let recording = recording_of(format, DiskId::ANY);
-    gather(
-        &recording,
-        track,
-        flux,
-        &tools.cells,
-        capture,
-        clock,
-        &mut tools.book,
-    );
 }
 
 /// A start as a clock takes it: the held one keeps its first period.

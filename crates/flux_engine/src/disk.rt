@@ -7,7 +7,7 @@ ghost use Rattle.flux_engine.specs.Writing.{IsSum, sum_of};
 ghost use Rattle.kryo_stream.specs.Reads.{source_at};
 
 use crate::fault::{EngineFault, PlanFault};
-use crate::plan::{Clocks, Plan};
+use crate::plan::{Clocks, Plan, Rule};
 use crate::planned::decode_planned;
 use crate::room::DiskRoom;
 use flux_base::{Sink, Source};
@@ -41,6 +41,7 @@ pub fn decode_disk<S: Source, W: Sink, N: Sink>(
 {
     let plan = Plan {
         captures: 1,
+        rule: Rule::Strict,
         clocks: Clocks::FollowingAlone,
         naming: Naming::Unnamed,
     };

@@ -1,10 +1,11 @@
 //! What the definitions behind `decode_track` and `decode_disk` come to.
 
 ghost use Rattle.flux_engine.specs.DiskLaws.{EachHasOneVerdict, GoodIsRightOnDisks, LinesNameVerdicts, LinesTellVerdicts, OthersAreZeros, PartsFitImages, PartsStandAtTheirPlaces, ReportsHaveNoOtherLines, WholeDisksFillImages};
-ghost use Rattle.flux_engine.specs.PlanLaws.{ContradictionsAreNamedInPlans, FirstReadingsLead, FirstSourceStaysGood, GoodIsRightInPlans, GoodReadingsStandInPlans, OnePlanned, ReadingsInPlansAreOne};
+ghost use Rattle.flux_engine.specs.PlanLaws.{ContradictionsAreNamedInPlans, FirstReadingsLead, FirstSourceStaysGood, GoodIsRightInPlans, GoodReadingsStandInPlans, OnePlanned, ReadingsInPlansAreOne, StrictGoodStays};
+ghost use Rattle.flux_engine.specs.Rules.{RulesAreRead};
 ghost use Rattle.flux_engine.specs.Laws.{CutInputsLead, FirstTracksLead, GoodIsRight, OneOutcome, PartsStay};
 
-use disk_recordings::tracks_are_read;
+use disk_recordings::{rewritten_tracks_are_read, tracks_are_read};
 use kryo_stream::growth_law;
 use phase_loop::cells_are_few;
 use sector_images::{
@@ -87,13 +88,23 @@ pub fn lines_tell_verdicts()
     sectors_lie_in_images()
 }
 
+/// By either rule the cells of a track tell all that can be read in them, as one list: each sector that stands by the rule, and no
+/// other as good. What stands by the strict rule stands by either.
+pub fn rules_are_read()
+    ensures { RulesAreRead }
+{
+    tracks_are_read();
+    rewritten_tracks_are_read()
+}
+
 /// Streams that are read by a plan come to one outcome, and their captures have one list of readings each. Each good reading names a
 /// place whose cells hold the sector, in its turn of its capture, by its clock; so a sector is called good, or contradictory, only
 /// where the places that are named hold it; where it is good, all places of all captures and of all clocks of the
 /// plan that hold it hold the bytes that the image has of it.
 ///
 /// First of all readings are those of the first capture by the clock that follows the drive. So a sector that it alone makes good is
-/// good by all, with the same place and the same bytes, or contradictory.
+/// good by all, with the same place and the same bytes, or contradictory. And a sector that the strict rule makes good over one
+/// capture by one clock is good by all, with the same bytes, or contradictory, whichever rule the plan has.
 pub fn plans_are_right()
     ensures one { OnePlanned }
     ensures readings { ReadingsInPlansAreOne }
@@ -102,6 +113,8 @@ pub fn plans_are_right()
     ensures contradictory { ContradictionsAreNamedInPlans }
     ensures lead { FirstReadingsLead }
     ensures stays { FirstSourceStaysGood }
+    ensures strict { StrictGoodStays }
 {
-    tracks_are_read()
+    tracks_are_read();
+    rules_are_read()
 }

@@ -14,6 +14,7 @@ mod capture;
 mod disk;
 mod disk_streams;
 mod fault;
+mod gathered_track;
 mod gathering;
 mod laws;
 mod plan;
@@ -22,8 +23,11 @@ mod recordings;
 mod ring_making;
 mod room;
 mod sectors;
+mod told_names;
 mod track;
+mod track_captures;
 mod track_part;
+mod track_streams;
 mod track_writer;
 mod write_fault;
 mod write_laws;
@@ -31,28 +35,31 @@ mod write_room;
 mod writing;
 
 pub use capture::{
-    bytes, read_by_clocks, read_capture, room_format, start_track, verdict, write_started_part,
+    bytes, read_by_clocks, read_capture, read_stream, room_format, start_track, verdict,
+    write_started_part,
 };
 pub use disk::{add_totals, decode_disk};
 pub use disk_streams::{fill, write_disk};
 pub use fault::{CaptureFault, EngineFault, PlanFault};
+pub use gathered_track::{Gathered, PassedStream, PassedStreams};
 pub use gathering::note_reading;
 pub use laws::{
     good_is_right, good_is_right_on_disks, lines_tell_verdicts, outcomes_are_one,
-    parts_fill_images, parts_stay, plans_are_right,
+    parts_fill_images, parts_stay, plans_are_right, rules_are_read,
 };
-pub use plan::{Clocks, Plan};
-pub use planned::{decode_planned, decode_planned_tracks};
+pub use plan::{Clocks, Plan, Rule};
+pub use planned::{decode_planned, decode_planned_tracks, decode_tracks};
 pub use recordings::sectors_of;
 pub use ring_making::track_ring;
 pub use room::DiskRoom;
 pub use sectors::Sectors;
 pub use track::decode_track;
 pub use track_part::{PartFault, write_part};
+pub use track_streams::{NextStream, OneAfterAnother, TrackStreams};
 pub use track_writer::{ImageAndReport, TrackWriter};
 pub use write_fault::WriteFault;
 pub use write_laws::{
     captures_are_recovered, images_have_rings, steady_captures_are_recovered, streams_are_captures,
 };
 pub use write_room::WriteRoom;
-pub use writing::{count_verdict, no_totals};
+pub use writing::{count_verdict, no_totals, write_image, write_lines};

@@ -1,25 +1,26 @@
-//! Disks that are read by a plan: one loop over the tracks and one over the captures of a track.
+//! Disks that are read by a plan: one loop over the tracks.
 
-ghost use Rattle.std.specs.Prelude.{◌≡◌, ◌≤◌, ◌<◌, ◌*◌, ℕ, List, Option, Some, false, length, OnErr, OnOk};
+ghost use Rattle.std.specs.Prelude.{◌≡◌, ◌≤◌, ℕ, List, Some, length, IfErr, OnErr, OnOk};
 ghost use Rattle.flux_engine.specs.Answers.{Stayed};
 ghost use Rattle.flux_engine.specs.Disks.{no_totals};
+ghost use Rattle.flux_engine.specs.LoopProgress.{EndsLoop, HasWritten};
 ghost use Rattle.flux_engine.specs.Needed.{ReadsWhereOpen};
-ghost use Rattle.flux_engine.specs.PlanAnswers.{DecodesPlanned, IsFinished, PlanCause, SaysOfPlannedInput, of_part as of_part_fault, of_stream as of_stream_fault};
-ghost use Rattle.flux_engine.specs.PlanProgress.{EndsInTracks, HasCome, HasPlanned, ReadsCaptures};
+ghost use Rattle.flux_engine.specs.PlanAnswers.{DecodesPlanned, IsFinished, PlanCause, SaysOfPlannedInput, of_part as of_part_fault};
+ghost use Rattle.flux_engine.specs.PlanProgress.{EndsInTracks, HasPlanned};
 ghost use Rattle.flux_engine.specs.Plans.{EndsInPlan};
-ghost use Rattle.flux_engine.specs.Recordings.{sectors_of as sectors_in, track_at};
 ghost use Rattle.flux_engine.specs.Room.{fresh};
 ghost use Rattle.flux_engine.specs.Tracks.{part_by};
-ghost use Rattle.flux_engine.specs.Writing.{Knows};
-ghost use Rattle.kryo_stream.specs.Reads.{SourceMoment, source_at};
+ghost use Rattle.kryo_stream.specs.Reads.{source_at};
 ghost use Rattle.sector_images.specs.Places.{tracks};
 
-use crate::capture::{read_by_clocks, start_track, write_started};
+use crate::capture::write_started;
 use crate::disk::add_totals;
-use crate::fault::{CaptureFault, PlanFault};
+use crate::fault::PlanFault;
 use crate::plan::Plan;
 use crate::room::DiskRoom;
+use crate::track_captures::read_captures;
 use crate::track_part::PartFault;
+use crate::track_streams::{OneAfterAnother, TrackStreams};
 use crate::track_writer::{ImageAndReport, TrackWriter};
 use crate::writing::no_totals;
 use flux_base::{Sink, Source};
@@ -70,8 +71,8 @@ pub fn decode_planned<S: Source, W: Sink, N: Sink>(
     }
 }
 
-/// Decodes all tracks of a disk in order by a plan, writes what each comes to, and adds up the totals of those that were written
-/// whole. No answer is for want of memory.
+/// Decodes all tracks of a disk in order by a plan, where its streams follow one another in a source, writes what each comes to, and
+/// adds up the totals of those that were written whole. No answer is for want of memory.
 ///
 /// After a fault nothing more is read or written. `Refused` names the first stream with a fault.
 pub fn decode_planned_tracks<O: TrackWriter, S: Source, W: Sink, N: Sink>(
@@ -94,12 +95,48 @@ pub fn decode_planned_tracks<O: TrackWriter, S: Source, W: Sink, N: Sink>(
     ensures image_later { W.faults image.old ≤ W.faults image.new }
     ensures notes_later { N.faults notes.old ≤ N.faults notes.new }
 {
-    tracks_keep_bounds();
-    sectors_lie_in_images();
     growth_law();
     padding_law();
+    decode_tracks(
+        plan,
+        &OneAfterAnother,
+        writer,
+        room,
+        source,
+        image,
+        notes,
+        totals,
+    )
+}
+
+/// Decodes all tracks of a disk in order by a plan, wherever its streams come from, writes what each comes to, and adds up the
+/// totals of those that were written whole. No answer is for want of memory.
+///
+/// After a fault nothing more is read or written. `Refused` names the stream that ended the disk.
+pub fn decode_tracks<T: TrackStreams<S>, O: TrackWriter, S, W: Sink, N: Sink>(
+    plan: Plan,
+    streams: &T,
+    writer: &O,
+    room: &mut DiskRoom,
+    source: &mut S,
+    image: &mut W,
+    notes: &mut N,
+    totals: &mut Totals,
+) -> Result<(), PlanFault>
+    requires none { totals.old ≡ no_totals }
+    requires fresh { room.old ≡ fresh room.old.format }
+    requires few { plan.captures ≤ 16 }
+    ensures ok { OnOk result (HasWritten plan (O.part_of writer.now) room.old.format (T.came streams.now plan room.old.format source.old source.new) (W.written image.old) (W.written image.new) (N.written notes.old) (N.written notes.new) room.new (length (tracks room.old.format)) totals.new) }
+    ensures err { IfErr result (EndsLoop plan (O.part_of writer.now) room.old.format (T.came streams.now plan room.old.format source.old source.new) (T.ended streams.now plan room.old.format source.old source.new) (W.written image.old) (W.written image.new) (N.written notes.old) (N.written notes.new) room.new totals.new) }
+    ensures cause { PlanCause (T.faults source.old) (T.faults source.new) (W.faults image.old) (W.faults image.new) (N.faults notes.old) (N.faults notes.new) result }
+    ensures source_later { T.faults source.old ≤ T.faults source.new }
+    ensures image_later { W.faults image.old ≤ W.faults image.new }
+    ensures notes_later { N.faults notes.old ≤ N.faults notes.new }
+{
+    tracks_keep_bounds();
+    sectors_lie_in_images();
     for number in 0..track_count(room.format) {
-        match read_captures(plan, room, number, source) {
+        match read_captures(plan, streams, room, number, source) {
             Ok(()) => {}
             Err(fault) => return Err(fault),
         }
@@ -109,51 +146,6 @@ pub fn decode_planned_tracks<O: TrackWriter, S: Source, W: Sink, N: Sink>(
         }
     }
     Ok(())
-}
-
-/// Reads all captures of a track: the next streams, so many. Their readings are gathered.
-fn read_captures<S: Source>(
-    plan: Plan,
-    room: &mut DiskRoom,
-    number: u32,
-    source: &mut S,
-) -> Result<(), PlanFault>
-    requires track { number < length (tracks room.old.format) }
-    requires few { plan.captures ≤ 16 }
-    requires sound { room.old.failed ≡ false }
-    ensures read { (start : Option (List ℕ)) (taken : List ℕ) → HasCome start (S.left source.old) taken room.old (number * plan.captures)
-        → ReadsCaptures plan room.old.format number start (S.left source.new) taken room.new result }
-    ensures needed { (start : SourceMoment) (taken x : List ℕ) → start.left ≡ Some x → HasCome start.left (S.left source.old) taken room.old (number * plan.captures)
-        → ReadsWhereOpen (EndsInPlan plan room.old.format) start (source_at S.left S.given S.faults source.old)
-        → ReadsWhereOpen (EndsInPlan plan room.old.format) start (source_at S.left S.given S.faults source.new) }
-    ensures format { room.new.format ≡ room.old.format }
-    ensures started { room.new.started ≡ number }
-    ensures cause { PlanCause (S.faults source.old) (S.faults source.new) 0 0 0 0 result }
-    ensures later { S.faults source.old ≤ S.faults source.new }
-{
-    start_track(room, number);
-    for capture in 0..plan.captures {
-        match read_by_clocks(plan.clocks, room, number, capture, source) {
-            Ok(()) => {}
-            Err(fault) => return Err(of_stream(number, u32::from(capture), fault)),
-        }
-    }
-    Ok(())
-}
-
-/// The fault of a capture of a track, among those of a disk.
-fn of_stream(track: u32, capture: u32, fault: CaptureFault) -> PlanFault
-    ensures { result ≡ of_stream_fault track capture fault }
-{
-    match fault {
-        CaptureFault::ReadFault => PlanFault::ReadFault,
-        CaptureFault::Refused { block, fault } => PlanFault::Refused {
-            track,
-            capture,
-            block,
-            fault,
-        },
-    }
 }
 
 /// The fault of a sink, among those of a disk.

@@ -13,15 +13,12 @@ use crate::recordings::sectors_of;
 use arrayvec::ArrayVec;
 use cell_bits::Cells;
 use disk_recordings::{DiskId, has_id, recording_of, tracks_have_rings};
-use flux_base::{Memory, TrackId};
+use flux_base::{MOST_TRACK_BYTES, Memory, TrackId};
 use frame_law::Recording;
-use sector_images::{Format, image_place, track_id};
-
-/// The most bytes of a track: 18 sectors of 512 bytes.
-const MOST_BYTES: usize = 9216;
+use sector_images::{Format, image_place, track_id, tracks_keep_bounds};
 
 /// The bytes of a track's sectors, in the order of the sectors' numbers.
-type TrackBytes = ArrayVec<u8, MOST_BYTES>;
+type TrackBytes = ArrayVec<u8, MOST_TRACK_BYTES>;
 
 /// The track of a Commodore 1541's disk whose sector 0 has the disk's two ids: track 18, counted from 1.
 const DIRECTORY_TRACK: TrackId = TrackId {
@@ -36,7 +33,7 @@ const FIRST_ID: u32 = 0xA2;
 const SECOND_ID: u32 = 0xA3;
 
 /// Makes `cells` the ring of a track of the format, with the bytes of an image in its sectors. The track has
-/// a number from 0 in the order cylinder, then head. A Commodore 1541's disk gets the two ids that its image
+/// a number from 0 in the format's order. A Commodore 1541's or 1571's disk gets the two ids that its image
 /// has in sector 0 of track 18 at the bytes A2 and A3. After `Memory` the cells are empty.
 pub fn track_ring(
     format: Format,
@@ -69,6 +66,7 @@ fn sector_bytes(format: Format, track: TrackId, image: &[u8]) -> TrackBytes
     ensures bytes { result.items ≡ track_bytes format track image.now }
     ensures sectors { AreSectors (sectors_in format track).count (sectors_in format track).size result.items }
 {
+    tracks_keep_bounds();
     let sectors = sectors_of(format, track);
     let mut bytes = TrackBytes::new();
     for index in 0..sectors.count {

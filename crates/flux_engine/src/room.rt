@@ -1,6 +1,8 @@
-ghost use Rattle.std.specs.Prelude.{◌≡◌, IfOk};
+ghost use Rattle.std.specs.Prelude.{◌≡◌, ◌+◌, ◌<◌, ◌^◌, [], length, IfOk};
 
+use crate::gathered_track::{Gathered, PassedStreams};
 use crate::recordings::sectors_of;
+use crate::told_names::{name_count, whole_name_count};
 use cell_bits::Cells;
 use flux_base::Memory;
 use kryo_stream::{MOST_TIMES, StreamRoom};
@@ -8,7 +10,7 @@ use phase_loop::Loop;
 use sector_images::{Format, track_id, tracks_keep_bounds};
 use std::alloc::Global;
 use std::marker::Model;
-use turn_merge::Book;
+use turn_merge::{Book, Others};
 
 /// The most cells of one track: 32 for each transition.
 const MOST_CELLS: usize = 32 * MOST_TIMES;
@@ -18,24 +20,31 @@ const MOST_CELLS: usize = 32 * MOST_TIMES;
 pub(crate) struct Tools {
     pub clock: Loop,
     pub cells: Cells,
-    pub book: Book,
+    pub gathered: Gathered,
 }
 
 /// All that decoding a disk of one format needs, less than 128 MiB: no answer of a call on it is for want of memory.
 ///
 /// Contracts see the format, the bytes that were taken from the source and not used yet, whether a stream was
-/// read, the number of the next track, the track whose readings are gathered, how many of its streams were read
-/// and what its book knows, and whether a call answered a fault.
+/// read, the number of the next track, the track whose readings are gathered, how many of its streams came, what its
+/// book knows, which of them were passed over and what is known of other headers; of all tracks that were read how many streams
+/// were passed over, how many names of others are told and how many of these have whole data; and whether a call answered a fault.
 #[derive(Drop)]
 pub struct DiskRoom {
     pub(crate) format: Format,
     pub(crate) stream: StreamRoom,
     pub(crate) tools: Tools,
     pub(crate) next: u32,
-    /// The track whose readings the book has.
+    /// The track of which readings are gathered.
     pub(crate) started: u32,
-    /// The streams that were read for it; one that is read by both clocks counts twice.
+    /// The streams that came for it; one that is read by both clocks counts twice.
     pub(crate) captures: u32,
+    /// The streams that were passed over of all tracks whose captures were read.
+    pub(crate) unread: u32,
+    /// The names that are told of other headers of these tracks.
+    pub(crate) told_others: u32,
+    /// Those of them that have whole data.
+    pub(crate) whole_others: u32,
     pub(crate) failed: bool,
 }
 
@@ -51,14 +60,20 @@ impl Model for DiskRoom {
       next = a.next;
       started = a.started;
       captures = a.captures;
-      book = a.tools.book;
+      book = a.tools.gathered.book;
+      passed = a.tools.gathered.passed.items;
+      unread = a.unread;
+      others = a.tools.gathered.others;
+      told_others = a.told_others;
+      whole_others = a.whole_others;
       failed = a.failed;
     } };
 
-    ghost invariant = { λ a. IsRoomy a.format a.tools.cells a.tools.book × IsStarted a.format a.started a.captures a.tools.book };
+    ghost invariant = { λ a. IsRoomy a.format a.tools.cells a.tools.gathered.book × IsStarted a.format a.started a.captures a.tools.gathered.book a.tools.gathered.others };
 }
 
 impl DiskRoom {
+    ghost use Rattle.flux_engine.specs.Counts.{counted};
     ghost use Rattle.flux_engine.specs.Room.{fresh};
 
     /// Takes all memory that decoding a disk of the format needs.
@@ -74,8 +89,46 @@ impl DiskRoom {
             next: 0,
             started: 0,
             captures: 0,
+            unread: 0,
+            told_others: 0,
+            whole_others: 0,
             failed: false,
         })
+    }
+
+    /// How many streams were passed over, of all tracks whose captures were read.
+    pub fn unread(&self) -> u32
+        ensures { result ≡ self.now.unread }
+    {
+        self.unread
+    }
+
+    /// How many names are told of headers that name none of their track's sectors, of all tracks whose captures were read.
+    pub fn told_others(&self) -> u32
+        ensures { result ≡ self.now.told_others }
+    {
+        self.told_others
+    }
+
+    /// How many of these names have whole data after one of their headers at least.
+    pub fn whole_others(&self) -> u32
+        ensures { result ≡ self.now.whole_others }
+    {
+        self.whole_others
+    }
+
+    /// Counts what was gathered of the started track.
+    pub(crate) fn count_track(&mut self)
+        requires unread { self.old.unread + length self.old.passed < 2 ^ 32 }
+        requires told { self.old.told_others + 64 < 2 ^ 32 }
+        requires whole { self.old.whole_others + 64 < 2 ^ 32 }
+        ensures { self.new ≡ counted self.old }
+    {
+        let names = name_count(&self.tools.gathered.others);
+        let with_data = whole_name_count(&self.tools.gathered.others);
+        self.unread += self.tools.gathered.passed.len() as u32;
+        self.told_others += names;
+        self.whole_others += with_data;
     }
 }
 
@@ -84,9 +137,11 @@ impl Tools {
 
     /// Room for the most cells, and a book for the format's tracks, of which the first is started.
     fn reserve(alloc: Global, format: Format) -> Result<Tools, Memory>
-        ensures roomy { IfOk result (λ tools. IsRoomy format tools.cells tools.book) }
-        ensures started { IfOk result (λ tools. IsStarted format 0 0 tools.book) }
-        ensures empty { IfOk result (λ tools. tools.book ≡ empty_book format) }
+        ensures roomy { IfOk result (λ tools. IsRoomy format tools.cells tools.gathered.book) }
+        ensures started { IfOk result (λ tools. IsStarted format 0 0 tools.gathered.book tools.gathered.others) }
+        ensures empty { IfOk result (λ tools. tools.gathered.book ≡ empty_book format) }
+        ensures none { IfOk result (λ tools. tools.gathered.passed.items ≡ []) }
+        ensures no_others { IfOk result (λ tools. tools.gathered.others ≡ record { notes = 0; told = [] }) }
     {
         let clock = Loop::new(alloc)?;
         let mut cells = Cells::new(alloc);
@@ -95,6 +150,15 @@ impl Tools {
         tracks_keep_bounds();
         let sectors = sectors_of(format, track_id(format, 0));
         let book = Book::new(alloc, sectors.first, sectors.count, sectors.size)?;
-        Ok(Tools { clock, cells, book })
+        let others = Others::new(alloc)?;
+        Ok(Tools {
+            clock,
+            cells,
+            gathered: Gathered {
+                book,
+                passed: PassedStreams::new(),
+                others,
+            },
+        })
     }
 }

@@ -5,6 +5,6 @@ pub struct Sectors {
     pub first: u8,
     /// How many there are.
     pub count: u8,
-    /// The bytes of each, at most 512.
+    /// The bytes of each, at most 1024.
     pub size: u16,
 }

@@ -60,7 +60,7 @@ pub fn decode_track<S: Source, W: Sink, N: Sink>(
         Naming::Unnamed,
         room.format,
         track,
-        &room.tools.book,
+        &room.tools.gathered.book,
         image,
         notes,
     ) {

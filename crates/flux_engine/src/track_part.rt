@@ -6,7 +6,7 @@ ghost use Rattle.turn_merge.specs.Book.{StandsFor};
 ghost use Rattle.turn_merge.specs.Readings.{NotedReading};
 ghost use Rattle.flux_engine.specs.Recordings.{sectors_of as sectors_in};
 ghost use Rattle.flux_engine.specs.TrackParts.{PartCause, WritesPart};
-ghost use Rattle.flux_engine.specs.Tracks.{part_by};
+ghost use Rattle.flux_engine.specs.Tracks.{named_part};
 ghost use Rattle.flux_engine.specs.Writing.{IsSum, Knows};
 
 use crate::recordings::sectors_of;
@@ -39,7 +39,7 @@ pub fn write_part<W: Sink, N: Sink>(
     requires track { IsTrack format track }
     requires known { Knows (sectors_in format track) book.now }
     ensures wrote { (readings : List NotedReading) → StandsFor book.now readings
-        → WritesPart (part_by naming format track readings) (W.written image.old) (W.written image.new) (N.written notes.old) (N.written notes.new) result }
+        → WritesPart (named_part naming format track readings) (W.written image.old) (W.written image.new) (N.written notes.old) (N.written notes.new) result }
     ensures sum { IfOk result IsSum }
     ensures few { IfOk result (λ totals. totals.sectors ≤ 100) }
     ensures cause { PartCause (W.faults image.old) (W.faults image.new) (N.faults notes.old) (N.faults notes.new) result }

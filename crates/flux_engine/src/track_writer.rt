@@ -1,39 +1,40 @@
-//! What becomes of a track's verdicts.
+//! What becomes of what was gathered of a track.
 
 ghost use Rattle.std.specs.Prelude.{◌≡◌, ◌≤◌, List, IfOk};
 ghost use Rattle.sector_images.specs.Places.{IsTrack};
 ghost use Rattle.turn_merge.specs.Book.{StandsFor};
+ghost use Rattle.turn_merge.specs.Others.{NotedOther, OthersStandFor};
 ghost use Rattle.turn_merge.specs.Readings.{NotedReading};
 ghost use Rattle.flux_engine.specs.Plans.{PartOf};
 ghost use Rattle.flux_engine.specs.Recordings.{sectors_of as sectors_in};
 ghost use Rattle.flux_engine.specs.TrackParts.{PartCause, WritesPart};
-ghost use Rattle.flux_engine.specs.Tracks.{part_by};
+ghost use Rattle.flux_engine.specs.Tracks.{part_by, track_notes};
 ghost use Rattle.flux_engine.specs.Writing.{IsSum, Knows};
 
+use crate::gathered_track::Gathered;
 use crate::track_part::{PartFault, write_part};
 use flux_base::{Sink, TrackId};
 use sector_images::Format;
 use sector_report::{Naming, Totals};
-use turn_merge::Book;
 
-/// What becomes of the verdicts on a track's sectors: bytes for two sinks, `image` and `notes`.
+/// What becomes of a track's verdicts, of its streams that were passed over and of other headers: bytes for two sinks, `image` and `notes`.
 pub trait TrackWriter {
-    /// What a track comes to by its readings: the bytes for either sink, and the track's totals.
+    /// What a track comes to by what was gathered of it: the bytes for either sink, and the track's totals.
     ghost part_of: { Self → PartOf };
 
-    /// Writes what the readings of a track come to, first to `image` and then to `notes`, and gives its totals.
+    /// Writes what a track comes to, first to `image` and then to `notes`, and gives its totals.
     fn write_track<W: Sink, N: Sink>(
         &self,
         format: Format,
         track: TrackId,
-        book: &Book,
+        gathered: &Gathered,
         image: &mut W,
         notes: &mut N,
     ) -> Result<Totals, PartFault>
         requires track { IsTrack format track }
-        requires known { Knows (sectors_in format track) book.now }
-        ensures wrote { (readings : List NotedReading) → StandsFor book.now readings
-            → WritesPart (part_of self.now format track readings) (W.written image.old) (W.written image.new) (N.written notes.old) (N.written notes.new) result }
+        requires known { Knows (sectors_in format track) gathered.now.book }
+        ensures wrote { (readings : List NotedReading) (others : List NotedOther) → StandsFor gathered.now.book readings → OthersStandFor gathered.now.others others
+            → WritesPart (part_of self.now format track (track_notes readings gathered.now.passed.items others)) (W.written image.old) (W.written image.new) (N.written notes.old) (N.written notes.new) result }
         ensures sum { IfOk result IsSum }
         ensures few { IfOk result (λ totals. totals.sectors ≤ 100) }
         ensures cause { PartCause (W.faults image.old) (W.faults image.new) (N.faults notes.old) (N.faults notes.new) result }
@@ -41,7 +42,8 @@ pub trait TrackWriter {
         ensures notes_later { N.faults notes.old ≤ N.faults notes.new };
 }
 
-/// The track's part of the image, and its lines of the report.
+/// The track's part of the image, and its lines of the report. Nothing is told of streams that were passed over, or of
+/// other headers.
 #[derive(Clone, Copy, Debug)]
 pub struct ImageAndReport {
     /// How the lines name the places of readings.
@@ -55,10 +57,10 @@ impl TrackWriter for ImageAndReport {
         &self,
         format: Format,
         track: TrackId,
-        book: &Book,
+        gathered: &Gathered,
         image: &mut W,
         notes: &mut N,
     ) -> Result<Totals, PartFault> {
-        write_part(self.naming, format, track, book, image, notes)
+        write_part(self.naming, format, track, &gathered.book, image, notes)
     }
 }

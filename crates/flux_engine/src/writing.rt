@@ -2,6 +2,7 @@
 
 ghost use Rattle.std.specs.Prelude.{◌≡◌, ℕ, ◌+◌, ◌≤◌, ◌<◌, ◌++◌, List, [], ◌∷◌, map, length, replicate, unwrap_or, IfOk, OnOk, OnErr};
 ghost use Rattle.std.specs.Io.KnownBytes.{Appends};
+ghost use Rattle.flux_base.specs.Bounds.{MOST_SECTOR_BYTES};
 ghost use Rattle.flux_base.specs.Outside.{Rose, AppendsPart};
 ghost use Rattle.sector_images.specs.Places.{IsTrack};
 ghost use Rattle.turn_merge.specs.Book.{StandsFor, IsKnown};
@@ -13,16 +14,16 @@ ghost use Rattle.flux_engine.specs.Writing.{Knows, AreFew, IsSum};
 
 use crate::recordings::sectors_of;
 use crate::sectors::Sectors;
-use flux_base::{Failed, Sink, TrackId, write_whole};
+use flux_base::{Failed, MOST_SECTOR_BYTES, Sink, TrackId, write_whole};
 use sector_images::{Format, image_sector};
 use sector_report::{Naming, Totals, named_line, write_line};
 use turn_merge::{Book, Verdict};
 
 /// The bytes of a sector that has no good verdict.
-const ZEROS: [u8; 512] = [0; 512];
+const ZEROS: [u8; MOST_SECTOR_BYTES] = [0; MOST_SECTOR_BYTES];
 
 /// Writes the track's part of the image, a piece for each sector, in the order of their places.
-pub(crate) fn write_image<W: Sink>(
+pub fn write_image<W: Sink>(
     format: Format,
     track: TrackId,
     book: &Book,
@@ -50,7 +51,7 @@ pub(crate) fn write_image<W: Sink>(
 /// A sector's bytes in the image: its data where its verdict is good, and else zeros.
 fn image_bytes<'a>(book: &'a Book, sector: u8, size: u16) -> &'a [u8]
     requires known { IsKnown book.now sector }
-    requires size { size ≤ 512 }
+    requires size { size ≤ MOST_SECTOR_BYTES }
     ensures { (readings : List NotedReading) → StandsFor book.now readings → result.now ≡ unwrap_or (agreed readings sector) (replicate size 0) }
 {
     match book.bytes(sector) {
@@ -60,7 +61,7 @@ fn image_bytes<'a>(book: &'a Book, sector: u8, size: u16) -> &'a [u8]
 }
 
 /// Writes the track's lines, which name so much of each source, each in one piece, and gives its totals.
-pub(crate) fn write_lines<N: Sink>(
+pub fn write_lines<N: Sink>(
     naming: Naming,
     track: TrackId,
     sectors: Sectors,

@@ -13,16 +13,13 @@ use Rattle.flux_trial.specs.Drive.{Drive, base, ideal, period, time_of}
 use Rattle.flux_trial.specs.Hole.{hole_begin, hole_cells, ring_cell}
 use Rattle.flux_trial.specs.Times.{IsTrialRing, is_seen, times_seen, trial_indexes, trial_times}
 use Rattle.flux_trial.proofs.Bounds.{near_place, near_speed, period-first, steady}
-use Rattle.flux_engine.specs.lemmas.Chosen.{AreChosen, are_chosen}
 use Rattle.flux_trial.proofs.Drives.{ideal-next}
 use Rattle.flux_trial.proofs.Indexes.{filter_all}
-use Rattle.flux_trial.proofs.Near.{one_near, same_later}
+use Rattle.track_rings.specs.lemmas.Near.{one_near, same_later}
 use Rattle.flux_engine.specs.lemmas.Repeated.{begin, written_length, written_runs}
+use Rattle.flux_engine.specs.lemmas.WrittenOnes.{chosen, mapped, neighbours, one_here, place_of}
 use Rattle.flux_trial.proofs.Sound.{IsUsual}
 use Rattle.flux_trial.proofs.Streams.{first-turn}
-
-mapped : (f : ℕ → ℕ) (xs : List ℕ) (i : ℕ) → i < length xs → slice_index (map f xs) i ≡ f (slice_index xs i)
-mapped f xs i within = get_or-map f xs i 0 0 within
 
 numbered : (f : ℕ → ℕ) (n i : ℕ) → i < n → slice_index (map f (range_with_len 0 n)) i ≡ f i
 numbered f n i within = get_or-map-range_with_len f 0 n i i 0 within (omega arith)
@@ -53,42 +50,11 @@ module _ (d : Drive) (ring : List Bool) (usual : IsUsual d) (is : IsTrialRing ri
   abbrev is_one : ℕ → Bool
   is_one K = get_or (track_cells ring) K false
 
-  chosen : AreChosen is_one 0 (length (track_cells ring)) ones
-  chosen =
-      let count : ℕ = length (track_cells ring) in
-      let all : 0 + count ≡ count = omega arith in
-      subst (λ (end : ℕ). AreChosen is_one 0 end ones) all (are_chosen is_one 0 count)
-
-  abbrev place_of : ℕ → ℕ
-  place_of K = begin ring + K
-
   abbrev ideal_of : ℕ → ℕ
   ideal_of j = ideal d ones j + d.nominal
 
-  -- each one of the written cells
-  one_here : (i : ℕ) → i < length ones → cell_of ring (place_of (slice_index ones i)) ≡ true
-  one_here i within =
-      sym (written_runs ring (slice_index ones i) (chosen.to i within)) ∙ chosen.passes i within
-
-  neighbours : (i : ℕ) → suc i < length ones
-      → AreNeighbours ring (place_of (slice_index ones i)) (place_of (slice_index ones (suc i)) - place_of (slice_index ones i))
-  neighbours i within =
-      let here : ℕ = slice_index ones i in
-      let next : ℕ = slice_index ones (suc i) in
-      let rises : here < next = chosen.rises i within in
-      let joined : place_of here + (place_of next - place_of here) ≡ place_of next = omega (arith, rises) in record {
-        first = one_here i (omega (arith, within));
-        next = subst (λ (n : ℕ). cell_of ring n ≡ true) (sym joined) (one_here (suc i) within);
-        behind = omega (arith, rises);
-        zeros = λ k some under.
-            let to = chosen.to (suc i) within in
-            let at : begin ring + (here + k) ≡ place_of here + k = omega arith in
-            ap (cell_of ring) (sym at) ∙ sym (written_runs ring (here + k) (omega (arith, to, under, rises)))
-            ∙ chosen.between i (here + k) within (omega (arith, some)) (omega (arith, under, rises));
-      }
-
   abbrev places : List ℕ
-  places = map place_of ones
+  places = map (place_of ring) ones
 
   abbrev periods : List ℕ
   periods = map (period d) (range_with_len 0 (length ones))
@@ -96,7 +62,7 @@ module _ (d : Drive) (ring : List Bool) (usual : IsUsual d) (is : IsTrialRing ri
   abbrev all_times : List ℕ
   all_times = map (time_of d ones) (range_with_len 0 (length ones))
 
-  spaced_at : (j : ℕ) → ideal_of (suc j) ≡ ideal_of j + (place_of (slice_index ones (suc j)) - place_of (slice_index ones j)) * period d j
+  spaced_at : (j : ℕ) → ideal_of (suc j) ≡ ideal_of j + (place_of ring (slice_index ones (suc j)) - place_of ring (slice_index ones j)) * period d j
   spaced_at j =
       ap (λ (u : ℕ). u + d.nominal) (ideal-next d ones j)
       ∙ further (begin ring) (slice_index ones j) (slice_index ones (suc j)) (ideal d ones j) (period d j) d.nominal
@@ -104,16 +70,16 @@ module _ (d : Drive) (ring : List Bool) (usual : IsUsual d) (is : IsTrialRing ri
   carried : Carried all_times ring d.nominal places periods
   carried =
       let size : length all_times ≡ length ones = length-map-range_with_len (time_of d ones) 0 (length ones) in record {
-        each_place = length-map ones place_of ∙ sym size;
+        each_place = length-map ones (place_of ring) ∙ sym size;
         each_period = length-map-range_with_len (period d) 0 (length ones) ∙ sym size;
         ones = λ i within.
             let here : i < length ones = omega (arith, within, size) in
-            ap (cell_of ring) (mapped place_of ones i here) ∙ one_here i here;
+            ap (cell_of ring) (mapped (place_of ring) ones i here) ∙ one_here ring i here;
         consecutive = λ i within.
             let after : suc i < length ones = omega (arith, within, size) in
-            let here = mapped place_of ones i (omega (arith, after)) in
-            let next = mapped place_of ones (suc i) after in
-            rw (add-one i, here, next) (neighbours i after);
+            let here = mapped (place_of ring) ones i (omega (arith, after)) in
+            let next = mapped (place_of ring) ones (suc i) after in
+            rw (add-one i, here, next) (neighbours ring i after);
         ideal = map ideal_of (range_with_len 0 (length ones));
         spaced = λ i within.
             let after : suc i < length ones = omega (arith, within, size) in
@@ -122,8 +88,8 @@ module _ (d : Drive) (ring : List Bool) (usual : IsUsual d) (is : IsTrialRing ri
               add-one i,
               numbered ideal_of (length ones) i before,
               numbered ideal_of (length ones) (suc i) after,
-              mapped place_of ones i before,
-              mapped place_of ones (suc i) after,
+              mapped (place_of ring) ones i before,
+              mapped (place_of ring) ones (suc i) after,
               numbered (period d) (length ones) i before,
             )
             (spaced_at i);
@@ -163,17 +129,17 @@ module _ (d : Drive) (ring : List Bool) (usual : IsUsual d) (is : IsTrialRing ri
       ∙ same_later ring early.0 ∙ early.3
 
   some_ones : (0 < length ones) × (slice_index ones 0 ≤ first_K)
-  some_ones = chosen.first first_K (omega arith) (omega (arith, written_length ring, early.2, is.least)) first_is_one
+  some_ones = (chosen ring).first first_K (omega arith) (omega (arith, written_length ring, early.2, is.least)) first_is_one
 
   two_turns : slice_index places 0 + 2 * length ring ≤ last_in places
   two_turns =
       let some = some_ones.0 in
       let late : last_K ≤ slice_index ones (length ones - 1) =
-      chosen.last last_K (omega arith) (omega (arith, written_length ring, early.2, is.least)) last_is_one in
-      let size : length places ≡ length ones = length-map ones place_of in
-      let first = mapped place_of ones 0 some in
-      let last = mapped place_of ones (length ones - 1) (omega (arith, some)) in
-      let end : last_in places ≡ place_of (slice_index ones (length ones - 1)) = ap (λ (m : ℕ). slice_index places (m - 1)) size ∙ last in
+      (chosen ring).last last_K (omega arith) (omega (arith, written_length ring, early.2, is.least)) last_is_one in
+      let size : length places ≡ length ones = length-map ones (place_of ring) in
+      let first = mapped (place_of ring) ones 0 some in
+      let last = mapped (place_of ring) ones (length ones - 1) (omega (arith, some)) in
+      let end : last_in places ≡ place_of ring (slice_index ones (length ones - 1)) = ap (λ (m : ℕ). slice_index places (m - 1)) size ∙ last in
       omega (arith, first, end, late, some_ones.1)
 
   first_period : slice_index periods 0 ≡ base d

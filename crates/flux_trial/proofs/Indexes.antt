@@ -10,7 +10,7 @@ use Rattle.flux_trial.specs.Drive.{Drive, ideal, index_time, last_at, period}
 use Rattle.flux_trial.specs.declared.head.Head.{Head}
 use Rattle.flux_trial.specs.inside.Heads.{IsAt, reach}
 use Rattle.flux_trial.proofs.Drives.{ideal-front, ideal-next}
-use Rattle.flux_trial.proofs.Ones.{Rises}
+use Rattle.flux_writer.specs.lemmas.FoundOnes.{Rises}
 
 pub filter_all : (p : ℕ → Bool) (xs : List ℕ) → All (λ x. p x ≡ true) xs → filter p xs ≡ xs
 filter_all p [] all = refl

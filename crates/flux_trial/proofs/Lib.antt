@@ -1,10 +1,8 @@
-mod Ones
 mod Holes
 mod Passing
 mod Drives
 mod Parts
 mod Indexes
-mod Near
 mod Turns
 mod Sound
 mod Bounds

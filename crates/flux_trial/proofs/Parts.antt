@@ -2,37 +2,9 @@
 use Rattle.std.proofs.Common.{◌≡◌, ◌≤◌, ◌<◌, ◌+◌, ◌-◌, ◌*◌, ◌++◌, ℕ, zero, suc, Bool, List, All, length, take, refl, ap, sym, ◌∙◌, arith, append_assoc, length-append, length-drop}
 use Rattle.std.proofs.lemmas.List.{take_all}
 use Rattle.flux_writer.specs.Written.{ones_of, quarter, track_cells}
-use Rattle.flux_trial.specs.inside.Heads.{ones_between, ones_from}
-use Rattle.flux_trial.specs.inside.Turning.{cells_after, ones_after, turn_cell}
-use Rattle.flux_trial.proofs.Ones.{Rises, ones_from-append, ones_of-is, ones_rise, ones_within}
-
-pub length-cells_after : (ring : List Bool) (turns : ℕ) → length (cells_after ring turns) ≡ turn_cell ring turns
-length-cells_after ring zero = omega (arith, length-drop (length ring - quarter ring) ring)
-length-cells_after ring (suc turns) =
-    let product : suc turns * length ring ≡ turns * length ring + length ring = grind arith in
-    omega (arith, length-append (cells_after ring turns) ring, length-cells_after ring turns, product)
-
--- all parts are the cells that pass
-pub all_parts : (ring : List Bool) → cells_after ring 3 ++ take (quarter ring) ring ≡ track_cells ring
-all_parts ring =
-    let front = cells_after ring 0 in
-    let back = take (quarter ring) ring in
-    append_assoc ((front ++ ring) ++ ring) ring back ∙ append_assoc (front ++ ring) ring (ring ++ back)
-    ∙ append_assoc front ring (ring ++ (ring ++ back))
-
--- what passes after some turns
-pub rest_after : (ring : List Bool) (turns : ℕ) → turns ≤ 3 → (rest : List Bool) × (cells_after ring turns ++ rest ≡ track_cells ring)
-rest_after ring zero few = (ring ++ (ring ++ (ring ++ take (quarter ring) ring)), refl)
-rest_after ring (suc zero) few =
-    let front = cells_after ring 0 in
-    let back = take (quarter ring) ring in
-    (ring ++ (ring ++ back), append_assoc front ring (ring ++ (ring ++ back)))
-rest_after ring (suc (suc zero)) few =
-    let front = cells_after ring 0 in
-    let back = take (quarter ring) ring in
-    (ring ++ back, append_assoc (front ++ ring) ring (ring ++ back) ∙ append_assoc front ring (ring ++ (ring ++ back)))
-rest_after ring (suc (suc (suc zero))) few = (take (quarter ring) ring, all_parts ring)
-rest_after ring (suc (suc (suc (suc turns)))) few = absurd (omega (arith, few))
+use Rattle.flux_trial.specs.inside.Turning.{ones_after}
+use Rattle.flux_writer.specs.lemmas.FoundOnes.{ones_between, ones_from, Rises, ones_from-append, ones_of-is, ones_rise, ones_within}
+use Rattle.flux_writer.specs.lemmas.TrackParts.{all_parts, cells_after, length-cells_after, rest_after, turn_cell}
 
 -- the ones of a ring are some, and then those of a whole turn
 pub ones-turn : (ring : List Bool) (turns len : ℕ) → len ≡ length ring

@@ -15,44 +15,18 @@ use Rattle.flux_trial.specs.Hole.{hole_begin, hole_cells, ring_cell}
 use Rattle.flux_trial.specs.Times.{IsTrialRing, times_seen, trial_indexes, trial_times}
 use Rattle.flux_trial.specs.declared.head.Head.{Head}
 use Rattle.flux_trial.specs.declared.hole.Hole.{Hole}
-use Rattle.flux_trial.specs.inside.Heads.{FitsRing, IsAt, IsHole, IsSound, in_hole, ones_between, ones_from, passed, passed_all, reach, seen_time, seen_times, started, time_at, MOST_CELLS}
-use Rattle.flux_trial.specs.inside.Turning.{cells_after, ones_after, turn_cell}
+use Rattle.flux_trial.specs.inside.Heads.{FitsRing, IsAt, IsHole, IsSound, in_hole, passed, passed_all, reach, seen_time, seen_times, started, time_at, MOST_CELLS}
+use Rattle.flux_trial.specs.inside.Turning.{ones_after}
 use Rattle.flux_trial.proofs.Bounds.{mean-near}
 use Rattle.flux_trial.proofs.Drives.{passed_all-at, started-at, times_seen-more, times_seen-one}
 use Rattle.flux_trial.proofs.Holes.{contains}
-use Rattle.flux_trial.proofs.Near.{one_near, own_cell}
-use Rattle.flux_trial.proofs.Ones.{Rises, ones_of-is, ones_rise, ones_within}
-use Rattle.flux_trial.proofs.Parts.{length-cells_after, all_parts, ones-before, ones-end, ones-rest, ones-turn}
+use Rattle.track_rings.specs.lemmas.Near.{one_near, own_cell}
+use Rattle.flux_trial.proofs.Parts.{ones-before, ones-end, ones-rest, ones-turn}
 use Rattle.flux_trial.proofs.Passing.{on_ring, reach-later}
 use Rattle.flux_trial.proofs.Sound.{Follows, IsUsual, LATEST, first-few, first-small, passed-sound, passed_all-sound, reach-all, reach-near, seen-after, seen-first, seen-in-order, started-sound, time-late}
 use Rattle.flux_trial.proofs.Turns.{index-at}
-
--- a cell that is a one is among the ones
-pub one_among : (n : ℕ) (cells : List Bool) (p : ℕ) → get_or cells p false ≡ true
-    → (i : ℕ) × (i < length (ones_from n cells)) × (get_or (ones_from n cells) i 0 ≡ n + p)
-one_among n [] p is = absurd (false_true is)
-  where
-    false_true : false ≡ true → ⊥
-    false_true e = cc
-one_among n (c ∷ cells) zero is =
-    subst (λ b. (i : ℕ) × (i < length (cond b (n ∷ ones_from (n + 1) cells) (ones_from (n + 1) cells)))
-    × (get_or (cond b (n ∷ ones_from (n + 1) cells) (ones_from (n + 1) cells)) i 0 ≡ n + 0)) (sym is) (0, omega arith, omega arith)
-one_among n (c ∷ cells) (suc p) is =
-    let rest = one_among (n + 1) cells p is in
-    elim c as (λ b. (i : ℕ) × (i < length (cond b (n ∷ ones_from (n + 1) cells) (ones_from (n + 1) cells)))
-    × (get_or (cond b (n ∷ ones_from (n + 1) cells) (ones_from (n + 1) cells)) i 0 ≡ n + suc p)) [
-      | true ↦ (suc rest.0, omega (arith, rest.1), omega (arith, rest.2))
-      | false ↦ (rest.0, rest.1, omega (arith, rest.2))
-    ]
-
-ones-few : (n : ℕ) (cells : List Bool) → length (ones_from n cells) ≤ length cells
-ones-few n [] = omega arith
-ones-few n (c ∷ cells) =
-    let rest = ones-few (n + 1) cells in
-    elim c as (λ b. length (cond b (n ∷ ones_from (n + 1) cells) (ones_from (n + 1) cells)) ≤ length (c ∷ cells)) [
-      | true ↦ omega (arith, rest)
-      | false ↦ omega (arith, rest)
-    ]
+use Rattle.flux_writer.specs.lemmas.FoundOnes.{ones_between, ones_from, Rises, ones_of-is, ones_rise, ones_within, one_among, ones_few}
+use Rattle.flux_writer.specs.lemmas.TrackParts.{cells_after, turn_cell, length-cells_after, all_parts}
 
 follows-from : (k : ℕ) (xs : List ℕ) → All (λ x. k < x) xs → Rises xs → All (λ x. x < MOST_CELLS) xs → Follows k xs
 follows-from k [] above rises few = tt
@@ -354,7 +328,7 @@ module _ (d : Drive) (ring : List Bool) (usual : IsUsual d) (is : IsTrialRing ri
         first-few the_hole h0 (rest0 ++ rest1) (ring_cell (length ring) k0),
         ap length whole-is,
         ap length (ones_of-is (track_cells ring)),
-        ones-few 0 (track_cells ring),
+        ones_few 0 (track_cells ring),
         track-size,
       )
 

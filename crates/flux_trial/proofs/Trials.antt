@@ -22,7 +22,9 @@ use Rattle.flux_engine.specs.declared.fault.EngineFault.{EngineFault}
 use Rattle.flux_engine.specs.declared.fault.EngineFault.TheVariants.{ReadFault, ImageFault, NotesFault, Refused}
 use Rattle.flux_trial.specs.Tracks.{IsTrialLine, trial_input, trial_stream}
 use Rattle.flux_trial.specs.inside.Keeping.{faults_of, ROOM}
-use Rattle.flux_trial.proofs.Joined.{no_fault, no_stop}
+use Rattle.law_captured_disks.specs.lemmas.Stops.{no_stop}
+use Rattle.law_captured_disks.specs.lemmas.Streams.{is_stream_number}
+use Rattle.flux_trial.proofs.Joined.{input_joined}
 use Rattle.flux_trial.proofs.Rings.{Laws, is_stream}
 
 -- a sink that is not full has not failed
@@ -34,10 +36,9 @@ never_rose count none rose = absurd (omega (arith, none, rose))
 
 module _ (laws : Laws) (stay : StreamsStay) (passed : PaddingIsPassed) (fit : PartsFitImages) (format : Format) (seed : ℕ) where
   streams_sound : (k : ℕ) → k < length (tracks format) → first_fault (stream_at (trial_input format seed) k) ≡ None
-  unfolding trial_input
   streams_sound k below =
-      no_fault stay passed (length (tracks format)) (trial_stream format seed)
-      (λ j known. (let s = is_stream laws format seed j known in (s.no_fault, s.whole))) k below
+      (is_stream_number stay passed (length (tracks format)) (trial_stream format seed) (trial_input format seed) (input_joined format seed)
+      (λ j known. (let s = is_stream laws format seed j known in (s.no_fault, s.whole))) k below).no_fault
 
   pub never_stops : (o : Decoded) → IsDecoded format (trial_input format seed) o → o.stop ≡ None
   never_stops o decoded = no_stop format (trial_input format seed) o decoded streams_sound

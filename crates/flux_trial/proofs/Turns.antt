@@ -8,13 +8,14 @@ use Rattle.flux_trial.specs.Hole.{ring_cell}
 use Rattle.flux_trial.specs.Times.{times_seen, trial_indexes, trial_times}
 use Rattle.flux_trial.specs.declared.head.Head.{Head}
 use Rattle.flux_trial.specs.declared.hole.Hole.{Hole}
-use Rattle.flux_trial.specs.inside.Heads.{AreBefore, IsAt, IsHole, IsSound, ones_between, ones_from, passed_all, reach, seen_time, seen_times, started}
-use Rattle.flux_trial.specs.inside.Turning.{HasTurned, ones_after, turn_cell}
+use Rattle.flux_trial.specs.inside.Heads.{AreBefore, IsAt, IsHole, IsSound, passed_all, reach, seen_time, seen_times, started}
+use Rattle.flux_trial.specs.inside.Turning.{HasTurned, ones_after}
 use Rattle.flux_trial.proofs.Drives.{passed_all-at, started-at, times_seen-more, times_seen-one}
 use Rattle.flux_trial.proofs.Indexes.{index-is}
-use Rattle.flux_trial.proofs.Ones.{ones_between-one, ones_between-split, ones_between-start}
 use Rattle.flux_trial.proofs.Parts.{ones-before, ones-end, ones-rest, ones-turn}
 use Rattle.flux_trial.proofs.Passing.{on_ring}
+use Rattle.flux_writer.specs.lemmas.FoundOnes.{ones_between, ones_from, ones_between-one, ones_between-split, ones_between-start}
+use Rattle.flux_writer.specs.lemmas.TrackParts.{turn_cell}
 
 -- the index time after some turns
 pub index-at : (d : Drive) (ring : List Bool) (turns : ℕ) (head : Head) → turns ≤ 3 → IsAt d (ones_after ring turns) head

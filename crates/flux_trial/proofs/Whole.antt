@@ -4,8 +4,7 @@ use Rattle.std.specs.List.{range_with_len}
 use Rattle.std.proofs.Common.{ap, append-nil, arith, sym, subst, ◌∙◌}
 use Rattle.std.proofs.lemmas.List.FromFn.{length-map-range_with_len}
 use Rattle.std.proofs.lemmas.List.Sums.{sum_by-cons}
-use Rattle.captured_disks.specs.Headline.{CapturedDisksDecode, DecodesWhole}
-use Rattle.captured_disks.specs.Inputs.{AreJoined}
+use Rattle.law_captured_disks.specs.Headline.{CapturedDisksDecode, DecodesWhole}
 use Rattle.flux_base.specs.declared.track.TrackId.{TrackId}
 use Rattle.flux_engine.specs.Disks.{Decoded, IsDecoded, IsPartAt, decoded_count, part_at, totals_over}
 use Rattle.flux_engine.specs.Recordings.{cells_of, sectors_of, track_at}
@@ -24,7 +23,7 @@ use Rattle.flux_trial.specs.Image.{trial_image}
 use Rattle.flux_trial.specs.Laws.{SmallSeedsHaveNoHole, TrialsAreCapturedDisks, TrialsAreCaptures, WholeTrialsHaveOneLine, all_good, sectors_of_all}
 use Rattle.flux_trial.specs.Tracks.{drive_at, trial_input, trial_ring, trial_stream}
 use Rattle.flux_trial.proofs.Captured.{captures}
-use Rattle.flux_trial.proofs.Joined.{none_before}
+use Rattle.flux_trial.proofs.Joined.{input_joined}
 use Rattle.flux_trial.proofs.Rings.{Laws, is_image, is_stream, is_trial_ring, is_usual, track_known}
 
 pub small_seeds : SmallSeedsHaveNoHole
@@ -36,16 +35,6 @@ trials_are_captures laws format seed k none below =
     let known = track_known laws.names format k below in
     let ring = is_trial_ring laws.keep format k (trial_ring format seed k) known (laws.rings format (trial_image format seed) k (is_image format seed) below) in
     captures (drive_at format seed k) (trial_ring format seed k) (is_usual laws.keep format seed k known) ring none (is_stream laws format seed k below)
-
-input_joined : (format : Format) (seed : ℕ) → AreJoined (length (tracks format)) (trial_stream format seed) (trial_input format seed)
-unfolding trial_input
-input_joined format seed = record {
-  padding = λ k. [];
-  later = [];
-  joined = sym (append-nil (flat_map (trial_stream format seed) (range_with_len 0 (length (tracks format)))));
-  first = refl;
-  padded = λ k known. none_before (trial_stream format seed k);
-}
 
 pub trials_are_captured_disks : Laws → TrialsAreCapturedDisks
 trials_are_captured_disks laws format seed none = record {

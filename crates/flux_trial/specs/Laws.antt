@@ -1,6 +1,6 @@
 -- What the trials of numbers without a hole come to.
 use Rattle.std.specs.Prelude.{◌≡◌, ◌<◌, ℕ, List, length, sum, sum_by}
-use Rattle.captured_disks.specs.Inputs.{IsCapturedDisk}
+use Rattle.law_captured_disks.specs.Inputs.{IsCapturedDisk}
 use Rattle.flux_engine.specs.Captures.{Capture}
 use Rattle.flux_engine.specs.Rings.{nominal_of}
 use Rattle.sector_images.specs.Formats.{zone}

@@ -1,8 +1,9 @@
 ghost use Rattle.std.specs.Prelude.{◌≡◌, ◌<◌, ◌≤◌, ◌+◌, ◌-◌, ◌*◌, ◌/◌, ◌++◌, [], ◌∷◌, All, length, IfOk, OnOk, OnErr, IsOk};
 ghost use Rattle.index_turns.specs.Track.{KeepsRoom, room_of_indexes, room_of_times};
 ghost use Rattle.flux_trial.specs.Times.{IsTrialRing, trial_indexes, trial_times};
-ghost use Rattle.flux_trial.specs.inside.Heads.{AreBefore, FitsRing, IsHole, IsSound, MOST_CELLS, OnRing, ones_between, passed_all, reach, seen_time, seen_times};
+ghost use Rattle.flux_trial.specs.inside.Heads.{AreBefore, FitsRing, IsHole, IsSound, MOST_CELLS, OnRing, passed_all, reach, seen_time, seen_times};
 ghost use Rattle.flux_trial.specs.inside.Turning.{HasTurned};
+ghost use Rattle.flux_writer.specs.lemmas.FoundOnes.{ones_between};
 
 use crate::head::Head;
 use crate::hole::Hole;

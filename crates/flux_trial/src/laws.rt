@@ -2,9 +2,9 @@
 
 ghost use Rattle.flux_trial.specs.Laws.{SmallSeedsHaveNoHole, TrialsAreCapturedDisks, TrialsAreCaptures, WholeTrialsHaveOneLine};
 
-use captured_disks::captured_disks_decode;
 use flux_engine::images_have_rings;
 use flux_writer::written_law;
+use law_captured_disks::captured_disks_decode;
 use sector_images::{sectors_lie_in_images, tracks_keep_bounds};
 
 /// The drive of a number that leaves no hole, as each below 1000, keeps within the bounds of disturbance: the stream that it gives

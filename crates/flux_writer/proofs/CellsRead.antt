@@ -6,35 +6,12 @@ use Rattle.std.proofs.lemmas.List.Elements.{All-nil, All-cons, All-weaker, All-h
 use Rattle.std.proofs.Math.Nat.{mul-le-mul}
 use Rattle.track_rings.specs.Rings.{last_in}
 use Rattle.flux_writer.specs.Written.{cell_time, ones_of, stream_of_times, stream_of_turns, stream_of, track_cells, track_turns, quarter}
-use Rattle.flux_writer.specs.inside.Writing.{ones_from}
 use Rattle.flux_writer.specs.Reading.{MOST_RING_CELLS, EndsWithTransition, HasOneAfter, HasEarlyOne, IsStreamOf}
-use Rattle.flux_writer.proofs.Rising.{Rises}
-use Rattle.flux_writer.proofs.CellTimes.{cell_time-le, cell_time-lt, ones_of-is}
+use Rattle.flux_writer.proofs.CellTimes.{cell_time-le, cell_time-lt}
 use Rattle.flux_writer.proofs.Sizes.{stream_takes_close}
-use Rattle.flux_writer.proofs.Rings.{rising_times, turns_rise, cells_after, length-cells_after, all_parts}
-
--- the numbers of ones are at least that of the first cell, below that after the last, and rise
-ones_within : (n : ℕ) (cells : List Bool) → All (λ k. (n ≤ k) × (k < n + length cells)) (ones_from n cells)
-ones_within n [] = All-nil (λ k. (n ≤ k) × (k < n + 0))
-ones_within n (c ∷ cells) =
-    let rest = All-weaker (λ k. (n + 1 ≤ k) × (k < (n + 1) + length cells)) (λ k. (n ≤ k) × (k < n + length (c ∷ cells)))
-    (λ k in_range. (omega (arith, in_range.0), omega (arith, in_range.1))) (ones_from (n + 1) cells) (ones_within (n + 1) cells) in
-    elim c as (λ b. All (λ k. (n ≤ k) × (k < n + length (c ∷ cells))) (cond b (n ∷ ones_from (n + 1) cells) (ones_from (n + 1) cells))) [
-      | true ↦ All-cons (λ k. (n ≤ k) × (k < n + length (c ∷ cells))) n (ones_from (n + 1) cells) (omega arith, omega arith) rest
-      | false ↦ rest
-    ]
-
-ones_rise : (n : ℕ) (cells : List Bool) → Rises (ones_from n cells)
-ones_rise n [] = tt
-ones_rise n (c ∷ cells) =
-    elim c as (λ b. Rises (cond b (n ∷ ones_from (n + 1) cells) (ones_from (n + 1) cells))) [
-      | true ↦ (
-        All-weaker (λ k. (n + 1 ≤ k) × (k < (n + 1) + length cells)) (λ k. n < k) (λ k in_range. omega (arith, in_range.0))
-            (ones_from (n + 1) cells) (ones_within (n + 1) cells),
-        ones_rise (n + 1) cells,
-      )
-      | false ↦ ones_rise (n + 1) cells
-    ]
+use Rattle.flux_writer.proofs.Rings.{rising_times, turns_rise}
+use Rattle.flux_writer.specs.lemmas.FoundOnes.{ones_from, ones_of-is, ones_within, ones_rise, one_among, ones_few, Rises}
+use Rattle.flux_writer.specs.lemmas.TrackParts.{cells_after, length-cells_after, all_parts}
 
 map-All : (f : ℕ → ℕ) (P Q : ℕ → Type 0) → ((x : ℕ) → P x → Q (f x)) → (xs : List ℕ) → All P xs → All Q (map f xs)
 map-All f P Q step [] all = All-nil Q
@@ -52,24 +29,6 @@ times_in_order nominal (x ∷ xs) rises (suc i) (suc j) d before inside = times_
 pub transitions_in_order : (nominal : ℕ) (cells : List Bool) → IsNonDecreasing (map (cell_time nominal) (ones_of cells))
 transitions_in_order nominal cells =
     subst (λ ones. IsNonDecreasing (map (cell_time nominal) ones)) (sym (ones_of-is cells)) (times_in_order nominal (ones_from 0 cells) (ones_rise 0 cells))
-
--- a cell that is a one is among the ones
-one_among : (n : ℕ) (cells : List Bool) (p : ℕ) → get_or cells p false ≡ true
-    → (i : ℕ) × (i < length (ones_from n cells)) × (get_or (ones_from n cells) i 0 ≡ n + p)
-one_among n [] p is = absurd (false_true is)
-  where
-    false_true : false ≡ true → ⊥
-    false_true e = cc
-one_among n (c ∷ cells) zero is =
-    subst (λ b. (i : ℕ) × (i < length (cond b (n ∷ ones_from (n + 1) cells) (ones_from (n + 1) cells)))
-    × (get_or (cond b (n ∷ ones_from (n + 1) cells) (ones_from (n + 1) cells)) i 0 ≡ n + 0)) (sym is) (0, omega arith, omega arith)
-one_among n (c ∷ cells) (suc p) is =
-    let rest = one_among (n + 1) cells p is in
-    elim c as (λ b. (i : ℕ) × (i < length (cond b (n ∷ ones_from (n + 1) cells) (ones_from (n + 1) cells)))
-    × (get_or (cond b (n ∷ ones_from (n + 1) cells) (ones_from (n + 1) cells)) i 0 ≡ n + suc p)) [
-      | true ↦ (suc rest.0, omega (arith, rest.1), omega (arith, rest.2))
-      | false ↦ (rest.0, rest.1, omega (arith, rest.2))
-    ]
 
 get_or-map-at : (f : ℕ → ℕ) (xs : List ℕ) (i : ℕ) → i < length xs → get_or (map f xs) i 0 ≡ f (get_or xs i 0)
 get_or-map-at f [] i below = absurd (omega arith)
@@ -114,15 +73,6 @@ turns_read law cells turns nominal long rising behind two short =
     (rising_times nominal turns long rising) (turns_end cells turns nominal long behind) (omega (arith, two, length-map turns (cell_time nominal))) short
 
 -- a ring's stream
-ones_few : (n : ℕ) (cells : List Bool) → length (ones_from n cells) ≤ length cells
-ones_few n [] = omega arith
-ones_few n (c ∷ cells) =
-    let rest = ones_few (n + 1) cells in
-    elim c as (λ b. length (cond b (n ∷ ones_from (n + 1) cells) (ones_from (n + 1) cells)) ≤ length (c ∷ cells)) [
-      | true ↦ omega (arith, rest)
-      | false ↦ omega (arith, rest)
-    ]
-
 last_within : (nominal : ℕ) (cells : List Bool) → last_in (map (cell_time nominal) (ones_of cells)) ≤ cell_time nominal (length cells)
 last_within nominal cells =
     let ones = ones_from 0 cells in

@@ -13,7 +13,8 @@ use Rattle.kryo_stream.specs.Sequence.{spellings}
 use Rattle.flux_writer.specs.Written.{begin_of, interval_blocks, interval_of, in_stream_before, is_first_above, index_block, transition_blocks, stream_blocks}
 use Rattle.flux_writer.specs.inside.Writing.{count_before, indexes_before, indexes_from, next_blocks, last_blocks, many_blocks, next_position, position_after, time_after}
 use Rattle.flux_writer.proofs.Steps.{spellings-append}
-use Rattle.flux_writer.proofs.Rising.{Rises, Rises-from_increasing, Rises-from, from_is_late, filter-none, filter-same, filter-before, before-from, front_is_early}
+use Rattle.flux_writer.proofs.Rising.{Rises-from_increasing, Rises-from, from_is_late, filter-none, filter-same, filter-before, before-from, front_is_early}
+use Rattle.flux_writer.specs.lemmas.FoundOnes.{Rises}
 
 -- the blocks of a stream that is written a transition at a time
 abbrev pub all_blocks : List ℕ → List ℕ → List Block

@@ -5,9 +5,10 @@ use Rattle.flux_base.specs.Outside.{AppendsPart}
 use Rattle.flux_writer.specs.inside.Gathering.{Gathers}
 use Rattle.kryo_stream.specs.Sequence.{spellings}
 use Rattle.flux_writer.specs.Written.{cell_time}
-use Rattle.flux_writer.specs.inside.Writing.{indexes_from, next_blocks, many_blocks, next_position, times_between, ones_from, IsReadyAt, IsWritten}
+use Rattle.flux_writer.specs.inside.Writing.{indexes_from, next_blocks, many_blocks, next_position, times_between, IsReadyAt, IsWritten}
 use Rattle.flux_writer.proofs.CellTimes.{cell_time-le, product-small, times_between-split, times_between-one}
 use Rattle.flux_writer.proofs.Progress.{IsReady-next, IsReady-fits, IsWritten-more, IsWritten-one, IsWritten-part, part_of_one, part_of_more}
+use Rattle.flux_writer.specs.lemmas.FoundOnes.{ones_from}
 
 -- the next cell that is a one
 pub IsReadyAt-next : (nominal position time number K : ℕ) (indexes : List ℕ) → IsReadyAt nominal position time number indexes → number ≤ K

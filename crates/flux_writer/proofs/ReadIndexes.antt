@@ -11,8 +11,9 @@ use Rattle.kryo_stream.specs.Sequence.{spellings, spelled, all_spelled, IsTurnAt
 use Rattle.flux_writer.specs.Written.{index_block, interval_blocks}
 use Rattle.flux_writer.specs.inside.Writing.{count_before, indexes_before, indexes_from, last_blocks, many_blocks, next_position, position_after, indexes_after}
 use Rattle.flux_writer.proofs.Steps.{length-flux_spelling}
-use Rattle.flux_writer.proofs.Rising.{Rises, Rises-from, before-from, from_is_late, front_is_early}
+use Rattle.flux_writer.proofs.Rising.{Rises-from, before-from, from_is_late, front_is_early}
 use Rattle.flux_writer.proofs.Stands.{InOrder, interval_takes}
+use Rattle.flux_writer.specs.lemmas.FoundOnes.{Rises}
 
 -- the in-stream bytes and the ticks of blocks
 abbrev pub moved : List Block → ℕ

@@ -9,11 +9,13 @@ use Rattle.flux_writer.specs.Written.{index_block, interval_blocks, stream_of_ti
 use Rattle.flux_writer.specs.inside.Writing.{count_before, indexes_before, indexes_from, last_blocks, many_blocks, next_position, position_after, time_after, indexes_after}
 use Rattle.flux_writer.specs.Reading.{EndsWithTransition}
 use Rattle.flux_writer.proofs.Steps.{spellings-append, indexes_from-yes}
-use Rattle.flux_writer.proofs.Rising.{Rises, Rises-from_increasing}
+use Rattle.flux_writer.proofs.Rising.{Rises-from_increasing}
 use Rattle.flux_writer.proofs.Equal.{all_blocks, stream_blocks-is}
-use Rattle.flux_writer.proofs.Stands.{Stand, Stand-each, stand_many, InOrder-from_sorted}
+use Rattle.flux_writer.proofs.Stands.{stand_many, InOrder-from_sorted}
 use Rattle.flux_writer.proofs.ReadTimes.{times_of_many}
 use Rattle.flux_writer.proofs.ReadIndexes.{read_many}
+use Rattle.flux_writer.specs.lemmas.FoundOnes.{Rises}
+use Rattle.kryo_stream.specs.lemmas.Standing.{Stand, Stand-each}
 
 -- the stream position after some transitions is at most the number of their bytes
 position_within : (position begin : ℕ) (ts indexes : List ℕ)

@@ -8,45 +8,15 @@ use Rattle.flux_base.specs.Outside.{AppendsPart}
 use Rattle.kryo_stream.specs.Sequence.{spellings}
 use Rattle.flux_writer.specs.Written.{cell_time, quarter, track_cells, track_turns, stream_of_times, stream_of_turns}
 use Rattle.std.specs.Io.KnownBytes.{Appends}
-use Rattle.flux_writer.specs.inside.Writing.{many_blocks, last_blocks, ones_from, times_between, IsReadyAt, IsWritten}
-use Rattle.flux_writer.proofs.CellTimes.{ones_from-append, ones_of-is, cell_time-lt}
+use Rattle.flux_writer.specs.inside.Writing.{many_blocks, last_blocks, times_between, IsReadyAt, IsWritten}
+use Rattle.flux_writer.proofs.CellTimes.{cell_time-lt}
 use Rattle.flux_writer.proofs.Progress.{IsReady-start, IsWritten-more, IsWritten-part, IsWritten-all, IsWritten-end, part_of_more, part_of_stream}
+use Rattle.flux_writer.specs.lemmas.FoundOnes.{ones_from, ones_from-append, ones_of-is}
+use Rattle.flux_writer.specs.lemmas.TrackParts.{cells_after}
 
 -- the times of the transitions of cells that begin with this number
 abbrev pub times_of_cells : ℕ → ℕ → List Bool → List ℕ
 times_of_cells nominal number cells = map (cell_time nominal) (ones_from number cells)
-
--- the last quarter and so many turns
-abbrev pub cells_after : List Bool → ℕ → List Bool
-cells_after ring zero = drop (length ring - quarter ring) ring
-cells_after ring (suc turns) = cells_after ring turns ++ ring
-
-pub length-cells_after : (ring : List Bool) (turns : ℕ) → length (cells_after ring turns) ≡ quarter ring + turns * length ring
-length-cells_after ring zero = omega (arith, length-drop (length ring - quarter ring) ring)
-length-cells_after ring (suc turns) =
-    let product : suc turns * length ring ≡ turns * length ring + length ring = grind arith in
-    omega (arith, length-append (cells_after ring turns) ring, length-cells_after ring turns, product)
-
--- all parts are the cells that are written
-pub all_parts : (ring : List Bool) → cells_after ring 3 ++ take (quarter ring) ring ≡ track_cells ring
-all_parts ring =
-    let front = cells_after ring 0 in
-    let back = take (quarter ring) ring in
-    append_assoc ((front ++ ring) ++ ring) ring back ∙ append_assoc (front ++ ring) ring (ring ++ back)
-    ∙ append_assoc front ring (ring ++ (ring ++ back))
-
--- what is written after some turns
-pub rest_of_turns : (ring : List Bool) (turns : ℕ) → turns < 3 → (rest : List Bool) × ((cells_after ring turns ++ ring) ++ rest ≡ track_cells ring)
-rest_of_turns ring zero few =
-    let front = cells_after ring 0 in
-    let back = take (quarter ring) ring in
-    (ring ++ (ring ++ back), append_assoc front ring (ring ++ (ring ++ back)))
-rest_of_turns ring (suc zero) few =
-    let front = cells_after ring 0 in
-    let back = take (quarter ring) ring in
-    (ring ++ back, append_assoc (front ++ ring) ring (ring ++ back) ∙ append_assoc front ring (ring ++ (ring ++ back)))
-rest_of_turns ring (suc (suc zero)) few = (take (quarter ring) ring, all_parts ring)
-rest_of_turns ring (suc (suc (suc turns))) few = absurd (omega arith)
 
 module _ (ring : List Bool) (len : ℕ) (is : len ≡ length ring) (number nominal : ℕ) where
   -- a whole ring

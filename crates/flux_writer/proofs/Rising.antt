@@ -8,12 +8,8 @@ use Rattle.std.proofs.lemmas.List.{get_or-drop, take-append-drop}
 use Rattle.std.proofs.lemmas.List.Elements.{All-head, All-tail, All-cons, All-nil, All-weaker}
 use Rattle.std.proofs.lemmas.List.Kept.{AllPairs-from_increasing}
 use Rattle.flux_writer.specs.inside.Writing.{count_before, indexes_before, indexes_from}
+use Rattle.flux_writer.specs.lemmas.FoundOnes.{Rises}
 use Rattle.flux_writer.proofs.Steps.{indexes_before-yes, indexes_from-yes, indexes_before-no, indexes_from-no}
-
--- each number is below all later ones
-abbrev pub Rises : List ℕ → Type 0
-Rises [] = Unit {0}
-Rises (x ∷ xs) = All (λ y. x < y) xs × Rises xs
 
 Rises-from_pairs : (xs : List ℕ) → AllPairs (λ x y. x < y) xs → Rises xs
 Rises-from_pairs [] pairs = tt

@@ -9,10 +9,9 @@ use Rattle.track_rings.specs.lemmas.Cuts.{zeros_inside}
 use Rattle.track_rings.specs.lemmas.Fronts.{agree-part}
 use Rattle.track_rings.specs.OwnSectors.{NoZeros}
 use Rattle.frame_law.specs.Controller.{DataStandAt, NamedHeaderStands, START_ZEROS, WholeDataAt}
-use Rattle.frame_law.specs.declared.header_name.HeaderName.{HeaderName}
-use Rattle.frame_law.specs.Frames.{IsSyncInReach, NoSync}
+use Rattle.flux_base.specs.declared.header_name.HeaderName.{HeaderName}
+use Rattle.frame_law.specs.Frames.{DATA_REACH, IsSyncInReach, NoSync}
 use Rattle.frame_law.specs.lemmas.ControllerLaws.{fewer_zeros}
-use Rattle.frame_law.specs.lemmas.OwnFrames.{TellsEnds}
 use Rattle.frame_law.proofs.Headers.{NoNamed}
 
 zero_word : word_cells 31 0 ≡ replicate 31 false
@@ -42,15 +41,15 @@ start-broken cells sync end place long early stands whole none =
           ∙ zeros_inside k 31 (omega (arith, over, long, early)))
     ]
 
-module _ (header_cells data_cells sync sync_cells : ℕ) (header_end : List Bool → ℕ) (data_end : List Bool → ℕ → ℕ)
+module _ (sync sync_cells : ℕ) (header_end : List Bool → ℕ) (data_end : List Bool → ℕ → ℕ)
     (is_sync : List Bool → ℕ → Type 0) (hold : List Bool → ℕ → List ℕ → Type 0) (names : List Bool → HeaderName → Type 0)
-    (ends : TellsEnds header_cells data_cells header_end data_end) (cells : List Bool) where
+    (cells : List Bool) where
   abbrev Data : ℕ → List ℕ → Type 0
   Data place bytes = DataStandAt header_end data_end is_sync hold (NamedHeaderStands sync sync_cells header_end names) cells place bytes
 
   -- none where the header is not whole
-  pub no_data-cut : length cells < header_end cells → (place : ℕ) (bytes : List ℕ) → ¬ Data place bytes
-  no_data-cut cut place bytes content = omega (arith, cut, content.begin.after, content.rest.whole, ends.data_least cells place)
+  pub no_data-cut : ((sync : ℕ) → sync + 8 ≤ data_end cells sync) → length cells < header_end cells → (place : ℕ) (bytes : List ℕ) → ¬ Data place bytes
+  no_data-cut some cut place bytes content = omega (arith, cut, content.begin.after, content.rest.whole, some place)
 
   -- none where no sync stands
   pub no_data-to : (from start stop : ℕ) → ((place : ℕ) (bytes : List ℕ) → from ≤ place → place < start → ¬ Data place bytes)
@@ -63,7 +62,7 @@ module _ (header_cells data_cells sync sync_cells : ℕ) (header_end : List Bool
 
   -- none behind another header, and none out of reach
   pub no_data-behind : (from stop : ℕ) → ((place : ℕ) (bytes : List ℕ) → from ≤ place → place < stop → ¬ Data place bytes)
-      → ((place : ℕ) → stop ≤ place → place < header_end cells + 1024
+      → ((place : ℕ) → stop ≤ place → place < header_end cells + DATA_REACH
       → (other : ℕ) × (name : HeaderName) × (header_end cells ≤ other) × (other < place)
       × NamedHeaderStands sync sync_cells header_end names (drop other cells) name)
       → (place : ℕ) (bytes : List ℕ) → from ≤ place → ¬ Data place bytes

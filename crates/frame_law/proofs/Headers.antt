@@ -3,7 +3,7 @@ use Rattle.std.proofs.Common.{◌≡◌, ℕ, ◌+◌, ◌<◌, ◌≤◌, Bool,
 use Rattle.std.proofs.lemmas.Bool.{cases_lt}
 use Rattle.cell_bits.specs.Search.{StandsNowhere}
 use Rattle.frame_law.specs.Controller.{NamedHeaderStands}
-use Rattle.frame_law.specs.declared.header_name.HeaderName.{HeaderName}
+use Rattle.flux_base.specs.declared.header_name.HeaderName.{HeaderName}
 
 -- no header of any name stands at a place from `from` to below `to`
 abbrev pub NoNamed : ℕ → ℕ → (List Bool → ℕ) → (List Bool → HeaderName → Type 0) → List Bool → ℕ → ℕ → Type 0

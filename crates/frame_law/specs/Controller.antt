@@ -5,7 +5,7 @@ use Rattle.std.specs.Prelude.{◌≡◌, ℕ, ◌+◌, ◌<◌, ◌≤◌, ◌�
 use Rattle.std.specs.List.Sorted.{IsStrictlyIncreasing}
 use Rattle.cell_bits.specs.Broken.{Unbroken}
 use Rattle.cell_bits.specs.Word.{Stands}
-use Rattle.frame_law.specs.declared.header_name.HeaderName.{HeaderName}
+use Rattle.flux_base.specs.declared.header_name.HeaderName.{HeaderName}
 use Rattle.frame_law.specs.declared.reading.Reading.TheVariants.{Bad, Good}
 use Rattle.frame_law.specs.Frames.{IsSyncInReach}
 use Rattle.frame_law.specs.Laws.{Found}

@@ -3,6 +3,7 @@
 use Rattle.std.specs.Prelude.{◌≡◌, ℕ, ◌+◌, ◌^◌, ◌<◌, ◌≤◌, Bool, List, length}
 use Rattle.cell_bits.specs.Broken.{Unbroken}
 use Rattle.cell_bits.specs.Word.{Stands}
+use Rattle.flux_base.specs.Bounds.{LONGEST_RING}
 use Rattle.track_rings.specs.Rings.{IsSectorNumber}
 
 -- A header: it begins with the sync, names a sector of the track, and is whole and unbroken to its end.
@@ -77,8 +78,8 @@ pub record AreSizes (shortest longest sync_cells header_cells zeros : ℕ) : Typ
   pub header : 4 ≤ header_cells
   pub last : 1 ≤ zeros
 
--- the data of a frame that is written begin after its header, within reach, and a frame has at most 2^18 cells
+-- the data of a frame that is written begin after its header, within reach, and a frame has no more cells than a ring may have
 pub record IsWithinReach (header_cells data_place data_cells : ℕ) : Type 0 where
   pub after : header_cells ≤ data_place
   pub near : data_place < header_cells + DATA_REACH
-  pub few : data_place + data_cells ≤ 2 ^ 18
+  pub few : data_place + data_cells ≤ LONGEST_RING

@@ -1,6 +1,7 @@
 pub mod Controller
 pub mod Frames
 pub mod Laws
+pub mod Others
 pub mod Readings
 pub mod RowWriting
 pub mod WordRows

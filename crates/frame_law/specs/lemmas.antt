@@ -6,4 +6,5 @@ pub mod FrameLaws
 pub mod ControllerLaws
 pub mod OwnData
 pub mod OwnFrames
+pub mod Named
 pub mod Spacing

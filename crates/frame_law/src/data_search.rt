@@ -1,27 +1,32 @@
 //! The search for a header's data by the second rule, as controllers read.
 
-ghost use Rattle.std.specs.Prelude.{◌≡◌, ℕ, ◌+◌, ◌^◌, ◌<◌, ◌≤◌, ◌↔◌, [], List, false, drop, length, IsTrue};
+ghost use Rattle.std.specs.Prelude.{◌≡◌, ℕ, ◌+◌, ◌^◌, ◌<◌, ◌≤◌, ◌↔◌, [], List, false, drop, length, IfNone, IfSome, IsTrue};
 ghost use Rattle.cell_bits.specs.Word.{Stands};
+ghost use Rattle.flux_base.specs.Bounds.{MOST_SECTOR_BYTES};
 ghost use Rattle.frame_law.specs.Controller.{DataStandAt, FirstData, NamedHeaderStands, WholeDataAt};
-ghost use Rattle.frame_law.specs.declared.header_name.HeaderName.{HeaderName};
-ghost use Rattle.frame_law.specs.Frames.{IsSyncInReach};
+ghost use Rattle.flux_base.specs.declared.header_name.HeaderName.{HeaderName};
+ghost use Rattle.frame_law.specs.Frames.{DATA_REACH, IsSyncInReach};
+ghost use Rattle.frame_law.specs.Others.{HasNamedData};
 
 use crate::frame_reading::DATA_REACH;
 use crate::{CellsFrom, Layout, SectorBuffer};
+use flux_base::HeaderName;
 
 /// The zeros that a clock leaves where it starts anew.
 const START_ZEROS: u8 = 31;
 
-/// The first place, at least `from`, at which data of the header at the front of the cells stand. The buffer then has
-/// their bytes, and is else empty.
-pub(crate) fn next_data<L: Layout>(
+/// The first place, at least `from`, at which data of so many bytes of the header at the front of the cells stand. The
+/// buffer then has their bytes, and is else empty.
+fn next_data<L: Layout>(
     layout: &L,
+    size: u16,
     frame: &CellsFrom,
     from: usize,
     buffer: &mut SectorBuffer,
 ) -> Option<usize>
+    requires most { size ≤ MOST_SECTOR_BYTES }
     ensures { let header = NamedHeaderStands L.SYNC L.SYNC_CELLS (L.header_end layout.now) (L.names layout.now) in
-        FirstData (DataStandAt (L.header_end layout.now) (L.data_end layout.now) (L.is_sync layout.now) (L.hold layout.now) header frame.now)
+        FirstData (DataStandAt (L.header_end layout.now) (L.data_end layout.now size) (L.is_sync layout.now) (L.hold layout.now size) header frame.now)
         from result buffer.new.items }
 {
     buffer.clear();
@@ -30,7 +35,7 @@ pub(crate) fn next_data<L: Layout>(
     let mut start = from.max(header_end);
     while start < stop {
         let sync = layout.next_sync(frame, start, stop)?;
-        if read_at_sync(layout, frame, sync, buffer) {
+        if read_at_sync(layout, size, frame, sync, buffer) {
             return Some(sync);
         }
         start = sync + 1;
@@ -42,10 +47,10 @@ pub(crate) fn next_data<L: Layout>(
 /// stands, or where the reach ends.
 fn next_header_behind<L: Layout>(layout: &L, frame: &CellsFrom, header_end: usize) -> usize
     requires near { header_end < 2 ^ 30 }
-    ensures reach { result ≤ header_end + 1024 }
+    ensures reach { result ≤ header_end + DATA_REACH }
     ensures none { (place : ℕ) (name : HeaderName) → header_end ≤ place → place + 1 < result
         → ¬ NamedHeaderStands L.SYNC L.SYNC_CELLS (L.header_end layout.now) (L.names layout.now) (drop place frame.now) name }
-    ensures first { (place : ℕ) → result ≤ place → place < header_end + 1024
+    ensures first { (place : ℕ) → result ≤ place → place < header_end + DATA_REACH
         → (other : ℕ) × (name : HeaderName) × (header_end ≤ other) × (other < place)
         × NamedHeaderStands L.SYNC L.SYNC_CELLS (L.header_end layout.now) (L.names layout.now) (drop other frame.now) name }
 {
@@ -53,44 +58,82 @@ fn next_header_behind<L: Layout>(layout: &L, frame: &CellsFrom, header_end: usiz
     let mut start = header_end;
     while let Some(place) = frame.find_word(start, end, L::SYNC, L::SYNC_CELLS) {
         start = place + 1;
-        if has_name(layout, &frame.behind(place)) {
+        if standing_name(layout, &frame.behind(place)).is_some() {
             return start;
         }
     }
     end
 }
 
-/// Whether a header, of whatever name, stands at the front of the cells, where the sync stands.
-fn has_name<L: Layout>(layout: &L, frame: &CellsFrom) -> bool
+/// The name of the header at the front of the cells, where the sync stands. None where no header stands.
+pub(crate) fn standing_name<L: Layout>(layout: &L, frame: &CellsFrom) -> Option<HeaderName>
     requires sync { Stands frame.now L.SYNC L.SYNC_CELLS 0 }
-    ensures yes { IsTrue result → (name : HeaderName) × NamedHeaderStands L.SYNC L.SYNC_CELLS (L.header_end layout.now) (L.names layout.now) frame.now name }
-    ensures no { result ≡ false → (name : HeaderName) → ¬ NamedHeaderStands L.SYNC L.SYNC_CELLS (L.header_end layout.now) (L.names layout.now) frame.now name }
+    ensures stands { IfSome result (λ name. NamedHeaderStands L.SYNC L.SYNC_CELLS (L.header_end layout.now) (L.names layout.now) frame.now name) }
+    ensures none { IfNone result ((name : HeaderName) → ¬ NamedHeaderStands L.SYNC L.SYNC_CELLS (L.header_end layout.now) (L.names layout.now) frame.now name) }
 {
     let Some(header_end) = layout.header_end(frame) else {
+        return None;
+    };
+    let Some(name) = layout.read_name(frame) else {
+        return None;
+    };
+    if !frame.unbroken_to(header_end) {
+        return None;
+    }
+    Some(name)
+}
+
+/// The first place, at least `from`, at which data of the header at the front of the cells stand, of the size that the
+/// recording's sectors have. The buffer then has their bytes, and is else empty.
+pub(crate) fn own_data<L: Layout>(
+    layout: &L,
+    frame: &CellsFrom,
+    from: usize,
+    buffer: &mut SectorBuffer,
+) -> Option<usize>
+    ensures { let header = NamedHeaderStands L.SYNC L.SYNC_CELLS (L.header_end layout.now) (L.names layout.now) in
+        let size = L.sector_bytes layout.now in
+        FirstData (DataStandAt (L.header_end layout.now) (L.data_end layout.now size) (L.is_sync layout.now) (L.hold layout.now size) header frame.now)
+        from result buffer.new.items }
+{
+    next_data(layout, layout.sector_bytes(), frame, from, buffer)
+}
+
+/// Whether data of the size that the name tells stand after the header at the front of the cells.
+pub(crate) fn has_named_data<L: Layout>(
+    layout: &L,
+    frame: &CellsFrom,
+    name: HeaderName,
+    buffer: &mut SectorBuffer,
+) -> bool
+    ensures { let header = NamedHeaderStands L.SYNC L.SYNC_CELLS (L.header_end layout.now) (L.names layout.now) in
+        IsTrue result ↔ HasNamedData (L.size_named layout.now name)
+        (λ size place bytes. DataStandAt (L.header_end layout.now) (L.data_end layout.now size) (L.is_sync layout.now) (L.hold layout.now size) header frame.now place bytes) }
+{
+    let Some(size) = layout.size_named(name) else {
         return false;
     };
-    if layout.read_name(frame).is_none() {
-        return false;
-    }
-    frame.unbroken_to(header_end)
+    next_data(layout, size, frame, 0, buffer).is_some()
 }
 
 /// Whether data stand at the sync, but for the headers before it. The buffer, which was empty, then has their bytes,
 /// and is else empty.
 fn read_at_sync<L: Layout>(
     layout: &L,
+    size: u16,
     frame: &CellsFrom,
     sync: usize,
     buffer: &mut SectorBuffer,
 ) -> bool
     requires sync { IsSyncInReach (L.header_end layout.now frame.now) (L.is_sync layout.now frame.now) sync }
     requires near { sync < 2 ^ 31 }
+    requires most { size ≤ MOST_SECTOR_BYTES }
     requires empty { buffer.old.items ≡ [] }
-    ensures good { IsTrue result → WholeDataAt (L.data_end layout.now) (L.hold layout.now) frame.now sync buffer.new.items }
-    ensures bad { result ≡ false → (bytes : List ℕ) → ¬ WholeDataAt (L.data_end layout.now) (L.hold layout.now) frame.now sync bytes }
+    ensures good { IsTrue result → WholeDataAt (L.data_end layout.now size) (L.hold layout.now size) frame.now sync buffer.new.items }
+    ensures bad { result ≡ false → (bytes : List ℕ) → ¬ WholeDataAt (L.data_end layout.now size) (L.hold layout.now size) frame.now sync bytes }
     ensures empty { result ≡ false → buffer.new.items ≡ [] }
 {
-    if stands_at_sync(layout, frame, sync, buffer) {
+    if stands_at_sync(layout, size, frame, sync, buffer) {
         return true;
     }
     buffer.clear();
@@ -100,20 +143,22 @@ fn read_at_sync<L: Layout>(
 /// The same, where the buffer may have anything if none stand.
 fn stands_at_sync<L: Layout>(
     layout: &L,
+    size: u16,
     frame: &CellsFrom,
     sync: usize,
     buffer: &mut SectorBuffer,
 ) -> bool
     requires sync { IsSyncInReach (L.header_end layout.now frame.now) (L.is_sync layout.now frame.now) sync }
     requires near { sync < 2 ^ 31 }
+    requires most { size ≤ MOST_SECTOR_BYTES }
     requires empty { buffer.old.items ≡ [] }
-    ensures good { IsTrue result → WholeDataAt (L.data_end layout.now) (L.hold layout.now) frame.now sync buffer.new.items }
-    ensures bad { result ≡ false → (bytes : List ℕ) → ¬ WholeDataAt (L.data_end layout.now) (L.hold layout.now) frame.now sync bytes }
+    ensures good { IsTrue result → WholeDataAt (L.data_end layout.now size) (L.hold layout.now size) frame.now sync buffer.new.items }
+    ensures bad { result ≡ false → (bytes : List ℕ) → ¬ WholeDataAt (L.data_end layout.now size) (L.hold layout.now size) frame.now sync bytes }
 {
-    let Some(end) = layout.data_end(frame, sync) else {
+    let Some(end) = layout.data_end(size, frame, sync) else {
         return false;
     };
-    if !layout.read_data(frame, sync, buffer) {
+    if !layout.read_data(size, frame, sync, buffer) {
         return false;
     }
     if !frame.unbroken_between(sync, end) {

@@ -3,10 +3,12 @@
 ghost use Rattle.std.specs.Prelude.{◌≡◌, ℕ, ◌≤◌, [], List, false, length, IfSome, IfNone, IsTrue};
 ghost use Rattle.cell_bits.specs.Word.{Stands};
 ghost use Rattle.frame_law.specs.Frames.{DataStand, HeaderStands, SectorStands};
+ghost use Rattle.frame_law.specs.Others.{IsSectorName};
 ghost use Rattle.frame_law.specs.Readings.{Reads};
+ghost use Rattle.track_rings.specs.Rings.{IsSectorNumber};
 
 use crate::{CellsFrom, Layout, Reading, SectorBuffer};
-use flux_base::TrackId;
+use flux_base::{HeaderName, TrackId};
 
 /// The data's sync begins less than this number of cells after the header.
 pub(crate) const DATA_REACH: usize = 1024;
@@ -22,7 +24,7 @@ pub(crate) fn read_frame<L: Layout>(
     requires track { L.has_track layout.now track }
     requires sync { Stands frame.now L.SYNC L.SYNC_CELLS 0 }
     ensures { let header : (s : ℕ) → Type 0 = λ s. HeaderStands L.SYNC L.SYNC_CELLS (L.header_end layout.now) (L.lowest_sector layout.now) (L.sector_count layout.now track) (L.names_sector layout.now track) frame.now s in
-        let content : List ℕ → Type 0 = λ bytes. DataStand (L.header_end layout.now) (L.data_end layout.now) (L.is_sync layout.now) (L.hold layout.now) frame.now bytes in
+        let content : List ℕ → Type 0 = λ bytes. DataStand (L.header_end layout.now) (L.data_end layout.now (L.sector_bytes layout.now)) (L.is_sync layout.now) (L.hold layout.now (L.sector_bytes layout.now)) frame.now bytes in
         Reads header (λ s bytes. SectorStands (header s) (content bytes)) result buffer.new.items }
 {
     buffer.clear();
@@ -55,13 +57,6 @@ pub(crate) fn header_sector<L: Layout>(
     ensures none { IfNone result ((s : ℕ) → ¬ HeaderStands L.SYNC L.SYNC_CELLS (L.header_end layout.now) (L.lowest_sector layout.now) (L.sector_count layout.now track) (L.names_sector layout.now track) frame.now s) }
 {
     let sector = named_sector(layout, frame, track)?;
-    let first = layout.lowest_sector();
-    if sector < first {
-        return None;
-    }
-    if sector - first >= layout.sector_count(track) {
-        return None;
-    }
     if !frame.unbroken_to(header_end) {
         return None;
     }
@@ -72,13 +67,36 @@ pub(crate) fn header_sector<L: Layout>(
 fn named_sector<L: Layout>(layout: &L, frame: &CellsFrom, track: TrackId) -> Option<u8>
     requires track { L.has_track layout.now track }
     requires whole { L.header_end layout.now frame.now ≤ length frame.now }
-    ensures named { IfSome result (λ sector. L.names_sector layout.now track frame.now sector) }
-    ensures none { IfNone result ((sector : ℕ) → ¬ L.names_sector layout.now track frame.now sector) }
+    ensures named { IfSome result (λ s. L.names_sector layout.now track frame.now s × IsSectorNumber (L.lowest_sector layout.now) (L.sector_count layout.now track) s) }
+    ensures none { IfNone result ((s : ℕ) → IsSectorNumber (L.lowest_sector layout.now) (L.sector_count layout.now track) s → ¬ L.names_sector layout.now track frame.now s) }
 {
     let Some(name) = layout.read_name(frame) else {
         return None;
     };
-    layout.sector_named(track, name)
+    sector_with_name(layout, track, name)
+}
+
+/// The sector of this track that has the name. None where none has it.
+pub(crate) fn sector_with_name<L: Layout>(
+    layout: &L,
+    track: TrackId,
+    name: HeaderName,
+) -> Option<u8>
+    requires track { L.has_track layout.now track }
+    ensures named { IfSome result (λ s. IsSectorName (L.is_name_of layout.now track) (L.lowest_sector layout.now) (L.sector_count layout.now track) name s) }
+    ensures none { IfNone result ((s : ℕ) → ¬ IsSectorName (L.is_name_of layout.now track) (L.lowest_sector layout.now) (L.sector_count layout.now track) name s) }
+{
+    let Some(sector) = layout.sector_named(track, name) else {
+        return None;
+    };
+    let first = layout.lowest_sector();
+    if sector < first {
+        return None;
+    }
+    if sector - first >= layout.sector_count(track) {
+        return None;
+    }
+    Some(sector)
 }
 
 /// Whether data stand after the header at the front of the cells, which ends at this place. Then the buffer, which was
@@ -91,18 +109,19 @@ fn read_content<L: Layout>(
 ) -> bool
     requires end { header_end ≡ L.header_end layout.now frame.now }
     requires empty { buffer.old.items ≡ [] }
-    ensures good { IsTrue result → DataStand (L.header_end layout.now) (L.data_end layout.now) (L.is_sync layout.now) (L.hold layout.now) frame.now buffer.new.items }
-    ensures bad { result ≡ false → (bytes : List ℕ) → ¬ DataStand (L.header_end layout.now) (L.data_end layout.now) (L.is_sync layout.now) (L.hold layout.now) frame.now bytes }
+    ensures good { IsTrue result → DataStand (L.header_end layout.now) (L.data_end layout.now (L.sector_bytes layout.now)) (L.is_sync layout.now) (L.hold layout.now (L.sector_bytes layout.now)) frame.now buffer.new.items }
+    ensures bad { result ≡ false → (bytes : List ℕ) → ¬ DataStand (L.header_end layout.now) (L.data_end layout.now (L.sector_bytes layout.now)) (L.is_sync layout.now) (L.hold layout.now (L.sector_bytes layout.now)) frame.now bytes }
 {
     let reach = header_end + DATA_REACH;
     let Some(sync) = layout.next_sync(frame, header_end, reach) else {
         return false;
     };
-    let Some(end) = layout.data_end(frame, sync) else {
+    let size = layout.sector_bytes();
+    let Some(end) = layout.data_end(size, frame, sync) else {
         return false;
     };
     if !frame.unbroken_to(end) {
         return false;
     }
-    layout.read_data(frame, sync, buffer)
+    layout.read_data(size, frame, sync, buffer)
 }

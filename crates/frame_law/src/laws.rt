@@ -5,6 +5,7 @@ ghost use Rattle.cell_bits.specs.Broken.{Unbroken};
 ghost use Rattle.flux_base.specs.declared.track.TrackId.{TrackId};
 ghost use Rattle.frame_law.specs.Controller.{DataAreTold, DataStandAlone, HasHeaderData, HasOnlyOwnData, SearchesFindAll, SectorStandsBy, StrictHasData};
 ghost use Rattle.frame_law.specs.Laws.{HasOnlyOwn, HasOnlyOwnBetweenZeros, ReadingsAreAll, ReadingsAreOne, SectorsAreTold, StandsAlone};
+ghost use Rattle.frame_law.specs.Others.{HasNoOtherBetweenZeros, HeadersAreTold, NamedDataAreOwn};
 ghost use Rattle.track_rings.specs.Rings.{AreSectors, IsSectorNumber, IsSpaced, LiesAt, bytes_of, stretch};
 
 use crate::Recording;
@@ -69,6 +70,20 @@ pub fn data_are_read<R: Recording>()
     ensures of_track { (r : R) (track : TrackId) (cells : List Bool) → SearchesFindAll (HasHeaderData (R.header_at r track) (R.data_at r) cells) }
     ensures told { (r : R) → DataAreTold (R.data_at r) (R.sector_size r) }
     ensures strict { (r : R) (track : TrackId) → StrictHasData (R.sector_at r track) (R.data_at r) }
+{}
+
+/// The cells tell the name of each header, and which of the track's sectors it is of, if any; repeated searches find all
+/// headers, once each and by rising place; and whole data of a sector's name are the sector's.
+pub fn headers_are_told<R: Recording>()
+    ensures told { (r : R) (track : TrackId) → HeadersAreTold (R.named_at r) (R.is_name_of r track) (R.header_at r track) }
+    ensures own_data { (r : R) (track : TrackId) → NamedDataAreOwn (R.whole_data_of r) (R.is_name_of r track) (R.data_at r) }
+{}
+
+/// No other header than those of its sectors stands in any stretch of a repeated ring between zeros.
+pub fn no_others<R: Recording>()
+    ensures { (r : R) (track : TrackId) (bytes : List ℕ) (zeros from count behind : ℕ) → R.has_track r track
+        → AreSectors (R.sectors r track) (R.sector_size r) bytes
+        → HasNoOtherBetweenZeros (R.named_at r) (R.header_at r track) (R.ring r track bytes) zeros from count behind }
 {}
 
 /// Nothing but a ring's own sectors stands in it by the second rule either: what stands depends on its own cells alone,

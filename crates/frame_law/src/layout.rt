@@ -1,18 +1,20 @@
-ghost use Rattle.std.specs.Prelude.{◌≡◌, ◌≢◌, ℕ, ◌+◌, ◌*◌, ◌^◌, ◌<◌, ◌≤◌, ◌⊎◌, ◌&&◌, List, [], ◌++◌, Bool, false, length, IfSome, IfNone, IsTrue};
+ghost use Rattle.std.specs.Prelude.{◌≡◌, ℕ, ◌+◌, ◌*◌, ◌^◌, ◌<◌, ◌≤◌, ◌⊎◌, ◌&&◌, List, [], ◌++◌, Bool, false, length, Option, Some, IfSome, IfNone, IsTrue};
 ghost use Rattle.cell_bits.specs.Bytes.{last_cell};
+ghost use Rattle.flux_base.specs.Bounds.{LONGEST_RING, MOST_SECTOR_BYTES};
 ghost use Rattle.flux_base.specs.declared.track.TrackId.{TrackId};
 ghost use Rattle.frame_law.specs.Frames.{AreSizes, EndsAt, FrameStands, IsFirstSync, IsSyncInReach, IsWithinReach, NoSync};
-ghost use Rattle.frame_law.specs.declared.header_name.HeaderName.{HeaderName};
+ghost use Rattle.flux_base.specs.declared.header_name.HeaderName.{HeaderName};
 ghost use Rattle.frame_law.specs.lemmas.OwnData.{AreSyncsOrNone, BeginAtOnce, HasOwnDataSyncs};
-ghost use Rattle.frame_law.specs.lemmas.OwnFrames.{HasOwnSyncs, NamesSectors, TellsEarly, TellsEnds};
+ghost use Rattle.frame_law.specs.lemmas.OwnFrames.{HasOwnSyncs, TellsEarly, TellsEnds};
+ghost use Rattle.frame_law.specs.Others.{NamesSectors};
 ghost use Rattle.frame_law.specs.Writing.{AppendsCells};
 ghost use Rattle.track_rings.specs.Rings.{AreSectors, IsSectorNumber, AreBytes};
 ghost use Rattle.track_rings.specs.Rows.{IsContent, Rows, frame_size, last_of, place_of, ring_of, ring_size, rows_cells, sector_rows};
 ghost use Rattle.track_rings.specs.Spaced.{MayFollow};
 
-use crate::{CellsFrom, HeaderName, SectorBuffer};
+use crate::{CellsFrom, SectorBuffer};
 use cell_bits::Cells;
-use flux_base::{Memory, TrackId};
+use flux_base::{HeaderName, Memory, TrackId};
 
 /// The table of a recording's tracks and the few facts about it: whoever has these is a
 /// [`Recording`](crate::Recording).
@@ -65,19 +67,25 @@ pub trait Layout {
     /// The header at the front of the cells, which is whole, has this name and the check value of it.
     ghost names: { Self → List Bool → HeaderName → Type 0 };
 
-    /// How a header names this sector of this track.
-    ghost name_of: { Self → TrackId → ℕ → HeaderName };
+    /// A header of this name is one of this sector of this track.
+    ghost is_name_of: { Self → TrackId → HeaderName → ℕ → Type 0 };
 
     /// A sync for data, whether it opens them or not, stands at this place of the cells.
     ghost is_sync: { Self → List Bool → ℕ → Type 0 };
 
-    /// The data of the frame at the front of the cells, whose sync stands at this place, hold these bytes.
-    ghost hold: { Self → List Bool → ℕ → List ℕ → Type 0 };
+    /// How many bytes there are in the data of a header with this name. None where it tells a size that no data have.
+    ghost size_named: { Self → HeaderName → Option ℕ };
 
-    /// Where the data of the frame at the front of the cells end, whose sync stands at this place.
-    ghost data_end: { Self → List Bool → ℕ → ℕ };
+    /// The data of the frame at the front of the cells, which have so many bytes and whose sync stands at this place, hold
+    /// these bytes.
+    ghost hold: { Self → ℕ → List Bool → ℕ → List ℕ → Type 0 };
 
-    /// How many cells data have that are written, from the begin of their sync on. None that are read have fewer.
+    /// Where the data of the frame at the front of the cells end, which have so many bytes and whose sync stands at this
+    /// place.
+    ghost data_end: { Self → ℕ → List Bool → ℕ → ℕ };
+
+    /// How many cells data have that are written, from the begin of their sync on. None that are read with as many bytes have
+    /// fewer.
     ghost data_cells: { Self → ℕ };
 
     /// The rows of a track.
@@ -109,7 +117,13 @@ pub trait Layout {
 
     /// How many bytes a sector has.
     fn sector_bytes(&self) -> u16
-        ensures { result ≡ sector_bytes self.now };
+        ensures is { result ≡ sector_bytes self.now }
+        ensures most { result ≤ MOST_SECTOR_BYTES };
+
+    /// How many bytes there are in the data of a header with this name. None where it tells a size that no data have.
+    fn size_named(&self, name: HeaderName) -> Option<u16>
+        ensures is { result ≡ size_named self.now name }
+        ensures most { IfSome result (λ size. size ≤ MOST_SECTOR_BYTES) };
 
     /// How many cells the track's ring has.
     fn track_cells(&self, track: TrackId) -> u32
@@ -161,8 +175,8 @@ pub trait Layout {
     /// The sector of this track that has the name. None where none has it.
     fn sector_named(&self, track: TrackId, name: HeaderName) -> Option<u8>
         requires { has_track self.now track }
-        ensures named { IfSome result (λ sector. name ≡ name_of self.now track sector) }
-        ensures none { IfNone result ((sector : ℕ) → name ≢ name_of self.now track sector) };
+        ensures named { IfSome result (λ sector. is_name_of self.now track name sector) }
+        ensures none { IfNone result ((sector : ℕ) → ¬ is_name_of self.now track name sector) };
 
     /// The first sync at a place from `from` to below `to`, which are after the header.
     fn next_sync(&self, frame: &CellsFrom, from: usize, to: usize) -> Option<usize>
@@ -171,26 +185,35 @@ pub trait Layout {
         ensures first { IfSome result (λ sync. IsFirstSync (is_sync self.now frame.now) from to sync) }
         ensures none { IfNone result (NoSync (is_sync self.now frame.now) from to) };
 
-    /// Where the data end whose sync stands at the place. None where they are not whole.
-    fn data_end(&self, frame: &CellsFrom, sync: usize) -> Option<usize>
-        requires { IsSyncInReach (header_end self.now frame.now) (is_sync self.now frame.now) sync }
-        ensures some { IfSome result (λ end. (end ≡ data_end self.now frame.now sync) × (end ≤ length frame.now)) }
-        ensures none { IfNone result (length frame.now < data_end self.now frame.now sync) };
-
-    /// Whether the data whose sync stands at the place hold bytes. Then the buffer, which was empty, has them.
-    fn read_data(&self, frame: &CellsFrom, sync: usize, buffer: &mut SectorBuffer) -> bool
+    /// Where the data end that have so many bytes and whose sync stands at the place. None where they are not whole.
+    fn data_end(&self, size: u16, frame: &CellsFrom, sync: usize) -> Option<usize>
         requires sync { IsSyncInReach (header_end self.now frame.now) (is_sync self.now frame.now) sync }
-        requires whole { data_end self.now frame.now sync ≤ length frame.now }
+        requires most { size ≤ MOST_SECTOR_BYTES }
+        ensures some { IfSome result (λ end. (end ≡ data_end self.now size frame.now sync) × (end ≤ length frame.now)) }
+        ensures none { IfNone result (length frame.now < data_end self.now size frame.now sync) };
+
+    /// Whether the data that have so many bytes and whose sync stands at the place hold bytes. Then the buffer, which was
+    /// empty, has them.
+    fn read_data(
+        &self,
+        size: u16,
+        frame: &CellsFrom,
+        sync: usize,
+        buffer: &mut SectorBuffer,
+    ) -> bool
+        requires sync { IsSyncInReach (header_end self.now frame.now) (is_sync self.now frame.now) sync }
+        requires most { size ≤ MOST_SECTOR_BYTES }
+        requires whole { data_end self.now size frame.now sync ≤ length frame.now }
         requires empty { buffer.old.items ≡ [] }
-        ensures good { IsTrue result → hold self.now frame.now sync buffer.new.items }
-        ensures bad { result ≡ false → (bytes : List ℕ) → ¬ hold self.now frame.now sync bytes };
+        ensures good { IsTrue result → hold self.now size frame.now sync buffer.new.items }
+        ensures bad { result ≡ false → (bytes : List ℕ) → ¬ hold self.now size frame.now sync bytes };
 
     /// The distances of ones are 1 to 4 cells, a sync has 1 to 32, and a header has four at least.
     ghost sizes: { AreSizes SHORTEST LONGEST SYNC_CELLS header_cells last_zeros };
 
     /// A sector's number has 8 bits, and its bytes fit the buffer.
     ghost counts: { (r : Self) (track : TrackId) → has_track r track →
-        (1 ≤ sector_count r track) × (lowest_sector r + sector_count r track ≤ 256) × (sector_bytes r ≤ 512) };
+        (1 ≤ sector_count r track) × (lowest_sector r + sector_count r track ≤ 256) × (sector_bytes r ≤ MOST_SECTOR_BYTES) };
 
     /// The data of a frame that is written begin within reach of its header.
     ghost reach: { (r : Self) → IsWithinReach header_cells (data_place r) (data_cells r) };
@@ -199,7 +222,7 @@ pub trait Layout {
     ghost sums: { (r : Self) (track : TrackId) → has_track r track →
         (frame_size (row_size r track) (sector_bytes r) (rows r track) ≡ data_place r + data_cells r)
         × (ring_size (row_size r track) (sector_count r track) (sector_bytes r) (rows r track) ≡ track_cells r track)
-        × (track_cells r track ≤ 2 ^ 18) };
+        × (track_cells r track ≤ LONGEST_RING) };
 
     /// A row has the cells that are counted for it.
     ghost row_length: { (r : Self) (track : TrackId) (before : Bool) (s : ℕ) (bytes : List ℕ) (row : Self.Row) →
@@ -215,40 +238,48 @@ pub trait Layout {
         let last = rows_cells asks (row_cells r track) before (lowest_sector r) [] (rows r track).lead_out in
         (asks && last_of before last) ≡ false };
 
-    /// A header names a sector of a track where it has its name, which no other sector of the track has.
-    ghost named_sector: { (r : Self) (track : TrackId) → NamesSectors (names r) (name_of r track) (names_sector r track) };
+    /// A header names a sector of a track where it has a name of it, which no other sector of the track has.
+    ghost named_sector: { (r : Self) (track : TrackId) → NamesSectors (names r) (is_name_of r track) (names_sector r track) };
+
+    /// The name of a sector tells the size that the recording's sectors have.
+    ghost own_size: { (r : Self) (track : TrackId) (name : HeaderName) (s : ℕ) →
+        is_name_of r track name s → size_named r name ≡ Some (sector_bytes r) };
+
+    /// Data of any size have some cells.
+    ghost data_some: { (r : Self) (size : ℕ) (cells : List Bool) (sync : ℕ) → sync + 8 ≤ data_end r size cells sync };
 
     /// What cells name and hold is one thing.
     ghost one_name: { (r : Self) (cells : List Bool) (n m : HeaderName) →
         names r cells n → names r cells m → n ≡ m };
 
     ghost one_content: { (r : Self) (cells : List Bool) (sync : ℕ) (xs ys : List ℕ) →
-        hold r cells sync xs → hold r cells sync ys → xs ≡ ys };
+        hold r (sector_bytes r) cells sync xs → hold r (sector_bytes r) cells sync ys → xs ≡ ys };
 
     ghost content_size: { (r : Self) (cells : List Bool) (sync : ℕ) (xs : List ℕ) →
-        hold r cells sync xs → length xs ≡ sector_bytes r };
+        hold r (sector_bytes r) cells sync xs → length xs ≡ sector_bytes r };
 
     /// The rows of a frame are read back, whatever comes after them: its header names the sector, and its data hold
     /// the sector's bytes.
     ghost frame_stands: { (r : Self) (track : TrackId) (s : ℕ) (bytes : List ℕ) (before : Bool) (rest : List Bool) →
         has_track r track → IsSectorNumber (lowest_sector r) (sector_count r track) s →
         AreBytes bytes → length bytes ≡ sector_bytes r →
-        FrameStands SYNC SYNC_CELLS header_cells (data_place r) (names_sector r track) (is_sync r) (hold r)
+        FrameStands SYNC SYNC_CELLS header_cells (data_place r) (names_sector r track) (is_sync r) (hold r (sector_bytes r))
         (rows_cells asks (row_cells r track) before s bytes (rows r track).frame ++ rest) s bytes };
 
     /// A frame that is written ends after the cells of its header and of its data.
     ghost frame_ends: { (r : Self) (track : TrackId) (s : ℕ) (bytes : List ℕ) (before : Bool) (rest : List Bool) →
         has_track r track → IsSectorNumber (lowest_sector r) (sector_count r track) s →
         AreBytes bytes → length bytes ≡ sector_bytes r →
-        EndsAt header_cells (data_cells r) (data_place r) (header_end r) (data_end r)
+        EndsAt header_cells (data_cells r) (data_place r) (header_end r) (data_end r (sector_bytes r))
         (rows_cells asks (row_cells r track) before s bytes (rows r track).frame ++ rest) };
 
     /// Where a header and data end is told by their own cells.
-    ghost tells_ends: { (r : Self) → TellsEnds header_cells (data_cells r) (header_end r) (data_end r) };
+    ghost tells_ends: { (r : Self) → TellsEnds header_cells (data_cells r) (header_end r) (data_end r (sector_bytes r)) };
 
     /// What a header names, and what data hold, is told by their own cells, and by all of these but the last seven.
     ghost tells: { (r : Self) →
-        TellsEarly SYNC_CELLS header_cells (data_cells r) (header_end r) (data_end r) (names r) (is_sync r) (hold r) };
+        TellsEarly SYNC_CELLS header_cells (data_cells r) (header_end r) (data_end r (sector_bytes r))
+        (names r) (is_sync r) (hold r (sector_bytes r)) };
 
     /// The first cells of a header stand in a ring only where a header begins.
     ghost own_syncs: { (r : Self) (track : TrackId) → has_track r track →
@@ -263,7 +294,8 @@ pub trait Layout {
     /// Data begin where their header ends, or their first cells stand in a ring only where data do, and within headers.
     ghost own_data: { (r : Self) (track : TrackId) → has_track r track →
         BeginAtOnce (header_end r) (is_sync r)
-        ⊎ HasOwnDataSyncs header_cells (data_cells r) (data_place r) (lowest_sector r) (sector_count r track) (header_end r) (is_sync r) (hold r)
+        ⊎ HasOwnDataSyncs header_cells (data_cells r) (data_place r) (lowest_sector r) (sector_count r track) (header_end r)
+        (is_sync r) (hold r (sector_bytes r))
         (place_of (row_size r track) (lowest_sector r) (sector_bytes r) (rows r track))
         (AreSectors (sector_count r track) (sector_bytes r))
         (λ bytes. ring_of asks (row_cells r track) (lowest_sector r) (sector_count r track) (sector_bytes r) bytes (rows r track)) };

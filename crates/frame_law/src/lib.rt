@@ -6,7 +6,6 @@
 mod cells_from;
 mod data_search;
 mod frame_reading;
-mod header_name;
 mod laws;
 mod layout;
 mod one_of_two;
@@ -17,11 +16,11 @@ mod search;
 mod table_recording;
 
 pub use cells_from::CellsFrom;
-pub use header_name::HeaderName;
 pub use laws::{
-    data_are_read, only_own, only_own_data, readings_are_all, rings_hold_sectors, sectors_are_told,
+    data_are_read, headers_are_told, no_others, only_own, only_own_data, readings_are_all,
+    rings_hold_sectors, sectors_are_told,
 };
 pub use layout::Layout;
-pub use reading::{Reading, SectorBuffer};
+pub use reading::{FoundHeader, Reading, SectorBuffer};
 pub use recording::Recording;
-pub use search::{next_header, next_reading};
+pub use search::{next_found, next_header, next_reading};

@@ -8,7 +8,7 @@ ghost use Rattle.frame_law.specs.lemmas.Spacing.{spaced_wider};
 use crate::{Reading, Recording, SectorBuffer};
 use cell_bits::Cells;
 use either::{Either, for_both};
-use flux_base::{Memory, TrackId};
+use flux_base::{HeaderName, Memory, TrackId};
 
 impl<A: Recording, B: Recording> Recording for Either<A, B> {
     const SHORTEST: u8 = if A::SHORTEST < B::SHORTEST {
@@ -38,6 +38,12 @@ impl<A: Recording, B: Recording> Recording for Either<A, B> {
     ghost sector_at = { elim [ Left r ↦ A.sector_at r | Right r ↦ B.sector_at r ] };
 
     ghost data_at = { elim [ Left r ↦ A.data_at r | Right r ↦ B.data_at r ] };
+
+    ghost named_at = { elim [ Left r ↦ A.named_at r | Right r ↦ B.named_at r ] };
+
+    ghost is_name_of = { elim [ Left r ↦ A.is_name_of r | Right r ↦ B.is_name_of r ] };
+
+    ghost whole_data_of = { elim [ Left r ↦ A.whole_data_of r | Right r ↦ B.whole_data_of r ] };
 
     ghost ring = { elim [ Left r ↦ A.ring r | Right r ↦ B.ring r ] };
 
@@ -115,6 +121,24 @@ impl<A: Recording, B: Recording> Recording for Either<A, B> {
         for_both!(self, r => r.next_data(cells, place, from, buffer))
     }
 
+    fn name_after_sync(&self, cells: &Cells, place: usize) -> Option<HeaderName> {
+        for_both!(self, r => r.name_after_sync(cells, place))
+    }
+
+    fn sector_of_name(&self, track: TrackId, name: HeaderName) -> Option<u8> {
+        for_both!(self, r => r.sector_of_name(track, name))
+    }
+
+    fn has_data(
+        &self,
+        cells: &Cells,
+        place: usize,
+        name: HeaderName,
+        buffer: &mut SectorBuffer,
+    ) -> bool {
+        for_both!(self, r => r.has_data(cells, place, name, buffer))
+    }
+
     ghost sync_size = { elim [ Left r ↦ A.sync_size r | Right r ↦ B.sync_size r ] };
 
     ghost sync_leads = { elim [ Left r ↦ A.sync_leads r | Right r ↦ B.sync_leads r ] };
@@ -159,6 +183,18 @@ impl<A: Recording, B: Recording> Recording for Either<A, B> {
     ghost header_own = { elim [ Left r ↦ A.header_own r | Right r ↦ B.header_own r ] };
 
     ghost sector_own = { elim [ Left r ↦ A.sector_own r | Right r ↦ B.sector_own r ] };
+
+    ghost name_leads = { elim [ Left r ↦ A.name_leads r | Right r ↦ B.name_leads r ] };
+
+    ghost one_name = { elim [ Left r ↦ A.one_name r | Right r ↦ B.one_name r ] };
+
+    ghost header_named = { elim [ Left r ↦ A.header_named r | Right r ↦ B.header_named r ] };
+
+    ghost named_data = { elim [ Left r ↦ A.named_data r | Right r ↦ B.named_data r ] };
+
+    ghost named_alone = { elim [ Left r ↦ A.named_alone r | Right r ↦ B.named_alone r ] };
+
+    ghost no_other = { elim [ Left r ↦ A.no_other r | Right r ↦ B.no_other r ] };
 
     ghost data_is_one = { elim [ Left r ↦ A.data_is_one r | Right r ↦ B.data_is_one r ] };
 

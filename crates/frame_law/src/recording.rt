@@ -1,16 +1,19 @@
-ghost use Rattle.std.specs.Prelude.{◌≡◌, ℕ, ◌+◌, ◌*◌, ◌^◌, ◌<◌, ◌≤◌, List, [], Bool, false, length, drop, replicate, OnOk, OnErr, IsOk};
+ghost use Rattle.std.specs.Prelude.{◌≡◌, ℕ, ◌+◌, ◌*◌, ◌^◌, ◌<◌, ◌≤◌, ◌↔◌, List, [], Bool, false, length, drop, replicate, IfNone, IfSome, IsTrue, OnOk, OnErr, IsOk};
 ghost use Rattle.cell_bits.specs.Broken.{Unbroken};
 ghost use Rattle.cell_bits.specs.State.{room};
 ghost use Rattle.cell_bits.specs.Word.{Stands};
+ghost use Rattle.flux_base.specs.Bounds.{LONGEST_RING, MOST_SECTOR_BYTES};
 ghost use Rattle.flux_base.specs.declared.track.TrackId.{TrackId};
 ghost use Rattle.frame_law.specs.Controller.{FirstData, START_ZEROS, SectorOf, StrictHasData};
+ghost use Rattle.flux_base.specs.declared.header_name.HeaderName.{HeaderName};
+ghost use Rattle.frame_law.specs.Others.{NamedDataAreOwn, NamesSectors};
 ghost use Rattle.frame_law.specs.Readings.{Reads};
 ghost use Rattle.track_rings.specs.OwnSectors.{IsAlone, IsAloneWithin, IsOwnPlace, between_zeros};
 ghost use Rattle.track_rings.specs.Rings.{AreSectors, IsSectorNumber, IsSpaced, LiesAt, bytes_of, stretch};
 
 use crate::{Reading, SectorBuffer};
 use cell_bits::Cells;
-use flux_base::{Memory, TrackId};
+use flux_base::{HeaderName, Memory, TrackId};
 
 /// How the sectors of a disk's tracks are written as cells, and how they are read.
 ///
@@ -45,6 +48,16 @@ pub trait Recording {
     /// By the second rule, as controllers read: data with these bytes stand at this place, counted from the front of the
     /// cells, where a header stands. It may have data at several places.
     ghost data_at: { Self → List Bool → ℕ → List ℕ → Type 0 };
+
+    /// A header of this name stands at the front of the cells, whole and unbroken, with its check value.
+    ghost named_at: { Self → List Bool → HeaderName → Type 0 };
+
+    /// A header of this name is one of this sector of the track.
+    ghost is_name_of: { Self → TrackId → HeaderName → ℕ → Type 0 };
+
+    /// By the second rule: data of the size that this name tells stand at some place after the header at the front of the cells,
+    /// which has this name.
+    ghost whole_data_of: { Self → List Bool → HeaderName → Type 0 };
 
     /// The ring of a track: its cells, from one index hole to the next, with these bytes of all its sectors.
     ghost ring: { Self → TrackId → List ℕ → List Bool };
@@ -147,6 +160,29 @@ pub trait Recording {
     ) -> Option<usize>
         ensures { FirstData (data_at self.now (drop place cells.now.cells)) from result buffer.new.items };
 
+    /// The name of the header that stands at the place, where the caller has found the sync. None where none stands.
+    fn name_after_sync(&self, cells: &Cells, place: usize) -> Option<HeaderName>
+        requires sync { Stands cells.now.cells (sync self.now) (sync_cells self.now) place }
+        ensures stands { IfSome result (λ name. named_at self.now (drop place cells.now.cells) name) }
+        ensures none { IfNone result ((name : HeaderName) → ¬ named_at self.now (drop place cells.now.cells) name) };
+
+    /// The sector of the track that has the name. None where none has it.
+    fn sector_of_name(&self, track: TrackId, name: HeaderName) -> Option<u8>
+        requires { has_track self.now track }
+        ensures named { IfSome result (λ sector. is_name_of self.now track name sector) }
+        ensures none { IfNone result ((sector : ℕ) → ¬ is_name_of self.now track name sector) };
+
+    /// Whether data of the size that the name tells stand by the second rule after the header at the place, which has this
+    /// name. Nothing is said of what the buffer then has.
+    fn has_data(
+        &self,
+        cells: &Cells,
+        place: usize,
+        name: HeaderName,
+        buffer: &mut SectorBuffer,
+    ) -> bool
+        ensures { IsTrue result ↔ whole_data_of self.now (drop place cells.now.cells) name };
+
     /// Each header begins with the sync cells.
     ghost sync_size: { (r : Self) → (1 ≤ sync_cells r) × (sync_cells r ≤ 32) };
 
@@ -171,10 +207,10 @@ pub trait Recording {
     ghost content_size: { (r : Self) (track : TrackId) (cells : List Bool) (s : ℕ) (xs : List ℕ) →
         sector_at r track cells s xs → length xs ≡ sector_size r };
 
-    /// A sector's number has 8 bits, its bytes fit the buffer, and a ring has at most 2^18 cells.
+    /// A sector's number has 8 bits, its bytes fit the buffer, and a ring is not too long.
     ghost sizes: { (r : Self) (track : TrackId) →
         has_track r track →
-        (first_sector r + sectors r track ≤ 256) × (sector_size r ≤ 512) × (ring_cells r track ≤ 2 ^ 18) };
+        (first_sector r + sectors r track ≤ 256) × (sector_size r ≤ MOST_SECTOR_BYTES) × (ring_cells r track ≤ LONGEST_RING) };
 
     /// A ring has the length that `ring_cells` says.
     ghost ring_length: { (r : Self) (track : TrackId) (bytes : List ℕ) →
@@ -225,6 +261,28 @@ pub trait Recording {
         has_track r track → AreSectors (sectors r track) (sector_size r) bytes →
         sector_at r track (drop place (between_zeros (ring r track bytes) zeros from count behind)) s xs →
         xs ≡ bytes_of (first_sector r) (sector_size r) bytes s };
+
+    /// A header of any name begins with the sync cells, and the cells tell its name.
+    ghost name_leads: { (r : Self) (cells : List Bool) (name : HeaderName) →
+        named_at r cells name → Stands cells (sync r) (sync_cells r) 0 };
+
+    ghost one_name: { (r : Self) (cells : List Bool) (n m : HeaderName) →
+        named_at r cells n → named_at r cells m → n ≡ m };
+
+    /// A sector's header is one that has a name of the sector, which no other sector of the track has.
+    ghost header_named: { (r : Self) (track : TrackId) → NamesSectors (named_at r) (is_name_of r track) (header_at r track) };
+
+    /// After a header of a sector's name whole data stand exactly where the sector's do.
+    ghost named_data: { (r : Self) (track : TrackId) → NamedDataAreOwn (whole_data_of r) (is_name_of r track) (data_at r) };
+
+    ghost named_alone: { (r : Self) (cells : List Bool) (name : HeaderName) →
+        named_at r cells name → IsAlone (λ others. named_at r others name) cells };
+
+    /// In a stretch of the repeated ring between zeros, each header is that of one of the ring's own sectors.
+    ghost no_other: { (r : Self) (track : TrackId) (bytes : List ℕ) (zeros from count behind place : ℕ) (name : HeaderName) →
+        has_track r track → AreSectors (sectors r track) (sector_size r) bytes →
+        named_at r (drop place (between_zeros (ring r track bytes) zeros from count behind)) name →
+        (s : ℕ) × header_at r track (drop place (between_zeros (ring r track bytes) zeros from count behind)) s };
 
     /// Data that stand by the second rule are one thing at a place, have a sector's size, and begin in the cells.
     ghost data_is_one: { (r : Self) (cells : List Bool) (place : ℕ) (xs ys : List ℕ) →

@@ -1,10 +1,11 @@
-ghost use Rattle.std.specs.Prelude.{◌≡◌, ◌<◌, length, drop, IfSome};
+ghost use Rattle.std.specs.Prelude.{◌≡◌, ◌<◌, Bool, List, length, drop, IfSome};
 ghost use Rattle.frame_law.specs.Controller.{FirstAt};
+ghost use Rattle.frame_law.specs.Others.{IsFoundHeader};
 ghost use Rattle.frame_law.specs.Readings.{FirstReading};
 
-use crate::{Reading, Recording, SectorBuffer};
+use crate::{FoundHeader, Reading, Recording, SectorBuffer};
 use cell_bits::Cells;
-use flux_base::TrackId;
+use flux_base::{HeaderName, TrackId};
 
 /// The first place that is at least `from` and at which a header of the track stands, and its sector. None exactly where
 /// there is none.
@@ -28,6 +29,44 @@ pub fn next_header<R: Recording>(
         behind = place + 1;
     }
     None
+}
+
+/// The first place that is at least `from` and at which a header of any name stands, and whether it is one of the track's
+/// sectors or another. None exactly where there is none.
+pub fn next_found<R: Recording>(
+    recording: &R,
+    cells: &Cells,
+    from: usize,
+    track: TrackId,
+) -> Option<(usize, FoundHeader)>
+    requires { R.has_track recording.now track }
+    ensures first { let named = R.named_at recording.now in
+        let header = R.header_at recording.now track in
+        FirstAt (λ place found. IsFoundHeader named header (drop place cells.now.cells) found) from result }
+    ensures within { IfSome result (λ found. found.0 < length cells.now.cells) }
+{
+    let word = recording.sync();
+    let word_cells = recording.sync_cells();
+    let mut behind = from;
+    while let Some(place) = cells.find_word(behind, cells.len(), word, word_cells) {
+        if let Some(name) = recording.name_after_sync(cells, place) {
+            return Some((place, found_header(recording, track, name)));
+        }
+        behind = place + 1;
+    }
+    None
+}
+
+/// What a header of this name is on the track.
+fn found_header<R: Recording>(recording: &R, track: TrackId, name: HeaderName) -> FoundHeader
+    requires { R.has_track recording.now track }
+    ensures { (cells : List Bool) → R.named_at recording.now cells name
+        → IsFoundHeader (R.named_at recording.now) (R.header_at recording.now track) cells result }
+{
+    match recording.sector_of_name(track, name) {
+        Some(sector) => FoundHeader::Sector(sector),
+        None => FoundHeader::Other(name),
+    }
 }
 
 /// The first reading at a place that is at least `from`: the least such place at which a header of the track

@@ -4,19 +4,21 @@ ghost use Rattle.std.specs.Prelude.{◌≡◌, ℕ, ◌+◌, ◌*◌, ◌<◌, �
 ghost use Rattle.std.proofs.Common.{arith, refl, subst};
 ghost use Rattle.frame_law.specs.Frames.{DataStand, HeaderStands, SectorStands};
 ghost use Rattle.frame_law.specs.Controller.{DataStandAt, NamedHeaderStands};
-ghost use Rattle.frame_law.specs.lemmas.ControllerLaws.{data_alone, data_within, own_content, strict_has_data};
+ghost use Rattle.frame_law.specs.Others.{HasNamedData, IsSectorName};
+ghost use Rattle.frame_law.specs.lemmas.Named.{named_header, own_named_data};
+ghost use Rattle.frame_law.specs.lemmas.ControllerLaws.{data_alone, data_within, named_alone, own_content, strict_has_data};
 ghost use Rattle.frame_law.specs.lemmas.FrameLaws.{frames-apart, frame_within, one_content, ring_length, ring_spaced, sector_stands};
-ghost use Rattle.frame_law.specs.lemmas.OwnFrames.{header_agrees, header_alone, header_own, header_within, no_header, sector_alone, sector_own, sector_syncs, some_cells, some_header, tells_sector};
+ghost use Rattle.frame_law.specs.lemmas.OwnFrames.{header_agrees, header_alone, header_own, header_within, named_own, no_header, same_sector, sector_alone, sector_own, sector_syncs, some_cells, some_header, tells_sector};
 ghost use Rattle.track_rings.specs.OwnSectors.{between_zeros};
 ghost use Rattle.track_rings.specs.Rings.{AreSectors, bytes_of};
 ghost use Rattle.track_rings.specs.Rows.{place_of, ring_of};
 
-use crate::data_search::next_data;
-use crate::frame_reading::{header_sector, read_frame};
+use crate::data_search::{has_named_data, own_data, standing_name};
+use crate::frame_reading::{header_sector, read_frame, sector_with_name};
 use crate::ring_writing::append_track;
 use crate::{CellsFrom, Layout, Reading, Recording, SectorBuffer};
 use cell_bits::Cells;
-use flux_base::{Memory, TrackId};
+use flux_base::{HeaderName, Memory, TrackId};
 
 impl<L: Layout> Recording for L {
     const SHORTEST: u8 = L::SHORTEST;
@@ -39,11 +41,22 @@ impl<L: Layout> Recording for L {
     ghost sector_at = { λ r track cells s bytes.
         SectorStands
         (HeaderStands L.SYNC L.SYNC_CELLS (L.header_end r) (L.lowest_sector r) (L.sector_count r track) (L.names_sector r track) cells s)
-        (DataStand (L.header_end r) (L.data_end r) (L.is_sync r) (L.hold r) cells bytes) };
+        (DataStand (L.header_end r) (L.data_end r (L.sector_bytes r)) (L.is_sync r) (L.hold r (L.sector_bytes r)) cells bytes) };
 
     ghost data_at = { λ r cells place bytes.
-        DataStandAt (L.header_end r) (L.data_end r) (L.is_sync r) (L.hold r)
+        DataStandAt (L.header_end r) (L.data_end r (L.sector_bytes r)) (L.is_sync r) (L.hold r (L.sector_bytes r))
         (NamedHeaderStands L.SYNC L.SYNC_CELLS (L.header_end r) (L.names r)) cells place bytes };
+
+    ghost named_at = { λ r cells name. NamedHeaderStands L.SYNC L.SYNC_CELLS (L.header_end r) (L.names r) cells name };
+
+    ghost is_name_of = { λ r track name s.
+        IsSectorName (L.is_name_of r track) (L.lowest_sector r) (L.sector_count r track) name s };
+
+    ghost whole_data_of = { λ r cells name.
+        HasNamedData (L.size_named r name)
+        (λ size place bytes.
+        DataStandAt (L.header_end r) (L.data_end r size) (L.is_sync r) (L.hold r size)
+        (NamedHeaderStands L.SYNC L.SYNC_CELLS (L.header_end r) (L.names r)) cells place bytes) };
 
     ghost ring = { λ r track bytes.
         ring_of L.asks (L.row_cells r track) (L.lowest_sector r) (L.sector_count r track) (L.sector_bytes r) bytes (L.rows r track) };
@@ -132,7 +145,25 @@ impl<L: Layout> Recording for L {
         from: usize,
         buffer: &mut SectorBuffer,
     ) -> Option<usize> {
-        next_data(self, &CellsFrom::new(cells, place), from, buffer)
+        own_data(self, &CellsFrom::new(cells, place), from, buffer)
+    }
+
+    fn name_after_sync(&self, cells: &Cells, place: usize) -> Option<HeaderName> {
+        standing_name(self, &CellsFrom::new(cells, place))
+    }
+
+    fn sector_of_name(&self, track: TrackId, name: HeaderName) -> Option<u8> {
+        sector_with_name(self, track, name)
+    }
+
+    fn has_data(
+        &self,
+        cells: &Cells,
+        place: usize,
+        name: HeaderName,
+        buffer: &mut SectorBuffer,
+    ) -> bool {
+        has_named_data(self, &CellsFrom::new(cells, place), name, buffer)
     }
 
     ghost sync_size = { λ r. (L.sizes.some_cells, L.sizes.word) };
@@ -140,12 +171,11 @@ impl<L: Layout> Recording for L {
     ghost sync_leads = { λ r track cells s header. header.begins };
 
     ghost one_header = { λ r track cells s t first second.
-        let named = L.named_sector r track in
-        named.differ s t (L.one_name r cells (L.name_of r track s) (L.name_of r track t)
-        (named.has_name cells s first.named) (named.has_name cells t second.named)) };
+        same_sector (L.names r) (L.is_name_of r track) (L.names_sector r track) (L.named_sector r track)
+        cells cells s t (λ n m. L.one_name r cells n m) first.named second.named };
 
     ghost one_content = { λ r track cells s t xs ys first second.
-        one_content (L.header_end r) (L.data_end r) (L.is_sync r) (L.hold r) cells xs ys (L.one_content r cells)
+        one_content (L.header_end r) (L.data_end r (L.sector_bytes r)) (L.is_sync r) (L.hold r (L.sector_bytes r)) cells xs ys (L.one_content r cells)
         first.content second.content };
 
     ghost header_of_sector = { λ r track cells s xs sector. sector.header };
@@ -178,7 +208,8 @@ impl<L: Layout> Recording for L {
         (L.lowest_sector r) (L.sector_count r track) (L.sector_bytes r) (L.rows r track)
         L.SHORTEST L.LONGEST L.last_zeros L.SYNC_CELLS L.header_cells L.sizes
         (λ n content row. L.row_follows r track n content row known)
-        (L.data_cells r) L.SYNC (L.data_place r) (L.header_end r) (L.data_end r) (L.is_sync r) (L.hold r) (L.names_sector r track)
+        (L.data_cells r) L.SYNC (L.data_place r) (L.header_end r) (L.data_end r (L.sector_bytes r)) (L.is_sync r) (L.hold r (L.sector_bytes r))
+        (L.names_sector r track)
         bytes s from count place (L.track_cells r track) given number
         (λ content before rest fit long. (
           L.frame_stands r track s content before rest known number fit long,
@@ -197,25 +228,34 @@ impl<L: Layout> Recording for L {
     ghost frame_some = { λ r. some_cells L.sizes (L.reach r) };
 
     ghost header_alone = { λ r track cells s header.
-        header_alone L.header_cells (L.data_cells r) (L.header_end r) (L.data_end r) (L.is_sync r) (L.hold r) L.SYNC L.SYNC_CELLS (L.data_place r)
-        (L.lowest_sector r) (L.sector_count r track) (L.names_sector r track) (L.tells_ends r) (tells_sector (L.names r) (L.name_of r track) (L.names_sector r track) (L.named_sector r track)
-        L.SYNC_CELLS L.header_cells (L.data_cells r) (L.header_end r) (L.data_end r) (L.is_sync r) (L.hold r) (L.tells r))
+        header_alone L.header_cells (L.data_cells r) (L.header_end r) (L.data_end r (L.sector_bytes r)) (L.is_sync r)
+        (L.hold r (L.sector_bytes r)) L.SYNC L.SYNC_CELLS (L.data_place r)
+        (L.lowest_sector r) (L.sector_count r track) (L.names_sector r track) (L.tells_ends r)
+        (tells_sector (L.names r) (L.is_name_of r track) (L.names_sector r track) (L.named_sector r track)
+        L.SYNC_CELLS L.header_cells (L.data_cells r) (L.header_end r) (L.data_end r (L.sector_bytes r)) (L.is_sync r) (L.hold r (L.sector_bytes r))
+        (L.tells r))
         cells s (some_header L.sizes) header };
 
     ghost sector_alone = { λ r track cells s xs sector.
-        sector_alone L.header_cells (L.data_cells r) (L.header_end r) (L.data_end r) (L.is_sync r) (L.hold r) L.SYNC L.SYNC_CELLS (L.data_place r)
-        (L.lowest_sector r) (L.sector_count r track) (L.names_sector r track) (L.tells_ends r) (tells_sector (L.names r) (L.name_of r track) (L.names_sector r track) (L.named_sector r track)
-        L.SYNC_CELLS L.header_cells (L.data_cells r) (L.header_end r) (L.data_end r) (L.is_sync r) (L.hold r) (L.tells r))
+        sector_alone L.header_cells (L.data_cells r) (L.header_end r) (L.data_end r (L.sector_bytes r)) (L.is_sync r)
+        (L.hold r (L.sector_bytes r)) L.SYNC L.SYNC_CELLS (L.data_place r)
+        (L.lowest_sector r) (L.sector_count r track) (L.names_sector r track) (L.tells_ends r)
+        (tells_sector (L.names r) (L.is_name_of r track) (L.names_sector r track) (L.named_sector r track)
+        L.SYNC_CELLS L.header_cells (L.data_cells r) (L.header_end r) (L.data_end r (L.sector_bytes r)) (L.is_sync r) (L.hold r (L.sector_bytes r))
+        (L.tells r))
         cells s xs (some_header L.sizes) sector };
 
     ghost header_own = { λ r track bytes s zeros from count behind place known given header.
-        header_own L.header_cells (L.data_cells r) (L.header_end r) (L.data_end r) (L.is_sync r) (L.hold r) L.SYNC L.SYNC_CELLS (L.data_place r)
-        (L.lowest_sector r) (L.sector_count r track) (L.names_sector r track) (L.tells_ends r) (tells_sector (L.names r) (L.name_of r track) (L.names_sector r track) (L.named_sector r track)
-        L.SYNC_CELLS L.header_cells (L.data_cells r) (L.header_end r) (L.data_end r) (L.is_sync r) (L.hold r) (L.tells r))
+        header_own L.header_cells (L.data_cells r) (L.header_end r) (L.data_end r (L.sector_bytes r)) (L.is_sync r)
+        (L.hold r (L.sector_bytes r)) L.SYNC L.SYNC_CELLS (L.data_place r)
+        (L.lowest_sector r) (L.sector_count r track) (L.names_sector r track) (L.tells_ends r)
+        (tells_sector (L.names r) (L.is_name_of r track) (L.names_sector r track) (L.named_sector r track)
+        L.SYNC_CELLS L.header_cells (L.data_cells r) (L.header_end r) (L.data_end r (L.sector_bytes r)) (L.is_sync r) (L.hold r (L.sector_bytes r))
+        (L.tells r))
         (place_of (L.row_size r track) (L.lowest_sector r) (L.sector_bytes r) (L.rows r track))
         (AreSectors (L.sector_count r track) (L.sector_bytes r))
         (λ content. ring_of L.asks (L.row_cells r track) (L.lowest_sector r) (L.sector_count r track) (L.sector_bytes r) content (L.rows r track))
-        (sector_syncs (L.names r) (L.name_of r track) (L.names_sector r track) (L.named_sector r track)
+        (sector_syncs (L.names r) (L.is_name_of r track) (L.names_sector r track) (L.named_sector r track)
         L.SYNC L.SYNC_CELLS L.header_cells (L.lowest_sector r) (L.sector_count r track)
         (place_of (L.row_size r track) (L.lowest_sector r) (L.sector_bytes r) (L.rows r track))
         (AreSectors (L.sector_count r track) (L.sector_bytes r))
@@ -241,7 +281,8 @@ impl<L: Layout> Recording for L {
         (L.lowest_sector r) (L.sector_count r track) (L.sector_bytes r) (L.rows r track)
         L.SHORTEST L.LONGEST L.last_zeros L.SYNC_CELLS L.header_cells L.sizes
         (λ m content row. L.row_follows r track m content row known)
-        (L.data_cells r) L.SYNC (L.data_place r) (L.header_end r) (L.data_end r) (L.is_sync r) (L.hold r) (L.names_sector r track)
+        (L.data_cells r) L.SYNC (L.data_place r) (L.header_end r) (L.data_end r (L.sector_bytes r)) (L.is_sync r) (L.hold r (L.sector_bytes r))
+        (L.names_sector r track)
         bytes n n_from n_count n_place (L.track_cells r track) given number
         (λ content before rest fit long. (
           L.frame_stands r track n content before rest known number fit long,
@@ -251,13 +292,16 @@ impl<L: Layout> Recording for L {
         s zeros from count behind place header };
 
     ghost sector_own = { λ r track bytes s zeros from count behind place xs known given sector.
-        sector_own L.header_cells (L.data_cells r) (L.header_end r) (L.data_end r) (L.is_sync r) (L.hold r) L.SYNC L.SYNC_CELLS (L.data_place r)
-        (L.lowest_sector r) (L.sector_count r track) (L.names_sector r track) (L.tells_ends r) (tells_sector (L.names r) (L.name_of r track) (L.names_sector r track) (L.named_sector r track)
-        L.SYNC_CELLS L.header_cells (L.data_cells r) (L.header_end r) (L.data_end r) (L.is_sync r) (L.hold r) (L.tells r))
+        sector_own L.header_cells (L.data_cells r) (L.header_end r) (L.data_end r (L.sector_bytes r)) (L.is_sync r)
+        (L.hold r (L.sector_bytes r)) L.SYNC L.SYNC_CELLS (L.data_place r)
+        (L.lowest_sector r) (L.sector_count r track) (L.names_sector r track) (L.tells_ends r)
+        (tells_sector (L.names r) (L.is_name_of r track) (L.names_sector r track) (L.named_sector r track)
+        L.SYNC_CELLS L.header_cells (L.data_cells r) (L.header_end r) (L.data_end r (L.sector_bytes r)) (L.is_sync r) (L.hold r (L.sector_bytes r))
+        (L.tells r))
         (place_of (L.row_size r track) (L.lowest_sector r) (L.sector_bytes r) (L.rows r track))
         (AreSectors (L.sector_count r track) (L.sector_bytes r))
         (λ content. ring_of L.asks (L.row_cells r track) (L.lowest_sector r) (L.sector_count r track) (L.sector_bytes r) content (L.rows r track))
-        (sector_syncs (L.names r) (L.name_of r track) (L.names_sector r track) (L.named_sector r track)
+        (sector_syncs (L.names r) (L.is_name_of r track) (L.names_sector r track) (L.named_sector r track)
         L.SYNC L.SYNC_CELLS L.header_cells (L.lowest_sector r) (L.sector_count r track)
         (place_of (L.row_size r track) (L.lowest_sector r) (L.sector_bytes r) (L.rows r track))
         (AreSectors (L.sector_count r track) (L.sector_bytes r))
@@ -283,7 +327,8 @@ impl<L: Layout> Recording for L {
         (L.lowest_sector r) (L.sector_count r track) (L.sector_bytes r) (L.rows r track)
         L.SHORTEST L.LONGEST L.last_zeros L.SYNC_CELLS L.header_cells L.sizes
         (λ m content row. L.row_follows r track m content row known)
-        (L.data_cells r) L.SYNC (L.data_place r) (L.header_end r) (L.data_end r) (L.is_sync r) (L.hold r) (L.names_sector r track)
+        (L.data_cells r) L.SYNC (L.data_place r) (L.header_end r) (L.data_end r (L.sector_bytes r)) (L.is_sync r) (L.hold r (L.sector_bytes r))
+        (L.names_sector r track)
         bytes n n_from n_count n_place (L.track_cells r track) given number
         (λ content before rest fit long. (
           L.frame_stands r track n content before rest known number fit long,
@@ -292,14 +337,64 @@ impl<L: Layout> Recording for L {
         (L.sums r track known).0 (L.sums r track known).1 (L.reach r) lies)
         s zeros from count behind place xs sector };
 
-    ghost no_header = { λ r track count s known header.
-        no_header L.header_cells (L.data_cells r) (L.header_end r) (L.data_end r) (L.is_sync r) (L.hold r) L.SYNC L.SYNC_CELLS (L.data_place r)
-        (L.lowest_sector r) (L.sector_count r track) (L.names_sector r track) (L.tells_ends r) (tells_sector (L.names r) (L.name_of r track) (L.names_sector r track) (L.named_sector r track)
-        L.SYNC_CELLS L.header_cells (L.data_cells r) (L.header_end r) (L.data_end r) (L.is_sync r) (L.hold r) (L.tells r))
+    ghost no_other = { λ r track bytes zeros from count behind place name known given header.
+        named_own L.header_cells (L.data_cells r) (L.header_end r) (L.data_end r (L.sector_bytes r)) (L.is_sync r)
+        (L.hold r (L.sector_bytes r)) L.SYNC L.SYNC_CELLS (L.data_place r)
+        (L.lowest_sector r) (L.sector_count r track) (L.names_sector r track) (L.tells_ends r)
+        (tells_sector (L.names r) (L.is_name_of r track) (L.names_sector r track) (L.named_sector r track)
+        L.SYNC_CELLS L.header_cells (L.data_cells r) (L.header_end r) (L.data_end r (L.sector_bytes r)) (L.is_sync r) (L.hold r (L.sector_bytes r))
+        (L.tells r))
         (place_of (L.row_size r track) (L.lowest_sector r) (L.sector_bytes r) (L.rows r track))
         (AreSectors (L.sector_count r track) (L.sector_bytes r))
         (λ content. ring_of L.asks (L.row_cells r track) (L.lowest_sector r) (L.sector_count r track) (L.sector_bytes r) content (L.rows r track))
-        (sector_syncs (L.names r) (L.name_of r track) (L.names_sector r track) (L.named_sector r track)
+        (sector_syncs (L.names r) (L.is_name_of r track) (L.names_sector r track) (L.named_sector r track)
+        L.SYNC L.SYNC_CELLS L.header_cells (L.lowest_sector r) (L.sector_count r track)
+        (place_of (L.row_size r track) (L.lowest_sector r) (L.sector_bytes r) (L.rows r track))
+        (AreSectors (L.sector_count r track) (L.sector_bytes r))
+        (λ content. ring_of L.asks (L.row_cells r track) (L.lowest_sector r) (L.sector_count r track) (L.sector_bytes r) content (L.rows r track))
+        (L.own_syncs r track known))
+        (L.track_cells r track) (L.data_place r + L.data_cells r) (bytes_of (L.lowest_sector r) (L.sector_bytes r)) bytes given
+        (ring_length L.asks (L.row_cells r track) (L.row_size r track) (L.row_length r track)
+        (L.lowest_sector r) (L.sector_count r track) (L.sector_bytes r) (L.rows r track) bytes (L.track_cells r track)
+        given.whole (L.sums r track known).1)
+        (some_cells L.sizes (L.reach r))
+        (λ n number.
+        (frame_within L.asks (L.row_cells r track) (L.row_size r track) (L.row_length r track)
+        (L.lowest_sector r) (L.sector_count r track) (L.sector_bytes r) (L.rows r track)
+        L.SHORTEST L.LONGEST L.last_zeros L.SYNC_CELLS L.header_cells L.sizes
+        (λ m content row. L.row_follows r track m content row known)
+        bytes n (L.track_cells r track) (L.data_place r + L.data_cells r) (L.counts r track known).0 given number
+        (L.sums r track known).0 (L.sums r track known).1).0)
+        (header_within L.asks (L.row_cells r track) (L.row_size r track) (L.row_length r track)
+        (L.lowest_sector r) (L.sector_count r track) (L.sector_bytes r) (L.rows r track) bytes (L.track_cells r track)
+        (L.counts r track known).0 given (L.reach r) (L.sums r track known).0 (L.sums r track known).1)
+        (λ n n_from n_count n_place number lies.
+        sector_stands L.asks (L.row_cells r track) (L.row_size r track) (L.row_length r track)
+        (L.lowest_sector r) (L.sector_count r track) (L.sector_bytes r) (L.rows r track)
+        L.SHORTEST L.LONGEST L.last_zeros L.SYNC_CELLS L.header_cells L.sizes
+        (λ m content row. L.row_follows r track m content row known)
+        (L.data_cells r) L.SYNC (L.data_place r) (L.header_end r) (L.data_end r (L.sector_bytes r)) (L.is_sync r) (L.hold r (L.sector_bytes r))
+        (L.names_sector r track)
+        bytes n n_from n_count n_place (L.track_cells r track) given number
+        (λ content before rest fit long. (
+          L.frame_stands r track n content before rest known number fit long,
+          L.frame_ends r track n content before rest known number fit long,
+        ))
+        (L.sums r track known).0 (L.sums r track known).1 (L.reach r) lies)
+        zeros from count behind place (L.names r) (L.is_name_of r track) (L.named_sector r track) (L.tells r) (L.own_syncs r track known).leads
+        name header };
+
+    ghost no_header = { λ r track count s known header.
+        no_header L.header_cells (L.data_cells r) (L.header_end r) (L.data_end r (L.sector_bytes r)) (L.is_sync r)
+        (L.hold r (L.sector_bytes r)) L.SYNC L.SYNC_CELLS (L.data_place r)
+        (L.lowest_sector r) (L.sector_count r track) (L.names_sector r track) (L.tells_ends r)
+        (tells_sector (L.names r) (L.is_name_of r track) (L.names_sector r track) (L.named_sector r track)
+        L.SYNC_CELLS L.header_cells (L.data_cells r) (L.header_end r) (L.data_end r (L.sector_bytes r)) (L.is_sync r) (L.hold r (L.sector_bytes r))
+        (L.tells r))
+        (place_of (L.row_size r track) (L.lowest_sector r) (L.sector_bytes r) (L.rows r track))
+        (AreSectors (L.sector_count r track) (L.sector_bytes r))
+        (λ content. ring_of L.asks (L.row_cells r track) (L.lowest_sector r) (L.sector_count r track) (L.sector_bytes r) content (L.rows r track))
+        (sector_syncs (L.names r) (L.is_name_of r track) (L.names_sector r track) (L.named_sector r track)
         L.SYNC L.SYNC_CELLS L.header_cells (L.lowest_sector r) (L.sector_count r track)
         (place_of (L.row_size r track) (L.lowest_sector r) (L.sector_bytes r) (L.rows r track))
         (AreSectors (L.sector_count r track) (L.sector_bytes r))
@@ -307,24 +402,45 @@ impl<L: Layout> Recording for L {
         (L.own_syncs r track known))
         count s header };
 
+    ghost name_leads = { λ r cells name header. header.begins };
+
+    ghost one_name = { λ r cells n m first second. L.one_name r cells n m first.named second.named };
+
+    ghost header_named = { λ r track.
+        named_header L.SYNC L.SYNC_CELLS (L.header_end r) (L.lowest_sector r) (L.sector_count r track) (L.names r) (L.is_name_of r track)
+        (L.names_sector r track)
+        (L.named_sector r track) };
+
+    ghost named_data = { λ r track name s is cells.
+        own_named_data (L.size_named r name) (L.sector_bytes r) (L.own_size r track name s is.0) _ };
+
+    ghost named_alone = { λ r cells name header.
+        named_alone L.header_cells (L.data_cells r) (L.header_end r) (L.data_end r (L.sector_bytes r)) (L.is_sync r)
+        (L.hold r (L.sector_bytes r)) L.SYNC L.SYNC_CELLS (L.names r)
+        (L.tells_ends r) (L.tells r) cells name (some_header L.sizes) header };
+
     ghost data_is_one = { λ r cells place xs ys first second. L.one_content r cells place xs ys first.rest.held second.rest.held };
 
     ghost data_size = { λ r cells place xs content. L.content_size r cells place xs content.rest.held };
 
     ghost data_inside = { λ r cells place xs content.
-        data_within L.header_cells (L.data_cells r) (L.header_end r) (L.data_end r) (L.is_sync r) (L.hold r) L.SYNC L.SYNC_CELLS (L.names r)
+        data_within L.header_cells (L.data_cells r) (L.header_end r) (L.data_end r (L.sector_bytes r)) (L.is_sync r)
+        (L.hold r (L.sector_bytes r)) L.SYNC L.SYNC_CELLS (L.names r)
         (L.tells_ends r) (L.tells r) cells place xs content };
 
     ghost data_of_sector = { λ r track cells s xs sector.
-        strict_has_data L.header_cells (L.data_cells r) (L.header_end r) (L.data_end r) (L.is_sync r) (L.hold r) L.SYNC L.SYNC_CELLS (L.names r)
+        strict_has_data L.header_cells (L.data_cells r) (L.header_end r) (L.data_end r (L.sector_bytes r)) (L.is_sync r)
+        (L.hold r (L.sector_bytes r)) L.SYNC L.SYNC_CELLS (L.names r)
         (L.header_syncs r) cells xs sector.content };
 
     ghost data_alone = { λ r cells place xs content.
-        data_alone L.header_cells (L.data_cells r) (L.header_end r) (L.data_end r) (L.is_sync r) (L.hold r) L.SYNC L.SYNC_CELLS (L.names r)
+        data_alone L.header_cells (L.data_cells r) (L.header_end r) (L.data_end r (L.sector_bytes r)) (L.is_sync r)
+        (L.hold r (L.sector_bytes r)) L.SYNC L.SYNC_CELLS (L.names r)
         (L.tells_ends r) (L.tells r) cells place xs content };
 
     ghost data_own = { λ r track bytes s zeros from count behind place at xs known given header content.
-        own_content L.header_cells (L.data_cells r) (L.header_end r) (L.data_end r) (L.is_sync r) (L.hold r) L.SYNC L.SYNC_CELLS (L.names r)
+        own_content L.header_cells (L.data_cells r) (L.header_end r) (L.data_end r (L.sector_bytes r)) (L.is_sync r)
+        (L.hold r (L.sector_bytes r)) L.SYNC L.SYNC_CELLS (L.names r)
         (L.tells_ends r) (L.tells r) (L.data_place r) (L.data_place r + L.data_cells r) (L.lowest_sector r) (L.sector_count r track)
         (place_of (L.row_size r track) (L.lowest_sector r) (L.sector_bytes r) (L.rows r track))
         (AreSectors (L.sector_count r track) (L.sector_bytes r))
@@ -334,14 +450,18 @@ impl<L: Layout> Recording for L {
         (L.data_place r + L.data_cells r) (L.sums r track known).0)
         (L.header_syncs r) (L.own_data r track known)
         s at (bytes_of (L.lowest_sector r) (L.sector_bytes r) bytes s) xs
-        (drop place (between_zeros (ring_of L.asks (L.row_cells r track) (L.lowest_sector r) (L.sector_count r track) (L.sector_bytes r) bytes (L.rows r track)) zeros from count behind))
-        (header_agrees L.header_cells (L.data_cells r) (L.header_end r) (L.data_end r) (L.is_sync r) (L.hold r) L.SYNC L.SYNC_CELLS (L.data_place r)
-        (L.lowest_sector r) (L.sector_count r track) (L.names_sector r track) (L.tells_ends r) (tells_sector (L.names r) (L.name_of r track) (L.names_sector r track) (L.named_sector r track)
-        L.SYNC_CELLS L.header_cells (L.data_cells r) (L.header_end r) (L.data_end r) (L.is_sync r) (L.hold r) (L.tells r))
+        (drop place (between_zeros (ring_of L.asks (L.row_cells r track) (L.lowest_sector r) (L.sector_count r track) (L.sector_bytes r) bytes
+        (L.rows r track)) zeros from count behind))
+        (header_agrees L.header_cells (L.data_cells r) (L.header_end r) (L.data_end r (L.sector_bytes r)) (L.is_sync r)
+        (L.hold r (L.sector_bytes r)) L.SYNC L.SYNC_CELLS (L.data_place r)
+        (L.lowest_sector r) (L.sector_count r track) (L.names_sector r track) (L.tells_ends r)
+        (tells_sector (L.names r) (L.is_name_of r track) (L.names_sector r track) (L.named_sector r track)
+        L.SYNC_CELLS L.header_cells (L.data_cells r) (L.header_end r) (L.data_end r (L.sector_bytes r)) (L.is_sync r) (L.hold r (L.sector_bytes r))
+        (L.tells r))
         (place_of (L.row_size r track) (L.lowest_sector r) (L.sector_bytes r) (L.rows r track))
         (AreSectors (L.sector_count r track) (L.sector_bytes r))
         (λ content. ring_of L.asks (L.row_cells r track) (L.lowest_sector r) (L.sector_count r track) (L.sector_bytes r) content (L.rows r track))
-        (sector_syncs (L.names r) (L.name_of r track) (L.names_sector r track) (L.named_sector r track)
+        (sector_syncs (L.names r) (L.is_name_of r track) (L.names_sector r track) (L.named_sector r track)
         L.SYNC L.SYNC_CELLS L.header_cells (L.lowest_sector r) (L.sector_count r track)
         (place_of (L.row_size r track) (L.lowest_sector r) (L.sector_bytes r) (L.rows r track))
         (AreSectors (L.sector_count r track) (L.sector_bytes r))
@@ -367,7 +487,8 @@ impl<L: Layout> Recording for L {
         (L.lowest_sector r) (L.sector_count r track) (L.sector_bytes r) (L.rows r track)
         L.SHORTEST L.LONGEST L.last_zeros L.SYNC_CELLS L.header_cells L.sizes
         (λ m content row. L.row_follows r track m content row known)
-        (L.data_cells r) L.SYNC (L.data_place r) (L.header_end r) (L.data_end r) (L.is_sync r) (L.hold r) (L.names_sector r track)
+        (L.data_cells r) L.SYNC (L.data_place r) (L.header_end r) (L.data_end r (L.sector_bytes r)) (L.is_sync r) (L.hold r (L.sector_bytes r))
+        (L.names_sector r track)
         bytes n n_from n_count n_place (L.track_cells r track) given number
         (λ content before rest fit long. (
           L.frame_stands r track n content before rest known number fit long,

@@ -1,7 +1,7 @@
 -- The disk of a written file is that of its image.
 use Rattle.std.specs.Prelude.{◌≡◌, ◌<◌, ℕ, ◌++◌, Bool, List, length, take, drop, Some, None}
 use Rattle.std.proofs.Common.{ap, sym, subst, ◌∙◌, arith}
-use Rattle.captured_disks.specs.lemmas.Totals.{all_counted, totals_good}
+use Rattle.law_captured_disks.specs.lemmas.Totals.{all_counted, totals_good}
 use Rattle.disk_recordings.specs.Laws.{TracksAreRead}
 use Rattle.disk_recordings.specs.Members.{header_at, place_in_ring, sector_at}
 use Rattle.flux_engine.specs.Disks.{part_at}

@@ -2,7 +2,7 @@
 use Rattle.std.specs.Prelude.{◌≡◌, ◌≤◌, ◌<◌, ℕ, zero, suc, ◌+◌, ◌%◌, ◌-◌, Bool, List, [], ◌++◌, drop, length, unwrap_or, Option, Some, refl}
 use Rattle.std.proofs.Common.{ap, sym, subst, ◌∙◌, arith, append-nil}
 use Rattle.std.proofs.Math.Nat.{mod-eq_of_lt, mod_self}
-use Rattle.captured_disks.specs.lemmas.TrackBytes.{are_sectors, own_bytes}
+use Rattle.law_captured_disks.specs.lemmas.TrackBytes.{are_sectors, own_bytes}
 use Rattle.disk_recordings.specs.Laws.{AreTrackBytes, FramesAreWhole, FramesHaveCells, RingsHaveCells, SectorsStand, StretchesHaveOnlyOwn, TracksAreRead}
 use Rattle.disk_recordings.specs.Members.{frame_cells, header_at, place_in_ring, sector_at}
 use Rattle.flux_base.specs.declared.track.TrackId.{TrackId}

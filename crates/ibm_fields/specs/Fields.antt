@@ -1,10 +1,10 @@
 -- The fields of the IBM formats, single density (3740) and double density (System 34): bytes that stand after a mark, and
 -- their check value. A byte takes 16 cells, and is read from its data cells alone.
-use Rattle.std.specs.Prelude.{ℕ, zero, suc, ◌+◌, ◌*◌, ◌/◌, ◌%◌, Bool, List, [], ◌∷◌}
+use Rattle.std.specs.Prelude.{ℕ, zero, suc, ◌+◌, ◌*◌, ◌/◌, ◌%◌, Bool, List, [], ◌∷◌, Option, Some, None}
 use Rattle.flux_base.specs.declared.track.TrackId.{TrackId}
 use Rattle.cell_bits.specs.Bytes.{data_byte}
-use Rattle.frame_law.specs.declared.header_name.HeaderName.{HeaderName}
-use Rattle.frame_law.specs.declared.header_name.HeaderName.TheVariants.{Address, TrackSector}
+use Rattle.flux_base.specs.declared.header_name.HeaderName.{HeaderName}
+use Rattle.flux_base.specs.declared.header_name.HeaderName.TheVariants.{Address, TrackSector, TrackSectorSide}
 
 -- the bytes with which fields begin: that of a header, and those that open data, which are data and deleted data
 abbrev pub ID_BYTE : ℕ
@@ -31,6 +31,21 @@ sector_name track sector size = Address track.cylinder track.head sector size
 abbrev pub address_named : HeaderName → List ℕ
 address_named (Address cylinder head sector size) = cylinder ∷ head ∷ sector ∷ size ∷ []
 address_named (TrackSector track sector) = []
+address_named (TrackSectorSide track sector side format) = []
+
+-- the bytes of a sector by the code of its length
+abbrev pub size_of_code : ℕ → Option ℕ
+size_of_code zero = Some 128
+size_of_code (suc zero) = Some 256
+size_of_code (suc (suc zero)) = Some 512
+size_of_code (suc (suc (suc zero))) = Some 1024
+size_of_code (suc (suc (suc (suc code)))) = None
+
+-- and by the name of its header. A greater code tells a size that no data are read of
+abbrev pub size_named : HeaderName → Option ℕ
+size_named (Address cylinder head sector code) = size_of_code code
+size_named (TrackSector track sector) = None
+size_named (TrackSectorSide track sector side format) = None
 
 -- the data bytes of so many bytes in a row
 unfoldable pub bytes_at : List Bool → ℕ → ℕ → List ℕ

@@ -4,7 +4,7 @@ use Rattle.flux_base.specs.declared.track.TrackId.{TrackId}
 use Rattle.cell_bits.specs.Bytes.{data_byte}
 use Rattle.cell_bits.specs.Word.{Stands}
 use Rattle.check_values.specs.Crc.{crc}
-use Rattle.frame_law.specs.declared.header_name.HeaderName.{HeaderName}
+use Rattle.flux_base.specs.declared.header_name.HeaderName.{HeaderName}
 use Rattle.ibm_fields.specs.Fields.{CHECK_START, ID_BYTE, address, address_named, bytes_at, number_at, sector_name}
 
 -- the address marks by their cells: the ID mark is the byte FE, the data mark FB and the deleted data mark F8, with clock

@@ -1,5 +1,6 @@
 ghost use Rattle.std.specs.Prelude.{◌≡◌, ℕ, ◌+◌, ◌^◌, ◌<◌, ◌≤◌, [], List, false, length, IfNone, IfSome, IsTrue, ◌↔◌};
 ghost use Rattle.cell_bits.specs.Search.{StandsNowhere};
+ghost use Rattle.flux_base.specs.Bounds.{MOST_SECTOR_BYTES};
 ghost use Rattle.frame_law.specs.Frames.{IsFirstSync, NoSync};
 ghost use Rattle.ibm_fm.specs.Sectors.{DATA_CELLS, DataMarkAt, Hold, IsSync, MarkAt};
 
@@ -46,7 +47,7 @@ pub(crate) fn read_field(
     buffer: &mut SectorBuffer,
 ) -> bool
     requires near { sync < 2 ^ 31 }
-    requires most { size ≤ 512 }
+    requires most { size ≤ MOST_SECTOR_BYTES }
     requires whole { sync + DATA_CELLS size ≤ length frame.now }
     requires empty { buffer.old.items ≡ [] }
     ensures good { IsTrue result → Hold size frame.now sync buffer.new.items }

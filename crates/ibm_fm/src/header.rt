@@ -1,10 +1,11 @@
 ghost use Rattle.std.specs.Prelude.{◌≡◌, ◌≤◌, length, IfNone, IfSome};
-ghost use Rattle.frame_law.specs.declared.header_name.HeaderName.{HeaderName};
+ghost use Rattle.flux_base.specs.declared.header_name.HeaderName.{HeaderName};
 ghost use Rattle.ibm_fm.specs.Sectors.{Names};
 
 use crate::layout::{ADDRESS_CHECK_PLACE, ADDRESS_PLACE};
 use crate::rows::field_check;
-use frame_law::{CellsFrom, HeaderName};
+use flux_base::HeaderName;
+use frame_law::CellsFrom;
 use ibm_fields::{ID_BYTE, address_at, number_at};
 
 /// What the header at the front of the cells, which are as many as one has, names. None where its check value is

@@ -1,54 +1,9 @@
-ghost use Rattle.std.specs.Prelude.{◌≡◌, ◌*◌, ◌+◌};
-ghost use Rattle.ibm_fm.specs.Disks.{disk_of as numbers_of};
-ghost use Rattle.ibm_fm.specs.Layout.{word_of};
+ghost use Rattle.std.specs.Prelude.{◌≡◌, ◌*◌, ◌+◌, ◌-◌};
+ghost use Rattle.ibm_disks.specs.Numbers.{FillFmTrack};
+ghost use Rattle.ibm_fm.specs.Layout.{lead_in_rows, track_gap_of, word_of};
 
-use crate::recording::IbmFm;
 use cell_bits::{FM_DATA_MARK, FM_ID_MARK, FM_INDEX_MARK};
-
-/// What the tracks of a disk have of their own.
-#[derive(Clone, Copy)]
-pub(crate) struct Disk {
-    /// How many sectors a track has.
-    pub(crate) sectors: u8,
-    /// The number of the first of them.
-    pub(crate) first_sector: u8,
-    /// The bytes of a sector.
-    pub(crate) sector_size: u16,
-    /// The code of that size in a header.
-    pub(crate) size_code: u8,
-    /// The bytes of the gap after each sector.
-    pub(crate) sector_gap: u8,
-    /// The bytes of the gap after the last sector, which fills the track.
-    pub(crate) track_gap: u8,
-    /// The cells of a track, 16 a byte.
-    pub(crate) cells: u32,
-}
-
-/// The numbers of a disk.
-pub(crate) fn disk_of(recording: IbmFm) -> Disk
-    ensures { result ≡ numbers_of recording }
-{
-    match recording {
-        IbmFm::Ibm3740 => Disk {
-            sectors: 26,
-            first_sector: 1,
-            sector_size: 128,
-            size_code: 0,
-            sector_gap: 27,
-            track_gap: 247,
-            cells: 83328,
-        },
-        IbmFm::Acorn => Disk {
-            sectors: 10,
-            first_sector: 0,
-            sector_size: 256,
-            size_code: 1,
-            sector_gap: 21,
-            track_gap: 9,
-            cells: 50000,
-        },
-    }
-}
+use ibm_disks::{LeadIn, TrackNumbers};
 
 /// A row of a track.
 #[derive(Clone, Copy)]
@@ -60,9 +15,9 @@ pub enum Row {
     Address,
     /// A sector's bytes and their check value.
     Content,
-    /// The gap after a sector, as long as the disk has it.
+    /// The gap after a sector, as long as the track has it.
     SectorGap,
-    /// The gap after the last sector, as long as the disk has it.
+    /// The gap after the last sector, which fills the track.
     TrackGap,
 }
 
@@ -90,16 +45,38 @@ impl Mark {
 /// The byte of the gaps.
 pub(crate) const GAP: u8 = 0xFF;
 
-/// Before the first sector of the 3740: a gap with the index mark.
-pub(crate) const LEAD_IN: [Row; 4] = [
+/// Before the first sector: a gap with the index mark.
+const INDEXED_LEAD_IN: [Row; 4] = [
     Row::Run(40, GAP),
     Row::Run(6, 0x00),
     Row::Mark(Mark::Index),
     Row::Run(26, GAP),
 ];
 
-/// Before Acorn's first sector: a gap alone.
-pub(crate) const ACORN_LEAD_IN: [Row; 1] = [Row::Run(16, GAP)];
+/// Before the first sector: a gap alone.
+const BARE_LEAD_IN: [Row; 1] = [Row::Run(16, GAP)];
+
+/// The rows before the first sector.
+pub(crate) fn lead_in(kind: LeadIn) -> &'static [Row]
+    ensures { result.now ≡ lead_in_rows kind }
+{
+    match kind {
+        LeadIn::Indexed => &INDEXED_LEAD_IN,
+        LeadIn::Bare => &BARE_LEAD_IN,
+    }
+}
+
+/// What a sector has around its bytes, but for the gap after it: six zeros, seven bytes of the header, eleven of a
+/// gap, six zeros, and three of the data.
+pub(crate) const AROUND: u16 = 33;
+
+/// The bytes of the gap after the last sector.
+pub(crate) fn track_gap(numbers: TrackNumbers) -> u16
+    requires { FillFmTrack numbers }
+    ensures { result ≡ track_gap_of numbers }
+{
+    numbers.track_gap(numbers.lead_in.fm_before(), AROUND)
+}
 
 /// A sector: header, gap, data, gap.
 pub(crate) const SECTOR: [Row; 8] = [

@@ -1,5 +1,5 @@
 //! The recording of the IBM 3740 diskette (8 inch, single density): FM, 77 tracks of 26 sectors of 128 bytes; and of
-//! Acorn's disks, which have it with numbers of their own.
+//! other disks, which have it with numbers of their own.
 #![tactic(auto)]
 
 mod data_field;

@@ -1,13 +1,14 @@
-ghost use Rattle.std.specs.Prelude.{◌≡◌, ℕ, ◌+◌, false, refl};
-ghost use Rattle.std.proofs.Common.{inl, inr, lit≤, sym, ◌∙◌};
-ghost use Rattle.ibm_fields.specs.Fields.{sector_name};
+ghost use Rattle.std.specs.Prelude.{◌≡◌, ℕ, ◌+◌, ◌*◌, IsFalse, IsTrue, false, refl};
+ghost use Rattle.std.proofs.Common.{ap, arith, inl, inr, lit≤, sym, ◌∙◌};
+ghost use Rattle.ibm_disks.specs.Numbers.{FillFmTrack, code_of, size_of};
+ghost use Rattle.ibm_fields.specs.Fields.{sector_name, size_named as bytes_named};
 ghost use Rattle.ibm_fm.specs.lemmas.DataSyncs.{own_data};
 ghost use Rattle.frame_law.specs.lemmas.OwnFrames.{fixed_ends};
 ghost use Rattle.ibm_fm.specs.lemmas.FrameLaws.{frame_stands};
-ghost use Rattle.ibm_fm.specs.Disks.{IsFmTrack, disk_of as numbers_of, rows_of};
-ghost use Rattle.ibm_fm.specs.lemmas.DiskLaws.{counts, sums, within_reach};
-ghost use Rattle.ibm_fm.specs.Layout.{row_cells, row_size};
-ghost use Rattle.ibm_fm.specs.lemmas.OwnLaws.{data_long, header_short, tells};
+ghost use Rattle.ibm_fm.specs.Disks.{IsFmTrack};
+ghost use Rattle.ibm_fm.specs.lemmas.DiskLaws.{counts, header_short, size_told, sums, within_reach};
+ghost use Rattle.ibm_fm.specs.Layout.{row_cells, row_size, rows_of};
+ghost use Rattle.ibm_fm.specs.lemmas.OwnLaws.{data_long, tells};
 ghost use Rattle.ibm_fm.specs.lemmas.RowLaws.{row_follows, row_length};
 ghost use Rattle.ibm_fm.specs.Sectors.{DATA_CELLS, Hold, IsSync, Names, NamesSector};
 ghost use Rattle.ibm_fm.specs.lemmas.StandLaws.{bytes_held, id_mark_syncs, named_sector, one_name, sizes};
@@ -15,23 +16,41 @@ ghost use Rattle.ibm_fm.specs.lemmas.Syncs.{own_syncs};
 
 use crate::data_field::{next_sync, read_field};
 use crate::header::header_name;
-use crate::layout::{
-    ACORN_LEAD_IN, HEADER_CELLS, LEAD_IN, LEAD_OUT, MARK_CELLS, Row, SECTOR, data_cells, disk_of,
-};
+use crate::layout::{AROUND, HEADER_CELLS, LEAD_OUT, MARK_CELLS, Row, SECTOR, data_cells, lead_in};
 use crate::rows::push_row;
 use cell_bits::{Cells, FM_ID_MARK};
-use flux_base::{Memory, TrackId};
-use frame_law::{CellsFrom, HeaderName, Layout, SectorBuffer};
+use flux_base::{HeaderName, Memory, TrackId};
+use frame_law::{CellsFrom, Layout, SectorBuffer};
+use ibm_disks::TrackNumbers;
+use ibm_fields::size_named;
 
-/// The single density recording of the IBM 3740 diskette, with its numbers or with those of another disk that has
-/// it.
+/// The single density recording of the IBM 3740 diskette, with the numbers of its tracks or of those of another disk
+/// that has it. The tracks are the cylinders 0 to 99 with the heads 0 and 1.
 #[derive(Clone, Copy, Debug, PartialEq, Eq)]
-pub enum IbmFm {
-    /// The IBM 3740 diskette: the cylinders 0 to 76 with head 0, and sectors 1 to 26 of 128 bytes.
-    Ibm3740,
-    /// Acorn's disk (DFS): the cylinders 0 to 79 with head 0, and sectors 0 to 9 of 256 bytes, without an index
-    /// mark.
-    Acorn,
+pub struct IbmFm {
+    /// The numbers of each of the disk's tracks.
+    pub numbers: TrackNumbers,
+}
+
+impl IbmFm {
+    /// The IBM 3740 diskette's: 26 sectors of 128 bytes, from number 1.
+    pub const IBM_3740: IbmFm = IbmFm {
+        numbers: TrackNumbers::IBM_3740,
+    };
+
+    /// Acorn's (DFS): 10 sectors of 256 bytes, from number 0, without an index mark.
+    pub const ACORN: IbmFm = IbmFm {
+        numbers: TrackNumbers::ACORN,
+    };
+
+    /// Whether the numbers fill a track, as those of a disk do.
+    pub fn fills_track(&self) -> bool
+        ensures yes { IsTrue result → FillFmTrack self.now.numbers }
+        ensures no { IsFalse result → ¬ FillFmTrack self.now.numbers }
+    {
+        let numbers = self.numbers;
+        numbers.fill_track(numbers.lead_in.fm_before(), AROUND)
+    }
 }
 
 impl Layout for IbmFm {
@@ -57,63 +76,66 @@ impl Layout for IbmFm {
 
     ghost has_track = { λ r track. IsFmTrack r track };
 
-    ghost lowest_sector = { λ r. (numbers_of r).first_sector };
+    ghost lowest_sector = { λ r. r.numbers.first_sector };
 
-    ghost sector_count = { λ r track. (numbers_of r).sectors };
+    ghost sector_count = { λ r track. r.numbers.sectors };
 
-    ghost sector_bytes = { λ r. (numbers_of r).sector_size };
+    ghost sector_bytes = { λ r. size_of r.numbers.size };
 
-    ghost track_cells = { λ r track. (numbers_of r).cells };
+    ghost track_cells = { λ r track. 16 * r.numbers.bytes };
 
-    ghost names_sector = { λ r track cells s. NamesSector (numbers_of r).size_code track cells s };
+    ghost names_sector = { λ r track cells s. NamesSector (code_of r.numbers.size) track cells s };
 
     ghost names = { λ r cells name. Names cells name };
 
-    ghost name_of = { λ r track s. sector_name track s (numbers_of r).size_code };
+    ghost is_name_of = { λ r track name s. name ≡ sector_name track s (code_of r.numbers.size) };
 
     ghost is_sync = { λ r cells place. IsSync cells place };
 
-    ghost hold = { λ r cells sync bytes. Hold (numbers_of r).sector_size cells sync bytes };
+    ghost size_named = { λ r name. bytes_named name };
 
-    ghost data_cells = { λ r. DATA_CELLS (numbers_of r).sector_size };
+    ghost hold = { λ r size cells sync bytes. Hold size cells sync bytes };
+
+    ghost data_cells = { λ r. DATA_CELLS (size_of r.numbers.size) };
 
     ghost header_end = { λ r cells. 112 };
 
-    ghost data_end = { λ r cells sync. sync + DATA_CELLS (numbers_of r).sector_size };
+    ghost data_end = { λ r size cells sync. sync + DATA_CELLS size };
 
     ghost data_place = { λ r. 384 };
 
-    ghost rows = { λ r track. rows_of r };
+    ghost rows = { λ r track. rows_of r.numbers };
 
     ghost asks = { false };
 
-    ghost row_cells = { λ r track before s bytes row. row_cells (numbers_of r) track before s bytes row };
+    ghost row_cells = { λ r track before s bytes row. row_cells r.numbers track before s bytes row };
 
-    ghost row_size = { λ r track count row. row_size (numbers_of r) count row };
+    ghost row_size = { λ r track count row. row_size r.numbers count row };
 
     ghost last_zeros = { 1 };
 
     fn lowest_sector(&self) -> u8 {
-        disk_of(*self).first_sector
+        self.numbers.first_sector
     }
 
     fn sector_count(&self, _track: TrackId) -> u8 {
-        disk_of(*self).sectors
+        self.numbers.sectors
     }
 
     fn sector_bytes(&self) -> u16 {
-        disk_of(*self).sector_size
+        self.numbers.size.bytes()
+    }
+
+    fn size_named(&self, name: HeaderName) -> Option<u16> {
+        size_named(name)
     }
 
     fn track_cells(&self, _track: TrackId) -> u32 {
-        disk_of(*self).cells
+        self.numbers.cells()
     }
 
     fn lead_in(&self, _track: TrackId) -> &[Row] {
-        match self {
-            IbmFm::Ibm3740 => &LEAD_IN,
-            IbmFm::Acorn => &ACORN_LEAD_IN,
-        }
+        lead_in(self.numbers.lead_in)
     }
 
     fn sector_rows(&self, _track: TrackId) -> &[Row] {
@@ -132,7 +154,7 @@ impl Layout for IbmFm {
         row: Row,
         cells: &mut Cells,
     ) -> Result<(), Memory> {
-        push_row(cells, row, disk_of(*self), track, sector, bytes)
+        push_row(cells, row, self.numbers, track, sector, bytes)
     }
 
     fn header_end(&self, frame: &CellsFrom) -> Option<usize> {
@@ -144,42 +166,52 @@ impl Layout for IbmFm {
     }
 
     fn sector_named(&self, track: TrackId, name: HeaderName) -> Option<u8> {
-        name.sector_of_cylinder(track.cylinder, track.head, disk_of(*self).size_code)
+        name.sector_of_cylinder(track.cylinder, track.head, self.numbers.size.code())
     }
 
     fn next_sync(&self, frame: &CellsFrom, from: usize, to: usize) -> Option<usize> {
         next_sync(frame, from, to)
     }
 
-    fn data_end(&self, frame: &CellsFrom, sync: usize) -> Option<usize> {
-        frame.end_within(sync + data_cells(disk_of(*self).sector_size))
+    fn data_end(&self, size: u16, frame: &CellsFrom, sync: usize) -> Option<usize> {
+        frame.end_within(sync + data_cells(size))
     }
 
-    fn read_data(&self, frame: &CellsFrom, sync: usize, buffer: &mut SectorBuffer) -> bool {
-        read_field(frame, sync, disk_of(*self).sector_size, buffer)
+    fn read_data(
+        &self,
+        size: u16,
+        frame: &CellsFrom,
+        sync: usize,
+        buffer: &mut SectorBuffer,
+    ) -> bool {
+        read_field(frame, sync, size, buffer)
     }
 
     ghost sizes = { sizes };
 
-    ghost counts = { λ r track known. counts r };
+    ghost counts = { λ r track known. counts r.numbers known.fills };
 
-    ghost reach = { λ r. within_reach r };
+    ghost reach = { λ r. within_reach r.numbers.size };
 
-    ghost sums = { λ r track known. sums r };
+    ghost sums = { λ r track known. sums r.numbers known.fills };
 
-    ghost row_length = { λ r track before s bytes row. row_length (numbers_of r) track before s bytes row };
+    ghost row_length = { λ r track before s bytes row. row_length r.numbers track before s bytes row };
 
-    ghost row_follows = { λ r track s bytes row known content. row_follows (numbers_of r) track s bytes row };
+    ghost row_follows = { λ r track s bytes row known content. row_follows r.numbers track s bytes row };
 
     ghost ends = { λ r track before known. refl };
 
-    ghost named_sector = { λ r track. named_sector (numbers_of r).size_code track };
+    ghost named_sector = { λ r track. named_sector (code_of r.numbers.size) track };
+
+    ghost own_size = { λ r track name s is. ap bytes_named is ∙ size_told r.numbers.size };
+
+    ghost data_some = { λ r size cells sync. Prim.omega arith };
 
     ghost one_name = { λ r cells n m first second. one_name cells n m first second };
 
     ghost one_content = { λ r cells sync xs ys first second. sym first.content ∙ second.content };
 
-    ghost content_size = { λ r cells sync xs held. bytes_held (numbers_of r).sector_size cells sync xs held };
+    ghost content_size = { λ r cells sync xs held. bytes_held (size_of r.numbers.size) cells sync xs held };
 
     ghost frame_stands = { λ r track s bytes before rest known number fit long.
         frame_stands r track s bytes before rest known number fit long };
@@ -187,13 +219,13 @@ impl Layout for IbmFm {
     ghost frame_ends = { λ r track s bytes before rest known number fit long.
         record { header_ends = refl; data_ends = refl } };
 
-    ghost tells_ends = { λ r. fixed_ends 112 (DATA_CELLS (numbers_of r).sector_size) (data_long (numbers_of r).sector_size) (header_short r) };
+    ghost tells_ends = { λ r. fixed_ends 112 (DATA_CELLS (size_of r.numbers.size)) (data_long (size_of r.numbers.size)) (header_short r.numbers.size) };
 
-    ghost tells = { λ r. tells (numbers_of r).sector_size };
+    ghost tells = { λ r. tells (size_of r.numbers.size) };
 
-    ghost own_syncs = { λ r track known. own_syncs r track };
+    ghost own_syncs = { λ r track known. own_syncs r.numbers known.fills track };
 
     ghost header_syncs = { λ r. inl (λ cells place name stands named. id_mark_syncs cells place stands) };
 
-    ghost own_data = { λ r track known. inr (own_data r track) };
+    ghost own_data = { λ r track known. inr (own_data r.numbers known.fills track) };
 }

@@ -2,41 +2,44 @@ ghost use Rattle.std.specs.Prelude.{◌≡◌, ℕ, false, replicate};
 ghost use Rattle.frame_law.specs.Writing.{AppendsCells};
 ghost use Rattle.cell_bits.specs.Bytes.{fm};
 ghost use Rattle.cell_bits.specs.Word.{word_cells};
+ghost use Rattle.ibm_disks.specs.Numbers.{FillFmTrack};
 ghost use Rattle.ibm_fields.specs.Fields.{high_first};
 ghost use Rattle.ibm_fm.specs.Layout.{field_cells, fm_bytes, row_cells, word_of};
 ghost use Rattle.ibm_fm.specs.Sectors.{check_of};
 
-use crate::layout::{Disk, GAP, MARK_CELLS, Mark, Row};
+use crate::layout::{GAP, MARK_CELLS, Mark, Row, track_gap};
 use cell_bits::Cells;
 use check_values::crc16;
 use flux_base::{Memory, TrackId};
+use ibm_disks::TrackNumbers;
 use ibm_fields::{CHECK_START, DATA_BYTE, ID_BYTE};
 
-/// Appends a row of the disk's track for this sector with these bytes.
+/// Appends a row of a track with these numbers, for this sector with these bytes.
 pub(crate) fn push_row(
     cells: &mut Cells,
     row: Row,
-    disk: Disk,
+    numbers: TrackNumbers,
     track: TrackId,
     sector: u8,
     bytes: &[u8],
 ) -> Result<(), Memory>
-    ensures { AppendsCells cells.old cells.new (row_cells disk track false sector bytes.now row) result }
+    requires { FillFmTrack numbers }
+    ensures { AppendsCells cells.old cells.new (row_cells numbers track false sector bytes.now row) result }
 {
     match row {
-        Row::Run(count, byte) => push_run(cells, count, byte),
+        Row::Run(count, byte) => push_run(cells, u16::from(count), byte),
         Row::Mark(mark) => push_mark(cells, mark),
         Row::Address => {
-            let address = [track.cylinder, track.head, sector, disk.size_code];
+            let address = [track.cylinder, track.head, sector, numbers.size.code()];
             push_field(cells, ID_BYTE, &address)
         }
         Row::Content => push_field(cells, DATA_BYTE, bytes),
-        Row::SectorGap => push_run(cells, disk.sector_gap, GAP),
-        Row::TrackGap => push_run(cells, disk.track_gap, GAP),
+        Row::SectorGap => push_run(cells, u16::from(numbers.sector_gap), GAP),
+        Row::TrackGap => push_run(cells, track_gap(numbers), GAP),
     }
 }
 
-fn push_run(cells: &mut Cells, count: u8, byte: u8) -> Result<(), Memory>
+fn push_run(cells: &mut Cells, count: u16, byte: u8) -> Result<(), Memory>
     ensures { AppendsCells cells.old cells.new (fm_bytes (replicate count byte)) result }
 {
     for _ in 0..count {

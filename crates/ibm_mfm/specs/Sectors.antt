@@ -1,29 +1,21 @@
 -- The sectors of the PC's disks, double density (IBM System 34, MFM): what a header names and what data hold. A byte takes 16 cells.
 -- Clock cells are looked at in marks alone.
-use Rattle.std.specs.Prelude.{◌≡◌, ℕ, ◌+◌, Bool, List, ◌∷◌, ◌⊎◌}
+use Rattle.std.specs.Prelude.{◌≡◌, ℕ, ◌+◌, ◌*◌, Bool, List, ◌∷◌, ◌⊎◌}
 use Rattle.flux_base.specs.declared.track.TrackId.{TrackId}
 use Rattle.cell_bits.specs.Bytes.{data_byte}
 use Rattle.cell_bits.specs.Word.{Stands}
 use Rattle.check_values.specs.Crc.{crc}
-use Rattle.frame_law.specs.declared.header_name.HeaderName.{HeaderName}
+use Rattle.flux_base.specs.declared.header_name.HeaderName.{HeaderName}
 use Rattle.ibm_fields.specs.Fields.{CHECK_START, DATA_BYTE, DELETED_DATA_BYTE, ID_BYTE, address, address_named, bytes_at, number_at, sector_name}
 use Rattle.mfm_coding.specs.Coding.{SYNC_MARK}
-
--- the bytes of a sector
-abbrev pub SECTOR_SIZE : ℕ
-SECTOR_SIZE = 512
-
--- the code of that length in an address
-abbrev pub SIZE_CODE : ℕ
-SIZE_CODE = 2
 
 -- the check value of a field: that of the three marks' bytes A1, of its first byte and of its other bytes
 abbrev pub check_of : ℕ → List ℕ → ℕ
 check_of first bytes = crc CHECK_START (0xA1 ∷ 0xA1 ∷ 0xA1 ∷ first ∷ bytes)
 
--- the address of a sector
-abbrev pub address_of : TrackId → ℕ → List ℕ
-address_of track sector = address track sector SIZE_CODE
+-- the address of a sector, with the code of its length
+abbrev pub address_of : ℕ → TrackId → ℕ → List ℕ
+address_of size_code track sector = address track sector size_code
 
 -- the cells of a header: three marks, its first byte, address, check value
 abbrev pub HEADER_CELLS : ℕ
@@ -51,27 +43,27 @@ pub record Names (cells : List Bool) (name : HeaderName) : Type 0 where
   pub address : bytes_at cells ADDRESS_PLACE 4 ≡ address_named name
   pub check : number_at cells ADDRESS_CHECK_PLACE ≡ check_of ID_BYTE (address_named name)
 
--- a header names a sector: its name is that of this sector of this track
-abbrev pub NamesSector : TrackId → List Bool → ℕ → Type 0
-NamesSector track cells sector = Names cells (sector_name track sector SIZE_CODE)
+-- a header names a sector: its name is that of this sector of this track, with the code of its length
+abbrev pub NamesSector : ℕ → TrackId → List Bool → ℕ → Type 0
+NamesSector size_code track cells sector = Names cells (sector_name track sector size_code)
 
 -- a byte that opens data
 abbrev pub OpensData : ℕ → Type 0
 OpensData byte = (byte ≡ DATA_BYTE) ⊎ (byte ≡ DELETED_DATA_BYTE)
 
--- the cells of the data: three marks, the byte that opens them, bytes, check value
-abbrev pub DATA_CELLS : ℕ
-DATA_CELLS = 8288
+-- the cells of the data: three marks, the byte that opens them, so many bytes, check value
+abbrev pub DATA_CELLS : ℕ → ℕ
+DATA_CELLS size = 16 * (size + 6)
 
 -- where the bytes and their check value begin, in cells from the data's sync
 abbrev pub CONTENT_PLACE : ℕ
 CONTENT_PLACE = 64
 
-abbrev pub CONTENT_CHECK_PLACE : ℕ
-CONTENT_CHECK_PLACE = 8256
+abbrev pub CONTENT_CHECK_PLACE : ℕ → ℕ
+CONTENT_CHECK_PLACE size = 16 * (size + 4)
 
--- data hold bytes: a byte that opens them, the bytes, and the check value of the marks' bytes, of that byte and of them
-pub record Hold (cells : List Bool) (sync : ℕ) (bytes : List ℕ) : Type 0 where
+-- data hold so many bytes: a byte that opens them, the bytes, and the check value of the marks' bytes, of that byte and of them
+pub record Hold (size : ℕ) (cells : List Bool) (sync : ℕ) (bytes : List ℕ) : Type 0 where
   pub opens : OpensData (data_byte cells (sync + FIRST_BYTE_PLACE))
-  pub content : bytes_at cells (sync + CONTENT_PLACE) SECTOR_SIZE ≡ bytes
-  pub check : number_at cells (sync + CONTENT_CHECK_PLACE) ≡ check_of (data_byte cells (sync + FIRST_BYTE_PLACE)) bytes
+  pub content : bytes_at cells (sync + CONTENT_PLACE) size ≡ bytes
+  pub check : number_at cells (sync + CONTENT_CHECK_PLACE size) ≡ check_of (data_byte cells (sync + FIRST_BYTE_PLACE)) bytes

@@ -1,11 +1,12 @@
 ghost use Rattle.std.specs.Prelude.{◌≡◌, ℕ, ◌+◌, ◌^◌, ◌<◌, ◌≤◌, [], List, false, length, IfNone, IfSome, IsTrue};
+ghost use Rattle.flux_base.specs.Bounds.{MOST_SECTOR_BYTES};
 ghost use Rattle.frame_law.specs.Frames.{IsFirstSync, NoSync};
-ghost use Rattle.ibm_mfm.specs.Sectors.{Hold};
+ghost use Rattle.ibm_mfm.specs.Sectors.{DATA_CELLS, Hold};
 ghost use Rattle.ibm_mfm.specs.Syncs.{SyncAt};
 
 use crate::layout::{
-    CONTENT_CHECK_PLACE, CONTENT_PLACE, FIRST_BYTE_PLACE, MARK_CELLS, SECTOR_SIZE,
-    THIRD_MARK_PLACE, TWO_MARKS, TWO_MARKS_CELLS,
+    CONTENT_PLACE, FIRST_BYTE_PLACE, MARK_CELLS, THIRD_MARK_PLACE, TWO_MARKS, TWO_MARKS_CELLS,
+    content_check_place,
 };
 use crate::rows::field_check;
 use cell_bits::MFM_A1_MARK;
@@ -29,18 +30,24 @@ pub(crate) fn next_sync(frame: &CellsFrom, from: usize, to: usize) -> Option<usi
     None
 }
 
-/// Whether the byte after the sync opens data, and they hold bytes. Then the buffer, which was empty, has them.
-pub(crate) fn read_field(frame: &CellsFrom, sync: usize, buffer: &mut SectorBuffer) -> bool
+/// Whether the byte after the sync opens data, and they hold so many bytes. Then the buffer, which was empty, has them.
+pub(crate) fn read_field(
+    frame: &CellsFrom,
+    sync: usize,
+    size: u16,
+    buffer: &mut SectorBuffer,
+) -> bool
     requires near { sync < 2 ^ 31 }
-    requires whole { sync + 8288 ≤ length frame.now }
+    requires most { size ≤ MOST_SECTOR_BYTES }
+    requires whole { sync + DATA_CELLS size ≤ length frame.now }
     requires empty { buffer.old.items ≡ [] }
-    ensures good { IsTrue result → Hold frame.now sync buffer.new.items }
-    ensures bad { result ≡ false → (bytes : List ℕ) → ¬ Hold frame.now sync bytes }
+    ensures good { IsTrue result → Hold size frame.now sync buffer.new.items }
+    ensures bad { result ≡ false → (bytes : List ℕ) → ¬ Hold size frame.now sync bytes }
 {
     let first = frame.byte_at(sync + FIRST_BYTE_PLACE);
     if first != DATA_BYTE && first != DELETED_DATA_BYTE {
         return false;
     }
-    take_bytes(frame, sync + CONTENT_PLACE, SECTOR_SIZE, buffer);
-    field_check(first, buffer.as_slice()) == number_at(frame, sync + CONTENT_CHECK_PLACE)
+    take_bytes(frame, sync + CONTENT_PLACE, size, buffer);
+    field_check(first, buffer.as_slice()) == number_at(frame, sync + content_check_place(size))
 }

@@ -1,93 +1,24 @@
-ghost use Rattle.std.specs.Prelude.{◌≡◌};
-ghost use Rattle.ibm_mfm.specs.Disks.{disk_of as numbers_of};
+ghost use Rattle.std.specs.Prelude.{◌≡◌, ◌+◌, ◌*◌, ◌-◌};
+ghost use Rattle.ibm_disks.specs.Numbers.{FillMfmTrack, mfm_around};
+ghost use Rattle.ibm_mfm.specs.Layout.{lead_in_rows, track_gap_of};
 
-use crate::recording::IbmMfm;
+use ibm_disks::{LeadIn, TrackNumbers};
 use mfm_coding::Symbol;
-
-/// What the tracks of a disk have of their own.
-#[derive(Clone, Copy)]
-pub(crate) struct Disk {
-    /// How many sectors a track has.
-    pub(crate) sectors: u8,
-    /// The number of the first of them.
-    pub(crate) first_sector: u8,
-    /// The bytes of the gap after each sector.
-    pub(crate) sector_gap: u8,
-    /// The bytes of the gap after the last sector, which fills the track.
-    pub(crate) track_gap: u16,
-    /// The cells of a track, 16 a byte.
-    pub(crate) cells: u32,
-}
-
-/// The numbers of a disk.
-pub(crate) fn disk_of(recording: IbmMfm) -> Disk
-    ensures { result ≡ numbers_of recording }
-{
-    match recording {
-        IbmMfm::Pc8 => Disk {
-            sectors: 8,
-            first_sector: 1,
-            sector_gap: 80,
-            track_gap: 872,
-            cells: 100_000,
-        },
-        IbmMfm::Pc9 => Disk {
-            sectors: 9,
-            first_sector: 1,
-            sector_gap: 80,
-            track_gap: 218,
-            cells: 100_000,
-        },
-        IbmMfm::Pc15 => Disk {
-            sectors: 15,
-            first_sector: 1,
-            sector_gap: 84,
-            track_gap: 400,
-            cells: 166_656,
-        },
-        IbmMfm::Pc18 => Disk {
-            sectors: 18,
-            first_sector: 1,
-            sector_gap: 108,
-            track_gap: 78,
-            cells: 200_000,
-        },
-        IbmMfm::Atari10 => Disk {
-            sectors: 10,
-            first_sector: 1,
-            sector_gap: 30,
-            track_gap: 64,
-            cells: 100_000,
-        },
-        IbmMfm::CpcData => Disk {
-            sectors: 9,
-            first_sector: 0xC1,
-            sector_gap: 82,
-            track_gap: 200,
-            cells: 100_000,
-        },
-        IbmMfm::CpcSystem => Disk {
-            sectors: 9,
-            first_sector: 0x41,
-            sector_gap: 82,
-            track_gap: 200,
-            cells: 100_000,
-        },
-    }
-}
 
 /// A row of a track.
 #[derive(Clone, Copy)]
 pub enum Row {
     /// So many times the same symbol.
     Run(u8, Symbol),
+    /// The zeros before a header, as many as the track has.
+    HeaderZeros,
     /// The first byte of a header, a sector's address and the check value.
     Address,
     /// The first byte of data, a sector's bytes and the check value.
     Content,
-    /// The gap after a sector, as long as the disk has it.
+    /// The gap after a sector, as long as the track has it.
     SectorGap,
-    /// The gap after the last sector, as long as the disk has it.
+    /// The gap after the last sector, which fills the track.
     TrackGap,
 }
 
@@ -95,10 +26,10 @@ pub enum Row {
 pub(crate) const GAP: Symbol = Symbol::Data(0x4E);
 
 /// The byte that stands before marks.
-const ZERO: Symbol = Symbol::Data(0x00);
+pub(crate) const ZERO: Symbol = Symbol::Data(0x00);
 
 /// Before the first sector: a gap with the index mark.
-pub(crate) const LEAD_IN: [Row; 5] = [
+const INDEXED_LEAD_IN: [Row; 5] = [
     Row::Run(80, GAP),
     Row::Run(12, ZERO),
     Row::Run(3, Symbol::IndexMark),
@@ -106,9 +37,41 @@ pub(crate) const LEAD_IN: [Row; 5] = [
     Row::Run(50, GAP),
 ];
 
+/// Before the first sector: a gap alone.
+const BARE_LEAD_IN: [Row; 1] = [Row::Run(10, GAP)];
+
+/// The rows before the first sector.
+pub(crate) fn lead_in(kind: LeadIn) -> &'static [Row]
+    ensures { result.now ≡ lead_in_rows kind }
+{
+    match kind {
+        LeadIn::Indexed => &INDEXED_LEAD_IN,
+        LeadIn::Bare => &BARE_LEAD_IN,
+    }
+}
+
+/// What a sector has around its bytes, but for the zeros before it and the gap after it: ten bytes of the header, 22
+/// of a gap, twelve zeros, and six of the data.
+const REST_OF_SECTOR: u16 = 50;
+
+/// The bytes of the gap after the last sector.
+pub(crate) fn track_gap(numbers: TrackNumbers) -> u16
+    requires { FillMfmTrack numbers }
+    ensures { result ≡ track_gap_of numbers }
+{
+    numbers.track_gap(numbers.lead_in.mfm_before(), around(numbers.lead_in))
+}
+
+/// What a sector has around its bytes, but for the gap after it.
+pub(crate) fn around(kind: LeadIn) -> u16
+    ensures { result ≡ mfm_around kind }
+{
+    u16::from(kind.mfm_zeros()) + REST_OF_SECTOR
+}
+
 /// A sector: header, gap, data, gap.
 pub(crate) const SECTOR: [Row; 8] = [
-    Row::Run(12, ZERO),
+    Row::HeaderZeros,
     Row::Run(3, Symbol::SyncMark),
     Row::Address,
     Row::Run(22, GAP),
@@ -120,12 +83,6 @@ pub(crate) const SECTOR: [Row; 8] = [
 
 /// After the last sector: a gap.
 pub(crate) const LEAD_OUT: [Row; 1] = [Row::TrackGap];
-
-/// The bytes of a sector.
-pub(crate) const SECTOR_SIZE: u16 = 512;
-
-/// The code of that size in a header.
-pub(crate) const SIZE_CODE: u8 = 2;
 
 /// A mark A1, by its cells.
 pub(crate) const MARK_CELLS: u8 = 16;
@@ -149,13 +106,22 @@ pub(crate) const ADDRESS_PLACE: usize = 64;
 
 pub(crate) const ADDRESS_CHECK_PLACE: usize = 128;
 
-/// Three marks, a byte, 512 bytes and the check value.
-pub(crate) const DATA_CELLS: usize = 8288;
+/// The cells of data: three marks, a byte, so many bytes and their check value.
+pub(crate) fn data_cells(size: u16) -> usize
+    ensures { result ≡ 16 * (size + 6) }
+{
+    16 * (usize::from(size) + 6)
+}
 
-/// Where the bytes and their check value begin, in cells from the data's sync.
+/// Where the bytes begin, in cells from the data's sync.
 pub(crate) const CONTENT_PLACE: usize = 64;
 
-pub(crate) const CONTENT_CHECK_PLACE: usize = 8256;
+/// Where the check value of so many bytes begins, in cells from the data's sync.
+pub(crate) fn content_check_place(size: u16) -> usize
+    ensures { result ≡ 16 * (size + 4) }
+{
+    16 * (usize::from(size) + 4)
+}
 
 /// The register of a check value after three marks: that of the bytes A1 A1 A1, from FFFF.
 pub(crate) const CHECK_START: u16 = 0xCDB4;

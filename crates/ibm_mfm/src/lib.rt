@@ -1,5 +1,5 @@
 //! The recording of the PC's disks (IBM System 34, double density), and of other disks that have it with numbers of
-//! their own: MFM, sectors of 512 bytes.
+//! their own: MFM, sectors of 128 to 1024 bytes.
 #![tactic(auto)]
 
 mod data_field;

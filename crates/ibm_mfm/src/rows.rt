@@ -1,37 +1,41 @@
 ghost use Rattle.std.specs.Prelude.{◌≡◌, ℕ};
+ghost use Rattle.ibm_disks.specs.Numbers.{FillMfmTrack};
 ghost use Rattle.ibm_fields.specs.Fields.{high_first};
 ghost use Rattle.mfm_coding.specs.Coding.{bytes_as_data};
 ghost use Rattle.mfm_coding.specs.Writes.{AppendsSymbols};
 ghost use Rattle.ibm_mfm.specs.Layout.{field, row_symbols};
 ghost use Rattle.ibm_mfm.specs.Sectors.{check_of};
 
-use crate::layout::{CHECK_START, Disk, GAP, Row, SIZE_CODE};
+use crate::layout::{CHECK_START, GAP, Row, ZERO, track_gap};
 use cell_bits::Cells;
 use check_values::crc16;
 use flux_base::{Memory, TrackId};
+use ibm_disks::TrackNumbers;
 use ibm_fields::{DATA_BYTE, ID_BYTE};
 use mfm_coding::{Symbol, push_bytes, push_run, push_symbol};
 
-/// Appends a row of the disk's track for this sector with these bytes.
+/// Appends a row of a track with these numbers, for this sector with these bytes.
 pub(crate) fn push_row(
     cells: &mut Cells,
     row: Row,
-    disk: Disk,
+    numbers: TrackNumbers,
     track: TrackId,
     sector: u8,
     bytes: &[u8],
 ) -> Result<(), Memory>
-    ensures { AppendsSymbols cells.old cells.new (row_symbols disk track sector bytes.now row) result }
+    requires { FillMfmTrack numbers }
+    ensures { AppendsSymbols cells.old cells.new (row_symbols numbers track sector bytes.now row) result }
 {
     match row {
         Row::Run(count, symbol) => push_run(cells, u16::from(count), symbol),
+        Row::HeaderZeros => push_run(cells, u16::from(numbers.lead_in.mfm_zeros()), ZERO),
         Row::Address => {
-            let address = [track.cylinder, track.head, sector, SIZE_CODE];
+            let address = [track.cylinder, track.head, sector, numbers.size.code()];
             push_field(cells, ID_BYTE, &address)
         }
         Row::Content => push_field(cells, DATA_BYTE, bytes),
-        Row::SectorGap => push_run(cells, u16::from(disk.sector_gap), GAP),
-        Row::TrackGap => push_run(cells, disk.track_gap, GAP),
+        Row::SectorGap => push_run(cells, u16::from(numbers.sector_gap), GAP),
+        Row::TrackGap => push_run(cells, track_gap(numbers), GAP),
     }
 }
 

@@ -4,6 +4,7 @@ pub mod Growth
 pub mod Held
 pub mod Joined
 pub mod Keeping
+pub mod lemmas
 pub mod Outcome
 pub mod Padding
 pub mod Pieces

@@ -80,6 +80,16 @@ impl Intake {
         self.used = true;
     }
 
+    /// Forgets the bytes that are held, and that a stream was read.
+    pub(crate) fn forget(&mut self)
+        ensures held { self.new.held ≡ [] }
+        ensures unused { self.new.used ≡ false }
+    {
+        self.start = 0;
+        self.end = 0;
+        self.used = false;
+    }
+
     /// Passes over the first bytes.
     pub(crate) fn pass(&mut self, count: usize)
         requires { count ≤ length self.old.held }

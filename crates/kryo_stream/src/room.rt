@@ -53,8 +53,17 @@ impl StreamRoom {
         })
     }
 
+    /// Begins anew, as after `reserve`: bytes that were taken and not used yet are forgotten, and so is the stream that was
+    /// read last. The next stream may come of another source, at whose first byte it begins.
+    pub fn restart(&mut self)
+        ensures { IsFresh self.new }
+    {
+        self.intake.forget();
+        self.flux.clear();
+    }
+
     /// Reads one stream, as `read_track` does. After each `Err` the track is empty, and the room may not be
-    /// used again for reading.
+    /// used again for reading before it begins anew.
     pub fn read<S: Source>(&mut self, source: &mut S) -> Result<(), RoomFault>
         ensures read { IsRead (S.left source.old) (S.left source.new) self.old.used self.old.held self.new.held self.new.flux (track_answer result) }
         ensures told { (bytes : List ℕ) → S.left source.old ≡ Some bytes → IsReadOfInput (input_of self.old.used (self.old.held ++ bytes)) (S.left source.new) self.new.held self.new.flux (track_answer result) }

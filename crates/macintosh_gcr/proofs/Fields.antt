@@ -5,8 +5,8 @@ use Rattle.check_values.specs.Sums.{xor}
 use Rattle.apple_nibbles.specs.Nibbles.{disk_byte, nibble}
 use Rattle.macintosh_gcr.specs.Coding.{AreSixBits, IsCoded}
 use Rattle.macintosh_gcr.specs.Sectors.{Hold, Names, NamesValues, NibblesAt, checked, named_values}
-use Rattle.frame_law.specs.declared.header_name.HeaderName.{HeaderName}
-use Rattle.frame_law.specs.declared.header_name.HeaderName.TheVariants.{Address, TrackSector}
+use Rattle.flux_base.specs.declared.header_name.HeaderName.{HeaderName}
+use Rattle.flux_base.specs.declared.header_name.HeaderName.TheVariants.{Address, TrackSector, TrackSectorSide}
 use Rattle.macintosh_gcr.specs.lemmas.RowLaws.{values-fit}
 use Rattle.macintosh_gcr.specs.lemmas.Values.{one_nibble}
 
@@ -38,15 +38,15 @@ one_list cells place xs ys same fit also first second =
 pub named-list : (cells : List Bool) (name : HeaderName) → Names cells name
     → (values : List ℕ) × (length values ≡ 5) × AreSixBits values × NibblesAt cells 24 values
     × (get_or values 4 0 ≡ xor (get_or values 0 0 ∷ get_or values 1 0 ∷ get_or values 2 0 ∷ get_or values 3 0 ∷ []))
+named-list cells (Address cylinder head sector size) names = absurd names
 named-list cells (TrackSector track sector) names = absurd names
-named-list cells (Address low side sector size) names =
-    let own = names.0 in (
-      checked (named_values low side sector own.format),
-      refl,
-      values-fit low side sector own.format own.low_fits own.side_fits own.sector_fits own.format_fits,
-      own.values,
-      refl,
-    )
+named-list cells (TrackSectorSide low sector side format) names = (
+  checked (named_values low side sector format),
+  refl,
+  values-fit low side sector format names.low_fits names.side_fits names.sector_fits names.format_fits,
+  names.values,
+  refl,
+)
 
 module _ (cells : List Bool) (values : List ℕ) (size : length values ≡ 5) (fit : AreSixBits values) (stand : NibblesAt cells 24 values) where
   -- these are they
@@ -59,14 +59,13 @@ module _ (cells : List Bool) (values : List ℕ) (size : length values ≡ 5) (f
 
   -- and a header that has such values has a name
   pub names-so : get_or values 4 0 ≡ xor (get_or values 0 0 ∷ get_or values 1 0 ∷ get_or values 2 0 ∷ get_or values 3 0 ∷ [])
-      → NamesValues (get_or values 0 0) (get_or values 2 0) cells (get_or values 1 0)
+      → NamesValues (get_or values 0 0) (get_or values 2 0) (get_or values 3 0) cells (get_or values 1 0)
   names-so check =
       let low = get_or values 0 0 in
       let s = get_or values 1 0 in
       let side = get_or values 2 0 in
       let format = get_or values 3 0 in
       record {
-        format = format;
         format_fits = fit 3;
         low_fits = fit 0;
         side_fits = fit 2;

@@ -5,8 +5,8 @@ use Rattle.check_values.specs.Sums.{xor}
 use Rattle.disk_zones.specs.Zones.{macintosh_zone}
 use Rattle.disk_zones.specs.declared.zones.Zone.{Zone}
 use Rattle.frame_law.specs.Frames.{DataStand, HeaderStands as Header, SectorStands as Sector}
-use Rattle.frame_law.specs.declared.header_name.HeaderName.{HeaderName}
-use Rattle.frame_law.specs.declared.header_name.HeaderName.TheVariants.{Address, TrackSector}
+use Rattle.flux_base.specs.declared.header_name.HeaderName.{HeaderName}
+use Rattle.flux_base.specs.declared.header_name.HeaderName.TheVariants.{Address, TrackSector, TrackSectorSide}
 use Rattle.apple_nibbles.specs.Marks.{ADDRESS_MARK, DATA_BYTE, IsSync, MARK_CELLS}
 use Rattle.apple_nibbles.specs.Nibbles.{disk_byte, nibble}
 use Rattle.macintosh_gcr.specs.Coding.{IsCoded, TAGS}
@@ -62,26 +62,27 @@ checked values = values ++ xor values ∷ []
 abbrev pub header_values : TrackId → ℕ → ℕ → List ℕ
 header_values track sector format = checked (name_of track sector format)
 
--- a header names a track by such values and a sector: their nibbles stand after the mark, whatever the disk's format
-pub record NamesValues (low side : ℕ) (cells : List Bool) (sector : ℕ) : Type 0 where
-  pub format : ℕ
+-- a header names a track by such values, a sector and a format: their nibbles stand after the mark
+pub record NamesValues (low side format : ℕ) (cells : List Bool) (sector : ℕ) : Type 0 where
   pub format_fits : format < 64
   pub low_fits : low < 64
   pub side_fits : side < 64
   pub sector_fits : sector < 64
   pub values : NibblesAt cells MARK_CELLS (checked (named_values low side sector format))
 
--- it has a name: the two values, and no code of a size
+-- it has a name: these values
 abbrev pub Names : List Bool → HeaderName → Type 0
-Names cells (Address low side sector size) = NamesValues low side cells sector × (size ≡ 0)
+Names cells (Address cylinder head sector size) = ⊥
 Names cells (TrackSector track sector) = ⊥
+Names cells (TrackSectorSide low sector side format) = NamesValues low side format cells sector
 
-abbrev pub sector_name : TrackId → ℕ → HeaderName
-sector_name track sector = Address (low_value track) (side_value track) sector 0
+-- a name is one of a sector of this track, whatever the disk's format
+abbrev pub IsNameOf : TrackId → HeaderName → ℕ → Type 0
+IsNameOf track name sector = (format : ℕ) × (name ≡ TrackSectorSide (low_value track) sector (side_value track) format)
 
--- it names a sector of this track
+-- a header names a sector of this track
 abbrev pub NamesSector : TrackId → List Bool → ℕ → Type 0
-NamesSector track cells sector = NamesValues (low_value track) (side_value track) cells sector
+NamesSector track cells sector = (format : ℕ) × NamesValues (low_value track) (side_value track) format cells sector
 
 -- the cells of a header: its mark and five nibbles
 abbrev pub HEADER_CELLS : ℕ

@@ -1,15 +1,15 @@
-ghost use Rattle.std.specs.Prelude.{◌≡◌, ◌≢◌, ℕ, ◌+◌, ◌*◌, ◌/◌, ◌<◌, ◌≤◌, List, length, IfNone, IfSome};
+ghost use Rattle.std.specs.Prelude.{◌≡◌, ℕ, ◌+◌, ◌*◌, ◌/◌, ◌<◌, ◌≤◌, List, length, IfNone, IfSome};
 ghost use Rattle.macintosh_gcr.specs.Coding.{AreSixBits};
 ghost use Rattle.macintosh_gcr.specs.Layout.{format_of};
-ghost use Rattle.macintosh_gcr.specs.Sectors.{IsMacintoshTrack, Names, NibblesAt, header_values as values_of_header, sector_name};
-ghost use Rattle.frame_law.specs.declared.header_name.HeaderName.{HeaderName};
+ghost use Rattle.macintosh_gcr.specs.Sectors.{IsMacintoshTrack, IsNameOf, Names, NibblesAt, header_values as values_of_header};
+ghost use Rattle.flux_base.specs.declared.header_name.HeaderName.{HeaderName};
 
 use crate::layout::NAME_PLACE;
 use crate::recording::MacintoshGcr;
 use apple_nibbles::{disk_byte_at, value_of};
 use check_values::xor_bytes;
-use flux_base::TrackId;
-use frame_law::{CellsFrom, HeaderName};
+use flux_base::{HeaderName, TrackId};
+use frame_law::CellsFrom;
 
 /// What the header at the front of the cells, which are as many as one has, names. None where it is none, or its check
 /// value is another.
@@ -22,22 +22,22 @@ pub(crate) fn header_name(frame: &CellsFrom) -> Option<HeaderName>
     if check != xor_bytes(&[low, sector, side, format]) {
         return None;
     }
-    Some(HeaderName::Address {
-        cylinder: low,
-        head: side,
+    Some(HeaderName::TrackSectorSide {
+        track: low,
         sector,
-        size_code: 0,
+        side,
+        format,
     })
 }
 
-/// The sector of this track that has the name.
+/// The sector of this track that has the name, whatever the disk's format.
 pub(crate) fn sector_named(track: TrackId, name: HeaderName) -> Option<u8>
     requires cylinder { track.cylinder < 80 }
     requires head { track.head < 2 }
-    ensures named { IfSome result (λ sector. name ≡ sector_name track sector) }
-    ensures none { IfNone result ((sector : ℕ) → name ≢ sector_name track sector) }
+    ensures named { IfSome result (λ sector. IsNameOf track name sector) }
+    ensures none { IfNone result ((sector : ℕ) → ¬ IsNameOf track name sector) }
 {
-    name.sector_of_cylinder(track.cylinder % 64, side_value(track), 0)
+    name.sector_of_side(track.cylinder % 64, side_value(track))
 }
 
 /// The five values after the mark at the front of the cells. None where one of them is no nibble.

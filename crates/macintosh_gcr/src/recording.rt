@@ -1,12 +1,12 @@
-ghost use Rattle.std.specs.Prelude.{◌≡◌, ℕ, ◌+◌, false, refl};
-ghost use Rattle.std.proofs.Common.{inl, inr, lit≤};
+ghost use Rattle.std.specs.Prelude.{◌≡◌, ℕ, ◌+◌, false, refl, Some};
+ghost use Rattle.std.proofs.Common.{arith, inl, inr, lit≤};
 ghost use Rattle.frame_law.specs.lemmas.OwnFrames.{fixed_ends};
 ghost use Rattle.apple_nibbles.specs.Marks.{IsSync};
 ghost use Rattle.macintosh_gcr.specs.lemmas.FrameLaws.{frame_stands};
 ghost use Rattle.macintosh_gcr.specs.Layout.{format_of, row_cells, row_size, rows};
 ghost use Rattle.macintosh_gcr.specs.lemmas.OwnLaws.{named_sector, one_content, one_name, sizes, tells, within_reach};
 ghost use Rattle.macintosh_gcr.specs.lemmas.RowLaws.{row_follows, row_length};
-ghost use Rattle.macintosh_gcr.specs.Sectors.{Hold, IsMacintoshTrack, Names, NamesSector, sector_name, sectors_of, zone_of};
+ghost use Rattle.macintosh_gcr.specs.Sectors.{Hold, IsMacintoshTrack, IsNameOf, Names, NamesSector, sectors_of, zone_of};
 ghost use Rattle.macintosh_gcr.specs.lemmas.Syncs.{own_data, own_syncs};
 ghost use Rattle.apple_nibbles.specs.lemmas.FieldSyncs.{mark_syncs};
 ghost use Rattle.macintosh_gcr.specs.lemmas.ZoneLaws.{counts, sums};
@@ -20,8 +20,8 @@ use crate::rows::push_row;
 use apple_nibbles::{ADDRESS_MARK, MARK_CELLS, next_sync};
 use cell_bits::Cells;
 use disk_zones::macintosh_zone;
-use flux_base::{Memory, TrackId};
-use frame_law::{CellsFrom, HeaderName, Layout, SectorBuffer};
+use flux_base::{HeaderName, Memory, TrackId};
+use frame_law::{CellsFrom, Layout, SectorBuffer};
 
 /// The recording of the Macintosh's disks of 400 and 800 KB. Its tracks are the cylinders 0 to 79. Its sectors are
 /// numbered from 0, as their headers name them, and are written in this order.
@@ -80,17 +80,19 @@ impl Layout for MacintoshGcr {
 
     ghost names = { λ r cells name. Names cells name };
 
-    ghost name_of = { λ r track s. sector_name track s };
+    ghost is_name_of = { λ r track name s. IsNameOf track name s };
 
     ghost is_sync = { λ r cells place. IsSync cells place };
 
-    ghost hold = { λ r cells sync bytes. Hold cells sync bytes };
+    ghost size_named = { λ r name. Some 512 };
+
+    ghost hold = { λ r size cells sync bytes. Hold cells sync bytes };
 
     ghost data_cells = { λ r. 5656 };
 
     ghost header_end = { λ r cells. 64 };
 
-    ghost data_end = { λ r cells sync. sync + 5656 };
+    ghost data_end = { λ r size cells sync. sync + 5656 };
 
     ghost data_place = { λ r. 148 };
 
@@ -114,6 +116,10 @@ impl Layout for MacintoshGcr {
 
     fn sector_bytes(&self) -> u16 {
         SECTOR_SIZE
+    }
+
+    fn size_named(&self, _name: HeaderName) -> Option<u16> {
+        Some(SECTOR_SIZE)
     }
 
     fn track_cells(&self, track: TrackId) -> u32 {
@@ -159,11 +165,17 @@ impl Layout for MacintoshGcr {
         next_sync(frame, from, to)
     }
 
-    fn data_end(&self, frame: &CellsFrom, sync: usize) -> Option<usize> {
+    fn data_end(&self, _size: u16, frame: &CellsFrom, sync: usize) -> Option<usize> {
         frame.end_within(sync + DATA_CELLS)
     }
 
-    fn read_data(&self, frame: &CellsFrom, sync: usize, buffer: &mut SectorBuffer) -> bool {
+    fn read_data(
+        &self,
+        _size: u16,
+        frame: &CellsFrom,
+        sync: usize,
+        buffer: &mut SectorBuffer,
+    ) -> bool {
         read_field(frame, sync, buffer)
     }
 
@@ -182,6 +194,10 @@ impl Layout for MacintoshGcr {
     ghost ends = { λ r track before known. refl };
 
     ghost named_sector = { λ r track. named_sector track };
+
+    ghost own_size = { λ r track name s is. refl };
+
+    ghost data_some = { λ r size cells sync. Prim.omega arith };
 
     ghost one_name = { λ r cells n m first second. one_name cells n m first second };
 

@@ -1,12 +1,11 @@
--- What is computed for each format, and for each number of a format's tracks.
-use Rattle.std.specs.Prelude.{◌≡◌, ◌<◌, ℕ, Bool, true, length, map}
+-- What is computed for each format.
+use Rattle.std.specs.Prelude.{◌≡◌, ◌<◌, ℕ, Bool, true, map}
 use Rattle.std.specs.List.{list_all, range_with_len}
 use Rattle.std.proofs.Common.{arith, sym, ◌∙◌}
 use Rattle.std.proofs.lemmas.List.Elements.{All-contains}
 use Rattle.std.proofs.lemmas.List.FromFn.{get_or-map-range_with_len, length-map-range_with_len}
 use Rattle.std.proofs.lemmas.List.Sums.{AllPass-from_list_all}
 use Rattle.sector_images.specs.Formats.{formats, is_listed}
-use Rattle.sector_images.specs.Places.{tracks}
 use Rattle.sector_images.specs.declared.format.Format.{Format}
 
 -- what all formats pass
@@ -18,10 +17,3 @@ pub each_below : (test : ℕ → Bool) (count : ℕ) → list_all (λ b. b) (map
 each_below test count all n below =
     sym (get_or-map-range_with_len test 0 count n n true below (omega arith))
     ∙ AllPass-from_list_all (λ b. b) (map test (range_with_len 0 count)) all n true (omega (arith, below, length-map-range_with_len test 0 count))
-
--- what the numbers of all formats' tracks pass
-abbrev pub tracks_pass : (Format → ℕ → Bool) → Format → Bool
-tracks_pass test f = list_all (λ b. b) (map (test f) (range_with_len 0 (length (tracks f))))
-
-pub each_track : (test : Format → ℕ → Bool) → list_all (tracks_pass test) formats ≡ true → (f : Format) (n : ℕ) → n < length (tracks f) → test f n ≡ true
-each_track test all f n below = each_below (test f) (length (tracks f)) (each_format (tracks_pass test) all f) n below

@@ -4,11 +4,11 @@ use Rattle.std.proofs.Common.{arith}
 use Rattle.std.proofs.Math.Nat.{mul-le-mul_left}
 use Rattle.sector_images.specs.Formats.{row, slot, zone}
 use Rattle.sector_images.specs.Places.{NumbersNameTracks, SectorsLieInImages, bytes_of, place_of, sector_place}
-use Rattle.sector_images.proofs.Computed.{id_at, numbered, numbered_track, track_within}
+use Rattle.sector_images.proofs.Computed.{counted, id_at, numbered_track, track_within}
 use Rattle.sector_images.proofs.Slots.{sectors_fill_tracks}
 
 pub numbers_name_tracks : NumbersNameTracks
-numbers_name_tracks format number below = (numbered (row format).heads number, id_at format number below, numbered_track format number below)
+numbers_name_tracks format number below = (counted format number, id_at format number below, numbered_track format number below)
 
 -- so many sectors, and one more, are no more than all
 one_more : (size slots sectors : ℕ) → slots < sectors → size * slots + size ≤ sectors * size

@@ -1,4 +1,6 @@
 pub mod EachFormat
+pub mod Grids
+pub mod Orders
 pub mod Computed
 pub mod Slots
 pub mod Inside

@@ -5,14 +5,16 @@ use Rattle.disk_zones.specs.Units.{fine_units}
 use Rattle.disk_zones.specs.Zones.{commodore_inner, commodore_outer, macintosh_inner, macintosh_outer, zone_in}
 use Rattle.disk_zones.specs.declared.zones.Zone.{Zone}
 use Rattle.sector_images.specs.declared.format.Format.{Format}
-use Rattle.sector_images.specs.declared.format.Format.TheVariants.{Ibm3740, Ibm360, Ibm720, Ibm1440, Amiga, C1541, C1541Forty, AppleDo, ApplePo, Ibm160, Ibm180, Ibm320, Ibm1200, AtariSt800, CpcData, CpcSystem, AcornDfs40, AcornDfs80, AppleDos33, AppleProdos, Mac400, Mac800}
+use Rattle.sector_images.specs.declared.format.TrackOrder.{TrackOrder}
+use Rattle.sector_images.specs.declared.format.TrackOrder.TheVariants.{ByCylinder, ByHead}
+use Rattle.sector_images.specs.declared.format.Format.TheVariants.{Ibm3740, Ibm360, Ibm720, Ibm1440, Amiga, C1541, C1541Forty, AppleDo, ApplePo, Ibm160, Ibm180, Ibm320, Ibm1200, AtariSt800, CpcData, CpcSystem, AcornDfs40, AcornDfs80, AppleDos33, AppleProdos, Mac400, Mac800, C1571, AmigaHd}
 
 -- all formats
 abbrev pub formats : List Format
 formats =
     Ibm3740 ∷ Ibm360 ∷ Ibm720 ∷ Ibm1440 ∷ Amiga ∷ C1541 ∷ C1541Forty ∷ AppleDo ∷ ApplePo
     ∷ Ibm160 ∷ Ibm180 ∷ Ibm320 ∷ Ibm1200 ∷ AtariSt800 ∷ CpcData ∷ CpcSystem ∷ AcornDfs40 ∷ AcornDfs80
-    ∷ AppleDos33 ∷ AppleProdos ∷ Mac400 ∷ Mac800 ∷ []
+    ∷ AppleDos33 ∷ AppleProdos ∷ Mac400 ∷ Mac800 ∷ C1571 ∷ AmigaHd ∷ []
 
 -- each is among them
 unfoldable pub is_listed : (f : Format) → Contains formats f
@@ -38,6 +40,8 @@ is_listed AppleDos33 = (18, omega arith, refl)
 is_listed AppleProdos = (19, omega arith, refl)
 is_listed Mac400 = (20, omega arith, refl)
 is_listed Mac800 = (21, omega arith, refl)
+is_listed C1571 = (22, omega arith, refl)
+is_listed AmigaHd = (23, omega arith, refl)
 
 -- what each physical sector of an Apple track holds, from sector 0 on: in DOS 3.3 a logical sector, in ProDOS a half block
 abbrev pub dos_order : List ℕ
@@ -259,6 +263,29 @@ row Mac800 = record {
   image_size = 819200;
   order = None;
 }
+row C1571 = record {
+  word = codes "c1571";
+  cylinders = 35;
+  heads = 2;
+  first_sector = 0;
+  sector_size = 256;
+  image_size = 349696;
+  order = None;
+}
+row AmigaHd = record {
+  word = codes "amiga-hd";
+  cylinders = 80;
+  heads = 2;
+  first_sector = 0;
+  sector_size = 512;
+  image_size = 1802240;
+  order = None;
+}
+
+-- the order of the tracks, in the image and where streams are joined: the Commodore 1571's disk has all of a head one after another
+abbrev pub track_order : Format → TrackOrder
+track_order C1571 = ByHead
+track_order format = ByCylinder
 
 -- The zone of a cylinder: the sectors of a track, its nominal cell in fine units and the cells of its ring. Disks whose outer tracks
 -- have more sectors have zones of their own.
@@ -291,6 +318,8 @@ zone AppleDos33 cylinder = record { sectors = 16; nominal = fine_units 16; ring_
 zone AppleProdos cylinder = record { sectors = 16; nominal = fine_units 16; ring_cells = 49994 }
 zone Mac400 cylinder = macintosh_zone cylinder
 zone Mac800 cylinder = macintosh_zone cylinder
+zone C1571 cylinder = commodore_zone cylinder
+zone AmigaHd cylinder = record { sectors = 22; nominal = fine_units 4; ring_cells = 200000 }
 
 -- where a sector stands in an order, or else by its number
 abbrev pub slot_by : Option (List ℕ) → (first sector : ℕ) → ℕ

@@ -1,9 +1,12 @@
 -- Where tracks and sectors lie in an image.
 use Rattle.std.specs.Prelude.{◌≡◌, ℕ, zero, suc, ◌+◌, ◌*◌, ◌<◌, ◌≤◌, Bool, ◌||◌, ◌&&◌, nat_eq, nat_lt, List, length, filter, find, map, sum_by, slice_get, take, unwrap_or, Some}
 use Rattle.std.specs.List.{flat_map, range_with_len}
+use Rattle.flux_base.specs.Bounds.{IMAGE_LIMIT, LONGEST_CELL, LONGEST_RING, MOST_SECTOR_BYTES, MOST_SECTORS, MOST_TRACK_BYTES, MOST_TRACKS, SHORTEST_CELL, SHORTEST_RING}
 use Rattle.flux_base.specs.declared.track.TrackId.{TrackId}
 use Rattle.sector_images.specs.declared.format.Format.{Format}
-use Rattle.sector_images.specs.Formats.{row, slot, zone}
+use Rattle.sector_images.specs.declared.format.TrackOrder.{TrackOrder}
+use Rattle.sector_images.specs.declared.format.TrackOrder.TheVariants.{ByCylinder, ByHead}
+use Rattle.sector_images.specs.Formats.{row, slot, track_order, zone}
 
 -- the track is one of the format's
 abbrev pub IsTrack : Format → TrackId → Type 0
@@ -14,15 +17,21 @@ abbrev pub IsSector : Format → TrackId → ℕ → Type 0
 IsSector format track sector =
     ((row format).first_sector ≤ sector) × (sector < (row format).first_sector + (zone format track.cylinder).sectors)
 
--- all tracks of the format, in the order cylinder, then head
-abbrev pub tracks : Format → List TrackId
-tracks format =
-    flat_map (λ cylinder. map (λ head. record { cylinder = cylinder; head = head }) (range_with_len 0 (row format).heads))
-    (range_with_len 0 (row format).cylinders)
+-- the tracks of so many cylinders and heads: cylinder by cylinder, and in each head by head, or the other way
+abbrev pub tracks_by : TrackOrder → (cylinders heads : ℕ) → List TrackId
+tracks_by ByCylinder cylinders heads =
+    flat_map (λ cylinder. map (λ head. record { cylinder = cylinder; head = head }) (range_with_len 0 heads)) (range_with_len 0 cylinders)
+tracks_by ByHead cylinders heads =
+    flat_map (λ head. map (λ cylinder. record { cylinder = cylinder; head = head }) (range_with_len 0 cylinders)) (range_with_len 0 heads)
 
--- whether a track comes before another in this order
-abbrev pub comes_before : TrackId → TrackId → Bool
-comes_before a b = nat_lt a.cylinder b.cylinder || (nat_eq a.cylinder b.cylinder && nat_lt a.head b.head)
+-- all tracks of the format, in its order
+abbrev pub tracks : Format → List TrackId
+tracks format = tracks_by (track_order format) (row format).cylinders (row format).heads
+
+-- whether a track comes before another in an order
+abbrev pub comes_before : TrackOrder → TrackId → TrackId → Bool
+comes_before ByCylinder a b = nat_lt a.cylinder b.cylinder || (nat_eq a.cylinder b.cylinder && nat_lt a.head b.head)
+comes_before ByHead a b = nat_lt a.head b.head || (nat_eq a.head b.head && nat_lt a.cylinder b.cylinder)
 
 -- the bytes of a track
 abbrev pub bytes_of : Format → TrackId → ℕ
@@ -33,9 +42,15 @@ unfoldable pub sectors_before : Format → ℕ → ℕ
 sectors_before format zero = 0
 sectors_before format (suc cylinder) = sectors_before format cylinder + (zone format cylinder).sectors
 
+-- the sectors of all tracks before one
+abbrev pub sectors_before_track : TrackOrder → Format → TrackId → ℕ
+sectors_before_track ByCylinder format track =
+    sectors_before format track.cylinder * (row format).heads + track.head * (zone format track.cylinder).sectors
+sectors_before_track ByHead format track = track.head * sectors_before format (row format).cylinders + sectors_before format track.cylinder
+
 -- a track's first byte in the image: the bytes of all tracks before it
 unfoldable pub place_of : Format → TrackId → ℕ
-place_of format track = sum_by (bytes_of format) (filter (λ t. comes_before t track) (tracks format))
+place_of format track = sum_by (bytes_of format) (filter (λ t. comes_before (track_order format) t track) (tracks format))
 
 -- a sector's first byte in the image: the track's first, and after it the sectors that stand before this one
 unfoldable pub sector_place : Format → TrackId → ℕ → ℕ
@@ -75,27 +90,29 @@ abbrev pub SectorsLieInImages : Type 0
 SectorsLieInImages = (format : Format) (track : TrackId) (sector : ℕ) → IsTrack format track → IsSector format track sector
     → sector_place format track sector + (row format).sector_size ≤ (row format).image_size
 
--- What all tracks of all formats keep to: cylinders are numbered by two digits, heads by 0 and 1, sectors by 8 bits, a track has at most
--- a hundred sectors of at most 512 bytes, no track has more sectors than its format's first, and cells and rings are neither very short nor very long.
+-- What all tracks of all formats keep to: cylinders are numbered by two digits, heads by 0 and 1, sectors by 8 bits, a track has not too
+-- many sectors, which have not too many bytes, each and all together, no track has more sectors than its format's first, and cells and
+-- rings are neither very short nor very long.
 pub record KeepsBounds (format : Format) (track : TrackId) : Type 0 where
   pub cylinder : track.cylinder < 100
   pub head : track.head < 2
-  pub sectors : (zone format track.cylinder).sectors ≤ 100
+  pub sectors : (zone format track.cylinder).sectors ≤ MOST_SECTORS
   pub numbers : (row format).first_sector + (zone format track.cylinder).sectors ≤ 256
-  pub size : (row format).sector_size ≤ 512
+  pub size : (row format).sector_size ≤ MOST_SECTOR_BYTES
+  pub bytes : bytes_of format track ≤ MOST_TRACK_BYTES
   pub most : (first : TrackId) → slice_get (tracks format) 0 ≡ Some first → (zone format track.cylinder).sectors ≤ (zone format first.cylinder).sectors
-  pub shortest_cell : 16384 ≤ (zone format track.cylinder).nominal
-  pub longest_cell : (zone format track.cylinder).nominal ≤ 131072
-  pub shortest_ring : 32768 ≤ (zone format track.cylinder).ring_cells
-  pub longest_ring : (zone format track.cylinder).ring_cells ≤ 262144
+  pub shortest_cell : SHORTEST_CELL ≤ (zone format track.cylinder).nominal
+  pub longest_cell : (zone format track.cylinder).nominal ≤ LONGEST_CELL
+  pub shortest_ring : SHORTEST_RING ≤ (zone format track.cylinder).ring_cells
+  pub longest_ring : (zone format track.cylinder).ring_cells ≤ LONGEST_RING
 
 abbrev pub TracksKeepBounds : Type 0
 TracksKeepBounds = (format : Format) (track : TrackId) → IsTrack format track → KeepsBounds format track
 
 -- no format has more tracks than a thousand
 abbrev pub TracksAreFew : Type 0
-TracksAreFew = (format : Format) → length (tracks format) ≤ 1000
+TracksAreFew = (format : Format) → length (tracks format) ≤ MOST_TRACKS
 
 -- no format's image has 4 MiB
 abbrev pub ImagesAreSmall : Type 0
-ImagesAreSmall = (format : Format) → (row format).image_size < 4194304
+ImagesAreSmall = (format : Format) → (row format).image_size < IMAGE_LIMIT

@@ -1,6 +1,6 @@
 ghost use Rattle.std.specs.Prelude.{◌≡◌, ◌≢◌, MatchOption, find, option_map};
 ghost use Rattle.std.specs.Str.{bytes_eq};
-ghost use Rattle.sector_images.specs.Formats.{formats, row, zone};
+ghost use Rattle.sector_images.specs.Formats.{formats, row, track_order, zone};
 
 use disk_zones::{Zone, commodore_zone, macintosh_zone};
 
@@ -51,10 +51,14 @@ pub enum Format {
     Mac400,
     /// The Macintosh's 800 KB disk: the same with two heads.
     Mac800,
+    /// The Commodore 1571's disk: a 1541's disk of 35 cylinders on each of two heads (GCR).
+    C1571,
+    /// The Amiga's disk of high density: 80 cylinders of two heads, 22 sectors of 512 bytes (MFM).
+    AmigaHd,
 }
 
 /// All formats.
-const FORMATS: [Format; 22] = [
+const FORMATS: [Format; 24] = [
     Format::Ibm3740,
     Format::Ibm360,
     Format::Ibm720,
@@ -77,6 +81,8 @@ const FORMATS: [Format; 22] = [
     Format::AppleProdos,
     Format::Mac400,
     Format::Mac800,
+    Format::C1571,
+    Format::AmigaHd,
 ];
 
 /// All formats, in the order of their table.
@@ -127,6 +133,8 @@ impl Format {
             Format::AppleProdos => "apple-prodos",
             Format::Mac400 => "mac-400",
             Format::Mac800 => "mac-800",
+            Format::C1571 => "c1571",
+            Format::AmigaHd => "amiga-hd",
         }
     }
 }
@@ -156,6 +164,15 @@ pub(crate) struct Geometry {
     /// Where each sector, from 0 on, stands among those of its track in the image, where that is not the order
     /// of their numbers.
     pub order: Option<&'static [u8; 16]>,
+}
+
+/// The order of a format's tracks.
+#[derive(Clone, Copy, Debug)]
+pub(crate) enum TrackOrder {
+    /// Cylinder by cylinder, and in each head by head.
+    ByCylinder,
+    /// Head by head, and with each cylinder by cylinder.
+    ByHead,
 }
 
 /// The order of DOS 3.3: the logical sector that each physical one holds.
@@ -338,6 +355,32 @@ impl Format {
                 image_size: 819200,
                 order: None,
             },
+            Format::C1571 => Geometry {
+                cylinders: 35,
+                heads: 2,
+                first_sector: 0,
+                sector_size: 256,
+                image_size: 349696,
+                order: None,
+            },
+            Format::AmigaHd => Geometry {
+                cylinders: 80,
+                heads: 2,
+                first_sector: 0,
+                sector_size: 512,
+                image_size: 1802240,
+                order: None,
+            },
+        }
+    }
+
+    /// The order of the tracks, in the image and where streams are joined.
+    pub(crate) fn track_order(self) -> TrackOrder
+        ensures { result ≡ track_order self }
+    {
+        match self {
+            Format::C1571 => TrackOrder::ByHead,
+            _ => TrackOrder::ByCylinder,
         }
     }
 
@@ -373,7 +416,12 @@ impl Format {
                 nominal: 49208,
                 ring_cells: 100000,
             },
-            Format::C1541 | Format::C1541Forty => commodore_zone(cylinder),
+            Format::AmigaHd => Zone {
+                sectors: 22,
+                nominal: 24604,
+                ring_cells: 200000,
+            },
+            Format::C1541 | Format::C1541Forty | Format::C1571 => commodore_zone(cylinder),
             Format::Mac400 | Format::Mac800 => macintosh_zone(cylinder),
             Format::AppleDo | Format::ApplePo | Format::AppleDos33 | Format::AppleProdos => Zone {
                 sectors: 16,

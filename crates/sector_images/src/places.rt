@@ -1,8 +1,8 @@
-ghost use Rattle.std.specs.Prelude.{◌≡◌, ℕ, ◌+◌, ◌<◌, ◌≤◌, get_or, length, sum_by, take, slice_get, Some};
-ghost use Rattle.sector_images.specs.Formats.{row, slot, zone};
-ghost use Rattle.sector_images.specs.Places.{IsTrack, IsSector, tracks, bytes_of, place_of, sector_in, sector_place, sectors_before as sectors_before_in};
+ghost use Rattle.std.specs.Prelude.{◌≡◌, ℕ, ◌+◌, ◌/◌, ◌%◌, ◌<◌, ◌≤◌, get_or, length, sum_by, take, slice_get, Some};
+ghost use Rattle.sector_images.specs.Formats.{row, slot, track_order, zone};
+ghost use Rattle.sector_images.specs.Places.{IsTrack, IsSector, tracks, bytes_of, place_of, sector_in, sector_place, sectors_before as sectors_before_in, sectors_before_track as sectors_before_track_in};
 
-use crate::format::Format;
+use crate::format::{Format, TrackOrder};
 use flux_base::TrackId;
 
 /// The bytes of an image, which are those of all its tracks.
@@ -21,17 +21,35 @@ pub fn track_count(format: Format) -> u32
     u32::from(geometry.cylinders) * u32::from(geometry.heads)
 }
 
-/// The track of this number from 0, in the order cylinder, then head.
+/// The track of this number from 0, in the format's order: cylinder, then head, or for a Commodore 1571's disk head, then
+/// cylinder.
 pub fn track_id(format: Format, number: u32) -> TrackId
     requires { number < length (tracks format) }
     ensures at { slice_get (tracks format) number ≡ Some result }
     ensures track { IsTrack format result }
 {
-    let heads = u32::from(format.geometry().heads);
-    TrackId {
-        cylinder: (number / heads) as u8,
-        head: (number % heads) as u8,
+    let geometry = format.geometry();
+    match format.track_order() {
+        TrackOrder::ByCylinder => {
+            let (cylinder, head) = split(number, geometry.heads);
+            TrackId { cylinder, head }
+        }
+        TrackOrder::ByHead => {
+            let (head, cylinder) = split(number, geometry.cylinders);
+            TrackId { cylinder, head }
+        }
     }
+}
+
+/// How often a number has so many, and what is left.
+fn split(number: u32, count: u8) -> (u8, u8)
+    requires some { 1 ≤ count }
+    requires few { number / count < 256 }
+    ensures often { result.0 ≡ number / count }
+    ensures left { result.1 ≡ number % count }
+{
+    let count = u32::from(count);
+    ((number / count) as u8, (number % count) as u8)
 }
 
 /// The bytes of a track.
@@ -52,16 +70,29 @@ pub fn track_place(format: Format, track: TrackId) -> u32
     ensures joined { (number : ℕ) → slice_get (tracks format) number ≡ Some track
         → result ≡ sum_by (bytes_of format) (take number (tracks format)) }
 {
+    sectors_before_track(format, track) * u32::from(format.geometry().sector_size)
+}
+
+/// The sectors of all tracks before this one.
+fn sectors_before_track(format: Format, track: TrackId) -> u32
+    requires { IsTrack format track }
+    ensures { result ≡ sectors_before_track_in (track_order format) format track }
+{
     let geometry = format.geometry();
-    let sectors = u32::from(format.zone(track.cylinder).sectors);
-    let before = sectors_before(format, track.cylinder) * u32::from(geometry.heads)
-        + u32::from(track.head) * sectors;
-    before * u32::from(geometry.sector_size)
+    let before = sectors_before(format, track.cylinder);
+    let head = u32::from(track.head);
+    match format.track_order() {
+        TrackOrder::ByCylinder => {
+            let sectors = u32::from(format.zone(track.cylinder).sectors);
+            before * u32::from(geometry.heads) + head * sectors
+        }
+        TrackOrder::ByHead => head * sectors_before(format, geometry.cylinders) + before,
+    }
 }
 
 /// The sectors of one head on all cylinders before this one.
 fn sectors_before(format: Format, cylinder: u8) -> u32
-    requires { cylinder < (row format).cylinders }
+    requires { cylinder ≤ (row format).cylinders }
     ensures before { result ≡ sectors_before_in format cylinder }
     ensures few { result < 65536 }
 {

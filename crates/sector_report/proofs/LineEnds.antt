@@ -4,13 +4,16 @@ use Rattle.std.specs.Fmt.{digits, digits_onto, digit_glyph}
 use Rattle.std.proofs.Common.{ap, ◌∙◌, arith}
 use Rattle.std.proofs.lemmas.Bool.{ne_eqb}
 use Rattle.std.proofs.lemmas.List.Sums.{sum_by-append, sum_by-cons}
+use Rattle.flux_base.specs.declared.header_name.HeaderName.{HeaderName}
+use Rattle.flux_base.specs.declared.header_name.HeaderName.TheVariants.{Address, TrackSector, TrackSectorSide}
 use Rattle.flux_base.specs.declared.track.TrackId.{TrackId}
+use Rattle.turn_merge.specs.declared.others.OtherTold.{OtherTold}
 use Rattle.turn_merge.specs.declared.verdict.Place.{Place}
 use Rattle.turn_merge.specs.declared.verdict.Verdict.{Verdict}
 use Rattle.turn_merge.specs.declared.verdict.Verdict.TheVariants.{Good, Contradictory, Bad, Missing}
 use Rattle.kryo_stream.specs.declared.fault.StreamFault.{StreamFault}
 use Rattle.kryo_stream.specs.declared.fault.StreamFault.TheVariants.{Truncated, UnknownType, BadSize, WrongPosition, DeviceFault, DataAfterEnd, IndexPosition, IndexOrder, NoTurn, TooLong}
-use Rattle.sector_report.specs.DumpLines.{DumpsHaveLines, dump_name, no_files_text, passed_text, unread_text}
+use Rattle.sector_report.specs.DumpLines.{DumpsHaveLines, dump_name, name_text, no_files_text, other_text, passed_text, unread_text}
 use Rattle.sector_report.specs.declared.dump_lines.Passed.{Passed}
 use Rattle.sector_report.specs.declared.dump_lines.Passed.TheVariants.{Absent, Refused}
 use Rattle.sector_report.specs.LineLaws.{IsOneLine, SectorsHaveOneLine, TotalsHaveOneLine, line_ends}
@@ -150,10 +153,39 @@ passed-line track dump (Refused block fault) = record {
       (none-fault fault)).none;
 }
 
+none-four : (a b c d : ℕ) → HasNone (codes " " ++ decimal a ++ codes " " ++ decimal b ++ codes " " ++ decimal c ++ codes " " ++ decimal d)
+none-four a b c d =
+    none-number (codes " " ++ decimal a ++ codes " " ++ decimal b ++ codes " " ++ decimal c) (codes " ") d
+    (none-number (codes " " ++ decimal a ++ codes " " ++ decimal b) (codes " ") c
+    (none-number (codes " " ++ decimal a) (codes " ") b (none-append space (none-decimal a)) refl) refl) refl
+
+none-header : (name : HeaderName) → HasNone (name_text name)
+unfolding name_text
+none-header (Address cylinder head sector code) = none-four cylinder head sector code
+none-header (TrackSector track sector) = none-number (codes " " ++ decimal track) (codes " ") sector (none-append space (none-decimal track)) refl
+none-header (TrackSectorSide track sector side format) = none-four track sector side format
+
+other-line : (naming : Naming) (track : TrackId) (told : OtherTold) → IsOneLine (other_text naming track told)
+unfolding other_text
+other-line naming track told =
+    let front : List ℕ = two_digits track.cylinder ++ codes "." ++ decimal track.head ++ codes " other" ++ name_text told.name in
+    record {
+      front = front ++ codes " " ++ decimal told.headers ++ codes " " ++ decimal told.whole ++ place_text naming told.first;
+      ends = refl;
+      once =
+          (none-append
+          (none-number (front ++ codes " " ++ decimal told.headers) (codes " ") told.whole
+          (none-number front (codes " ") told.headers
+          (none-append (none-append (none-number (two_digits track.cylinder) (codes ".") track.head (none-two track.cylinder) refl) (none-codes (codes " other") refl))
+          (none-header told.name)) refl) refl)
+          (none-place naming told.first)).none;
+    }
+
 pub dumps_have_lines : DumpsHaveLines
 unfolding unread_text no_files_text
 dumps_have_lines = record {
   passed = passed-line;
+  other = other-line;
   unread = λ streams others whole. record {
     front = codes "unread " ++ decimal streams ++ codes " other " ++ decimal others ++ codes " whole " ++ decimal whole;
     ends = refl;

@@ -3,8 +3,12 @@ use Rattle.std.specs.Prelude.{◌≡◌, ◌<◌, ◌^◌, ℕ, List, ◌++◌, 
 use Rattle.flux_base.specs.declared.track.TrackId.{TrackId}
 use Rattle.kryo_stream.specs.declared.fault.StreamFault.{StreamFault}
 use Rattle.kryo_stream.specs.declared.fault.StreamFault.TheVariants.{UnknownType, BadSize, WrongPosition, DeviceFault}
+use Rattle.flux_base.specs.declared.header_name.HeaderName.{HeaderName}
+use Rattle.flux_base.specs.declared.header_name.HeaderName.TheVariants.{Address, TrackSector, TrackSectorSide}
 use Rattle.sector_report.specs.LineLaws.{IsOneLine}
-use Rattle.sector_report.specs.Lines.{fault_text, two_digits}
+use Rattle.sector_report.specs.Lines.{fault_text, place_text, two_digits}
+use Rattle.sector_report.specs.declared.naming.Naming.{Naming}
+use Rattle.turn_merge.specs.declared.others.OtherTold.{OtherTold}
 use Rattle.sector_report.specs.declared.dump_lines.Passed.{Passed}
 use Rattle.sector_report.specs.declared.dump_lines.Passed.TheVariants.{Absent, Refused}
 
@@ -18,6 +22,21 @@ passed_text track dump Absent = dump_name track dump ++ codes "missing" ++ codes
 passed_text track dump (Refused block fault) =
     dump_name track dump ++ (codes "refused block " ++ decimal block) ++ codes " " ++ fault_text fault ++ codes "\n"
 
+-- the numbers of a header's name, each with a blank before it
+unfoldable pub name_text : HeaderName → List ℕ
+name_text (Address cylinder head sector code) =
+    codes " " ++ decimal cylinder ++ codes " " ++ decimal head ++ codes " " ++ decimal sector ++ codes " " ++ decimal code
+name_text (TrackSector track sector) = codes " " ++ decimal track ++ codes " " ++ decimal sector
+name_text (TrackSectorSide track sector side format) =
+    codes " " ++ decimal track ++ codes " " ++ decimal sector ++ codes " " ++ decimal side ++ codes " " ++ decimal format
+
+-- A name of headers on a track that is that of none of its sectors: its numbers, how many headers have it, after how many of these
+-- whole data stand, and the place of the first one.
+unfoldable pub other_text : Naming → TrackId → OtherTold → List ℕ
+other_text naming track told =
+    two_digits track.cylinder ++ codes "." ++ decimal track.head ++ codes " other" ++ name_text told.name ++ codes " " ++ decimal told.headers
+    ++ codes " " ++ decimal told.whole ++ place_text naming told.first ++ codes "\n"
+
 -- how many streams were passed over, how many names of other headers were told, and how many of these have whole data
 unfoldable pub unread_text : (unread others whole : ℕ) → List ℕ
 unread_text unread others whole = codes "unread " ++ decimal unread ++ codes " other " ++ decimal others ++ codes " whole " ++ decimal whole ++ codes "\n"
@@ -29,6 +48,7 @@ no_files_text dump = codes "refused dump " ++ decimal dump ++ codes " no track f
 -- each of these is one line
 pub record DumpsHaveLines : Type 0 where
   pub passed : (track : TrackId) (dump : ℕ) (why : Passed) → IsOneLine (passed_text track dump why)
+  pub other : (naming : Naming) (track : TrackId) (told : OtherTold) → IsOneLine (other_text naming track told)
   pub unread : (streams others whole : ℕ) → IsOneLine (unread_text streams others whole)
   pub no_files : (dump : ℕ) → IsOneLine (no_files_text dump)
 

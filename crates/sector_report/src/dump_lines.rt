@@ -1,14 +1,16 @@
 //! The lines of a disk that is read of several dumps, beside those of its sectors. Dumps are numbered from 0.
 
-ghost use Rattle.std.specs.Prelude.{◌≡◌, ◌+◌, ◌≤◌, ◌<◌, ◌++◌};
+ghost use Rattle.std.specs.Prelude.{◌≡◌, ◌+◌, ◌≤◌, ◌<◌, ◌++◌, codes, decimal};
 ghost use Rattle.arrayvec.specs.ArrayString.{array_string_len};
-ghost use Rattle.sector_report.specs.DumpLines.{dump_name, no_files_text, passed_text, unread_text};
+ghost use Rattle.sector_report.specs.DumpLines.{dump_name, name_text, no_files_text, other_text, passed_text, unread_text};
 
-use crate::line::{Line, put, put_named, put_u8, put_u32};
+use crate::line::{Line, put, put_named, put_u8, put_u32, put_u64};
+use crate::naming::Naming;
 use crate::refused::put_fault;
-use crate::sector_lines::put_two_digits;
-use flux_base::TrackId;
+use crate::sector_lines::{put_number, put_place, put_two_digits};
+use flux_base::{HeaderName, TrackId};
 use kryo_stream::StreamFault;
+use turn_merge::OtherTold;
 
 /// Why a dump's stream of a track was passed over.
 #[derive(Clone, Copy, Debug, PartialEq, Eq)]
@@ -40,6 +42,29 @@ pub fn passed_line(track: TrackId, dump: u8, passed: &Passed) -> Line
             put_fault(&mut line, &fault);
         }
     }
+    put(&mut line, "\n");
+    line
+}
+
+/// What is told of a name that headers of a track have and none of its sectors: `CC.H other`, the name's numbers, how many
+/// headers have it, after how many of them whole data stand, and the place of the first one, with that part of its source.
+/// The cylinder is below 100.
+#[tactic(auto, unfolding(crate::specs::DumpLines::other_text))]
+pub fn other_line(naming: Naming, track: TrackId, told: &OtherTold) -> Line
+    requires { track.cylinder < 100 }
+    ensures { result.bytes ≡ other_text naming track told.now }
+{
+    let mut line = Line::new();
+    put_two_digits(&mut line, track.cylinder);
+    put(&mut line, ".");
+    put_u32(&mut line, u32::from(track.head));
+    put(&mut line, " other");
+    put_name(&mut line, told.name);
+    put(&mut line, " ");
+    put_u64(&mut line, told.headers);
+    put(&mut line, " ");
+    put_u64(&mut line, told.whole);
+    put_place(&mut line, naming, told.first);
     put(&mut line, "\n");
     line
 }
@@ -83,4 +108,43 @@ fn put_dump(line: &mut Line, track: TrackId, dump: u8)
     put(line, " dump ");
     put_u8(line, dump);
     put(line, " ");
+}
+
+/// Appends the numbers of a header's name, each with a blank before it.
+#[tactic(auto, unfolding(crate::specs::DumpLines::name_text))]
+fn put_name(line: &mut Line, name: HeaderName)
+    requires { array_string_len line.old + 16 ≤ 192 }
+    ensures bytes { line.new.bytes ≡ line.old.bytes ++ name_text name }
+    ensures len { array_string_len line.new ≤ array_string_len line.old + 16 }
+{
+    match name {
+        HeaderName::Address {
+            cylinder,
+            head,
+            sector,
+            size_code,
+        } => put_four(line, cylinder, head, sector, size_code),
+        HeaderName::TrackSector { track, sector } => {
+            put_number(line, track);
+            put_number(line, sector);
+        }
+        HeaderName::TrackSectorSide {
+            track,
+            sector,
+            side,
+            format,
+        } => put_four(line, track, sector, side, format),
+    }
+}
+
+/// Appends four numbers, each with a blank before it.
+fn put_four(line: &mut Line, first: u8, second: u8, third: u8, fourth: u8)
+    requires { array_string_len line.old + 16 ≤ 192 }
+    ensures bytes { line.new.bytes ≡ line.old.bytes ++ (codes " " ++ decimal first ++ codes " " ++ decimal second ++ codes " " ++ decimal third ++ codes " " ++ decimal fourth) }
+    ensures len { array_string_len line.new ≤ array_string_len line.old + 16 }
+{
+    put_number(line, first);
+    put_number(line, second);
+    put_number(line, third);
+    put_number(line, fourth);
 }

@@ -1,8 +1,10 @@
 -- What follows from the definitions: nobody has to believe it.
 pub mod SectorParts
+pub mod Chosen
 pub mod Cuts
 pub mod Fronts
 pub mod Gaps
+pub mod Near
 pub mod Owning
 pub mod Parts
 pub mod RowLaws

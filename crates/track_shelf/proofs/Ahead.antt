@@ -1,12 +1,11 @@
 -- What is still to come of the files that are read.
-use Rattle.std.proofs.Common.{◌≡◌, ◌<◌, ◌≤◌, ◌+◌, ℕ, List, [], ◌∷◌, ◌++◌, length, take, drop, map, get_or, arith, refl, sym, ◌∙◌, ap, append_assoc, append-nil, length-drop, length-take, min, not, ◌==◌, Bool, true, false, Option, None, Some, Ok, if◌then◌else◌}
+use Rattle.std.proofs.Common.{◌≡◌, ◌<◌, ◌≤◌, ◌+◌, ℕ, List, [], ◌∷◌, ◌++◌, length, take, drop, map, get_or, arith, refl, sym, ◌∙◌, ap, append_assoc, append-nil, length-drop, length-take, min, ◌==◌, Bool, true, false, Option, None, Some, if◌then◌else◌}
 use Rattle.std.proofs.lemmas.List.{drop_all, drop_more, drop-drop, length-map, take-append-drop, take-take}
 use Rattle.std.specs.List.{concat, flat_map}
-use Rattle.std.specs.Option.{is_some}
 use Rattle.flux_base.specs.Memory.{is_failing, next_count}
 use Rattle.sector_images.specs.Places.{tracks}
 use Rattle.sector_images.specs.declared.format.Format.{Format}
-use Rattle.track_shelf.specs.Files.{File, LeavesFile, bytes_in, file_at, first_missing, joined, track_bytes}
+use Rattle.track_shelf.specs.Files.{File, bytes_in, first_missing, joined, track_bytes}
 use Rattle.track_shelf.specs.Memory.{ShelfState, after_begin, ahead_by, ahead_from, bytes_at, cut_first, failed, first_piece, pieces_of, with_bytes}
 
 -- pieces without those that are empty have the same bytes
@@ -160,20 +159,15 @@ begun s folder format ahead works none is =
     ∙ ap (λ (m : Option ℕ). record s { ahead = ahead_by m s.ahead wanted; calls = next_count s.calls }) (sym none)
     ∙ ap (λ (b : Bool). if b then failed s else record s { ahead = ahead_by (first_missing s.files folder format) s.ahead wanted; calls = next_count s.calls }) (sym works)
 
--- what a file leaves, by whether it is there
-none-bytes : (file : Option File) → is_some file ≡ false → bytes_in file ≡ []
-none-bytes None gone = refl
-none-bytes (Some file) gone = absurd (cc)
-
-pub leaves-file : (files : List File) (path : List ℕ) (there : Bool) (old : Option (List ℕ)) (left : List ℕ) → there ≡ is_some (file_at files path)
-    → left ≡ bytes_in (file_at files path) → LeavesFile (Some files) path (Ok there) old (Some left)
-leaves-file files path true old left is same = ap Some same
-leaves-file files path false old left is same = same ∙ none-bytes (file_at files path) (sym is)
-
--- a file is there where it has a place
-pub there-is : (files : List File) (places : List ℕ) (file : Option File) → map (bytes_at files) places ≡ pieces_of file → not (length places == 0) ≡ is_some file
-there-is files places file same = by file (sym (length-map places (bytes_at files)) ∙ ap length same)
+-- where a file has a place, its bytes are ahead
+pub opened-file : (files : List File) (places : List ℕ) (file : Option File) → map (bytes_at files) places ≡ pieces_of file
+    → (empty : Bool) → empty ≡ (length places == 0) → empty ≡ false → (ahead : List (List ℕ)) → ahead ≡ with_bytes (map (bytes_at files) places)
+    → (f : File) × (file ≡ Some f) × (Some (concat ahead) ≡ Some f.bytes)
+opened-file files places None same empty is some ahead all =
+    let size : length places ≡ 0 = sym (length-map places (bytes_at files)) ∙ ap length same in
+    absurd (has (sym some ∙ is ∙ ap (λ n. n == 0) size))
   where
-    by : (f : Option File) → length places ≡ length (pieces_of f) → not (length places == 0) ≡ is_some f
-    by None size = ap (λ n. not (n == 0)) size
-    by (Some f) size = ap (λ n. not (n == 0)) size
+    has : false ≡ true → ⊥
+    has same = cc
+opened-file files places (Some f) same empty is some ahead all =
+    (f, refl, ap Some (ap concat (all ∙ ap with_bytes same) ∙ one-joined (Some f)))

@@ -2,3 +2,4 @@ pub mod Finding
 pub mod Ahead
 pub mod Paths
 pub mod Joins
+pub mod Reaching

@@ -1,8 +1,7 @@
 -- The files of dumps, and which of them a folder and a path have.
-use Rattle.std.specs.Prelude.{◌≡◌, ℕ, Bool, true, false, List, [], Option, Some, None, Result, Ok, Err}
-use Rattle.std.specs.Io.KnownBytes.{IsAtEnd}
+use Rattle.std.specs.Prelude.{◌≡◌, ℕ, Bool, List, [], Option, Some, None, Result, Ok, Err}
 use Rattle.std.specs.List.{find, flat_map, position_from}
-use Rattle.std.specs.Option.{is_none, is_some}
+use Rattle.std.specs.Option.{is_none}
 use Rattle.std.specs.Str.{bytes_eq}
 use Rattle.flux_base.specs.declared.outside.Failed.{Failed}
 use Rattle.flux_base.specs.declared.track.TrackId.{TrackId}
@@ -56,15 +55,13 @@ LeavesWanted None folder format (Ok None) old new = Unit {0}
 LeavesWanted told folder format (Ok (Some number)) old new = new ≡ old
 LeavesWanted told folder format (Err _) old new = new ≡ old
 
--- an answer says whether the file of a path is there, where the files are told
-abbrev pub SaysThere : Option (List File) → (path : List ℕ) → Result Bool Failed → Type 0
-SaysThere (Some files) path (Ok there) = there ≡ is_some (file_at files path)
-SaysThere _ path _ = Unit {0}
+-- an answer hands out the file of a path, all of whose bytes are still to come, where the files are told; none, where there is none
+abbrev pub Opens : {F : Type 0} → (left : F → Option (List ℕ)) → Option (List File) → (path : List ℕ) → Result (Option F) Failed → Type 0
+Opens left (Some files) path (Ok None) = file_at files path ≡ None
+Opens left (Some files) path (Ok (Some opened)) = (file : File) × (file_at files path ≡ Some file) × (left opened ≡ Some file.bytes)
+Opens left _ path _ = Unit {0}
 
--- what is left by an answer: the bytes of that file, where it is there and the files are told; nothing where it is not there; else what was
--- left before
-abbrev pub LeavesFile : Option (List File) → (path : List ℕ) → Result Bool Failed → (old new : Option (List ℕ)) → Type 0
-LeavesFile (Some files) path (Ok true) old new = new ≡ Some (bytes_in (file_at files path))
-LeavesFile None path (Ok true) old new = Unit {0}
-LeavesFile told path (Ok false) old new = IsAtEnd new
-LeavesFile told path (Err _) old new = new ≡ old
+-- what is handed out has not failed
+abbrev pub NoneFailed : {F : Type 0} → (faults : F → ℕ) → Result (Option F) Failed → Type 0
+NoneFailed faults (Ok (Some opened)) = faults opened ≡ 0
+NoneFailed faults _ = Unit {0}

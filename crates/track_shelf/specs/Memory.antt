@@ -1,8 +1,8 @@
 -- A shelf in memory: what it holds, what is still to come of the wanted files, and which of its calls fail.
-use Rattle.std.specs.Prelude.{if◌then◌else◌, ℕ, Bool, true, false, min, List, [], ◌∷◌, length, drop, map, filter, Option, Some, None, Result, Ok, Err}
+use Rattle.std.specs.Prelude.{if◌then◌else◌, ℕ, Bool, true, false, ◌+◌, max, min, List, [], ◌∷◌, length, drop, map, filter, Option, Some, None, Result, Ok, Err}
 use Rattle.std.specs.List.{slice_get}
-use Rattle.std.specs.Option.{is_some}
 use Rattle.flux_base.specs.Memory.{is_failing, next_count}
+use Rattle.flux_base.specs.Outside.{GREATEST_COUNT}
 use Rattle.flux_base.specs.declared.outside.Failed.{Failed}
 use Rattle.sector_images.specs.Places.{tracks}
 use Rattle.sector_images.specs.declared.format.Format.{Format}
@@ -77,21 +77,28 @@ after_begin s folder format =
       calls = next_count s.calls;
     }
 
--- what `open_file` answers for a path
-abbrev pub open_of : ShelfState → (path : List ℕ) → Result Bool Failed
-open_of s path = if is_failing s.failing s.calls then Err (record {}) else Ok (is_some (file_at s.files path))
-
 -- the bytes of a file, as pieces to be read
 abbrev pub pieces_of : Option File → List (List ℕ)
 pieces_of None = []
 pieces_of (Some file) = file.bytes ∷ []
 
--- the shelf after it
-abbrev pub after_open : ShelfState → (path : List ℕ) → ShelfState
-after_open s path =
-    if is_failing s.failing s.calls
-    then failed s
-    else record s { ahead = with_bytes (pieces_of (file_at s.files path)); calls = next_count s.calls }
+-- the shelf after `open_file`
+abbrev pub after_open : ShelfState → ShelfState
+after_open s = if is_failing s.failing s.calls then failed s else record s { calls = next_count s.calls }
+
+-- What is handed out then is a shelf from which this file alone is to be read: its calls are counted on from those so far, and fail by the
+-- same list, and none has failed.
+abbrev pub opened_of : ShelfState → Option File → Option ShelfState
+opened_of s None = None
+opened_of s (Some file) = Some (record s { ahead = with_bytes (pieces_of (Some file)); faults = 0 })
+
+-- what `open_file` answers for a path
+abbrev pub open_of : ShelfState → (path : List ℕ) → Result (Option ShelfState) Failed
+open_of s path = if is_failing s.failing s.calls then Err (record {}) else Ok (opened_of (after_open s) (file_at s.files path))
+
+-- the shelf after an open file was taken back: calls are counted on from the file's
+abbrev pub after_close : ShelfState → (file : ShelfState) → ShelfState
+after_close s file = record s { calls = max s.calls file.calls; faults = min (s.faults + file.faults) GREATEST_COUNT }
 
 -- the bytes of the file at a place among the files
 abbrev pub bytes_at : List File → (place : ℕ) → List ℕ

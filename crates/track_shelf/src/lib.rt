@@ -7,9 +7,11 @@ mod memory;
 mod names;
 mod path;
 mod shelf;
+mod stepping;
 
 pub use laws::{files_name_dumps, folder_paths_tell};
 pub use memory::{MemoryShelf, ShelfFile};
 pub use names::{file_name, missing_line};
 pub use path::{Path, TrackPath};
 pub use shelf::Shelf;
+pub use stepping::Stepping;

@@ -4,10 +4,10 @@ ghost use Rattle.std.specs.Io.KnownBytes.{ReadConsumes};
 ghost use Rattle.std.specs.List.{concat, position_from};
 ghost use Rattle.std.specs.Bool.{Decides};
 ghost use Rattle.flux_base.specs.Memory.{is_failing, next_count};
-ghost use Rattle.flux_base.specs.Outside.{Rose};
+ghost use Rattle.flux_base.specs.Outside.{GivesPiece, Rose};
 ghost use Rattle.sector_images.specs.Places.{tracks};
-ghost use Rattle.track_shelf.specs.Files.{LeavesFile, LeavesWanted, NamesMissing, SaysThere, file_at, first_missing, has_path, track_bytes};
-ghost use Rattle.track_shelf.specs.Memory.{after_begin, after_open, after_read, ahead_from, begin_of, bytes_at, cut_first, failed, first_piece, open_of, pieces_of, read_of, with_bytes};
+ghost use Rattle.track_shelf.specs.Files.{LeavesWanted, NamesMissing, NoneFailed, Opens, file_at, first_missing, has_path, track_bytes};
+ghost use Rattle.track_shelf.specs.Memory.{ShelfState, after_begin, after_close, after_open, after_read, ahead_from, begin_of, bytes_at, cut_first, failed, first_piece, open_of, pieces_of, read_of, with_bytes};
 ghost use Rattle.track_shelf.specs.Names.{folder_path, path_text};
 
 use crate::path::{TrackPath, folder_end};
@@ -214,36 +214,37 @@ fn give(
 
 /// A shelf whose files lie in memory. A read gives the least of the chunk, the buffer's length and the bytes left of
 /// the file at hand, which is the first one that is asked for whose bytes are not all taken. The calls of `begin`,
-/// `open_file` and `read` whose numbers, from 0, are on a list answer `Failed` and are counted as faults.
+/// `open_file` and `read` whose numbers, from 0, are on a list answer `Failed` and are counted as faults; the reads of
+/// an open file are counted among them.
 #[derive(Debug, Drop)]
-pub struct MemoryShelf {
-    files: Vec<ShelfFile>,
+pub struct MemoryShelf<'a> {
+    files: &'a [ShelfFile],
     /// Where the files lie that are read, in their order.
     places: Places,
     next: Next,
     chunk: u32,
-    failing: Vec<u64>,
+    failing: &'a [u64],
     calls: u64,
     faults: u64,
 }
 
-impl Model for MemoryShelf {
+impl<'a> Model for MemoryShelf<'a> {
     ghost use Rattle.std.specs.Prelude.{◌<◌};
     ghost use Rattle.track_shelf.specs.Memory.{ShelfState, ahead_from};
 
     ghost Value = { ShelfState };
 
-    ghost view = { λ s. record { files = s.files.items; ahead = ahead_from s.files.items s.places.items s.next.number s.next.start; chunk = s.chunk; failing = s.failing.items; calls = s.calls; faults = s.faults } };
+    ghost view = { λ s. record { files = s.files.now; ahead = ahead_from s.files.now s.places.items s.next.number s.next.start; chunk = s.chunk; failing = s.failing.now; calls = s.calls; faults = s.faults } };
 
     ghost invariant = { λ s. 0 < s.chunk };
 }
 
-impl MemoryShelf {
-    /// A shelf with these files, from which nothing is to be read before `begin` and `open_file`. Of two files of one
-    /// path the first counts. The chunk is at least 1.
-    pub fn new(files: Vec<ShelfFile>, chunk: u32, failing: Vec<u64>) -> MemoryShelf
+impl<'a> MemoryShelf<'a> {
+    /// A shelf with these files, from which nothing is to be read before `begin`. Of two files of one path the first
+    /// counts. The chunk is at least 1.
+    pub fn new(files: &'a [ShelfFile], chunk: u32, failing: &'a [u64]) -> MemoryShelf<'a>
         requires { 0 < chunk }
-        ensures { result ≡ record { files = files.items; ahead = []; chunk = chunk; failing = failing.items; calls = 0; faults = 0 } }
+        ensures { result ≡ record { files = files.now; ahead = []; chunk = chunk; failing = failing.now; calls = 0; faults = 0 } }
     {
         MemoryShelf {
             files,
@@ -284,9 +285,27 @@ impl MemoryShelf {
             start: 0,
         };
     }
+
+    /// The same files, from which those at these places are to be read.
+    fn opened(&self, places: Places) -> MemoryShelf<'a>
+        ensures { result ≡ record self.now { ahead = with_bytes (map (bytes_at self.now.files) places.items); faults = 0 } }
+    {
+        MemoryShelf {
+            files: self.files,
+            places,
+            next: Next {
+                number: 0,
+                start: 0,
+            },
+            chunk: self.chunk,
+            failing: self.failing,
+            calls: self.calls,
+            faults: 0,
+        }
+    }
 }
 
-impl Source for MemoryShelf {
+impl<'a> Source for MemoryShelf<'a> {
     ghost left = { λ s. Some (concat s.ahead) };
 
     ghost faults = { λ s. s.faults };
@@ -294,19 +313,22 @@ impl Source for MemoryShelf {
     fn read(&mut self, buffer: &mut [u8]) -> Result<usize, Failed>
         ensures bound { ReadsAtMost result buffer.new }
         ensures bytes { ReadConsumes (Some (concat self.old.ahead)) (Some (concat self.new.ahead)) result buffer.new }
+        ensures piece { GivesPiece None None result buffer.new }
         ensures later { self.old.faults ≤ self.new.faults }
         ensures cause { OnErr result (Rose self.old.faults self.new.faults) }
         ensures answer { result ≡ read_of self.old (length buffer.old) }
         ensures after { self.new ≡ after_read self.old (length buffer.old) }
     {
         self.count_call()?;
-        let (next, given) = give(&self.files, &self.places, self.next, self.chunk, buffer);
+        let (next, given) = give(self.files, &self.places, self.next, self.chunk, buffer);
         self.next = next;
         Ok(given)
     }
 }
 
-impl Shelf for MemoryShelf {
+impl<'a> Shelf for MemoryShelf<'a> {
+    type File = MemoryShelf<'a>;
+
     ghost files = { λ s. Some s.files };
 
     fn begin(&mut self, folder: &[u8], format: Format) -> Result<Option<u32>, Failed>
@@ -320,7 +342,7 @@ impl Shelf for MemoryShelf {
         ensures after { self.new ≡ after_begin self.old folder.now format }
     {
         self.count_call()?;
-        match find_wanted(&self.files, folder, format) {
+        match find_wanted(self.files, folder, format) {
             Ok(places) => {
                 self.read_at(places);
                 Ok(None)
@@ -329,19 +351,32 @@ impl Shelf for MemoryShelf {
         }
     }
 
-    fn open_file(&mut self, dump: &[u8], track: TrackId) -> Result<bool, Failed>
-        ensures there { SaysThere (Some self.old.files) (path_text dump.now track) result }
-        ensures left { LeavesFile (Some self.old.files) (path_text dump.now track) result (Some (concat self.old.ahead)) (Some (concat self.new.ahead)) }
-        ensures kept { self.new.files ≡ self.old.files }
+    fn open_file(&mut self, dump: &[u8], track: TrackId) -> Result<Option<MemoryShelf<'a>>, Failed>
+        ensures opened { Opens (λ (file : ShelfState). Some (concat file.ahead)) (Some self.old.files) (path_text dump.now track) result }
+        ensures sound { NoneFailed (λ (file : ShelfState). file.faults) result }
+        ensures left { Some (concat self.new.ahead) ≡ Some (concat self.old.ahead) }
+        ensures kept { Some self.new.files ≡ Some self.old.files }
         ensures later { self.old.faults ≤ self.new.faults }
         ensures cause { OnErr result (Rose self.old.faults self.new.faults) }
         ensures answer { result ≡ open_of self.old (path_text dump.now track) }
-        ensures after { self.new ≡ after_open self.old (path_text dump.now track) }
+        ensures after { self.new ≡ after_open self.old }
     {
         self.count_call()?;
-        let places = find_file(&self.files, &TrackPath::of_dump(dump, track));
-        let there = !places.is_empty();
-        self.read_at(places);
-        Ok(there)
+        let places = find_file(self.files, &TrackPath::of_dump(dump, track));
+        if places.is_empty() {
+            return Ok(None);
+        }
+        Ok(Some(self.opened(places)))
+    }
+
+    fn close_file(&mut self, file: MemoryShelf<'a>)
+        ensures cause { Rose 0 file.entry.faults → Rose self.old.faults self.new.faults }
+        ensures left { Some (concat self.new.ahead) ≡ Some (concat self.old.ahead) }
+        ensures kept { Some self.new.files ≡ Some self.old.files }
+        ensures later { self.old.faults ≤ self.new.faults }
+        ensures after { self.new ≡ after_close self.old file.entry }
+    {
+        self.calls = self.calls.max(file.calls);
+        self.faults = self.faults.saturating_add(file.faults);
     }
 }

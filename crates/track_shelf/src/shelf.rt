@@ -1,15 +1,18 @@
 ghost use Rattle.std.specs.Prelude.{◌≡◌, ℕ, ◌<◌, ◌≤◌, List, None, Some, Option, length, IfOk, IfSome, OnErr};
 ghost use Rattle.flux_base.specs.Outside.{Rose};
 ghost use Rattle.sector_images.specs.Places.{tracks};
-ghost use Rattle.track_shelf.specs.Files.{File, LeavesFile, LeavesWanted, NamesMissing, SaysThere};
+ghost use Rattle.track_shelf.specs.Files.{File, LeavesWanted, NamesMissing, NoneFailed, Opens};
 ghost use Rattle.track_shelf.specs.Names.{path_text};
 
 use flux_base::{Failed, Source, TrackId};
 use sector_images::Format;
 
 /// A source whose bytes lie in files, one for each track of a dump. All wanted files of a folder are read as one source, by
-/// `begin`, or a single file, by `open_file`.
+/// `begin`. Single files are opened by `open_file`, and read apart from the shelf.
 pub trait Shelf: Source {
+    /// An open file.
+    type File: Source + Drop;
+
     /// The files that lie on the shelf, where the object tells them.
     ghost files: { Self → Option (List File) } = { λ _. None };
 
@@ -28,16 +31,22 @@ pub trait Shelf: Source {
         ensures later { Self.faults self.old ≤ Self.faults self.new }
         ensures cause { OnErr result (Rose (Self.faults self.old) (Self.faults self.new)) };
 
-    /// Opens the file of a track of a dump, which is a folder, or is named by one of its files. True: it is there, and the
-    /// bytes still to come are from now on those of this file alone. False: there is no such file, and nothing is still to
-    /// come. No memory is taken.
-    fn open_file(&mut self, dump: &[u8], track: TrackId) -> Result<bool, Failed>
-        ensures there { SaysThere (files self.old) (path_text dump.now track) result }
-
-        // After `Failed` the bytes still to come are as they were.
-        ensures left { LeavesFile (files self.old) (path_text dump.now track) result (Self.left self.old) (Self.left self.new) }
+    /// Opens the file of a track of a dump, which is a folder, or is named by one of its files. None where there is no such
+    /// file. What is done with the file touches nothing of the shelf. No memory is taken.
+    fn open_file(&mut self, dump: &[u8], track: TrackId) -> Result<Option<Self::File>, Failed>
+        ensures opened { Opens Self.File.left (files self.old) (path_text dump.now track) result }
+        ensures sound { NoneFailed Self.File.faults result }
+        ensures left { Self.left self.new ≡ Self.left self.old }
         ensures kept { files self.new ≡ files self.old }
         ensures unread { Self.given self.new ≡ Self.given self.old }
         ensures later { Self.faults self.old ≤ Self.faults self.new }
         ensures cause { OnErr result (Rose (Self.faults self.old) (Self.faults self.new)) };
+
+    /// Takes an open file back. How often it failed is counted with the shelf's own faults.
+    fn close_file(&mut self, file: Self::File)
+        ensures cause { Rose 0 (Self.File.faults file) → Rose (Self.faults self.old) (Self.faults self.new) }
+        ensures left { Self.left self.new ≡ Self.left self.old }
+        ensures kept { files self.new ≡ files self.old }
+        ensures unread { Self.given self.new ≡ Self.given self.old }
+        ensures later { Self.faults self.old ≤ Self.faults self.new };
 }

@@ -2,3 +2,4 @@ pub mod Folding
 pub mod Parts
 pub mod Knowing
 pub mod Noting
+mod OtherNames

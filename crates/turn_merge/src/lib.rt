@@ -5,8 +5,10 @@
 mod book;
 mod clock;
 mod fold;
+mod others;
 mod verdict;
 
 pub use book::Book;
 pub use clock::Clock;
+pub use others::{OtherTold, Others};
 pub use verdict::{Place, Verdict};

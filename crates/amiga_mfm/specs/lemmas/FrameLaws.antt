@@ -16,12 +16,15 @@ use Rattle.mfm_coding.specs.declared.symbol.Symbol.TheVariants.{SyncMark}
 use Rattle.mfm_coding.specs.Coding.{coded, symbol_cells}
 use Rattle.mfm_coding.specs.lemmas.SymbolRows.{rows-coded}
 use Rattle.amiga_mfm.specs.declared.half.Half.TheVariants.{Odd, Even}
+use Rattle.amiga_mfm.specs.declared.recording.AmigaMfm.{AmigaMfm}
+use Rattle.amiga_mfm.specs.Disks.{IsAmigaTrack, disk_of}
+use Rattle.amiga_mfm.specs.lemmas.DiskLaws.{sound}
 use Rattle.amiga_mfm.specs.Layout.{check_of_data, check_of_header, content_halves, halves_symbols, header_halves, info_of, label, row_cells, row_symbols, rows}
 use Rattle.amiga_mfm.specs.lemmas.LongLaws.{halves-after, long-joined, long-reads, longs-read}
 use Rattle.amiga_mfm.specs.Longs.{half_bytes, half_of, halves, long_of_halves, longs_of, raw_longs, without_clocks}
 use Rattle.amiga_mfm.specs.lemmas.Masks.{check-same, without_clocks-lt}
 use Rattle.amiga_mfm.specs.lemmas.RowLaws.{length-halves, length-longs_of}
-use Rattle.amiga_mfm.specs.Sectors.{Hold, IsDataPlace, IsAmigaTrack, NamesSector, track_number}
+use Rattle.amiga_mfm.specs.Sectors.{Hold, IsDataPlace, NamesSector, track_number}
 
 abbrev pub marks : List Symbol
 marks = SyncMark ∷ SyncMark ∷ []
@@ -65,17 +68,20 @@ begins : (before : Bool) (info : ℕ) (longs : List ℕ) (rest : List Bool) → 
 unfolding coded symbol_cells word_cells
 begins before info longs rest = refl
 
-names : (track : TrackId) (sector : ℕ) (before : Bool) (longs : List ℕ) (rest : List Bool) → IsAmigaTrack track → IsSectorNumber 0 11 sector
-    → NamesSector track (frame_cells before (info_of track sector) longs rest) sector
+names : (recording : AmigaMfm) (track : TrackId) (sector : ℕ) (before : Bool) (longs : List ℕ) (rest : List Bool) → IsAmigaTrack track
+    → IsSectorNumber 0 (disk_of recording).sectors sector
+    → NamesSector track (frame_cells before (info_of (disk_of recording) track sector) longs rest) sector
 unfolding half_bytes
-names track sector before longs rest known number =
-    let info = info_of track sector in
+names recording track sector before longs rest known number =
+    let info = info_of (disk_of recording) track sector in
+    let few = (sound recording).few in
     let check = check_of_header info in
     let cells = frame_cells before info longs rest in
     let named = halves (info ∷ []) ++ halves label in
     let content = halves_symbols (content_halves longs) ++ [] in
     let last = halves_symbols (halves (check ∷ [])) ++ content in
-    let is = four-bytes 0xFF (track_number track) sector (11 - sector) (lit< tt) (omega (arith, known.cylinder, known.head)) (omega (arith, number.most)) (omega arith) in
+    let is = four-bytes 0xFF (track_number track) sector ((disk_of recording).sectors - sector) (lit< tt) (omega (arith, known.cylinder, known.head))
+    (omega (arith, number.most, few)) (omega (arith, few)) in
     record {
       info = ap (λ (long : ℕ). take 3 (to_be_bytes w32 long))
           (long-reads cells 32 info is.0 (halves-after before marks (halves (info ∷ [])) (halves_symbols (halves label) ++ last) rest))
@@ -107,16 +113,18 @@ holds before info bytes rest fit whole =
     }
 
 -- the rows of a frame are read back
-pub frame_stands : (track : TrackId) (sector : ℕ) (bytes : List ℕ) (before : Bool) (rest : List Bool) → IsAmigaTrack track → IsSectorNumber 0 11 sector
-    → AreBytes bytes → length bytes ≡ 512
-    → FrameStands 0x44894489 32 480 480 (NamesSector track) IsDataPlace Hold (rows_cells true (row_cells track) before sector bytes rows.frame ++ rest) sector bytes
-frame_stands track sector bytes before rest known number fit whole =
+pub frame_stands : (recording : AmigaMfm) (track : TrackId) (sector : ℕ) (bytes : List ℕ) (before : Bool) (rest : List Bool) → IsAmigaTrack track
+    → IsSectorNumber 0 (disk_of recording).sectors sector → AreBytes bytes → length bytes ≡ 512
+    → FrameStands 0x44894489 32 480 480 (NamesSector track) IsDataPlace Hold
+    (rows_cells true (row_cells (disk_of recording) track) before sector bytes rows.frame ++ rest) sector bytes
+frame_stands recording track sector bytes before rest known number fit whole =
+    let disk = disk_of recording in
     subst (λ (cells : List Bool). FrameStands 0x44894489 32 480 480 (NamesSector track) IsDataPlace Hold cells sector bytes)
-    (sym (ap (λ (cells : List Bool). cells ++ rest) (rows-coded (row_symbols track) before sector bytes rows.frame)))
+    (sym (ap (λ (cells : List Bool). cells ++ rest) (rows-coded (row_symbols disk track) before sector bytes rows.frame)))
     (record {
-      begins = begins before (info_of track sector) (longs_of bytes) rest;
-      named = names track sector before (longs_of bytes) rest known number;
+      begins = begins before (info_of disk track sector) (longs_of bytes) rest;
+      named = names recording track sector before (longs_of bytes) rest known number;
       opens = refl;
       first = λ place above below. absurd (omega arith);
-      held = holds before (info_of track sector) bytes rest fit whole;
+      held = holds before (info_of disk track sector) bytes rest fit whole;
     })

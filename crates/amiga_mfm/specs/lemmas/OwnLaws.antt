@@ -15,8 +15,8 @@ use Rattle.amiga_mfm.specs.lemmas.LongLaws.{length-raw, longs-read, raw-append, 
 use Rattle.amiga_mfm.specs.Longs.{long_at, long_of_halves, longs_at, raw_longs, without_clocks}
 use Rattle.amiga_mfm.specs.lemmas.Masks.{masked-xor}
 use Rattle.amiga_mfm.specs.Sectors.{Hold, IsDataPlace, Names}
-use Rattle.frame_law.specs.declared.header_name.HeaderName.{HeaderName}
-use Rattle.frame_law.specs.declared.header_name.HeaderName.TheVariants.{Address, TrackSector}
+use Rattle.flux_base.specs.declared.header_name.HeaderName.{HeaderName}
+use Rattle.flux_base.specs.declared.header_name.HeaderName.TheVariants.{Address, TrackSector, TrackSectorSide}
 
 -- longs are the same in all cells that agree
 module _ (total : ℕ) (cells others : List Bool) (same : AgreeTo total cells others) where
@@ -42,6 +42,7 @@ module _ (total : ℕ) (cells others : List Bool) (same : AgreeTo total cells ot
 
 named : (cells others : List Bool) (n : HeaderName) → AgreeTo 480 cells others → Names cells n → Names others n
 named cells others (Address cylinder head sector size) same names = absurd names
+named cells others (TrackSectorSide number sector side format) same names = absurd names
 named cells others (TrackSector track s) same names = record {
   info = ap (λ (info : ℕ). take 3 (to_be_bytes w32 info)) (sym (agree-long 480 cells others same 32 32 (lit≤ tt) (lit≤ tt))) ∙ names.info;
   check = sym (agree-long 480 cells others same 352 32 (lit≤ tt) (lit≤ tt)) ∙ names.check ∙ ap data_xor (agree-raw 480 cells others same 32 10 (lit≤ tt));
@@ -50,7 +51,9 @@ named cells others (TrackSector track s) same names = record {
 -- the info stands before the last seven cells
 named_early : (cells others : List Bool) (n m : HeaderName) → AgreeTo 473 cells others → Names cells n → Names others m → n ≡ m
 named_early cells others (Address cylinder head sector size) m same first second = absurd first
+named_early cells others (TrackSectorSide number sector side format) m same first second = absurd first
 named_early cells others (TrackSector track s) (Address cylinder head sector size) same first second = absurd second
+named_early cells others (TrackSector track s) (TrackSectorSide number sector side format) same first second = absurd second
 named_early cells others (TrackSector track s) (TrackSector other t) same first second =
     let both : 0xFF ∷ track ∷ s ∷ [] ≡ 0xFF ∷ other ∷ t ∷ [] =
     sym first.info ∙ ap (λ (info : ℕ). take 3 (to_be_bytes w32 info)) (agree-long 473 cells others same 32 32 (lit≤ tt) (lit≤ tt)) ∙ second.info in

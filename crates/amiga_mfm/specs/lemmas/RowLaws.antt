@@ -1,24 +1,24 @@
--- The table of a track: how many cells its rows have, and its sums. And what cells name and hold is one thing.
+-- The table of a track: how many cells its rows have. And what cells name and hold is one thing.
 use Rattle.std.specs.Prelude.{◌≡◌, ℕ, ◌+◌, ◌*◌, ◌/◌, Bool, List, [], ◌∷◌, length, map, refl}
 use Rattle.std.specs.Int.{to_be_bytes, w32}
 use Rattle.std.specs.List.{flat_map}
-use Rattle.std.proofs.Common.{ap, sym, ◌∙◌, arith, length-append, lit≤}
+use Rattle.std.proofs.Common.{ap, sym, subst, ◌∙◌, arith, length-append, lit≤}
 use Rattle.std.proofs.lemmas.List.{length-map, length-replicate}
 use Rattle.std.proofs.lemmas.Simd.{length-zip2}
 use Rattle.flux_base.specs.declared.track.TrackId.{TrackId}
-use Rattle.track_rings.specs.Rows.{frame_size, ring_size, total}
 use Rattle.frame_law.specs.Frames.{AreSizes}
 use Rattle.mfm_coding.specs.declared.symbol.Symbol.TheVariants.{Data}
 use Rattle.amiga_mfm.specs.declared.half.Half.TheVariants.{Odd, Even}
+use Rattle.amiga_mfm.specs.declared.layout.Disk.{Disk}
 use Rattle.amiga_mfm.specs.declared.layout.Row.{Row}
-use Rattle.amiga_mfm.specs.declared.layout.Row.TheVariants.{Run, Header, Content}
-use Rattle.amiga_mfm.specs.Layout.{content_halves, halves_symbols, header_halves, info_of, row_size, row_symbols, rows}
+use Rattle.amiga_mfm.specs.declared.layout.Row.TheVariants.{Run, Header, Content, TrackGap}
+use Rattle.amiga_mfm.specs.Layout.{content_halves, halves_symbols, header_halves, info_of, row_size, row_symbols}
 use Rattle.amiga_mfm.specs.lemmas.LongLaws.{length-raw}
 use Rattle.amiga_mfm.specs.Longs.{half_bytes, half_of, halves, long_of_halves, longs_at, longs_of, raw_longs}
 use Rattle.amiga_mfm.specs.Sectors.{Hold, Names, NamesSector, track_number}
-use Rattle.frame_law.specs.declared.header_name.HeaderName.{HeaderName}
-use Rattle.frame_law.specs.declared.header_name.HeaderName.TheVariants.{Address, TrackSector}
-use Rattle.frame_law.specs.lemmas.OwnFrames.{NamesSectors}
+use Rattle.flux_base.specs.declared.header_name.HeaderName.{HeaderName}
+use Rattle.flux_base.specs.declared.header_name.HeaderName.TheVariants.{Address, TrackSector, TrackSectorSide}
+use Rattle.frame_law.specs.Others.{NamesSectors}
 
 pub length-halves : (longs : List ℕ) → length (halves longs) ≡ 2 * length longs
 length-halves longs =
@@ -41,10 +41,12 @@ length-longs_of (a ∷ b ∷ []) = refl
 length-longs_of (a ∷ b ∷ c ∷ []) = refl
 length-longs_of (a ∷ b ∷ c ∷ d ∷ bytes) = let e = length-longs_of bytes in omega (arith, e)
 
-pub symbols_sized : (track : TrackId) (sector : ℕ) (bytes : List ℕ) (row : Row) → 16 * length (row_symbols track sector bytes row) ≡ row_size (length bytes) row
-symbols_sized track sector bytes (Run count symbol) = ap (λ (n : ℕ). 16 * n) (length-replicate count symbol)
-symbols_sized track sector bytes Header = ap (λ (n : ℕ). 16 * n) (length-halves_symbols (header_halves (info_of track sector)))
-symbols_sized track sector bytes Content =
+pub symbols_sized : (disk : Disk) (track : TrackId) (sector : ℕ) (bytes : List ℕ) (row : Row)
+    → 16 * length (row_symbols disk track sector bytes row) ≡ row_size disk (length bytes) row
+symbols_sized disk track sector bytes (Run count symbol) = ap (λ (n : ℕ). 16 * n) (length-replicate count symbol)
+symbols_sized disk track sector bytes Header = ap (λ (n : ℕ). 16 * n) (length-halves_symbols (header_halves (info_of disk track sector)))
+symbols_sized disk track sector bytes TrackGap = ap (λ (n : ℕ). 16 * n) (length-replicate disk.track_gap (Data 0x00))
+symbols_sized disk track sector bytes Content =
     let longs = longs_of bytes in
     let e = length-halves_symbols (content_halves longs) in
     omega (arith, e, length-halves longs, length-longs_of bytes)
@@ -53,23 +55,20 @@ symbols_sized track sector bytes Content =
 pub sizes : AreSizes 2 4 32 480 2
 sizes = record { some_cells = lit≤ tt; word = lit≤ tt; apart = lit≤ tt; order = lit≤ tt; near = lit≤ tt; header = lit≤ tt; last = lit≤ tt }
 
--- the rows of a frame, and those of a track
-pub sums : (frame_size row_size 512 rows ≡ 8672) × (ring_size row_size 11 512 rows ≡ 100000)
-unfolding total
-sums = (refl, refl)
-
 pub one_name : (cells : List Bool) (n m : HeaderName) → Names cells n → Names cells m → n ≡ m
 one_name cells (TrackSector track s) (TrackSector other t) first second =
     let same : 0xFF ∷ track ∷ s ∷ [] ≡ 0xFF ∷ other ∷ t ∷ [] = sym first.info ∙ second.info in
     cc
 one_name cells (TrackSector track s) (Address cylinder head sector size) first second = absurd second
+one_name cells (TrackSector track s) (TrackSectorSide number sector side format) first second = absurd second
 one_name cells (Address cylinder head sector size) m first second = absurd first
+one_name cells (TrackSectorSide number sector side format) m first second = absurd first
 
-pub named_sector : (track : TrackId) → NamesSectors Names (λ s. TrackSector (track_number track) s) (NamesSector track)
+pub named_sector : (track : TrackId) → NamesSectors Names (λ name s. name ≡ TrackSector (track_number track) s) (NamesSector track)
 named_sector track = record {
-  has_name = λ cells s named. named;
-  is_named = λ cells s named. named;
-  differ = λ s t same. one_sector (track_number track) s t same;
+  has_name = λ cells s named. (TrackSector (track_number track) s, named, refl);
+  is_named = λ cells name s named same. subst (Names cells) same named;
+  one_sector = λ name s t first second. one_sector (track_number track) s t (sym first ∙ second);
 }
   where
     one_sector : (number s t : ℕ) → TrackSector number s ≡ TrackSector number t → s ≡ t

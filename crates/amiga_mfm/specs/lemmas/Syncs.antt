@@ -1,5 +1,5 @@
 -- Where the two marks of a header stand in a ring: only where a sector's header begins.
-use Rattle.std.specs.Prelude.{◌≡◌, ℕ, ◌+◌, ◌-◌, ◌<◌, Bool, true, List, [], ◌∷◌, ◌++◌, length, drop, replicate, Option, refl}
+use Rattle.std.specs.Prelude.{◌≡◌, ℕ, zero, suc, ◌+◌, ◌-◌, ◌<◌, ◌≤◌, Bool, true, false, List, [], ◌∷◌, ◌++◌, length, drop, replicate, Option, refl}
 use Rattle.std.specs.List.{flat_map}
 use Rattle.std.proofs.Common.{ap, sym, subst, ◌∙◌, arith, inl, inr}
 use Rattle.std.proofs.lemmas.Bool.{cases_lt}
@@ -17,7 +17,11 @@ use Rattle.mfm_coding.specs.declared.symbol.Symbol.TheVariants.{Data, SyncMark}
 use Rattle.mfm_coding.specs.Coding.{bytes_as_data, coded, symbol_cells}
 use Rattle.mfm_coding.specs.lemmas.CodingLaws.{coded-append, last_bit, length-coded}
 use Rattle.mfm_coding.specs.lemmas.MarkPlaces.{FollowsBit, QuietSymbols, SyncSymbols, mark_front, no-symbols, quiet-bytes, quiet-run, quiet-symbols, symbols-skip, symbols-then}
-use Rattle.mfm_coding.specs.lemmas.SymbolRows.{syncs-in_symbols}
+use Rattle.mfm_coding.specs.lemmas.SymbolRows.{syncs-in_symbols, track_symbols}
+use Rattle.amiga_mfm.specs.declared.layout.Disk.{Disk}
+use Rattle.amiga_mfm.specs.declared.recording.AmigaMfm.{AmigaMfm}
+use Rattle.amiga_mfm.specs.Disks.{disk_of}
+use Rattle.amiga_mfm.specs.lemmas.DiskLaws.{last_zero, sound}
 use Rattle.amiga_mfm.specs.lemmas.FrameLaws.{after_marks, marks}
 use Rattle.amiga_mfm.specs.Layout.{content_halves, header_halves, info_of, ring_of, row_size, row_symbols, rows}
 use Rattle.amiga_mfm.specs.Longs.{half_bytes, longs_of}
@@ -113,21 +117,29 @@ sector_part info longs =
     let at = frame_part info longs before rest follows in
     (λ place within test. (let e = at.0 place within test in omega (arith, e)), at.1))
 
-lead_out_quiet : QuietSymbols TwoMarks (replicate 133 (Data 0x00) ++ (replicate 133 (Data 0x00) ++ []))
-lead_out_quiet =
-    quiet-symbols TwoMarks (replicate 133 (Data 0x00)) (replicate 133 (Data 0x00) ++ []) (quiet-run sync_after 133 0x00)
-    (quiet-symbols TwoMarks (replicate 133 (Data 0x00)) [] (quiet-run sync_after 133 0x00) (no-symbols TwoMarks))
+gap_quiet : (count : ℕ) → QuietSymbols TwoMarks (replicate count (Data 0x00) ++ [])
+gap_quiet count = quiet-symbols TwoMarks (replicate count (Data 0x00)) [] (quiet-run sync_after count 0x00) (no-symbols TwoMarks)
+
+-- a track begins with a byte
+track_begins : (disk : Disk) (track : TrackId) (bytes : List ℕ) (sectors : ℕ) → 1 ≤ sectors
+    → FollowsBit false (coded false (track_symbols (row_symbols disk track) 0 sectors 512 rows bytes))
+unfolding coded
+track_begins disk track bytes zero some = absurd (omega arith)
+track_begins disk track bytes (suc sectors) some = (Data 0x00, _, refl)
 
 -- so in the ring they begin where headers do, after the zero with which the first begins
-pub own_syncs : (track : TrackId) → HasOwnSyncs SYNC 32 480 0 11 Names (place_of row_size 0 512 rows) (AreSectors 11 512) (ring_of track)
-unfolding total coded
-own_syncs track = record {
-  lead = 1;
-  rest = sync_rest;
-  short = omega (arith, length-sync_rest);
-  leads = λ cells s stands named. leads cells stands;
-  only = λ bytes given.
-      syncs-in_symbols (row_symbols track) 0 11 512 rows bytes row_size (symbols_sized track) given.whole TwoMarks 1
-      (λ s number. sector_part (info_of track s) (longs_of (bytes_of 0 512 bytes s)))
-      (no-symbols TwoMarks) lead_out_quiet (λ before. refl) (Data 0x00, _, refl);
-}
+pub own_syncs : (recording : AmigaMfm) (track : TrackId) → let disk = disk_of recording in
+    HasOwnSyncs SYNC 32 480 0 disk.sectors Names (place_of (row_size disk) 0 512 rows) (AreSectors disk.sectors 512) (ring_of disk track)
+unfolding total
+own_syncs recording track =
+    let disk = disk_of recording in record {
+      lead = 1;
+      rest = sync_rest;
+      short = omega (arith, length-sync_rest);
+      leads = λ cells s stands named. leads cells stands;
+      only = λ bytes given.
+          syncs-in_symbols (row_symbols disk track) 0 disk.sectors 512 rows bytes (row_size disk) (symbols_sized disk track) given.whole TwoMarks 1
+          (λ s number. sector_part (info_of disk track s) (longs_of (bytes_of 0 512 bytes s)))
+          (no-symbols TwoMarks) (gap_quiet disk.track_gap) (last_zero recording track)
+          (track_begins disk track bytes disk.sectors (sound recording).some);
+    }

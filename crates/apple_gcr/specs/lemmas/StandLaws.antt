@@ -1,7 +1,7 @@
 -- What cells name and hold is one thing, and is told by their own cells and by all of these but the last seven; and the numbers of
 -- the recording.
 use Rattle.std.specs.Prelude.{◌≡◌, ℕ, suc, ◌+◌, ◌-◌, ◌*◌, ◌%◌, ◌<◌, ◌≤◌, Bool, List, bit_and, bit_or, refl}
-use Rattle.std.proofs.Common.{ap, sym, ◌∙◌, arith, lit<, lit≤}
+use Rattle.std.proofs.Common.{ap, sym, subst, ◌∙◌, arith, lit<, lit≤}
 use Rattle.flux_base.specs.declared.track.TrackId.{TrackId}
 use Rattle.frame_law.specs.Frames.{AreSizes, IsWithinReach}
 use Rattle.track_rings.specs.Rows.{frame_size, ring_size, total}
@@ -14,9 +14,10 @@ use Rattle.apple_gcr.specs.Sectors.{Hold, IsAddress, IsAddressOf, Names, NamesSe
 use Rattle.apple_gcr.specs.SixAndTwo.{AreCoded}
 use Rattle.apple_gcr.specs.lemmas.ValueLaws.{one_carried, one_list}
 use Rattle.track_rings.specs.lemmas.Fronts.{AgreeTo, agree-stands}
-use Rattle.frame_law.specs.lemmas.OwnFrames.{NamesSectors, TellsEarly, TellsEnds}
-use Rattle.frame_law.specs.declared.header_name.HeaderName.{HeaderName}
-use Rattle.frame_law.specs.declared.header_name.HeaderName.TheVariants.{Address, TrackSector}
+use Rattle.frame_law.specs.lemmas.OwnFrames.{TellsEarly, TellsEnds}
+use Rattle.frame_law.specs.Others.{NamesSectors}
+use Rattle.flux_base.specs.declared.header_name.HeaderName.{HeaderName}
+use Rattle.flux_base.specs.declared.header_name.HeaderName.TheVariants.{Address, TrackSector, TrackSectorSide}
 use Rattle.apple_nibbles.specs.Marks.{IsSync}
 use Rattle.apple_nibbles.specs.Nibbles.{disk_byte}
 use Rattle.apple_nibbles.specs.lemmas.FieldBytes.{same_byte}
@@ -53,15 +54,17 @@ one_pair a b c d first second = cc
 
 pub one_name : (passed : ℕ) (cells : List Bool) (n m : HeaderName) → Names passed cells n → Names passed cells m → n ≡ m
 one_name passed cells (Address cylinder head sector size) m first second = absurd first
+one_name passed cells (TrackSectorSide number sector side format) m first second = absurd first
 one_name passed cells (TrackSector track s) (Address cylinder head sector size) first second = absurd second
+one_name passed cells (TrackSector track s) (TrackSectorSide number sector side format) first second = absurd second
 one_name passed cells (TrackSector track s) (TrackSector other t) first second =
     one_pair track other s t (one_byte _ _ track other first.has_track second.has_track) (one_byte _ _ s t first.has_sector second.has_sector)
 
-pub named_sector : (passed : ℕ) (track : TrackId) → NamesSectors (Names passed) (λ s. TrackSector track.cylinder s) (NamesSector passed track)
+pub named_sector : (passed : ℕ) (track : TrackId) → NamesSectors (Names passed) (λ name s. name ≡ TrackSector track.cylinder s) (NamesSector passed track)
 named_sector passed track = record {
-  has_name = λ cells s named. named;
-  is_named = λ cells s named. named;
-  differ = λ s t same. one_sector track.cylinder s t same;
+  has_name = λ cells s named. (TrackSector track.cylinder s, named, refl);
+  is_named = λ cells name s named same. subst (Names passed cells) same named;
+  one_sector = λ name s t first second. one_sector track.cylinder s t (sym first ∙ second);
 }
   where
     one_sector : (number s t : ℕ) → TrackSector number s ≡ TrackSector number t → s ≡ t
@@ -93,11 +96,13 @@ same_address track read other s same address = record {
 pub same_named : (read other : ℕ → ℕ) (name : HeaderName) → ((k : ℕ) → k < 8 → other k ≡ read k) → IsAddressOf read name → IsAddressOf other name
 same_named read other (TrackSector track s) same address = same_address track read other s same address
 same_named read other (Address cylinder head sector size) same address = absurd address
+same_named read other (TrackSectorSide number sector side format) same address = absurd address
 
 -- the numbers of a name
 pub address_numbers : (read : ℕ → ℕ) (name : HeaderName) → IsAddressOf read name → (track sector : ℕ) × IsAddress track read sector
 address_numbers read (TrackSector track sector) address = (track, sector, address)
 address_numbers read (Address cylinder head sector size) address = absurd address
+address_numbers read (TrackSectorSide number sector side format) address = absurd address
 
 -- and values of such
 pub same_coded : (read other : ℕ → ℕ) (values : List ℕ) → ((k : ℕ) → k < 343 → other k ≡ read k) → AreCoded read values → AreCoded other values
@@ -150,6 +155,7 @@ module _ (passed : ℕ) (few : passed ≤ 7) where
   named : (cells others : List Bool) (n : HeaderName) → AgreeTo (header_end passed cells) cells others → Names passed cells n
       → Names passed others n
   named cells others (Address cylinder head sector size) same names = absurd names
+  named cells others (TrackSectorSide number sector side format) same names = absurd names
   named cells others (TrackSector track s) same names =
       same_address track (byte_read passed cells 24) (byte_read passed others 24) s
       (λ k below. header_bytes (header_end passed cells) cells others same 8 k (omega arith) below) names
@@ -158,7 +164,9 @@ module _ (passed : ℕ) (few : passed ≤ 7) where
   named_early : (cells others : List Bool) (n m : HeaderName) → AgreeTo (header_end passed cells - 7) cells others
       → Names passed cells n → Names passed others m → n ≡ m
   named_early cells others (Address cylinder head sector size) m same first second = absurd first
+  named_early cells others (TrackSectorSide number sector side format) m same first second = absurd first
   named_early cells others (TrackSector track s) (Address cylinder head sector size) same first second = absurd second
+  named_early cells others (TrackSector track s) (TrackSectorSide number sector side format) same first second = absurd second
   named_early cells others (TrackSector track s) (TrackSector number t) same first second =
       let total = header_end passed cells - 7 in
       let more = end-more passed cells 24 6 2 in

@@ -76,7 +76,7 @@ address-mod id1 id2 track sector known low =
     let first = bit_xor 0 sector in
     let number = track_number track in
     let both = bit_xor first number in
-    let both_low : both < 256 = xor_of_8 first number (xor_of_8 0 sector (lit< tt) low) (omega (arith, known.cylinder)) in
+    let both_low : both < 256 = xor_of_8 first number (xor_of_8 0 sector (lit< tt) low) (omega (arith, known.cylinder, known.head)) in
     let with_second : bit_xor both id2 % 256 ≡ bit_xor both (id2 % 256) =
     xor_mod both id2 8 ∙ ap (λ (n : ℕ). bit_xor n (id2 % 256)) (mod-eq_of_lt both_low) in
     xor_mod (bit_xor both id2) id1 8 ∙ ap (λ (n : ℕ). bit_xor n (id1 % 256)) with_second
@@ -108,7 +108,7 @@ names-sector : (id1 id2 : ℕ) (track : TrackId) (sector : ℕ) (rest : List Boo
 unfolding header_cells AreBytes
 names-sector id1 id2 track sector rest known low first second =
     let bytes = header_bytes id1 id2 track sector in
-    let number : track_number track < 256 = omega (arith, known.cylinder) in
+    let number : track_number track < 256 = omega (arith, known.cylinder, known.head) in
     let address : AreBytes (address_of id1 id2 track sector) = (low, (number, (second, (first, tt)))) in
     let fit : AreBytes bytes = (lit< tt, (xor-lt (address_of id1 id2 track sector) 0 (lit< tt) address, address)) in record {
       id1 = id1;

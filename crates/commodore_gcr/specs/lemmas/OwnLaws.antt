@@ -1,17 +1,18 @@
 -- The recording's numbers; what cells name and hold is one thing, and is told by their own cells, and by all of these but the last
 -- seven.
-use Rattle.std.specs.Prelude.{◌≡◌, ℕ, ◌+◌, ◌-◌, Bool, List}
-use Rattle.std.proofs.Common.{sym, ◌∙◌, arith, lit<, lit≤}
+use Rattle.std.specs.Prelude.{◌≡◌, ℕ, ◌+◌, ◌-◌, Bool, List, refl}
+use Rattle.std.proofs.Common.{sym, subst, ◌∙◌, arith, lit<, lit≤}
 use Rattle.flux_base.specs.declared.track.TrackId.{TrackId}
 use Rattle.check_values.specs.Sums.{xor}
 use Rattle.track_rings.specs.lemmas.Fronts.{AgreeTo, agree-stands}
 use Rattle.frame_law.specs.Frames.{AreSizes, IsWithinReach}
-use Rattle.frame_law.specs.lemmas.OwnFrames.{NamesSectors, TellsEarly}
+use Rattle.frame_law.specs.lemmas.OwnFrames.{TellsEarly}
+use Rattle.frame_law.specs.Others.{NamesSectors}
 use Rattle.commodore_gcr.specs.lemmas.CodingLaws.{ByteAt-agree, BytesAt-agree, one_byte_at, one_list_at}
 use Rattle.commodore_gcr.specs.Sectors.{Hold, IsSync, Names, NamesSector, numbered_bytes}
 use Rattle.commodore_gcr.specs.Zones.{track_number}
-use Rattle.frame_law.specs.declared.header_name.HeaderName.{HeaderName}
-use Rattle.frame_law.specs.declared.header_name.HeaderName.TheVariants.{Address, TrackSector}
+use Rattle.flux_base.specs.declared.header_name.HeaderName.{HeaderName}
+use Rattle.flux_base.specs.declared.header_name.HeaderName.TheVariants.{Address, TrackSector, TrackSectorSide}
 
 pub sizes : AreSizes 1 3 11 70 1
 sizes = record {
@@ -33,16 +34,18 @@ one_pair a b c d first second = cc
 
 pub one_name : (cells : List Bool) (n m : HeaderName) → Names cells n → Names cells m → n ≡ m
 one_name cells (Address cylinder head sector size) m first second = absurd first
+one_name cells (TrackSectorSide number sector side format) m first second = absurd first
 one_name cells (TrackSector track s) (Address cylinder head sector size) first second = absurd second
+one_name cells (TrackSector track s) (TrackSectorSide number sector side format) first second = absurd second
 one_name cells (TrackSector track s) (TrackSector other t) first second =
     one_pair track other s t (one_byte_at cells 40 track other (first.bytes 3 (lit< tt)) (second.bytes 3 (lit< tt)))
     (one_byte_at cells 30 s t (first.bytes 2 (lit< tt)) (second.bytes 2 (lit< tt)))
 
-pub named_sector : (track : TrackId) → NamesSectors Names (λ s. TrackSector (track_number track) s) (NamesSector track)
+pub named_sector : (track : TrackId) → NamesSectors Names (λ name s. name ≡ TrackSector (track_number track) s) (NamesSector track)
 named_sector track = record {
-  has_name = λ cells s named. named;
-  is_named = λ cells s named. named;
-  differ = λ s t same. one_sector (track_number track) s t same;
+  has_name = λ cells s named. (TrackSector (track_number track) s, named, refl);
+  is_named = λ cells name s named same. subst (Names cells) same named;
+  one_sector = λ name s t first second. one_sector (track_number track) s t (sym first ∙ second);
 }
   where
     one_sector : (number s t : ℕ) → TrackSector number s ≡ TrackSector number t → s ≡ t
@@ -50,6 +53,7 @@ named_sector track = record {
 
 named : (cells others : List Bool) (n : HeaderName) → AgreeTo 70 cells others → Names cells n → Names others n
 named cells others (Address cylinder head sector size) same names = absurd names
+named cells others (TrackSectorSide number sector side format) same names = absurd names
 named cells others (TrackSector track s) same names = record {
   id1 = names.id1;
   id2 = names.id2;
@@ -58,7 +62,9 @@ named cells others (TrackSector track s) same names = record {
 
 named_early : (cells others : List Bool) (n m : HeaderName) → AgreeTo 63 cells others → Names cells n → Names others m → n ≡ m
 named_early cells others (Address cylinder head sector size) m same first second = absurd first
+named_early cells others (TrackSectorSide number sector side format) m same first second = absurd first
 named_early cells others (TrackSector track s) (Address cylinder head sector size) same first second = absurd second
+named_early cells others (TrackSector track s) (TrackSectorSide number sector side format) same first second = absurd second
 named_early cells others (TrackSector track s) (TrackSector other t) same first second =
     one_pair track other s t
     (one_byte_at others 40 track other (ByteAt-agree 63 cells others 40 track same (lit≤ tt) (first.bytes 3 (lit< tt))) (second.bytes 3 (lit< tt)))

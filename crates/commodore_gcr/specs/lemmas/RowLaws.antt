@@ -18,7 +18,7 @@ use Rattle.commodore_gcr.specs.declared.recording.CommodoreGcr.{CommodoreGcr}
 use Rattle.commodore_gcr.specs.Sectors.{DATA_FILL, data_bytes, header_block}
 use Rattle.commodore_gcr.specs.Coding.{code_of, gcr, gcr_bytes}
 use Rattle.commodore_gcr.specs.lemmas.CodingLaws.{length-gcr_bytes}
-use Rattle.commodore_gcr.specs.Layout.{gap_cells, row_cells, row_size}
+use Rattle.commodore_gcr.specs.Layout.{gap_bytes, gap_cells, row_cells, row_size}
 use Rattle.commodore_gcr.specs.Zones.{zone_of}
 
 pub length-gap_cells : (count : ℕ) → length (gap_cells count) ≡ 8 * count
@@ -35,7 +35,7 @@ row_length disk track before sector bytes HeaderBlock = length-gcr_bytes (header
 row_length disk track before sector bytes HeaderGap = length-gap_cells 9
 row_length disk track before sector bytes DataBytes = length-gcr_bytes (data_bytes bytes) ∙ ap (λ n. 10 * n) (length-data_bytes bytes)
 row_length disk track before sector bytes DataFill = length-gcr_bytes DATA_FILL
-row_length disk track before sector bytes ZoneGap = length-gap_cells (zone_of track).gap
+row_length disk track before sector bytes ZoneGap = length-gap_cells (gap_bytes (zone_of track))
 
 -- after a one, and after one zero: no three zeros come in a row, and not two stand last
 follows : List Bool → Bool
@@ -93,4 +93,4 @@ row_follows disk track sector bytes HeaderBlock = bytes-follow (header_block dis
 row_follows disk track sector bytes HeaderGap = gap-follows 9
 row_follows disk track sector bytes DataBytes = bytes-follow (data_bytes bytes)
 row_follows disk track sector bytes DataFill = bytes-follow DATA_FILL
-row_follows disk track sector bytes ZoneGap = gap-follows (zone_of track).gap
+row_follows disk track sector bytes ZoneGap = gap-follows (gap_bytes (zone_of track))

@@ -21,10 +21,10 @@ use Rattle.track_rings.specs.lemmas.Owning.{Leads}
 use Rattle.commodore_gcr.specs.declared.layout.Row.TheVariants.{HeaderBlock, HeaderGap}
 use Rattle.commodore_gcr.specs.declared.recording.CommodoreGcr.{CommodoreGcr}
 use Rattle.commodore_gcr.specs.Coding.{code_of, gcr, gcr_bytes}
-use Rattle.commodore_gcr.specs.Layout.{gap_cells, ring_of, row_cells, row_size, rows}
+use Rattle.commodore_gcr.specs.Layout.{gap_bytes, gap_cells, ring_of, row_cells, row_size, rows}
 use Rattle.commodore_gcr.specs.lemmas.RowLaws.{nibble-lt, row_length}
-use Rattle.frame_law.specs.declared.header_name.HeaderName.{HeaderName}
-use Rattle.frame_law.specs.declared.header_name.HeaderName.TheVariants.{Address, TrackSector}
+use Rattle.flux_base.specs.declared.header_name.HeaderName.{HeaderName}
+use Rattle.flux_base.specs.declared.header_name.HeaderName.TheVariants.{Address, TrackSector, TrackSectorSide}
 use Rattle.commodore_gcr.specs.Sectors.{DATA_BYTE, DATA_FILL, HEADER_BYTE, Names, data_bytes, header_block}
 use Rattle.commodore_gcr.specs.lemmas.ZoneLaws.{counts}
 use Rattle.commodore_gcr.specs.Zones.{sectors_of, zone_of}
@@ -233,7 +233,7 @@ module _ (byte : ℕ) (begins : BeginsLow byte) where
   unfolding rows_cells coded
   sector_part lead in_header in_data disk track before s bytes =
       let Test : List Bool → Type 0 = Syncs (block_sync byte) in
-      let gap = gap_cells (zone_of track).gap in
+      let gap = gap_cells (gap_bytes (zone_of track)) in
       let last = gcr_bytes DATA_FILL ++ (gap ++ []) in
       let stored = gcr_bytes (data_bytes bytes) ++ last in
       let data_sync = replicate 10 true ++ stored in
@@ -249,7 +249,7 @@ module _ (byte : ℕ) (begins : BeginsLow byte) where
       let quiet_stored = quiet-append Test Follows Follows (Opens DATA_BYTE) (gcr_bytes (data_bytes bytes)) last
       (block_quiet DATA_BYTE (bytes ++ xor bytes ∷ []) both_begin_low.1)
       (quiet-append Test Follows Follows Follows (gcr_bytes DATA_FILL) (gap ++ []) (bytes_quiet DATA_FILL)
-      (quiet-append Test Follows Follows Follows gap [] (gap_quiet (zone_of track).gap) (quiet-none Test Follows))) in
+      (quiet-append Test Follows Follows Follows gap [] (gap_quiet (gap_bytes (zone_of track))) (quiet-none Test Follows))) in
       part-skip Test (λ place. place ≡ 30 + lead) Follows TenOnes Follows (replicate 30 true) (replicate 10 true ++ (block ++ (gap_cells 9 ++ lead_ones))) lead_quiet
       (part-append Test Header Follows (Opens HEADER_BYTE) TenOnes (replicate 10 true) (block ++ (gap_cells 9 ++ lead_ones)) (ones_part Header HEADER_BYTE header_at)
       (part-skip Test (λ place. 30 + (10 + place) ≡ 30 + lead) Follows Follows (Opens HEADER_BYTE) block (gap_cells 9 ++ lead_ones)
@@ -280,6 +280,7 @@ not_in_data same = cc
 leads : (cells : List Bool) (name : HeaderName) → Stands cells 0x7FE 11 0 → Names cells name → Leads 0 (sync_rest HEADER_BYTE) cells
 leads cells (TrackSector track sector) stands names = sync-leads HEADER_BYTE cells 0 stands (names.bytes 0 (lit< tt)).1
 leads cells (Address cylinder head sector size) stands names = absurd names
+leads cells (TrackSectorSide number sector side format) stands names = absurd names
 
 -- so in the ring a header's begins where headers do
 pub own_syncs : (disk : CommodoreGcr) (track : TrackId)

@@ -1,6 +1,5 @@
 -- The streams of an input are read one after another.
-use Rattle.std.specs.Prelude.{◌≡◌, ◌≤◌, ◌<◌, ℕ, zero, suc, ◌+◌, ◌*◌, ◌-◌, Bool, true, false, List, [], ◌++◌, length, nat_lt, Option, None, Ok}
-use Rattle.std.specs.Io.KnownBytes.{Consumes}
+use Rattle.std.specs.Prelude.{◌≡◌, ◌≤◌, ◌<◌, ℕ, zero, suc, ◌+◌, ◌*◌, ◌-◌, Bool, true, false, List, [], ◌++◌, length, nat_lt, Option, None, Ok, refl}
 use Rattle.std.proofs.Common.{ap, sym, subst, ◌∙◌, arith, inl, inr, add-one, append_assoc, length-append}
 use Rattle.std.proofs.KnownBytes.{Consumes-nil, Consumes-trans}
 use Rattle.std.proofs.lemmas.Bool.{cases_lt, lt-ltb}
@@ -10,67 +9,64 @@ use Rattle.kryo_stream.specs.Outcome.{input_of}
 use Rattle.kryo_stream.specs.Padding.{IsPadding, padding_of}
 use Rattle.kryo_stream.specs.Stream.{first_fault, stream_length}
 use Rattle.flux_engine.specs.Answers.{IsTakenBehind, ReadsStream}
-use Rattle.flux_engine.specs.Room.{RoomState, fresh}
-use Rattle.flux_engine.specs.Streams.{behind, behind_stream, stream_at}
-use Rattle.sector_images.specs.declared.format.Format.{Format}
 use Rattle.flux_engine.specs.PlanProgress.{HasCome}
+use Rattle.flux_engine.specs.Plans.{EndsInPlan}
+use Rattle.flux_engine.specs.SourceStreams.{HaveCome}
+use Rattle.flux_engine.specs.Streams.{behind, behind_stream, stream_at}
+use Rattle.flux_engine.specs.declared.plan.Plan.{Plan}
+use Rattle.flux_engine.specs.lemmas.ReadLaws.{no_reads}
+use Rattle.kryo_stream.specs.Reads.{SourceMoment}
+use Rattle.sector_images.specs.declared.format.Format.{Format}
 
-pub come_start : (format : Format) (left : Option (List ℕ)) (room : RoomState) → room ≡ fresh format → HasCome left left [] room 0
+pub come_start : (left : Option (List ℕ)) → HasCome left left [] [] false 0
 unfolding behind
-come_start format left room is = record {
+come_start left = record {
   consumed = Consumes-nil left;
   clean = λ later i below. absurd (omega (arith, below));
-  rest = λ (later : List ℕ). ap (λ (r : RoomState). r.held ++ later) (sym is);
-  held = (let e : room.held ≡ [] = ap (λ (r : RoomState). r.held) is in rw e (omega arith));
-  used = ap (λ (r : RoomState). r.used) is;
-  sound = ap (λ (r : RoomState). r.failed) is;
+  rest = λ (later : List ℕ). refl;
+  held = omega arith;
+  used = refl;
 }
 
--- what was read is not touched where the room holds the same bytes
-pub come_same : (left left' : Option (List ℕ)) (taken taken' : List ℕ) (room room' : RoomState) (m m' : ℕ) → HasCome left left' taken room m
-    → taken ≡ taken' → room'.held ≡ room.held → room'.used ≡ room.used → room'.failed ≡ room.failed → m ≡ m' → HasCome left left' taken' room' m'
-come_same left left' taken taken' room room' m m' c same held used failed number = record {
-  consumed = subst (Consumes left left') same c.consumed;
-  clean = λ (later : List ℕ) i below.
-      subst (λ (t : List ℕ). first_fault (stream_at (t ++ later) i) ≡ None) same (c.clean later i (omega (arith, below, number)));
-  rest = λ (later : List ℕ).
-      ap (λ (k : ℕ). behind (taken' ++ later) k) (sym number) ∙ ap (λ (t : List ℕ). behind (t ++ later) m) (sym same) ∙ c.rest later
-      ∙ ap (λ (h : List ℕ). h ++ later) (sym held);
-  held = subst (λ (h : List ℕ). length h ≤ 4096) (sym held) c.held;
-  used = used ∙ c.used ∙ ap (nat_lt 0) number;
-  sound = failed ∙ c.sound;
+-- at first no stream came
+pub none_came : (plan : Plan) (format : Format) (now : SourceMoment) → HaveCome plan format now now [] false []
+none_came plan format now = record {
+  taken = [];
+  come = come_start now.left;
+  are = λ later i below. absurd (omega (arith, below));
+  needed = λ x told. no_reads (EndsInPlan plan format) now;
 }
 
 nat_lt_some : (n : ℕ) → nat_lt 0 (n + 1) ≡ true
 nat_lt_some n = lt-ltb 0 (n + 1) (omega arith)
 
-module _ (left mid : Option (List ℕ)) (taken : List ℕ) (room : RoomState) (m : ℕ) (c : HasCome left mid taken room m) where
+module _ (left mid : Option (List ℕ)) (taken held : List ℕ) (used : Bool) (m : ℕ) (c : HasCome left mid taken held used m) where
   -- what the next call takes stands after what was taken before
-  behind_is : (more later : List ℕ) → behind ((taken ++ more) ++ later) m ≡ (room.held ++ more) ++ later
+  behind_is : (more later : List ℕ) → behind ((taken ++ more) ++ later) m ≡ (held ++ more) ++ later
   behind_is more later =
-      ap (λ (x : List ℕ). behind x m) (append_assoc taken more later) ∙ c.rest (more ++ later) ∙ sym (append_assoc room.held more later)
+      ap (λ (x : List ℕ). behind x m) (append_assoc taken more later) ∙ c.rest (more ++ later) ∙ sym (append_assoc held more later)
 
-  pub stream_is : (more later : List ℕ) → stream_at ((taken ++ more) ++ later) m ≡ input_of room.used ((room.held ++ more) ++ later)
+  pub stream_is : (more later : List ℕ) → stream_at ((taken ++ more) ++ later) m ≡ input_of used ((held ++ more) ++ later)
   stream_is more later =
       ap (λ (x : List ℕ). input_of (nat_lt 0 m) x) (behind_is more later)
-      ∙ ap (λ (b : Bool). input_of b ((room.held ++ more) ++ later)) (sym c.used)
+      ∙ ap (λ (b : Bool). input_of b ((held ++ more) ++ later)) (sym c.used)
 
   pub clean_before : (more later : List ℕ) (i : ℕ) → i < m → first_fault (stream_at ((taken ++ more) ++ later) i) ≡ None
   clean_before more later i below =
       subst (λ (x : List ℕ). first_fault (stream_at x i) ≡ None) (sym (append_assoc taken more later)) (c.clean (more ++ later) i below)
 
-  pub taken_behind : (more later : List ℕ) (most : ℕ) → length (room.held ++ more) ≤ most → IsTakenBehind ((taken ++ more) ++ later) later m most
+  pub taken_behind : (more later : List ℕ) (most : ℕ) → length (held ++ more) ≤ most → IsTakenBehind ((taken ++ more) ++ later) later m most
   taken_behind more later most few =
-      let size : length (behind ((taken ++ more) ++ later) m) ≡ length (room.held ++ more) + length later =
-      ap length (behind_is more later) ∙ length-append (room.held ++ more) later in
+      let size : length (behind ((taken ++ more) ++ later) m) ≡ length (held ++ more) + length later =
+      ap length (behind_is more later) ∙ length-append (held ++ more) later in
       record { whole = omega (arith, size); few = omega (arith, size, few) }
 
   -- one stream more
-  pub come_more : (left' : Option (List ℕ)) (room' : RoomState) (times' indexes' : List ℕ) (u : Unit {0})
-      → (r : ReadsStream mid left' room.used room.held room'.held times' indexes' (Ok u))
-      → length room'.held ≤ 4096 → room'.used ≡ true → room'.failed ≡ false → HasCome left left' (taken ++ r.taken) room' (m + 1)
+  pub come_more : (left' : Option (List ℕ)) (held' : List ℕ) (used' : Bool) (times' indexes' : List ℕ) (u : Unit {0})
+      → (r : ReadsStream mid left' used held held' times' indexes' (Ok u))
+      → length held' ≤ 4096 → used' ≡ true → HasCome left left' (taken ++ r.taken) held' used' (m + 1)
   unfolding behind
-  come_more left' room' times' indexes' u r held used sound = record {
+  come_more left' held' used' times' indexes' u r few is_used = record {
     consumed = Consumes-trans left mid left' taken r.taken c.consumed r.consumed;
     clean = λ (later : List ℕ) i below.
         elim (cases_lt i m) [
@@ -84,9 +80,8 @@ module _ (left mid : Option (List ℕ)) (taken : List ℕ) (room : RoomState) (m
         ap (behind ((taken ++ r.taken) ++ later)) (add-one m)
         ∙ ap behind_stream (stream_is r.taken later)
         ∙ sym (r.stream later (λ cannot. absurd cannot)).rest;
-    held = held;
-    used = used ∙ sym (nat_lt_some m);
-    sound = sound;
+    held = few;
+    used = is_used ∙ sym (nat_lt_some m);
   }
 
 -- how far several streams reach

@@ -1,5 +1,5 @@
 -- A sector with a good verdict.
-use Rattle.std.specs.Prelude.{◌≡◌, ◌<◌, ℕ, zero, suc, ◌+◌, ◌-◌, ◌*◌, Bool, true, false, not, ◌&&◌, Contains, List, [], ◌∷◌, ◌++◌, length, take, drop, flat_map, replicate, nat_eq, is_some, is_none, unwrap_or, Option, Some, None, if◌then◌else◌, refl}
+use Rattle.std.specs.Prelude.{◌≡◌, ◌<◌, ◌↔◌, ℕ, zero, suc, ◌+◌, ◌-◌, ◌*◌, Bool, true, false, not, ◌&&◌, Contains, List, [], ◌∷◌, ◌++◌, length, take, drop, flat_map, replicate, nat_eq, is_some, is_none, unwrap_or, Option, Some, None, if◌then◌else◌, refl}
 use Rattle.std.specs.List.{range_with_len}
 use Rattle.std.specs.Str.{bytes_eq}
 use Rattle.std.proofs.Common.{ap, sym, subst, ◌∙◌, arith, length-append}
@@ -9,7 +9,7 @@ use Rattle.std.proofs.Math.Seq.{drop-append_seam, take-append_seam}
 use Rattle.std.proofs.lemmas.Slice.Eq.{bytes_eq-Decides}
 use Rattle.frame_law.specs.declared.reading.Reading.{Reading as Frame}
 use Rattle.frame_law.specs.declared.reading.Reading.TheVariants.{Nothing, Bad as BadFrame, Good as GoodFrame}
-use Rattle.frame_law.specs.Laws.{ReadingsAreAll, SectorsAreTold}
+use Rattle.frame_law.specs.Laws.{ReadingsAreAll}
 use Rattle.frame_law.specs.Readings.{AreReadings}
 use Rattle.turn_merge.specs.Readings.{NotedReading, good_ones, bad_ones, bytes_of, first_other, verdict_with, verdict_of, agreed_of, verdict, agreed}
 use Rattle.turn_merge.specs.declared.clock.Clock.{Clock}
@@ -72,13 +72,19 @@ StandsAs sector cells Nothing bytes = Unit {0}
 StandsAs sector cells (BadFrame s) bytes = Unit {0}
 StandsAs sector cells (GoodFrame s) bytes = sector cells s bytes
 
-module _ (header : List Bool → ℕ → Type 0) (sector_stands : List Bool → ℕ → List ℕ → Type 0) (size : ℕ)
-    (told : SectorsAreTold header sector_stands size) (read : ReadingsAreAll header sector_stands)
-    (capture : ℕ) (clock : Clock) (times indexes : List ℕ) (cells : List Bool) (found : List Found) (all : AreReadings header sector_stands cells 0 found) where
+-- what is found as good by the strict rule is what stands
+pub strict_good : (header : List Bool → ℕ → Type 0) (sector_stands : List Bool → ℕ → List ℕ → Type 0) → ReadingsAreAll header sector_stands
+    → (cells : List Bool) (found : List Found) → AreReadings header sector_stands cells 0 found
+    → (place sector : ℕ) (bytes : List ℕ) → Contains found (place, GoodFrame sector, bytes) ↔ sector_stands (drop place cells) sector bytes
+strict_good header sector_stands read cells found all place sector bytes = ((read cells 0 found).0 all).good place sector bytes (omega arith)
+
+module _ (sector_stands : List Bool → ℕ → List ℕ → Type 0) (size : ℕ) (sized : (here : List Bool) (sector : ℕ) (bytes : List ℕ) → sector_stands here sector bytes → length bytes ≡ size)
+    (capture : ℕ) (clock : Clock) (times indexes : List ℕ) (cells : List Bool) (found : List Found)
+    (good : (place sector : ℕ) (bytes : List ℕ) → Contains found (place, GoodFrame sector, bytes) ↔ sector_stands (drop place cells) sector bytes) where
   stands_as : (place : ℕ) (frame : Frame) (bytes : List ℕ) → Contains found (place, frame, bytes) → StandsAs sector_stands (drop place cells) frame bytes
   stands_as place Nothing bytes has = tt
   stands_as place (BadFrame s) bytes has = tt
-  stands_as place (GoodFrame s) bytes has = (((read cells 0 found).0 all).good place s bytes (omega arith)).0 has
+  stands_as place (GoodFrame s) bytes has = (good place s bytes).0 has
 
   abbrev pub of_found : Found → List NotedReading
   of_found f = readings_at (place_in capture clock times indexes cells f.0) f.1 f.2
@@ -124,7 +130,7 @@ module _ (header : List Bool → ℕ → Type 0) (sector_stands : List Bool → 
         (same_bytes (good_ones (readings_in capture clock times indexes cells found) sector) first h) in
         let per_found = each-unflat of_found (λ (q : NotedReading). is_good_of sector q ≡ true → bytes_of q ≡ mine) found each in
         let at = each-at (λ (f : Found). Each (λ (q : NotedReading). is_good_of sector q ≡ true → bytes_of q ≡ mine) (of_found f)) found
-        (place, GoodFrame sector, others) per_found ((((read cells 0 found).0 all).good place sector others (omega arith)).1 here) in
+        (place, GoodFrame sector, others) per_found ((good place sector others).1 here) in
         at.0 (ap (λ (b : Bool). b && true) (eq-eqb sector sector refl))
 
   module _ (sectors : Sectors) (sizes : sectors.size ≡ size) where
@@ -143,7 +149,7 @@ module _ (header : List Bool → ℕ → Type 0) (sector_stands : List Bool → 
     bytes_size n =
         agreed_size (good_ones (readings_in capture clock times indexes cells found) n)
         (each-map (λ (r : NotedReading). Named r × (is_good_of n r ≡ true)) (λ (r : NotedReading). length (bytes_of r) ≡ size)
-        (λ r says. told.content_size (drop r.place.cell cells) n (bytes_of r) (good_holds n r says.0 says.1).0) (good_ones (readings_in capture clock times indexes cells found) n) (goods_named n))
+        (λ r says. sized (drop r.place.cell cells) n (bytes_of r) (good_holds n r says.0 says.1).0) (good_ones (readings_in capture clock times indexes cells found) n) (goods_named n))
 
     -- a sector stands at each number from 0 on
     module _ (sector_in : ℕ → ℕ) where

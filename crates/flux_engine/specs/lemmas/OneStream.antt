@@ -1,5 +1,5 @@
 -- What a disk comes to by the plan of one stream of each track: each track by its stream alone.
-use Rattle.std.specs.Prelude.{◌≡◌, ◌<◌, ℕ, ◌+◌, ◌*◌, List, [], ◌∷◌, find, get_or, is_some, length, option_and_then, option_map, true, false, Option, Some, None}
+use Rattle.std.specs.Prelude.{◌≡◌, ◌<◌, ℕ, ◌+◌, ◌*◌, List, [], ◌∷◌, find, get_or, is_some, length, option_and_then, option_map, true, false, Option, Some, None, refl}
 use Rattle.std.specs.List.{range_with_len}
 use Rattle.std.proofs.Common.{ap, sym, subst, ◌∙◌, arith, inl, append-nil}
 use Rattle.disk_recordings.specs.Members.{header_at, sector_at}
@@ -9,6 +9,7 @@ use Rattle.kryo_stream.specs.Stream.{first_fault, indexes, times}
 use Rattle.kryo_stream.specs.declared.fault.StreamFault.{StreamFault}
 use Rattle.sector_images.specs.Places.{tracks}
 use Rattle.sector_images.specs.declared.format.Format.{Format}
+use Rattle.turn_merge.specs.Others.{NotedOther}
 use Rattle.turn_merge.specs.Readings.{NotedReading}
 use Rattle.turn_merge.specs.declared.clock.Clock.TheVariants.{Following}
 use Rattle.flux_engine.specs.Answers.{IsTakenBehind}
@@ -19,7 +20,8 @@ use Rattle.flux_engine.specs.PlanProgress.{StoppedAt}
 use Rattle.flux_engine.specs.Plans.{EndsInPlan, IsPlannedPart, PartOf, PlanStop, StopsAt, decoding, joined, streams_in}
 use Rattle.flux_engine.specs.Recordings.{cells_of, track_at}
 use Rattle.flux_engine.specs.Streams.{has_fault, stream_at}
-use Rattle.flux_engine.specs.Tracks.{Found, TrackPart, readings_of}
+use Rattle.flux_engine.specs.Tracks.{Found, TrackPart, readings_of, track_notes}
+use Rattle.flux_engine.specs.lemmas.NoOthers.{strict_has_no_others}
 use Rattle.flux_engine.specs.lemmas.Finding.{find-first, find-none}
 
 -- the one stream of track number n
@@ -37,7 +39,7 @@ pub record IsOfOneStream (of : PartOf) (format : Format) (x : List ℕ) (n : ℕ
   pub found : List Found
   pub all : AreReadings (header_at format (track_at format n)) (sector_at format (track_at format n)) (cells_of format (track_at format n) (times (stream_at x n)) (indexes (stream_at x n))) 0 found
   pub is : part ≡ of format (track_at format n)
-      (readings_of (times (stream_at x n)) (indexes (stream_at x n)) (cells_of format (track_at format n) (times (stream_at x n)) (indexes (stream_at x n))) found)
+      (track_notes (readings_of (times (stream_at x n)) (indexes (stream_at x n)) (cells_of format (track_at format n) (times (stream_at x n)) (indexes (stream_at x n))) found) [] [])
 
 pub one_stream : (of : PartOf) (format : Format) (x : List ℕ) (n : ℕ) (part : TrackPart) → IsPlannedPart decoding of format (streams_in decoding x) n part
     → IsOfOneStream of format x n part
@@ -53,7 +55,10 @@ one_stream of format x n part p =
       no_fault = subst (λ (y : List ℕ). first_fault y ≡ None) here (p.no_fault 0 first);
       found = at.found;
       all = at.all;
-      is = p.is ∙ ap (of format (track_at format n)) (one_joined p.captures p.many ∙ at.are);
+      is = p.is ∙ ap (λ (rs : List NotedReading). of format (track_at format n) (track_notes rs [] p.others)) (one_joined p.captures p.many ∙ at.are)
+          ∙ ap (λ (os : List NotedOther). of format (track_at format n)
+          (track_notes (readings_of (times (stream_at x n)) (indexes (stream_at x n)) (cells_of format (track_at format n) (times (stream_at x n)) (indexes (stream_at x n))) at.found) [] os))
+          (strict_has_no_others decoding format (streams_in decoding x) n 1 p.others refl p.others_are);
     }
 
 some-fault : (x : List ℕ) (n block : ℕ) (fault : StreamFault) → first_fault (stream_at x n) ≡ Some (block, fault) → has_fault x n ≡ true

@@ -8,77 +8,21 @@ use Rattle.std.proofs.Math.Nat.{add-mod_right, mod-eq_of_lt}
 use Rattle.flux_writer.specs.Reading.{HasEarlyOne}
 use Rattle.flux_writer.specs.Written.{quarter, track_cells}
 use Rattle.track_rings.specs.Rings.{AreNeighbours, IsSpaced, cell_of}
-use Rattle.flux_engine.specs.lemmas.Chosen.{AreChosen, are_chosen}
+use Rattle.track_rings.specs.lemmas.Near.{one_near, own_cell, same_later}
 
 module _ (ring : List Bool) where
-  -- a turn later comes the same cell
-  pub same_later : (place : ℕ) → cell_of ring (place + length ring) ≡ cell_of ring place
-  same_later place = ap (λ (n : ℕ). get_or ring n false) (add-mod_right place (length ring))
-
-  -- the ring's own cells
-  pub own_cell : (place : ℕ) → place < length ring → cell_of ring place ≡ get_or ring place false
-  own_cell place within = ap (λ (n : ℕ). get_or ring n false) (mod-eq_of_lt within)
-
   no_more : (n : ℕ) → 0 + n ≡ n
   no_more n = omega arith
 
-  -- a one in the turn after the first cell
-  one_in_turn : (place : ℕ) → place < length ring → cell_of ring place ≡ true
-      → (w : ℕ) × (1 ≤ w) × (w ≤ length ring) × (cell_of ring w ≡ true)
-  one_in_turn zero within one = (length ring, omega (arith, within), omega arith, ap (cell_of ring) (sym (no_more (length ring))) ∙ same_later 0 ∙ one)
-  one_in_turn (suc place) within one = (suc place, omega arith, omega (arith, within), one)
-
-  module _ (spaced : IsSpaced 1 4 ring) (long : 20 ≤ length ring) where
-    abbrev before : List ℕ
-    before = filter (cell_of ring) (range_with_len 1 (length ring))
-
-    abbrev behind : List ℕ
-    behind = filter (cell_of ring) (range_with_len (length ring + 1) (length ring))
-
-    pub early_one : HasEarlyOne ring
-    early_one =
-        let n : ℕ = length ring in
-        let w = one_in_turn spaced.has_one.0 spaced.has_one.1 spaced.has_one.2 in
-        let a : AreChosen (cell_of ring) 1 (1 + n) before = are_chosen (cell_of ring) 1 n in
-        let b : AreChosen (cell_of ring) (n + 1) (n + 1 + n) behind = are_chosen (cell_of ring) (n + 1) n in
-        let later : cell_of ring (w.0 + n) ≡ true = same_later w.0 ∙ w.3 in
-        let some_before : 0 < length before = (a.first w.0 w.1 (omega (arith, w.2)) w.3).0 in
-        let found = b.first (w.0 + n) (omega (arith, w.1)) (omega (arith, w.2)) later in
-        let at : ℕ = length before - 1 in
-        let p : ℕ = slice_index before at in
-        let k : ℕ = slice_index behind 0 in
-        let inside : at < length before = omega (arith, some_before) in
-        let p_to : p < 1 + n = a.to at inside in
-        let k_from : n + 1 ≤ k = b.from 0 found.0 in
-        let gap : ℕ = k - p in
-        let joined : p + gap ≡ k = omega (arith, p_to, k_from) in
-        let zeros : (j : ℕ) → 0 < j → j < gap → cell_of ring (p + j) ≡ false = λ j some under.
-        elim (cell_of ring (p + j)) as (λ c. cell_of ring (p + j) ≡ c → c ≡ false) [
-          | true ↦ λ one. elim (cases_lt (p + j) (n + 1)) [
-            | inl early ↦ (let low : p + j ≤ p = a.last (p + j) (let from = a.from at inside in omega (arith, from)) (omega (arith, early)) one in
-                absurd (omega (arith, low, some)))
-            | inr late ↦ (let high : k ≤ p + j = (b.first (p + j) late (let to = b.to 0 found.0 in omega (arith, to, under, joined)) one).1 in
-                absurd (omega (arith, high, under, joined)))
-          ]
-          | false ↦ λ _. refl
-        ] refl in
-        let near : AreNeighbours ring p gap = record {
-          first = a.passes at inside;
-          next = subst (λ (m : ℕ). cell_of ring m ≡ true) (sym joined) (b.passes 0 found.0);
-          behind = omega (arith, p_to, k_from);
-          zeros = zeros;
-        } in
-        let close : gap ≤ 4 = (spaced.apart p gap near).1 in
-        let one : ℕ = k - n in
-        let back : one + n ≡ k = omega (arith, k_from) in
-        let few : one ≤ 4 = omega (arith, close, joined, p_to) in
-        let fifth : 5 ≤ quarter ring = omega (arith, long) in (
-          one,
-          omega (arith, k_from),
-          omega (arith, few, fifth),
-          sym (own_cell one (omega (arith, few, long))) ∙ sym (same_later one)
-              ∙ ap (cell_of ring) back ∙ b.passes 0 found.0,
-        )
+  pub early_one : IsSpaced 1 4 ring → 20 ≤ length ring → HasEarlyOne ring
+  early_one spaced long =
+      let near = one_near ring spaced 1 in
+      let fifth : 5 ≤ quarter ring = omega (arith, long) in (
+        near.0,
+        omega (arith, near.1),
+        omega (arith, near.2, fifth),
+        sym (own_cell ring near.0 (omega (arith, near.2, long))) ∙ near.3,
+      )
 
   -- these cells are those of the repeated ring from a place on
   abbrev Runs : List Bool → ℕ → Type 0
@@ -96,22 +40,22 @@ module _ (ring : List Bool) where
   runs_later : (cells : List Bool) (from : ℕ) → Runs cells from → Runs cells (from + length ring)
   runs_later cells from runs i within =
       let at : from + i + length ring ≡ from + length ring + i = omega arith in
-      runs i within ∙ sym (same_later (from + i)) ∙ ap (cell_of ring) at
+      runs i within ∙ sym (same_later ring (from + i)) ∙ ap (cell_of ring) at
 
   runs_at : (cells : List Bool) (from to : ℕ) → from ≡ to → Runs cells from → Runs cells to
   runs_at cells from to same runs = subst (Runs cells) same runs
 
   whole_runs : Runs ring 0
-  whole_runs i within = sym (own_cell i within) ∙ ap (cell_of ring) (sym (no_more i))
+  whole_runs i within = sym (own_cell ring i within) ∙ ap (cell_of ring) (sym (no_more i))
 
   front_runs : (q : ℕ) → q ≤ length ring → Runs (take q ring) 0
   front_runs q within i under =
       let below : i < q = omega (arith, under, length-take-le q ring within) in
-      get_or-take q ring i false below ∙ sym (own_cell i (omega (arith, below, within))) ∙ ap (cell_of ring) (sym (no_more i))
+      get_or-take q ring i false below ∙ sym (own_cell ring i (omega (arith, below, within))) ∙ ap (cell_of ring) (sym (no_more i))
 
   back_runs : (d : ℕ) → d ≤ length ring → Runs (drop d ring) d
   back_runs d within i under =
-      get_or-drop d ring i false ∙ sym (own_cell (d + i) (omega (arith, under, length-drop d ring)))
+      get_or-drop d ring i false ∙ sym (own_cell ring (d + i) (omega (arith, under, length-drop d ring)))
 
   quarter-le : quarter ring ≤ length ring
   quarter-le = omega arith

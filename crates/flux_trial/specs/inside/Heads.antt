@@ -93,15 +93,6 @@ pub record FitsRing (hole : Hole) : Type 0 where
   pub begins : hole.begin < hole.ring
   pub fits : hole.count ≤ hole.ring
 
--- the numbers of the cells that are ones, where the first cell has this number
-abbrev pub ones_from : ℕ → List Bool → List ℕ
-ones_from number [] = []
-ones_from number (cell ∷ cells) = cond cell (number ∷ ones_from (number + 1) cells) (ones_from (number + 1) cells)
-
--- those of the cells from one place to below another, where the first of these has this number
-abbrev pub ones_between : List Bool → (from to number : ℕ) → List ℕ
-ones_between cells from to number = ones_from number (take (to - from) (drop from cells))
-
 -- the time of a transition at a ring's cell, if it is seen
 abbrev pub seen_time : Hole → (cell : ℕ) → Head → List ℕ
 seen_time hole cell head = cond (in_hole hole cell) [] (time_at head ∷ [])

@@ -4,20 +4,13 @@ use Rattle.flux_writer.specs.Written.{ones_of, quarter, track_cells, track_turns
 use Rattle.flux_trial.specs.Drive.{Drive, index_time}
 use Rattle.flux_trial.specs.Times.{times_seen}
 use Rattle.flux_trial.specs.declared.head.Head.{Head}
-use Rattle.flux_trial.specs.inside.Heads.{AreBefore, IsAt, IsSound, ones_from, reach}
-
--- a ring's last quarter, and so many turns
-abbrev pub cells_after : List Bool → ℕ → List Bool
-cells_after ring zero = drop (length ring - quarter ring) ring
-cells_after ring (suc turns) = cells_after ring turns ++ ring
+use Rattle.flux_trial.specs.inside.Heads.{AreBefore, IsAt, IsSound, reach}
+use Rattle.flux_writer.specs.lemmas.FoundOnes.{ones_from}
+use Rattle.flux_writer.specs.lemmas.TrackParts.{cells_after, turn_cell}
 
 -- the numbers of the ones of these
 abbrev pub ones_after : List Bool → ℕ → List ℕ
 ones_after ring turns = ones_from 0 (cells_after ring turns)
-
--- how many cells these are: the number of an index cell
-abbrev pub turn_cell : List Bool → ℕ → ℕ
-turn_cell ring turns = quarter ring + turns * length ring
 
 -- The drive has turned over a ring's last quarter and so many turns, up to an index cell: the head is there, and these are the
 -- times and index times so far, that of this cell with them.

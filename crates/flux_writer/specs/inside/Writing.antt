@@ -10,6 +10,7 @@ use Rattle.kryo_stream.specs.Protocol.{OVERFLOW_TICKS}
 use Rattle.kryo_stream.specs.Sequence.{spellings}
 use Rattle.flux_writer.specs.Written.{cell_time, index_block, interval_blocks, track_cells}
 use Rattle.flux_writer.specs.inside.Gathering.{Gathers}
+use Rattle.flux_writer.specs.lemmas.FoundOnes.{ones_between, ones_from}
 
 -- the time in ticks of an index that is given in this unit
 abbrev pub ticks_of : IndexUnit → ℕ → ℕ
@@ -64,14 +65,9 @@ many_blocks position begin (time ∷ times) indexes =
     next_blocks position begin time indexes
     ++ many_blocks (next_position position begin time) time times (indexes_from time indexes)
 
--- the numbers of the cells that are ones, where the first cell has this number
-abbrev pub ones_from : ℕ → List Bool → List ℕ
-ones_from number [] = []
-ones_from number (cell ∷ cells) = cond cell (number ∷ ones_from (number + 1) cells) (ones_from (number + 1) cells)
-
 -- the times of the transitions of the cells from one place to below another, where the first of them has this number
 abbrev pub times_between : List Bool → ℕ → ℕ → ℕ → ℕ → List ℕ
-times_between cells from to number nominal = map (cell_time nominal) (ones_from number (take (to - from) (drop from cells)))
+times_between cells from to number nominal = map (cell_time nominal) (ones_between cells from to number)
 
 -- the times of the transitions of a ring's cells that are written
 abbrev pub track_times : List Bool → ℕ → List ℕ

@@ -11,10 +11,10 @@ use Rattle.track_rings.specs.lemmas.Owning.{IsPlaceIn}
 use Rattle.track_rings.specs.lemmas.Parts.{take-first}
 use Rattle.track_rings.specs.lemmas.Stretches.{drop-stretch, stretch-append}
 use Rattle.track_rings.specs.lemmas.Syncs.{Only, Syncs, fits-agree}
-use Rattle.track_rings.specs.OwnSectors.{IsAloneWithin, NoZeros}
+use Rattle.track_rings.specs.OwnSectors.{IsAlone, IsAloneWithin, NoZeros}
 use Rattle.track_rings.specs.Rings.{IsSectorNumber, stretch}
 use Rattle.frame_law.specs.Controller.{DataStandAt, NamedHeaderStands, START_ZEROS}
-use Rattle.frame_law.specs.declared.header_name.HeaderName.{HeaderName}
+use Rattle.flux_base.specs.declared.header_name.HeaderName.{HeaderName}
 use Rattle.frame_law.specs.Frames.{DataStand}
 use Rattle.frame_law.specs.lemmas.OwnData.{AreSyncsOrNone, BeginAtOnce, HasOwnDataSyncs, IsDataOffset}
 use Rattle.frame_law.specs.lemmas.OwnFrames.{AgreesWithFrame, TellsEarly, TellsEnds}
@@ -72,6 +72,18 @@ module _ (header_cells data_cells : ℕ) (header_end : List Bool → ℕ) (data_
           whole = omega (arith, told, agree-length (header_end cells) cells others own header.whole);
           named = tells.named cells others name own header.named;
           unbroken = subst (Unbroken others 0) (sym told) (agree-unbroken total cells others same 0 (header_end cells) long header.unbroken);
+        }
+
+    -- so it depends on its own cells alone
+    pub named_alone : (cells : List Bool) (name : HeaderName) → 0 < header_cells → Header cells name → IsAlone (λ others. Header others name) cells
+    named_alone cells name some header =
+        let end = header_end cells in
+        record {
+          end = end;
+          some = omega (arith, some, ends.header_least cells);
+          within = header.whole;
+          unbroken = header.unbroken;
+          alone = λ more. agree_header end cells (take end cells ++ more) name (agree-front end cells more header.whole) (omega arith) header;
         }
 
     -- so do data

@@ -4,7 +4,7 @@ use Rattle.track_rings.specs.lemmas.Owning.{IsPlaceIn}
 use Rattle.track_rings.specs.lemmas.Syncs.{Only, Syncs}
 use Rattle.frame_law.specs.Frames.{DATA_REACH}
 use Rattle.cell_bits.specs.Word.{Stands}
-use Rattle.frame_law.specs.declared.header_name.HeaderName.{HeaderName}
+use Rattle.flux_base.specs.declared.header_name.HeaderName.{HeaderName}
 
 -- the data have no sync but the place where their header ends
 abbrev pub BeginAtOnce : (List Bool → ℕ) → (List Bool → ℕ → Type 0) → Type 0

@@ -14,6 +14,9 @@ use Rattle.track_rings.specs.Rows.{Rows, frame_size, ring_size}
 use Rattle.track_rings.specs.lemmas.Syncs.{Only, Syncs}
 use Rattle.track_rings.specs.lemmas.TrackLaws.{frame-within}
 use Rattle.frame_law.specs.lemmas.FrameLaws.{IsWhole, one_sync}
+use Rattle.flux_base.specs.declared.header_name.HeaderName.{HeaderName}
+use Rattle.frame_law.specs.Others.{NamesSectors}
+use Rattle.frame_law.specs.Controller.{NamedHeaderStands}
 use Rattle.frame_law.specs.Frames.{AreSizes, DataStand, HeaderStands, IsDataSync, IsWithinReach}
 
 -- Where headers and data end: not before so many cells, a header after no more than data have at least, and where their own cells up to the end tell.
@@ -60,14 +63,16 @@ pub record HasOwnSyncs {Name : Type 0} (sync sync_cells header_cells first secto
   pub leads : (cells : List Bool) (s : Name) → Stands cells sync sync_cells 0 → names cells s → Leads lead rest cells
   pub only : (bytes : List ℕ) → Given bytes → Only (Syncs (Some true ∷ rest)) (IsSyncPlace place_of first sectors lead) (ring bytes) (ring bytes)
 
--- A header names a sector where it has the sector's name, which no other sector has.
-pub record NamesSectors {Name : Type 0} (names : List Bool → Name → Type 0) (name_of : ℕ → Name) (names_sector : List Bool → ℕ → Type 0) : Type 0 where
-  pub has_name : (cells : List Bool) (s : ℕ) → names_sector cells s → names cells (name_of s)
-  pub is_named : (cells : List Bool) (s : ℕ) → names cells (name_of s) → names_sector cells s
-  pub differ : (s t : ℕ) → name_of s ≡ name_of t → s ≡ t
+module _ {Name : Type 0} (names : List Bool → Name → Type 0) (is_name_of : Name → ℕ → Type 0) (names_sector : List Bool → ℕ → Type 0)
+    (is : NamesSectors names is_name_of names_sector) where
+  -- where a name of one is that of the other, sectors are one
+  pub same_sector : (cells others : List Bool) (s t : ℕ) → ((n m : Name) → names cells n → names others m → n ≡ m)
+      → names_sector cells s → names_sector others t → s ≡ t
+  same_sector cells others s t one first second =
+      let n = is.has_name cells s first in
+      let m = is.has_name others t second in
+      is.one_sector m.0 s t (subst (λ (name : Name). is_name_of name s) (one n.0 m.0 n.1 m.1) n.2) m.2
 
-module _ {Name : Type 0} (names : List Bool → Name → Type 0) (name_of : ℕ → Name) (names_sector : List Bool → ℕ → Type 0)
-    (is : NamesSectors names name_of names_sector) where
   -- so what is told of names is told of sectors
   pub tells_sector : (sync_cells header_cells data_cells : ℕ) (header_end : List Bool → ℕ) (data_end : List Bool → ℕ → ℕ)
       (is_sync : List Bool → ℕ → Type 0) (hold : List Bool → ℕ → List ℕ → Type 0)
@@ -75,22 +80,23 @@ module _ {Name : Type 0} (names : List Bool → Name → Type 0) (name_of : ℕ 
       → TellsEarly sync_cells header_cells data_cells header_end data_end names_sector is_sync hold
   tells_sector sync_cells header_cells data_cells header_end data_end is_sync hold tells = record {
     sync_within = tells.sync_within;
-    named = λ cells others s same named. is.is_named others s (tells.named cells others (name_of s) same (is.has_name cells s named));
-    named_early = λ cells others s t same first second.
-        is.differ s t (tells.named_early cells others (name_of s) (name_of t) same (is.has_name cells s first) (is.has_name others t second));
+    named = λ cells others s same named.
+        let n = is.has_name cells s named in
+        is.is_named others n.0 s (tells.named cells others n.0 same n.1) n.2;
+    named_early = λ cells others s t same. same_sector cells others s t (λ n m. tells.named_early cells others n m same);
     synced = tells.synced;
     held = tells.held;
     held_early = tells.held_early;
   }
 
-  pub sector_syncs : (sync sync_cells header_cells first sectors : ℕ) (place_of : ℕ → ℕ) (Given : List ℕ → Type 0) (ring : List ℕ → List Bool)
+  abbrev pub sector_syncs : (sync sync_cells header_cells first sectors : ℕ) (place_of : ℕ → ℕ) (Given : List ℕ → Type 0) (ring : List ℕ → List Bool)
       → HasOwnSyncs sync sync_cells header_cells first sectors names place_of Given ring
       → HasOwnSyncs sync sync_cells header_cells first sectors names_sector place_of Given ring
   sector_syncs sync sync_cells header_cells first sectors place_of Given ring own = record {
     lead = own.lead;
     rest = own.rest;
     short = own.short;
-    leads = λ cells s stands named. own.leads cells (name_of s) stands (is.has_name cells s named);
+    leads = λ cells s stands named. (let n = is.has_name cells s named in own.leads cells n.0 stands n.1);
     only = own.only;
   }
 
@@ -275,6 +281,36 @@ module _ (header_cells data_cells : ℕ) (header_end : List Bool → ℕ) (data_
           header_early = header_early;
           sector_early = sector_early;
         }
+
+        module _ (zeros from count behind place : ℕ) where
+          -- a header of any name is that of one of the sectors
+          pub named_own : (all : List Bool → HeaderName → Type 0) (is_name_of : HeaderName → ℕ → Type 0) → NamesSectors all is_name_of names
+              → TellsEarly sync_cells header_cells data_cells header_end data_end all is_sync hold
+              → ((cells : List Bool) (n : HeaderName) → Stands cells sync sync_cells 0 → all cells n → Leads own_syncs.lead own_syncs.rest cells)
+              → (name : HeaderName) → NamedHeaderStands sync sync_cells header_end all (drop place (between_zeros (ring bytes) zeros from count behind)) name
+              → (t : ℕ) × Header (drop place (between_zeros (ring bytes) zeros from count behind)) t
+          unfolding owner
+          named_own all is_name_of is tells_all leads name header =
+              let cells = drop place (between_zeros (ring bytes) zeros from count behind) in
+              let end = header_end cells in
+              let long : own_syncs.lead + suc (length own_syncs.rest) + 7 ≤ end = omega (arith, own_syncs.short, ends.header_least cells) in
+              let found = owning.found owner owns zeros from count behind place end (leads cells name header.begins header.named)
+              header.whole header.unbroken long in
+              let t = found.0 in
+              let size = end + frame_cells in
+              let part = stretch (ring bytes) (place_of t) size in
+              let same = found.1.agree 0 end size (omega (arith, long)) header.whole header.unbroken (omega arith) (omega arith) in
+              let ring_name = is.has_name part t (owns.stands t size found.1.number (omega arith)).header.named in
+              let one : name ≡ ring_name.0 = tells_all.named_early cells part name ring_name.0 same header.named ring_name.1 in (
+                t,
+                record {
+                  begins = header.begins;
+                  whole = header.whole;
+                  named = is.is_named cells name t header.named (subst (λ (n : HeaderName). is_name_of n t) (sym one) ring_name.2);
+                  known = found.1.number;
+                  unbroken = header.unbroken;
+                },
+              )
 
         module _ (s zeros from count behind place : ℕ) where
           pub header_own : Header (drop place (between_zeros (ring bytes) zeros from count behind)) s → IsOwnPlace ring_cells (place_of s) zeros from place

@@ -5,8 +5,8 @@ use Rattle.cell_bits.specs.Bytes.{data_byte, data_cells}
 use Rattle.cell_bits.specs.Word.{number_of}
 use Rattle.track_rings.specs.lemmas.Parts.{drop-past}
 use Rattle.flux_base.specs.declared.track.TrackId.{TrackId}
-use Rattle.frame_law.specs.declared.header_name.HeaderName.{HeaderName}
-use Rattle.frame_law.specs.declared.header_name.HeaderName.TheVariants.{Address, TrackSector}
+use Rattle.flux_base.specs.declared.header_name.HeaderName.{HeaderName}
+use Rattle.flux_base.specs.declared.header_name.HeaderName.TheVariants.{Address, TrackSector, TrackSectorSide}
 use Rattle.ibm_fields.specs.Fields.{address_named, bytes_at, high_first, number_at, sector_name}
 
 pub data_byte-past : (xs ys : List Bool) (size offset : ℕ) → length xs ≡ size → data_byte (xs ++ ys) (size + offset) ≡ data_byte ys offset
@@ -113,7 +113,9 @@ one_address bytes (Address a b c d) (Address e f g h) size first second =
     let same : a ∷ b ∷ c ∷ d ∷ [] ≡ e ∷ f ∷ g ∷ h ∷ [] = sym first ∙ second in
     cc
 one_address bytes (TrackSector track sector) m size first second = absurd (let none = ap length first in omega (arith, size, none))
+one_address bytes (TrackSectorSide track sector side format) m size first second = absurd (let none = ap length first in omega (arith, size, none))
 one_address bytes (Address a b c d) (TrackSector track sector) size first second = absurd (let none = ap length second in omega (arith, size, none))
+one_address bytes (Address a b c d) (TrackSectorSide track sector side format) size first second = absurd (let none = ap length second in omega (arith, size, none))
 
 pub one_sector : (track : TrackId) (s t size : ℕ) → sector_name track s size ≡ sector_name track t size → s ≡ t
 one_sector track s t size same = cc

@@ -1,6 +1,6 @@
 -- Where a data mark stands in a ring: only where a sector's data begin.
-use Rattle.std.specs.Prelude.{◌≡◌, ℕ, ◌+◌, ◌≤◌, Bool, true, List, [], ◌∷◌, ◌++◌, length, take, drop, Option, Some, None, refl}
-use Rattle.std.proofs.Common.{sym, subst, ◌∙◌, arith, inl, inr, lit≤}
+use Rattle.std.specs.Prelude.{◌≡◌, ℕ, ◌+◌, Bool, true, List, [], ◌∷◌, ◌++◌, length, take, drop, Option, Some, None, refl}
+use Rattle.std.proofs.Common.{sym, subst, ◌∙◌, arith, inl, inr}
 use Rattle.std.proofs.lemmas.List.{take_all}
 use Rattle.flux_base.specs.declared.track.TrackId.{TrackId}
 use Rattle.cell_bits.specs.Bytes.{fm, fm_cells}
@@ -10,10 +10,10 @@ use Rattle.track_rings.specs.Rings.{AreSectors}
 use Rattle.track_rings.specs.Rows.{place_of}
 use Rattle.track_rings.specs.lemmas.Syncs.{SyncPart, Syncs, all_known, clashes, clashes_at_all, fits, fits-agree}
 use Rattle.frame_law.specs.lemmas.OwnData.{HasOwnDataSyncs, IsDataOffset}
-use Rattle.ibm_fm.specs.declared.recording.IbmFm.{IbmFm}
-use Rattle.ibm_fm.specs.declared.recording.IbmFm.TheVariants.{Ibm3740, Acorn}
-use Rattle.ibm_fm.specs.Disks.{disk_of, rows_of}
-use Rattle.ibm_fm.specs.Layout.{row_size}
+use Rattle.ibm_disks.specs.Numbers.{FillFmTrack, size_of}
+use Rattle.ibm_disks.specs.declared.track_numbers.TrackNumbers.{TrackNumbers}
+use Rattle.ibm_disks.specs.lemmas.NumberLaws.{size-least}
+use Rattle.ibm_fm.specs.Layout.{row_size, rows_of}
 use Rattle.ibm_fm.specs.Sectors.{DATA_CELLS, DATA_MARK, DELETED_DATA_MARK, DataMarkAt, Hold, ID_MARK, IsSync}
 use Rattle.ibm_fm.specs.lemmas.Syncs.{Anything, Clocked, IsMarkSync, eight_clocks, mark_first, mark_quiet, only_in_marks, ring}
 
@@ -57,20 +57,15 @@ in_data_mark : SyncPart (Syncs data_sync) (λ place. IsDataOffset 112 384 0 (384
 unfolding eight_clocks data_sync word_cells clashes_at_all clashes
 in_data_mark = mark_first data_sync (λ place. IsDataOffset 112 384 0 (384 + place)) DATA_MARK (inl refl) refl
 
--- a sector has so many bytes that all within reach of its header lies in its frame
-least_size : (recording : IbmFm) → 128 ≤ (disk_of recording).sector_size
-least_size Ibm3740 = lit≤ tt
-least_size Acorn = lit≤ tt
-
--- so in the ring it begins where data do
-pub own_data : (recording : IbmFm) (track : TrackId) → let disk = disk_of recording in
-    HasOwnDataSyncs 112 (DATA_CELLS disk.sector_size) 384 disk.first_sector disk.sectors (λ cells. 112) IsSync (Hold disk.sector_size)
-    (place_of (row_size disk) disk.first_sector disk.sector_size (rows_of recording)) (AreSectors disk.sectors disk.sector_size) (ring recording track)
-own_data recording track = record {
+-- so in the ring it begins where data do; a sector has so many bytes that all within reach of its header lies in its frame
+pub own_data : (disk : TrackNumbers) → FillFmTrack disk → (track : TrackId) →
+    HasOwnDataSyncs 112 (DATA_CELLS (size_of disk.size)) 384 disk.first_sector disk.sectors (λ cells. 112) IsSync (Hold (size_of disk.size))
+    (place_of (row_size disk) disk.first_sector (size_of disk.size) (rows_of disk)) (AreSectors disk.sectors (size_of disk.size)) (ring disk track)
+own_data disk fills track = record {
   lead = 0;
   pattern = data_sync;
   short = omega (arith, length-data_sync);
-  near = λ cells. omega (arith, least_size recording);
+  near = λ cells. omega (arith, size-least disk.size);
   leads = λ cells sync bytes stands hold. leads cells sync hold.opens;
-  only = only_in_marks data_sync data_is recording track (IsDataOffset 112 384 0) in_id_mark in_data_mark;
+  only = only_in_marks data_sync data_is disk fills track (IsDataOffset 112 384 0) in_id_mark in_data_mark;
 }

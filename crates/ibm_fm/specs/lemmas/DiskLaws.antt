@@ -1,58 +1,60 @@
--- The sums of each disk's rows, and its numbers.
-use Rattle.std.specs.Prelude.{◌≡◌, ◌+◌, ◌^◌, ◌<◌, ◌≤◌, refl}
+-- The sums of a track's rows, and its numbers.
+use Rattle.std.specs.Prelude.{◌≡◌, ◌+◌, ◌*◌, ◌≤◌, refl, Some}
 use Rattle.std.proofs.Common.{arith, lit<, lit≤}
+use Rattle.ibm_fields.specs.Fields.{size_of_code}
+use Rattle.flux_base.specs.Bounds.{LONGEST_RING, MOST_SECTOR_BYTES}
 use Rattle.frame_law.specs.Frames.{IsWithinReach}
-use Rattle.track_rings.specs.Rows.{frame_size, ring_size, total}
-use Rattle.ibm_fm.specs.declared.recording.IbmFm.{IbmFm}
-use Rattle.ibm_fm.specs.declared.recording.IbmFm.TheVariants.{Ibm3740, Acorn}
-use Rattle.ibm_fm.specs.Disks.{cylinders_of, disk_of, rows_of}
-use Rattle.ibm_fm.specs.Layout.{row_size}
+use Rattle.track_rings.specs.Rows.{frame_size, pitch_of, ring_size, total}
+use Rattle.ibm_disks.specs.Numbers.{FM_AROUND, FillFmTrack, code_of, fm_before, size_of}
+use Rattle.ibm_disks.specs.declared.sector_size.SectorSize.{SectorSize}
+use Rattle.ibm_disks.specs.declared.sector_size.SectorSize.TheVariants.{Bytes128, Bytes256, Bytes512, Bytes1024}
+use Rattle.ibm_disks.specs.declared.track_numbers.LeadIn.{LeadIn}
+use Rattle.ibm_disks.specs.declared.track_numbers.LeadIn.TheVariants.{Indexed, Bare}
+use Rattle.ibm_disks.specs.declared.track_numbers.TrackNumbers.{TrackNumbers}
+use Rattle.ibm_disks.specs.lemmas.NumberLaws.{cells-fill, size-least, size-most}
+use Rattle.ibm_fm.specs.Layout.{lead_in_rows, row_size, rows_of}
 use Rattle.ibm_fm.specs.Sectors.{DATA_CELLS}
 
--- what a disk's numbers have to be: its rows fill its tracks, which are not too long, its sectors have few bytes and numbers of 8 bits,
--- and so has its address
-pub record IsSound (recording : IbmFm) : Type 0 where
-  pub framed : frame_size (row_size (disk_of recording)) (disk_of recording).sector_size (rows_of recording) ≡ 384 + DATA_CELLS (disk_of recording).sector_size
-  pub filled : ring_size (row_size (disk_of recording)) (disk_of recording).sectors (disk_of recording).sector_size (rows_of recording) ≡ (disk_of recording).cells
-  pub few_cells : (disk_of recording).cells ≤ 2 ^ 18
-  pub some : 1 ≤ (disk_of recording).sectors
-  pub few : (disk_of recording).first_sector + (disk_of recording).sectors ≤ 256
-  pub size : (disk_of recording).sector_size ≤ 512
-  pub code : (disk_of recording).size_code < 256
-  pub cylinders : cylinders_of recording ≤ 256
+pub within_reach : (size : SectorSize) → IsWithinReach 112 384 (DATA_CELLS (size_of size))
+within_reach size = record { after = lit≤ tt; near = lit< tt; few = omega (arith, size-most size) }
 
-pub sound : (recording : IbmFm) → IsSound recording
-unfolding total
-sound Ibm3740 = record {
-  framed = refl;
-  filled = refl;
-  few_cells = lit≤ tt;
-  some = lit≤ tt;
-  few = lit≤ tt;
-  size = lit≤ tt;
-  code = lit< tt;
-  cylinders = lit≤ tt;
-}
-sound Acorn = record {
-  framed = refl;
-  filled = refl;
-  few_cells = lit≤ tt;
-  some = lit≤ tt;
-  few = lit≤ tt;
-  size = lit≤ tt;
-  code = lit< tt;
-  cylinders = lit≤ tt;
-}
+pub header_short : (size : SectorSize) → 112 ≤ DATA_CELLS (size_of size)
+header_short size = omega (arith, size-least size)
 
-module _ (recording : IbmFm) where
-  pub counts : (1 ≤ (disk_of recording).sectors) × ((disk_of recording).first_sector + (disk_of recording).sectors ≤ 256)
-      × ((disk_of recording).sector_size ≤ 512)
-  counts = ((sound recording).some, (sound recording).few, (sound recording).size)
+-- the code of a size tells it
+pub size_told : (size : SectorSize) → size_of_code (code_of size) ≡ Some (size_of size)
+size_told Bytes128 = refl
+size_told Bytes256 = refl
+size_told Bytes512 = refl
+size_told Bytes1024 = refl
 
-  pub within_reach : IsWithinReach 112 384 (DATA_CELLS (disk_of recording).sector_size)
-  within_reach = record { after = lit≤ tt; near = lit< tt; few = omega (arith, (sound recording).size) }
+module _ (disk : TrackNumbers) where
+  lead_in-size : (kind : LeadIn) → total (row_size disk 0) (lead_in_rows kind) ≡ 16 * fm_before kind
+  unfolding total
+  lead_in-size Indexed = refl
+  lead_in-size Bare = refl
 
-  pub sums : (frame_size (row_size (disk_of recording)) (disk_of recording).sector_size (rows_of recording) ≡ 384 + DATA_CELLS (disk_of recording).sector_size)
-      × (ring_size (row_size (disk_of recording)) (disk_of recording).sectors (disk_of recording).sector_size (rows_of recording) ≡ (disk_of recording).cells)
-      × ((disk_of recording).cells ≤ 2 ^ 18)
-  sums = ((sound recording).framed, (sound recording).filled, (sound recording).few_cells)
+  pitch-size : pitch_of (row_size disk) (size_of disk.size) (rows_of disk) ≡ 16 * (FM_AROUND + size_of disk.size + disk.sector_gap)
+  unfolding total
+  pitch-size = omega arith
+
+  framed : frame_size (row_size disk) (size_of disk.size) (rows_of disk) ≡ 384 + DATA_CELLS (size_of disk.size)
+  unfolding total
+  framed = omega arith
+
+  module _ (fills : FillFmTrack disk) where
+    pub counts : (1 ≤ disk.sectors) × (disk.first_sector + disk.sectors ≤ 256) × (size_of disk.size ≤ MOST_SECTOR_BYTES)
+    counts = (fills.some, fills.few, size-most disk.size)
+
+    filled : ring_size (row_size disk) disk.sectors (size_of disk.size) (rows_of disk) ≡ 16 * disk.bytes
+    unfolding total
+    filled =
+        let all = cells-fill (fm_before disk.lead_in) (FM_AROUND + size_of disk.size + disk.sector_gap) disk.sectors disk.bytes
+        (total (row_size disk 0) (lead_in_rows disk.lead_in)) (pitch_of (row_size disk) (size_of disk.size) (rows_of disk)) (lead_in-size disk.lead_in)
+        pitch-size fills.within in
+        omega (arith, all)
+
+    pub sums : (frame_size (row_size disk) (size_of disk.size) (rows_of disk) ≡ 384 + DATA_CELLS (size_of disk.size))
+        × (ring_size (row_size disk) disk.sectors (size_of disk.size) (rows_of disk) ≡ 16 * disk.bytes)
+        × (16 * disk.bytes ≤ LONGEST_RING)
+    sums = (framed, filled, omega (arith, fills.short))

@@ -10,13 +10,14 @@ use Rattle.track_rings.specs.lemmas.Parts.{drop-past, take-first}
 use Rattle.track_rings.specs.Rings.{IsSectorNumber, AreBytes}
 use Rattle.track_rings.specs.Rows.{coded, rows_cells}
 use Rattle.frame_law.specs.Frames.{FrameStands}
+use Rattle.ibm_disks.specs.Numbers.{code_of, size_of}
+use Rattle.ibm_disks.specs.lemmas.NumberLaws.{code-low}
 use Rattle.ibm_fields.specs.Fields.{high_first, number_at}
 use Rattle.ibm_fields.specs.lemmas.FieldLaws.{bytes_at-past, data_byte-past, number_at-past}
 use Rattle.ibm_fields.specs.lemmas.Numbers.{crc-lt}
 use Rattle.ibm_fm.specs.declared.recording.IbmFm.{IbmFm}
-use Rattle.ibm_fm.specs.Disks.{IsFmTrack, disk_of, rows_of}
-use Rattle.ibm_fm.specs.lemmas.DiskLaws.{sound}
-use Rattle.ibm_fm.specs.Layout.{field_cells, fm_bytes, row_cells}
+use Rattle.ibm_fm.specs.Disks.{IsFmTrack}
+use Rattle.ibm_fm.specs.Layout.{field_cells, fm_bytes, row_cells, rows_of}
 use Rattle.ibm_fm.specs.lemmas.ReadLaws.{number_at-after, reads-first}
 use Rattle.ibm_fm.specs.lemmas.RowLaws.{length-fm_bytes}
 use Rattle.ibm_fm.specs.Sectors.{Hold, IsSync, NamesSector, address_of, check_of}
@@ -33,11 +34,11 @@ regroup : (i a g z m f rest : List Bool) → (i ++ (a ++ (g ++ (z ++ (m ++ (f ++
 regroup i a g z m f rest = simp (append_assoc, append-nil)
 
 frame-cells : (recording : IbmFm) (track : TrackId) (sector : ℕ) (bytes : List ℕ) (before : Bool) (rest : List Bool)
-    → rows_cells false (row_cells (disk_of recording) track) before sector bytes (rows_of recording).frame ++ rest
-    ≡ frame_of (disk_of recording).size_code track sector bytes rest
+    → rows_cells false (row_cells recording.numbers track) before sector bytes (rows_of recording.numbers).frame ++ rest
+    ≡ frame_of (code_of recording.numbers.size) track sector bytes rest
 unfolding rows_cells coded gap_and_mark
 frame-cells recording track sector bytes before rest =
-    regroup (word_cells 16 0xF57E) (field_cells 0xFE (address_of (disk_of recording).size_code track sector)) (fm_bytes (replicate 11 0xFF))
+    regroup (word_cells 16 0xF57E) (field_cells 0xFE (address_of (code_of recording.numbers.size) track sector)) (fm_bytes (replicate 11 0xFF))
     (fm_bytes (replicate 6 0x00)) (word_cells 16 0xF56F) (field_cells 0xFB bytes) rest
 
 length-field_cells : (mark : ℕ) (bytes : List ℕ) → length (field_cells mark bytes) ≡ 16 * (length bytes + 2)
@@ -127,13 +128,12 @@ holds header bytes rest header_size fit =
 
 -- the rows of a frame are read back
 pub frame_stands : (recording : IbmFm) (track : TrackId) (sector : ℕ) (bytes : List ℕ) (before : Bool) (rest : List Bool) → IsFmTrack recording track
-    → IsSectorNumber (disk_of recording).first_sector (disk_of recording).sectors sector
-    → AreBytes bytes → length bytes ≡ (disk_of recording).sector_size
-    → FrameStands 0xF57E 16 112 384 (NamesSector (disk_of recording).size_code track) IsSync (Hold (disk_of recording).sector_size)
-    (rows_cells false (row_cells (disk_of recording) track) before sector bytes (rows_of recording).frame ++ rest) sector bytes
+    → IsSectorNumber recording.numbers.first_sector recording.numbers.sectors sector
+    → AreBytes bytes → length bytes ≡ (size_of recording.numbers.size)
+    → FrameStands 0xF57E 16 112 384 (NamesSector (code_of recording.numbers.size) track) IsSync (Hold (size_of recording.numbers.size))
+    (rows_cells false (row_cells recording.numbers track) before sector bytes (rows_of recording.numbers).frame ++ rest) sector bytes
 frame_stands recording track sector bytes before rest known number fit size =
-    let code = (disk_of recording).size_code in
-    let numbers = sound recording in
+    let code = (code_of recording.numbers.size) in
     let mark = word_cells 16 0xF57E in
     let field = field_cells 0xFE (address_of code track sector) in
     let header = mark ++ field in
@@ -142,15 +142,15 @@ frame_stands recording track sector bytes before rest known number fit size =
     omega (arith, length-append mark field, length-word_cells 16 0xF57E, length-field_cells 0xFE (address_of code track sector)) in
     let grouped : frame_of code track sector bytes rest ≡ header ++ (gap_and_mark ++ behind) = sym (append_assoc mark field (gap_and_mark ++ behind)) in
     let data_held = holds header bytes rest header_size fit in
-    subst (λ (cells : List Bool). FrameStands 0xF57E 16 112 384 (NamesSector code track) IsSync (Hold (disk_of recording).sector_size) cells sector bytes)
+    subst (λ (cells : List Bool). FrameStands 0xF57E 16 112 384 (NamesSector code track) IsSync (Hold (size_of recording.numbers.size)) cells sector bytes)
     (sym (frame-cells recording track sector bytes before rest))
     (record {
       begins = mark-begins (field ++ (gap_and_mark ++ behind));
-      named = names-sector code track sector (gap_and_mark ++ behind) numbers.code (omega (arith, known.cylinder, numbers.cylinders))
-          (omega (arith, known.head)) (omega (arith, number.most, numbers.few));
+      named = names-sector code track sector (gap_and_mark ++ behind) (code-low recording.numbers.size) (omega (arith, known.cylinder))
+          (omega (arith, known.head)) (omega (arith, number.most, known.fills.few));
       opens = subst (λ (cells : List Bool). IsSync cells 384) (sym grouped) (inl data_held.opens);
       first = λ place above below.
           subst (λ (cells : List Bool). ¬ IsSync cells place) (sym grouped) (no-mark header behind place header_size above below);
-      held = subst (λ (cells : List Bool). Hold (disk_of recording).sector_size cells 384 bytes) (sym grouped)
+      held = subst (λ (cells : List Bool). Hold (size_of recording.numbers.size) cells 384 bytes) (sym grouped)
           (subst (λ (n : ℕ). Hold n (header ++ (gap_and_mark ++ behind)) 384 bytes) size data_held);
     })

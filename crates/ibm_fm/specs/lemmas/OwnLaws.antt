@@ -1,15 +1,12 @@
 -- What an FM header names, and what FM data hold, is told by their own cells, and by all of these but the last seven.
 use Rattle.std.specs.Prelude.{◌≡◌, ℕ, ◌+◌, ◌-◌, ◌≤◌, Bool, List}
-use Rattle.std.proofs.Common.{ap, sym, ◌∙◌, arith, inl, inr, lit≤}
+use Rattle.std.proofs.Common.{ap, sym, ◌∙◌, arith, inl, inr}
 use Rattle.track_rings.specs.lemmas.Fronts.{AgreeTo, agree-data_byte, agree-stands}
 use Rattle.frame_law.specs.lemmas.OwnFrames.{TellsEarly}
-use Rattle.frame_law.specs.declared.header_name.HeaderName.{HeaderName}
+use Rattle.flux_base.specs.declared.header_name.HeaderName.{HeaderName}
 use Rattle.ibm_fields.specs.Fields.{bytes_at}
 use Rattle.ibm_fields.specs.lemmas.FieldLaws.{length-bytes_at, one_address}
 use Rattle.ibm_fields.specs.lemmas.FieldFronts.{agree-bytes_at, agree-number_at}
-use Rattle.ibm_fm.specs.declared.recording.IbmFm.{IbmFm}
-use Rattle.ibm_fm.specs.declared.recording.IbmFm.TheVariants.{Ibm3740, Acorn}
-use Rattle.ibm_fm.specs.Disks.{disk_of}
 use Rattle.ibm_fm.specs.Sectors.{CONTENT_CHECK_PLACE, DATA_CELLS, DataMarkAt, Hold, IsSync, Names, check_of}
 
 named : (cells others : List Bool) (n : HeaderName) → AgreeTo 112 cells others → Names cells n → Names others n
@@ -54,11 +51,6 @@ held_early size cells others sync xs ys same first second =
 -- data have more than the last seven cells
 pub data_long : (size : ℕ) → 8 ≤ DATA_CELLS size
 data_long size = omega arith
-
--- and a header has no more
-pub header_short : (recording : IbmFm) → 112 ≤ DATA_CELLS (disk_of recording).sector_size
-header_short Ibm3740 = lit≤ tt
-header_short Acorn = lit≤ tt
 
 pub tells : (size : ℕ) → TellsEarly 16 112 (DATA_CELLS size) (λ cells. 112) (λ cells sync. sync + DATA_CELLS size) Names IsSync (Hold size)
 tells size = record {

@@ -8,13 +8,14 @@ use Rattle.cell_bits.specs.Word.{word_cells}
 use Rattle.cell_bits.specs.lemmas.WordLaws.{length-word_cells}
 use Rattle.track_rings.specs.Spaced.{MayFollow, is_spaced, zeros_after}
 use Rattle.track_rings.specs.lemmas.SpacedLaws.{cells-each}
+use Rattle.ibm_disks.specs.Numbers.{code_of}
 use Rattle.ibm_fields.specs.Fields.{high_first}
-use Rattle.ibm_fm.specs.declared.layout.Disk.{Disk}
+use Rattle.ibm_disks.specs.declared.track_numbers.TrackNumbers.{TrackNumbers}
 use Rattle.ibm_fm.specs.declared.layout.Mark.{Mark}
 use Rattle.ibm_fm.specs.declared.layout.Mark.TheVariants.{Index, Id, Data}
 use Rattle.ibm_fm.specs.declared.layout.Row.{Row}
 use Rattle.ibm_fm.specs.declared.layout.Row.TheVariants.{Run, Mark as AMark, Address, Content, SectorGap, TrackGap}
-use Rattle.ibm_fm.specs.Layout.{fm_bytes, row_cells, row_size, word_of}
+use Rattle.ibm_fm.specs.Layout.{fm_bytes, row_cells, row_size, track_gap_of, word_of}
 use Rattle.ibm_fm.specs.Sectors.{address_of, check_of}
 
 length-fm_cells : (bits : List Bool) → length (fm_cells bits) ≡ 2 * length bits
@@ -35,16 +36,16 @@ length-fm_bytes (byte ∷ bytes) =
 length-run : (count byte : ℕ) → length (fm_bytes (replicate count byte)) ≡ 16 * count
 length-run count byte = length-fm_bytes (replicate count byte) ∙ ap (λ n. 16 * n) (length-replicate count byte)
 
-pub row_length : (disk : Disk) (track : TrackId) (before : Bool) (sector : ℕ) (bytes : List ℕ) (row : Row)
+pub row_length : (disk : TrackNumbers) (track : TrackId) (before : Bool) (sector : ℕ) (bytes : List ℕ) (row : Row)
     → length (row_cells disk track before sector bytes row) ≡ row_size disk (length bytes) row
 row_length disk track before sector bytes (Run count byte) = length-run count byte
 row_length disk track before sector bytes (AMark mark) = length-word_cells 16 (word_of mark)
-row_length disk track before sector bytes Address = length-fm_bytes (address_of disk.size_code track sector ++ high_first (check_of 0xFE (address_of disk.size_code track sector)))
+row_length disk track before sector bytes Address = length-fm_bytes (address_of (code_of disk.size) track sector ++ high_first (check_of 0xFE (address_of (code_of disk.size) track sector)))
 row_length disk track before sector bytes Content =
     length-fm_bytes (bytes ++ high_first (check_of 0xFB bytes))
     ∙ ap (λ n. 16 * n) (length-append bytes (high_first (check_of 0xFB bytes)))
 row_length disk track before sector bytes SectorGap = length-run disk.sector_gap 0xFF
-row_length disk track before sector bytes TrackGap = length-run disk.track_gap 0xFF
+row_length disk track before sector bytes TrackGap = length-run (track_gap_of disk) 0xFF
 
 -- FM has no two zeros in a row: each clock cell is a one, but in marks, whose missing clocks lie between ones
 bits-follow : (bits : List Bool) → MayFollow 1 2 1 false (λ before. fm_cells bits)
@@ -70,10 +71,10 @@ mark-follows Data zero low = (refl, lit≤ tt)
 mark-follows Data (suc zero) low = (refl, lit≤ tt)
 mark-follows mark (suc (suc seen)) low = absurd (omega arith)
 
-pub row_follows : (disk : Disk) (track : TrackId) (sector : ℕ) (bytes : List ℕ) (row : Row) → MayFollow 1 2 1 false (λ before. row_cells disk track before sector bytes row)
+pub row_follows : (disk : TrackNumbers) (track : TrackId) (sector : ℕ) (bytes : List ℕ) (row : Row) → MayFollow 1 2 1 false (λ before. row_cells disk track before sector bytes row)
 row_follows disk track sector bytes (Run count byte) = bytes-follow (replicate count byte)
 row_follows disk track sector bytes (AMark mark) = mark-follows mark
-row_follows disk track sector bytes Address = bytes-follow (address_of disk.size_code track sector ++ high_first (check_of 0xFE (address_of disk.size_code track sector)))
+row_follows disk track sector bytes Address = bytes-follow (address_of (code_of disk.size) track sector ++ high_first (check_of 0xFE (address_of (code_of disk.size) track sector)))
 row_follows disk track sector bytes Content = bytes-follow (bytes ++ high_first (check_of 0xFB bytes))
 row_follows disk track sector bytes SectorGap = bytes-follow (replicate disk.sector_gap 0xFF)
-row_follows disk track sector bytes TrackGap = bytes-follow (replicate disk.track_gap 0xFF)
+row_follows disk track sector bytes TrackGap = bytes-follow (replicate (track_gap_of disk) 0xFF)

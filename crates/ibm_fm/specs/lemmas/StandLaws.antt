@@ -1,11 +1,11 @@
 -- What cells name and hold is one thing, and the numbers of the coding.
-use Rattle.std.specs.Prelude.{◌≡◌, ℕ, ◌+◌, Bool, List, drop, length}
-use Rattle.std.proofs.Common.{ap, sym, ◌∙◌, inl, inr, lit≤}
+use Rattle.std.specs.Prelude.{◌≡◌, ℕ, ◌+◌, Bool, List, drop, length, refl}
+use Rattle.std.proofs.Common.{ap, sym, subst, ◌∙◌, inl, inr, lit≤}
 use Rattle.flux_base.specs.declared.track.TrackId.{TrackId}
 use Rattle.frame_law.specs.Frames.{AreSizes}
 use Rattle.cell_bits.specs.Word.{Stands}
-use Rattle.frame_law.specs.declared.header_name.HeaderName.{HeaderName}
-use Rattle.frame_law.specs.lemmas.OwnFrames.{NamesSectors}
+use Rattle.flux_base.specs.declared.header_name.HeaderName.{HeaderName}
+use Rattle.frame_law.specs.Others.{NamesSectors}
 use Rattle.ibm_fields.specs.Fields.{bytes_at, sector_name}
 use Rattle.ibm_fields.specs.lemmas.FieldLaws.{length-bytes_at, one_address, one_sector}
 use Rattle.ibm_fm.specs.Sectors.{Hold, IsSync, Names, NamesSector}
@@ -24,11 +24,11 @@ sizes = record {
 pub one_name : (cells : List Bool) (n m : HeaderName) → Names cells n → Names cells m → n ≡ m
 one_name cells n m first second = one_address (bytes_at cells 16 4) n m (length-bytes_at cells 16 4) first.address second.address
 
-pub named_sector : (code : ℕ) (track : TrackId) → NamesSectors Names (λ s. sector_name track s code) (NamesSector code track)
+pub named_sector : (code : ℕ) (track : TrackId) → NamesSectors Names (λ name s. name ≡ sector_name track s code) (NamesSector code track)
 named_sector code track = record {
-  has_name = λ cells s named. named;
-  is_named = λ cells s named. named;
-  differ = λ s t same. one_sector track s t code same;
+  has_name = λ cells s named. (sector_name track s code, named, refl);
+  is_named = λ cells name s named same. subst (Names cells) same named;
+  one_sector = λ name s t first second. one_sector track s t code (sym first ∙ second);
 }
 
 -- a header's mark is a sync too

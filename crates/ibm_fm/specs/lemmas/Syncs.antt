@@ -14,14 +14,14 @@ use Rattle.track_rings.specs.Rows.{TrackRow, coded, part_cells, parts_of, place_
 use Rattle.track_rings.specs.lemmas.Syncs.{Only, QuietPart, SyncPart, Syncs, all_known, clashes, clashes_at_all, fits, fits-append, fits-front, fits-known, fits-word, nowhere-known, only-first, part-append, part-skip, part-then, quiet-all, quiet-append, quiet-none}
 use Rattle.frame_law.specs.lemmas.OwnFrames.{HasOwnSyncs}
 use Rattle.ibm_fields.specs.Fields.{high_first}
-use Rattle.ibm_fm.specs.declared.layout.Disk.{Disk}
+use Rattle.ibm_disks.specs.Numbers.{FillFmTrack, code_of, size_of}
+use Rattle.ibm_disks.specs.declared.track_numbers.LeadIn.{LeadIn}
+use Rattle.ibm_disks.specs.declared.track_numbers.LeadIn.TheVariants.{Indexed, Bare}
+use Rattle.ibm_disks.specs.declared.track_numbers.TrackNumbers.{TrackNumbers}
 use Rattle.ibm_fm.specs.declared.layout.Mark.TheVariants.{Index}
 use Rattle.ibm_fm.specs.declared.layout.Row.{Row}
 use Rattle.ibm_fm.specs.declared.layout.Row.TheVariants.{Run, Mark as AMark}
-use Rattle.ibm_fm.specs.declared.recording.IbmFm.{IbmFm}
-use Rattle.ibm_fm.specs.declared.recording.IbmFm.TheVariants.{Ibm3740, Acorn}
-use Rattle.ibm_fm.specs.Disks.{disk_of, rows_of}
-use Rattle.ibm_fm.specs.Layout.{field_cells, fm_bytes, row_cells, row_size}
+use Rattle.ibm_fm.specs.Layout.{field_cells, fm_bytes, lead_in_rows, row_cells, row_size, rows_of, track_gap_of}
 use Rattle.ibm_fm.specs.lemmas.RowLaws.{length-fm_bytes, row_length}
 use Rattle.ibm_fm.specs.Sectors.{DATA_MARK, ID_MARK, INDEX_MARK, Names, address_of, check_of}
 
@@ -59,14 +59,14 @@ before_clocks cells rest clocked =
     (fits-word cells cells (length cells) refl (take_all (length cells) cells (omega arith))) clocked
 
 -- what follows a sector's ID mark
-abbrev after_mark : Disk → TrackId → List ℕ → ℕ → List Bool
+abbrev after_mark : TrackNumbers → TrackId → List ℕ → ℕ → List Bool
 after_mark disk track content sector =
-    field_cells 0xFE (address_of disk.size_code track sector)
+    field_cells 0xFE (address_of (code_of disk.size) track sector)
     ++ (fm_bytes (replicate 11 0xFF)
     ++ (fm_bytes (replicate 6 0x00) ++ (word_cells 16 DATA_MARK ++ (field_cells 0xFB content ++ (fm_bytes (replicate disk.sector_gap 0xFF) ++ [])))))
 
 -- cells that begin with a row of bytes
-run_clocked : (disk : Disk) (track : TrackId) (count s : ℕ) (others : List Row) (parts : List (TrackRow Row))
+run_clocked : (disk : TrackNumbers) (track : TrackId) (count s : ℕ) (others : List Row) (parts : List (TrackRow Row))
     → Clocked (coded false (part_cells (row_cells disk track)) false (parts_of s [] (Run (suc count) 0xFF ∷ others) ++ parts))
 unfolding coded
 run_clocked disk track count s others parts =
@@ -74,24 +74,21 @@ run_clocked disk track count s others parts =
     let rest = coded false (part_cells (row_cells disk track)) false (parts_of s [] others ++ parts) in
     subst Clocked (sym (append_assoc (fm 0xFF) bytes rest)) (byte_clocked 0xFF (bytes ++ rest))
 
-lead_in_clocked : (recording : IbmFm) (track : TrackId) (s : ℕ) (parts : List (TrackRow Row))
-    → Clocked (coded false (part_cells (row_cells (disk_of recording) track)) false (parts_of s [] (rows_of recording).lead_in ++ parts))
-lead_in_clocked Ibm3740 track s parts = run_clocked (disk_of Ibm3740) track 39 s (Run 6 0x00 ∷ AMark Index ∷ Run 26 0xFF ∷ []) parts
-lead_in_clocked Acorn track s parts = run_clocked (disk_of Acorn) track 15 s [] parts
+lead_in_clocked : (disk : TrackNumbers) (kind : LeadIn) (track : TrackId) (s : ℕ) (parts : List (TrackRow Row))
+    → Clocked (coded false (part_cells (row_cells disk track)) false (parts_of s [] (lead_in_rows kind) ++ parts))
+lead_in_clocked disk Indexed track s parts = run_clocked disk track 39 s (Run 6 0x00 ∷ AMark Index ∷ Run 26 0xFF ∷ []) parts
+lead_in_clocked disk Bare track s parts = run_clocked disk track 15 s [] parts
 
 -- a ring
-abbrev pub ring : IbmFm → TrackId → List ℕ → List Bool
-ring recording track bytes =
-    let disk = disk_of recording in
-    ring_of false (row_cells disk track) disk.first_sector disk.sectors disk.sector_size bytes (rows_of recording)
+abbrev pub ring : TrackNumbers → TrackId → List ℕ → List Bool
+ring disk track bytes = ring_of false (row_cells disk track) disk.first_sector disk.sectors (size_of disk.size) bytes (rows_of disk)
 
-ring_clocked : (recording : IbmFm) (track : TrackId) (bytes : List ℕ) → Clocked (ring recording track bytes)
+ring_clocked : (disk : TrackNumbers) (track : TrackId) (bytes : List ℕ) → Clocked (ring disk track bytes)
 unfolding ring_of track_parts
-ring_clocked recording track bytes =
-    let disk = disk_of recording in
-    let rows = rows_of recording in
-    lead_in_clocked recording track disk.first_sector
-    (flat_map (sector_parts disk.first_sector disk.sector_size bytes rows) (range_with_len disk.first_sector disk.sectors)
+ring_clocked disk track bytes =
+    let rows = rows_of disk in
+    lead_in_clocked disk disk.lead_in track disk.first_sector
+    (flat_map (sector_parts disk.first_sector (size_of disk.size) bytes rows) (range_with_len disk.first_sector disk.sectors)
     ++ parts_of disk.first_sector [] rows.lead_out)
 
 module _ (sync : List (Option Bool)) where
@@ -153,20 +150,20 @@ module _ (sync : List (Option Bool)) where
     last_quiet : (count : ℕ) → QuietPart (Syncs sync) Clocked Clocked (fm_bytes (replicate count 0xFF) ++ [])
     last_quiet count = quiet-append (Syncs sync) Clocked Clocked Clocked (fm_bytes (replicate count 0xFF)) [] (run_quiet count) (quiet-none (Syncs sync) Clocked)
 
-    lead_in_quiet : (recording : IbmFm) (track : TrackId) (s : ℕ)
-        → QuietPart (Syncs sync) Clocked Clocked (rows_cells false (row_cells (disk_of recording) track) false s [] (rows_of recording).lead_in)
+    lead_in_quiet : (disk : TrackNumbers) (kind : LeadIn) (track : TrackId) (s : ℕ)
+        → QuietPart (Syncs sync) Clocked Clocked (rows_cells false (row_cells disk track) false s [] (lead_in_rows kind))
     unfolding rows_cells coded
-    lead_in_quiet Ibm3740 track s =
+    lead_in_quiet disk Indexed track s =
         let last = fm_bytes (replicate 26 0xFF) ++ [] in
         let marked = word_cells 16 INDEX_MARK ++ last in
         quiet-append (Syncs sync) Clocked Clocked Clocked (fm_bytes (replicate 40 0xFF)) (fm_bytes (replicate 6 0x00) ++ marked) (run_quiet 40)
         (quiet-append (Syncs sync) Clocked Anything Clocked (fm_bytes (replicate 6 0x00)) marked zeros_quiet
         (quiet-append (Syncs sync) Clocked Clocked Anything (word_cells 16 INDEX_MARK) last
         (mark_quiet (λ place. ⊥) INDEX_MARK is.in_index_mark) (last_quiet 26)))
-    lead_in_quiet Acorn track s = last_quiet 16
+    lead_in_quiet disk Bare track s = last_quiet 16
 
     -- A disk's track, where the sync begins at such places only in a sector's two marks, counted from the begin of the first.
-    module _ (disk : Disk) (track : TrackId) (At : ℕ → Type 0) (id_part : SyncPart (Syncs sync) At Clocked Anything (word_cells 16 ID_MARK))
+    module _ (disk : TrackNumbers) (track : TrackId) (At : ℕ → Type 0) (id_part : SyncPart (Syncs sync) At Clocked Anything (word_cells 16 ID_MARK))
         (data_part : SyncPart (Syncs sync) (λ place. At (384 + place)) Clocked Anything (word_cells 16 DATA_MARK)) where
       -- what follows a sector's ID mark
       after_mark_part : (content : List ℕ) (sector : ℕ) → SyncPart (Syncs sync) (λ place. At (16 + place)) Clocked Clocked
@@ -176,13 +173,13 @@ module _ (sync : List (Option Bool)) where
           let filled = field_cells 0xFB content ++ last in
           let zeros = fm_bytes (replicate 6 0x00) in
           let gap = fm_bytes (replicate 11 0xFF) in
-          let address = field_cells 0xFE (address_of disk.size_code track sector) in
+          let address = field_cells 0xFE (address_of (code_of disk.size) track sector) in
           let size : length address ≡ 96 =
-          length-fm_bytes (address_of disk.size_code track sector ++ high_first (check_of 0xFE (address_of disk.size_code track sector))) in
+          length-fm_bytes (address_of (code_of disk.size) track sector ++ high_first (check_of 0xFE (address_of (code_of disk.size) track sector))) in
           let gap_size : length gap ≡ 176 = length-fm_bytes (replicate 11 0xFF) in
           let zeros_size : length zeros ≡ 96 = length-fm_bytes (replicate 6 0x00) in
           part-skip (Syncs sync) (λ place. At (16 + place)) Clocked Clocked Clocked address (gap ++ (zeros ++ (word_cells 16 DATA_MARK ++ filled)))
-          (field_quiet 0xFE (address_of disk.size_code track sector))
+          (field_quiet 0xFE (address_of (code_of disk.size) track sector))
           (part-skip (Syncs sync) (λ place. At (16 + (length address + place))) Clocked Clocked Clocked gap (zeros ++ (word_cells 16 DATA_MARK ++ filled))
           (run_quiet 11)
           (part-skip (Syncs sync) (λ place. At (16 + (length address + (length gap + place)))) Clocked Anything Clocked zeros
@@ -198,11 +195,11 @@ module _ (sync : List (Option Bool)) where
           ))
           (quiet-append (Syncs sync) Clocked Clocked Clocked (field_cells 0xFB content) last (field_quiet 0xFB content) (last_quiet disk.sector_gap)))))
 
-      sector_part : (recording : IbmFm) (before : Bool) (sector : ℕ) (content : List ℕ)
+      sector_part : (before : Bool) (sector : ℕ) (content : List ℕ)
           → SyncPart (Syncs sync) (λ place. (offset : ℕ) × At offset × (place ≡ 96 + offset)) Clocked Clocked
-          (rows_cells false (row_cells disk track) before sector content (sector_rows (rows_of recording)))
+          (rows_cells false (row_cells disk track) before sector content (sector_rows (rows_of disk)))
       unfolding rows_cells coded
-      sector_part recording before sector content =
+      sector_part before sector content =
           let zeros = fm_bytes (replicate 6 0x00) in
           let size : length zeros ≡ 96 = length-fm_bytes (replicate 6 0x00) in
           let mark_size = length-word_cells 16 ID_MARK in
@@ -216,19 +213,17 @@ module _ (sync : List (Option Bool)) where
           (λ place within test. (place, one.0 place within test, omega (arith, size)), one.1))
 
     -- so in the ring it begins only after the begin of a sector's header, at such places
-    pub only_in_marks : (recording : IbmFm) (track : TrackId) (At : ℕ → Type 0) → SyncPart (Syncs sync) At Clocked Anything (word_cells 16 ID_MARK)
+    pub only_in_marks : (disk : TrackNumbers) → FillFmTrack disk → (track : TrackId) (At : ℕ → Type 0) → SyncPart (Syncs sync) At Clocked Anything (word_cells 16 ID_MARK)
         → SyncPart (Syncs sync) (λ place. At (384 + place)) Clocked Anything (word_cells 16 DATA_MARK) → (bytes : List ℕ)
-        → let disk = disk_of recording in
-        AreSectors disk.sectors disk.sector_size bytes
-        → Only (Syncs sync) (IsPlaceIn (place_of (row_size disk) disk.first_sector disk.sector_size (rows_of recording)) disk.first_sector disk.sectors At)
-        (ring recording track bytes) (ring recording track bytes)
+        → AreSectors disk.sectors (size_of disk.size) bytes
+        → Only (Syncs sync) (IsPlaceIn (place_of (row_size disk) disk.first_sector (size_of disk.size) (rows_of disk)) disk.first_sector disk.sectors At)
+        (ring disk track bytes) (ring disk track bytes)
     unfolding total rows_cells coded
-    only_in_marks recording track At id_part data_part bytes given =
-        let disk = disk_of recording in
-        places-in_ring false (row_cells disk track) (row_size disk) (row_length disk track) disk.first_sector disk.sectors disk.sector_size
-        (rows_of recording) bytes given.whole (Syncs sync) Clocked At
-        (λ before s number. sector_part disk track At id_part data_part recording before s (bytes_of disk.first_sector disk.sector_size bytes s))
-        (lead_in_quiet recording track disk.first_sector) (λ before. last_quiet disk.track_gap) (ring_clocked recording track bytes)
+    only_in_marks disk fills track At id_part data_part bytes given =
+        places-in_ring false (row_cells disk track) (row_size disk) (row_length disk track) disk.first_sector disk.sectors (size_of disk.size)
+        (rows_of disk) bytes given.whole (Syncs sync) Clocked At
+        (λ before s number. sector_part disk track At id_part data_part before s (bytes_of disk.first_sector (size_of disk.size) bytes s))
+        (lead_in_quiet disk disk.lead_in track disk.first_sector) (λ before. last_quiet (track_gap_of disk)) (ring_clocked disk track bytes)
 
 -- the ID mark, without its first cell, which is a one
 unfoldable sync_rest : List (Option Bool)
@@ -258,15 +253,15 @@ unfolding eight_clocks sync_rest word_cells clashes_at_all clashes
 in_data_mark = mark_quiet id_sync (λ place. 384 + place ≡ 0) DATA_MARK refl
 
 -- so in the ring it begins where headers do
-pub own_syncs : (recording : IbmFm) (track : TrackId) → let disk = disk_of recording in
+pub own_syncs : (disk : TrackNumbers) → FillFmTrack disk → (track : TrackId) →
     HasOwnSyncs 0xF57E 16 112 disk.first_sector disk.sectors Names
-    (place_of (row_size disk) disk.first_sector disk.sector_size (rows_of recording)) (AreSectors disk.sectors disk.sector_size) (ring recording track)
-own_syncs recording track = record {
+    (place_of (row_size disk) disk.first_sector (size_of disk.size) (rows_of disk)) (AreSectors disk.sectors (size_of disk.size)) (ring disk track)
+own_syncs disk fills track = record {
   lead = 0;
   rest = sync_rest;
   short = omega (arith, length-sync_rest);
   leads = λ cells s stands named. leads cells stands;
   only = λ bytes given place within test.
-      let at = only_in_marks id_sync id_is recording track (λ offset. offset ≡ 0) in_id_mark in_data_mark bytes given place within test in
+      let at = only_in_marks id_sync id_is disk fills track (λ offset. offset ≡ 0) in_id_mark in_data_mark bytes given place within test in
       (at.0, at.1, omega (arith, at.3, at.4));
 }

@@ -9,12 +9,13 @@ use Rattle.track_rings.specs.Rings.{AreSectors}
 use Rattle.track_rings.specs.Rows.{place_of}
 use Rattle.track_rings.specs.lemmas.Syncs.{Syncs, clashes, fits, fits-drop}
 use Rattle.frame_law.specs.lemmas.OwnData.{HasOwnDataSyncs}
+use Rattle.ibm_disks.specs.Numbers.{FillMfmTrack, size_of}
 use Rattle.ibm_fields.specs.Fields.{DATA_BYTE, DELETED_DATA_BYTE, ID_BYTE}
-use Rattle.ibm_mfm.specs.declared.recording.IbmMfm.{IbmMfm}
-use Rattle.ibm_mfm.specs.Disks.{disk_of}
-use Rattle.ibm_mfm.specs.Layout.{row_size, rows}
+use Rattle.ibm_disks.specs.declared.track_numbers.TrackNumbers.{TrackNumbers}
+use Rattle.ibm_mfm.specs.Layout.{row_size, rows_of}
+use Rattle.ibm_disks.specs.lemmas.NumberLaws.{size-least}
 use Rattle.ibm_mfm.specs.lemmas.MarkSyncs.{marks-lead, marks_before, marks_sync, only_in_marks, ring, spread, sync_after}
-use Rattle.ibm_mfm.specs.Sectors.{Hold, OpensData}
+use Rattle.ibm_mfm.specs.Sectors.{DATA_CELLS, Hold, OpensData}
 use Rattle.ibm_mfm.specs.Syncs.{SyncAt}
 
 -- the bits that both bytes begin with
@@ -42,16 +43,16 @@ unfolding sync_after spread data_bits marks_before word_cells mfm mfm_cells clas
 not_in_header = refl
 
 -- so in the ring it begins where data do, after the zero with which the first mark begins
-pub own_data : (recording : IbmMfm) (track : TrackId) → let disk = disk_of recording in
-    HasOwnDataSyncs 160 8288 704 disk.first_sector disk.sectors (λ cells. 160) SyncAt Hold (place_of (row_size disk) disk.first_sector 512 rows)
-    (AreSectors disk.sectors 512) (ring recording track)
-own_data recording track = record {
+pub own_data : (disk : TrackNumbers) → FillMfmTrack disk → (track : TrackId) →
+    HasOwnDataSyncs 160 (DATA_CELLS (size_of disk.size)) 704 disk.first_sector disk.sectors (λ cells. 160) SyncAt (Hold (size_of disk.size))
+    (place_of (row_size disk) disk.first_sector (size_of disk.size) (rows_of disk)) (AreSectors disk.sectors (size_of disk.size)) (ring disk track)
+own_data disk fills track = record {
   lead = 1;
   pattern = marks_sync data_bits;
   short = omega (arith, length-sync);
-  near = λ cells. lit≤ tt;
+  near = λ cells. omega (arith, size-least disk.size);
   leads = λ cells sync bytes marks hold. leads cells sync marks hold.opens;
   only = λ bytes given place within test.
-      let at = only_in_marks data_bits recording track 705 (inr not_in_header) (inl refl) bytes given place within test in
+      let at = only_in_marks data_bits disk fills track 705 (inr not_in_header) (inl refl) bytes given place within test in
       (at.0, at.1, 705, inl refl, at.2);
 }

@@ -1,56 +1,72 @@
--- The sums of each disk's rows, its numbers, and that its tracks end with a zero.
-use Rattle.std.specs.Prelude.{◌≡◌, ℕ, zero, suc, ◌+◌, ◌^◌, ◌≤◌, Bool, true, false, ◌&&◌, [], ◌++◌, replicate, refl}
-use Rattle.std.proofs.Common.{◌∙◌, arith, lit≤}
+-- The sums of a track's rows, its numbers, and that tracks end with a zero.
+use Rattle.std.specs.Prelude.{◌≡◌, ℕ, ◌+◌, ◌*◌, ◌≤◌, Bool, true, false, ◌&&◌, [], refl, Some}
+use Rattle.std.proofs.Common.{◌∙◌, arith, lit<, lit≤}
+use Rattle.ibm_fields.specs.Fields.{size_of_code}
+use Rattle.flux_base.specs.Bounds.{LONGEST_RING, MOST_SECTOR_BYTES}
 use Rattle.flux_base.specs.declared.track.TrackId.{TrackId}
-use Rattle.track_rings.specs.Rows.{frame_size, last_of, ring_size, rows_cells, total}
+use Rattle.frame_law.specs.Frames.{IsWithinReach}
+use Rattle.track_rings.specs.Rows.{frame_size, last_of, pitch_of, ring_size, rows_cells, total}
+use Rattle.ibm_disks.specs.Numbers.{FillMfmTrack, code_of, mfm_around, mfm_before, size_of}
+use Rattle.ibm_disks.specs.declared.sector_size.SectorSize.{SectorSize}
+use Rattle.ibm_disks.specs.declared.sector_size.SectorSize.TheVariants.{Bytes128, Bytes256, Bytes512, Bytes1024}
+use Rattle.ibm_disks.specs.declared.track_numbers.LeadIn.{LeadIn}
+use Rattle.ibm_disks.specs.declared.track_numbers.LeadIn.TheVariants.{Indexed, Bare}
+use Rattle.ibm_disks.specs.declared.track_numbers.TrackNumbers.{TrackNumbers}
+use Rattle.ibm_disks.specs.lemmas.NumberLaws.{cells-fill, size-least, size-most}
 use Rattle.mfm_coding.specs.declared.symbol.Symbol.TheVariants.{Data}
-use Rattle.mfm_coding.specs.lemmas.CodingLaws.{last_bit}
+use Rattle.mfm_coding.specs.lemmas.CodingLaws.{last_bit, run-bit}
 use Rattle.mfm_coding.specs.lemmas.SymbolRows.{rows-end, rows_symbols}
-use Rattle.ibm_mfm.specs.declared.layout.Disk.{Disk}
-use Rattle.ibm_mfm.specs.declared.recording.IbmMfm.{IbmMfm}
-use Rattle.ibm_mfm.specs.declared.recording.IbmMfm.TheVariants.{Pc8, Pc9, Pc15, Pc18, Atari10, CpcData, CpcSystem}
-use Rattle.ibm_mfm.specs.Disks.{disk_of}
-use Rattle.ibm_mfm.specs.Layout.{row_cells, row_size, row_symbols, rows}
+use Rattle.ibm_mfm.specs.Layout.{lead_in_rows, row_cells, row_size, row_symbols, rows_of, track_gap_of}
+use Rattle.ibm_mfm.specs.Sectors.{DATA_CELLS}
 
--- what a disk's numbers have to be: its rows fill its tracks, which are not too long and end with a gap, and its sectors have numbers
--- of 8 bits
-pub record IsSound (disk : Disk) : Type 0 where
-  pub filled : ring_size (row_size disk) disk.sectors 512 rows ≡ disk.cells
-  pub few_cells : disk.cells ≤ 2 ^ 18
-  pub gap : 1 ≤ disk.track_gap
-  pub some : 1 ≤ disk.sectors
-  pub few : disk.first_sector + disk.sectors ≤ 256
+-- the code of a size tells it
+pub size_told : (size : SectorSize) → size_of_code (code_of size) ≡ Some (size_of size)
+size_told Bytes128 = refl
+size_told Bytes256 = refl
+size_told Bytes512 = refl
+size_told Bytes1024 = refl
 
-sound : (recording : IbmMfm) → IsSound (disk_of recording)
-unfolding total
-sound Pc8 = record { filled = refl; few_cells = lit≤ tt; gap = lit≤ tt; some = lit≤ tt; few = lit≤ tt }
-sound Pc9 = record { filled = refl; few_cells = lit≤ tt; gap = lit≤ tt; some = lit≤ tt; few = lit≤ tt }
-sound Pc15 = record { filled = refl; few_cells = lit≤ tt; gap = lit≤ tt; some = lit≤ tt; few = lit≤ tt }
-sound Pc18 = record { filled = refl; few_cells = lit≤ tt; gap = lit≤ tt; some = lit≤ tt; few = lit≤ tt }
-sound Atari10 = record { filled = refl; few_cells = lit≤ tt; gap = lit≤ tt; some = lit≤ tt; few = lit≤ tt }
-sound CpcData = record { filled = refl; few_cells = lit≤ tt; gap = lit≤ tt; some = lit≤ tt; few = lit≤ tt }
-sound CpcSystem = record { filled = refl; few_cells = lit≤ tt; gap = lit≤ tt; some = lit≤ tt; few = lit≤ tt }
+pub within_reach : (size : SectorSize) → IsWithinReach 160 704 (DATA_CELLS (size_of size))
+within_reach size = record { after = lit≤ tt; near = lit< tt; few = omega (arith, size-most size) }
 
--- a gap ends with a zero
-gap-bit : (count : ℕ) (before : Bool) → 1 ≤ count → last_bit before (replicate count (Data 0x4E) ++ []) ≡ false
-gap-bit zero before some = absurd (omega arith)
-gap-bit (suc zero) before some = refl
-gap-bit (suc (suc count)) before some = gap-bit (suc count) false (omega arith)
+pub header_short : (size : SectorSize) → 160 ≤ DATA_CELLS (size_of size)
+header_short size = omega (arith, size-least size)
 
-module _ (recording : IbmMfm) where
-  pub counts : (1 ≤ (disk_of recording).sectors) × ((disk_of recording).first_sector + (disk_of recording).sectors ≤ 256) × (512 ≤ 512)
-  counts = ((sound recording).some, (sound recording).few, lit≤ tt)
-
-  pub sums : (frame_size (row_size (disk_of recording)) 512 rows ≡ 704 + 8288)
-      × (ring_size (row_size (disk_of recording)) (disk_of recording).sectors 512 rows ≡ (disk_of recording).cells)
-      × ((disk_of recording).cells ≤ 2 ^ 18)
+module _ (disk : TrackNumbers) where
+  lead_in-size : (kind : LeadIn) → total (row_size disk 0) (lead_in_rows kind) ≡ 16 * mfm_before kind
   unfolding total
-  sums = (refl, (sound recording).filled, (sound recording).few_cells)
+  lead_in-size Indexed = refl
+  lead_in-size Bare = refl
 
-  pub last_zero : (track : TrackId) (before : Bool)
-      → last_bit before (rows_symbols (row_symbols (disk_of recording) track) (disk_of recording).first_sector [] rows.lead_out) ≡ false
-  last_zero track before = gap-bit (disk_of recording).track_gap before (sound recording).gap
+  pitch-size : pitch_of (row_size disk) (size_of disk.size) (rows_of disk) ≡ 16 * (mfm_around disk.lead_in + size_of disk.size + disk.sector_gap)
+  unfolding total
+  pitch-size = omega arith
 
-  pub ends : (track : TrackId) (before : Bool)
-      → (true && last_of before (rows_cells true (row_cells (disk_of recording) track) before (disk_of recording).first_sector [] rows.lead_out)) ≡ false
-  ends track before = rows-end (row_symbols (disk_of recording) track) before (disk_of recording).first_sector [] rows.lead_out ∙ last_zero track before
+  framed : frame_size (row_size disk) (size_of disk.size) (rows_of disk) ≡ 704 + DATA_CELLS (size_of disk.size)
+  unfolding total
+  framed = omega arith
+
+  module _ (fills : FillMfmTrack disk) where
+    pub counts : (1 ≤ disk.sectors) × (disk.first_sector + disk.sectors ≤ 256) × (size_of disk.size ≤ MOST_SECTOR_BYTES)
+    counts = (fills.some, fills.few, size-most disk.size)
+
+    filled : ring_size (row_size disk) disk.sectors (size_of disk.size) (rows_of disk) ≡ 16 * disk.bytes
+    unfolding total
+    filled =
+        let all = cells-fill (mfm_before disk.lead_in) (mfm_around disk.lead_in + size_of disk.size + disk.sector_gap) disk.sectors disk.bytes
+        (total (row_size disk 0) (lead_in_rows disk.lead_in)) (pitch_of (row_size disk) (size_of disk.size) (rows_of disk)) (lead_in-size disk.lead_in)
+        pitch-size fills.within in
+        omega (arith, all)
+
+    pub sums : (frame_size (row_size disk) (size_of disk.size) (rows_of disk) ≡ 704 + DATA_CELLS (size_of disk.size))
+        × (ring_size (row_size disk) disk.sectors (size_of disk.size) (rows_of disk) ≡ 16 * disk.bytes)
+        × (16 * disk.bytes ≤ LONGEST_RING)
+    sums = (framed, filled, omega (arith, fills.short))
+
+    pub last_zero : (track : TrackId) (before : Bool)
+        → last_bit before (rows_symbols (row_symbols disk track) disk.first_sector [] (rows_of disk).lead_out) ≡ false
+    last_zero track before = run-bit (Data 0x4E) (track_gap_of disk) before (omega (arith, fills.within))
+
+    pub ends : (track : TrackId) (before : Bool)
+        → (true && last_of before (rows_cells true (row_cells disk track) before disk.first_sector [] (rows_of disk).lead_out)) ≡ false
+    ends track before = rows-end (row_symbols disk track) before disk.first_sector [] (rows_of disk).lead_out ∙ last_zero track before

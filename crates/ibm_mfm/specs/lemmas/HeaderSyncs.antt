@@ -10,12 +10,12 @@ use Rattle.track_rings.specs.Rows.{place_of}
 use Rattle.track_rings.specs.lemmas.Syncs.{clashes}
 use Rattle.frame_law.specs.lemmas.OwnFrames.{HasOwnSyncs}
 use Rattle.mfm_coding.specs.lemmas.MarkPlaces.{mark_front}
+use Rattle.ibm_disks.specs.Numbers.{FillMfmTrack, size_of}
 use Rattle.ibm_fields.specs.Fields.{DATA_BYTE, ID_BYTE}
-use Rattle.ibm_mfm.specs.declared.recording.IbmMfm.{IbmMfm}
-use Rattle.ibm_mfm.specs.Disks.{disk_of}
-use Rattle.ibm_mfm.specs.Layout.{row_size, rows}
+use Rattle.ibm_disks.specs.declared.track_numbers.TrackNumbers.{TrackNumbers}
+use Rattle.ibm_mfm.specs.Layout.{row_size, rows_of}
 use Rattle.ibm_mfm.specs.lemmas.MarkSyncs.{marks-lead, marks_before, marks_sync, only_in_marks, ring, spread, sync_after}
-use Rattle.frame_law.specs.declared.header_name.HeaderName.{HeaderName}
+use Rattle.flux_base.specs.declared.header_name.HeaderName.{HeaderName}
 use Rattle.ibm_mfm.specs.Sectors.{Names}
 use Rattle.ibm_mfm.specs.lemmas.SyncLaws.{sync-joined}
 
@@ -40,13 +40,13 @@ unfolding sync_after spread header_bits marks_before word_cells mfm mfm_cells cl
 not_in_data = refl
 
 -- so in the ring it begins where headers do, after the zero with which the first mark begins
-pub own_syncs : (recording : IbmMfm) (track : TrackId) → let disk = disk_of recording in
-    HasOwnSyncs 0x44894489 32 160 disk.first_sector disk.sectors Names (place_of (row_size disk) disk.first_sector 512 rows)
-    (AreSectors disk.sectors 512) (ring recording track)
-own_syncs recording track = record {
+pub own_syncs : (disk : TrackNumbers) → FillMfmTrack disk → (track : TrackId) →
+    HasOwnSyncs 0x44894489 32 160 disk.first_sector disk.sectors Names (place_of (row_size disk) disk.first_sector (size_of disk.size) (rows_of disk))
+    (AreSectors disk.sectors (size_of disk.size)) (ring disk track)
+own_syncs disk fills track = record {
   lead = 1;
   rest = sync_rest;
   short = omega (arith, length-sync_rest);
   leads = leads;
-  only = only_in_marks header_bits recording track 1 (inl refl) (inr not_in_data);
+  only = only_in_marks header_bits disk fills track 1 (inl refl) (inr not_in_data);
 }

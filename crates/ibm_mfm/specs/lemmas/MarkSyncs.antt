@@ -2,7 +2,7 @@
 use Rattle.std.specs.Prelude.{◌≡◌, ℕ, zero, suc, ◌+◌, ◌*◌, ◌^◌, ◌≤◌, ◌⊎◌, Bool, true, false, List, [], ◌∷◌, ◌++◌, length, take, drop, replicate, Option, Some, None, refl}
 use Rattle.std.proofs.Common.{ap, sym, subst, ◌∙◌, arith, inl, inr, append_assoc}
 use Rattle.std.proofs.lemmas.Bool.{cases_lt}
-use Rattle.std.proofs.lemmas.List.{drop-drop, length-take, take-append-drop, take-take}
+use Rattle.std.proofs.lemmas.List.{drop-drop, length-replicate, length-take, take-append-drop, take-take}
 use Rattle.std.proofs.Math.Pow.{pow_mono}
 use Rattle.flux_base.specs.declared.track.TrackId.{TrackId}
 use Rattle.cell_bits.specs.Bytes.{data_byte, data_cells, mfm, mfm_cells}
@@ -19,12 +19,13 @@ use Rattle.mfm_coding.specs.Coding.{bytes_as_data, coded, symbol_cells}
 use Rattle.mfm_coding.specs.lemmas.CodingLaws.{last_bit}
 use Rattle.mfm_coding.specs.lemmas.MarkPlaces.{FollowsBit, QuietSymbols, SyncSymbols, bytes_quiet, mark_front, no-symbols, quiet-run, quiet-symbols, symbols-append, symbols-joined, symbols-skip, symbols-then}
 use Rattle.mfm_coding.specs.lemmas.SymbolRows.{rows_symbols, syncs-in_symbols, track_symbols}
-use Rattle.ibm_mfm.specs.declared.layout.Disk.{Disk}
+use Rattle.ibm_disks.specs.Numbers.{FillMfmTrack, code_of, mfm_zeros, size_of}
+use Rattle.ibm_disks.specs.declared.track_numbers.LeadIn.{LeadIn}
+use Rattle.ibm_disks.specs.declared.track_numbers.LeadIn.TheVariants.{Indexed, Bare}
+use Rattle.ibm_disks.specs.declared.track_numbers.TrackNumbers.{TrackNumbers}
 use Rattle.ibm_mfm.specs.lemmas.DiskLaws.{last_zero}
-use Rattle.ibm_mfm.specs.declared.recording.IbmMfm.{IbmMfm}
-use Rattle.ibm_mfm.specs.Disks.{disk_of}
 use Rattle.ibm_mfm.specs.lemmas.FrameLaws.{three_marks}
-use Rattle.ibm_mfm.specs.Layout.{field, row_cells, row_size, row_symbols, rows}
+use Rattle.ibm_mfm.specs.Layout.{field, lead_in_rows, row_cells, row_size, row_symbols, rows_of, track_gap_of}
 use Rattle.ibm_mfm.specs.lemmas.RowLaws.{row_sized}
 use Rattle.ibm_mfm.specs.Sectors.{address_of, check_of}
 use Rattle.ibm_mfm.specs.Syncs.{SyncAt, THREE_MARKS}
@@ -114,10 +115,8 @@ index_marks : List Symbol
 index_marks = IndexMark ∷ IndexMark ∷ IndexMark ∷ []
 
 -- a ring
-abbrev pub ring : IbmMfm → TrackId → List ℕ → List Bool
-ring recording track bytes =
-    let disk = disk_of recording in
-    ring_of true (row_cells disk track) disk.first_sector disk.sectors 512 bytes rows
+abbrev pub ring : TrackNumbers → TrackId → List ℕ → List Bool
+ring disk track bytes = ring_of true (row_cells disk track) disk.first_sector disk.sectors (size_of disk.size) bytes (rows_of disk)
 
 module _ (bits : List Bool) where
   bytes_open : (before : Bool) (byte : ℕ) (bytes : List ℕ)
@@ -190,21 +189,28 @@ module _ (bits : List Bool) where
       )
 
   -- a disk's track
-  module _ (disk : Disk) (track : TrackId) where
+  module _ (disk : TrackNumbers) (track : TrackId) where
+    header_zeros : List Symbol
+    header_zeros = replicate (mfm_zeros disk.lead_in) (Data 0x00)
+
     -- A sector, in whose marks the sync begins so many cells after its frame does: in those of the header or in those of the data.
     sector_part : (lead s : ℕ) (bytes : List ℕ) → (1 ≡ lead) ⊎ (clashes (marks_sync bits) (drop 1 (marks_before ID_BYTE)) ≡ true)
         → (705 ≡ lead) ⊎ (clashes (marks_sync bits) (drop 1 (marks_before DATA_BYTE)) ≡ true)
-        → SyncSymbols (Syncs (marks_sync bits)) (λ place. place ≡ 192 + lead) (rows_symbols (row_symbols disk track) s bytes (sector_rows rows))
+        → SyncSymbols (Syncs (marks_sync bits)) (λ place. place ≡ 16 * length header_zeros + lead)
+        (rows_symbols (row_symbols disk track) s bytes (sector_rows (rows_of disk)))
+    unfolding header_zeros
     sector_part lead s bytes in_header in_data =
         let Test : List Bool → Type 0 = Syncs (marks_sync bits) in
         let after = sync_after bits in
+        let first_zeros = header_zeros in
+        let before = 16 * length first_zeros in
         let zeros = replicate 12 (Data 0x00) in
         let gap = replicate 22 (Data 0x4E) in
         let last = replicate disk.sector_gap (Data 0x4E) ++ [] in
-        let name = field ID_BYTE (address_of track s) in
+        let name = field ID_BYTE (address_of (code_of disk.size) track s) in
         let held = field DATA_BYTE bytes in
-        let Third : ℕ → Type 0 = λ place. 192 + (160 + (352 + (192 + place))) ≡ 192 + lead in
-        let Header : ℕ → Type 0 = λ place. 192 + place ≡ 192 + lead in
+        let Third : ℕ → Type 0 = λ place. before + (160 + (352 + (192 + place))) ≡ before + lead in
+        let Header : ℕ → Type 0 = λ place. before + place ≡ before + lead in
         let quiet_last = quiet-symbols Test (replicate disk.sector_gap (Data 0x4E)) [] (quiet-run after disk.sector_gap 0x4E) (no-symbols Test) in
         let third_second : (Third 1) ⊎ (clashes (marks_sync bits) (drop 1 (marks_before DATA_BYTE)) ≡ true) =
         elim in_data [ inl own ↦ inl (omega (arith, own)) | inr clash ↦ inr clash ] in
@@ -214,18 +220,21 @@ module _ (bits : List Bool) where
         (symbols-then Test Third (three_marks ++ held) last
         (marks-bytes Third three_marks DATA_BYTE (bytes ++ high_first (check_of DATA_BYTE bytes)) (marks_part Third DATA_BYTE in_data_marks third_second)) quiet_last) in
         let data_symbols = three_marks ++ (held ++ last) in
-        let second = symbols-skip Test (λ place. 192 + (160 + place) ≡ 192 + lead) gap (zeros ++ data_symbols) (quiet-run after 22 0x4E)
-        (symbols-skip Test (λ place. 192 + (160 + (352 + place)) ≡ 192 + lead) zeros data_symbols (quiet-run after 12 0x00) third) in
+        let second = symbols-skip Test (λ place. before + (160 + place) ≡ before + lead) gap (zeros ++ data_symbols) (quiet-run after 22 0x4E)
+        (symbols-skip Test (λ place. before + (160 + (352 + place)) ≡ before + lead) zeros data_symbols (quiet-run after 12 0x00) third) in
         let first = subst (SyncSymbols Test Header) (append_assoc three_marks name (gap ++ (zeros ++ data_symbols)))
         (symbols-append Test Header (three_marks ++ name) (gap ++ (zeros ++ data_symbols))
-        (marks-bytes Header three_marks ID_BYTE (address_of track s ++ high_first (check_of ID_BYTE (address_of track s)))
+        (marks-bytes Header three_marks ID_BYTE (address_of (code_of disk.size) track s ++ high_first (check_of ID_BYTE (address_of (code_of disk.size) track s)))
         (marks_part Header ID_BYTE in_header_marks header_second))
         second) in
-        symbols-skip Test (λ place. place ≡ 192 + lead) zeros (three_marks ++ (name ++ (gap ++ (zeros ++ data_symbols)))) (quiet-run after 12 0x00) first
+        symbols-skip Test (λ place. place ≡ before + lead) first_zeros (three_marks ++ (name ++ (gap ++ (zeros ++ data_symbols))))
+        (quiet-run after (mfm_zeros disk.lead_in) 0x00) first
 
-    lead_in_quiet : (s : ℕ) → QuietSymbols (Syncs (marks_sync bits)) (rows_symbols (row_symbols disk track) s [] rows.lead_in)
+    lead_in_quiet : (kind : LeadIn) (s : ℕ) → QuietSymbols (Syncs (marks_sync bits)) (rows_symbols (row_symbols disk track) s [] (lead_in_rows kind))
     unfolding index_marks
-    lead_in_quiet s =
+    lead_in_quiet Bare s =
+        quiet-symbols (Syncs (marks_sync bits)) (replicate 10 (Data 0x4E)) [] (quiet-run (sync_after bits) 10 0x4E) (no-symbols (Syncs (marks_sync bits)))
+    lead_in_quiet Indexed s =
         let Test : List Bool → Type 0 = Syncs (marks_sync bits) in
         let after = sync_after bits in
         let last = replicate 50 (Data 0x4E) ++ [] in
@@ -237,30 +246,39 @@ module _ (bits : List Bool) where
         (quiet-symbols Test (index_marks ++ one) last (marks-bytes (λ place. ⊥) index_marks 0xFC [] index_quiet)
         (quiet-symbols Test (replicate 50 (Data 0x4E)) [] (quiet-run after 50 0x4E) (no-symbols Test)))))
 
-    lead_out_quiet : (s : ℕ) → QuietSymbols (Syncs (marks_sync bits)) (rows_symbols (row_symbols disk track) s [] rows.lead_out)
+    lead_out_quiet : (s : ℕ) → QuietSymbols (Syncs (marks_sync bits)) (rows_symbols (row_symbols disk track) s [] (rows_of disk).lead_out)
     lead_out_quiet s =
-        quiet-symbols (Syncs (marks_sync bits)) (replicate disk.track_gap (Data 0x4E)) [] (quiet-run (sync_after bits) disk.track_gap 0x4E)
+        quiet-symbols (Syncs (marks_sync bits)) (replicate (track_gap_of disk) (Data 0x4E)) []
+        (quiet-run (sync_after bits) (track_gap_of disk) 0x4E)
         (no-symbols (Syncs (marks_sync bits)))
 
     -- a ring begins with a byte
-    ring_follows : (sectors : ℕ) (bytes : List ℕ) → FollowsBit false (coded false (track_symbols (row_symbols disk track) disk.first_sector sectors 512 rows bytes))
+    lead_in_follows : (kind : LeadIn) (s : ℕ) (rest : List Symbol)
+        → FollowsBit false (coded false (rows_symbols (row_symbols disk track) s [] (lead_in_rows kind) ++ rest))
     unfolding coded
-    ring_follows sectors bytes = (Data 0x4E, _, refl)
+    lead_in_follows Indexed s rest = (Data 0x4E, _, refl)
+    lead_in_follows Bare s rest = (Data 0x4E, _, refl)
+
+    ring_follows : (bytes : List ℕ)
+        → FollowsBit false (coded false (track_symbols (row_symbols disk track) disk.first_sector disk.sectors (size_of disk.size) (rows_of disk) bytes))
+    ring_follows bytes = lead_in_follows disk.lead_in disk.first_sector _
 
   -- So in the ring it begins so many cells after the sectors' frames do: at the second cell of the header's marks or of the data's,
   -- where it clashes with the byte after the others.
-  pub only_in_marks : (recording : IbmMfm) (track : TrackId) (lead : ℕ)
+  pub only_in_marks : (disk : TrackNumbers) → FillMfmTrack disk → (track : TrackId) (lead : ℕ)
       → (1 ≡ lead) ⊎ (clashes (marks_sync bits) (drop 1 (marks_before ID_BYTE)) ≡ true)
       → (705 ≡ lead) ⊎ (clashes (marks_sync bits) (drop 1 (marks_before DATA_BYTE)) ≡ true) → (bytes : List ℕ)
-      → let disk = disk_of recording in
-      AreSectors disk.sectors 512 bytes
-      → Only (Syncs (marks_sync bits)) (IsSyncPlace (place_of (row_size disk) disk.first_sector 512 rows) disk.first_sector disk.sectors lead)
-      (ring recording track bytes) (ring recording track bytes)
-  unfolding total
-  only_in_marks recording track lead in_header in_data bytes given =
-      let disk = disk_of recording in
-      syncs-in_symbols (row_symbols disk track) disk.first_sector disk.sectors 512 rows bytes (row_size disk)
+      → AreSectors disk.sectors (size_of disk.size) bytes
+      → Only (Syncs (marks_sync bits)) (IsSyncPlace (place_of (row_size disk) disk.first_sector (size_of disk.size) (rows_of disk))
+      disk.first_sector disk.sectors lead) (ring disk track bytes) (ring disk track bytes)
+  unfolding total header_zeros
+  only_in_marks disk fills track lead in_header in_data bytes given =
+      let zeros : 16 * length (replicate (mfm_zeros disk.lead_in) (Data 0x00)) ≡ 16 * mfm_zeros disk.lead_in + 0 =
+      omega (arith, length-replicate (mfm_zeros disk.lead_in) (Data 0x00)) in
+      syncs-in_symbols (row_symbols disk track) disk.first_sector disk.sectors (size_of disk.size) (rows_of disk) bytes (row_size disk)
       (λ s content row. row_sized disk track s content row) given.whole (Syncs (marks_sync bits)) lead
-      (λ s number. sector_part disk track lead s (bytes_of disk.first_sector 512 bytes s) in_header in_data)
-      (lead_in_quiet disk track disk.first_sector) (lead_out_quiet disk track disk.first_sector)
-      (last_zero recording track) (ring_follows disk track disk.sectors bytes)
+      (λ s number. subst (λ (n : ℕ). SyncSymbols (Syncs (marks_sync bits)) (λ place. place ≡ n + lead)
+      (rows_symbols (row_symbols disk track) s (bytes_of disk.first_sector (size_of disk.size) bytes s) (sector_rows (rows_of disk)))) zeros
+      (sector_part disk track lead s (bytes_of disk.first_sector (size_of disk.size) bytes s) in_header in_data))
+      (lead_in_quiet disk track disk.lead_in disk.first_sector) (lead_out_quiet disk track disk.first_sector)
+      (last_zero disk fills track) (ring_follows disk track bytes)

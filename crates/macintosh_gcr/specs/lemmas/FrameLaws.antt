@@ -55,16 +55,17 @@ names-sector : (disk : MacintoshGcr) (track : TrackId) (sector : ℕ) (rest : Li
 unfolding header_cells
 names-sector disk track sector rest known few =
     let mark = word_cells 24 ADDRESS_MARK in
-    let values = header_values track sector (format_of disk) in
-    record {
-      format = format_of disk;
-      format_fits = format-fits disk;
-      low_fits = omega arith;
-      side_fits = side-fits track known.cylinder (let heads = few-heads disk in omega (arith, heads, known.head));
-      sector_fits = few;
-      values = subst (λ (cells : List Bool). NibblesAt cells 24 values) (sym (append_assoc mark (nibble_cells values) rest))
-          (nibbles-read mark values rest 24 (length-word_cells 24 ADDRESS_MARK) (header-fit disk track sector known few));
-    }
+    let values = header_values track sector (format_of disk) in (
+      format_of disk,
+      record {
+        format_fits = format-fits disk;
+        low_fits = omega arith;
+        side_fits = side-fits track known.cylinder (let heads = few-heads disk in omega (arith, heads, known.head));
+        sector_fits = few;
+        values = subst (λ (cells : List Bool). NibblesAt cells 24 values) (sym (append_assoc mark (nibble_cells values) rest))
+            (nibbles-read mark values rest 24 (length-word_cells 24 ADDRESS_MARK) (header-fit disk track sector known few));
+      },
+    )
 
 -- the mark stands first
 begins-so : (disk : MacintoshGcr) (track : TrackId) (sector : ℕ) (rest : List Bool)
@@ -103,7 +104,7 @@ holds disk track sector bytes rest known few fit size =
     let tags = with_tags-is bytes size in
     record {
       opens = disk_byte-past header (gap_and_mark ++ last) 64 100 header_size ∙ (gap last).2;
-      of_sector = stand 0 (omega (arith, all)) ∙ sym (names.values 1 (lit< tt));
+      of_sector = stand 0 (omega (arith, all)) ∙ sym (names.1.values 1 (lit< tt));
       tags = replicate 12 0;
       coded_values = data_values 0 NO_SUMS (with_tags bytes);
       tags_size = refl;

@@ -6,15 +6,16 @@ use Rattle.std.proofs.Math.Seq.{drop-append_seam}
 use Rattle.flux_base.specs.declared.track.TrackId.{TrackId}
 use Rattle.track_rings.specs.lemmas.Fronts.{AgreeTo, agree-stands}
 use Rattle.frame_law.specs.Frames.{AreSizes, IsWithinReach}
-use Rattle.frame_law.specs.lemmas.OwnFrames.{NamesSectors, TellsEarly}
+use Rattle.frame_law.specs.lemmas.OwnFrames.{TellsEarly}
+use Rattle.frame_law.specs.Others.{NamesSectors}
 use Rattle.apple_nibbles.specs.Marks.{IsSync}
 use Rattle.apple_nibbles.specs.Nibbles.{disk_byte}
 use Rattle.apple_nibbles.specs.lemmas.FieldBytes.{same_byte}
 use Rattle.apple_nibbles.specs.lemmas.NibbleLaws.{one_value}
 use Rattle.macintosh_gcr.specs.Coding.{AreSixBits, IsCoded, NO_SUMS}
-use Rattle.macintosh_gcr.specs.Sectors.{Hold, Names, NamesSector, checked, low_value, named_values, sector_name, side_value}
-use Rattle.frame_law.specs.declared.header_name.HeaderName.{HeaderName}
-use Rattle.frame_law.specs.declared.header_name.HeaderName.TheVariants.{Address, TrackSector}
+use Rattle.macintosh_gcr.specs.Sectors.{Hold, IsNameOf, Names, NamesSector, checked, low_value, named_values, side_value}
+use Rattle.flux_base.specs.declared.header_name.HeaderName.{HeaderName}
+use Rattle.flux_base.specs.declared.header_name.HeaderName.TheVariants.{Address, TrackSector, TrackSectorSide}
 use Rattle.macintosh_gcr.specs.lemmas.CodingLaws.{AreSums, FirstSame, data-fit, data-length, one_plain}
 use Rattle.macintosh_gcr.specs.lemmas.Values.{nibbles-agree, one_nibble}
 
@@ -32,51 +33,47 @@ sizes = record {
 pub within_reach : IsWithinReach 64 148 5656
 within_reach = record { after = lit≤ tt; near = lit< tt; few = lit≤ tt }
 
--- the first three nibbles are those of the name
-one_address : (a b c d e f : ℕ) (m n : ℕ) → a ≡ b → c ≡ d → e ≡ f → m ≡ n → Address a c e m ≡ Address b d f n
-one_address a b c d e f m n first second third fourth = cc
+-- the first four nibbles are those of the name
+one_values : (a b c d e f m n : ℕ) → a ≡ b → c ≡ d → e ≡ f → m ≡ n → TrackSectorSide a c e m ≡ TrackSectorSide b d f n
+one_values a b c d e f m n first second third fourth = cc
 
-same_name : (total : ℕ) (cells others : List Bool) → AgreeTo total cells others → 48 ≤ total → (n m : HeaderName) → Names cells n → Names others m → n ≡ m
+same_name : (total : ℕ) (cells others : List Bool) → AgreeTo total cells others → 56 ≤ total → (n m : HeaderName) → Names cells n → Names others m → n ≡ m
+same_name total cells others same long (Address cylinder head sector size) m first second = absurd first
 same_name total cells others same long (TrackSector track sector) m first second = absurd first
-same_name total cells others same long (Address low side s size) (TrackSector track sector) first second = absurd second
-same_name total cells others same long (Address low side s size) (Address other far t code) first second =
-    let a = first.0 in
-    let b = second.0 in
-    let at : (place : ℕ) → place + 8 ≤ 48 → disk_byte others place ≡ disk_byte cells place = λ place below.
+same_name total cells others same long (TrackSectorSide low s side format) (Address cylinder head sector size) first second = absurd second
+same_name total cells others same long (TrackSectorSide low s side format) (TrackSector track sector) first second = absurd second
+same_name total cells others same long (TrackSectorSide low s side format) (TrackSectorSide other t far form) first second =
+    let at : (place : ℕ) → place + 8 ≤ 56 → disk_byte others place ≡ disk_byte cells place = λ place below.
     same_byte total cells others same place (omega (arith, below, long)) in
-    one_address low other side far s t size code
-    (one_value low other a.low_fits b.low_fits (sym (a.values 0 (lit< tt)) ∙ sym (at 24 (lit≤ tt)) ∙ b.values 0 (lit< tt)))
-    (one_value side far a.side_fits b.side_fits (sym (a.values 2 (lit< tt)) ∙ sym (at 40 (lit≤ tt)) ∙ b.values 2 (lit< tt)))
-    (one_value s t a.sector_fits b.sector_fits (sym (a.values 1 (lit< tt)) ∙ sym (at 32 (lit≤ tt)) ∙ b.values 1 (lit< tt)))
-    (first.1 ∙ sym second.1)
+    one_values low other s t side far format form
+    (one_value low other first.low_fits second.low_fits (sym (first.values 0 (lit< tt)) ∙ sym (at 24 (lit≤ tt)) ∙ second.values 0 (lit< tt)))
+    (one_value s t first.sector_fits second.sector_fits (sym (first.values 1 (lit< tt)) ∙ sym (at 32 (lit≤ tt)) ∙ second.values 1 (lit< tt)))
+    (one_value side far first.side_fits second.side_fits (sym (first.values 2 (lit< tt)) ∙ sym (at 40 (lit≤ tt)) ∙ second.values 2 (lit< tt)))
+    (one_value format form first.format_fits second.format_fits (sym (first.values 3 (lit< tt)) ∙ sym (at 48 (lit≤ tt)) ∙ second.values 3 (lit< tt)))
 
 pub one_name : (cells : List Bool) (n m : HeaderName) → Names cells n → Names cells m → n ≡ m
-one_name cells n m first second = same_name 48 cells cells refl (lit≤ tt) n m first second
+one_name cells n m first second = same_name 56 cells cells refl (lit≤ tt) n m first second
 
-pub named_sector : (track : TrackId) → NamesSectors Names (sector_name track) (NamesSector track)
+pub named_sector : (track : TrackId) → NamesSectors Names (IsNameOf track) (NamesSector track)
 named_sector track = record {
-  has_name = λ cells s named. (named, refl);
-  is_named = λ cells s named. named.0;
-  differ = λ s t same. one_sector (low_value track) (side_value track) s t same;
+  has_name = λ cells s named. (TrackSectorSide (low_value track) s (side_value track) named.0, named.1, (named.0, refl));
+  is_named = λ cells name s named same. (same.0, subst (Names cells) same.1 named);
+  one_sector = λ name s t first second. one_sector (low_value track) (side_value track) s t first.0 second.0 (sym first.1 ∙ second.1);
 }
   where
-    one_sector : (low side s t : ℕ) → Address low side s 0 ≡ Address low side t 0 → s ≡ t
-    one_sector low side s t same = cc
+    one_sector : (low side s t format form : ℕ) → TrackSectorSide low s side format ≡ TrackSectorSide low t side form → s ≡ t
+    one_sector low side s t format form same = cc
 
 named : (cells others : List Bool) (n : HeaderName) → AgreeTo 64 cells others → Names cells n → Names others n
+named cells others (Address cylinder head sector size) same names = absurd names
 named cells others (TrackSector track sector) same names = absurd names
-named cells others (Address low side s size) same names =
-    let own = names.0 in (
-      record {
-        format = own.format;
-        format_fits = own.format_fits;
-        low_fits = own.low_fits;
-        side_fits = own.side_fits;
-        sector_fits = own.sector_fits;
-        values = nibbles-agree 64 cells others 24 (checked (named_values low side s own.format)) same (lit≤ tt) own.values;
-      },
-      names.1,
-    )
+named cells others (TrackSectorSide low s side format) same names = record {
+  format_fits = names.format_fits;
+  low_fits = names.low_fits;
+  side_fits = names.side_fits;
+  sector_fits = names.sector_fits;
+  values = nibbles-agree 64 cells others 24 (checked (named_values low side s format)) same (lit≤ tt) names.values;
+}
 
 pub no_sums_fit : AreSums NO_SUMS
 no_sums_fit = record { a = lit< tt; b = lit< tt; c = lit< tt }

@@ -1,6 +1,7 @@
 -- What the zones have in common.
-use Rattle.std.specs.Prelude.{◌≡◌, ◌+◌, ◌*◌, ◌≤◌, ◌^◌, refl}
+use Rattle.std.specs.Prelude.{◌≡◌, ◌+◌, ◌*◌, ◌≤◌, refl}
 use Rattle.std.proofs.Common.{lit≤}
+use Rattle.flux_base.specs.Bounds.{LONGEST_RING, MOST_SECTOR_BYTES}
 use Rattle.flux_base.specs.declared.track.TrackId.{TrackId}
 use Rattle.disk_zones.specs.declared.zones.Zone.{Zone}
 use Rattle.disk_zones.specs.lemmas.EachZone.{by_macintosh_zone}
@@ -10,22 +11,22 @@ use Rattle.macintosh_gcr.specs.Sectors.{sectors_of, zone_of}
 
 abbrev FillsRing : Zone → Type 0
 FillsRing zone =
-    (frame_size (row_size zone) 512 rows ≡ 5804) × (ring_size (row_size zone) zone.sectors 512 rows ≡ zone.ring_cells) × (zone.ring_cells ≤ 2 ^ 18)
+    (frame_size (row_size zone) 512 rows ≡ 5804) × (ring_size (row_size zone) zone.sectors 512 rows ≡ zone.ring_cells) × (zone.ring_cells ≤ LONGEST_RING)
 
 -- the rows of a frame, and those of a track
 pub sums : (track : TrackId)
     → (frame_size (row_size (zone_of track)) 512 rows ≡ 5804)
     × (ring_size (row_size (zone_of track)) (sectors_of track) 512 rows ≡ (zone_of track).ring_cells)
-    × ((zone_of track).ring_cells ≤ 2 ^ 18)
+    × ((zone_of track).ring_cells ≤ LONGEST_RING)
 unfolding total
 sums track =
     by_macintosh_zone FillsRing track.cylinder
     ((refl, refl, lit≤ tt), ((refl, refl, lit≤ tt), ((refl, refl, lit≤ tt), ((refl, refl, lit≤ tt), (refl, refl, lit≤ tt)))))
 
 abbrev HasFew : Zone → Type 0
-HasFew zone = (1 ≤ zone.sectors) × (0 + zone.sectors ≤ 256) × (512 ≤ 512)
+HasFew zone = (1 ≤ zone.sectors) × (0 + zone.sectors ≤ 256) × (512 ≤ MOST_SECTOR_BYTES)
 
-pub counts : (track : TrackId) → (1 ≤ sectors_of track) × (0 + sectors_of track ≤ 256) × (512 ≤ 512)
+pub counts : (track : TrackId) → (1 ≤ sectors_of track) × (0 + sectors_of track ≤ 256) × (512 ≤ MOST_SECTOR_BYTES)
 counts track =
     by_macintosh_zone HasFew track.cylinder
     ((lit≤ tt, lit≤ tt, lit≤ tt), ((lit≤ tt, lit≤ tt, lit≤ tt), ((lit≤ tt, lit≤ tt, lit≤ tt), ((lit≤ tt, lit≤ tt, lit≤ tt), (lit≤ tt, lit≤ tt, lit≤ tt)))))

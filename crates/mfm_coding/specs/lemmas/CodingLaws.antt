@@ -1,5 +1,5 @@
 -- Coded bytes and marks: how many cells they have, and how they are joined.
-use Rattle.std.specs.Prelude.{◌≡◌, ℕ, ◌*◌, Bool, List, [], ◌∷◌, ◌++◌, length, refl, false}
+use Rattle.std.specs.Prelude.{◌≡◌, ℕ, zero, suc, ◌*◌, ◌≤◌, Bool, List, [], ◌∷◌, ◌++◌, length, refl, replicate, false}
 use Rattle.std.proofs.Common.{ap, sym, ◌∙◌, arith, append_assoc, append-nil, length-append}
 use Rattle.cell_bits.specs.Bytes.{data_cells, last_cell, mfm, mfm_cells}
 use Rattle.cell_bits.specs.Word.{word_cells}
@@ -63,6 +63,12 @@ coded-parts before part behind =
 pub last_bit-append : (before : Bool) (xs ys : List Symbol) → last_bit before (xs ++ ys) ≡ last_bit (last_bit before xs) ys
 last_bit-append before [] ys = refl
 last_bit-append before (symbol ∷ xs) ys = last_bit-append (low_bit symbol) xs ys
+
+-- a run ends as its symbol does
+pub run-bit : (symbol : Symbol) (count : ℕ) (before : Bool) → 1 ≤ count → last_bit before (replicate count symbol ++ []) ≡ low_bit symbol
+run-bit symbol zero before some = absurd (omega arith)
+run-bit symbol (suc zero) before some = refl
+run-bit symbol (suc (suc count)) before some = run-bit symbol (suc count) (low_bit symbol) (omega arith)
 
 last_cell-behind : (cells : List Bool) (next : Bool) (more : List Bool) → last_cell (cells ++ next ∷ more) ≡ last_cell (next ∷ more)
 unfolding last_cell

@@ -1,6 +1,6 @@
 use Rattle.std.proofs.Common.{inl, inr, subst, sym}
 use Rattle.sector_images.specs.declared.format.Format.{Format}
-use Rattle.sector_images.specs.declared.format.Format.TheVariants.{C1541, C1541Forty, Mac400, Mac800}
+use Rattle.sector_images.specs.declared.format.Format.TheVariants.{C1541, C1541Forty, C1571, Mac400, Mac800}
 use Rattle.disk_recordings.specs.Agreement.{Agrees}
 use Rattle.disk_recordings.specs.Recordings.{recording_of}
 use Rattle.disk_recordings.proofs.Agree.{agrees}
@@ -10,7 +10,10 @@ pub returns-in-C1541-clause-agrees : goal.returns-in-C1541-clause-agrees
 returns-in-C1541-clause-agrees c =
     elim c.in-C1541.is [
       | inl is ↦ subst (λ (f : Format). Agrees f (recording_of C1541 c.args.id)) (sym is) (agrees C1541 c.args.id)
-      | inr is ↦ subst (λ (f : Format). Agrees f (recording_of C1541 c.args.id)) (sym is) (agrees C1541Forty c.args.id)
+      | inr others ↦ elim others [
+        | inl is ↦ subst (λ (f : Format). Agrees f (recording_of C1541 c.args.id)) (sym is) (agrees C1541Forty c.args.id)
+        | inr is ↦ subst (λ (f : Format). Agrees f (recording_of C1541 c.args.id)) (sym is) (agrees C1571 c.args.id)
+      ]
     ]
 
 pub returns-in-Mac400-clause-agrees : goal.returns-in-Mac400-clause-agrees

@@ -1,14 +1,33 @@
 use Rattle.flux_cli.proofs.Captured.{folder_captured, folder_erased, runs_captured, runs_erased}
+use Rattle.flux_cli.proofs.Headlines.{Laws, runs_as_expected}
+use Rattle.flux_cli.proofs.program.run.Given.{Over}
 use Rattle.flux_cli.proofs.program.run.Goals as goal
 
+laws : (g : Over) (c : goal.After-run_words g) → Laws
+laws g c = record {
+  names = c.words_name_formats.ensures;
+  disks = c.captured_disks_decode.ensures.whole;
+  erased_disks = c.captured_disks_decode.ensures.erased;
+  sets = c.captured_sets_decode.ensures.whole;
+  erased_sets = c.captured_sets_decode.ensures.erased;
+  rescued = c.captured_disks_are_rescued.ensures;
+  steady = c.steady_disks_are_rescued.ensures.whole;
+  steady_erased = c.steady_disks_are_rescued.ensures.erased;
+  files = c.written_files_come_back.ensures;
+  trials = c.whole_trials_have_one_line.ensures;
+}
+
 pub returns-clause-captured : goal.returns-clause-captured
-returns-clause-captured g c = runs_captured c.words_name_formats.ensures _ _ _ _ c.run_words.ensures c.captured_disks_decode.ensures.whole
+returns-clause-captured g c = runs_captured (laws g c) _ _ _ _ c.run_words.ensures
 
 pub returns-clause-erased : goal.returns-clause-erased
-returns-clause-erased g c = runs_erased c.words_name_formats.ensures _ _ _ _ c.run_words.ensures c.captured_disks_decode.ensures.erased
+returns-clause-erased g c = runs_erased (laws g c) _ _ _ _ c.run_words.ensures
+
+pub returns-clause-expected : goal.returns-clause-expected
+returns-clause-expected g c = runs_as_expected (laws g c) _ _ _ _ c.run_words.ensures
 
 pub returns-clause-folder_captured : goal.returns-clause-folder_captured
-returns-clause-folder_captured g c = folder_captured c.words_name_formats.ensures _ _ _ _ c.run_words.ensures c.captured_disks_decode.ensures.whole
+returns-clause-folder_captured g c = folder_captured (laws g c) _ _ _ _ c.run_words.ensures
 
 pub returns-clause-folder_erased : goal.returns-clause-folder_erased
-returns-clause-folder_erased g c = folder_erased c.words_name_formats.ensures _ _ _ _ c.run_words.ensures c.captured_disks_decode.ensures.erased
+returns-clause-folder_erased g c = folder_erased (laws g c) _ _ _ _ c.run_words.ensures

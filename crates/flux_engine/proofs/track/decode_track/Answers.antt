@@ -38,7 +38,7 @@ returns-in-Ok-write_part-clause-decoded g c =
     let notes' = g.N.Sink.written c.write_part.new.notes in
     let is : c.track_id-track.result ≡ track_at inside.format n =
     sym (ap (λ (o : Option TrackId). unwrap_or o (record { cylinder = 0; head = 0 })) c.track_id-track.ensures.at) in
-    let here = subst (λ (t : TrackId). (readings : List NotedReading) → StandsFor inside.tools.book readings → WritesPart (part_of inside.format t readings) image image' notes notes' (Ok c.in-Ok-write_part.totals))
+    let here = subst (λ (t : TrackId). (readings : List NotedReading) → StandsFor inside.tools.gathered.book readings → WritesPart (part_of inside.format t readings) image image' notes notes' (Ok c.in-Ok-write_part.totals))
     is c.in-Ok-write_part.ensures.wrote in
     let wrote = subst (λ (r : RoomState). (readings : List NotedReading) → StandsFor r.book readings → WritesPart (part_of r.format (track_at r.format n) readings) image image' notes notes' (Ok c.in-Ok-write_part.totals))
     c.room.view_is here in
@@ -61,7 +61,7 @@ returns-in-Err-write_part-clause-decoded g c =
     let notes' = g.N.Sink.written c.write_part.new.notes in
     let is : c.track_id-track.result ≡ track_at inside.format n =
     sym (ap (λ (o : Option TrackId). unwrap_or o (record { cylinder = 0; head = 0 })) c.track_id-track.ensures.at) in
-    let here = subst (λ (t : TrackId). (readings : List NotedReading) → StandsFor inside.tools.book readings → WritesPart (part_of inside.format t readings) image image' notes notes' (Err c.in-Err-write_part.fault))
+    let here = subst (λ (t : TrackId). (readings : List NotedReading) → StandsFor inside.tools.gathered.book readings → WritesPart (part_of inside.format t readings) image image' notes notes' (Err c.in-Err-write_part.fault))
     is c.in-Err-write_part.ensures.wrote in
     let wrote = subst (λ (r : RoomState). (readings : List NotedReading) → StandsFor r.book readings → WritesPart (part_of r.format (track_at r.format n) readings) image image' notes notes' (Err c.in-Err-write_part.fault))
     c.room.view_is here in

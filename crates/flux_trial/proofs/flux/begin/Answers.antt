@@ -1,7 +1,7 @@
 use Rattle.std.proofs.Common.{◌<◌, ◌-◌, ◌/◌, ◌++◌, ℕ, List, ap, sym, ◌∙◌, arith}
 use Rattle.flux_trial.specs.Drive.{Drive}
 use Rattle.flux_trial.specs.inside.Heads.{seen_time}
-use Rattle.flux_trial.proofs.Near.{one_near, own_cell}
+use Rattle.track_rings.specs.lemmas.Near.{one_near, own_cell}
 use Rattle.flux_trial.proofs.Turns.{turned_first}
 use Rattle.flux_trial.proofs.flux.begin.Goals as goal
 

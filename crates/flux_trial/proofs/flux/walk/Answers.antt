@@ -1,10 +1,10 @@
 use Rattle.std.proofs.Common.{◌≡◌, ◌≤◌, ◌+◌, ◌-◌, ◌*◌, ◌++◌, ℕ, List, ap, sym, ◌∙◌, subst, arith, rules}
 use Rattle.flux_trial.specs.Hole.{ring_cell}
 use Rattle.flux_trial.specs.declared.head.Head.{Head}
-use Rattle.flux_trial.specs.inside.Heads.{IsSound, ones_between, passed, passed_all, reach, seen_time, seen_times}
-use Rattle.flux_trial.proofs.Ones.{ones_between-one, ones_between-none}
+use Rattle.flux_trial.specs.inside.Heads.{IsSound, passed, passed_all, reach, seen_time, seen_times}
 use Rattle.flux_trial.proofs.Passing.{before-next, next_head, next_reach, next_times, on_ring, reach-later}
 use Rattle.flux_trial.proofs.flux.walk.Goals as goal
+use Rattle.flux_writer.specs.lemmas.FoundOnes.{ones_between, ones_between-one, ones_between-none}
 
 pub note-requires-clause-before : goal.note-requires-clause-before
 note-requires-clause-before c =

@@ -1,7 +1,8 @@
 use Rattle.std.proofs.Common.{◌≡◌, ◌<◌, ◌≤◌, ◌+◌, ◌-◌, ◌*◌, ◌++◌}
 use Rattle.index_turns.specs.Track.{KeepsRoom}
-use Rattle.flux_trial.specs.inside.Heads.{AreBefore, IsSound, ones_between, passed_all, reach, seen_times}
+use Rattle.flux_trial.specs.inside.Heads.{AreBefore, IsSound, passed_all, reach, seen_times}
 use Rattle.flux_trial.proofs.flux.walk.Given as goal
+use Rattle.flux_writer.specs.lemmas.FoundOnes.{ones_between}
 
 abbrev pub invariant-loop-one : goal.invariant-loop-one
 invariant-loop-one l = record {

@@ -3,8 +3,9 @@ use Rattle.std.proofs.lemmas.Result.{on_ok_weaker, on_err_weaker}
 use Rattle.flux_writer.specs.Written.{quarter, track_cells}
 use Rattle.flux_writer.specs.inside.Writing.{IsReadyAt, IsWritten, times_between}
 use Rattle.flux_writer.proofs.Progress.{IsWritten-start}
-use Rattle.flux_writer.proofs.Rings.{cells_after, length-cells_after, times_of_cells, times_of_turn, times_of_end, times_of_begin, cells_more, cells_part, rest_of_turns, all_parts}
+use Rattle.flux_writer.proofs.Rings.{times_of_cells, times_of_turn, times_of_end, times_of_begin, cells_more, cells_part}
 use Rattle.flux_writer.proofs.track.write_ring.Goals as goal
+use Rattle.flux_writer.specs.lemmas.TrackParts.{cells_after, length-cells_after, all_parts, rest_after}
 
 pub returns-in-Err-clause-err : goal.returns-in-Err-clause-err
 returns-in-Err-clause-err g c =
@@ -23,7 +24,7 @@ returns-in-Err-write_part-clause-err g c =
     let len = c.len-length.result in
     let i = c.loop.invariant in
     let s = c.loop.stream in
-    let rest = rest_of_turns ring c.loop.counter (omega arith) in
+    let rest = rest_after ring (suc c.loop.counter) (omega arith) in
     cells_part c.args.nominal (cells_after ring c.loop.counter) ring c.loop.number (i.number ∙ sym (length-cells_after ring c.loop.counter))
     (g.W.Sink.written c.args.sink.now) (g.W.Sink.written c.loop.sink) (g.W.Sink.written c.write_part-in-loop.new.sink) c.args.stream.now.indexes
     s.piece s.position s.time s.indexes i.written (times_between ring 0 len c.loop.number c.args.nominal) rest.0 (track_cells ring)

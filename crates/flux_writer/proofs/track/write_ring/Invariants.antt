@@ -1,8 +1,9 @@
 use Rattle.std.proofs.Common.{◌≡◌, ◌≤◌, ◌+◌, ◌*◌, [], length}
 use Rattle.flux_writer.specs.Written.{quarter}
 use Rattle.flux_writer.specs.inside.Writing.{IsReadyAt, IsWritten}
-use Rattle.flux_writer.proofs.Rings.{cells_after, times_of_cells}
+use Rattle.flux_writer.proofs.Rings.{times_of_cells}
 use Rattle.flux_writer.proofs.track.write_ring.Given as goal
+use Rattle.flux_writer.specs.lemmas.TrackParts.{cells_after}
 
 abbrev pub invariant-loop : goal.invariant-loop
 invariant-loop g l = record {

@@ -8,7 +8,7 @@ invariant-loop-start g l = record {
   after : l.header_end ≤ l.start;
   empty : l.buffer.items ≡ [];
   none : (place : ℕ) (bytes : List ℕ) → l.fn.from ≤ place → place < l.start
-      → ¬ DataStandAt (g.L.Layout.header_end l.layout) (g.L.Layout.data_end l.layout) (g.L.Layout.is_sync l.layout) (g.L.Layout.hold l.layout)
+      → ¬ DataStandAt (g.L.Layout.header_end l.layout) (g.L.Layout.data_end l.layout l.size) (g.L.Layout.is_sync l.layout) (g.L.Layout.hold l.layout l.size)
       (NamedHeaderStands g.L.Layout.SYNC g.L.Layout.SYNC_CELLS (g.L.Layout.header_end l.layout) (g.L.Layout.names l.layout)) l.frame place bytes;
 }
 

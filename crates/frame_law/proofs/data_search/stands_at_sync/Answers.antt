@@ -8,7 +8,7 @@ unbroken_between-requires-clause-order g c =
     omega (
       arith,
       c.in-Some.ensures.some.0,
-      (g.met.L.Layout.tells_ends c.args.layout.now).data_least c.args.frame.now c.args.sync,
+      g.met.L.Layout.data_some c.args.layout.now c.args.size c.args.frame.now c.args.sync,
     )
 
 pub returns-in-None-clause-good : goal.returns-in-None-clause-good
@@ -28,7 +28,6 @@ returns-in-Some-find_word-clause-bad g c = λ no bytes data_there.
     start-broken c.args.frame.now c.args.sync _ _
     (omega (
       arith,
-      (g.met.L.Layout.tells_ends c.args.layout.now).data_least c.args.frame.now c.args.sync,
-      (g.met.L.Layout.tells_ends c.args.layout.now).some,
+      g.met.L.Layout.data_some c.args.layout.now c.args.size c.args.frame.now c.args.sync,
     ))
     found.1 found.2 data_there.unbroken data_there.no_start

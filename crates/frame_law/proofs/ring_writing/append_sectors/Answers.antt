@@ -21,8 +21,8 @@ returns-in_err-append_rows g c =
     let sector =
     sector_parts-at first size bytes table index (c.lowest_sector-first.result + index) begin c.from-size.result c.sector_rows-rows.result.now
     (ap (λ n. n + index) c.lowest_sector-first.ensures)
-    (ap (λ n. n * c.from-size.result) c.from.ensures ∙ ap (λ n. index * n) (c.from-size.ensures ∙ c.sector_bytes.ensures))
-    (c.from-size.ensures ∙ c.sector_bytes.ensures) c.sector_rows-rows.ensures in
+    (ap (λ n. n * c.from-size.result) c.from.ensures ∙ ap (λ n. index * n) (c.from-size.ensures ∙ c.sector_bytes.ensures.is))
+    (c.from-size.ensures ∙ c.sector_bytes.ensures.is) c.sector_rows-rows.ensures in
     AppendsParts-no_sector g.L.Layout.asks (g.L.Layout.row_cells r track) (g.L.Layout.row_size r track) (g.met.L.Layout.row_length r track)
     c.args.cells.now c.loop-index.cells c.append_rows.new.cells (sector_parts first size bytes table) first (g.L.Layout.sector_count r track) index _ _
     c.from_residual.ensures.0 (subst (λ n. index < n) c.sector_count-index-end.ensures c.loop-index-test.true) c.loop-index.invariant
@@ -41,8 +41,8 @@ loop-index-preserved g c =
     let sector =
     sector_parts-at first size bytes table index (c.lowest_sector-first.result + index) begin c.from-size.result c.sector_rows-rows.result.now
     (ap (λ n. n + index) c.lowest_sector-first.ensures)
-    (ap (λ n. n * c.from-size.result) c.from.ensures ∙ ap (λ n. index * n) (c.from-size.ensures ∙ c.sector_bytes.ensures))
-    (c.from-size.ensures ∙ c.sector_bytes.ensures) c.sector_rows-rows.ensures in
+    (ap (λ n. n * c.from-size.result) c.from.ensures ∙ ap (λ n. index * n) (c.from-size.ensures ∙ c.sector_bytes.ensures.is))
+    (c.from-size.ensures ∙ c.sector_bytes.ensures.is) c.sector_rows-rows.ensures in
     AppendsParts-sector g.L.Layout.asks (g.L.Layout.row_cells r track)
     c.args.cells.now c.loop-index.cells c.append_rows.new.cells (sector_parts first size bytes table) first index
     c.loop-index.invariant (rw sector at c.in_ok-append_rows.ensures)

@@ -1,4 +1,4 @@
-use Rattle.std.proofs.Common.{◌∙◌, refl, sym}
+use Rattle.std.proofs.Common.{◌∙◌, sym}
 use Rattle.macintosh_gcr.proofs.Fields.{check-named, in_any_case, named-list, names-so}
 use Rattle.macintosh_gcr.proofs.header.header_name.Goals as goal
 
@@ -16,8 +16,6 @@ returns-then-check-xor_bytes-clause-none c = λ name names.
     ∙ sym c.xor_bytes.ensures)
 
 pub returns-clause-named : goal.returns-clause-named
-returns-clause-named c = (
-  names-so c.args.frame.now c.in_ok-low.field-0 c.in_ok-low.ensures.size c.in_ok-low.ensures.fit c.in_ok-low.ensures.stand
-      (c.if-check-xor_bytes.false ∙ c.xor_bytes.ensures),
-  refl,
-)
+returns-clause-named c =
+    names-so c.args.frame.now c.in_ok-low.field-0 c.in_ok-low.ensures.size c.in_ok-low.ensures.fit c.in_ok-low.ensures.stand
+    (c.if-check-xor_bytes.false ∙ c.xor_bytes.ensures)

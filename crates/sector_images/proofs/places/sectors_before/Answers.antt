@@ -1,4 +1,4 @@
-use Rattle.std.proofs.Common.{◌≡◌, ◌+◌, ◌*◌, ◌∙◌, suc, ℕ, ap, arith, refl, sym}
+use Rattle.std.proofs.Common.{◌≡◌, ◌+◌, ◌∙◌, suc, ℕ, ap, arith, refl, sym}
 use Rattle.sector_images.specs.Places.{sectors_before}
 use Rattle.sector_images.proofs.Computed.{few_before}
 use Rattle.sector_images.proofs.places.sectors_before.Goals as goal

@@ -1,19 +1,22 @@
-use Rattle.std.proofs.Common.{arith}
-use Rattle.sector_images.proofs.Computed.{id_at, numbered_track, some_heads}
+use Rattle.std.proofs.Common.{sym, ◌∙◌}
+use Rattle.sector_images.specs.declared.format.TrackOrder.TheVariants.{ByCylinder, ByHead}
+use Rattle.sector_images.proofs.Computed.{some_heads, track_by}
 use Rattle.sector_images.proofs.places.track_id.Goals as goal
 
-pub nonzero_div-result : goal.nonzero_div-result
-nonzero_div-result c = rw (c.from-heads.ensures, c.geometry.ensures.heads) (omega (arith, (some_heads c.args.format).0))
+pub split-cylinder-requires-clause-some : goal.split-cylinder-requires-clause-some
+split-cylinder-requires-clause-some c = rw c.geometry-geometry.ensures.heads (some_heads c.args.format).0
 
-pub nonzero_rem-result : goal.nonzero_rem-result
-nonzero_rem-result c = rw (c.from-heads.ensures, c.geometry.ensures.heads) (omega (arith, (some_heads c.args.format).0))
+pub returns-in-ByCylinder-clause-at : goal.returns-in-ByCylinder-clause-at
+returns-in-ByCylinder-clause-at c =
+    rw (c.split-cylinder.ensures.often, c.split-cylinder.ensures.left, c.geometry-geometry.ensures.heads)
+    (track_by ByCylinder c.args.format c.args.number (sym c.track_order.ensures ∙ c.in-ByCylinder.is) c.requires).0
 
-pub overflow_cast-result-2 : goal.overflow_cast-result-2
-overflow_cast-result-2 c = rw (c.from-heads.ensures, c.geometry.ensures.heads)
-    (omega (arith, (numbered_track c.args.format c.args.number c.requires).1, (some_heads c.args.format).1))
+pub returns-in-ByCylinder-clause-track : goal.returns-in-ByCylinder-clause-track
+returns-in-ByCylinder-clause-track c =
+    rw (c.split-cylinder.ensures.often, c.split-cylinder.ensures.left, c.geometry-geometry.ensures.heads)
+    (track_by ByCylinder c.args.format c.args.number (sym c.track_order.ensures ∙ c.in-ByCylinder.is) c.requires).1
 
-pub returns-clause-at : goal.returns-clause-at
-returns-clause-at c = rw (c.from-heads.ensures, c.geometry.ensures.heads) (id_at c.args.format c.args.number c.requires)
-
-pub returns-clause-track : goal.returns-clause-track
-returns-clause-track c = rw (c.from-heads.ensures, c.geometry.ensures.heads) (numbered_track c.args.format c.args.number c.requires)
+pub returns-in-ByHead-clause-at : goal.returns-in-ByHead-clause-at
+returns-in-ByHead-clause-at c =
+    rw (c.split-head.ensures.often, c.split-head.ensures.left, c.geometry-geometry.ensures.cylinders)
+    (track_by ByHead c.args.format c.args.number (sym c.track_order.ensures ∙ c.in-ByHead.is) c.requires).0

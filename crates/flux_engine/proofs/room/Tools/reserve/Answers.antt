@@ -6,7 +6,7 @@ use Rattle.sector_images.specs.Places.{tracks}
 use Rattle.turn_merge.specs.Book.{Knowledge}
 use Rattle.turn_merge.specs.declared.verdict.Verdict.TheVariants.{Missing}
 use Rattle.flux_engine.specs.declared.sectors.Sectors.{Sectors}
-use Rattle.flux_engine.proofs.Noting.{empty_is}
+use Rattle.flux_engine.proofs.Noting.{empty_is, no_others_is}
 use Rattle.flux_engine.proofs.room.Tools.reserve.Goals as goal
 
 pub returns-clause-roomy : goal.returns-clause-roomy
@@ -37,6 +37,7 @@ returns-clause-started c =
         count = shape.sectors_are ∙ ap (λ (s : Sectors). s.count) first;
       };
       few = omega (arith, c.in_ok-book.ensures.empty.notes);
+      few_others = omega (arith, c.in_ok-others.ensures.notes);
     }
 
 pub returns-clause-empty : goal.returns-clause-empty
@@ -46,3 +47,6 @@ returns-clause-empty c =
     let s = c.sectors_of-sectors.result in
     empty_is c.in_ok-book.book s.first s.count s.size s.count c.in_ok-book.ensures.empty c.in_ok-book.ensures.shape
     ∙ ap (λ (s : Sectors). let k : Knowledge = record { first_sector = s.first; most = s.count; size = s.size; notes = 0; found = replicate s.count (record { verdict = Missing; bytes = None }) } in k) first
+
+pub returns-clause-no_others : goal.returns-clause-no_others
+returns-clause-no_others c = no_others_is c.in_ok-others.others c.in_ok-others.ensures

@@ -5,6 +5,6 @@ use Rattle.track_shelf.proofs.memory.MemoryShelf.new.Goals as goal
 
 pub returns : goal.returns
 returns c =
-    let s : ShelfState = record { files = c.args.files.items; ahead = []; chunk = c.args.chunk; failing = c.args.failing.items; calls = 0; faults = 0 } in
-    ap (λ (ps : List ℕ). record s { ahead = ahead_from c.args.files.items ps 0 0 }) c.new.ensures
-    ∙ ap (λ (a : List (List ℕ)). record s { ahead = a }) (none-places c.args.files.items)
+    let s : ShelfState = record { files = c.args.files.now; ahead = []; chunk = c.args.chunk; failing = c.args.failing.now; calls = 0; faults = 0 } in
+    ap (λ (ps : List ℕ). record s { ahead = ahead_from c.args.files.now ps 0 0 }) c.new.ensures
+    ∙ ap (λ (a : List (List ℕ)). record s { ahead = a }) (none-places c.args.files.now)

@@ -6,7 +6,7 @@ use Rattle.track_shelf.proofs.memory.MemoryShelf.read_at.Goals as goal
 pub returns : goal.returns
 returns c =
     let inside = c.self.inside in
-    let files = inside.files.items in
-    let s : ShelfState = record { files = files; ahead = ahead_from files inside.places.items inside.next.number inside.next.start; chunk = inside.chunk; failing = inside.failing.items; calls = inside.calls; faults = inside.faults } in
+    let files = inside.files.now in
+    let s : ShelfState = record { files = files; ahead = ahead_from files inside.places.items inside.next.number inside.next.start; chunk = inside.chunk; failing = inside.failing.now; calls = inside.calls; faults = inside.faults } in
     ap (λ (a : List (List ℕ)). record s { ahead = a }) (all-ahead files c.args.places.items)
     ∙ ap (λ (now : ShelfState). record now { ahead = with_bytes (map (bytes_at now.files) c.args.places.items) }) c.self.view_is

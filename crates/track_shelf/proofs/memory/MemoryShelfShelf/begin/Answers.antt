@@ -11,7 +11,7 @@ returns-in-Ok-clause-left c =
     let now = c.args.self.now in
     let places = c.in-Ok.places.items in
     let counted = c.in_ok-count_call.ensures.ok.1 in
-    let files : c.deref.result.now ≡ now.files = c.deref.ensures.value ∙ ap (λ (s : ShelfState). s.files) (c.self.view_is ∙ counted) in
+    let files : c.self.inside.files.now ≡ now.files = ap (λ (s : ShelfState). s.files) (c.self.view_is ∙ counted) in
     let found : map (bytes_at now.files) places ≡ map (track_bytes now.files c.args.folder.now) (tracks c.args.format) = rw files at c.in-Ok.ensures.found.1 in
     let ahead : c.read_at.new.self.ahead ≡ with_bytes (map (bytes_at now.files) places) =
     ap (λ (s : ShelfState). s.ahead) c.read_at.ensures ∙ ap (λ (s : ShelfState). with_bytes (map (bytes_at s.files) places)) counted in

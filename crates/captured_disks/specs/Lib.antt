@@ -1,4 +1,0 @@
-pub mod Inputs
-pub mod Frames
-pub mod Headline
-pub mod lemmas

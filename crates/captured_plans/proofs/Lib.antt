@@ -1,4 +1,0 @@
-pub mod Verdicts
-pub mod Images
-pub mod Lines
-pub mod Plans

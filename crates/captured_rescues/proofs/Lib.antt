@@ -1,4 +1,0 @@
-pub mod Places
-pub mod Verdicts
-pub mod Rescues
-pub mod SteadyDisks

@@ -1,0 +1,5 @@
+pub mod NextStreams
+pub mod Lists
+pub mod Ends
+pub mod Looks
+pub mod FileStreams

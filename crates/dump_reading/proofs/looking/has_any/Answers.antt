@@ -1,0 +1,24 @@
+use Rattle.std.proofs.Common.{◌≡◌, ◌≤◌, length, arith, sym, ◌∙◌}
+use Rattle.sector_images.specs.Places.{tracks}
+use Rattle.dump_reading.proofs.Looks.{none-found, none-more, one-found}
+use Rattle.dump_reading.proofs.looking.has_any.Goals as goal
+
+pub returns-in-Ok-true-clause-told : goal.returns-in-Ok-true-clause-told
+returns-in-Ok-true-clause-told g c = λ files told.
+    let there = rw c.file_track-track.ensures at (c.in-Ok-true.ensures.told files (c.loop-number.invariant.kept ∙ told)) in
+    one-found c.args.stepping files c.args.format c.args.dump.now c.loop-number.number c.track_id.result c.track_id.ensures.at (sym there ∙ c.in-Ok-true.field-0-test)
+
+pub loop-number-preserved : goal.loop-number-preserved
+loop-number-preserved g c = record {
+  kept = c.in-Ok-false.ensures.kept ∙ c.loop-number.invariant.kept;
+  none = λ files told.
+      let there = rw c.file_track-track.ensures at (c.in-Ok-false.ensures.told files (c.loop-number.invariant.kept ∙ told)) in
+      none-more c.args.stepping files c.args.format c.args.dump.now c.loop-number.number c.track_id.result c.track_id.ensures.at (sym there ∙ c.in-Ok-false.field-0-test)
+      (c.loop-number.invariant.none files told);
+  later = omega (arith, c.loop-number.invariant.later, c.in-Ok-false.ensures.later);
+}
+
+pub returns-clause-told : goal.returns-clause-told
+returns-clause-told g c = λ files told.
+    let all : length (tracks c.args.format) ≤ c.loop-number.number = omega arith in
+    none-found c.args.stepping files c.args.format c.args.dump.now c.loop-number.number all (c.loop-number.invariant.none files told)

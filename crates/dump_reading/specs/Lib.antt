@@ -1,0 +1,4 @@
+pub mod Totals
+pub mod DumpStreams
+pub mod Reports
+pub mod Outcomes

@@ -1,0 +1,162 @@
+-- What reading a disk of its dumps may answer, and what that says of the dumps and of the bytes that were written.
+use Rattle.std.specs.Prelude.{◌≡◌, ◌<◌, ◌≤◌, ◌⊎◌, ℕ, ◌*◌, Bool, true, false, List, [], ◌∷◌, ◌++◌, get_or, length, Option, Some, None, Result, Ok, Err}
+use Rattle.std.specs.Io.KnownBytes.{Appends}
+use Rattle.std.specs.List.{list_any}
+use Rattle.std.specs.Option.{is_some}
+use Rattle.flux_base.specs.Outside.{Rose}
+use Rattle.flux_base.specs.declared.track.TrackId.{TrackId}
+use Rattle.sector_images.specs.Places.{tracks}
+use Rattle.sector_images.specs.declared.format.Format.{Format}
+use Rattle.turn_merge.specs.Others.{NotedOther}
+use Rattle.track_shelf.specs.Files.{File, file_at}
+use Rattle.track_shelf.specs.Names.{path_text}
+use Rattle.track_shelf.specs.Stepping.{file_track}
+use Rattle.track_shelf.specs.declared.stepping.Stepping.{Stepping}
+use Rattle.flux_engine.specs.Answers.{AppendsAndPart}
+use Rattle.flux_engine.specs.Counts.{AreOthersOver, told_count, whole_count}
+use Rattle.flux_engine.specs.Disks.{images, lines, totals_over}
+use Rattle.flux_engine.specs.LoopProgress.{passed_count, streams_over}
+use Rattle.flux_engine.specs.Plans.{ArePlannedParts, Seen}
+use Rattle.flux_engine.specs.Tracks.{TrackPart}
+use Rattle.dump_reading.specs.DumpStreams.{AreOfDumps}
+use Rattle.dump_reading.specs.Reports.{dump_plan, end_text, read_part}
+use Rattle.dump_reading.specs.declared.dumps.Dumps.{Dumps}
+use Rattle.dump_reading.specs.declared.fault.DumpsFault.{DumpsFault}
+use Rattle.dump_reading.specs.declared.totals.DumpTotals.{DumpTotals}
+use Rattle.dump_reading.specs.declared.fault.DumpsFault.TheVariants.{NoFiles, ShelfFault, ImageFault, NotesFault}
+
+-- a dump has the file of a track
+abbrev pub has_file : Stepping → List File → (dump : List ℕ) → TrackId → Bool
+has_file stepping files dump track = is_some (file_at files (path_text dump (file_track stepping track)))
+
+-- it has that of one of the format's tracks at least
+unfoldable pub has_any : Stepping → List File → Format → (dump : List ℕ) → Bool
+has_any stepping files format dump = list_any (has_file stepping files dump) (tracks format)
+
+-- what is asked: how the drive stepped, the dumps, and the format
+pub record DumpDisk : Type 0 where
+  pub stepping : Stepping
+  pub dumps : List (List ℕ)
+  pub format : Format
+
+abbrev pub disk_of : Dumps → Format → DumpDisk
+disk_of dumps format = record { stepping = dumps.stepping; dumps = dumps.names.now; format = format }
+
+-- the dump of this number has one of the disk's files
+abbrev pub has_files : DumpDisk → List File → ℕ → Bool
+has_files disk files number = has_any disk.stepping files disk.format (get_or disk.dumps number [])
+
+-- this is the first dump that has none of them; or each has one
+abbrev pub IsFirstEmpty : DumpDisk → List File → Option ℕ → Type 0
+IsFirstEmpty disk files (Some number) = (has_files disk files number ≡ false) × ((k : ℕ) → k < number → has_files disk files k ≡ true)
+IsFirstEmpty disk files None = (k : ℕ) → k < length disk.dumps → has_files disk files k ≡ true
+
+-- the same, where the files are told
+abbrev pub IsToldEmpty : DumpDisk → Option (List File) → Option ℕ → Type 0
+IsToldEmpty disk told number = (files : List File) → told ≡ Some files → IsFirstEmpty disk files number
+
+-- what dumps come to: the bytes of the image and of the report, and the numbers
+pub record DumpsRead : Type 0 where
+  pub image : List ℕ
+  pub notes : List ℕ
+  pub totals : DumpTotals
+
+-- The first streams of the dumps, in order, and what the tracks come to of which these are all the streams: so many tracks.
+pub record AreReadTracks (disk : DumpDisk) (told : Option (List File)) (streams : List Seen) (parts : List TrackPart) : Type 0 where
+  pub all : length streams ≡ length parts * length disk.dumps
+  pub are : AreOfDumps disk.stepping disk.dumps (dump_plan (length disk.dumps)) disk.format told streams
+  pub each : ArePlannedParts (dump_plan (length disk.dumps)) read_part disk.format (streams_over (dump_plan (length disk.dumps)) streams) parts
+
+-- The streams of the dumps, in order, what all tracks come to, and the other headers of each track.
+pub record AreAllTracks (disk : DumpDisk) (told : Option (List File)) (streams : List Seen) (parts : List TrackPart) (others : List (List NotedOther)) : Type 0 where
+  pub many : length parts ≡ length (tracks disk.format)
+  pub read : AreReadTracks disk told streams parts
+  pub many_others : length others ≡ length (tracks disk.format)
+  pub others_are : AreOthersOver (dump_plan (length disk.dumps)) disk.format (streams_over (dump_plan (length disk.dumps)) streams) others
+
+-- the numbers that these come to
+abbrev pub numbers_of : List Seen → List TrackPart → List (List NotedOther) → DumpTotals
+numbers_of streams parts others =
+    record { sectors = totals_over parts; unread = passed_count streams; others = told_count others; whole = whole_count others }
+
+-- what the dumps come to, by the files that are told
+pub record IsDumpsRead (disk : DumpDisk) (told : Option (List File)) (o : DumpsRead) : Type 0 where
+  pub streams : List Seen
+  pub parts : List TrackPart
+  pub others : List (List NotedOther)
+  pub all : AreAllTracks disk told streams parts others
+  pub is : o ≡ record { image = images parts; notes = lines parts ++ end_text (numbers_of streams parts others); totals = numbers_of streams parts others }
+
+-- what all tracks come to was written, but not the last two lines
+pub record HasReadTracks (disk : DumpDisk) (told : Option (List File)) (image image' notes notes' : Option (List ℕ)) (totals : DumpTotals) : Type 0 where
+  pub streams : List Seen
+  pub parts : List TrackPart
+  pub others : List (List NotedOther)
+  pub all : AreAllTracks disk told streams parts others
+  pub image_grew : Appends image image' (images parts)
+  pub notes_grew : Appends notes notes' (lines parts)
+  pub totals_are : totals ≡ numbers_of streams parts others
+
+-- all of it was written
+pub record WroteDumps (disk : DumpDisk) (told : Option (List File)) (image image' notes notes' : Option (List ℕ)) (totals : DumpTotals) : Type 0 where
+  pub outcome : DumpsRead
+  pub is : IsDumpsRead disk told outcome
+  pub image_grew : Appends image image' outcome.image
+  pub notes_grew : Appends notes notes' outcome.notes
+  pub totals_are : totals ≡ outcome.totals
+
+-- what the first tracks come to was written
+pub record WroteFront (disk : DumpDisk) (told : Option (List File)) (image image' notes notes' : Option (List ℕ)) : Type 0 where
+  pub streams : List Seen
+  pub parts : List TrackPart
+  pub few : length parts ≤ length (tracks disk.format)
+  pub read : AreReadTracks disk told streams parts
+  pub image_grew : Appends image image' (images parts)
+  pub notes_grew : Appends notes notes' (lines parts)
+
+-- the same, and of the next track a part of its part of the image that is shorter than it
+pub record WroteIntoImage (disk : DumpDisk) (told : Option (List File)) (image image' notes notes' : Option (List ℕ)) : Type 0 where
+  pub streams : List Seen
+  pub parts : List TrackPart
+  pub next : TrackPart
+  pub few : length parts < length (tracks disk.format)
+  pub read : AreReadTracks disk told streams (parts ++ next ∷ [])
+  pub image_grew : AppendsAndPart image image' (images parts) next.image
+  pub notes_grew : Appends notes notes' (lines parts)
+
+-- the same, and of the next track its part of the image, and a part of its lines that is shorter than they are
+pub record WroteIntoLines (disk : DumpDisk) (told : Option (List File)) (image image' notes notes' : Option (List ℕ)) : Type 0 where
+  pub streams : List Seen
+  pub parts : List TrackPart
+  pub next : TrackPart
+  pub few : length parts < length (tracks disk.format)
+  pub read : AreReadTracks disk told streams (parts ++ next ∷ [])
+  pub image_grew : Appends image image' (images (parts ++ next ∷ []))
+  pub notes_grew : AppendsAndPart notes notes' (lines parts) next.lines
+
+-- all was written but the last two lines: of them a part that is shorter than they are
+pub record WroteIntoEnd (disk : DumpDisk) (told : Option (List File)) (image image' notes notes' : Option (List ℕ)) : Type 0 where
+  pub streams : List Seen
+  pub parts : List TrackPart
+  pub others : List (List NotedOther)
+  pub all : AreAllTracks disk told streams parts others
+  pub image_grew : Appends image image' (images parts)
+  pub notes_grew : AppendsAndPart notes notes' (lines parts) (end_text (numbers_of streams parts others))
+
+-- What an answer says. A dump without files is told before anything is read or written; after a fault of the shelf the tracks before
+-- are written whole.
+abbrev pub SaysOfDumps : DumpDisk → Option (List File) → (image image' notes notes' : Option (List ℕ)) → Result DumpTotals DumpsFault → Type 0
+SaysOfDumps disk told image image' notes notes' (Ok totals) = IsToldEmpty disk told None × WroteDumps disk told image image' notes notes' totals
+SaysOfDumps disk told image image' notes notes' (Err (NoFiles dump)) =
+    (dump < length disk.dumps) × IsToldEmpty disk told (Some dump) × (image' ≡ image) × (notes' ≡ notes)
+SaysOfDumps disk told image image' notes notes' (Err ShelfFault) = WroteFront disk told image image' notes notes'
+SaysOfDumps disk told image image' notes notes' (Err ImageFault) = WroteIntoImage disk told image image' notes notes'
+SaysOfDumps disk told image image' notes notes' (Err NotesFault) =
+    WroteIntoLines disk told image image' notes notes' ⊎ WroteIntoEnd disk told image image' notes notes'
+
+-- a fault of an object comes only where its count rose
+abbrev pub DumpsCause : {A : Type 0} → (shelf shelf' image image' notes notes' : ℕ) → Result A DumpsFault → Type 0
+DumpsCause shelf shelf' image image' notes notes' (Err ShelfFault) = Rose shelf shelf'
+DumpsCause shelf shelf' image image' notes notes' (Err ImageFault) = Rose image image'
+DumpsCause shelf shelf' image image' notes notes' (Err NotesFault) = Rose notes notes'
+DumpsCause shelf shelf' image image' notes notes' _ = Unit {0}

@@ -1,0 +1,45 @@
+-- What dumps of a disk come to: the report of a track, and the end of the report.
+use Rattle.std.specs.Prelude.{ℕ, List, ◌++◌, flat_map}
+use Rattle.flux_base.specs.declared.track.TrackId.{TrackId}
+use Rattle.sector_images.specs.declared.format.Format.{Format}
+use Rattle.sector_report.specs.DumpLines.{other_text, passed_text, unread_text}
+use Rattle.sector_report.specs.Lines.{total_text}
+use Rattle.sector_report.specs.declared.naming.Naming.TheVariants.{ByCaptureAndClock}
+use Rattle.turn_merge.specs.Others.{others_over}
+use Rattle.turn_merge.specs.declared.others.OtherTold.{OtherTold}
+use Rattle.flux_engine.specs.Recordings.{sectors_of}
+use Rattle.flux_engine.specs.Tracks.{TrackNotes, TrackPart, lines_by, named_part}
+use Rattle.flux_engine.specs.declared.gathered_track.PassedStream.{PassedStream}
+use Rattle.flux_engine.specs.declared.plan.Clocks.TheVariants.{Both}
+use Rattle.flux_engine.specs.declared.plan.Plan.{Plan}
+use Rattle.flux_engine.specs.declared.plan.Rule.TheVariants.{Controller}
+use Rattle.dump_reading.specs.declared.totals.DumpTotals.{DumpTotals}
+
+-- the plan by which so many dumps are read: as controllers read, by both clocks, with lines that name the dump and the clock
+abbrev pub dump_plan : (dumps : ℕ) → Plan
+dump_plan dumps = record { captures = dumps; rule = Controller; clocks = Both; naming = ByCaptureAndClock }
+
+-- the line of a stream that is passed over
+abbrev pub passed_line_of : TrackId → PassedStream → List ℕ
+passed_line_of track stream = passed_text track stream.capture stream.why
+
+abbrev pub passed_lines : TrackId → List PassedStream → List ℕ
+passed_lines track passed = flat_map (passed_line_of track) passed
+
+-- the lines of the names of other headers that are told
+abbrev pub other_lines : TrackId → List OtherTold → List ℕ
+other_lines track told = flat_map (other_text ByCaptureAndClock track) told
+
+-- what a track comes to: in the report a line for each stream that is passed over, one for each sector, and one for each name of others
+abbrev pub read_part : Format → TrackId → TrackNotes → TrackPart
+read_part format track notes = record {
+  image = (named_part ByCaptureAndClock format track notes.readings).image;
+  lines =
+      passed_lines track notes.passed ++ (lines_by ByCaptureAndClock track (sectors_of format track) notes.readings
+      ++ other_lines track (others_over notes.others));
+  totals = (named_part ByCaptureAndClock format track notes.readings).totals;
+}
+
+-- the last two lines
+abbrev pub end_text : DumpTotals → List ℕ
+end_text totals = unread_text totals.unread totals.others totals.whole ++ total_text totals.sectors

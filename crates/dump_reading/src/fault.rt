@@ -1,0 +1,12 @@
+/// Why dumps of a disk were not read to their end.
+#[derive(Clone, Copy, Debug, PartialEq, Eq)]
+pub enum DumpsFault {
+    /// The first dump that has the file of none of the disk's tracks, by its number from 0.
+    NoFiles { dump: u8 },
+    /// The shelf failed, or one of its files.
+    ShelfFault,
+    /// The sink of the image failed.
+    ImageFault,
+    /// The sink of the notes failed.
+    NotesFault,
+}

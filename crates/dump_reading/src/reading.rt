@@ -1,0 +1,115 @@
+//! A disk that is read of its dumps.
+
+ghost use Rattle.std.specs.Prelude.{◌≡◌, ◌≤◌, Err, length, IfErr, IfOk};
+ghost use Rattle.flux_base.specs.Moments.{Puts, moment};
+ghost use Rattle.flux_engine.specs.Room.{fresh};
+ghost use Rattle.dump_reading.specs.Outcomes.{DumpsCause, HasReadTracks, SaysOfDumps, disk_of};
+ghost use Rattle.dump_reading.specs.Reports.{end_text};
+
+use crate::dumps::Dumps;
+use crate::fault::DumpsFault;
+use crate::looking::find_empty;
+use crate::report::{DumpReport, NAMING};
+use crate::totals::DumpTotals;
+use flux_base::{Failed, Sink};
+use flux_engine::{Clocks, DiskRoom, Plan, PlanFault, Rule, decode_tracks, no_totals, room_format};
+use sector_report::{total_line, unread_line, write_line};
+use track_shelf::Shelf;
+
+/// Reads a disk of its dumps, and then writes the last two lines to `notes`. Of each track in order the files of all dumps are
+/// read as controllers read, in the order of the dumps; one that is missing or refused is told and passed over. One verdict for
+/// each sector is given over all readings by both clocks, and the names of headers are told that are those of none of the track's
+/// sectors. No answer is for want of memory.
+///
+/// A dump that has the file of none of the tracks is refused before anything is written. After a fault nothing more is read or
+/// written, and the tracks before are written whole.
+pub fn read_dumps<H: Shelf, W: Sink, N: Sink>(
+    dumps: &Dumps,
+    room: &mut DiskRoom,
+    shelf: &mut H,
+    image: &mut W,
+    notes: &mut N,
+) -> Result<DumpTotals, DumpsFault>
+    requires fresh { room.old ≡ fresh room.old.format }
+    requires few { length dumps.now.names.now ≤ 16 }
+    ensures says { SaysOfDumps (disk_of dumps.now room.old.format) (H.files shelf.old) (W.written image.old) (W.written image.new) (N.written notes.old) (N.written notes.new) result }
+    ensures cause { DumpsCause (H.faults shelf.old) (H.faults shelf.new) (W.faults image.old) (W.faults image.new) (N.faults notes.old) (N.faults notes.new) result }
+    ensures shelf_later { H.faults shelf.old ≤ H.faults shelf.new }
+    ensures image_later { W.faults image.old ≤ W.faults image.new }
+    ensures notes_later { N.faults notes.old ≤ N.faults notes.new }
+{
+    match find_empty(dumps, room_format(room), shelf) {
+        Ok(None) => {}
+        Ok(Some(dump)) => return Err(DumpsFault::NoFiles { dump }),
+        Err(Failed) => return Err(DumpsFault::ShelfFault),
+    }
+    let totals = match read_tracks(dumps, room, shelf, image, notes) {
+        Ok(totals) => totals,
+        Err(fault) => return Err(fault),
+    };
+    match write_end(&totals, notes) {
+        Ok(()) => Ok(totals),
+        Err(Failed) => Err(DumpsFault::NotesFault),
+    }
+}
+
+/// Reads all tracks of a disk of its dumps, and writes what each comes to.
+fn read_tracks<H: Shelf, W: Sink, N: Sink>(
+    dumps: &Dumps,
+    room: &mut DiskRoom,
+    shelf: &mut H,
+    image: &mut W,
+    notes: &mut N,
+) -> Result<DumpTotals, DumpsFault>
+    requires fresh { room.old ≡ fresh room.old.format }
+    requires few { length dumps.now.names.now ≤ 16 }
+    ensures ok { IfOk result (HasReadTracks (disk_of dumps.now room.old.format) (H.files shelf.old) (W.written image.old) (W.written image.new) (N.written notes.old) (N.written notes.new)) }
+    ensures err { IfErr result (λ fault. SaysOfDumps (disk_of dumps.now room.old.format) (H.files shelf.old) (W.written image.old) (W.written image.new) (N.written notes.old) (N.written notes.new) (Err fault)) }
+    ensures cause { DumpsCause (H.faults shelf.old) (H.faults shelf.new) (W.faults image.old) (W.faults image.new) (N.faults notes.old) (N.faults notes.new) result }
+    ensures shelf_later { H.faults shelf.old ≤ H.faults shelf.new }
+    ensures image_later { W.faults image.old ≤ W.faults image.new }
+    ensures notes_later { N.faults notes.old ≤ N.faults notes.new }
+{
+    let plan = Plan {
+        captures: dumps.names.len() as u8,
+        rule: Rule::Controller,
+        clocks: Clocks::Both,
+        naming: NAMING,
+    };
+    let mut sectors = no_totals();
+    match decode_tracks(
+        plan,
+        dumps,
+        &DumpReport,
+        room,
+        shelf,
+        image,
+        notes,
+        &mut sectors,
+    ) {
+        Ok(()) => Ok(DumpTotals {
+            sectors,
+            unread: room.unread(),
+            others: room.told_others(),
+            whole: room.whole_others(),
+        }),
+        Err(PlanFault::ReadFault) => Err(DumpsFault::ShelfFault),
+        Err(PlanFault::ImageFault) => Err(DumpsFault::ImageFault),
+        Err(PlanFault::NotesFault) => Err(DumpsFault::NotesFault),
+        // A stream that is refused is passed over.
+        Err(PlanFault::Refused { .. }) => unreachable!(),
+    }
+}
+
+/// Writes the last two lines: what was passed over and what else was told, and the totals.
+fn write_end<N: Sink>(totals: &DumpTotals, notes: &mut N) -> Result<(), Failed>
+    ensures { Puts (moment N.written N.faults notes.old) (moment N.written N.faults notes.new) (end_text totals.now) result }
+{
+    match write_line(
+        notes,
+        &unread_line(totals.unread, totals.others, totals.whole),
+    ) {
+        Ok(()) => write_line(notes, &total_line(&totals.sectors)),
+        Err(failed) => Err(failed),
+    }
+}

@@ -1,0 +1,91 @@
+//! What becomes of a track of a disk that is read of several dumps.
+
+ghost use Rattle.std.specs.Prelude.{◌<◌};
+ghost use Rattle.flux_base.specs.Moments.{Puts, moment};
+ghost use Rattle.dump_reading.specs.Reports.{other_lines, passed_lines, read_part};
+
+use flux_base::{Failed, Sink, TrackId};
+use flux_engine::{
+    Gathered, PartFault, PassedStream, TrackWriter, sectors_of, write_image, write_lines,
+};
+use sector_images::{Format, tracks_keep_bounds};
+use sector_report::{Naming, Totals, other_line, passed_line, write_line};
+use turn_merge::OtherTold;
+
+/// How the lines name the places of readings: by the dump, and by the clock.
+pub(crate) const NAMING: Naming = Naming::ByCaptureAndClock;
+
+/// The track's part of the image, and its lines of the report: one for each of its streams that was passed over, one for each of
+/// its sectors, and one for each name of other headers that is told.
+#[derive(Clone, Copy, Debug)]
+pub(crate) struct DumpReport;
+
+impl TrackWriter for DumpReport {
+    ghost part_of = { λ _. read_part };
+
+    fn write_track<W: Sink, N: Sink>(
+        &self,
+        format: Format,
+        track: TrackId,
+        gathered: &Gathered,
+        image: &mut W,
+        notes: &mut N,
+    ) -> Result<Totals, PartFault> {
+        tracks_keep_bounds();
+        match write_image(format, track, &gathered.book, image) {
+            Ok(()) => {}
+            Err(_) => return Err(PartFault::ImageFault),
+        }
+        match write_passed(track, &gathered.passed, notes) {
+            Ok(()) => {}
+            Err(_) => return Err(PartFault::NotesFault),
+        }
+        let totals = match write_lines(
+            NAMING,
+            track,
+            sectors_of(format, track),
+            &gathered.book,
+            notes,
+        ) {
+            Ok(totals) => totals,
+            Err(_) => return Err(PartFault::NotesFault),
+        };
+        match write_others(track, gathered.others.told(), notes) {
+            Ok(()) => Ok(totals),
+            Err(_) => Err(PartFault::NotesFault),
+        }
+    }
+}
+
+/// Writes a line for each stream of a track that was passed over, each in one piece.
+fn write_passed<N: Sink>(
+    track: TrackId,
+    passed: &[PassedStream],
+    notes: &mut N,
+) -> Result<(), Failed>
+    requires { track.cylinder < 100 }
+    ensures { Puts (moment N.written N.faults notes.old) (moment N.written N.faults notes.new) (passed_lines track passed.now) result }
+{
+    for number in 0..passed.len() {
+        let stream = passed[number];
+        match write_line(notes, &passed_line(track, stream.capture, &stream.why)) {
+            Ok(()) => {}
+            Err(failed) => return Err(failed),
+        }
+    }
+    Ok(())
+}
+
+/// Writes a line for each name of other headers of a track that is told, each in one piece.
+fn write_others<N: Sink>(track: TrackId, others: &[OtherTold], notes: &mut N) -> Result<(), Failed>
+    requires { track.cylinder < 100 }
+    ensures { Puts (moment N.written N.faults notes.old) (moment N.written N.faults notes.new) (other_lines track others.now) result }
+{
+    for number in 0..others.len() {
+        match write_line(notes, &other_line(NAMING, track, &others[number])) {
+            Ok(()) => {}
+            Err(failed) => return Err(failed),
+        }
+    }
+    Ok(())
+}

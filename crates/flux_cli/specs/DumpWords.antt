@@ -1,0 +1,60 @@
+-- The words that ask to read dumps of a disk.
+use Rattle.std.specs.Prelude.{◌≡◌, ◌≢◌, ◌≤◌, ℕ, Bool, true, false, List, [], ◌∷◌, ◌++◌, length, codes, Option, Some, None}
+use Rattle.std.specs.List.{list_any}
+use Rattle.sector_images.specs.Formats.{row}
+use Rattle.sector_images.specs.declared.format.Format.{Format}
+use Rattle.track_shelf.specs.Stepping.{reaches_all}
+use Rattle.track_shelf.specs.declared.stepping.Stepping.{Stepping}
+use Rattle.track_shelf.specs.declared.stepping.Stepping.TheVariants.{Single, Double}
+use Rattle.flux_cli.specs.declared.dump_words.DumpOutput.{DumpOutput}
+use Rattle.flux_cli.specs.declared.dump_words.DumpOutput.TheVariants.{ImageAndReport, Picture}
+use Rattle.flux_cli.specs.declared.dump_words.DumpsAsked.{DumpsAsked}
+
+-- what is asked of dumps: how the drive stepped, what is to be given, the format, and the dumps by their names
+pub record Asked : Type 0 where
+  pub stepping : Stepping
+  pub output : DumpOutput
+  pub format : Format
+  pub dumps : List (List ℕ)
+
+abbrev pub asked_of : DumpsAsked → Asked
+asked_of asked = record { stepping = asked.stepping; output = asked.output; format = asked.format; dumps = asked.dumps.now }
+
+abbrev pub double_step_word : List ℕ
+double_step_word = codes "--double-step"
+
+abbrev pub picture_word : List ℕ
+picture_word = codes "--picture"
+
+-- the words before the format
+abbrev pub stepping_words : Stepping → List (List ℕ)
+stepping_words Single = []
+stepping_words Double = double_step_word ∷ []
+
+abbrev pub output_words : DumpOutput → List (List ℕ)
+output_words ImageAndReport = []
+output_words Picture = picture_word ∷ []
+
+abbrev pub read_words : Asked → List (List ℕ)
+read_words asked =
+    codes "read" ∷ (stepping_words asked.stepping ++ (output_words asked.output ++ ((row asked.format).word ∷ asked.dumps)))
+
+-- most dumps of a disk
+abbrev pub MOST_DUMPS : ℕ
+MOST_DUMPS = 8
+
+abbrev pub is_nameless : List ℕ → Bool
+is_nameless [] = true
+is_nameless (byte ∷ bytes) = false
+
+-- there are 1 to 8 dumps, each with a name, and the drive reaches all tracks
+pub record CanBeRead (asked : Asked) : Type 0 where
+  pub some : 1 ≤ length asked.dumps
+  pub most : length asked.dumps ≤ MOST_DUMPS
+  pub named : list_any is_nameless asked.dumps ≡ false
+  pub reached : reaches_all asked.stepping asked.format ≡ true
+
+-- what the words ask of dumps, if they ask for that
+abbrev pub NamesDumps : List (List ℕ) → Option Asked → Type 0
+NamesDumps words (Some asked) = (words ≡ read_words asked) × CanBeRead asked
+NamesDumps words None = (asked : Asked) → CanBeRead asked → words ≢ read_words asked

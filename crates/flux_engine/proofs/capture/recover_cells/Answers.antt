@@ -1,0 +1,17 @@
+use Rattle.std.proofs.Common.{◌≡◌, ap, subst, sym, ◌∙◌}
+use Rattle.phase_loop.specs.Rows.{recovered}
+use Rattle.phase_loop.specs.declared.start.LoopStart.{LoopStart}
+use Rattle.flux_engine.specs.Gathering.{AreCellsOf}
+use Rattle.flux_engine.specs.Recordings.{start_by, start_of}
+use Rattle.flux_engine.proofs.RecoveredCells.{are_cells}
+use Rattle.flux_engine.proofs.capture.recover_cells.Goals as goal
+
+pub returns-clause-cells : goal.returns-clause-cells
+returns-clause-cells c =
+    let mean : c.for_turn-mean.result ≡ start_of c.args.format c.args.track c.args.flux.now.indexes =
+    rw (c.nominal.ensures, c.first_turn_ticks-turn.ensures, c.ring_cells.ensures) at c.for_turn-mean.ensures.start in
+    c.in-Ok.ensures.ok ∙ ap (λ (s : LoopStart). recovered s c.args.flux.now.times) (c.start_by-start.ensures.start ∙ ap (start_by c.args.clock) mean)
+
+pub returns-clause-are : goal.returns-clause-are
+returns-clause-are c =
+    subst (AreCellsOf c.args.flux.now.times) (sym c.in-Ok.ensures.ok) (are_cells c.start_by-start.result c.args.flux.now.times c.requires.bounded.few_times)

@@ -1,0 +1,19 @@
+use Rattle.std.proofs.Common.{◌≤◌, ◌*◌}
+use Rattle.flux_engine.specs.Counts.{AreCountsBelow}
+use Rattle.flux_engine.specs.LoopProgress.{HasWritten}
+use Rattle.flux_engine.specs.Writing.{IsSum}
+use Rattle.flux_engine.proofs.planned.decode_tracks.Given as goal
+
+abbrev pub invariant-loop-number : goal.invariant-loop-number
+invariant-loop-number g l = record {
+  written : HasWritten l.plan (g.O.TrackWriter.part_of l.writer) l.initial.room.format
+      (g.T.TrackStreams.came l.streams l.plan l.initial.room.format l.initial.source l.source)
+      (g.W.Sink.written l.initial.image) (g.W.Sink.written l.image) (g.N.Sink.written l.initial.notes) (g.N.Sink.written l.notes)
+      l.room l.number l.totals;
+  sum : IsSum l.totals;
+  few : l.totals.sectors ≤ 100 * l.number;
+  counts : AreCountsBelow l.room l.number;
+  source_later : g.T.TrackStreams.faults l.initial.source ≤ g.T.TrackStreams.faults l.source;
+  image_later : g.W.Sink.faults l.initial.image ≤ g.W.Sink.faults l.image;
+  notes_later : g.N.Sink.faults l.initial.notes ≤ g.N.Sink.faults l.notes;
+}

@@ -1,0 +1,5 @@
+pub mod Numbers
+pub mod Tracks
+pub mod Plans
+pub mod Words
+pub mod lemmas

@@ -1,0 +1,14 @@
+//! Disks that have one of IBM's two recordings, single density (FM) or double density (MFM), by their numbers: what the
+//! tracks of each have of their own. No call takes memory.
+#![tactic(auto)]
+
+mod plan;
+mod rate;
+mod sector_size;
+mod track_numbers;
+mod word;
+
+pub use rate::{Density, Rate};
+pub use sector_size::SectorSize;
+pub use track_numbers::{LeadIn, TrackNumbers};
+pub use word::DiskNumbers;

@@ -1,0 +1,4 @@
+pub mod Sectors
+pub mod Disks
+pub mod Others
+pub mod Writing

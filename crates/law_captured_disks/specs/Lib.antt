@@ -1,0 +1,5 @@
+pub mod Inputs
+pub mod Frames
+pub mod Headline
+pub mod Others
+pub mod lemmas

@@ -1,0 +1,54 @@
+-- Streams that reach each bound, in plain numbers.
+use Rattle.std.specs.Prelude.{◌≡◌, ◌<◌, ◌≤◌, ℕ, ◌+◌, ◌*◌, ℤ, pos, ◌+ℤ◌, ◌-ℤ◌, nat_abs, Bool, true, false, List, [], ◌∷◌, length, slice_index}
+use Rattle.kryo_stream.specs.Stream.{indexes, times}
+use Rattle.phase_loop.specs.Pieces.{Piece}
+use Rattle.law_stated_captures.specs.Streams.{StatedCapture, StatedErasedCapture, first_mean, last_of}
+
+-- The transition is as late as it may be in whole ticks, or as early: a tick more, and it would be beyond the bound.
+abbrev pub IsFurthest : (late : Bool) (nominal time : ℕ) (ideal : ℤ) → Type 0
+IsFurthest true nominal time ideal = nominal < 8 * nat_abs (pos (1024 * (time + 1)) -ℤ ideal)
+IsFurthest false nominal time ideal = nominal < 8 * nat_abs (pos (1024 * time) -ℤ (ideal +ℤ pos 1024))
+
+-- each transition is so, those late that are to be late, and the other ones early
+abbrev pub AreFurthest : (ℕ → Bool) → (nominal : ℕ) → List ℕ → (ℕ → ℤ) → Type 0
+AreFurthest late nominal times ideal = (i : ℕ) → i < length times → IsFurthest (late i) nominal (slice_index times i) (ideal i)
+
+-- the local periods are all this one
+abbrev pub AreSteady : ℕ → List ℕ → Type 0
+AreSteady period periods = (i : ℕ) → i < length periods → slice_index periods i ≡ period
+
+-- a local period within its bounds, and a mean of the first turn within its own
+pub record IsSpeed (nominal period mean : ℕ) : Type 0 where
+  pub fastest : 7 * nominal ≤ 8 * period
+  pub slowest : 8 * period ≤ 9 * nominal
+  pub near : 64 * nat_abs (pos mean -ℤ pos period) ≤ nominal
+
+-- A capture at each bound at once: from this place of the repeated ring over exactly two rings, at one local period, with each transition
+-- displaced to the bound, and with this mean of the first turn, which begins at this index time. All transitions are before 2^30 ticks, so
+-- that with a later index time all turns lie behind the last of them.
+pub record IsAtBounds (x : List ℕ) (ring : List Bool) (nominal from period mean index : ℕ) (late : ℕ → Bool) : Type 0 where
+  pub stated : StatedCapture x ring nominal
+  pub begins : slice_index stated.places 0 ≡ from
+  pub ends : last_of stated.places ≡ from + 2 * length ring
+  pub steady : AreSteady period stated.periods
+  pub furthest : AreFurthest late nominal (times x) stated.kept.ideal
+  pub mean_is : first_mean (indexes x) (length ring) ≡ mean
+  pub index_is : slice_index (indexes x) 0 ≡ index
+  pub early : last_of (times x) < 1073741824
+
+-- Two pieces as near as they may be in whole ticks: a tick less from the one to the other, and it would be less than 48 nominal cells. Each
+-- begins at its place of the repeated ring and has so many transitions; the speed and the turns are as above.
+pub record AreAtGap (x : List ℕ) (ring : List Bool) (nominal from many from' many' period mean index : ℕ) : Type 0 where
+  pub stated : StatedErasedCapture x ring nominal
+  pub first : Piece
+  pub second : Piece
+  pub are : stated.pieces ≡ first ∷ second ∷ []
+  pub begins : slice_index first.places 0 ≡ from
+  pub begins' : slice_index second.places 0 ≡ from'
+  pub size : length first.times ≡ many
+  pub size' : length second.times ≡ many'
+  pub steady : AreSteady period first.periods
+  pub steady' : AreSteady period second.periods
+  pub nearest : 1024 * slice_index second.times 0 < 1024 * last_of first.times + 48 * nominal + 1024
+  pub mean_is : first_mean (indexes x) (length ring) ≡ mean
+  pub index_is : slice_index (indexes x) 0 ≡ index

@@ -1,8 +1,0 @@
-mod amiga;
-mod apple;
-mod commodore;
-mod fm;
-mod frames;
-mod macintosh;
-mod mfm;
-mod rings;

@@ -1,0 +1,198 @@
+//! The formats' disks: words, tracks and the places of their sectors.
+ghost use Rattle.std.specs.Prelude.{◌≡◌, ◌<◌};
+
+use flux_base::TrackId;
+use sector_images::{
+    Format, image_place, image_sector, image_size, nominal, ring_cells, track_bytes, track_count,
+    track_id, track_place,
+};
+
+/// The word of a format, the bytes of its image, and its tracks.
+const FORMATS: [(&str, Format, u32, u32); 24] = [
+    ("ibm-3740", Format::Ibm3740, 77 * 26 * 128, 77),
+    ("ibm-160", Format::Ibm160, 40 * 8 * 512, 40),
+    ("ibm-180", Format::Ibm180, 40 * 9 * 512, 40),
+    ("ibm-320", Format::Ibm320, 40 * 2 * 8 * 512, 80),
+    ("ibm-360", Format::Ibm360, 40 * 2 * 9 * 512, 80),
+    ("ibm-720", Format::Ibm720, 80 * 2 * 9 * 512, 160),
+    ("ibm-1200", Format::Ibm1200, 80 * 2 * 15 * 512, 160),
+    ("ibm-1440", Format::Ibm1440, 80 * 2 * 18 * 512, 160),
+    ("atari-st-800", Format::AtariSt800, 80 * 2 * 10 * 512, 160),
+    ("cpc-data", Format::CpcData, 40 * 9 * 512, 40),
+    ("cpc-system", Format::CpcSystem, 40 * 9 * 512, 40),
+    ("acorn-dfs-40", Format::AcornDfs40, 40 * 10 * 256, 40),
+    ("acorn-dfs-80", Format::AcornDfs80, 80 * 10 * 256, 80),
+    ("amiga", Format::Amiga, 80 * 2 * 11 * 512, 160),
+    ("c1541", Format::C1541, 174848, 35),
+    ("c1541-40", Format::C1541Forty, 196608, 40),
+    ("apple-do", Format::AppleDo, 35 * 16 * 256, 35),
+    ("apple-po", Format::ApplePo, 35 * 16 * 256, 35),
+    ("apple-dos33", Format::AppleDos33, 35 * 16 * 256, 35),
+    ("apple-prodos", Format::AppleProdos, 35 * 16 * 256, 35),
+    ("mac-400", Format::Mac400, 800 * 512, 80),
+    ("mac-800", Format::Mac800, 1600 * 512, 160),
+    ("c1571", Format::C1571, 2 * 174848, 70),
+    ("amiga-hd", Format::AmigaHd, 80 * 2 * 22 * 512, 160),
+];
+
+const NO_FORMATS: [&[u8]; 5] = [b"", b"ibm-374", b"ibm-37400", b"IBM-3740", b"c1541-4"];
+
+#[test]
+fn formats_have_their_words_and_sizes(rt: HostRuntime) {
+    for (word, format, size, tracks) in FORMATS {
+        assert_eq!(rt; Format::of_word(word.as_bytes()), Some(format), "{word}");
+        let row = (format.word(), image_size(format), track_count(format));
+        assert_eq!(rt; row, (word, size, tracks));
+    }
+    for word in NO_FORMATS {
+        assert_eq!(rt; Format::of_word(word), None);
+    }
+}
+
+/// A track of a format by its number, its cylinder and head, its place in the image and its bytes, and its nominal cell in
+/// fine units and the cells of its ring.
+const TRACKS: [(Format, u32, (u8, u8), (u32, u32), (u32, u32)); 38] = [
+    (Format::AmigaHd, 1, (0, 1), (11264, 11264), (24604, 200000)),
+    (
+        Format::AmigaHd,
+        159,
+        (79, 1),
+        (1790976, 11264),
+        (24604, 200000),
+    ),
+    // All of head 0 comes first.
+    (Format::C1571, 1, (1, 0), (5376, 5376), (79963, 61488)),
+    (Format::C1571, 34, (34, 0), (170496, 4352), (98416, 49912)),
+    (Format::C1571, 35, (0, 1), (174848, 5376), (79963, 61488)),
+    (Format::C1571, 69, (34, 1), (345344, 4352), (98416, 49912)),
+    (Format::Ibm3740, 0, (0, 0), (0, 3328), (49208, 83328)),
+    (Format::Ibm3740, 76, (76, 0), (252928, 3328), (49208, 83328)),
+    (Format::Ibm360, 1, (0, 1), (4608, 4608), (49208, 100000)),
+    (Format::Ibm360, 79, (39, 1), (364032, 4608), (49208, 100000)),
+    (Format::Ibm720, 1, (0, 1), (4608, 4608), (49208, 100000)),
+    (Format::Ibm720, 2, (1, 0), (9216, 4608), (49208, 100000)),
+    (Format::Ibm1200, 0, (0, 0), (0, 7680), (24604, 166656)),
+    (Format::Ibm1440, 1, (0, 1), (9216, 9216), (24604, 200000)),
+    (Format::AcornDfs40, 0, (0, 0), (0, 2560), (98416, 50000)),
+    (Format::AcornDfs80, 0, (0, 0), (0, 2560), (98416, 50000)),
+    (Format::Amiga, 0, (0, 0), (0, 5632), (49208, 100000)),
+    (Format::Amiga, 159, (79, 1), (895488, 5632), (49208, 100000)),
+    (Format::Mac400, 15, (15, 0), (92160, 6144), (63951, 76946)),
+    (Format::Mac400, 16, (16, 0), (98304, 5632), (69613, 70688)),
+    (Format::Mac800, 64, (32, 0), (376832, 5120), (76612, 64230)),
+    (Format::Mac800, 97, (48, 1), (545280, 4608), (85220, 57742)),
+    (Format::Mac800, 128, (64, 0), (688128, 4096), (95765, 51384)),
+    (Format::Mac800, 159, (79, 1), (815104, 4096), (95765, 51384)),
+    (Format::C1541, 0, (0, 0), (0, 5376), (79963, 61488)),
+    (Format::C1541, 34, (34, 0), (170496, 4352), (98416, 49912)),
+    (Format::C1541Forty, 0, (0, 0), (0, 5376), (79963, 61488)),
+    (
+        Format::C1541Forty,
+        16,
+        (16, 0),
+        (86016, 5376),
+        (79963, 61488),
+    ),
+    (
+        Format::C1541Forty,
+        17,
+        (17, 0),
+        (91392, 4864),
+        (86114, 57000),
+    ),
+    (
+        Format::C1541Forty,
+        23,
+        (23, 0),
+        (120576, 4864),
+        (86114, 57000),
+    ),
+    (
+        Format::C1541Forty,
+        24,
+        (24, 0),
+        (125440, 4608),
+        (92265, 53280),
+    ),
+    (
+        Format::C1541Forty,
+        29,
+        (29, 0),
+        (148480, 4608),
+        (92265, 53280),
+    ),
+    (
+        Format::C1541Forty,
+        30,
+        (30, 0),
+        (153088, 4352),
+        (98416, 49912),
+    ),
+    (
+        Format::C1541Forty,
+        39,
+        (39, 0),
+        (192256, 4352),
+        (98416, 49912),
+    ),
+    (Format::AppleDo, 0, (0, 0), (0, 4096), (98416, 49994)),
+    (Format::AppleDo, 34, (34, 0), (139264, 4096), (98416, 49994)),
+    (Format::ApplePo, 0, (0, 0), (0, 4096), (98416, 49994)),
+    (Format::ApplePo, 34, (34, 0), (139264, 4096), (98416, 49994)),
+];
+
+#[test]
+fn tracks_have_their_places_and_cells(rt: HostRuntime) {
+    for (format, number, id, part, cells) in TRACKS {
+        assert!(rt; number < track_count(format));
+        let track = track_id(format, number);
+        assert_eq!(rt; (track.cylinder, track.head), id);
+        assert_eq!(rt;
+            (track_place(format, track), track_bytes(format, track)),
+            part
+        );
+        assert_eq!(rt; (nominal(format, track), ring_cells(format, track)), cells);
+    }
+}
+
+fn track(cylinder: u8, head: u8) -> TrackId
+    ensures { result ≡ record { cylinder = cylinder; head = head } }
+{
+    TrackId { cylinder, head }
+}
+
+#[test]
+fn sectors_have_their_places(rt: HostRuntime) {
+    let first = track(0, 0);
+    assert_eq!(rt; image_place(Format::Ibm3740, first, 2), 128);
+    assert_eq!(rt; image_place(Format::Ibm3740, track(76, 0), 26), 256128);
+    assert_eq!(rt; image_sector(Format::Ibm3740, track(76, 0), 25), 26);
+    assert_eq!(rt; image_place(Format::Ibm1440, track(79, 1), 18), 1474048);
+    assert_eq!(rt; image_place(Format::Ibm1200, track(79, 1), 15), 1228288);
+    assert_eq!(rt; image_place(Format::CpcData, first, 0xC2), 512);
+    assert_eq!(rt; image_sector(Format::CpcData, first, 8), 0xC9);
+    assert_eq!(rt; image_place(Format::CpcSystem, track(39, 0), 0x49), 183808);
+    assert_eq!(rt; image_place(Format::AcornDfs80, track(79, 0), 9), 204544);
+    assert_eq!(rt; image_place(Format::Amiga, track(1, 0), 0), 11264);
+    assert_eq!(rt; image_place(Format::Amiga, track(79, 1), 10), 900608);
+    assert_eq!(rt; image_place(Format::C1541, track(17, 0), 0), 91392);
+    assert_eq!(rt; image_place(Format::C1541, track(34, 0), 16), 174592);
+    assert_eq!(rt; image_place(Format::C1541Forty, track(39, 0), 16), 196352);
+    assert_eq!(rt; image_sector(Format::C1541, track(17, 0), 18), 18);
+    assert_eq!(rt; image_place(Format::C1571, track(17, 0), 0), 91392);
+    assert_eq!(rt; image_place(Format::C1571, track(17, 1), 0), 266240);
+}
+
+#[test]
+fn apple_sectors_have_their_images_order(rt: HostRuntime) {
+    let first = track(0, 0);
+    assert_eq!(rt; image_place(Format::AppleDo, first, 0), 0);
+    assert_eq!(rt; image_place(Format::AppleDo, first, 1), 1792);
+    assert_eq!(rt; image_place(Format::AppleDo, track(34, 0), 15), 143104);
+    assert_eq!(rt; image_sector(Format::AppleDo, first, 1), 13);
+    assert_eq!(rt; image_place(Format::ApplePo, first, 1), 2048);
+    assert_eq!(rt; image_place(Format::ApplePo, first, 2), 256);
+    assert_eq!(rt; image_sector(Format::ApplePo, first, 1), 2);
+    assert_eq!(rt; image_place(Format::AppleDos33, first, 1), 1792);
+    assert_eq!(rt; image_place(Format::AppleProdos, first, 1), 2048);
+}

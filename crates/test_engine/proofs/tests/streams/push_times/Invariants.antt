@@ -1,0 +1,6 @@
+use Rattle.std.proofs.Common.{◌≡◌, ◌≤◌, ◌^◌}
+use Rattle.std.specs.List.{All}
+use Rattle.test_engine.proofs.tests.streams.push_times.Given as goal
+
+abbrev pub invariant-loop-time : goal.invariant-loop-time
+invariant-loop-time l = All (λ time. time ≤ l.last) l.flux.times × (l.last ≤ 2 ^ 39) × (l.flux.indexes ≡ l.initial.flux.indexes)

@@ -1,0 +1,9 @@
+mod amiga;
+mod apple;
+mod commodore;
+mod fm;
+mod frames;
+mod macintosh;
+mod mfm;
+mod numbered;
+mod rings;
