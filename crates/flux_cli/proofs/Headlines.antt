@@ -30,9 +30,9 @@ use Rattle.flux_cli.specs.G64Disks.{format_of}
 use Rattle.flux_cli.specs.G64Work.{file_refusal, file_status, from_g64_outcome}
 use Rattle.flux_cli.specs.Headlines.{Gave, GaveOrCut, IsExpected, IsOfDecoded, IsOfFile, IsOfPlanned, OfDisk, OfFile, OfRescue, OfSet, OfTrial, RunsAsExpected, WasRead}
 use Rattle.flux_cli.specs.PlanWork.{IsRead, planned_outcome, planned_refusal, planned_status}
-use Rattle.flux_cli.specs.Runs.{Finished, Outside, Says}
+use Rattle.flux_cli.specs.Runs.{Finished, Outside, Says, SaysBy}
 use Rattle.flux_cli.specs.Work.{Outcome}
-use Rattle.flux_cli.specs.Works.{work_of}
+use Rattle.flux_cli.specs.Works.{work_for, work_of}
 use Rattle.flux_cli.specs.declared.command.Command.{Command}
 use Rattle.flux_cli.specs.declared.command.Command.TheVariants.{Turns, Decode, Report, Map, Write, Trial, ToG64, FromG64, DecodeSet, Rescue, Tell}
 use Rattle.flux_cli.specs.declared.command.Output.{Output}
@@ -207,7 +207,7 @@ module _ (names : WordsNameFormats) {S W N H : Type 0} (words : List (List ℕ))
       by : (folder : Option (Format × List ℕ)) → NamesFolder words folder → RanBy folder words status before after
           → Says (Some command) status before.outside after.outside
       by None none did =
-          subst (λ (asked : Option Command). Says asked status before.outside after.outside)
+          subst (λ (asked : Option Command). SaysBy (work_for words asked) asked status before.outside after.outside)
           (asked_is names words command did.0.asked are did.0.asks) did.0.does.says
       by (Some named) named_is did = absurd (no_folder command words are named.0 named.1 named_is.0)
 

@@ -10,7 +10,9 @@ use Rattle.flux_base.specs.declared.status.Status.TheVariants.{AllGood}
 use Rattle.flux_engine.specs.Disks.{Decoded}
 use Rattle.flux_engine.specs.Laws.{OneOutcome}
 use Rattle.flux_help.specs.declared.page.Page.{Page}
-use Rattle.flux_help.specs.declared.page.Page.TheVariants.{Help, Version}
+use Rattle.flux_help.specs.Verbs.{verb_of}
+use Rattle.flux_help.specs.declared.page.Page.TheVariants.{Help, Version, About}
+use Rattle.flux_help.specs.declared.verb.Verb.{Verb}
 use Rattle.flux_trial.specs.Tracks.{IsTrialLine, trial_input}
 use Rattle.g64_image.specs.Laws.{OneFileDisk}
 use Rattle.sector_images.specs.Formats.{WordsNameFormats}
@@ -26,7 +28,7 @@ use Rattle.flux_cli.specs.MapWork.{map_outcome}
 use Rattle.flux_cli.specs.PlanWork.{planned_outcome}
 use Rattle.sector_report.specs.declared.naming.Naming.TheVariants.{ByCapture, ByClock}
 use Rattle.flux_cli.specs.Work.{Outcome}
-use Rattle.flux_cli.specs.Works.{IsOutcome, work_of}
+use Rattle.flux_cli.specs.Works.{IsOutcome, work_for}
 use Rattle.flux_cli.specs.declared.command.Command.{Command}
 use Rattle.flux_cli.specs.declared.g64_disk.G64Disk.{G64Disk}
 use Rattle.flux_cli.specs.declared.g64_disk.G64Disk.TheVariants.{Tracks35, Tracks40}
@@ -68,29 +70,34 @@ one_disk Tracks35 Tracks40 same = absurd (cc)
 one_disk Tracks40 Tracks35 same = absurd (cc)
 one_disk Tracks40 Tracks40 same = refl
 
--- A word for a page is neither `turns` nor two words or more, and the words for the pages differ in their lengths.
+-- the first letters of the words for pages, of which no other command has the same
+abbrev is_page_letters : ℕ → Bool
+is_page_letters n = nat_eq n 26725 || nat_eq n 11565 || nat_eq n 11624
+
+page_letters : (page : Page) (words : List (List ℕ)) → AreWordsOf (Tell page) words → is_page_letters (letters words) ≡ true
+page_letters Help words (inl is) = ap (λ w. is_page_letters (letters w)) is
+page_letters Help words (inr (inl is)) = ap (λ w. is_page_letters (letters w)) is
+page_letters Help words (inr (inr is)) = ap (λ w. is_page_letters (letters w)) is
+page_letters Version words is = ap (λ w. is_page_letters (letters w)) is
+page_letters (About verb) words is = ap (λ w. is_page_letters (letters w)) is.1
+
+-- no words of a page are these
+no_page : (page : Page) (words others : List (List ℕ)) → is_page_letters (letters others) ≡ false → AreWordsOf (Tell page) words → words ≡ others → ⊥
+no_page page words others not_page is same =
+    let no : is_page_letters (letters words) ≡ false = ap (λ w. is_page_letters (letters w)) same ∙ not_page in
+    let yes : is_page_letters (letters words) ≡ true = page_letters page words is in
+    cc
+
+no_turns : (page : Page) (words : List (List ℕ)) → AreWordsOf (Tell page) words → words ≡ codes "turns" ∷ [] → ⊥
+no_turns page words is same = no_page page words (codes "turns" ∷ []) refl is same
+
+-- how long the first word is
 abbrev first_length : List (List ℕ) → ℕ
 first_length [] = 0
 first_length (word ∷ words) = length word
 
-abbrev is_page_length : ℕ → Bool
-is_page_length n = nat_eq n 2 || nat_eq n 4 || nat_eq n 6 || nat_eq n 9
-
-page_words : (page : Page) (words : List (List ℕ)) → AreWordsOf (Tell page) words → (length words ≡ 1) × (is_page_length (first_length words) ≡ true)
-page_words Help words (inl is) = (ap length is, ap (λ w. is_page_length (first_length w)) is)
-page_words Help words (inr (inl is)) = (ap length is, ap (λ w. is_page_length (first_length w)) is)
-page_words Help words (inr (inr is)) = (ap length is, ap (λ w. is_page_length (first_length w)) is)
-page_words Version words is = (ap length is, ap (λ w. is_page_length (first_length w)) is)
-
--- no words of a page are these
-no_page : (page : Page) (words others : List (List ℕ)) → nat_eq 1 (length others) ≡ false → AreWordsOf (Tell page) words → words ≡ others → ⊥
-no_page page words others many is same = differ 1 (length others) many (sym (page_words page words is).0 ∙ ap length same)
-
-no_turns : (page : Page) (words : List (List ℕ)) → AreWordsOf (Tell page) words → words ≡ codes "turns" ∷ [] → ⊥
-no_turns page words is same =
-    let no : is_page_length (first_length words) ≡ false = ap (λ w. is_page_length (first_length w)) same in
-    let yes : is_page_length (first_length words) ≡ true = (page_words page words is).1 in
-    cc
+one_verb : (verb other : Verb) → Some verb ≡ Some other → verb ≡ other
+one_verb verb other same = cc
 
 one_page : (page other : Page) (words : List (List ℕ)) → AreWordsOf (Tell page) words → AreWordsOf (Tell other) words → page ≡ other
 one_page Help Help words first second = refl
@@ -101,6 +108,17 @@ one_page Help Version words (inr (inr is)) second = absurd (differ 2 9 refl (ap 
 one_page Version Help words first (inl is) = absurd (differ 4 9 refl (ap first_length (sym is ∙ first)))
 one_page Version Help words first (inr (inl is)) = absurd (differ 6 9 refl (ap first_length (sym is ∙ first)))
 one_page Version Help words first (inr (inr is)) = absurd (differ 2 9 refl (ap first_length (sym is ∙ first)))
+one_page Help (About verb) words (inl is) second = absurd (differ 1 2 refl (ap length (sym is ∙ second.1)))
+one_page Help (About verb) words (inr (inl is)) second = absurd (differ 1 2 refl (ap length (sym is ∙ second.1)))
+one_page Help (About verb) words (inr (inr is)) second = absurd (differ 1 2 refl (ap length (sym is ∙ second.1)))
+one_page Version (About verb) words first second = absurd (differ 1 2 refl (ap length (sym first ∙ second.1)))
+one_page (About verb) Help words first (inl is) = absurd (differ 2 1 refl (ap length (sym first.1 ∙ is)))
+one_page (About verb) Help words first (inr (inl is)) = absurd (differ 2 1 refl (ap length (sym first.1 ∙ is)))
+one_page (About verb) Help words first (inr (inr is)) = absurd (differ 2 1 refl (ap length (sym first.1 ∙ is)))
+one_page (About verb) Version words first second = absurd (differ 2 1 refl (ap length (sym first.1 ∙ second)))
+one_page (About verb) (About other) words first second =
+    let same : first.0 ≡ second.0 = ap format_word (sym first.1 ∙ second.1) in
+    ap About (one_verb verb other (sym first.2 ∙ ap verb_of same ∙ second.2))
 
 -- words ask for one command at most
 pub one_command : WordsNameFormats → (words : List (List ℕ)) (a b : Command) → AreWordsOf a words → AreWordsOf b words → a ≡ b
@@ -263,28 +281,28 @@ one_line one format seed a b first second =
     ∙ sym second.line_is
 
 module _ (names : WordsNameFormats) (one : OneOutcome) (one_file : OneFileDisk) (one_set : OneSet) (one_rescue : OneRescue) (one_map : OneMap) where
-  one_of : (asked : Option Command) (x : List ℕ) (a b : Outcome) → (work_of asked).gives x a → (work_of asked).gives x b → a ≡ b
-  one_of None x a b first second = first ∙ sym second
-  one_of (Some Turns) x a b first second = first ∙ sym second
-  one_of (Some (Decode format)) x a b first second =
+  one_of : (words : List (List ℕ)) (asked : Option Command) (x : List ℕ) (a b : Outcome) → (work_for words asked).gives x a → (work_for words asked).gives x b → a ≡ b
+  one_of words None x a b first second = first ∙ sym second
+  one_of words (Some Turns) x a b first second = first ∙ sym second
+  one_of words (Some (Decode format)) x a b first second =
       first.2 ∙ ap (disk_outcome ImageAndReport) (one format x first.0 second.0 first.1 second.1) ∙ sym second.2
-  one_of (Some (Report format)) x a b first second =
+  one_of words (Some (Report format)) x a b first second =
       first.2 ∙ ap (disk_outcome ReportAlone) (one format x first.0 second.0 first.1 second.1) ∙ sym second.2
-  one_of (Some (Map format)) x a b first second =
+  one_of words (Some (Map format)) x a b first second =
       first.2 ∙ ap map_outcome (one_map format x first.0 second.0 first.1 second.1) ∙ sym second.2
-  one_of (Some (Write format)) x a b first second = first ∙ sym second
-  one_of (Some (Trial format seed)) x a b first second =
+  one_of words (Some (Write format)) x a b first second = first ∙ sym second
+  one_of words (Some (Trial format seed)) x a b first second =
       first.2 ∙ ap (λ (line : List ℕ). record { status = AllGood; image = line; notes = [] }) (one_line one format seed first.0 second.0 first.1 second.1) ∙ sym second.2
-  one_of (Some (ToG64 disk)) x a b first second = first ∙ sym second
-  one_of (Some (FromG64 disk)) x a b first second =
+  one_of words (Some (ToG64 disk)) x a b first second = first ∙ sym second
+  one_of words (Some (FromG64 disk)) x a b first second =
       first.2 ∙ ap from_g64_outcome (one_file (format_of disk) x first.0 second.0 first.1 second.1) ∙ sym second.2
-  one_of (Some (DecodeSet format count)) x a b first second =
+  one_of words (Some (DecodeSet format count)) x a b first second =
       first.2 ∙ ap (planned_outcome ByCapture) (one_set format count x first.0 second.0 first.1 second.1) ∙ sym second.2
-  one_of (Some (Rescue format)) x a b first second =
+  one_of words (Some (Rescue format)) x a b first second =
       first.2 ∙ ap (planned_outcome ByClock) (one_rescue format x first.0 second.0 first.1 second.1) ∙ sym second.2
-  one_of (Some (Tell page)) x a b first second = first ∙ sym second
+  one_of words (Some (Tell page)) x a b first second = first ∙ sym second
 
   pub one_outcome : (words : List (List ℕ)) (x : List ℕ) (a b : Outcome) → IsOutcome words x a → IsOutcome words x b → a ≡ b
   one_outcome words x a b first second =
       let same = one_asked names words first.1 second.1 first.2 second.2 in
-      one_of second.1 x a b (subst (λ asked. (work_of asked).gives x a) same first.3) second.3
+      one_of words second.1 x a b (subst (λ asked. (work_for words asked).gives x a) same first.3) second.3

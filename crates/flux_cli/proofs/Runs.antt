@@ -6,7 +6,6 @@ use Rattle.flux_base.specs.Outside.{Gives}
 use Rattle.flux_base.specs.declared.status.Status.TheVariants.{Usage, NotesFault, Memory}
 use Rattle.flux_engine.specs.Needed.{ReadsWhereOpen}
 use Rattle.kryo_stream.specs.Reads.{SourceMoment}
-use Rattle.sector_report.specs.Lines.{usage_text}
 use Rattle.flux_cli.specs.Runs.{Does, Finished, IsCut, Outside, growth, reads_of}
 use Rattle.flux_cli.specs.Work.{Got, GotNothing, GotPart}
 use Rattle.flux_cli.specs.Works.{usage_work, work_of}
@@ -37,14 +36,15 @@ out_of_memory command now = record {
 }
 
 module _ {S W N : Type 0} (before after : Outside S W N) (unread : Consumes before.source.bytes after.source.bytes []) where
-  -- the usage
-  pub usage-finish : Got (growth before.image after.image) [] → Got (growth before.notes after.notes) usage_text → Finished usage_work Usage before after
-  usage-finish image notes =
+  -- what is told of wrong words
+  pub usage-finish : (text : List ℕ) → Got (growth before.image after.image) [] → Got (growth before.notes after.notes) text
+      → Finished (usage_work text) Usage before after
+  usage-finish text image notes =
       let r = rest before.source after.source [] unread in record {
         taken = [];
         later = r.later;
         input = r.input;
-        outcome = record { status = Usage; image = []; notes = usage_text };
+        outcome = record { status = Usage; image = []; notes = text };
         gives = refl;
         status_is = refl;
         image_got = image;
@@ -53,8 +53,9 @@ module _ {S W N : Type 0} (before after : Outside S W N) (unread : Consumes befo
       }
 
   -- a part of it
-  pub usage-cut : GotNothing (growth before.image after.image) → GotPart (growth before.notes after.notes) usage_text → IsCut usage_work NotesFault before after
-  usage-cut image notes =
+  pub usage-cut : (text : List ℕ) → GotNothing (growth before.image after.image) → GotPart (growth before.notes after.notes) text
+      → IsCut (usage_work text) NotesFault before after
+  usage-cut text image notes =
       let r = rest before.source after.source [] unread in record {
         taken = [];
         later = r.later;

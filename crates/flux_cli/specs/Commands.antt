@@ -1,6 +1,7 @@
 -- The words of the command line, without the program's name.
 use Rattle.std.specs.Prelude.{◌≡◌, ◌⊎◌, ℕ, List, [], ◌∷◌, codes, decimal, Option, Some, None}
-use Rattle.flux_help.specs.declared.page.Page.TheVariants.{Help, Version}
+use Rattle.flux_help.specs.Verbs.{verb_of, verb_row}
+use Rattle.flux_help.specs.declared.page.Page.TheVariants.{Help, Version, About}
 use Rattle.sector_images.specs.Formats.{row}
 use Rattle.sector_images.specs.declared.format.Format.{Format}
 use Rattle.flux_cli.specs.Counts.{IsCount}
@@ -26,6 +27,7 @@ words_of (DecodeSet format count) = codes "decode-set" ∷ (row format).word ∷
 words_of (Rescue format) = codes "rescue" ∷ (row format).word ∷ []
 words_of (Tell Help) = codes "help" ∷ []
 words_of (Tell Version) = codes "--version" ∷ []
+words_of (Tell (About verb)) = codes "help" ∷ (verb_row verb).word ∷ []
 
 -- the words ask for a command
 abbrev pub AreWordsOf : Command → List (List ℕ) → Type 0
@@ -41,6 +43,7 @@ AreWordsOf (DecodeSet format count) words = (number : List ℕ) × (words ≡ co
 AreWordsOf (Rescue format) words = words ≡ words_of (Rescue format)
 AreWordsOf (Tell Help) words = (words ≡ words_of (Tell Help)) ⊎ (words ≡ codes "--help" ∷ []) ⊎ (words ≡ codes "-h" ∷ [])
 AreWordsOf (Tell Version) words = words ≡ words_of (Tell Version)
+AreWordsOf (Tell (About verb)) words = (word : List ℕ) × (words ≡ codes "help" ∷ word ∷ []) × (verb_of word ≡ Some verb)
 
 -- what the words ask for; nothing where they are not those of a command
 abbrev pub AskFor : List (List ℕ) → Option Command → Type 0

@@ -9,7 +9,7 @@ use Rattle.flux_engine.specs.Needed.{ReadsWhereOpen}
 use Rattle.kryo_stream.specs.Reads.{SourceMoment}
 use Rattle.flux_cli.specs.Commands.{AskFor}
 use Rattle.flux_cli.specs.Work.{Outcome, Growth, Got, Work}
-use Rattle.flux_cli.specs.Works.{work_of}
+use Rattle.flux_cli.specs.Works.{work_for, work_of}
 use Rattle.flux_cli.specs.declared.command.Command.{Command}
 
 -- the outside at a moment: the source, with what each of its reads so far gave, if it tells that, and both sinks
@@ -48,17 +48,20 @@ pub record IsCut {S W N : Type 0} (work : Work) (status : Status) (before after 
   pub input : IsInput before.source after.source taken later
   pub place : work.cut status taken later (growth before.image after.image) (growth before.notes after.notes)
 
--- what the status says
+-- what the status says, by a row
+abbrev pub SaysBy : {S W N : Type 0} → Work → Option Command → Status → (before after : Outside S W N) → Type 0
+SaysBy work asked AllGood before after = Finished work AllGood before after
+SaysBy work asked NotAllGood before after = Finished work NotAllGood before after
+SaysBy work asked Refused before after = Finished work Refused before after
+SaysBy work asked Usage before after = Finished work Usage before after
+SaysBy work asked ReadFault before after = IsCut work ReadFault before after × Rose before.source.faults after.source.faults
+SaysBy work asked ImageFault before after = IsCut work ImageFault before after × Rose before.image.faults after.image.faults
+SaysBy work asked NotesFault before after = IsCut work NotesFault before after × Rose before.notes.faults after.notes.faults
+SaysBy work asked Memory before after = IsSome asked × (after ≡ before)
+SaysBy work asked ShelfFault before after = ⊥
+
 abbrev pub Says : {S W N : Type 0} → Option Command → Status → (before after : Outside S W N) → Type 0
-Says asked AllGood before after = Finished (work_of asked) AllGood before after
-Says asked NotAllGood before after = Finished (work_of asked) NotAllGood before after
-Says asked Refused before after = Finished (work_of asked) Refused before after
-Says asked Usage before after = Finished (work_of asked) Usage before after
-Says asked ReadFault before after = IsCut (work_of asked) ReadFault before after × Rose before.source.faults after.source.faults
-Says asked ImageFault before after = IsCut (work_of asked) ImageFault before after × Rose before.image.faults after.image.faults
-Says asked NotesFault before after = IsCut (work_of asked) NotesFault before after × Rose before.notes.faults after.notes.faults
-Says asked Memory before after = IsSome asked × (after ≡ before)
-Says asked ShelfFault before after = ⊥
+Says asked status before after = SaysBy (work_of asked) asked status before after
 
 -- no object's count of faults is lower than it was
 pub record NoCountFell {S W N : Type 0} (before after : Outside S W N) : Type 0 where
@@ -83,15 +86,18 @@ abbrev pub WasReadWhereNeeded : {S W N : Type 0} → Work → (before after : Ou
 WasReadWhereNeeded work before after =
     (x : List ℕ) → before.source.bytes ≡ Some x → ReadsWhereOpen work.untold (reads_of before) (reads_of after)
 
--- what was done that was asked
-pub record Does {S W N : Type 0} (asked : Option Command) (status : Status) (before after : Outside S W N) : Type 0 where
+-- what was done that was asked, by a row
+pub record DoesBy {S W N : Type 0} (work : Work) (asked : Option Command) (status : Status) (before after : Outside S W N) : Type 0 where
   pub answer : IsAnswer asked status
-  pub says : Says asked status before after
+  pub says : SaysBy work asked status before after
   pub counts : NoCountFell before after
-  pub needed : WasReadWhereNeeded (work_of asked) before after
+  pub needed : WasReadWhereNeeded work before after
+
+abbrev pub Does : {S W N : Type 0} → Option Command → Status → (before after : Outside S W N) → Type 0
+Does asked status before after = DoesBy (work_of asked) asked status before after
 
 -- what a run over the source with these words did
 pub record RanOverSource {S W N : Type 0} (words : List (List ℕ)) (status : Status) (before after : Outside S W N) : Type 0 where
   pub asked : Option Command
   pub asks : AskFor words asked
-  pub does : Does asked status before after
+  pub does : DoesBy (work_for words asked) asked status before after

@@ -5,6 +5,7 @@ use Rattle.disk_rescue.specs.Rescued.{rescuing}
 use Rattle.flux_base.specs.declared.status.Status.{Status}
 use Rattle.flux_base.specs.declared.status.Status.TheVariants.{Usage, NotesFault}
 use Rattle.sector_report.specs.Lines.{usage_text}
+use Rattle.flux_help.specs.WrongWords.{wrong_text}
 use Rattle.flux_cli.specs.Commands.{AskFor}
 use Rattle.flux_cli.specs.DisksWork.{disk_work}
 use Rattle.flux_cli.specs.FolderWords.{NamesFolder}
@@ -21,25 +22,26 @@ use Rattle.flux_cli.specs.declared.command.Command.{Command}
 use Rattle.flux_cli.specs.declared.command.Command.TheVariants.{Turns, Decode, Report, Map, Write, Trial, ToG64, FromG64, DecodeSet, Rescue, Tell}
 use Rattle.flux_cli.specs.declared.command.Output.TheVariants.{ImageAndReport, ReportAlone}
 
--- nothing is read, and the notes get the usage
+-- nothing is read, and the notes get a text
 abbrev pub usage_leaves : Status → (x later : List ℕ) → Type 0
 usage_leaves Usage x later = later ≡ x
 usage_leaves _ x later = ⊥
 
-abbrev pub usage_cut : Status → (taken later : List ℕ) → (image notes : Growth) → Type 0
-usage_cut NotesFault taken later image notes = (taken ≡ []) × GotNothing image × GotPart notes usage_text
-usage_cut _ taken later image notes = ⊥
+abbrev pub usage_cut : List ℕ → Status → (taken later : List ℕ) → (image notes : Growth) → Type 0
+usage_cut text NotesFault taken later image notes = (taken ≡ []) × GotNothing image × GotPart notes text
+usage_cut text _ taken later image notes = ⊥
 
-abbrev pub usage_work : Work
-usage_work = record {
-  gives = λ x o. o ≡ record { status = Usage; image = []; notes = usage_text };
+abbrev pub usage_work : List ℕ → Work
+usage_work text = record {
+  gives = λ x o. o ≡ record { status = Usage; image = []; notes = text };
   untold = λ x. ⊥;
   leaves = usage_leaves;
-  cut = usage_cut;
+  cut = usage_cut text;
 }
 
+-- the row of a command; and of words that are none, of which no more is known
 abbrev pub work_of : Option Command → Work
-work_of None = usage_work
+work_of None = usage_work usage_text
 work_of (Some Turns) = turns_work
 work_of (Some (Decode format)) = disk_work ImageAndReport format
 work_of (Some (Report format)) = disk_work ReportAlone format
@@ -52,6 +54,11 @@ work_of (Some (DecodeSet format count)) = planned_work (set_plan count) format
 work_of (Some (Rescue format)) = planned_work rescuing format
 work_of (Some (Tell page)) = page_work page
 
+-- the row of what these words ask for: where they are no command, they are told what is wrong with them
+abbrev pub work_for : List (List ℕ) → Option Command → Work
+work_for words None = usage_work (wrong_text words)
+work_for words (Some command) = work_of (Some command)
+
 -- this is the outcome of the words over the input, where they name no folder
 abbrev pub IsOutcome : List (List ℕ) → List ℕ → Outcome → Type 0
-IsOutcome words x o = NamesFolder words None × (asked : Option Command) × AskFor words asked × (work_of asked).gives x o
+IsOutcome words x o = NamesFolder words None × (asked : Option Command) × AskFor words asked × (work_for words asked).gives x o

@@ -1,4 +1,4 @@
-ghost use Rattle.std.specs.Prelude.{◌≡◌, [], ◌∷◌};
+ghost use Rattle.std.specs.Prelude.{◌≡◌, ◌≢◌, [], ◌∷◌, codes};
 ghost use Rattle.flux_cli.specs.Commands.{AskFor};
 ghost use Rattle.sector_images.specs.Formats.{row};
 
@@ -6,7 +6,7 @@ use crate::count::count_of;
 use crate::g64_disk::G64Disk;
 use crate::seed::seed_of;
 use flux_base::Word;
-use flux_help::Page;
+use flux_help::{Page, Verb};
 use sector_images::{Format, words_name_formats};
 
 /// What the words ask for.
@@ -76,10 +76,16 @@ fn plain_command(verb: &[u8]) -> Option<Command>
     }
 }
 
-/// The command of two words, of which the second is a format's.
+/// The command of two words, of which the second is a format's or, after `help`, that of a command.
 fn format_command(verb: &[u8], word: &[u8]) -> Option<Command>
     ensures { AskFor (verb.now ∷ word.now ∷ []) result }
 {
+    if verb == b"help".as_slice() {
+        return match Verb::of_word(word) {
+            Some(verb) => Some(Command::Tell(Page::About(verb))),
+            None => None,
+        };
+    }
     match Format::of_word(word) {
         Some(format) => command_over(verb, format),
         None => None,
@@ -88,6 +94,7 @@ fn format_command(verb: &[u8], word: &[u8]) -> Option<Command>
 
 /// The command of a word and a format.
 fn command_over(verb: &[u8], format: Format) -> Option<Command>
+    requires { verb.now ≢ codes "help" }
     ensures { AskFor (verb.now ∷ (row format).word ∷ []) result }
 {
     words_name_formats();

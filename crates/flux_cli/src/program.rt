@@ -20,8 +20,9 @@ use crate::pages::tell;
 use crate::planned::{decode_captures, rescue};
 use crate::trial::trial;
 use crate::turns::write_turns;
-use flux_base::{Memory, Sink, Source, Status, Word, write_whole};
+use flux_base::{Memory, Sink, Source, Status, Word};
 use flux_engine::{DiskRoom, WriteRoom};
+use flux_help::write_wrong_words;
 use flux_trial::{TrialRoom, whole_trials_have_one_line};
 use g64_image::{G64Room, written_files_come_back};
 use kryo_stream::{RoomFault, StreamRoom};
@@ -29,7 +30,7 @@ use law_captured_disks::captured_disks_decode;
 use law_captured_rescues::{captured_disks_are_rescued, steady_disks_are_rescued};
 use law_captured_sets::captured_sets_decode;
 use sector_images::{Format, words_name_formats};
-use sector_report::{refused_line, usage_line, write_line};
+use sector_report::{refused_line, write_line};
 use std::alloc::Global;
 use track_shelf::Shelf;
 
@@ -129,7 +130,7 @@ fn run_over_source<S: Source, W: Sink, N: Sink>(
         (outside (moment S.left S.faults source.new) (S.given source.new) (moment W.written W.faults image.new) (moment N.written N.faults notes.new)) }
 {
     match command_of(words) {
-        None => match write_whole(notes, usage_line().as_bytes()) {
+        None => match write_wrong_words(words, notes) {
             Ok(()) => Status::Usage,
             Err(_) => Status::NotesFault,
         },

@@ -1,2 +1,4 @@
 pub mod Listed
 pub mod Joined
+pub mod Best
+pub mod Told

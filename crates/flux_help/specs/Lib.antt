@@ -1,1 +1,4 @@
+pub mod Nearest
 pub mod Pages
+pub mod Verbs
+pub mod WrongWords

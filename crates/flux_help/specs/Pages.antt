@@ -1,45 +1,69 @@
 -- What the program says of itself.
-use Rattle.std.specs.Prelude.{ℕ, List, ◌++◌, codes, decimal, flat_map, length}
+use Rattle.std.specs.Prelude.{ℕ, List, ◌++◌, codes, decimal, flat_map}
 use Rattle.sector_images.specs.Formats.{formats, row}
-use Rattle.sector_images.specs.Places.{tracks}
 use Rattle.sector_images.specs.declared.format.Format.{Format}
+use Rattle.sector_images.specs.declared.format.Format.TheVariants.{Ibm3740, Ibm360, Ibm720, Ibm1440, Amiga, AmigaHd, C1541, C1541Forty, C1571, AppleDo, ApplePo, Ibm160, Ibm180, Ibm320, Ibm1200, AtariSt800, CpcData, CpcSystem, AcornDfs40, AcornDfs80, AppleDos33, AppleProdos, Mac400, Mac800}
+use Rattle.flux_help.specs.Verbs.{verb_row, verbs}
 use Rattle.flux_help.specs.declared.page.Page.{Page}
-use Rattle.flux_help.specs.declared.page.Page.TheVariants.{Help, Version}
+use Rattle.flux_help.specs.declared.page.Page.TheVariants.{Help, Version, About}
+use Rattle.flux_help.specs.declared.verb.Verb.{Verb}
 
 unfoldable pub version_text : List ℕ
 version_text = codes "flux 0.1.0\n"
 
--- what the program is, and a line for each command
-unfoldable pub commands_text : List ℕ
-commands_text =
+-- what the program is
+unfoldable pub intro_text : List ℕ
+intro_text =
     codes "flux reads KryoFlux stream captures of floppy disks and writes images back as streams.\n"
     ++ codes "It reads standard input or a folder and writes standard output; reports and refusals go to standard error.\n"
     ++ codes "\n"
     ++ codes "Commands:\n"
-    ++ codes "   decode-folder FORMAT FOLDER  a folder of track files to the disk's image, with a report\n"
-    ++ codes "   decode-set FORMAT COUNT      so many streams of each track to one image, with a report\n"
-    ++ codes "   rescue FORMAT                as decode, with each stream read by two clocks, for dumps with noise\n"
-    ++ codes "   decode FORMAT                the streams of a disk, joined, to its image, with a report\n"
-    ++ codes "   report FORMAT                the same streams to the report alone, on standard output\n"
-    ++ codes "   map FORMAT                   the same streams to a picture of the disk (SVG), on standard output\n"
-    ++ codes "   write FORMAT                 an image to the streams of its tracks\n"
-    ++ codes "   turns                        one stream to its transitions and the length of each revolution\n"
-    ++ codes "   to-g64 FORMAT                an image to the file that emulators keep (c1541, c1541-40)\n"
-    ++ codes "   from-g64 FORMAT              such a file to its image, with a report\n"
-    ++ codes "   trial FORMAT SEED            makes a disk from a number and says what it decodes to\n"
-    ++ codes "   help, --help, -h             this text\n"
-    ++ codes "   --version                    the version\n"
+
+-- a line for each command
+abbrev pub verbs_text : List ℕ
+verbs_text = flat_map (λ verb. (verb_row verb).line) verbs
+
+-- the last line of the commands, and what stands before the formats
+unfoldable pub heading_text : List ℕ
+heading_text =
+    codes "   --version                    the version\n"
     ++ codes "\n"
     ++ codes "Formats:\n"
 
--- a word, a number of tracks and a number of bytes in one line
-unfoldable pub disk_text : (word : List ℕ) → (tracks bytes : ℕ) → List ℕ
-disk_text word tracks bytes =
-    codes "   " ++ word ++ codes "\t" ++ decimal tracks ++ codes " tracks, an image of " ++ decimal bytes ++ codes " bytes\n"
+-- what people call a format's disk, its cylinders, its heads where there are two, and the sectors of a track
+unfoldable pub disk_name : Format → List ℕ
+disk_name Ibm3740 = codes "IBM 3740, 8-inch, 77 cylinders, 26 sectors"
+disk_name Ibm360 = codes "PC, 5.25-inch, 40 cylinders, 2 heads, 9 sectors"
+disk_name Ibm720 = codes "PC, Atari ST and MSX, 3.5-inch, 80 cylinders, 2 heads, 9 sectors"
+disk_name Ibm1440 = codes "PC, 3.5-inch, high density, 80 cylinders, 2 heads, 18 sectors"
+disk_name Amiga = codes "Amiga, 3.5-inch, 80 cylinders, 2 heads, 11 sectors"
+disk_name AmigaHd = codes "Amiga, 3.5-inch, high density, 80 cylinders, 2 heads, 22 sectors"
+disk_name C1541 = codes "Commodore 1541, 35 cylinders, 21 to 17 sectors"
+disk_name C1541Forty = codes "Commodore 1541, 40 cylinders, 21 to 17 sectors"
+disk_name C1571 = codes "Commodore 1571, 35 cylinders, 2 heads, 21 to 17 sectors"
+disk_name AppleDo = codes "Apple II, exact to the cell, in the order of DOS 3.3, 35 cylinders, 16 sectors"
+disk_name ApplePo = codes "Apple II, exact to the cell, in the order of ProDOS, 35 cylinders, 16 sectors"
+disk_name Ibm160 = codes "PC, 5.25-inch, 40 cylinders, 8 sectors"
+disk_name Ibm180 = codes "PC, 5.25-inch, 40 cylinders, 9 sectors"
+disk_name Ibm320 = codes "PC, 5.25-inch, 40 cylinders, 2 heads, 8 sectors"
+disk_name Ibm1200 = codes "PC, 5.25-inch, high density, 80 cylinders, 2 heads, 15 sectors"
+disk_name AtariSt800 = codes "Atari ST, 3.5-inch, 80 cylinders, 2 heads, 10 sectors"
+disk_name CpcData = codes "Amstrad CPC, 40 cylinders, 9 sectors from C1"
+disk_name CpcSystem = codes "Amstrad CPC, 40 cylinders, 9 sectors from 41"
+disk_name AcornDfs40 = codes "Acorn DFS, 40 cylinders, 10 sectors"
+disk_name AcornDfs80 = codes "Acorn DFS, 80 cylinders, 10 sectors"
+disk_name AppleDos33 = codes "Apple II, as DOS 3.3 wrote it, 35 cylinders, 16 sectors"
+disk_name AppleProdos = codes "Apple II, as ProDOS wrote it, 35 cylinders, 16 sectors"
+disk_name Mac400 = codes "Macintosh, 3.5-inch, 80 cylinders, 12 to 8 sectors"
+disk_name Mac800 = codes "Macintosh, 3.5-inch, 80 cylinders, 2 heads, 12 to 8 sectors"
 
--- the line of a format: its word, how many tracks it has, and how many bytes its image has
+-- a word, a disk's name and a number of bytes in one line
+unfoldable pub disk_text : (word name : List ℕ) → (bytes : ℕ) → List ℕ
+disk_text word name bytes = codes "   " ++ word ++ codes "\t" ++ name ++ codes ", " ++ decimal bytes ++ codes " bytes\n"
+
+-- the line of a format: its word, its disk, and how many bytes its image has
 unfoldable pub format_text : Format → List ℕ
-format_text format = disk_text (row format).word (length (tracks format)) (row format).image_size
+format_text format = disk_text (row format).word (disk_name format) (row format).image_size
 
 -- a line for each exit code
 unfoldable pub codes_text : List ℕ
@@ -62,8 +86,13 @@ abbrev pub formats_text : List ℕ
 formats_text = flat_map format_text formats
 
 abbrev pub help_text : List ℕ
-help_text = commands_text ++ (formats_text ++ codes_text)
+help_text = intro_text ++ (verbs_text ++ (heading_text ++ (formats_text ++ codes_text)))
+
+-- what is said of one command
+abbrev pub about_text : Verb → List ℕ
+about_text verb = (verb_row verb).usage ++ (verb_row verb).about
 
 abbrev pub page_text : Page → List ℕ
 page_text Help = help_text
 page_text Version = version_text
+page_text (About verb) = about_text verb

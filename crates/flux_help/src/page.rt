@@ -1,3 +1,5 @@
+use crate::verb::Verb;
+
 /// What the program can say of itself.
 #[derive(Clone, Copy, Debug, PartialEq, Eq)]
 pub enum Page {
@@ -5,4 +7,6 @@ pub enum Page {
     Help,
     /// The version, in one line.
     Version,
+    /// One command, with an example.
+    About(Verb),
 }

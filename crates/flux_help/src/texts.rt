@@ -1,31 +1,22 @@
 ghost use Rattle.std.specs.Prelude.{◌≡◌, ◌≤◌, length};
-ghost use Rattle.flux_help.specs.Pages.{codes_text, commands_text, disk_text, format_text, version_text};
+ghost use Rattle.flux_help.specs.Pages.{codes_text, disk_name, disk_text, format_text, heading_text, intro_text, version_text};
 
-use sector_images::{Format, image_size, track_count};
+use sector_images::{Format, image_size};
 use sector_report::{Line, put, put_named};
 
 /// The version, as `CHANGELOG.md` counts it.
 const VERSION: &str = "flux 0.1.0\n";
 
-/// What the program is, and a line for each command.
-const COMMANDS: &str = "\
+/// What the program is.
+const INTRO: &str = "\
 flux reads KryoFlux stream captures of floppy disks and writes images back as streams.
 It reads standard input or a folder and writes standard output; reports and refusals go to standard error.
 
 Commands:
-   decode-folder FORMAT FOLDER  a folder of track files to the disk's image, with a report
-   decode-set FORMAT COUNT      so many streams of each track to one image, with a report
-   rescue FORMAT                as decode, with each stream read by two clocks, for dumps with noise
-   decode FORMAT                the streams of a disk, joined, to its image, with a report
-   report FORMAT                the same streams to the report alone, on standard output
-   map FORMAT                   the same streams to a picture of the disk (SVG), on standard output
-   write FORMAT                 an image to the streams of its tracks
-   turns                        one stream to its transitions and the length of each revolution
-   to-g64 FORMAT                an image to the file that emulators keep (c1541, c1541-40)
-   from-g64 FORMAT              such a file to its image, with a report
-   trial FORMAT SEED            makes a disk from a number and says what it decodes to
-   help, --help, -h             this text
-   --version                    the version
+";
+
+/// The last line of the commands, and what stands before the formats.
+const HEADING: &str = "   --version                    the version
 
 Formats:
 ";
@@ -52,12 +43,20 @@ pub(crate) fn version() -> &'static str
     VERSION
 }
 
-/// The commands, as contracts see them.
-#[tactic(auto, unfolding(crate::specs::Pages::commands_text))]
-pub(crate) fn commands() -> &'static str
-    ensures { result.now ≡ commands_text }
+/// What the program is, as contracts see it.
+#[tactic(auto, unfolding(crate::specs::Pages::intro_text))]
+pub(crate) fn intro() -> &'static str
+    ensures { result.now ≡ intro_text }
 {
-    COMMANDS
+    INTRO
+}
+
+/// What stands between the commands and the formats, as contracts see it.
+#[tactic(auto, unfolding(crate::specs::Pages::heading_text))]
+pub(crate) fn heading() -> &'static str
+    ensures { result.now ≡ heading_text }
+{
+    HEADING
 }
 
 /// The exit codes, as contracts see them.
@@ -68,24 +67,62 @@ pub(crate) fn exit_codes() -> &'static str
     CODES
 }
 
-/// The line of a format: its word, how many tracks it has, and how many bytes its image has.
+/// The line of a format: its word, its disk, and how many bytes its image has.
 #[tactic(auto, unfolding(crate::specs::Pages::format_text))]
 pub(crate) fn format_line(format: Format) -> Line
     ensures { result.bytes ≡ format_text format }
 {
-    disk_line(format.word(), track_count(format), image_size(format))
+    disk_line(format.word(), disk_name(format), image_size(format))
 }
 
-/// A word of at most 100 bytes, a number of tracks and a number of bytes in one line.
-fn disk_line(word: &str, tracks: u32, bytes: u32) -> Line
-    requires { length word.now ≤ 100 }
-    ensures { result.bytes ≡ disk_text word.now tracks bytes }
+/// A word, a disk's name of at most 100 bytes, and a number of bytes in one line.
+fn disk_line(word: &str, name: &str, bytes: u32) -> Line
+    requires word { length word.now ≤ 50 }
+    requires name { length name.now ≤ 100 }
+    ensures { result.bytes ≡ disk_text word.now name.now bytes }
 {
     let mut line = Line::new();
     put(&mut line, "   ");
     put(&mut line, word);
-    put_named(&mut line, "\t", tracks);
-    put_named(&mut line, " tracks, an image of ", bytes);
+    put(&mut line, "\t");
+    put(&mut line, name);
+    put_named(&mut line, ", ", bytes);
     put(&mut line, " bytes\n");
     line
+}
+
+/// What people call a format's disk, its cylinders, its heads where there are two, and the sectors of a track.
+#[tactic(auto, unfolding(crate::specs::Pages::disk_name))]
+fn disk_name(format: Format) -> &'static str
+    ensures text { result.now ≡ disk_name format }
+    ensures short { length result.now ≤ 100 }
+{
+    match format {
+        Format::Ibm3740 => "IBM 3740, 8-inch, 77 cylinders, 26 sectors",
+        Format::Ibm360 => "PC, 5.25-inch, 40 cylinders, 2 heads, 9 sectors",
+        Format::Ibm720 => "PC, Atari ST and MSX, 3.5-inch, 80 cylinders, 2 heads, 9 sectors",
+        Format::Ibm1440 => "PC, 3.5-inch, high density, 80 cylinders, 2 heads, 18 sectors",
+        Format::Amiga => "Amiga, 3.5-inch, 80 cylinders, 2 heads, 11 sectors",
+        Format::AmigaHd => "Amiga, 3.5-inch, high density, 80 cylinders, 2 heads, 22 sectors",
+        Format::C1541 => "Commodore 1541, 35 cylinders, 21 to 17 sectors",
+        Format::C1541Forty => "Commodore 1541, 40 cylinders, 21 to 17 sectors",
+        Format::C1571 => "Commodore 1571, 35 cylinders, 2 heads, 21 to 17 sectors",
+        Format::AppleDo =>
+            "Apple II, exact to the cell, in the order of DOS 3.3, 35 cylinders, 16 sectors",
+        Format::ApplePo =>
+            "Apple II, exact to the cell, in the order of ProDOS, 35 cylinders, 16 sectors",
+        Format::Ibm160 => "PC, 5.25-inch, 40 cylinders, 8 sectors",
+        Format::Ibm180 => "PC, 5.25-inch, 40 cylinders, 9 sectors",
+        Format::Ibm320 => "PC, 5.25-inch, 40 cylinders, 2 heads, 8 sectors",
+        Format::Ibm1200 => "PC, 5.25-inch, high density, 80 cylinders, 2 heads, 15 sectors",
+        Format::AtariSt800 => "Atari ST, 3.5-inch, 80 cylinders, 2 heads, 10 sectors",
+        Format::CpcData => "Amstrad CPC, 40 cylinders, 9 sectors from C1",
+        Format::CpcSystem => "Amstrad CPC, 40 cylinders, 9 sectors from 41",
+        Format::AcornDfs40 => "Acorn DFS, 40 cylinders, 10 sectors",
+        Format::AcornDfs80 => "Acorn DFS, 80 cylinders, 10 sectors",
+        Format::AppleDos33 => "Apple II, as DOS 3.3 wrote it, 35 cylinders, 16 sectors",
+        Format::AppleProdos => "Apple II, as ProDOS wrote it, 35 cylinders, 16 sectors",
+        Format::Mac400 => "Macintosh, 3.5-inch, 80 cylinders, 12 to 8 sectors",
+        Format::Mac800 => "Macintosh, 3.5-inch, 80 cylinders, 2 heads, 12 to 8 sectors",
+    }
 }

@@ -1,10 +1,11 @@
 ghost use Rattle.std.specs.Prelude.{◌≤◌, ◌++◌, OnOk, OnErr};
 ghost use Rattle.std.specs.Io.KnownBytes.{Appends};
 ghost use Rattle.flux_base.specs.Outside.{Rose, AppendsPart};
-ghost use Rattle.flux_help.specs.Pages.{codes_text, formats_text, help_text, page_text};
+ghost use Rattle.flux_help.specs.Pages.{about_text, codes_text, formats_text, heading_text, help_text, page_text, verbs_text};
 
 use crate::page::Page;
-use crate::texts::{commands, exit_codes, format_line, version};
+use crate::texts::{exit_codes, format_line, heading, intro, version};
+use crate::verb::{Verb, all_verbs};
 use flux_base::{Failed, Sink, write_whole};
 use sector_images::all_formats;
 use sector_report::write_line;
@@ -19,17 +20,58 @@ pub fn write_page<W: Sink>(page: Page, sink: &mut W) -> Result<(), Failed>
     match page {
         Page::Help => write_help(sink),
         Page::Version => write_whole(sink, version().as_bytes()),
+        Page::About(verb) => write_about(verb, sink),
     }
 }
 
-/// Writes the commands, the formats and the exit codes.
+/// Writes what is said of one command.
+fn write_about<W: Sink>(verb: Verb, sink: &mut W) -> Result<(), Failed>
+    ensures ok { OnOk result (Appends (W.written sink.old) (W.written sink.new) (about_text verb)) }
+    ensures err { OnErr result (AppendsPart (W.written sink.old) (W.written sink.new) (about_text verb)) }
+    ensures later { W.faults sink.old ≤ W.faults sink.new }
+    ensures cause { OnErr result (Rose (W.faults sink.old) (W.faults sink.new)) }
+{
+    let texts = verb.texts();
+    match write_whole(sink, texts.usage.as_bytes()) {
+        Ok(()) => write_whole(sink, texts.about.as_bytes()),
+        Err(failed) => Err(failed),
+    }
+}
+
+/// Writes what the program is, the commands, the formats and the exit codes.
 fn write_help<W: Sink>(sink: &mut W) -> Result<(), Failed>
     ensures ok { OnOk result (Appends (W.written sink.old) (W.written sink.new) help_text) }
     ensures err { OnErr result (AppendsPart (W.written sink.old) (W.written sink.new) help_text) }
     ensures later { W.faults sink.old ≤ W.faults sink.new }
     ensures cause { OnErr result (Rose (W.faults sink.old) (W.faults sink.new)) }
 {
-    match write_whole(sink, commands().as_bytes()) {
+    match write_whole(sink, intro().as_bytes()) {
+        Ok(()) => write_lists(sink),
+        Err(failed) => Err(failed),
+    }
+}
+
+/// Writes the commands, the formats and the exit codes.
+fn write_lists<W: Sink>(sink: &mut W) -> Result<(), Failed>
+    ensures ok { OnOk result (Appends (W.written sink.old) (W.written sink.new) (verbs_text ++ (heading_text ++ (formats_text ++ codes_text)))) }
+    ensures err { OnErr result (AppendsPart (W.written sink.old) (W.written sink.new) (verbs_text ++ (heading_text ++ (formats_text ++ codes_text)))) }
+    ensures later { W.faults sink.old ≤ W.faults sink.new }
+    ensures cause { OnErr result (Rose (W.faults sink.old) (W.faults sink.new)) }
+{
+    match write_verbs(sink) {
+        Ok(()) => write_headed_tables(sink),
+        Err(failed) => Err(failed),
+    }
+}
+
+/// Writes the formats and the exit codes, and what stands before them.
+fn write_headed_tables<W: Sink>(sink: &mut W) -> Result<(), Failed>
+    ensures ok { OnOk result (Appends (W.written sink.old) (W.written sink.new) (heading_text ++ (formats_text ++ codes_text))) }
+    ensures err { OnErr result (AppendsPart (W.written sink.old) (W.written sink.new) (heading_text ++ (formats_text ++ codes_text))) }
+    ensures later { W.faults sink.old ≤ W.faults sink.new }
+    ensures cause { OnErr result (Rose (W.faults sink.old) (W.faults sink.new)) }
+{
+    match write_whole(sink, heading().as_bytes()) {
         Ok(()) => write_tables(sink),
         Err(failed) => Err(failed),
     }
@@ -57,6 +99,22 @@ fn write_formats<W: Sink>(sink: &mut W) -> Result<(), Failed>
 {
     for format in all_formats() {
         match write_line(sink, &format_line(*format)) {
+            Ok(()) => {}
+            Err(failed) => return Err(failed),
+        }
+    }
+    Ok(())
+}
+
+/// Writes a line for each command.
+fn write_verbs<W: Sink>(sink: &mut W) -> Result<(), Failed>
+    ensures ok { OnOk result (Appends (W.written sink.old) (W.written sink.new) verbs_text) }
+    ensures err { OnErr result (AppendsPart (W.written sink.old) (W.written sink.new) verbs_text) }
+    ensures later { W.faults sink.old ≤ W.faults sink.new }
+    ensures cause { OnErr result (Rose (W.faults sink.old) (W.faults sink.new)) }
+{
+    for verb in all_verbs() {
+        match write_whole(sink, verb.texts().line.as_bytes()) {
             Ok(()) => {}
             Err(failed) => return Err(failed),
         }

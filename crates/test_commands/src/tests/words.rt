@@ -28,8 +28,9 @@ const NO_COMMANDS: &[&[&str]] = &[
     &["decode-folder", "amiga", ""],
     &["decode-folder", "amigo", "dump"],
     &["decode-folder", "amiga", "dump", "dump"],
-    &["help", "amiga"],
     &["-help"],
+    &["--help", "map"],
+    &["maps", "amigo"],
     &["trial", "amiga"],
     &["trial", "amigo", "1"],
     &["trail", "amiga", "1"],
@@ -64,6 +65,40 @@ fn words_that_are_no_command(rt: HostRuntime) -> Result<(), Fail> {
             rt.alloc(),
             &Row {
                 words,
+                ..NO_COMMAND
+            },
+        )?;
+    }
+    Ok(())
+}
+
+/// After a command that the usage line does not name: the words, and what is told of them in its place.
+const TOLD: &[(&[&str], &str, u64)] = &[
+    (&["map"], "usage: flux map FORMAT\n", 1),
+    (&["map", "amiga", "now"], "usage: flux map FORMAT\n", 1),
+    (&["map", "amigo"], "no format amigo; nearest: amiga\n", 3),
+    (
+        &["map", "ibm720", "now"],
+        "no format ibm720; nearest: ibm-720\n",
+        3,
+    ),
+    (&["rescue"], "usage: flux rescue FORMAT\n", 1),
+    (&["rescue", ""], "no format ; nearest: amiga\n", 2),
+    (&["help", "amiga"], "usage: flux help [COMMAND]\n", 1),
+    (&["help", "map", "now"], "usage: flux help [COMMAND]\n", 1),
+];
+
+#[test]
+fn wrong_words_after_a_command(rt: HostRuntime) -> Result<(), Fail> {
+    for (words, notes, writes) in TOLD {
+        comes_true(
+            &rt,
+            rt.alloc(),
+            &Row {
+                name: "wrong words after a command",
+                words,
+                notes,
+                calls: Some((0, 0, *writes)),
                 ..NO_COMMAND
             },
         )?;
@@ -134,6 +169,21 @@ fn words_for_the_help(rt: HostRuntime) -> Result<(), Fail> {
     for words in WORDS {
         helped(&rt, &run_of(rt.alloc(), &Row { words, ..TURNS })?);
     }
+    Ok(())
+}
+
+// A command's page begins with its words.
+#[test]
+fn words_for_a_command(rt: HostRuntime) -> Result<(), Fail> {
+    let words = &["help", "decode-set"];
+    let end = run_of(rt.alloc(), &Row { words, ..TURNS })?;
+    assert_eq!(rt; end.status, Status::AllGood);
+    assert!(rt;
+        end.image
+            .bytes()
+            .starts_with(b"usage: flux decode-set FORMAT COUNT\n\nReads ")
+    );
+    assert_eq!(rt; (end.notes.calls(), end.source.calls()), (0, 0));
     Ok(())
 }
 

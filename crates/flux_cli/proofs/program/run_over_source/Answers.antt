@@ -1,5 +1,6 @@
 use Rattle.std.proofs.Common.{None, arith}
 use Rattle.std.proofs.KnownBytes.{Appends-nil, Consumes-nil, Keeps-refl}
+use Rattle.flux_help.specs.WrongWords.{wrong_text}
 use Rattle.flux_cli.specs.Works.{usage_work}
 use Rattle.flux_cli.proofs.Runs.{not_read, usage-cut, usage-finish}
 use Rattle.flux_cli.proofs.program.run_over_source.Goals as goal
@@ -10,9 +11,9 @@ returns-in-Ok g c = record {
   asks = c.in-None.ensures;
   does = record {
     answer = tt;
-    says = usage-finish _ _ (Consumes-nil _) (Appends-nil _) (rw (c.as_bytes.ensures.value, c.usage_line.ensures) at c.in-Ok.ensures.ok);
+    says = usage-finish _ _ (Consumes-nil _) (wrong_text c.args.words.now) (Appends-nil _) c.in-Ok.ensures.ok;
     counts = record { source = omega arith; image = omega arith; notes = c.in-Ok.ensures.later };
-    needed = λ x told. not_read usage_work.untold _;
+    needed = λ x told. not_read (usage_work (wrong_text c.args.words.now)).untold _;
   };
 }
 
@@ -23,10 +24,10 @@ returns-in-Err g c = record {
   does = record {
     answer = tt;
     says = (
-      usage-cut _ _ (Consumes-nil _) (Keeps-refl _) (rw (c.as_bytes.ensures.value, c.usage_line.ensures) at c.in-Err.ensures.err),
+      usage-cut _ _ (Consumes-nil _) (wrong_text c.args.words.now) (Keeps-refl _) c.in-Err.ensures.err,
       c.in-Err.ensures.cause,
     );
     counts = record { source = omega arith; image = omega arith; notes = c.in-Err.ensures.later };
-    needed = λ x told. not_read usage_work.untold _;
+    needed = λ x told. not_read (usage_work (wrong_text c.args.words.now)).untold _;
   };
 }

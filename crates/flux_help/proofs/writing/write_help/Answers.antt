@@ -1,11 +1,11 @@
 use Rattle.std.proofs.Common.{◌++◌}
 use Rattle.flux_base.specs.lemmas.Parts.{AppendsPart-second}
-use Rattle.flux_help.specs.Pages.{codes_text, commands_text, formats_text}
+use Rattle.flux_help.specs.Pages.{codes_text, formats_text, heading_text, intro_text, verbs_text}
 use Rattle.flux_help.proofs.Listed.{OnErr-map}
 use Rattle.flux_help.proofs.writing.write_help.Goals as goal
 
 pub returns-in-Ok-clause-err : goal.returns-in-Ok-clause-err
 returns-in-Ok-clause-err g c =
-    OnErr-map c.write_tables.result
-    (AppendsPart-second _ _ _ commands_text (formats_text ++ codes_text) (rw (c.as_bytes.ensures.value, c.commands.ensures) at c.in-Ok.ensures.ok))
-    c.write_tables.ensures.err
+    OnErr-map c.write_lists.result
+    (AppendsPart-second _ _ _ intro_text (verbs_text ++ (heading_text ++ (formats_text ++ codes_text))) (rw (c.as_bytes.ensures.value, c.intro.ensures) at c.in-Ok.ensures.ok))
+    c.write_lists.ensures.err

@@ -1,0 +1,44 @@
+-- What is told of words that are no command.
+use Rattle.std.specs.Prelude.{ℕ, List, [], ◌∷◌, ◌++◌, ◌&&◌, Bool, false, codes, if◌then◌else◌, not, Option, Some, None, is_some}
+use Rattle.std.specs.List.{position_from}
+use Rattle.std.specs.Str.{bytes_eq}
+use Rattle.sector_images.specs.Formats.{formats, row}
+use Rattle.sector_images.specs.declared.format.Format.{Format}
+use Rattle.sector_report.specs.Lines.{usage_text}
+use Rattle.flux_help.specs.Nearest.{nearest}
+use Rattle.flux_help.specs.Verbs.{asks_format, is_own, verb_of, verb_row}
+use Rattle.flux_help.specs.declared.verb.Verb.{Verb}
+
+-- what follows the first word where it is one of those that the usage line does not name; else the usage line
+abbrev pub usage_by : Option Verb → List ℕ
+usage_by None = usage_text
+usage_by (Some verb) = if is_own verb then (verb_row verb).usage else usage_text
+
+-- a format follows this first word, of which the usage line does not tell it
+abbrev pub wants_format : Option Verb → Bool
+wants_format None = false
+wants_format (Some verb) = is_own verb && asks_format verb
+
+abbrev pub has_format_word : List ℕ → Format → Bool
+has_format_word word format = bytes_eq (row format).word word
+
+-- a format has this word
+abbrev pub names_format : List ℕ → Bool
+names_format word = is_some (position_from (has_format_word word) 0 formats)
+
+-- the format whose word is nearest to this one
+unfoldable pub nearest_text : List ℕ → List ℕ
+nearest_text word = codes "; nearest: " ++ (row (nearest word)).word ++ codes "\n"
+
+-- no format has this word
+abbrev pub no_format_text : List ℕ → List ℕ
+no_format_text word = codes "no format " ++ (word ++ nearest_text word)
+
+-- by the command of the first word, and by the second where it is in a format's place
+abbrev pub told_by : Option Verb → List ℕ → List ℕ
+told_by verb word = if wants_format verb && not (names_format word) then no_format_text word else usage_by verb
+
+abbrev pub wrong_text : List (List ℕ) → List ℕ
+wrong_text [] = usage_text
+wrong_text (first ∷ []) = usage_by (verb_of first)
+wrong_text (first ∷ second ∷ others) = told_by (verb_of first) second

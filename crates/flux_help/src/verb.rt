@@ -1,0 +1,258 @@
+ghost use Rattle.std.specs.Prelude.{◌≡◌};
+ghost use Rattle.std.specs.List.{position_from};
+ghost use Rattle.std.specs.Str.{bytes_eq};
+ghost use Rattle.flux_help.specs.Verbs.{asks_format, has_word, is_own, verb_of, verb_row, verbs};
+
+/// A command, by its first word.
+#[derive(Clone, Copy, Debug, PartialEq, Eq)]
+pub enum Verb {
+    /// A folder of track files to an image.
+    DecodeFolder,
+    /// Several streams of each track to one image.
+    DecodeSet,
+    /// The streams of a disk to its image, by two clocks.
+    Rescue,
+    /// The streams of a disk to its image.
+    Decode,
+    /// The same streams to the report.
+    Report,
+    /// The same streams to a picture.
+    Map,
+    /// An image to streams.
+    Write,
+    /// One stream to its transitions and revolutions.
+    Turns,
+    /// An image to a G64 file.
+    ToG64,
+    /// A G64 file to an image.
+    FromG64,
+    /// A disk that a number makes.
+    Trial,
+    /// What the program says of itself.
+    Help,
+}
+
+/// All commands, in the order in which the help lists them.
+const VERBS: [Verb; 12] = [
+    Verb::DecodeFolder,
+    Verb::DecodeSet,
+    Verb::Rescue,
+    Verb::Decode,
+    Verb::Report,
+    Verb::Map,
+    Verb::Write,
+    Verb::Turns,
+    Verb::ToG64,
+    Verb::FromG64,
+    Verb::Trial,
+    Verb::Help,
+];
+
+/// All commands, as contracts see them.
+pub(crate) fn all_verbs() -> &'static [Verb]
+    ensures { result.now ≡ verbs }
+{
+    &VERBS
+}
+
+/// What is said of a command.
+#[derive(Clone, Copy, Debug)]
+pub(crate) struct Texts {
+    pub word: &'static str,
+    /// Its line in the list of commands.
+    pub line: &'static str,
+    /// The line that says which words follow.
+    pub usage: &'static str,
+    /// What it does, and an example.
+    pub about: &'static str,
+}
+
+impl Verb {
+    /// The command of this first word.
+    pub fn of_word(word: &[u8]) -> Option<Verb>
+        ensures { result ≡ verb_of word.now }
+    {
+        match place_of(word) {
+            Some(place) => all_verbs().get(place).copied(),
+            None => None,
+        }
+    }
+
+    fn has_word(self, word: &[u8]) -> bool
+        ensures { result ≡ has_word word.now self }
+    {
+        self.texts().word.as_bytes() == word
+    }
+
+    /// Whether it is one of those that the usage line does not name.
+    pub(crate) fn is_own(self) -> bool
+        ensures { result ≡ is_own self }
+    {
+        matches!(self, Verb::Rescue | Verb::Map | Verb::Help)
+    }
+
+    /// Whether a format follows it.
+    pub(crate) fn asks_format(self) -> bool
+        ensures { result ≡ asks_format self }
+    {
+        self != Verb::Turns && self != Verb::Help
+    }
+
+    #[tactic(auto, unfolding(crate::specs::Verbs::verb_row))]
+    pub(crate) fn texts(self) -> Texts
+        ensures word { result.word.now ≡ (verb_row self).word }
+        ensures line { result.line.now ≡ (verb_row self).line }
+        ensures usage { result.usage.now ≡ (verb_row self).usage }
+        ensures about { result.about.now ≡ (verb_row self).about }
+    {
+        match self {
+            Verb::DecodeFolder => Texts {
+                word: "decode-folder",
+                line: "   decode-folder FORMAT FOLDER  a folder of track files to the disk's image, with a report\n",
+                usage: "usage: flux decode-folder FORMAT FOLDER\n",
+                about: "
+Reads the files trackCC.H.raw of the folder, cylinder by cylinder, and no others. The image goes to standard output, the
+report to standard error. Where a wanted file is missing, nothing is read.
+
+Example:
+   flux decode-folder amiga dump > disk.adf 2> report.txt
+",
+            },
+            Verb::DecodeSet => Texts {
+                word: "decode-set",
+                line: "   decode-set FORMAT COUNT      so many streams of each track to one image, with a report\n",
+                usage: "usage: flux decode-set FORMAT COUNT\n",
+                about: "
+Reads COUNT captures of each track, 1 to 16, one after another, and gives one verdict over all of them. Each place in the
+report has the number of its capture, from 0, before its revolution.
+
+Example:
+   for t in first/track*.raw; do cat $t second/${t##*/}; done | flux decode-set amiga 2 > disk.adf 2> report.txt
+",
+            },
+            Verb::Rescue => Texts {
+                word: "rescue",
+                line: "   rescue FORMAT                as decode, with each stream read by two clocks, for dumps with noise\n",
+                usage: "usage: flux rescue FORMAT\n",
+                about: "
+Recovers the cells of each stream twice: by clock 0, which follows the drive's speed, and by clock 1, which keeps the mean
+cell of the first revolution. Each place in the report has the number of its clock before its revolution.
+
+Example:
+   cat dump/track*.raw | flux rescue amiga > disk.adf 2> report.txt
+",
+            },
+            Verb::Decode => Texts {
+                word: "decode",
+                line: "   decode FORMAT                the streams of a disk, joined, to its image, with a report\n",
+                usage: "usage: flux decode FORMAT\n",
+                about: "
+Reads the streams of the disk's tracks in the order cylinder, then head. The image goes to standard output, the report to
+standard error. What follows the last wanted stream is not looked at.
+
+Example:
+   cat dump/track*.raw | flux decode amiga > disk.adf 2> report.txt
+",
+            },
+            Verb::Report => Texts {
+                word: "report",
+                line: "   report FORMAT                the same streams to the report alone, on standard output\n",
+                usage: "usage: flux report FORMAT\n",
+                about: "
+Reads what decode reads. A line for each sector tells its verdict, how many good and bad readings it has, and where the
+readings that it names stand; the last line has the totals.
+
+Example:
+   cat dump/track*.raw | flux report ibm-720 | grep -v ' good '
+",
+            },
+            Verb::Map => Texts {
+                word: "map",
+                line: "   map FORMAT                   the same streams to a picture of the disk (SVG), on standard output\n",
+                usage: "usage: flux map FORMAT\n",
+                about: "
+Reads what decode reads, and draws a field for each sector: a green square where it is good, a violet hourglass where it is
+contradictory, a red cross where it is bad, and a grey frame where it is missing. A browser shows a field's line of the report.
+
+Example:
+   cat dump/track*.raw | flux map amiga > disk.svg
+",
+            },
+            Verb::Write => Texts {
+                word: "write",
+                line: "   write FORMAT                 an image to the streams of its tracks\n",
+                usage: "usage: flux write FORMAT\n",
+                about: "
+Reads an image and writes one stream for each track, in the order in which decode reads them. Bytes of another number than
+an image has are refused, and nothing is written.
+
+Example:
+   flux write amiga < disk.adf > disk.raw
+",
+            },
+            Verb::Turns => Texts {
+                word: "turns",
+                line: "   turns                        one stream to its transitions and the length of each revolution\n",
+                usage: "usage: flux turns\n",
+                about: "
+Prints how many transitions one stream has, and how long each revolution is, in ticks of 7/168192000 of a second.
+
+Example:
+   flux turns < dump/track00.0.raw
+",
+            },
+            Verb::ToG64 => Texts {
+                word: "to-g64",
+                line: "   to-g64 FORMAT                an image to the file that emulators keep (c1541, c1541-40)\n",
+                usage: "usage: flux to-g64 FORMAT\n",
+                about: "
+Reads an image of a Commodore 1541's disk, and writes a G64 file, which has the cells of each track.
+
+Example:
+   flux to-g64 c1541 < disk.d64 > disk.g64
+",
+            },
+            Verb::FromG64 => Texts {
+                word: "from-g64",
+                line: "   from-g64 FORMAT              such a file to its image, with a report\n",
+                usage: "usage: flux from-g64 FORMAT\n",
+                about: "
+Reads a G64 file of a Commodore 1541's disk. The image goes to standard output, the report to standard error.
+
+Example:
+   flux from-g64 c1541 < disk.g64 > disk.d64 2> report.txt
+",
+            },
+            Verb::Trial => Texts {
+                word: "trial",
+                line: "   trial FORMAT SEED            makes a disk from a number and says what it decodes to\n",
+                usage: "usage: flux trial FORMAT SEED\n",
+                about: "
+Makes an image and a drive from a number of 1 to 10 digits, decodes what the drive gives, and prints one line. Nothing is
+read.
+
+Example:
+   flux trial amiga 1
+",
+            },
+            Verb::Help => Texts {
+                word: "help",
+                line: "   help [COMMAND], --help, -h   this text, or one command with an example\n",
+                usage: "usage: flux help [COMMAND]\n",
+                about: "
+Lists the commands, the formats and the exit codes, or says what one command does.
+
+Example:
+   flux help map
+",
+            },
+        }
+    }
+}
+
+/// Where the command of this word stands in the list.
+fn place_of(word: &[u8]) -> Option<usize>
+    ensures { result ≡ position_from (has_word word.now) 0 verbs }
+{
+    all_verbs().iter().position(|verb| verb.has_word(word))
+}

@@ -1,0 +1,126 @@
+ghost use Rattle.std.specs.Prelude.{◌≡◌, ◌≤◌, ◌++◌, ◌&&◌, OnOk, OnErr, not};
+ghost use Rattle.std.specs.Io.KnownBytes.{Appends};
+ghost use Rattle.std.specs.List.{position_from};
+ghost use Rattle.flux_base.specs.Outside.{AppendsPart, Rose};
+ghost use Rattle.sector_images.specs.Formats.{formats};
+ghost use Rattle.flux_help.specs.WrongWords.{has_format_word, names_format, nearest_text, no_format_text, told_by, usage_by, wants_format, wrong_text};
+
+use crate::nearest::nearest_format;
+use crate::verb::Verb;
+use flux_base::{Failed, Sink, Word, write_whole};
+use sector_images::{Format, all_formats};
+use sector_report::{Line, put, usage_line, write_line};
+
+/// Writes what is told of words that are no command. After `Failed` a part of it was written.
+pub fn write_wrong_words<N: Sink>(words: &[Word], notes: &mut N) -> Result<(), Failed>
+    ensures ok { OnOk result (Appends (N.written notes.old) (N.written notes.new) (wrong_text words.now)) }
+    ensures err { OnErr result (AppendsPart (N.written notes.old) (N.written notes.new) (wrong_text words.now)) }
+    ensures later { N.faults notes.old ≤ N.faults notes.new }
+    ensures cause { OnErr result (Rose (N.faults notes.old) (N.faults notes.new)) }
+{
+    match words {
+        [] => write_whole(notes, usage_line().as_bytes()),
+        [first] => write_whole(notes, usage_of(Verb::of_word(first.bytes())).as_bytes()),
+        [first, second, ..] => write_by(Verb::of_word(first.bytes()), second.bytes(), notes),
+    }
+}
+
+/// Writes what is told by the first word and the second.
+fn write_by<N: Sink>(verb: Option<Verb>, word: &[u8], notes: &mut N) -> Result<(), Failed>
+    ensures ok { OnOk result (Appends (N.written notes.old) (N.written notes.new) (told_by verb word.now)) }
+    ensures err { OnErr result (AppendsPart (N.written notes.old) (N.written notes.new) (told_by verb word.now)) }
+    ensures later { N.faults notes.old ≤ N.faults notes.new }
+    ensures cause { OnErr result (Rose (N.faults notes.old) (N.faults notes.new)) }
+{
+    if is_no_format(verb, word) {
+        write_no_format(word, notes)
+    } else {
+        write_whole(notes, usage_of(verb).as_bytes())
+    }
+}
+
+/// Whether the word stands in a format's place and is none's.
+fn is_no_format(verb: Option<Verb>, word: &[u8]) -> bool
+    ensures { result ≡ (wants_format verb && not (names_format word.now)) }
+{
+    match verb {
+        Some(verb) => verb.is_own() && verb.asks_format() && !names_format(word),
+        None => false,
+    }
+}
+
+/// The line on the words of a command, where it is one that the usage line does not name; else the usage line.
+fn usage_of(verb: Option<Verb>) -> &'static str
+    ensures { result.now ≡ usage_by verb }
+{
+    match verb {
+        Some(verb) => {
+            if verb.is_own() {
+                verb.texts().usage
+            } else {
+                usage_line()
+            }
+        }
+        None => usage_line(),
+    }
+}
+
+/// Whether a format has this word.
+fn names_format(word: &[u8]) -> bool
+    ensures { result ≡ names_format word.now }
+{
+    format_place(word).is_some()
+}
+
+/// Where the format of this word stands in the table.
+fn format_place(word: &[u8]) -> Option<usize>
+    ensures { result ≡ position_from (has_format_word word.now) 0 formats }
+{
+    all_formats()
+        .iter()
+        .position(|format| has_word(*format, word))
+}
+
+/// Whether a format has this word.
+fn has_word(format: Format, word: &[u8]) -> bool
+    ensures { result ≡ has_format_word word.now format }
+{
+    format.word().as_bytes() == word
+}
+
+/// Writes that no format has this word, and the one whose word is nearest.
+fn write_no_format<N: Sink>(word: &[u8], notes: &mut N) -> Result<(), Failed>
+    ensures ok { OnOk result (Appends (N.written notes.old) (N.written notes.new) (no_format_text word.now)) }
+    ensures err { OnErr result (AppendsPart (N.written notes.old) (N.written notes.new) (no_format_text word.now)) }
+    ensures later { N.faults notes.old ≤ N.faults notes.new }
+    ensures cause { OnErr result (Rose (N.faults notes.old) (N.faults notes.new)) }
+{
+    match write_whole(notes, "no format ".as_bytes()) {
+        Ok(()) => write_word(word, notes),
+        Err(failed) => Err(failed),
+    }
+}
+
+/// Writes a word, and the format whose word is nearest.
+fn write_word<N: Sink>(word: &[u8], notes: &mut N) -> Result<(), Failed>
+    ensures ok { OnOk result (Appends (N.written notes.old) (N.written notes.new) (word.now ++ nearest_text word.now)) }
+    ensures err { OnErr result (AppendsPart (N.written notes.old) (N.written notes.new) (word.now ++ nearest_text word.now)) }
+    ensures later { N.faults notes.old ≤ N.faults notes.new }
+    ensures cause { OnErr result (Rose (N.faults notes.old) (N.faults notes.new)) }
+{
+    match write_whole(notes, word) {
+        Ok(()) => write_line(notes, &nearest_line(word)),
+        Err(failed) => Err(failed),
+    }
+}
+
+/// The end of a line that names the format whose word is nearest.
+fn nearest_line(word: &[u8]) -> Line
+    ensures { result.bytes ≡ nearest_text word.now }
+{
+    let mut line = Line::new();
+    put(&mut line, "; nearest: ");
+    put(&mut line, nearest_format(word).word());
+    put(&mut line, "\n");
+    line
+}
