@@ -2,19 +2,21 @@
 use Rattle.std.specs.Prelude.{◌≡◌, ◌==◌, ℕ, ◌++◌, Bool, true, false, List, [], if◌then◌else◌, Option, Some, None, refl}
 use Rattle.std.proofs.Common.{ap, inl, inr, sym, subst, ◌∙◌, append-nil}
 use Rattle.std.proofs.lemmas.Bool.{eq-eqb}
-use Rattle.capture_set.specs.Sets.{set_plan}
-use Rattle.disk_rescue.specs.Rescued.{rescuing}
+use Rattle.capture_set.specs.Sets.{set_plan, set_streams}
+use Rattle.disk_rescue.specs.Rescued.{rescuing, track_streams}
 use Rattle.flux_base.specs.declared.status.Status.{Status}
 use Rattle.flux_base.specs.declared.status.Status.TheVariants.{AllGood, NotAllGood, Refused, Usage, ReadFault, ImageFault, NotesFault, Memory, ShelfFault}
+use Rattle.flux_engine.specs.DiskLaws.{GoodIsRightOnDisks, LinesTellVerdicts}
 use Rattle.flux_engine.specs.Disks.{Decoded, IsDecoded, Stop}
 use Rattle.flux_engine.specs.Plans.{PlanStop, Planned}
 use Rattle.flux_trial.specs.Laws.{WholeTrialsHaveOneLine}
 use Rattle.flux_trial.specs.Tracks.{IsTrialLine}
 use Rattle.g64_image.specs.FileDisks.{FileDisk, IsFileDisk}
-use Rattle.g64_image.specs.Laws.{WrittenFilesComeBack}
+use Rattle.g64_image.specs.Laws.{GoodIsRightInFiles, LinesTellInFiles, WrittenFilesComeBack}
 use Rattle.g64_image.specs.Layout.{IsCommodore}
 use Rattle.g64_image.specs.declared.fault.G64Fault.{G64Fault}
 use Rattle.law_captured_disks.specs.Headline.{CapturedDisksDecode, ErasedDisksDecode}
+use Rattle.law_captured_plans.specs.Said.{AreRightLines, GoodLinesAreRight, InputsAreShort}
 use Rattle.law_captured_rescues.specs.Headline.{CapturedDisksAreRescued, SteadyDisksAreRescued, SteadyErasedDisksAreRescued}
 use Rattle.law_captured_sets.specs.Headline.{CapturedSetsDecode, ErasedSetsDecode}
 use Rattle.sector_images.specs.Formats.{WordsNameFormats}
@@ -22,13 +24,14 @@ use Rattle.sector_images.specs.declared.format.Format.{Format}
 use Rattle.sector_report.specs.declared.naming.Naming.{Naming}
 use Rattle.sector_report.specs.declared.naming.Naming.TheVariants.{ByCapture, ByClock}
 use Rattle.sector_report.specs.declared.totals.Totals.{Totals}
+use Rattle.turn_merge.specs.declared.verdict.Verdict.TheVariants.{Good}
 use Rattle.flux_cli.specs.Commands.{AreWordsOf, AskFor}
 use Rattle.flux_cli.specs.DisksWork.{disk_outcome, refusal_of, status_of, to_notes}
 use Rattle.flux_cli.specs.FolderRuns.{Ran, RanBy, Surroundings}
 use Rattle.flux_cli.specs.FolderWords.{NamesFolder}
 use Rattle.flux_cli.specs.G64Disks.{format_of}
 use Rattle.flux_cli.specs.G64Work.{file_refusal, file_status, from_g64_outcome}
-use Rattle.flux_cli.specs.Headlines.{Gave, GaveOrCut, IsExpected, IsOfDecoded, IsOfFile, IsOfPlanned, OfDisk, OfFile, OfRescue, OfSet, OfTrial, RunsAsExpected, WasRead}
+use Rattle.flux_cli.specs.Headlines.{AreRightInFile, AreRightOnDisk, Gave, GaveOrCut, IsExpected, IsOfDecoded, IsOfFile, IsOfPlanned, OfDisk, OfFile, OfRescue, OfSet, OfTrial, RunsAsExpected, WasRead}
 use Rattle.flux_cli.specs.PlanWork.{IsRead, planned_outcome, planned_refusal, planned_status}
 use Rattle.flux_cli.specs.Runs.{Finished, Outside, Says, SaysBy}
 use Rattle.flux_cli.specs.Work.{Outcome}
@@ -52,6 +55,12 @@ pub record Laws : Type 0 where
   pub steady : SteadyDisksAreRescued
   pub steady_erased : SteadyErasedDisksAreRescued
   pub files : WrittenFilesComeBack
+  pub disk_lines : LinesTellVerdicts
+  pub disk_good : GoodIsRightOnDisks
+  pub short : InputsAreShort
+  pub plan_lines : GoodLinesAreRight
+  pub file_lines : LinesTellInFiles
+  pub file_good : GoodIsRightInFiles
   pub trials : WholeTrialsHaveOneLine
 
 -- what a disk's status is that was not refused
@@ -64,6 +73,19 @@ good_by totals all = ap (λ (b : Bool). if b then AllGood else NotAllGood) (eq-e
 
 some_count : {X : Type 0} (a b : X) → Some a ≡ Some b → a ≡ b
 some_count a b same = cc
+
+-- what was read was not refused
+disk_read : (totals : Totals) (stop : Option Stop) → WasRead (status_of totals stop) → stop ≡ None
+disk_read totals None read = refl
+disk_read totals (Some stop) read = absurd read
+
+plan_read : (totals : Totals) (stop : Option PlanStop) → WasRead (planned_status totals stop) → stop ≡ None
+plan_read totals None read = refl
+plan_read totals (Some stop) read = absurd read
+
+file_read : (totals : Totals) (fault : Option G64Fault) → WasRead (file_status totals fault) → fault ≡ None
+file_read totals None read = refl
+file_read totals (Some fault) read = absurd read
 
 module _ (output : Output) (d : Decoded) (o : Outcome) (is : o ≡ disk_outcome output d) (none : d.stop ≡ None) where
   decoded_status : o.status ≡ status_of d.totals None
@@ -115,6 +137,12 @@ is_commodore Tracks40 = inr refl
 module _ (laws : Laws) (x : List ℕ) (o : Outcome) where
   of_disk : (output : Output) (format : Format) (d : Decoded) → IsDecoded format x d → o ≡ disk_outcome output d → OfDisk output format x o
   of_disk output format d decoded is = record {
+    told = λ read.
+        let none : d.stop ≡ None = disk_read d.totals d.stop (subst (λ (p : Outcome). WasRead p.status) is read) in
+        of_decoded output d o is none (AreRightOnDisk format x)
+        (λ track sector good bad first number fits line.
+        let told = laws.disk_lines format x d decoded track sector (Good good bad first) number fits line in
+        (told.n, told.track_is, laws.disk_good format x d told.n sector told.decoded good bad first told.has));
     captured = λ image image_is disk.
         let whole = laws.disks format image x d image_is disk decoded in
         (decoded_status output d o is whole.no_stop ∙ good_by d.totals whole.all_good, of_decoded output d o is whole.no_stop _ whole);
@@ -126,6 +154,10 @@ module _ (laws : Laws) (x : List ℕ) (o : Outcome) where
   of_set : (format : Format) (count : ℕ) (words : List (List ℕ)) → AreWordsOf (DecodeSet format count) words → (d : Planned)
       → IsRead (set_plan count) format x d → o ≡ planned_outcome ByCapture d → OfSet format count x o
   of_set format count words are d read is = record {
+    told = λ was.
+        let none : d.stop ≡ None = plan_read d.totals d.stop (subst (λ (p : Outcome). WasRead p.status) is was) in
+        of_planned ByCapture d o is none (AreRightLines (set_plan count) format (set_streams count x))
+        (laws.plan_lines (set_plan count) format (set_streams count x) d are.2.many.most refl refl (laws.short (set_plan count) x) read);
     captured = λ image image_is set.
         let whole = laws.sets format count image x d are.2.many.some image_is set read in
         (planned_status_is ByCapture d o is whole.no_stop ∙ good_by d.totals whole.all_good, of_planned ByCapture d o is whole.no_stop _ whole);
@@ -136,6 +168,10 @@ module _ (laws : Laws) (x : List ℕ) (o : Outcome) where
 
   of_rescue : (format : Format) (d : Planned) → IsRead rescuing format x d → o ≡ planned_outcome ByClock d → OfRescue format x o
   of_rescue format d read is = record {
+    told = λ was.
+        let none : d.stop ≡ None = plan_read d.totals d.stop (subst (λ (p : Outcome). WasRead p.status) is was) in
+        of_planned ByClock d o is none (AreRightLines rescuing format (track_streams x))
+        (laws.plan_lines rescuing format (track_streams x) d (omega arith) refl (omega arith) (laws.short rescuing x) read);
     captured = λ image image_is disk.
         let rightly = laws.rescued format image x d image_is disk read in
         (planned_read ByClock d o is rightly.no_stop, of_planned ByClock d o is rightly.no_stop _ rightly);
@@ -148,9 +184,17 @@ module _ (laws : Laws) (x : List ℕ) (o : Outcome) where
   }
 
   of_g64 : (disk : G64Disk) (d : FileDisk) → IsFileDisk (format_of disk) x d → o ≡ from_g64_outcome d → OfFile (format_of disk) x o
-  of_g64 disk d file is image image_is written =
-      let back = laws.files (format_of disk) image d (is_commodore disk) image_is (subst (λ (y : List ℕ). IsFileDisk (format_of disk) y d) written file) in
-      (file_status_is d o is back.no_fault ∙ good_by d.totals back.all_good, of_file d o is back.no_fault _ back)
+  of_g64 disk d file is = record {
+    told = λ read.
+        let none : d.fault ≡ None = file_read d.totals d.fault (subst (λ (p : Outcome). WasRead p.status) is read) in
+        of_file d o is none (AreRightInFile (format_of disk) x)
+        (λ track sector good bad first number fits line.
+        let told = laws.file_lines (format_of disk) x d file track sector (Good good bad first) number fits line in
+        (told.n, told.track_is, laws.file_good (format_of disk) x d told.n sector good bad first file told.no_fault told.low told.known told.has));
+    written = λ image image_is written.
+        let back = laws.files (format_of disk) image d (is_commodore disk) image_is (subst (λ (y : List ℕ). IsFileDisk (format_of disk) y d) written file) in
+        (file_status_is d o is back.no_fault ∙ good_by d.totals back.all_good, of_file d o is back.no_fault _ back);
+  }
 
   of_trial : (format : Format) (seed : ℕ) (line : List ℕ) → IsTrialLine format seed line → o ≡ record { status = AllGood; image = line; notes = [] } → OfTrial format seed o
   of_trial format seed line trial is no_hole =

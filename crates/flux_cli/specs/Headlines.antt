@@ -1,26 +1,35 @@
 -- What is known of a run where its input is one that the laws speak of: the streams of captured disks and sets, whole or erased in
 -- parts, a file that was written of an image, and a trial without a hole.
 use Rattle.std.specs.Prelude.{◌≡◌, ℕ, List, [], length, Some, sum}
+use Rattle.capture_set.specs.Sets.{set_plan, set_streams}
+use Rattle.disk_rescue.specs.Rescued.{rescuing, track_streams}
 use Rattle.flux_base.specs.Outside.{Rose}
 use Rattle.flux_base.specs.declared.status.Status.{Status}
 use Rattle.flux_base.specs.declared.status.Status.TheVariants.{AllGood, NotAllGood, Refused, Usage, ReadFault, ImageFault, NotesFault, Memory, ShelfFault}
+use Rattle.flux_base.specs.declared.track.TrackId.{TrackId}
+use Rattle.flux_engine.specs.DiskLaws.{HasLine, IsRightlyGoodOnDisk}
 use Rattle.flux_engine.specs.Disks.{Decoded}
 use Rattle.flux_engine.specs.Plans.{Planned}
+use Rattle.flux_engine.specs.Recordings.{track_at}
 use Rattle.flux_engine.specs.Rings.{IsImage}
 use Rattle.flux_trial.specs.Image.{trial_image}
 use Rattle.flux_trial.specs.Laws.{HasNoHole, all_good}
 use Rattle.g64_image.specs.FileDisks.{FileDisk}
-use Rattle.g64_image.specs.Laws.{ComesBack}
+use Rattle.g64_image.specs.Laws.{ComesBack, IsRightlyGoodInFile}
 use Rattle.g64_image.specs.Layout.{g64_file}
 use Rattle.law_captured_disks.specs.Headline.{DecodesRest, DecodesWhole}
 use Rattle.law_captured_disks.specs.Inputs.{IsCapturedDisk, IsErasedDisk}
 use Rattle.law_captured_plans.specs.Headline.{IsReadInPart, IsReadWhole}
 use Rattle.law_captured_plans.specs.Inputs.{IsCapturedSet, IsErasedSet, LiesInACapture}
+use Rattle.law_captured_plans.specs.Said.{AreRightLines}
 use Rattle.law_captured_rescues.specs.Headline.{IsSteadyDisk, IsSteadyErasedDisk, LiesWhole, RescuesRightly}
 use Rattle.sector_images.specs.Places.{tracks}
 use Rattle.sector_images.specs.declared.format.Format.{Format}
-use Rattle.sector_report.specs.Lines.{trial_text}
-use Rattle.sector_report.specs.declared.naming.Naming.TheVariants.{ByCapture, ByClock}
+use Rattle.sector_report.specs.LineLaws.{LineFits}
+use Rattle.sector_report.specs.Lines.{sector_text, trial_text}
+use Rattle.sector_report.specs.declared.naming.Naming.TheVariants.{ByCapture, ByClock, Unnamed}
+use Rattle.turn_merge.specs.declared.verdict.Place.{Place}
+use Rattle.turn_merge.specs.declared.verdict.Verdict.TheVariants.{Good}
 use Rattle.flux_cli.specs.Commands.{AreWordsOf}
 use Rattle.flux_cli.specs.DisksWork.{to_image, to_notes}
 use Rattle.flux_cli.specs.G64Disks.{format_of}
@@ -58,23 +67,41 @@ pub record IsOfFile (Holds : FileDisk → Type 0) (o : Outcome) : Type 0 where
   pub notes_are : o.notes ≡ disk.notes
   pub holds : Holds disk
 
--- `decode` and `report`: from a captured disk the image, every sector good; beside erased stretches what lies whole between them
+-- A line of a decoded disk's report that says good tells a sector whose cells hold it at the place that it names, in the turn there,
+-- with the bytes that the image has of it.
+abbrev pub AreRightOnDisk : Format → (x : List ℕ) → Decoded → Type 0
+AreRightOnDisk format x d = (track : TrackId) (sector good bad : ℕ) (first : Place) (number : ℕ) → LineFits Unnamed track sector (Good good bad first)
+    → HasLine d.notes (sector_text track sector (Good good bad first)) number
+    → (n : ℕ) × (track ≡ track_at format n) × IsRightlyGoodOnDisk format x d.image n sector first
+
+-- the same of a file's
+abbrev pub AreRightInFile : Format → (file : List ℕ) → FileDisk → Type 0
+AreRightInFile format file d = (track : TrackId) (sector good bad : ℕ) (first : Place) (number : ℕ) → LineFits Unnamed track sector (Good good bad first)
+    → HasLine d.notes (sector_text track sector (Good good bad first)) number
+    → (n : ℕ) × (track ≡ track_at format n) × IsRightlyGoodInFile format file d.image n sector first
+
+-- `decode` and `report`: a line that says good is right, whatever the input is; from a captured disk the image, every sector good; beside
+-- erased stretches what lies whole between them
 pub record OfDisk (output : Output) (format : Format) (x : List ℕ) (o : Outcome) : Type 0 where
+  pub told : WasRead o.status → IsOfDecoded output (AreRightOnDisk format x) o
   pub captured : (image : List ℕ) → IsImage format image → IsCapturedDisk format image x
       → (o.status ≡ AllGood) × IsOfDecoded output (DecodesWhole format image) o
   pub erased : (image : List ℕ) → IsImage format image → (disk : IsErasedDisk format image x)
       → WasRead o.status × IsOfDecoded output (λ d. DecodesRest format image x d disk) o
 
--- `decode-set`: from a captured set the image, every sector good over all captures; beside erased stretches what one capture has whole
+-- `decode-set`: a line that says good is right, and names the capture; from a captured set the image, every sector good over all captures;
+-- beside erased stretches what one capture has whole
 pub record OfSet (format : Format) (count : ℕ) (x : List ℕ) (o : Outcome) : Type 0 where
+  pub told : WasRead o.status → IsOfPlanned (AreRightLines (set_plan count) format (set_streams count x)) o
   pub captured : (image : List ℕ) → IsImage format image → IsCapturedSet format count image x
       → (o.status ≡ AllGood) × IsOfPlanned (IsReadWhole ByCapture format image) o
   pub erased : (image : List ℕ) → IsImage format image → (set : IsErasedSet format count image x)
       → WasRead o.status × IsOfPlanned (λ d. IsReadInPart ByCapture format image d (LiesInACapture format count image x set)) o
 
--- `rescue`: from a captured disk each sector good with its own bytes, or contradictory; where the drive keeps its speed the image, every
--- sector good, and beside erased stretches what lies whole between them
+-- `rescue`: a line that says good is right, and names the clock; from a captured disk each sector good with its own bytes, or
+-- contradictory; where the drive keeps its speed the image, every sector good, and beside erased stretches what lies whole between them
 pub record OfRescue (format : Format) (x : List ℕ) (o : Outcome) : Type 0 where
+  pub told : WasRead o.status → IsOfPlanned (AreRightLines rescuing format (track_streams x)) o
   pub captured : (image : List ℕ) → IsImage format image → IsCapturedDisk format image x
       → WasRead o.status × IsOfPlanned (RescuesRightly format image x) o
   pub steady : (image : List ℕ) → IsImage format image → (disk : IsCapturedDisk format image x) → IsSteadyDisk format image x disk
@@ -82,10 +109,11 @@ pub record OfRescue (format : Format) (x : List ℕ) (o : Outcome) : Type 0 wher
   pub erased : (image : List ℕ) → IsImage format image → (disk : IsErasedDisk format image x) → IsSteadyErasedDisk format image x disk
       → WasRead o.status × IsOfPlanned (λ d. IsReadInPart ByClock format image d (LiesWhole format image x disk)) o
 
--- `from-g64`: a file that was written of an image comes back
-abbrev pub OfFile : Format → (x : List ℕ) → Outcome → Type 0
-OfFile format x o = (image : List ℕ) → IsImage format image → x ≡ g64_file format image
-    → (o.status ≡ AllGood) × IsOfFile (ComesBack format image) o
+-- `from-g64`: a line that says good is right, and a file that was written of an image comes back
+pub record OfFile (format : Format) (x : List ℕ) (o : Outcome) : Type 0 where
+  pub told : WasRead o.status → IsOfFile (AreRightInFile format x) o
+  pub written : (image : List ℕ) → IsImage format image → x ≡ g64_file format image
+      → (o.status ≡ AllGood) × IsOfFile (ComesBack format image) o
 
 -- `trial` of a number without a hole: every sector is good, and the sum is that of the trial's image
 abbrev pub OfTrial : Format → (seed : ℕ) → Outcome → Type 0

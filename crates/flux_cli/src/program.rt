@@ -21,12 +21,13 @@ use crate::planned::{decode_captures, rescue};
 use crate::trial::trial;
 use crate::turns::write_turns;
 use flux_base::{Memory, Sink, Source, Status, Word};
-use flux_engine::{DiskRoom, WriteRoom};
+use flux_engine::{DiskRoom, WriteRoom, good_is_right_on_disks, lines_tell_verdicts};
 use flux_help::write_wrong_words;
 use flux_trial::{TrialRoom, whole_trials_have_one_line};
-use g64_image::{G64Room, written_files_come_back};
+use g64_image::{G64Room, file_lines_tell, good_is_right_in_files, written_files_come_back};
 use kryo_stream::{RoomFault, StreamRoom};
 use law_captured_disks::captured_disks_decode;
+use law_captured_plans::planned_lines_tell;
 use law_captured_rescues::{captured_disks_are_rescued, steady_disks_are_rescued};
 use law_captured_sets::captured_sets_decode;
 use sector_images::{Format, words_name_formats};
@@ -67,10 +68,13 @@ pub fn run<S: Source, W: Sink, N: Sink, H: Shelf>(
         (outside (moment S.left S.faults source.old) (S.given source.old) (moment W.written W.faults image.old) (moment N.written N.faults notes.old))
         (outside (moment S.left S.faults source.new) (S.given source.new) (moment W.written W.faults image.new) (moment N.written N.faults notes.new)) }
 
-    // So it is with the words whose inputs the laws speak of: `report` writes such a disk's report; a captured set comes to the
-    // image, a sector good that one capture has whole; `rescue` calls a captured disk's sectors good with their own bytes or
-    // contradictory, and all good where the drive keeps its speed; a file that was written of an image comes back by
-    // `from-g64`; and a trial of a number without a hole prints the line that is known beforehand.
+    // Whatever the input is, a sector's line that says good, of a disk that was not refused, names a place of the capture and the
+    // clock that it names whose cells hold the sector, with the bytes that the image has at its place.
+    //
+    // Of the words whose inputs the laws speak of: `report` writes such a disk's report; a captured set comes to the image, a
+    // sector good that one capture has whole; `rescue` calls a captured disk's sectors good with their own bytes or contradictory,
+    // and all good where the drive keeps its speed; a file that was written of an image comes back by `from-g64`; and a trial of a
+    // number without a hole prints the line that is known beforehand.
     ensures expected { RunsAsExpected words.now result
         (outside (moment S.left S.faults source.old) (S.given source.old) (moment W.written W.faults image.old) (moment N.written N.faults notes.old))
         (outside (moment S.left S.faults source.new) (S.given source.new) (moment W.written W.faults image.new) (moment N.written N.faults notes.new)) }
@@ -90,6 +94,11 @@ pub fn run<S: Source, W: Sink, N: Sink, H: Shelf>(
     steady_disks_are_rescued();
     written_files_come_back();
     whole_trials_have_one_line();
+    lines_tell_verdicts();
+    good_is_right_on_disks();
+    planned_lines_tell();
+    file_lines_tell();
+    good_is_right_in_files();
     run_words(alloc, words, source, image, notes, shelf)
 }
 

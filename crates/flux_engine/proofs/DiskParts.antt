@@ -2,7 +2,7 @@
 use Rattle.std.specs.Prelude.{◌≡◌, ◌≤◌, ◌<◌, ℕ, zero, suc, ◌+◌, ◌*◌, List, [], ◌∷◌, ◌++◌, length, take, drop, find, get_or, sum_by, Option, Some, None, option_and_then, option_map, refl}
 use Rattle.std.specs.List.{range_with_len}
 use Rattle.std.proofs.Common.{ap, sym, subst, ◌∙◌, arith, length-append, length-drop}
-use Rattle.std.proofs.Math.Seq.{drop-append_seam, drop-cons, take-append_seam, take-length, take-suc}
+use Rattle.std.proofs.Math.Seq.{drop-append_seam, take-append_seam, take-length, take-suc}
 use Rattle.std.proofs.lemmas.List.{drop-append-le, drop-drop, take-append-drop, take-append-le}
 use Rattle.std.proofs.lemmas.List.Concat.{flat_map-append}
 use Rattle.std.proofs.lemmas.List.Sums.{sum_by-append}
@@ -14,13 +14,16 @@ use Rattle.sector_images.specs.Formats.{row}
 use Rattle.sector_images.specs.Places.{TracksFillImages, TracksJoin, bytes_of, place_of, sector_in, tracks}
 use Rattle.sector_images.specs.declared.format.Format.{Format}
 use Rattle.flux_engine.specs.DiskLaws.{PartsFitImages, PartsStandAtTheirPlaces, StandsInImage, WholeDisksFillImages}
-use Rattle.flux_engine.specs.Disks.{Stop, AreParts, Decoded, IsDecoded, decoded_count, images, lines, no_totals, part_at, stop_at, stop_of}
+use Rattle.flux_engine.specs.Disks.{Stop, AreParts, Decoded, IsDecoded, decoded_count, images, part_at, stop_at, stop_of}
 use Rattle.disk_recordings.specs.Laws.{TracksAreRead}
 use Rattle.disk_recordings.specs.Members.{header_at, sector_at}
 use Rattle.flux_engine.specs.Recordings.{cells_of, sectors_of, track_at}
 use Rattle.flux_engine.specs.Streams.{has_fault, stream_at}
-use Rattle.flux_engine.specs.Tracks.{TrackPart, IsPart, image_of}
+use Rattle.flux_engine.specs.Tracks.{TrackPart, IsPart, image_of, lines_by, readings_of}
+use Rattle.flux_engine.specs.lemmas.PartLaws.{image_split, no_part}
 use Rattle.flux_engine.specs.lemmas.Finding.{find-below}
+use Rattle.sector_report.specs.declared.naming.Naming.TheVariants.{Unnamed}
+use Rattle.turn_merge.specs.Readings.{NotedReading}
 use Rattle.turn_merge.specs.declared.clock.Clock.TheVariants.{Following}
 use Rattle.flux_engine.specs.lemmas.GoodSectors.{lengths, strict_good}
 use Rattle.flux_engine.proofs.Outcomes.{stop_track}
@@ -59,23 +62,11 @@ part_size read format track times' indexes' part is =
     (sectors_of format track) refl (sector_in format track) 0 count
     ∙ turned
 
-abbrev pub no_part : TrackPart
-no_part = record { image = []; lines = []; totals = no_totals }
-
 abbrev pub first_track : TrackId
 first_track = record { cylinder = 0; head = 0 }
 
 -- a list of parts up to one, that one and the others
 module _ (ps : List TrackPart) (n : ℕ) (low : n < length ps) where
-  parts_split : ps ≡ take n ps ++ (part_at ps n ∷ drop (suc n) ps)
-  parts_split = sym (take-append-drop n ps) ∙ ap (λ (qs : List TrackPart). take n ps ++ qs) (drop-cons ps n no_part low)
-
-  pub image_split : images ps ≡ images (take n ps) ++ ((part_at ps n).image ++ images (drop (suc n) ps))
-  image_split = ap images parts_split ∙ flat_map-append (λ (p : TrackPart). p.image) (take n ps) (part_at ps n ∷ drop (suc n) ps)
-
-  pub lines_split : lines ps ≡ lines (take n ps) ++ ((part_at ps n).lines ++ lines (drop (suc n) ps))
-  lines_split = ap lines parts_split ∙ flat_map-append (λ (p : TrackPart). p.lines) (take n ps) (part_at ps n ∷ drop (suc n) ps)
-
   image_more : length (images (take (suc n) ps)) ≡ length (images (take n ps)) + length (part_at ps n).image
   image_more =
       let one : images (part_at ps n ∷ []) ≡ (part_at ps n).image ++ [] = refl in
@@ -93,6 +84,17 @@ tracks_more format n low =
     ap (sum_by (bytes_of format)) (take-suc ts n first_track low)
     ∙ sum_by-append (bytes_of format) (take n ts) (get_or ts n first_track ∷ [])
     ∙ ap (λ (m : ℕ). sum_by (bytes_of format) (take n ts) + m) (one ∙ ap (bytes_of format) here)
+
+-- the readings of a part, and its lines by them
+module _ (format : Format) (x : List ℕ) (ps : List TrackPart) (are : AreParts format x ps) where
+  abbrev pub part_readings : (n : ℕ) → n < length ps → List NotedReading
+  part_readings n low =
+      let comes = (are n low).comes in
+      readings_of (times (stream_at x n)) (indexes (stream_at x n)) (cells_of format (track_at format n) (times (stream_at x n)) (indexes (stream_at x n))) comes.found
+
+  pub part_lines : (n : ℕ) (low : n < length ps)
+      → (part_at ps n).lines ≡ lines_by Unnamed (track_at format n) (sectors_of format (track_at format n)) (part_readings n low)
+  part_lines n low = ap (λ (p : TrackPart). p.lines) (are n low).comes.is
 
 -- the parts of the first tracks
 module _ (read : TracksAreRead) (format : Format) (x : List ℕ) (ps : List TrackPart) (are : AreParts format x ps) (few : length ps ≤ length (tracks format)) where

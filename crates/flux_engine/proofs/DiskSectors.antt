@@ -1,34 +1,33 @@
 -- The sectors of a decoded disk.
-use Rattle.std.specs.Prelude.{◌≡◌, ◌≤◌, ◌<◌, ℕ, suc, ◌+◌, ◌-◌, ◌*◌, false, List, [], ◌∷◌, ◌++◌, length, take, drop, flat_map, replicate, slice_get, sum_by, unwrap_or, Option, Some, None, is_none, if◌then◌else◌, refl}
-use Rattle.std.specs.List.{range_with_len}
-use Rattle.std.proofs.Common.{ap, sym, ◌∙◌, append_assoc, arith}
+use Rattle.std.specs.Prelude.{◌≡◌, ◌≤◌, ◌<◌, ℕ, suc, ◌+◌, ◌-◌, ◌*◌, false, List, [], ◌∷◌, length, take, drop, replicate, unwrap_or, Option, Some, None, is_none, if◌then◌else◌, refl}
+use Rattle.std.proofs.Common.{ap, sym, subst, ◌∙◌, arith}
 use Rattle.std.proofs.Math.Nat.{mul-le-mul_left}
 use Rattle.flux_base.specs.declared.track.TrackId.{TrackId}
 use Rattle.kryo_stream.specs.Stream.{times, indexes}
 use Rattle.sector_images.specs.Formats.{row, slot}
-use Rattle.sector_images.specs.Places.{SectorsFillTracks, TracksJoin, place_of, sector_in, sector_place, tracks}
+use Rattle.sector_images.specs.Places.{SectorsFillTracks, TracksJoin, place_of, sector_in, sector_place}
 use Rattle.sector_images.specs.declared.format.Format.{Format}
-use Rattle.sector_report.specs.LineLaws.{IsOneLine, SectorsHaveOneLine}
+use Rattle.sector_report.specs.LineLaws.{SectorsHaveOneLine}
 use Rattle.sector_report.specs.Lines.{sector_text}
 use Rattle.turn_merge.specs.Readings.{NotedReading, agreed, agreed_of, bad_ones, first_other, good_ones, verdict, verdict_of, verdict_with, bytes_of as data_of}
 use Rattle.turn_merge.specs.declared.verdict.Place.{Place}
 use Rattle.turn_merge.specs.declared.verdict.Verdict.{Verdict}
 use Rattle.turn_merge.specs.declared.verdict.Verdict.TheVariants.{Good}
-use Rattle.flux_engine.specs.DiskLaws.{EachHasOneVerdict, GoodIsRightOnDisks, HasLine, HasOneVerdict, HasVerdict, IsDecodedSector, IsRightlyGoodOnDisk, LinesNameVerdicts, OthersAreZeros, bytes_at, cells_at, line_number, lines_in}
-use Rattle.flux_engine.specs.Disks.{Decoded, decoded_count, images, last_line, lines, part_at, stop_of, totals_over}
+use Rattle.flux_engine.specs.DiskLaws.{EachHasOneVerdict, GoodIsRightOnDisks, HasLine, HasOneVerdict, HasVerdict, IsDecodedSector, IsRightlyGoodOnDisk, LinesNameVerdicts, OthersAreZeros, bytes_at, cells_at, line_number}
+use Rattle.flux_engine.specs.Disks.{Decoded, decoded_count, images, last_line, part_at, stop_of, totals_over}
 use Rattle.flux_engine.specs.Laws.{IsRightlyGood}
 use Rattle.disk_recordings.specs.Laws.{TracksAreRead}
 use Rattle.disk_recordings.specs.Members.{header_at, sector_at}
 use Rattle.flux_engine.specs.Recordings.{sectors_of, track_at}
 use Rattle.flux_engine.specs.Streams.{stream_at}
-use Rattle.flux_engine.specs.Tracks.{Found, IsPart, TrackPart, image_bytes, image_of, is_good, line_of, lines_by, part_of, readings_of}
-use Rattle.flux_engine.proofs.DiskParts.{few_parts, image_is, image_split, lines_split, piece_within, place_is, size_at, stop_is}
+use Rattle.flux_engine.specs.Tracks.{Found, IsPart, TrackPart, image_bytes, image_of, is_good, part_of, readings_of}
+use Rattle.flux_engine.proofs.DiskParts.{few_parts, image_is, part_lines, part_readings, piece_within, place_is, size_at, stop_is}
 use Rattle.turn_merge.specs.declared.clock.Clock.TheVariants.{Following}
 use Rattle.sector_report.specs.declared.naming.Naming.TheVariants.{Unnamed}
 use Rattle.flux_engine.specs.lemmas.GoodSectors.{in_image, strict_good}
-use Rattle.flux_engine.proofs.LineNumbers.{Skips, line-first, sectors_on, skips-append, skips-lines, skips-tracks}
+use Rattle.flux_engine.specs.lemmas.LineNumbers.{sector-line}
+use Rattle.flux_engine.specs.lemmas.PartLaws.{image_split}
 use Rattle.flux_engine.proofs.Outcomes.{good_is_right, one_found, one_part}
-use Rattle.flux_engine.specs.lemmas.Pieces.{pieces-at}
 
 -- a verdict that is not good leaves no data
 other_none : (good bad : ℕ) (first : Place) (mine : List ℕ) (other : Option NotedReading) → is_good (verdict_with good bad first other) ≡ false
@@ -53,10 +52,6 @@ one_more size slots sectors below =
     let last : size * (slots + 1) ≡ size * slots + size = omega arith in
     let turned : size * sectors ≡ sectors * size = omega arith in
     omega (arith, all, last, turned)
-
--- a line in the middle of a part of a text
-line_in : (lt a line b rest last : List ℕ) → (lt ++ ((a ++ (line ++ b)) ++ rest)) ++ last ≡ (lt ++ a) ++ (line ++ (b ++ (rest ++ last)))
-line_in lt a line b rest last = simp append_assoc
 
 module _ (read : TracksAreRead) (format : Format) (x : List ℕ) (o : Decoded) (n sector : ℕ) (s : IsDecodedSector format x o n sector) where
   abbrev track : TrackId
@@ -123,49 +118,6 @@ module _ (read : TracksAreRead) (format : Format) (x : List ℕ) (o : Decoded) (
         in_disk fills joined ∙ piece_is fills
         ∙ ap (λ (d : Option (List ℕ)). unwrap_or d (replicate (row format).sector_size 0)) (none_agreed readings sector outcome h.is other)
 
-    has_line : SectorsHaveOneLine → HasLine o.notes (sector_text track sector outcome) (line_number format n sector)
-    unfolding lines_by
-    has_line one =
-        let first : ℕ = (row format).first_sector in
-        let count : ℕ = (sectors_of format track).count in
-        let i : ℕ = sector - first in
-        let here : first + i ≡ sector = omega (arith, s.sector_known.0) in
-        let low : i < count = omega (arith, s.sector_known.0, s.sector_known.1) in
-        let line : List ℕ = sector_text track sector outcome in
-        let named : line_of track readings (first + i) ≡ line = ap (line_of track readings) here ∙ ap (sector_text track sector) h.is in
-        let earlier : List ℕ = flat_map (line_of track readings) (range_with_len first i) in
-        let later : List ℕ = flat_map (line_of track readings) (range_with_len (first + i + 1) (count - i - 1)) in
-        let mine : (part_at parts n).lines ≡ earlier ++ (line ++ later) =
-        ap (λ (p : TrackPart). p.lines) same_part ∙ pieces-at (line_of track readings) first i count low
-        ∙ ap (λ (l : List ℕ). earlier ++ (l ++ later)) named in
-        let last : List ℕ = last_line (totals_over parts) (stop_of format x) in
-        let rest : List ℕ = lines (drop (suc n) parts) in
-        let before : List ℕ = lines (take n parts) ++ earlier in
-        let after : List ℕ = later ++ (rest ++ last) in
-        let split : o.notes ≡ before ++ (line ++ after) =
-        ap (λ (d : Decoded). d.notes) s.outcome.is
-        ∙ ap (λ (xs : List ℕ). xs ++ last) (lines_split parts n decoded ∙ ap (λ (l : List ℕ). lines (take n parts) ++ (l ++ rest)) mine)
-        ∙ line_in (lines (take n parts)) earlier line later rest last in
-        let mine_is_one : IsOneLine line = one Unnamed track sector outcome in
-        let number : ℕ = line_number format n sector in
-        let skipped : Skips before number =
-        skips-append (lines (take n parts)) earlier (sum_by (sectors_on format) (take n (tracks format))) i
-        (skips-tracks one format x parts s.outcome.each (few_parts format x o s.outcome) n (omega (arith, decoded)))
-        (skips-lines (line_of track readings) (λ k. one Unnamed track k (verdict readings k)) first i) in
-        let first_of_rest : number ≡ number + 0 = omega arith in
-        record {
-          before = before;
-          after = after;
-          is = split;
-          front = mine_is_one.front;
-          ends = mine_is_one.ends;
-          there =
-              ap (λ (text : List ℕ). slice_get (lines_in text) number) split
-              ∙ ap (slice_get (lines_in (before ++ (line ++ after)))) first_of_rest
-              ∙ skipped.skips (line ++ after) 0
-              ∙ ap (λ (ls : List (List ℕ)). slice_get ls 0) (line-first line after mine_is_one);
-        }
-
     -- another list of all readings is the same one
     only : (other : Verdict) → HasVerdict format x n sector other → other ≡ outcome
     only other h' =
@@ -176,6 +128,16 @@ module _ (read : TracksAreRead) (format : Format) (x : List ℕ) (o : Decoded) (
         sym h'.is
         ∙ ap (λ (found : List Found). verdict (readings_of times_there indexes_there (cells_at format x n) found) sector) same
         ∙ h.is
+
+    has_line : SectorsHaveOneLine → HasLine o.notes (sector_text track sector outcome) (line_number format n sector)
+    has_line one =
+        let comes = (s.outcome.each n decoded).comes in
+        let mine : List NotedReading = part_readings format x parts s.outcome.each n decoded in
+        let own : HasVerdict format x n sector (verdict mine sector) = record { found = comes.found; all = comes.all; is = refl } in
+        subst (λ (v : Verdict). HasLine o.notes (sector_text track sector v) (line_number format n sector)) (only (verdict mine sector) own)
+        (subst (λ (d : Decoded). HasLine d.notes (sector_text track sector (verdict mine sector)) (line_number format n sector)) (sym s.outcome.is)
+        (sector-line one format parts (few_parts format x o s.outcome) Unnamed (part_readings format x parts s.outcome.each) (part_lines format x parts s.outcome.each)
+        (last_line (totals_over parts) (stop_of format x)) n decoded sector s.sector_known))
 
   good : SectorsFillTracks → TracksJoin → (good bad : ℕ) (first : Place) → (h : HasVerdict format x n sector (Good good bad first))
       → IsRightlyGoodOnDisk format x o.image n sector first

@@ -23,7 +23,6 @@ pub mod PlanSectors
 pub mod StrictSectors
 pub mod PlanOutcomes
 pub mod DiskParts
-pub mod LineNumbers
 pub mod DiskSectors
 pub mod Telling
 pub mod Captured
@@ -32,5 +31,4 @@ pub mod RingLaws
 pub mod Filling
 pub mod Needed
 pub mod Growing
-pub mod VerdictBounds
 pub mod ReportLines

@@ -23,29 +23,8 @@ use Rattle.flux_engine.specs.Rules.{RulesAreRead, StandsBy}
 use Rattle.flux_engine.specs.declared.plan.Plan.{Plan}
 use Rattle.flux_engine.specs.lemmas.Each.{Each, each-append, each-at, each-filter, each-flat, each-left, each-map, each-right, each-unfilter, each-unflat}
 use Rattle.flux_engine.specs.lemmas.GoodSectors.{Head, Named, agreed_head, and_both, each_named, head_of, is_good_of, of_found, same_bytes, some_bytes}
+use Rattle.flux_engine.specs.lemmas.JoinedReadings.{each_by_clocks, each_capture, each_clock, each_joined}
 use Rattle.flux_engine.proofs.Clashes.{Clash, clash_of, each-found, not_true, stays}
-
-each-by : {X : Type 0} (P : X → Type 0) (d : X) (xs : List X) → ((k : ℕ) → k < length xs → P (get_or xs k d)) → Each P xs
-each-by P d [] all = tt
-each-by P d (x ∷ xs) all = (all 0 (omega arith), each-by P d xs (λ k below. all (suc k) (omega (arith, below))))
-
-each-index : {X : Type 0} (P : X → Type 0) (d : X) (xs : List X) (k : ℕ) → Each P xs → k < length xs → P (get_or xs k d)
-each-index P d [] k all below = absurd (omega (arith, below))
-each-index P d (x ∷ xs) zero all below = all.0
-each-index P d (x ∷ xs) (suc k) all below = each-index P d xs k all.1 (omega (arith, below))
-
--- what each list of readings by a clock has, those by all have
-each_joined : (P : NotedReading → Type 0) (clocks : Clocks) (by_clock : Clock → List NotedReading)
-    → ((clock : Clock) → IsUsed clocks clock → Each P (by_clock clock)) → Each P (joined_by clocks by_clock)
-each_joined P FollowingAlone by_clock all = all Following tt
-each_joined P Both by_clock all = each-append P (by_clock Following) (by_clock Held) (all Following tt) (all Held tt)
-
-joined_each : (P : NotedReading → Type 0) (clocks : Clocks) (by_clock : Clock → List NotedReading) (clock : Clock) → IsUsed clocks clock
-    → Each P (joined_by clocks by_clock) → Each P (by_clock clock)
-joined_each P FollowingAlone by_clock Following used all = all
-joined_each P FollowingAlone by_clock Held cannot all = absurd cannot
-joined_each P Both by_clock Following used all = each-left P (by_clock Following) (by_clock Held) all
-joined_each P Both by_clock Held used all = each-right P (by_clock Following) (by_clock Held) all
 
 module _ (read : RulesAreRead) (plan : Plan) (format : Format) (streams : Streams) (n : ℕ) (captures : List (List NotedReading)) (many : length captures ≡ plan.captures)
     (each : AreCaptures plan format streams n captures) where
@@ -76,12 +55,10 @@ module _ (read : RulesAreRead) (plan : Plan) (format : Format) (streams : Stream
 
   capture_names : (q : ℕ) → q < length captures → Each NamesOne (get_or captures q [])
   capture_names q low =
-      subst (Each NamesOne) (sym (each q low).are) (each_joined NamesOne plan.clocks (each q low).by_clock (clock_names q low))
+      subst (Each NamesOne) (sym (each q low).are) (each_by_clocks NamesOne plan.clocks (each q low).by_clock (clock_names q low))
 
   all_name : Each NamesOne (joined captures)
-  all_name =
-      each-flat (λ (rs : List NotedReading). rs) (Each NamesOne) NamesOne (λ rs all. all) captures
-      (each-by (Each NamesOne) [] captures capture_names)
+  all_name = each_joined NamesOne captures capture_names
 
   -- a good reading of a sector names a place where it stands
   abbrev NamesSector : (sector : ℕ) → NotedReading → Type 0
@@ -104,9 +81,8 @@ module _ (read : RulesAreRead) (plan : Plan) (format : Format) (streams : Stream
   stands_has P all q clock place sector bytes low used here =
       let within : q < length captures = omega (arith, low, many) in
       let a = (each q within).each clock used in
-      let in_each = each-unflat (λ (rs : List NotedReading). rs) P captures all in
-      let in_capture = subst (Each P) (each q within).are (each-index (Each P) [] captures q in_each within) in
-      let by_one = subst (Each P) a.are (joined_each P plan.clocks (each q within).by_clock clock used in_capture) in
+      let in_capture = subst (Each P) (each q within).are (each_capture P captures q within all) in
+      let by_one = subst (Each P) a.are (each_clock P plan.clocks (each q within).by_clock clock used in_capture) in
       let found_of = of_found (StandsBy plan.rule format track) (row format).sector_size (read.size plan.rule format track)
       q clock (streams n q).times (streams n q).indexes (cells q clock) a.found (read.good plan.rule format track (cells q clock) a.found a.all) in
       let per_found = each-unflat found_of P a.found by_one in

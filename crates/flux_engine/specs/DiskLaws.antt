@@ -8,6 +8,7 @@ use Rattle.sector_images.specs.Formats.{row, zone}
 use Rattle.sector_images.specs.Places.{IsSector, bytes_of, place_of, sector_place, tracks}
 use Rattle.sector_images.specs.declared.format.Format.{Format}
 use Rattle.sector_report.specs.LineLaws.{LineFits, line_ends}
+use Rattle.sector_report.specs.declared.naming.Naming.TheVariants.{Unnamed}
 use Rattle.sector_report.specs.Lines.{sector_text}
 use Rattle.turn_merge.specs.Readings.{verdict}
 use Rattle.turn_merge.specs.declared.verdict.Place.{Place}
@@ -114,7 +115,7 @@ pub record IsTold (format : Format) (x : List ℕ) (o : Decoded) (track : TrackI
 
 abbrev pub LinesTellVerdicts : Type 0
 LinesTellVerdicts = (format : Format) (x : List ℕ) (o : Decoded) → IsDecoded format x o
-    → (track : TrackId) (sector : ℕ) (outcome : Verdict) (number : ℕ) → LineFits track sector outcome
+    → (track : TrackId) (sector : ℕ) (outcome : Verdict) (number : ℕ) → LineFits Unnamed track sector outcome
     → HasLine o.notes (sector_text track sector outcome) number → IsTold format x o track sector outcome number
 
 -- the bytes at a sector's place in a disk's image

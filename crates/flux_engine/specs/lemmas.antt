@@ -12,3 +12,7 @@ pub mod Repeated
 pub mod WrittenOnes
 pub mod OneStream
 pub mod NoOthers
+pub mod LineNumbers
+pub mod VerdictBounds
+pub mod ReportLines
+pub mod JoinedReadings

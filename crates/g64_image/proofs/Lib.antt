@@ -14,3 +14,4 @@ pub mod WrittenImages
 pub mod WrittenDisks
 pub mod GoodReadings
 pub mod GoodFiles
+pub mod FileLines

@@ -15,7 +15,7 @@ use Rattle.turn_merge.specs.declared.verdict.Verdict.{Verdict}
 use Rattle.turn_merge.specs.declared.verdict.Verdict.TheVariants.{Good}
 use Rattle.g64_image.specs.Faults.{first_fault}
 use Rattle.g64_image.specs.FileDisks.{AreReadingsTo, FileDisk, IsFileDisk, read_count, ring_place, ring_readings}
-use Rattle.g64_image.specs.Laws.{AreFileReadings, ComesBack, HasOneFileVerdict, WrittenFilesComeBack, WrittenFilesHaveNoFault, WrittenTracksAreRings}
+use Rattle.g64_image.specs.Laws.{AreFileReadings, ComesBack, HasOneFileVerdict, LinesNameFileVerdicts, WrittenFilesComeBack, WrittenFilesHaveNoFault, WrittenTracksAreRings}
 use Rattle.g64_image.specs.Layout.{IsCommodore, g64_file}
 use Rattle.g64_image.proofs.WrittenFaults.{no_fault}
 use Rattle.g64_image.proofs.WrittenFiles.{track-is_ring}
@@ -29,7 +29,7 @@ module _ (laws : TrackLaws) where
   pub are_rings : WrittenTracksAreRings
   are_rings format image n commodore is known = track-is_ring format image commodore (λ k low. ring-cells laws format image is k low) n known
 
-module _ (laws : TrackLaws) (places : PlaceLaws) (read : TracksAreRead) (none : WrittenFilesHaveNoFault) (rings : WrittenTracksAreRings)
+module _ (laws : TrackLaws) (places : PlaceLaws) (read : TracksAreRead) (named : LinesNameFileVerdicts) (none : WrittenFilesHaveNoFault) (rings : WrittenTracksAreRings)
     (format : Format) (image : List ℕ) (commodore : IsCommodore format) (is : IsImage format image) where
   abbrev file : List ℕ
   file = g64_file format image
@@ -90,7 +90,9 @@ module _ (laws : TrackLaws) (places : PlaceLaws) (read : TracksAreRead) (none : 
       image_is = ap (λ (d : FileDisk). d.image) disk.is ∙ images-are places format image is.size disk.parts many image-part;
       all_good = subst (λ (d : FileDisk). d.totals.good ≡ d.totals.sectors) (sym disk.is) (totals_good disk.parts good-part);
       verdicts = one_verdict;
+      lines = λ n s known one.
+          named format file o n s (good_there n s) disk (ap (λ (d : FileDisk). d.fault) disk.is ∙ sound) known one (one_verdict n s known one).has;
     }
 
-pub written_files_come_back : TrackLaws → PlaceLaws → TracksAreRead → WrittenFilesHaveNoFault → WrittenTracksAreRings → WrittenFilesComeBack
-written_files_come_back laws places read none rings format image o commodore is disk = comes_back laws places read none rings format image commodore is o disk
+pub written_files_come_back : TrackLaws → PlaceLaws → TracksAreRead → LinesNameFileVerdicts → WrittenFilesHaveNoFault → WrittenTracksAreRings → WrittenFilesComeBack
+written_files_come_back laws places read named none rings format image o commodore is disk = comes_back laws places read named none rings format image commodore is o disk

@@ -1,9 +1,12 @@
 //! What the definition of `from_g64` comes to, also of the files that `to_g64` writes.
 
-ghost use Rattle.g64_image.specs.Laws.{GoodIsRightInFiles, OneFileDisk, WrittenFilesComeBack, WrittenFilesHaveNoFault, WrittenTracksAreRings};
+ghost use Rattle.g64_image.specs.Laws.{FileReportsHaveNoOtherLines, GoodIsRightInFiles, LinesNameFileVerdicts, LinesTellInFiles, OneFileDisk, WrittenFilesComeBack, WrittenFilesHaveNoFault, WrittenTracksAreRings};
 
 use disk_recordings::{tracks_are_read, tracks_have_only_own, tracks_have_rings};
-use sector_images::{sectors_fill_tracks, sectors_lie_in_images, tracks_fill_images};
+use sector_images::{
+    sectors_fill_tracks, sectors_lie_in_images, tracks_fill_images, tracks_keep_bounds,
+};
+use sector_report::{sector_lines_tell, sectors_have_one_line, totals_have_one_line};
 
 /// A file comes to one disk: one image, one report, one fault or none.
 pub fn file_disks_are_one()
@@ -23,12 +26,29 @@ pub fn written_files_have_rings()
     sectors_lie_in_images()
 }
 
+/// The report of a file without a fault has one line for each sector, after those of all sectors before it, which names its
+/// verdict, and the total line; that of a file with a fault has none. Where a sector's line is among them, that sector has the
+/// verdict that the line names.
+pub fn file_lines_tell()
+    ensures count { FileReportsHaveNoOtherLines }
+    ensures lines { LinesNameFileVerdicts }
+    ensures told { LinesTellInFiles }
+{
+    tracks_are_read();
+    sectors_have_one_line();
+    totals_have_one_line();
+    sector_lines_tell();
+    tracks_keep_bounds();
+    sectors_lie_in_images()
+}
+
 /// So reading that file gives the image, and each sector is good: it is read once, well and never badly, at its place in the
-/// ring of its track.
+/// ring of its track, as its line says.
 pub fn written_files_come_back()
     ensures { WrittenFilesComeBack }
 {
     written_files_have_rings();
+    file_lines_tell();
     tracks_are_read();
     tracks_have_rings();
     tracks_have_only_own();

@@ -18,7 +18,8 @@ mod writing;
 
 pub use fault::{FromStop, G64Fault, ToStop};
 pub use laws::{
-    file_disks_are_one, good_is_right_in_files, written_files_come_back, written_files_have_rings,
+    file_disks_are_one, file_lines_tell, good_is_right_in_files, written_files_come_back,
+    written_files_have_rings,
 };
 pub use line::g64_line;
 pub use reading::from_g64;

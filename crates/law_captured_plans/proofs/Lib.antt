@@ -1,7 +1,7 @@
 pub mod Verdicts
 pub mod Places
-pub mod Lines
 pub mod Sectors
+pub mod Telling
 pub mod Streams
 pub mod Plans
 pub mod NoOthers

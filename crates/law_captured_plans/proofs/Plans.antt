@@ -36,6 +36,7 @@ use Rattle.flux_engine.specs.Rings.{IsImage, IsRing, nominal_of, ring_cells_of, 
 use Rattle.flux_engine.specs.Streams.{stream_at}
 use Rattle.flux_engine.specs.Tracks.{TrackPart, image_bytes, is_good, part_by, readings_in}
 use Rattle.flux_engine.specs.lemmas.Each.{Each}
+use Rattle.flux_engine.specs.lemmas.JoinedReadings.{each_by_clocks, each_capture, each_clock, each_joined}
 use Rattle.law_captured_disks.specs.Frames.{ring_piece, written_track}
 use Rattle.law_captured_disks.specs.Headline.{IsSectorOf}
 use Rattle.law_captured_disks.specs.lemmas.Cells.{cells-same}
@@ -50,7 +51,7 @@ use Rattle.law_captured_plans.specs.Said.{IsSaid, SaysBy, SectorsAreSaid}
 use Rattle.law_captured_plans.proofs.Places.{images_size}
 use Rattle.law_captured_plans.proofs.Sectors.{part_size, Laws as SectorLaws}
 use Rattle.law_captured_plans.proofs.Streams.{no_stop, stream_is}
-use Rattle.law_captured_plans.proofs.Verdicts.{Holds, IsNone, IsWith, all_hold, each_capture, each_clock, each_joined, each_joined_by, none_agreed, some_good, with_all, with_or_lost}
+use Rattle.law_captured_plans.proofs.Verdicts.{Holds, IsNone, IsWith, all_hold, none_agreed, some_good, with_all, with_or_lost}
 
 -- the zeros that a sector has not in a row: eight by the strict rule, and as controllers read those that a clock leaves
 abbrev pub zeros_of : Rule → ℕ
@@ -156,7 +157,7 @@ module _ (laws : Laws) (plan : Plan) (format : Format) (image x : List ℕ) (is 
           each_joined HoldsMine captures
           (λ q within.
           subst (Each HoldsMine) (sym (each q within).are)
-          (each_joined_by HoldsMine plan.clocks (each q within).by_clock
+          (each_by_clocks HoldsMine plan.clocks (each q within).by_clock
           (λ clock used.
           all_hold sector (mine n sector) ((each q within).by_clock clock) ((right q within (omega (arith, within, many)) clock used).each sector (has_sector n sector one)))))
 

@@ -6,20 +6,21 @@ use Rattle.flux_base.specs.declared.track.TrackId.{TrackId}
 use Rattle.sector_images.specs.Formats.{row, slot, zone}
 use Rattle.sector_images.specs.Places.{IsSector, NumbersNameTracks, SectorsFillTracks, TracksJoin, bytes_of, place_of, sector_in, sector_place, tracks}
 use Rattle.sector_images.specs.declared.format.Format.{Format}
+use Rattle.sector_report.specs.LineLaws.{SectorsHaveOneLine}
 use Rattle.sector_report.specs.Lines.{named_text}
 use Rattle.turn_merge.specs.Readings.{NotedReading, agreed, verdict}
 use Rattle.turn_merge.specs.declared.verdict.Verdict.{Verdict}
 use Rattle.turn_merge.specs.declared.verdict.Verdict.TheVariants.{Good, Contradictory, Bad, Missing}
-use Rattle.flux_engine.specs.DiskLaws.{bytes_at}
-use Rattle.flux_engine.specs.Disks.{images, lines, part_at}
+use Rattle.flux_engine.specs.DiskLaws.{HasLine, bytes_at, line_number}
+use Rattle.flux_engine.specs.Disks.{images, part_at, totals_over}
 use Rattle.flux_engine.specs.PlanLaws.{GoodIsRightInPlans, cells_in}
-use Rattle.flux_engine.specs.Plans.{IsPlanned, IsPlannedPart, PlanStop, Planned, Streams, StopsAt, joined, planned_count}
+use Rattle.flux_engine.specs.Plans.{IsPlanned, IsPlannedPart, PlanStop, Planned, Streams, StopsAt, joined, planned_count, planned_last_line}
 use Rattle.flux_engine.specs.Recordings.{sectors_of, track_at}
 use Rattle.flux_engine.specs.Rules.{RulesAreRead}
-use Rattle.flux_engine.specs.Tracks.{TrackPart, image_bytes, image_of, image_piece, line_by, lines_by, part_by}
+use Rattle.flux_engine.specs.Tracks.{TrackPart, image_bytes, image_of, image_piece, lines_by, part_by}
 use Rattle.flux_engine.specs.declared.plan.Plan.{Plan}
-use Rattle.law_captured_plans.specs.Said.{HasText, IsSaid, SaysBy, SectorsAreSaid}
-use Rattle.law_captured_plans.proofs.Lines.{text_left, text_of_parts, text_of_range}
+use Rattle.flux_engine.specs.lemmas.LineNumbers.{sector-line}
+use Rattle.law_captured_plans.specs.Said.{IsSaid, SaysBy, SectorsAreSaid}
 use Rattle.law_captured_plans.proofs.Places.{one_more, piece_at, pieces_size, stands_in_part}
 use Rattle.law_captured_plans.proofs.Verdicts.{none_agreed}
 
@@ -30,10 +31,11 @@ pub record Laws : Type 0 where
   pub names : NumbersNameTracks
   pub fill : SectorsFillTracks
   pub joined : TracksJoin
+  pub one : SectorsHaveOneLine
 
 module _ (laws : Laws) (plan : Plan) (format : Format) (streams : Streams) (o : Planned) (is : IsPlanned plan (part_by plan.naming) format streams o) where
   -- no more tracks were read than the format has
-  few : length is.parts ≤ length (tracks format)
+  pub few : length is.parts ≤ length (tracks format)
   few = (let low = few_of o.stop is.stops in omega (arith, low, is.many))
     where
       few_of : (stop : Option PlanStop) → StopsAt plan format streams stop → planned_count format stop ≤ length (tracks format)
@@ -87,11 +89,13 @@ module _ (laws : Laws) (plan : Plan) (format : Format) (streams : Streams) (o : 
           ∙ piece_at size (image_piece format track readings) sectors (λ j below. piece_size j) (slot format sector) there.0
           ∙ ap (image_bytes (sectors_of format track) readings) there.1
 
-      line : HasText (part_at is.parts n).lines (named_text plan.naming track sector (verdict readings sector))
-      unfolding lines_by
-      line =
-          subst (λ (p : TrackPart). HasText p.lines (named_text plan.naming track sector (verdict readings sector))) (sym at.is)
-          (text_of_range (line_by plan.naming track readings) (sectors_of format track).first (sectors_of format track).count sector one.0 one.1)
+  -- the readings of each track that was read, and its lines by them
+  abbrev pub plan_readings : (n : ℕ) → n < length is.parts → List NotedReading
+  plan_readings n low = joined (is.each n low).captures
+
+  pub plan_lines : (n : ℕ) (low : n < length is.parts)
+      → (part_at is.parts n).lines ≡ lines_by plan.naming (track_at format n) (sectors_of format (track_at format n)) (plan_readings n low)
+  plan_lines n low = ap (λ (p : TrackPart). p.lines) (is.each n low).is
 
   place : (n : ℕ) → n < length (tracks format) → place_of format (track_at format n) ≡ sum_by (bytes_of format) (take n (tracks format))
   place n known =
@@ -115,10 +119,16 @@ module _ (laws : Laws) (plan : Plan) (format : Format) (streams : Streams) (o : 
     says : SaysBy plan.naming format o n sector (verdict (readings n low) sector)
     says =
         let text : List ℕ = named_text plan.naming (track_at format n) sector (verdict (readings n low) sector) in
-        subst (λ (d : Planned). HasText d.notes text) (sym is.is) (text_left (lines is.parts) _ text (text_of_parts is.parts n text low (line n low sector one)))
+        subst (λ (d : Planned). HasLine d.notes text (line_number format n sector)) (sym is.is)
+        (sector-line laws.one format is.parts few plan.naming plan_readings plan_lines (planned_last_line (totals_over is.parts) o.stop) n low sector one)
 
     pub said : IsSaid plan format streams o n sector
     said = record { captures = (at n low).captures; many = (at n low).many; each = (at n low).each; line = says; held = held }
+
+    -- it is said of the readings of the track's part
+    pub said-captures : said.captures ≡ (at n low).captures
+    unfolding said
+    said-captures = refl
 
 pub sectors_are_said : Laws → SectorsAreSaid
 sectors_are_said laws plan format streams o is n sector low one =

@@ -1,26 +1,32 @@
 -- What a disk that was read by a plan says of one of its sectors, in its report and in its image.
-use Rattle.std.specs.Prelude.{◌≡◌, ◌<◌, ℕ, List, ◌++◌, length}
+use Rattle.std.specs.Prelude.{◌≡◌, ◌≤◌, ◌<◌, ℕ, ◌+◌, List, length, Option, Some, None}
+use Rattle.flux_base.specs.declared.track.TrackId.{TrackId}
+use Rattle.kryo_stream.specs.Protocol.{LIMIT}
 use Rattle.sector_images.specs.Places.{IsSector}
 use Rattle.sector_images.specs.declared.format.Format.{Format}
+use Rattle.sector_report.specs.LineLaws.{LineFits, line_ends}
 use Rattle.sector_report.specs.Lines.{named_text}
 use Rattle.sector_report.specs.declared.naming.Naming.{Naming}
+use Rattle.sector_report.specs.declared.naming.Naming.TheVariants.{ByCapture, ByCaptureAndClock, ByClock, Unnamed}
 use Rattle.turn_merge.specs.Readings.{NotedReading, verdict}
+use Rattle.turn_merge.specs.declared.clock.Clock.{Clock}
+use Rattle.turn_merge.specs.declared.verdict.Place.{Place}
 use Rattle.turn_merge.specs.declared.verdict.Verdict.{Verdict}
-use Rattle.flux_engine.specs.DiskLaws.{bytes_at}
-use Rattle.flux_engine.specs.Plans.{AreCaptures, IsPlanned, Planned, Streams, joined, planned_count}
+use Rattle.turn_merge.specs.declared.verdict.Verdict.TheVariants.{Good}
+use Rattle.flux_engine.specs.Captured.{IsUsed}
+use Rattle.flux_engine.specs.DiskLaws.{HasLine, bytes_at, line_number, sectors_before}
+use Rattle.flux_engine.specs.PlanLaws.{IsNamedIn, StandsIn}
+use Rattle.flux_engine.specs.Plans.{AreCaptures, IsPlanned, PlanStop, Planned, Streams, joined, planned_count, streams_in}
 use Rattle.flux_engine.specs.Recordings.{sectors_of, track_at}
 use Rattle.flux_engine.specs.Tracks.{image_bytes, part_by}
+use Rattle.flux_engine.specs.declared.plan.Clocks.{Clocks}
+use Rattle.flux_engine.specs.declared.plan.Clocks.TheVariants.{FollowingAlone}
 use Rattle.flux_engine.specs.declared.plan.Plan.{Plan}
+use Rattle.flux_engine.specs.declared.plan.Rule.TheVariants.{Strict}
 
--- the text has this line in it
-pub record HasText (text line : List ℕ) : Type 0 where
-  pub before : List ℕ
-  pub after : List ℕ
-  pub is : text ≡ before ++ (line ++ after)
-
--- the report's line of a sector of track number n names this verdict
+-- the report's line of a sector of track number n, after those of all sectors before it, names this verdict
 abbrev pub SaysBy : Naming → Format → Planned → (n sector : ℕ) → Verdict → Type 0
-SaysBy naming format o n sector outcome = HasText o.notes (named_text naming (track_at format n) sector outcome)
+SaysBy naming format o n sector outcome = HasLine o.notes (named_text naming (track_at format n) sector outcome) (line_number format n sector)
 
 -- The report has the sector's line, with the verdict over all that was read of its track. At its place in the image stand the bytes that
 -- all good readings hold, where no two differ, and else zeros.
@@ -36,3 +42,65 @@ abbrev pub SectorsAreSaid : Type 0
 SectorsAreSaid = (plan : Plan) (format : Format) (streams : Streams) (o : Planned) → IsPlanned plan (part_by plan.naming) format streams o
     → (n sector : ℕ) → n < planned_count format o.stop → IsSector format (track_at format n) sector
     → IsSaid plan format streams o n sector
+
+-- the total line, where all tracks were read
+abbrev pub planned_total_lines : Option PlanStop → ℕ
+planned_total_lines None = 1
+planned_total_lines (Some stop) = 0
+
+-- the report has a line for each sector of the tracks that were read, and the total line; it has no other
+abbrev pub PlannedReportsHaveNoOtherLines : Type 0
+PlannedReportsHaveNoOtherLines = (plan : Plan) (format : Format) (streams : Streams) (o : Planned) → IsPlanned plan (part_by plan.naming) format streams o
+    → line_ends o.notes ≡ sectors_before format (planned_count format o.stop) + planned_total_lines o.stop
+
+-- Lines name all that tells a plan's sources apart: the capture, where there are several of a track, and the clock, where both are used.
+abbrev pub TellsSources : Naming → (captures : ℕ) → Clocks → Type 0
+TellsSources Unnamed captures clocks = (captures ≤ 1) × (clocks ≡ FollowingAlone)
+TellsSources ByCapture captures clocks = clocks ≡ FollowingAlone
+TellsSources ByClock captures clocks = captures ≤ 1
+TellsSources ByCaptureAndClock captures clocks = Unit {0}
+
+-- the streams that are read have no more transitions and index times than a stream may have blocks
+abbrev pub AreShort : Streams → Type 0
+AreShort streams = (n q : ℕ) → (streams n q).fault ≡ None → (length (streams n q).times ≤ LIMIT) × (length (streams n q).indexes ≤ LIMIT)
+
+-- as those of an input
+abbrev pub InputsAreShort : Type 0
+InputsAreShort = (plan : Plan) (x : List ℕ) → AreShort (streams_in plan x)
+
+-- Where a sector's line, of whatever numbers that fit in it, is a line of the report, it is the line of that sector of a track that was
+-- read, and its verdict, with the sources and the places that it names, is the one over all that was read of the track.
+pub record IsToldBy (plan : Plan) (format : Format) (streams : Streams) (o : Planned) (track : TrackId) (sector : ℕ) (outcome : Verdict) (number : ℕ) : Type 0 where
+  pub n : ℕ
+  pub track_is : track ≡ track_at format n
+  pub low : n < planned_count format o.stop
+  pub known : IsSector format (track_at format n) sector
+  pub said : IsSaid plan format streams o n sector
+  pub is : verdict (joined said.captures) sector ≡ outcome
+  pub number_is : number ≡ line_number format n sector
+
+abbrev pub LinesTellInPlans : Type 0
+LinesTellInPlans = (plan : Plan) (format : Format) (streams : Streams) (o : Planned) → plan.captures ≤ 16 → plan.rule ≡ Strict → TellsSources plan.naming plan.captures plan.clocks
+    → AreShort streams → IsPlanned plan (part_by plan.naming) format streams o
+    → (track : TrackId) (sector : ℕ) (outcome : Verdict) (number : ℕ) → LineFits plan.naming track sector outcome
+    → HasLine o.notes (named_text plan.naming track sector outcome) number → IsToldBy plan format streams o track sector outcome number
+
+-- So, by the strict rule, a line that says good names a capture, a clock of the plan, a turn and a place whose cells hold the sector, with its sync, header,
+-- data and check values; the image has these bytes at the sector's place; and each place of the track whose cells hold it, of any
+-- capture and by any clock of the plan, holds the same bytes.
+pub record IsToldRightly (plan : Plan) (format : Format) (streams : Streams) (o : Planned) (track : TrackId) (sector : ℕ) (first : Place) : Type 0 where
+  pub n : ℕ
+  pub track_is : track ≡ track_at format n
+  pub bytes : List ℕ
+  pub named : IsNamedIn plan format streams n first sector bytes
+  pub in_image : bytes_at format o.image track sector ≡ bytes
+  pub agreed : (q : ℕ) (clock : Clock) (place : ℕ) (others : List ℕ) → q < plan.captures → IsUsed plan.clocks clock
+      → StandsIn plan.rule format streams n q clock place sector others → others ≡ bytes
+
+abbrev pub AreRightLines : Plan → Format → Streams → Planned → Type 0
+AreRightLines plan format streams o = (track : TrackId) (sector good bad : ℕ) (first : Place) (number : ℕ) → LineFits plan.naming track sector (Good good bad first)
+    → HasLine o.notes (named_text plan.naming track sector (Good good bad first)) number → IsToldRightly plan format streams o track sector first
+
+abbrev pub GoodLinesAreRight : Type 0
+GoodLinesAreRight = (plan : Plan) (format : Format) (streams : Streams) (o : Planned) → plan.captures ≤ 16 → plan.rule ≡ Strict → TellsSources plan.naming plan.captures plan.clocks
+    → AreShort streams → IsPlanned plan (part_by plan.naming) format streams o → AreRightLines plan format streams o

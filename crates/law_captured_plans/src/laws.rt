@@ -1,10 +1,11 @@
 //! What captured disks come to that are read by a plan.
 
 ghost use Rattle.law_captured_plans.specs.Headline.{CapturedPlansAreNeverWrong, CapturedPlansAreRead, CapturedPlansHaveNoOthers, ErasedPlansAreRead, ErasedPlansHaveNoOthers};
-ghost use Rattle.law_captured_plans.specs.Said.{SectorsAreSaid};
+ghost use Rattle.law_captured_plans.specs.Said.{GoodLinesAreRight, InputsAreShort, LinesTellInPlans, PlannedReportsHaveNoOtherLines, SectorsAreSaid};
 
 use disk_recordings::{
-    DiskRecording, rewritten_tracks_have_only_own, tracks_have_only_own, tracks_have_rings,
+    DiskRecording, rewritten_tracks_have_only_own, tracks_are_read, tracks_have_only_own,
+    tracks_have_rings,
 };
 use flux_engine::{
     captures_are_recovered, plans_are_right, rules_are_read, steady_captures_are_recovered,
@@ -12,15 +13,44 @@ use flux_engine::{
 use kryo_stream::{growth_law, joined_law};
 use law_captured_disks::captures_have_no_others;
 use law_decoded_rings::own_sectors_are_right;
-use sector_images::{sectors_fill_tracks, sectors_lie_in_images, tracks_fill_images};
+use phase_loop::cells_are_few;
+use sector_images::{
+    sectors_fill_tracks, sectors_lie_in_images, tracks_fill_images, tracks_keep_bounds,
+};
+use sector_report::{sector_lines_tell, sectors_have_one_line, totals_have_one_line};
 
-/// Each sector of a disk that is read by a plan has its line in the report, with the verdict over all that was read of its track, and
-/// at its place in the image the bytes that its good readings hold, or zeros.
+/// Each sector of a disk that is read by a plan has its line in the report, after those of all sectors before it, with the verdict
+/// over all that was read of its track, and at its place in the image the bytes that its good readings hold, or zeros.
 pub fn planned_sectors_are_said()
     ensures { SectorsAreSaid }
 {
     rules_are_read();
     plans_are_right();
+    sectors_have_one_line();
+    sectors_lie_in_images();
+    sectors_fill_tracks();
+    tracks_fill_images()
+}
+
+/// The report of such a disk has one line for each sector of the tracks that were read, and the total line where all were. It has
+/// no other line, and where a sector's line is among them, that sector has the verdict that the line names, with the sources and
+/// the places, by the strict rule. So a line that says good names a capture, a clock, a turn and a place whose cells hold the
+/// sector with the bytes that the image has at the sector's place.
+pub fn planned_lines_tell()
+    ensures count { PlannedReportsHaveNoOtherLines }
+    ensures short { InputsAreShort }
+    ensures told { LinesTellInPlans }
+    ensures good { GoodLinesAreRight }
+{
+    tracks_are_read();
+    rules_are_read();
+    plans_are_right();
+    growth_law();
+    cells_are_few();
+    sectors_have_one_line();
+    totals_have_one_line();
+    sector_lines_tell();
+    tracks_keep_bounds();
     sectors_lie_in_images();
     sectors_fill_tracks();
     tracks_fill_images()
@@ -48,6 +78,7 @@ pub fn captured_plans_are_read()
     captures_are_recovered();
     steady_captures_are_recovered();
     plans_are_right();
+    sectors_have_one_line();
     sectors_lie_in_images();
     sectors_fill_tracks();
     tracks_fill_images()

@@ -1,12 +1,28 @@
 -- The parts of a disk, and one track more.
-use Rattle.std.specs.Prelude.{◌≡◌, ℕ, ◌+◌, List, [], ◌∷◌, ◌++◌, sum_by}
-use Rattle.std.proofs.Common.{ap, ◌∙◌, arith, append-nil}
+use Rattle.std.specs.Prelude.{◌≡◌, ◌<◌, ℕ, suc, ◌+◌, List, [], ◌∷◌, ◌++◌, drop, length, sum_by, take}
+use Rattle.std.proofs.Common.{ap, sym, ◌∙◌, arith, append-nil}
+use Rattle.std.proofs.Math.Seq.{drop-cons}
+use Rattle.std.proofs.lemmas.List.{take-append-drop}
 use Rattle.std.proofs.lemmas.List.Concat.{flat_map-append}
 use Rattle.std.proofs.lemmas.List.Sums.{sum_by-append}
 use Rattle.sector_report.specs.declared.totals.Totals.{Totals}
-use Rattle.flux_engine.specs.Disks.{images, lines, totals_over}
+use Rattle.flux_engine.specs.Disks.{images, lines, no_totals, part_at, totals_over}
 use Rattle.flux_engine.specs.Tracks.{TrackPart}
 use Rattle.flux_engine.specs.Writing.{sum_of}
+
+abbrev pub no_part : TrackPart
+no_part = record { image = []; lines = []; totals = no_totals }
+
+-- a list of parts up to one, that one and the others
+module _ (ps : List TrackPart) (n : ℕ) (low : n < length ps) where
+  parts_split : ps ≡ take n ps ++ (part_at ps n ∷ drop (suc n) ps)
+  parts_split = sym (take-append-drop n ps) ∙ ap (λ (qs : List TrackPart). take n ps ++ qs) (drop-cons ps n no_part low)
+
+  pub image_split : images ps ≡ images (take n ps) ++ ((part_at ps n).image ++ images (drop (suc n) ps))
+  image_split = ap images parts_split ∙ flat_map-append (λ (p : TrackPart). p.image) (take n ps) (part_at ps n ∷ drop (suc n) ps)
+
+  pub lines_split : lines ps ≡ lines (take n ps) ++ ((part_at ps n).lines ++ lines (drop (suc n) ps))
+  lines_split = ap lines parts_split ∙ flat_map-append (λ (p : TrackPart). p.lines) (take n ps) (part_at ps n ∷ drop (suc n) ps)
 
 -- parts of the image, lines and totals of one track more
 pub images-more : (parts : List TrackPart) (part : TrackPart) → images (parts ++ part ∷ []) ≡ images parts ++ part.image

@@ -14,6 +14,12 @@ laws g c = record {
   steady = c.steady_disks_are_rescued.ensures.whole;
   steady_erased = c.steady_disks_are_rescued.ensures.erased;
   files = c.written_files_come_back.ensures;
+  disk_lines = c.lines_tell_verdicts.ensures.told;
+  disk_good = c.good_is_right_on_disks.ensures.good;
+  short = c.planned_lines_tell.ensures.short;
+  plan_lines = c.planned_lines_tell.ensures.good;
+  file_lines = c.file_lines_tell.ensures.told;
+  file_good = c.good_is_right_in_files.ensures;
   trials = c.whole_trials_have_one_line.ensures;
 }
 

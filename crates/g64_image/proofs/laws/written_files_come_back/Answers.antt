@@ -19,4 +19,4 @@ returns c =
       joined = c.tracks_fill_images.ensures.joined;
       filled = c.tracks_fill_images.ensures.filled;
     })
-    c.tracks_are_read.ensures c.written_files_have_rings.ensures.none c.written_files_have_rings.ensures.rings
+    c.tracks_are_read.ensures c.file_lines_tell.ensures.lines c.written_files_have_rings.ensures.none c.written_files_have_rings.ensures.rings

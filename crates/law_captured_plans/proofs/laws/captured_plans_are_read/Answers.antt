@@ -60,6 +60,7 @@ laws c = record {
     names = c.sectors_lie_in_images.ensures.numbers;
     fill = c.sectors_fill_tracks.ensures.sectors;
     joined = c.tracks_fill_images.ensures.joined;
+    one = c.sectors_have_one_line.ensures;
   };
   said = c.planned_sectors_are_said.ensures;
   stays = c.plans_are_right.ensures.stays;

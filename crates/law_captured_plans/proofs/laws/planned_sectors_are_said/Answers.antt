@@ -8,4 +8,5 @@ returns c = sectors_are_said (record {
   names = c.sectors_lie_in_images.ensures.numbers;
   fill = c.sectors_fill_tracks.ensures.sectors;
   joined = c.tracks_fill_images.ensures.joined;
+  one = c.sectors_have_one_line.ensures;
 })

@@ -1,5 +1,5 @@
 -- The numbers of the lines in a disk's notes.
-use Rattle.std.specs.Prelude.{◌≡◌, ◌==◌, ◌≤◌, ◌<◌, ℕ, zero, suc, ◌+◌, Bool, true, false, cond, List, [], ◌∷◌, ◌++◌, All, length, take, flat_map, get_or, slice_get, sum_by, refl}
+use Rattle.std.specs.Prelude.{◌≡◌, ◌==◌, ◌≤◌, ◌<◌, ℕ, zero, suc, ◌+◌, ◌-◌, Bool, true, false, cond, List, [], ◌∷◌, ◌++◌, All, drop, length, take, flat_map, get_or, slice_get, sum_by, refl}
 use Rattle.std.specs.List.{range_with_len}
 use Rattle.std.proofs.Common.{ap, sym, subst, ◌∙◌, arith, append_assoc, append-nil}
 use Rattle.std.proofs.Math.Seq.{take-suc}
@@ -9,19 +9,19 @@ use Rattle.std.proofs.lemmas.List.Splits.{slice_split_at}
 use Rattle.std.proofs.lemmas.List.Sums.{sum_by-append, sum_by-cons}
 use Rattle.std.proofs.lemmas.Option.{unwrap_or-slice_get}
 use Rattle.flux_base.specs.declared.track.TrackId.{TrackId}
-use Rattle.kryo_stream.specs.Stream.{times, indexes}
-use Rattle.sector_images.specs.Formats.{zone}
-use Rattle.sector_images.specs.Places.{tracks}
+use Rattle.sector_images.specs.Formats.{row, zone}
+use Rattle.sector_images.specs.Places.{IsSector, tracks}
 use Rattle.sector_images.specs.declared.format.Format.{Format}
 use Rattle.sector_report.specs.LineLaws.{IsOneLine, SectorsHaveOneLine, line_ends}
 use Rattle.turn_merge.specs.Readings.{NotedReading, verdict}
-use Rattle.flux_engine.specs.DiskLaws.{lines_in}
-use Rattle.flux_engine.specs.Disks.{AreParts, lines, part_at}
-use Rattle.flux_engine.specs.Recordings.{cells_of, sectors_of, track_at}
-use Rattle.flux_engine.specs.Streams.{stream_at}
-use Rattle.sector_report.specs.declared.naming.Naming.TheVariants.{Unnamed}
-use Rattle.flux_engine.specs.Tracks.{IsPart, TrackPart, line_of, lines_by, readings_of}
-use Rattle.flux_engine.proofs.DiskParts.{no_part}
+use Rattle.sector_report.specs.Lines.{named_text}
+use Rattle.sector_report.specs.declared.naming.Naming.{Naming}
+use Rattle.flux_engine.specs.DiskLaws.{HasLine, line_number, lines_in}
+use Rattle.flux_engine.specs.Disks.{lines, part_at}
+use Rattle.flux_engine.specs.Recordings.{sectors_of, track_at}
+use Rattle.flux_engine.specs.Tracks.{TrackPart, line_by, lines_by}
+use Rattle.flux_engine.specs.lemmas.PartLaws.{lines_split, no_part}
+use Rattle.flux_engine.specs.lemmas.Pieces.{pieces-at}
 
 -- so many lines stand in front of whatever follows the text, which has as many line ends
 pub record Skips (text : List ℕ) (n : ℕ) : Type 0 where
@@ -101,21 +101,26 @@ sectors-more format n low =
     ∙ sum_by-append (sectors_on format) (take n ts) (get_or ts n first_track ∷ [])
     ∙ ap (λ (m : ℕ). sum_by (sectors_on format) (take n ts) + m) (one_track ∙ ap (sectors_on format) here)
 
-module _ (one : SectorsHaveOneLine) where
+-- a line in the middle of a part of a text
+line_in : (lt a line b rest last : List ℕ) → (lt ++ ((a ++ (line ++ b)) ++ rest)) ++ last ≡ (lt ++ a) ++ (line ++ (b ++ (rest ++ last)))
+line_in lt a line b rest last = simp append_assoc
+
+-- the parts of the first tracks, each with the lines of its sectors by these readings
+module _ (one : SectorsHaveOneLine) (format : Format) (ps : List TrackPart) (few : length ps ≤ length (tracks format)) (naming : Naming)
+    (readings : (n : ℕ) → n < length ps → List NotedReading)
+    (are : (n : ℕ) (low : n < length ps) → (part_at ps n).lines ≡ lines_by naming (track_at format n) (sectors_of format (track_at format n)) (readings n low)) where
   -- a track has a line for each of its sectors
-  skips-track : (format : Format) (track : TrackId) (times' indexes' : List ℕ) (part : TrackPart) → IsPart format track times' indexes' part
-      → Skips part.lines (sectors_on format track)
+  skips-track : (n : ℕ) → n < length ps → Skips (part_at ps n).lines (sectors_on format (track_at format n))
   unfolding lines_by
-  skips-track format track times' indexes' part is =
-      let readings : List NotedReading = readings_of times' indexes' (cells_of format track times' indexes') is.found in
-      subst (λ (p : TrackPart). Skips p.lines (sectors_on format track)) (sym is.is)
-      (skips-lines (line_of track readings) (λ k. one Unnamed track k (verdict readings k)) (sectors_of format track).first (sectors_of format track).count)
+  skips-track n low =
+      let track : TrackId = track_at format n in
+      subst (λ (text : List ℕ). Skips text (sectors_on format track)) (sym (are n low))
+      (skips-lines (line_by naming track (readings n low)) (λ k. one naming track k (verdict (readings n low) k)) (sectors_of format track).first (sectors_of format track).count)
 
   -- the first tracks have a line for each of their sectors
-  pub skips-tracks : (format : Format) (x : List ℕ) (ps : List TrackPart) → AreParts format x ps → length ps ≤ length (tracks format)
-      → (n : ℕ) → n ≤ length ps → Skips (lines (take n ps)) (sum_by (sectors_on format) (take n (tracks format)))
-  skips-tracks format x ps are few zero low = skips-nil
-  skips-tracks format x ps are few (suc n) low =
+  pub skips-tracks : (n : ℕ) → n ≤ length ps → Skips (lines (take n ps)) (sum_by (sectors_on format) (take n (tracks format)))
+  skips-tracks zero low = skips-nil
+  skips-tracks (suc n) low =
       let ts : List TrackId = tracks format in
       let within : n < length ps = omega (arith, low) in
       let count : sum_by (sectors_on format) (take n ts) + sectors_on format (track_at format n) ≡ sum_by (sectors_on format) (take (suc n) ts) =
@@ -127,5 +132,46 @@ module _ (one : SectorsHaveOneLine) where
       subst (λ (l : List ℕ). Skips l (sum_by (sectors_on format) (take (suc n) ts))) text
       (subst (Skips (lines (take n ps) ++ (part_at ps n).lines)) count
       (skips-append (lines (take n ps)) (part_at ps n).lines (sum_by (sectors_on format) (take n ts)) (sectors_on format (track_at format n))
-      (skips-tracks format x ps are few n (omega (arith, within)))
-      (skips-track format (track_at format n) (times (stream_at x n)) (indexes (stream_at x n)) (part_at ps n) (are n within).comes)))
+      (skips-tracks n (omega (arith, within))) (skips-track n within)))
+
+  -- each sector has its line at its number, whatever follows
+  pub sector-line : (last : List ℕ) (n : ℕ) (low : n < length ps) (sector : ℕ) → IsSector format (track_at format n) sector
+      → HasLine (lines ps ++ last) (named_text naming (track_at format n) sector (verdict (readings n low) sector)) (line_number format n sector)
+  unfolding lines_by
+  sector-line last n low sector known =
+      let track : TrackId = track_at format n in
+      let first : ℕ = (row format).first_sector in
+      let count : ℕ = (sectors_of format track).count in
+      let i : ℕ = sector - first in
+      let here : first + i ≡ sector = omega (arith, known.0) in
+      let few_before : i < count = omega (arith, known.0, known.1) in
+      let line_at : ℕ → List ℕ = line_by naming track (readings n low) in
+      let line : List ℕ = line_at sector in
+      let earlier : List ℕ = flat_map line_at (range_with_len first i) in
+      let later : List ℕ = flat_map line_at (range_with_len (first + i + 1) (count - i - 1)) in
+      let mine : (part_at ps n).lines ≡ earlier ++ (line ++ later) =
+      are n low ∙ pieces-at line_at first i count few_before ∙ ap (λ (k : ℕ). earlier ++ (line_at k ++ later)) here in
+      let rest : List ℕ = lines (drop (suc n) ps) in
+      let before : List ℕ = lines (take n ps) ++ earlier in
+      let after : List ℕ = later ++ (rest ++ last) in
+      let split : lines ps ++ last ≡ before ++ (line ++ after) =
+      ap (λ (xs : List ℕ). xs ++ last) (lines_split ps n low ∙ ap (λ (l : List ℕ). lines (take n ps) ++ (l ++ rest)) mine)
+      ∙ line_in (lines (take n ps)) earlier line later rest last in
+      let mine_is_one : IsOneLine line = one naming track sector (verdict (readings n low) sector) in
+      let number : ℕ = line_number format n sector in
+      let skipped : Skips before number =
+      skips-append (lines (take n ps)) earlier (sum_by (sectors_on format) (take n (tracks format))) i (skips-tracks n (omega (arith, low)))
+      (skips-lines line_at (λ k. one naming track k (verdict (readings n low) k)) first i) in
+      let first_of_rest : number ≡ number + 0 = omega arith in
+      record {
+        before = before;
+        after = after;
+        is = split;
+        front = mine_is_one.front;
+        ends = mine_is_one.ends;
+        there =
+            ap (λ (text : List ℕ). slice_get (lines_in text) number) split
+            ∙ ap (slice_get (lines_in (before ++ (line ++ after)))) first_of_rest
+            ∙ skipped.skips (line ++ after) 0
+            ∙ ap (λ (ls : List (List ℕ)). slice_get ls 0) (line-first line after mine_is_one);
+      }
