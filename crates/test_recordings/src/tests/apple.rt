@@ -1,14 +1,16 @@
 //! Apple's disks.
+mod others;
+
 use super::frames::{
-    HandMade, Other, Row, Search, assert_found, assert_found_in_cut, assert_others, assert_read,
-    push_cells, push_gap, push_part,
+    HandMade, Row, Search, assert_found, assert_found_in_cut, assert_read, push_cells, push_gap,
+    push_part,
 };
 use super::rings::{
     Numbers, Word, assert_found_in_joined, assert_sectors, assert_words, read_back,
 };
 use apple_gcr::AppleGcr;
 use cell_bits::Cells;
-use flux_base::{HeaderName, Memory, TrackId};
+use flux_base::{Memory, TrackId};
 use frame_law::{Reading, Recording, SectorBuffer};
 use std::alloc::{AllocError, Global};
 use std::process::Abort;
@@ -308,53 +310,6 @@ const FRAMES: &[Row<Frame>] = &[
         BAD,
     ),
 ];
-
-/// Volume 254, track 1, sector 7: the check value is F8.
-const TRACK_1: Frame = Frame {
-    address: (0xFFFE_AAAB, 0xABAF_FEFA),
-    ..PLAIN
-};
-
-const OTHERS: &[Other<Frame>] = &[
-    (
-        "track 1",
-        TRACK_1,
-        HeaderName::TrackSector {
-            track: 1,
-            sector: 7,
-        },
-        true,
-    ),
-    (
-        "track 1, and one nibble of the data is another",
-        Frame {
-            changed: (0, 0x97),
-            ..TRACK_1
-        },
-        HeaderName::TrackSector {
-            track: 1,
-            sector: 7,
-        },
-        false,
-    ),
-    (
-        "sector 16, check value EE",
-        Frame {
-            address: (0xFFFE_AAAA, 0xAABA_FFEE),
-            ..PLAIN
-        },
-        HeaderName::TrackSector {
-            track: 0,
-            sector: 16,
-        },
-        true,
-    ),
-];
-
-#[test]
-fn tells_headers_of_no_sector(rt: HostRuntime) -> Result<(), Fail> {
-    assert_others(&rt, rt.alloc(), &AppleGcr::STRICT, TRACK, OTHERS)
-}
 
 #[test]
 fn reads_frames_made_by_hand(rt: HostRuntime) -> Result<(), Fail> {

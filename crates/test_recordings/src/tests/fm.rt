@@ -1,7 +1,9 @@
 //! The IBM 3740 diskette and Acorn's disks.
+mod others;
+
 use super::frames::{
-    HandMade, Other, Rewritten, Row, Search, assert_found, assert_found_in_cut, assert_others,
-    assert_read, assert_rewritten, push_cells,
+    HandMade, Rewritten, Row, Search, assert_found, assert_found_in_cut, assert_read,
+    assert_rewritten, push_cells,
 };
 use super::rings::{
     Numbers, assert_data_bytes, assert_found_in_joined, assert_words, filled_ring,
@@ -9,7 +11,7 @@ use super::rings::{
 };
 use cell_bits::{Cells, FM_DATA_MARK, FM_DELETED_DATA_MARK, FM_ID_MARK, FM_INDEX_MARK};
 use check_values::{Crc16, crc16};
-use flux_base::{HeaderName, Memory, TrackId};
+use flux_base::{Memory, TrackId};
 use frame_law::Reading;
 use ibm_fm::IbmFm;
 use std::test::Fail;
@@ -289,154 +291,6 @@ const REWRITTEN: &[Rewritten<Frame>] = &[
 #[test]
 fn reads_data_that_were_written_again(rt: HostRuntime) -> Result<(), Fail> {
     assert_rewritten(&rt, rt.alloc(), &DISK, TRACK, REWRITTEN)
-}
-
-const OTHERS: &[Other<Frame>] = &[
-    (
-        "another cylinder",
-        Frame {
-            cylinder: 5,
-            ..PLAIN
-        },
-        HeaderName::Address {
-            cylinder: 5,
-            head: 0,
-            sector: 7,
-            size_code: 0,
-        },
-        true,
-    ),
-    (
-        "another cylinder, and another check value of the data",
-        Frame {
-            cylinder: 5,
-            data_error: 1,
-            ..PLAIN
-        },
-        HeaderName::Address {
-            cylinder: 5,
-            head: 0,
-            sector: 7,
-            size_code: 0,
-        },
-        false,
-    ),
-    (
-        "sector 27",
-        Frame {
-            sector: 27,
-            ..PLAIN
-        },
-        HeaderName::Address {
-            cylinder: 0,
-            head: 0,
-            sector: 27,
-            size_code: 0,
-        },
-        true,
-    ),
-    (
-        "code 3, and 1024 bytes",
-        Frame {
-            size: 3,
-            bytes: 1024,
-            ..PLAIN
-        },
-        HeaderName::Address {
-            cylinder: 0,
-            head: 0,
-            sector: 7,
-            size_code: 3,
-        },
-        true,
-    ),
-    (
-        "code 3, and 128 bytes",
-        Frame { size: 3, ..PLAIN },
-        HeaderName::Address {
-            cylinder: 0,
-            head: 0,
-            sector: 7,
-            size_code: 3,
-        },
-        false,
-    ),
-    (
-        "code 4, of which no data are read",
-        Frame {
-            size: 4,
-            bytes: 2048,
-            ..PLAIN
-        },
-        HeaderName::Address {
-            cylinder: 0,
-            head: 0,
-            sector: 7,
-            size_code: 4,
-        },
-        false,
-    ),
-    (
-        "no data within reach",
-        Frame {
-            cylinder: 5,
-            gap: 1024,
-            ..PLAIN
-        },
-        HeaderName::Address {
-            cylinder: 5,
-            head: 0,
-            sector: 7,
-            size_code: 0,
-        },
-        false,
-    ),
-];
-
-#[test]
-fn tells_headers_of_no_sector(rt: HostRuntime) -> Result<(), Fail> {
-    assert_others(&rt, rt.alloc(), &DISK, TRACK, OTHERS)
-}
-
-/// A header, and a frame of another after it.
-struct HeaderBefore(Frame);
-
-impl HandMade for HeaderBefore {
-    fn push(&self, cells: &mut Cells) -> Result<(), Memory> {
-        push_header(cells, &PLAIN)?;
-        self.0.push(cells)
-    }
-}
-
-/// A header whose check value is right ends the search, whatever it names; any other is a false mark.
-const BEFORE_HEADERS: &[Rewritten<HeaderBefore>] = &[
-    (
-        "sector 8's data",
-        HeaderBefore(Frame { sector: 8, ..PLAIN }),
-        None,
-    ),
-    (
-        "data of a header that names no sector",
-        HeaderBefore(Frame {
-            sector: 66,
-            ..PLAIN
-        }),
-        None,
-    ),
-    (
-        "data behind another check value",
-        HeaderBefore(Frame {
-            sector: 66,
-            header_error: 1,
-            ..PLAIN
-        }),
-        Some(496),
-    ),
-];
-
-#[test]
-fn data_belong_to_the_nearest_header(rt: HostRuntime) -> Result<(), Fail> {
-    assert_rewritten(&rt, rt.alloc(), &DISK, TRACK, BEFORE_HEADERS)
 }
 
 /// A frame's header without its data.

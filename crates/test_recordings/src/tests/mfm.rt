@@ -1,7 +1,8 @@
 //! The PC's disks, the Atari ST's and the Amstrad CPC's.
+mod others;
+
 use super::frames::{
-    HandMade, Other as OtherRow, Row, Search, assert_found, assert_found_in_cut, assert_others,
-    assert_read, push_gap,
+    HandMade, Row, Search, assert_found, assert_found_in_cut, assert_read, push_gap,
 };
 use super::rings::{
     Numbers, Word, assert_data_bytes, assert_found_in_joined, assert_words, filled_ring,
@@ -9,7 +10,7 @@ use super::rings::{
 };
 use cell_bits::{Cells, MFM_A1_MARK, MFM_C2_MARK};
 use check_values::{Crc16, crc16};
-use flux_base::{HeaderName, Memory, TrackId};
+use flux_base::{Memory, TrackId};
 use frame_law::{Reading, Recording, SectorBuffer};
 use ibm_mfm::IbmMfm;
 use std::process::Abort;
@@ -248,96 +249,6 @@ const FRAMES: &[Row<Frame>] = &[
         BAD,
     ),
 ];
-
-const OTHERS: &[OtherRow<Frame>] = &[
-    (
-        "head 1",
-        Frame { head: 1, ..PLAIN },
-        HeaderName::Address {
-            cylinder: 0,
-            head: 1,
-            sector: 7,
-            size_code: 2,
-        },
-        true,
-    ),
-    (
-        "head 1, and F9 as the first byte of the data",
-        Frame {
-            head: 1,
-            first: 0xF9,
-            ..PLAIN
-        },
-        HeaderName::Address {
-            cylinder: 0,
-            head: 1,
-            sector: 7,
-            size_code: 2,
-        },
-        false,
-    ),
-    (
-        "code 0, and 128 bytes",
-        Frame {
-            size: 0,
-            bytes: 128,
-            ..PLAIN
-        },
-        HeaderName::Address {
-            cylinder: 0,
-            head: 0,
-            sector: 7,
-            size_code: 0,
-        },
-        true,
-    ),
-    (
-        "code 3, and 1024 bytes",
-        Frame {
-            size: 3,
-            bytes: 1024,
-            ..PLAIN
-        },
-        HeaderName::Address {
-            cylinder: 0,
-            head: 0,
-            sector: 7,
-            size_code: 3,
-        },
-        true,
-    ),
-    (
-        "code 3, and 512 bytes",
-        Frame { size: 3, ..PLAIN },
-        HeaderName::Address {
-            cylinder: 0,
-            head: 0,
-            sector: 7,
-            size_code: 3,
-        },
-        false,
-    ),
-    (
-        "code 4, of which no data are read",
-        Frame {
-            size: 4,
-            bytes: 2048,
-            ..PLAIN
-        },
-        HeaderName::Address {
-            cylinder: 0,
-            head: 0,
-            sector: 7,
-            size_code: 4,
-        },
-        false,
-    ),
-];
-
-#[test]
-fn tells_headers_of_no_sector(rt: HostRuntime) -> Result<(), Fail> {
-    assert_others(&rt, rt.alloc(), &DISK, TRACK, OTHERS)
-}
 
 #[test]
 fn reads_frames_made_by_hand(rt: HostRuntime) -> Result<(), Fail> {
