@@ -94,7 +94,7 @@ def ibm_mfm_sector(chance, kinds, cylinder, head, number, data):
 
 
 def amiga_sector(chance, kinds, cylinder, head, number, data):
-    info, label, checks = [0xFF, 2 * cylinder + head, number, 11 - number], bytes(16), [0, 0]
+    info, label, checks = [0xFF, 2 * cylinder + head, number, (11 - number) % 256], bytes(16), [0, 0]
     if one_in(chance, 6):
         field = chance.randrange(4)
         info[field] = chance.choice([info[field] ^ 1, 11, 0, 255])
