@@ -1,4 +1,4 @@
-"""Runs a program over generated cases, and compares its answers with the plain reading of the definitions in modules/plain.py.
+"""Runs a program over generated cases, and compares its answers with the plain reading of the definitions in modules/plain*.py.
 
 The exit code and the bytes of standard output and standard error have to be the same. Cases are made from a seed and their number,
 so that each can be made again. The smallest input that differs is kept, with both answers.
@@ -14,14 +14,15 @@ import os
 import pathlib
 import random
 import re
+import shutil
 import signal
 import sys
 import tempfile
 import time
 
 import cases
-import plain
-from programs import commands_of, run
+import plain_commands
+from programs import commands_of, put, run
 
 
 def options():
@@ -41,7 +42,7 @@ def one(task):
     program, seed, number, usage, built, work = task
     chance = random.Random(f"{seed} {number}")
     name, words, data, kinds = cases.make(chance, built)
-    wanted = plain.outcome(words, data, built, usage)
+    wanted = plain_commands.outcome(words, data, built, usage)
     got = run(program, words, data, work if number % 2 == 0 or isinstance(data, dict) else None)
     return number, name, kinds, answer_of(words, wanted), (words, data, wanted, got) if wanted != got else None
 
@@ -56,18 +57,20 @@ def answer_of(words, wanted):
         found.append("refused: " + next((part for part in fault if part[0].isupper()), "image"))
     text = (out if words and words[0] in (b"report", b"map") else notes).decode()
     verdicts = re.findall(r"(?:^|<title>)[0-9]{2}\.[01] [0-9]{2,3} ([a-z]+) ", text, re.MULTILINE)
-    return found + sorted({"verdict " + verdict for verdict in verdicts})
+    others = re.findall(r"^[0-9]{2}\.[01] (other|dump [0-9] [a-z]+) ", text, re.MULTILINE)
+    return found + sorted({"verdict " + verdict for verdict in verdicts} | {"line " + re.sub("[0-9]", "N", other) for other in others})
 
 
 def size_of(data):
-    return sum(map(len, data.values())) if isinstance(data, dict) else len(data)
+    return sum(len(content or b"") for content in data.values()) if isinstance(data, dict) else len(data)
 
 
 def keep(folder, number, words, data, wanted, got):
     folder = pathlib.Path(folder)
     folder.mkdir(parents=True, exist_ok=True)
-    for name, content in (data if isinstance(data, dict) else {"input": data}).items():
-        (folder / name).write_bytes(content)
+    shutil.rmtree(folder / "files", ignore_errors=True)
+    for path, content in (data if isinstance(data, dict) else {"input": data}).items():
+        put(folder / "files" / os.fsdecode(path), content)
     (folder / "words").write_text(f"case {number}: {words}\n")
     for name, (code, out, notes) in (("wanted", wanted), ("got", got)):
         (folder / f"{name}.code").write_text(f"{code}\n")

@@ -14,6 +14,7 @@ import subprocess
 import sys
 
 import plain
+import plain_commands
 from case_streams import FILLER
 from case_tracks import drifting, with_burst, written_track
 from plain_streams import Stream, places_of_ones, stream_of_times
@@ -48,7 +49,7 @@ def show(program, name, form, stream, holds):
     if program:
         data = stream + FILLER * (len(form.tracks) - 1)
         done = subprocess.run([os.path.abspath(program), "rescue", form.word], input=data, capture_output=True)
-        same = (done.returncode, done.stdout, done.stderr) == plain.decode(form, data, both_clocks=True)
+        same = (done.returncode, done.stdout, done.stderr) == plain_commands.decode(form, data, both_clocks=True)
     if not (said and same):
         failed.append(name)
     total = sum(both.values())

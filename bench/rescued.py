@@ -10,6 +10,7 @@ import subprocess
 import sys
 
 import plain
+import plain_commands
 from case_streams import FILLER
 from plain_recordings import AmigaMfm, IbmMfm
 from plain_streams import Stream, stream_of_times
@@ -102,7 +103,7 @@ def same(program, form, stream):
     data = stream + FILLER * (len(form.tracks) - 1)
     for command, both in (("decode", False), ("rescue", True)):
         done = subprocess.run([os.path.abspath(program), command, form.word], input=data, capture_output=True)
-        if (done.returncode, done.stdout, done.stderr) != plain.decode(form, data, both_clocks=both):
+        if (done.returncode, done.stdout, done.stderr) != plain_commands.decode(form, data, both_clocks=both):
             return False
     return True
 

@@ -2,6 +2,8 @@
 import struct
 
 import plain
+import plain_commands
+from case_dumps import case_folder, case_identify, case_read, few
 from case_streams import FILLER, SHORTEST, faulty, few_blocks, one_in, spell, too_long
 from case_tracks import noisy_track, random_data, track_stream, whole_track
 from plain import FORMATS
@@ -19,13 +21,6 @@ def any_bytes(chance, kinds):
         return b""
     kinds.add("bytes after the last stream")
     return chance.choice([b"\r" * chance.randrange(40), chance.randbytes(chance.randrange(6000))])
-
-
-def few(chance, kinds):
-    blocks = few_blocks(chance, kinds)
-    if one_in(chance, 3):
-        return b"".join(spell(blocks))
-    return faulty(chance, blocks, kinds)
 
 
 def case_turns(chance, kinds, built):
@@ -126,7 +121,7 @@ def case_noise(chance, kinds, built):
 
 def case_wrong_size(chance, kinds, built):
     form = chance.choice(list(FORMATS.values()))
-    commands = [b"write"] + [b"to-g64"] * (b"to-g64" in built and plain.commodore(form))
+    commands = [b"write"] + [b"to-g64"] * (b"to-g64" in built and plain_commands.commodore(form))
     right, another = form.image_bytes, chance.choice(list(FORMATS.values())).image_bytes
     size = chance.choice([0, 1, right - 1, right + 1, right + 2, right + 100000, right // 2, another])
     if size == right > 200000:
@@ -138,7 +133,7 @@ def case_wrong_size(chance, kinds, built):
 def case_write(chance, kinds, built):
     small = ["c1541", "c1541-40", "apple-do", "apple-po"]
     form = FORMATS[chance.choice(small * 8 + list(FORMATS))]
-    commands = [b"write"] + [b"to-g64"] * (b"to-g64" in built and plain.commodore(form))
+    commands = [b"write"] + [b"to-g64"] * (b"to-g64" in built and plain_commands.commodore(form))
     kinds |= {f"format {form.word}", "image of the size"}
     return [chance.choice(commands), form.word.encode()], random_data(chance, form.image_bytes)
 
@@ -148,7 +143,7 @@ def case_words(chance, kinds, built):
     kinds.add("words")
     form = chance.choice(list(FORMATS)).encode()
     command = chance.choice([b"turns", b"decode", b"report", b"write", b"trial", b"to-g64", b"from-g64", b"decode-set", b"rescue",
-                             b"map", b"TURNS", b"", b"-x"])
+                             b"map", b"read", b"identify", b"TURNS", b"", b"-x"])
     number = chance.choice([b"1", b"", b"4294967296", b"99999999999", b"00000000001", b"+1", b"-1", b" 1", b"1 ", b"0x1", b"1.0", "\u0661".encode(),
                             b"17", b"0", b"00", b"016", b"1a"])
     words = chance.choice([
@@ -156,10 +151,10 @@ def case_words(chance, kinds, built):
         [command, form.upper()], [command, form + b" "], [command, form[:-1]], [command, form + b"0"], [command, b"ibm-" + form], [form],
         [command, b""], [form, command], [command + b" " + form], [command + b"s", form], [command[:-1], form], [command, b"amiga\n"],
         [command, "amig\u00e4".encode()], [command, b"\xff"], [b"\x80turns"], [command, form, b"\xc3"]])
-    if not all(map(plain.is_text, words)):
+    if not all(map(plain_commands.is_text, words)):
         kinds.add("words that are no text")
     data = FILLER * chance.randrange(3)
-    if len(words) == 3 and words[0] == b"trial" and plain.is_number(words[2], 10, 0, 2**32 - 1):
+    if len(words) == 3 and words[0] == b"trial" and plain_commands.is_number(words[2], 10, 0, 2**32 - 1):
         words = words[:2]          # a right trial is a case of its own
     return words, data
 
@@ -229,25 +224,6 @@ def g64_with_fault(chance, kinds, data):
     return data
 
 
-def case_folder(chance, kinds, built):
-    """The files of a dump, by their names: a track or a few with sectors, sometimes one that is refused, missing or joined of two."""
-    form = FORMATS[chance.choice(list(FORMATS))]
-    kinds |= {f"format {form.word}", "a folder"}
-    names = [f"track{cylinder:02}.{head}.raw" for cylinder, head in form.tracks]
-    files = dict.fromkeys(names, FILLER)
-    at = chance.randrange(len(names))
-    files[names[at]] = track_stream(chance, kinds, form, at) if one_in(chance, 2) else few(chance, kinds)
-    if one_in(chance, 3):
-        kinds.add("files missing")
-        for name in chance.sample(names, chance.choice([1, 2, len(names)])):
-            del files[name]
-    if one_in(chance, 3):
-        kinds.add("files of other names")
-        for name in ("track00.2.raw", "track99.0.raw", "track0.0.raw", "TRACK00.0.RAW", "notes"):
-            files[name] = few(chance, kinds)
-    return [b"decode-folder", form.word.encode(), b"FOLDER"], files
-
-
 # The kinds of cases: name, how many in ten thousand, how one is made, the command that it needs.
 TABLE = [
     ("words", 700, case_words, None),
@@ -262,6 +238,8 @@ TABLE = [
     ("images that are written", 30, case_write, None),
     ("G64 files", 150, case_g64, b"from-g64"),
     ("folders", 200, case_folder, b"decode-folder"),
+    ("dumps", 300, case_read, b"read"),
+    ("dumps to be named", 30, case_identify, b"identify"),
     ("trials", 8, case_trial, b"trial"),
 ]
 

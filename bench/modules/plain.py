@@ -1,14 +1,12 @@
 """What flux is to answer, read off the definitions as plainly as they stand: slow, of whole lists, one sentence a line.
 
-It shares nothing with the program. `outcome(words, input, ..)` gives the exit code and the bytes for standard output and for standard
-error. Streams are read in plain_streams.py, sectors in plain_recordings.py, pictures are drawn in plain_map.py; here are formats, verdicts,
-lines and commands.
+It shares nothing with the program. Streams are read in plain_streams.py, sectors in plain_recordings.py, files of dumps in plain_dumps.py,
+pictures are drawn in plain_map.py, and plain_commands.py has what words come to; here are formats, verdicts, lines, trials and G64 files.
 """
 import bisect
 import itertools
 import struct
 
-from plain_map import picture
 from plain_recordings import AmigaMfm, AppleGcr, CommodoreGcr, IbmFm, IbmMfm, MacintoshGcr, places_of, word
 from plain_streams import LIMIT, Refused, Stream, number_at, padding_at, places_of_ones, recovered, stream_of_times
 
@@ -59,17 +57,16 @@ MAC_RINGS = lambda cylinder: MacintoshGcr.RINGS[cylinder // 16]
 IBM_3740 = IbmFm(first=1, count=26, size=128, code=0, gap=27, end_gap=247, index_mark=True)
 ACORN = IbmFm(first=0, count=10, size=256, code=1, gap=21, end_gap=9, index_mark=False)
 
+# in the order of the program's table
 FORMATS = {form.word: form for form in (
     Format("ibm-3740", IBM_3740, 77, 1, always(49208), always(83328)),
     Format("ibm-360", IbmMfm(9, 80, 218), 40, 2, always(49208), always(100000)),
     Format("ibm-720", IbmMfm(9, 80, 218), 80, 2, always(49208), always(100000)),
     Format("ibm-1440", IbmMfm(18, 108, 78), 80, 2, always(24604), always(200000)),
     Format("amiga", AmigaMfm(11, 266), 80, 2, always(49208), always(100000)),
-    Format("amiga-hd", AmigaMfm(22, 532), 80, 2, always(24604), always(200000)),
     Format("c1541", CommodoreGcr(), 35, 1, ZONE_CELLS, ZONE_RINGS),
-    Format("c1571", CommodoreGcr(), 35, 2, ZONE_CELLS, ZONE_RINGS, by_head=True),
-    Format("apple-do", AppleGcr(), 35, 1, always(98416), always(49994), DOS),
     Format("c1541-40", CommodoreGcr(), 40, 1, ZONE_CELLS, ZONE_RINGS),
+    Format("apple-do", AppleGcr(), 35, 1, always(98416), always(49994), DOS),
     Format("apple-po", AppleGcr(), 35, 1, always(98416), always(49994), PRODOS),
     Format("ibm-160", IbmMfm(8, 80, 872), 40, 1, always(49208), always(100000)),
     Format("ibm-180", IbmMfm(9, 80, 218), 40, 1, always(49208), always(100000)),
@@ -84,6 +81,8 @@ FORMATS = {form.word: form for form in (
     Format("apple-prodos", AppleGcr(waits=True), 35, 1, always(98416), always(49994), PRODOS),
     Format("mac-400", MacintoshGcr(1), 80, 1, MAC_CELLS, MAC_RINGS),
     Format("mac-800", MacintoshGcr(2), 80, 2, MAC_CELLS, MAC_RINGS),
+    Format("c1571", CommodoreGcr(), 35, 2, ZONE_CELLS, ZONE_RINGS, by_head=True),
+    Format("amiga-hd", AmigaMfm(22, 532), 80, 2, always(24604), always(200000)),
 )}
 
 
@@ -322,115 +321,3 @@ def from_g64(form, data):
         answer.track(k, [(f"0 {place}", sector, content) for place, sector, content in found])
     code = answer.end()
     return code, b"".join(answer.image), "".join(answer.lines).encode()
-
-
-# Runs
-
-USAGES = ["usage: flux turns | decode FORMAT | report FORMAT | write FORMAT | trial FORMAT SEED"]
-for more in (" | to-g64 FORMAT | from-g64 FORMAT", " | decode-set FORMAT COUNT", " | decode-folder FORMAT FOLDER"):
-    USAGES.append(USAGES[-1] + more)
-
-
-def is_number(text, digits, least, most):
-    return 1 <= len(text) <= digits and all(48 <= byte <= 57 for byte in text) and least <= int(text) <= most
-
-
-def decode(form, data, captures=None, both_clocks=False):
-    answer, refused = decoded(form, data, captures, both_clocks)
-    code = 2 if refused else answer.end()
-    return code, b"".join(answer.image), ("".join(answer.lines) + (refused or "")).encode()
-
-
-def report(form, data):
-    answer, refused = decoded(form, data)
-    code = 2 if refused else answer.end()
-    return code, "".join(answer.lines).encode(), (refused or "").encode()
-
-
-def drawn(form, data):
-    """The picture of the lines of all tracks before the first that is refused; it says why in the place of the total line."""
-    answer, refused = decoded(form, data)
-    lines = list(answer.lines)
-    code = 2 if refused else answer.end()
-    return code, picture(form, lines, refused or answer.lines[-1]).encode(), (refused or "").encode()
-
-
-def wrong_size(form, data):
-    return 2, b"", f"refused image {min(len(data), form.image_bytes + 1)} wanted {form.image_bytes}\n".encode()
-
-
-def write(form, data):
-    if len(data) != form.image_bytes:
-        return wrong_size(form, data)
-    rings = (form.ring_of(data, k) for k in range(len(form.tracks)))
-    return 0, b"".join(stream_of(ring, form.nominal(c)) for ring, (c, _) in zip(rings, form.tracks)), b""
-
-
-def to_g64(form, data):
-    return (0, g64_file(form, data), b"") if len(data) == form.image_bytes else wrong_size(form, data)
-
-
-def decode_folder(form, files):
-    """`files` has the bytes of a folder's files by their names."""
-    names = [f"track{cylinder:02}.{head}.raw" for cylinder, head in form.tracks]
-    for k, name in enumerate(names):
-        if name not in files:
-            return 2, b"", f"refused track {k} missing {name}\n".encode()
-    return decode(form, b"".join(files[name] for name in names))
-
-
-def turns(data):
-    try:
-        stream = Stream(data, 0)
-    except Refused as stop:
-        return 2, b"", f"refused track 0 {stop.text()}\n".encode()
-    lines = [f"transitions {len(stream.times)}\n"]
-    lines += [f"turn {n} {b - a}\n" for n, (a, b) in enumerate(zip(stream.indexes, stream.indexes[1:]), 1)]
-    return 0, "".join(lines).encode(), b""
-
-
-def any_format(form):
-    return True
-
-
-def commodore(form):
-    return isinstance(form.recording, CommodoreGcr)
-
-
-# What each word of a command wants after it, and what it gives: the formats that it takes, whether a last word is right, the answer.
-COMMANDS = {
-    b"decode": (any_format, None, lambda form, last, data: decode(form, data)),
-    b"report": (any_format, None, lambda form, last, data: report(form, data)),
-    b"rescue": (any_format, None, lambda form, last, data: decode(form, data, both_clocks=True)),
-    b"map": (any_format, None, lambda form, last, data: drawn(form, data)),
-    b"write": (any_format, None, lambda form, last, data: write(form, data)),
-    b"trial": (any_format, lambda last: is_number(last, 10, 0, 2**32 - 1),
-               lambda form, last, data: (0, trial_line(form, int(last)).encode(), b"")),
-    b"to-g64": (commodore, None, lambda form, last, data: to_g64(form, data)),
-    b"from-g64": (commodore, None, lambda form, last, data: from_g64(form, data)),
-    b"decode-set": (any_format, lambda last: is_number(last, 2, 1, 16), lambda form, last, data: decode(form, data, int(last))),
-    b"decode-folder": (any_format, lambda last: last != b"", lambda form, last, data: decode_folder(form, data)),
-}
-
-
-def is_text(data):
-    try:
-        data.decode()
-        return True
-    except UnicodeDecodeError:
-        return False
-
-
-def outcome(words, data, built, usage):
-    """The code and the bytes of standard output and standard error, of a program that has these commands and this usage line. For
-    `decode-folder` the files of the folder stand in place of the input."""
-    if not all(map(is_text, words)):
-        return 9, b"", b""
-    if words == [b"turns"]:
-        return turns(data)
-    if words and words[0] in COMMANDS and words[0] in built:
-        takes, last, answer = COMMANDS[words[0]]
-        form = FORMATS.get(words[1].decode()) if len(words) > 1 else None
-        if form and takes(form) and len(words) == (3 if last else 2) and (not last or last(words[2])):
-            return answer(form, words[2] if last else None, data)
-    return 3, b"", usage + b"\n"

@@ -5,24 +5,37 @@ import subprocess
 import sys
 import tempfile
 
-import plain
+import plain_commands
 
 
 def run(program, words, data, work=None):
-    """The program's code and bytes, over a pipe, or with a folder to work in over a file or over the files of a folder."""
+    """The program's code and bytes, over a pipe, or with a folder to work in over a file; or in a folder that has the files of a dictionary by
+    their paths, None for a folder."""
     if isinstance(data, dict):
         with tempfile.TemporaryDirectory(dir=work) as folder:
-            for name, content in data.items():
-                pathlib.Path(folder, name).write_bytes(content)
-            return run(program, [*words[:2], folder.encode()], b"")
-    command = [os.path.abspath(program).encode(), *words]
+            for path, content in data.items():
+                put(pathlib.Path(folder, os.fsdecode(path)), content)
+            return answer_of(program, words, subprocess.DEVNULL, folder)
     if work:
         with tempfile.TemporaryFile(dir=work) as source:
             source.write(data)
             source.seek(0)
-            done = subprocess.run(command, stdin=source, capture_output=True)
+            return answer_of(program, words, source)
+    done = subprocess.run([os.path.abspath(program).encode(), *words], input=data, capture_output=True)
+    return done.returncode, done.stdout, done.stderr
+
+
+def put(path, content):
+    """Makes a file, or a folder."""
+    path.parent.mkdir(parents=True, exist_ok=True)
+    if content is None:
+        path.mkdir()
     else:
-        done = subprocess.run(command, input=data, capture_output=True)
+        path.write_bytes(content)
+
+
+def answer_of(program, words, source, folder=None):
+    done = subprocess.run([os.path.abspath(program).encode(), *words], stdin=source, cwd=folder, capture_output=True)
     return done.returncode, done.stdout, done.stderr
 
 
@@ -32,14 +45,14 @@ PROBES = {b"decode": [b"ibm-3740"], b"report": [b"ibm-3740"], b"write": [b"ibm-3
           b"decode-folder": [b"apple-do", b"/nowhere"]}
 
 # The same of words that the usage line does not name.
-MORE_PROBES = {b"rescue": [b"apple-do"], b"map": [b"apple-do"]}
+MORE_PROBES = {b"rescue": [b"apple-do"], b"map": [b"apple-do"], b"read": [b"apple-do", b"/nowhere"], b"identify": [b"/nowhere"]}
 
 
 def commands_of(program):
     """The usage line, and the commands that it offers and that are built."""
     code, out, usage = run(program, [], b"")
     usage = usage.rstrip(b"\n")
-    if code != 3 or out or usage.decode() not in plain.USAGES:
+    if code != 3 or out or usage.decode() not in plain_commands.USAGES:
         sys.exit(f"no usage line of flux: {usage!r}")
     offered = [word for word in PROBES if b"| " + word + b" " in usage]
     asked = {word: PROBES[word] for word in offered} | MORE_PROBES

@@ -1,0 +1,149 @@
+"""Cases for compare.py of files: folders of track files, and one or more dumps of a disk with files that are missing, refused or of another
+disk. An input is the files by their paths, None for a folder in the place of a file."""
+from case_streams import FILLER, SHORTEST, few_blocks, faulty, one_in, spell
+from case_tracks import noisy_track, track_stream, whole_track
+from plain import FORMATS
+from plain_dumps import path_of, reaches_all
+
+
+def few(chance, kinds):
+    blocks = few_blocks(chance, kinds)
+    if one_in(chance, 3):
+        return b"".join(spell(blocks))
+    return faulty(chance, blocks, kinds)
+
+
+def case_folder(chance, kinds, built):
+    """The files of a dump, by their names: a track or a few with sectors, sometimes one that is refused, missing or joined of two."""
+    form = FORMATS[chance.choice(list(FORMATS))]
+    kinds |= {f"format {form.word}", "a folder"}
+    names = [f"dump/track{cylinder:02}.{head}.raw" for cylinder, head in form.tracks]
+    files = dict.fromkeys(names, FILLER)
+    at = chance.randrange(len(names))
+    files[names[at]] = track_stream(chance, kinds, form, at) if one_in(chance, 2) else few(chance, kinds)
+    if one_in(chance, 3):
+        kinds.add("files missing")
+        for name in chance.sample(names, chance.choice([1, 2, len(names)])):
+            del files[name]
+    if one_in(chance, 3):
+        kinds.add("files of other names")
+        for name in ("track00.2.raw", "track99.0.raw", "track0.0.raw", "TRACK00.0.RAW", "notes"):
+            files[f"dump/{name}"] = few(chance, kinds)
+    return [b"decode-folder", form.word.encode(), b"dump"], files
+
+
+def dump_name(chance, kinds, number):
+    """A dump's name: a folder, perhaps with a slash or a folder before it, or one of its files."""
+    folder = b"dump%d" % number
+    roll = chance.randrange(6)
+    if roll > 2:
+        return folder
+    kinds.add(("a dump by a file's name", "a slash behind a dump's name", "a dump in a folder")[roll])
+    if roll == 0:
+        return folder + chance.choice([b"-", b"/", b"/side "]) + chance.choice([b"00.0.raw", b"39.1.raw", b"83.0.raw"])
+    return (folder + b"/", b"./shelf/" + folder)[roll - 1]
+
+
+def one_file(chance, kinds, form, at):
+    """A file of a track: mostly of its own, with sectors, else of another track's or of another format, or refused."""
+    roll = chance.randrange(12)
+    if roll < 5:
+        return track_stream(chance, kinds, form, at)
+    if roll < 7:
+        return whole_track(chance, kinds, form, at)
+    if roll == 7:
+        return noisy_track(chance, kinds, form, at)
+    if roll == 8:
+        kinds.add("the file of another track")
+        return track_stream(chance, kinds, form, chance.randrange(len(form.tracks)))
+    if roll == 9:
+        alike = [other for other in FORMATS.values() if type(other.recording) is type(form.recording)]
+        other = chance.choice(alike)
+        kinds.add("the file of another format")
+        return track_stream(chance, kinds, other, min(at, len(other.tracks) - 1), 3)
+    if roll == 10:
+        kinds.add("bytes after a file's stream")
+        return FILLER + few(chance, kinds)
+    return few(chance, kinds)
+
+
+def lacking(chance, kinds, files):
+    """The same with files that are missing, and sometimes with a folder in the place of one."""
+    roll = chance.randrange(12)
+    if roll < 4:
+        kinds.add("files missing")
+        for name in chance.sample(sorted(files), chance.choice([1, 3, len(files) // 2])):
+            del files[name]
+    elif roll == 4 and one_in(chance, 3):
+        kinds.add("no files at all")
+        files.clear()
+    elif roll == 5:
+        kinds.add("a folder in the place of a file")
+        files[chance.choice(sorted(files))] = None
+    return files
+
+
+def dump_files(chance, kinds, form, name, steps, special):
+    """The files of a dump, of which those of some tracks are made and all others are fillers."""
+    path = lambda track: path_of(name, steps * track[0], track[1])
+    files = {path(track): chance.choice([FILLER, SHORTEST]) for track in form.tracks}
+    for at in special:
+        files[path(form.tracks[at])] = one_file(chance, kinds, form, at)
+    return lacking(chance, kinds, files)
+
+
+def dumps_of(chance, kinds, form, steps, count):
+    """The names of so many dumps, and all their files. A name may stand twice."""
+    special = chance.sample(range(len(form.tracks)), 1 if count > 3 or one_in(chance, 2) else 2)
+    names, files = [], {}
+    for number in range(count):
+        if number and one_in(chance, 8):
+            kinds.add("a dump twice")
+            names.append(chance.choice(names))
+            continue
+        names.append(dump_name(chance, kinds, number))
+        files |= dump_files(chance, kinds, form, names[-1], steps, special)
+    return names, files
+
+
+def case_read(chance, kinds, built):
+    """Dumps of a disk, one to eight of them, with two steps for one in some."""
+    form = FORMATS[chance.choice(list(FORMATS))]
+    steps = 2 if reaches_all(form) and one_in(chance, 3) else 1
+    count = chance.choice([1, 1, 1, 2, 2, 2, 3, 8])
+    kinds |= {f"format {form.word}", f"{count} dumps"} | ({"two steps for one"} if steps == 2 else set())
+    names, files = dumps_of(chance, kinds, form, steps, count)
+    words = [b"read"] + [b"--double-step"] * (steps - 1) + [form.word.encode(), *names]
+    if one_in(chance, 20):
+        kinds.add("words of read that are wrong")
+        words = wrong_words(chance, words)
+    return words, files
+
+
+def wrong_words(chance, words):
+    """Words of `read` of which one is wrong."""
+    roll = chance.randrange(6)
+    if roll == 0:
+        return words + [b""]
+    if roll == 1:
+        return words + (9 - len(words) + 3) * [b"dump0"]
+    if roll == 2:
+        return [word for word in words if word.decode() in FORMATS or word in (b"read", b"--double-step")]
+    if roll == 3:
+        return words[:1] + [b"--double-step"] + words[1:]
+    if roll == 4:
+        return words[:1] + [b"--double-steps"] + words[1:]
+    return words[:1] + [word[:-1] if word.decode() in FORMATS else word for word in words[1:]]
+
+
+def case_identify(chance, kinds, built):
+    """A dump of a disk of any format, with sectors on a few tracks: short ones, since they are read by every format."""
+    form = FORMATS[chance.choice(list(FORMATS))]
+    steps = 2 if reaches_all(form) and one_in(chance, 3) else 1
+    kinds |= {f"format {form.word}", "a dump to be named"} | ({"two steps for one"} if steps == 2 else set())
+    name = dump_name(chance, kinds, 0)
+    files = dump_files(chance, kinds, form, name, steps, [])
+    for at in chance.sample(range(len(form.tracks)), 2):
+        cylinder, head = form.tracks[at]
+        files[path_of(name, steps * cylinder, head)] = track_stream(chance, kinds, form, at, chance.choice([1, 2]))
+    return [b"identify", name], files

@@ -1,0 +1,165 @@
+"""What the words of a command come to: the exit code, and the bytes for standard output and for standard error.
+
+`outcome(words, data, ..)` is that of any words, over an input's bytes or over the files of a folder by their paths.
+"""
+from collections import Counter
+
+import plain_dumps
+from plain import FORMATS, decoded, from_g64, g64_file, stream_of, trial_line
+from plain_dumps import Dumps, Shelf
+from plain_map import picture
+from plain_recordings import CommodoreGcr
+from plain_streams import Refused, Stream
+
+USAGES = ["usage: flux turns | decode FORMAT | report FORMAT | write FORMAT | trial FORMAT SEED"]
+for more in (" | to-g64 FORMAT | from-g64 FORMAT", " | decode-set FORMAT COUNT", " | decode-folder FORMAT FOLDER"):
+    USAGES.append(USAGES[-1] + more)
+
+
+def is_number(text, digits, least, most):
+    return 1 <= len(text) <= digits and all(48 <= byte <= 57 for byte in text) and least <= int(text) <= most
+
+
+def decode(form, data, captures=None, both_clocks=False):
+    answer, refused = decoded(form, data, captures, both_clocks)
+    code = 2 if refused else answer.end()
+    return code, b"".join(answer.image), ("".join(answer.lines) + (refused or "")).encode()
+
+
+def report(form, data):
+    answer, refused = decoded(form, data)
+    code = 2 if refused else answer.end()
+    return code, "".join(answer.lines).encode(), (refused or "").encode()
+
+
+def drawn(form, data):
+    """The picture of the lines of all tracks before the first that is refused; it says why in the place of the total line."""
+    answer, refused = decoded(form, data)
+    lines = list(answer.lines)
+    code = 2 if refused else answer.end()
+    return code, picture(form, lines, refused or answer.lines[-1]).encode(), (refused or "").encode()
+
+
+def wrong_size(form, data):
+    return 2, b"", f"refused image {min(len(data), form.image_bytes + 1)} wanted {form.image_bytes}\n".encode()
+
+
+def write(form, data):
+    if len(data) != form.image_bytes:
+        return wrong_size(form, data)
+    rings = (form.ring_of(data, k) for k in range(len(form.tracks)))
+    return 0, b"".join(stream_of(ring, form.nominal(c)) for ring, (c, _) in zip(rings, form.tracks)), b""
+
+
+def to_g64(form, data):
+    return (0, g64_file(form, data), b"") if len(data) == form.image_bytes else wrong_size(form, data)
+
+
+def decode_folder(form, folder, files):
+    """The files of a dump are joined; each of them has to be there."""
+    names = [f"track{cylinder:02}.{head}.raw" for cylinder, head in form.tracks]
+    shelf = Shelf(files)
+    contents = [shelf.read(folder + b"/" + name.encode()) for name in names]
+    if None in contents:
+        k = contents.index(None)
+        return 2, b"", f"refused track {k} missing {names[k]}\n".encode()
+    return decode(form, b"".join(contents))
+
+
+def turns(data):
+    try:
+        stream = Stream(data, 0)
+    except Refused as stop:
+        return 2, b"", f"refused track 0 {stop.text()}\n".encode()
+    lines = [f"transitions {len(stream.times)}\n"]
+    lines += [f"turn {n} {b - a}\n" for n, (a, b) in enumerate(zip(stream.indexes, stream.indexes[1:]), 1)]
+    return 0, "".join(lines).encode(), b""
+
+
+def any_format(form):
+    return True
+
+
+def commodore(form):
+    return isinstance(form.recording, CommodoreGcr)
+
+
+# What each word of a command wants after it, and what it gives: the formats that it takes, whether a last word is right, the answer.
+COMMANDS = {
+    b"decode": (any_format, None, lambda form, last, data: decode(form, data)),
+    b"report": (any_format, None, lambda form, last, data: report(form, data)),
+    b"rescue": (any_format, None, lambda form, last, data: decode(form, data, both_clocks=True)),
+    b"map": (any_format, None, lambda form, last, data: drawn(form, data)),
+    b"write": (any_format, None, lambda form, last, data: write(form, data)),
+    b"trial": (any_format, lambda last: is_number(last, 10, 0, 2**32 - 1),
+               lambda form, last, data: (0, trial_line(form, int(last)).encode(), b"")),
+    b"to-g64": (commodore, None, lambda form, last, data: to_g64(form, data)),
+    b"from-g64": (commodore, None, lambda form, last, data: from_g64(form, data)),
+    b"decode-set": (any_format, lambda last: is_number(last, 2, 1, 16), lambda form, last, data: decode(form, data, int(last))),
+    b"decode-folder": (any_format, lambda last: last != b"", lambda form, last, data: decode_folder(form, last, data)),
+}
+
+
+def is_text(data):
+    try:
+        data.decode()
+        return True
+    except UnicodeDecodeError:
+        return False
+
+
+def dumps_asked(words):
+    """What words ask of dumps, if they ask for it: how many steps the drive made for one, the format, and the dumps' names."""
+    if words[:1] != [b"read"]:
+        return None
+    steps = 2 if words[1:2] == [b"--double-step"] else 1
+    form = FORMATS.get(words[steps].decode()) if len(words) > steps else None
+    names = words[steps + 1 :]
+    if not form or not 1 <= len(names) <= plain_dumps.MOST_DUMPS or b"" in names or steps == 2 and not plain_dumps.reaches_all(form):
+        return None
+    return steps, form, names
+
+
+# What is told of words that are none, by their first one; of any other it is the usage line. Where a format's word has to follow at once, another
+# word in its place is told by itself.
+OWN_USAGES = {
+    b"read": b"usage: flux read [--double-step] FORMAT DUMP...", b"identify": b"usage: flux identify DUMP",
+    b"rescue": b"usage: flux rescue FORMAT", b"map": b"usage: flux map FORMAT",
+}
+ASK_FORMATS = b"rescue", b"map"
+
+
+def differing(name, word):
+    """How many letters only one of the two has; those of the word count twice."""
+    both = sum((Counter(name) & Counter(word)).values())
+    return 2 * (len(word) - both) + len(name) - both
+
+
+def wrong_words(words, built, usage):
+    first = words[0] if words else b""
+    if first not in OWN_USAGES or first not in built:
+        return usage
+    if first in ASK_FORMATS and len(words) > 1 and words[1].decode() not in FORMATS:
+        nearest = min(FORMATS, key=lambda name: differing(name.encode(), words[1]))
+        return b"no format " + words[1] + b"; nearest: " + nearest.encode()
+    return OWN_USAGES[first]
+
+
+def outcome(words, data, built, usage):
+    """The code and the bytes of standard output and standard error, of a program that has these commands and this usage line. Words that
+    name files have the files by their paths in place of the input."""
+    if not all(map(is_text, words)):
+        return 9, b"", b""
+    if words == [b"turns"]:
+        return turns(data)
+    if words[:1] == [b"read"] and b"read" in built and (asked := dumps_asked(words)):
+        steps, form, names = asked
+        return plain_dumps.read(Dumps(Shelf(data), names, steps), form)
+    if words[:1] == [b"identify"] and b"identify" in built and len(words) == 2 and words[1]:
+        return plain_dumps.identify(Shelf(data), words[1])
+    if words and words[0] in COMMANDS and words[0] in built:
+        takes, last, answer = COMMANDS[words[0]]
+        form = FORMATS.get(words[1].decode()) if len(words) > 1 else None
+        if form and takes(form) and len(words) == (3 if last else 2) and (not last or last(words[2])):
+            return answer(form, words[2] if last else None, data)
+    return 3, b"", wrong_words(words, built, usage) + b"\n"

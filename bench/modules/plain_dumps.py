@@ -1,0 +1,187 @@
+"""Disks read of their dumps, off the definitions: one verdict over the files of several dumps, and which disk a dump is of.
+
+Dumps lie on a shelf, which is a folder's files by their paths. A file that is not found is passed over; any other fault ends all.
+"""
+import re
+
+from plain import FORMATS, Answer, as_controllers_read, controller_readings, turn_of
+from plain_streams import Refused, Stream, recovered
+
+MOST_DUMPS = 8
+MOST_TOLD = 64
+MOST_DOUBLE_CYLINDERS = 42
+LONGEST_PATH = 4095
+
+
+class Failed(Exception):
+    """The system answers with a fault."""
+
+
+class Shelf:
+    """Files by their paths, None in the place of a file for a folder that has nothing, or for one that may not be opened."""
+
+    def __init__(self, files):
+        self.files = {parts_of(path): content for path, content in files.items()}
+        self.folders = {path[:count] for path in self.files for count in range(1, len(path))}
+
+    def has(self, path):
+        """Whether the path can be opened; False where it is not found."""
+        if len(path) > LONGEST_PATH:
+            raise Failed
+        parts = parts_of(path)
+        if any(self.files.get(parts[:count]) is not None for count in range(1, len(parts))):
+            raise Failed          # a file stands in the place of a folder
+        return parts in self.files or parts in self.folders
+
+    def read(self, path):
+        """The bytes of a file; None where it is not found."""
+        if not self.has(path):
+            return None
+        content = self.files.get(parts_of(path))
+        if content is None:
+            raise Failed          # it is a folder
+        return content
+
+
+def parts_of(path):
+    """The names in a path, of which those that name nothing are left out."""
+    path = path if isinstance(path, bytes) else path.encode()
+    return tuple(part for part in path.split(b"/") if part not in (b"", b"."))
+
+
+def path_of(dump, cylinder, head):
+    """The file of a track: in a folder, or beside the file by which the dump is named."""
+    ending = b"%02d.%d.raw" % (cylinder, head)
+    if len(dump) > len(ending) and re.fullmatch(rb"[0-9]{2}\.[01]\.raw", dump[-len(ending):]):
+        return dump[: -len(ending)] + ending
+    return dump + b"/track" + ending
+
+
+def reaches_all(form):
+    """A drive that makes two steps for one reaches all tracks of the format."""
+    return all(cylinder < MOST_DOUBLE_CYLINDERS for cylinder, _ in form.tracks)
+
+
+def read_by_controllers(form, k, stream, clock, prefix):
+    """The readings of a stream for a track by the second rule and one of the clocks, and all headers that name none of its sectors."""
+    cylinder, head = form.tracks[k]
+    cells = recovered(stream, form.nominal(cylinder), form.ring_cells(cylinder), clock)
+    found, others = controller_readings(as_controllers_read(form).recording, cells, cylinder, head)
+    place_text = lambda place: f"{prefix}{turn_of(stream, cells, place)} {place}"
+    return ([(place_text(place), sector, content) for place, sector, content in found],
+            [(place_text(place), name, whole) for place, name, whole in others])
+
+
+def others_told(others):
+    """Of each of the first names, in the order in which they are met: how many headers have it, how many of these have data, and the
+    first one's place."""
+    told = {}
+    for place, name, whole in others:
+        headers, wholes, first = told.get(name, (0, 0, place))
+        told[name] = headers + 1, wholes + whole, first
+    return [(name, *numbers) for name, numbers in told.items()][:MOST_TOLD]
+
+
+class Dumps:
+    """Dumps of a disk: their names, the steps that the drive made for one of the disk's, the clocks by which they are read."""
+
+    def __init__(self, shelf, names, steps=1, clocks=(0, 1)):
+        self.shelf, self.names, self.steps, self.clocks = shelf, names, steps, clocks
+
+    def path(self, number, track):
+        return path_of(self.names[number], self.steps * track[0], track[1])
+
+    def first_empty(self, form):
+        """The number of the first dump that has the file of none of the tracks, or None."""
+        for number in range(len(self.names)):
+            if not any(self.shelf.has(self.path(number, track)) for track in form.tracks):
+                return number
+        return None
+
+    def gathered(self, form, k):
+        """Of a track: what is said of each stream that is passed over, all readings, and all others."""
+        passed, entries, others = [], [], []
+        for number in range(len(self.names)):
+            content = self.shelf.read(self.path(number, form.tracks[k]))
+            try:
+                stream = None if content is None else Stream(content, 0)
+            except Refused as stop:
+                passed.append(f"dump {number} refused {stop.text()}")
+                continue
+            if stream is None:
+                passed.append(f"dump {number} missing")
+                continue
+            for clock in self.clocks:
+                found, more = read_by_controllers(form, k, stream, clock, f"{number} {clock} ")
+                entries += found
+                others += more
+        return passed, entries, others
+
+
+class DumpAnswer(Answer):
+    """What dumps come to, track by track."""
+
+    def __init__(self, form):
+        super().__init__(form)
+        self.unread = self.others = self.whole = 0
+
+    def dump_track(self, k, passed, entries, others):
+        cylinder, head = self.form.tracks[k]
+        told = others_told(others)
+        self.lines += [f"{cylinder:02}.{head} {why}\n" for why in passed]
+        self.track(k, entries)
+        self.lines += [f"{cylinder:02}.{head} other {' '.join(map(str, name))} {headers} {whole} {first}\n" for name, headers, whole, first in told]
+        self.unread += len(passed)
+        self.others += len(told)
+        self.whole += sum(whole > 0 for _, _, whole, _ in told)
+
+    def end(self):
+        self.lines.append(f"unread {self.unread} other {self.others} whole {self.whole}\n")
+        code = super().end()
+        return 1 if self.whole else code
+
+    def said(self):
+        return b"".join(self.image), "".join(self.lines).encode()
+
+
+def read_tracks(dumps, form, answer):
+    for k in range(len(form.tracks)):
+        answer.dump_track(k, *dumps.gathered(form, k))
+
+
+def read(dumps, form):
+    """The outcome of `read`."""
+    answer = DumpAnswer(form)
+    try:
+        empty = dumps.first_empty(form)
+        if empty is not None:
+            return 2, b"", f"refused dump {empty} no track files\n".encode()
+        read_tracks(dumps, form, answer)
+    except Failed:
+        return 8, *answer.said()
+    code = answer.end()
+    return code, *answer.said()
+
+
+# Which disk it is
+
+def identify(shelf, name):
+    """The outcome of `identify`: a line for each format, and each stepping, by which a sector is good, and the best of them."""
+    lines, best = [], None
+    try:
+        for form in FORMATS.values():
+            for steps in (1, 2) if reaches_all(form) else (1,):
+                answer = DumpAnswer(form)
+                read_tracks(Dumps(shelf, [name], steps, clocks=(0,)), form, answer)
+                good, total = answer.number["good"], sum(answer.number.values())
+                if good:
+                    words = "--double-step " * (steps - 1) + form.word
+                    lines.append(f"{words} good {good} of {total} other {answer.whole}\n")
+                    # most good sectors, then fewest others, then the smallest disk, then the table's order
+                    rank = good, -answer.whole, -total
+                    if best is None or rank > best[0]:
+                        best = rank, words, good == total and answer.whole == 0
+    except Failed:
+        return 8, "".join(lines).encode(), b""
+    lines.append(f"best {best[1] if best else 'none'}\n")
+    return 0 if best and best[2] else 1, "".join(lines).encode(), b""
