@@ -54,20 +54,25 @@ def repeated(cells):
     return lambda form, size: around(form, size, cells_as_flux(form, cells(form)))
 
 
-def header_of(form):
-    """The cells of the header of a sector of track 0."""
+def header_of(form, other=None):
+    """The cells of the header of a sector of track 0, or of one that is none of the track's sectors, by its number."""
     first = form.recording.first
-    if form.word == "ibm-3740":
-        return word(0xF57E) + fm(recordings.checked(b"\xfe", bytes([0, 0, first, 0])))
+    high, low = divmod(other or 0, 64)
     if form.word.startswith("ibm"):
-        return MfmList().mark(0x4489, 3).bytes(recordings.checked(b"\xa1" * 3, bytes([0xFE, 0, 0, first, 2]))).cells()
+        # (an other has data of 1024 bytes)
+        names = bytes([0, 0, first, 0 if form.word == "ibm-3740" else 2] if other is None else [100 + high, 0, low, 3])
+        if form.word == "ibm-3740":
+            return word(0xF57E) + fm(recordings.checked(b"\xfe", names))
+        return MfmList().mark(0x4489, 3).bytes(recordings.checked(b"\xa1" * 3, b"\xfe" + names)).cells()
     if form.word == "amiga":
         out = MfmList()
-        form.recording.frame(out, bytes([0xFF, 0, 0, 11]), bytes(16), bytes(512), 0, 4)
+        form.recording.frame(out, bytes([0xFF, 0, 0, 11] if other is None else [0xFF, 100 + high, low, 11]), bytes(16), bytes(512), 0, 4)
         return out.cells()[32:512]
     if form.word.startswith("c1541"):
-        return "1" * 10 + gcr(bytes([8, first ^ 1 ^ 0xA2 ^ 0xA3, first, 1, 0xA3, 0xA2]))
-    return raw(b"\xd5\xaa\x96" + recordings.four_and_four(bytes([254, 0, first, 254 ^ first])))
+        names = bytes([first, 1, 0xA3, 0xA2] if other is None else [low, 100 + high, 0xA3, 0xA2])
+        return "1" * 10 + gcr(bytes([8, recordings.xor_of(names)]) + names)
+    names = bytes([254, 0, first] if other is None else [254, 100 + high, low])
+    return raw(b"\xd5\xaa\x96" + recordings.four_and_four(names + bytes([recordings.xor_of(names)])))
 
 
 QUIET = {"ibm-3740": "11", "ibm-1440": "10", "amiga": "10", "c1541": "01", "apple-do": "1111111100"}
@@ -85,6 +90,27 @@ def headers(form):
 def headers_without_data(form):
     """Headers so far from one another that each search for data goes over all of its 1024 cells."""
     return header_of(form) + between(form, 1030)
+
+
+def headers_of_many_names(form):
+    """Headers of 128 names that are none of the track's, of which 64 are told."""
+    return "".join(header_of(form, number) + between(form, 16) for number in range(128))
+
+
+SYNCS_WITH_MARKS = {
+    "ibm-3740": word(0xF56F),
+    "ibm-1440": MfmList().mark(0x4489, 3).bytes(b"\xfb").cells(),
+    "amiga": word(0x4489) * 2,
+    "c1541": "1" * 10 + gcr(b"\x07"),
+    "apple-do": raw(b"\xd5\xaa\xad"),
+}
+
+
+def data_syncs_after_headers(form):
+    """Headers of others, each with data syncs in all of the 1024 cells behind it: at each of these data are tried, as many bytes as a header
+    can ask for."""
+    unit = SYNCS_WITH_MARKS[form.word]
+    return header_of(form, 1) + unit * (1024 // len(unit)) + between(form, 16)
 
 
 def sectors_of_another_check(form):
@@ -166,6 +192,13 @@ TRACKS = [
 ]
 
 
+# What is hard for reading as controllers read.
+RETRIED = [
+    ("data syncs after headers", repeated(data_syncs_after_headers)),
+    ("headers of many names", repeated(headers_of_many_names)),
+]
+
+
 def g64_of(size, cells):
     """A G64 file of so many bytes in which all tracks have these cells as often as they fit, in at most 65535 bytes."""
     length = min(size // 36, 65535)
@@ -206,13 +239,14 @@ class Table:
     def __init__(self, program, work, count):
         self.program, self.work, self.count = program, work, count
         self.rows, self.wrong, self.worst, self.peak = 0, 0, 0, 0
-        print(f"{'command':22} {'input':32} {'small':>9} {'large':>9} {'ratio':>6} {'MiB':>6}")
+        print(f"{'command':22} {'input':38} {'small':>9} {'large':>9} {'ratio':>6} {'MiB':>6}")
 
-    def row(self, words, name, small, large, most=4.4, other=None):
-        """A row: the command over the small input and over the large one, or another command over the large one."""
-        runs = [[self.program, *words], [self.program, *(other or words)]]
+    def row(self, words, name, small, large, most=4.4, other=None, dumps=0):
+        """A row: the command over the small input and over the large one, or another command over the large one. The input is the file of
+        the first track in so many dumps, or what is read where there are none."""
         with tempfile.TemporaryDirectory(dir=self.work) as folder:
-            inputs = Path(folder, "small"), Path(folder, "large")
+            inputs = Path(folder, "small00.0.raw"), Path(folder, "large00.0.raw")
+            runs = [[self.program, *wanted, *dumps * [str(path)]] for wanted, path in zip((words, other or words), inputs)]
             for path, data in zip(inputs, (small, large)):
                 path.write_bytes(data)
             seconds, more = compared(*zip(runs, inputs), self.count)
@@ -222,7 +256,7 @@ class Table:
         self.rows += 1
         self.wrong += wrong
         self.worst, self.peak = max(self.worst, ratio / most), max(self.peak, peak)
-        print(f"{' '.join(words):22} {name:32} {seconds * 1e3:9.1f} {more * 1e3:9.1f} {ratio:6.2f} {peak:6.1f}{'  NOT' * wrong}", flush=True)
+        print(f"{' '.join(words):22} {name:38} {seconds * 1e3:9.1f} {more * 1e3:9.1f} {ratio:6.2f} {peak:6.1f}{'  NOT' * wrong}", flush=True)
 
 
 def options():
@@ -255,6 +289,15 @@ def measured(table, wanted):
                 if command == "decode" or name in ("headers everywhere", "headers in many revolutions", "silence") or (
                         command == "rescue" and name in ("ones alone", "noise")):
                     table.row([command, form.word], name, *(make(form, size) for size in SIZES))
+    if "read" in wanted:
+        for form in (FORMATS[name] for name in USED):
+            for name, make in RETRIED + TRACKS + STREAMS:
+                table.row(["read", form.word], name, *(make(form, size) for size in SIZES), dumps=1)
+            table.row(["read", form.word], "8 dumps of " + RETRIED[0][0], *(RETRIED[0][1](form, size) for size in SIZES), dumps=8)
+    if "identify" in wanted:
+        for form in (FORMATS[name] for name in USED):
+            for name, make in RETRIED + TRACKS[:1]:
+                table.row(["identify"], f"{name}, {form.word}", *(make(form, size) for size in SIZES), dumps=1)
     if "decode-set" in wanted:
         for form in (FORMATS[name] for name in USED):
             for name, make in TRACKS[:3]:
