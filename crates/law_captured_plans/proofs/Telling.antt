@@ -2,6 +2,7 @@
 use Rattle.std.specs.Prelude.{◌≡◌, ◌≤◌, ◌<◌, ◌^◌, ℕ, suc, ◌+◌, ◌*◌, List, [], ◌∷◌, ◌++◌, get_or, length, unwrap_or, Option, None, Some, refl}
 use Rattle.std.proofs.Common.{ap, sym, subst, ◌∙◌, arith, inl, inr, length-append, lit<}
 use Rattle.flux_base.specs.declared.track.TrackId.{TrackId}
+use Rattle.disk_recordings.specs.Laws.{TracksAreRead}
 use Rattle.kryo_stream.specs.Growth.{StreamsAreShort}
 use Rattle.phase_loop.specs.Sizes.{CellsAreFew}
 use Rattle.sector_images.specs.Places.{IsSector, IsTrack, TracksKeepBounds, tracks}
