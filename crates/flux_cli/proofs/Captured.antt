@@ -88,7 +88,7 @@ module _ {S W N : Type 0} (before after : Outside S W N) (format : Format) (imag
 
 -- what a run of `decode` gave
 decode_gave : Laws → {S W N : Type 0} (before after : Outside S W N) (format : Format) (x : List ℕ) → before.source.bytes ≡ Some x → (status : Status)
-    → Says (Some (Decode format)) status before after → GaveOrCut (IsExpected (Decode format) x) status before after
+    → Says (Decode format) status before after → GaveOrCut (IsExpected (Decode format) x) status before after
 decode_gave laws before after format x told status says =
     gave_or_cut before after (Decode format) x told (IsExpected (Decode format) x)
     (λ o gives. expected laws x o (Decode format) (words_of (Decode format)) refl gives) status says
@@ -125,7 +125,7 @@ module _ (laws : Laws) {S W N H : Type 0} (words : List (List ℕ)) (status : St
   -- what holds of all that the joined files come to
   module _ (format : Format) (x : List ℕ) (decodes : DecodesFolder words (on_shelf before) format x) (Done : Status → Type 0)
       (cut : (shelf : ShelfMoment H) → shelf.source.bytes ≡ Some x → (inner : Status)
-      → Says (Some (Decode format)) inner (as_source (record (on_shelf before) { shelf = shelf })) (as_source (on_shelf after))
+      → Says (Decode format) inner (as_source (record (on_shelf before) { shelf = shelf })) (as_source (on_shelf after))
       → WroteOrCut Done inner (as_source (record (on_shelf before) { shelf = shelf })) (as_source (on_shelf after))) where
     on_memory : (status : Status) → status ≡ Memory → on_shelf after ≡ on_shelf before → WroteOrCutOnShelf Done status (on_shelf before) (on_shelf after)
     on_memory s is same = subst (λ (t : Status). WroteOrCutOnShelf Done t (on_shelf before) (on_shelf after)) (sym is) same

@@ -1,5 +1,5 @@
 -- What `decode` and `report` do by what the decoding of the disk says.
-use Rattle.std.proofs.Common.{◌==◌, ◌≤◌, ℕ, ◌++◌, Bool, true, false, if◌then◌else◌, inl, inr, List, [], take, Some, None, Ok, Err, refl, sym, ap, ◌∙◌, subst, append-nil, arith}
+use Rattle.std.proofs.Common.{◌==◌, ◌≤◌, ℕ, ◌++◌, Bool, true, false, if◌then◌else◌, inl, inr, List, [], take, None, Ok, Err, refl, sym, ap, ◌∙◌, subst, append-nil, arith}
 use Rattle.std.proofs.KnownBytes.{Appends-trans}
 use Rattle.flux_base.specs.Moments.{Moment}
 use Rattle.flux_base.specs.Outside.{Rose}
@@ -186,31 +186,31 @@ module _ {S W N : Type 0} (output : Output) (format : Format) (before after : Ou
 -- the same of the command with this output
 module _ {S W N : Type 0} (format : Format) (before after : Outside S W N) where
   finished : (output : Output) (status : Status) → Finished (disk_work output format) status before after
-      → Finished (work_of (Some (command_for output format))) status before after
+      → Finished (work_of (command_for output format)) status before after
   finished ImageAndReport status done = done
   finished ReportAlone status done = done
 
   cut : (output : Output) (status : Status) → IsCut (disk_work output format) status before after
-      → IsCut (work_of (Some (command_for output format))) status before after
+      → IsCut (work_of (command_for output format)) status before after
   cut ImageAndReport status at = at
   cut ReportAlone status at = at
 
   as-needed : (output : Output) → WasReadWhereNeeded (disk_work output format) before after
-      → WasReadWhereNeeded (work_of (Some (command_for output format))) before after
+      → WasReadWhereNeeded (work_of (command_for output format)) before after
   as-needed ImageAndReport needed = needed
   as-needed ReportAlone needed = needed
 
   pub does-decode : (output : Output) (totals : Totals) → DecodesTo output format before after (Ok totals)
-      → Does (Some (command_for output format)) (status_of totals None) before after
+      → Does (command_for output format) (status_of totals None) before after
   does-decode output totals t = by (totals.good == totals.sectors) (decoded output format before after totals t)
     where
       by : (b : Bool) → Finished (disk_work output format) (if b then AllGood else NotAllGood) before after
-          → Does (Some (command_for output format)) (if b then AllGood else NotAllGood) before after
+          → Does (command_for output format) (if b then AllGood else NotAllGood) before after
       by true done = record { answer = tt; says = finished output AllGood done; counts = t.counts; needed = as-needed output t.needed }
       by false done = record { answer = tt; says = finished output NotAllGood done; counts = t.counts; needed = as-needed output t.needed }
 
   pub does-read-fault : (output : Output) → DecodesTo output format before after (Err ReadFault)
-      → Does (Some (command_for output format)) ReadFaultStatus before after
+      → Does (command_for output format) ReadFaultStatus before after
   does-read-fault output t = record {
     answer = tt;
     says = (cut output ReadFaultStatus (record { taken = t.taken; later = t.later; input = t.input; place = t.says }), t.cause);
@@ -219,7 +219,7 @@ module _ {S W N : Type 0} (format : Format) (before after : Outside S W N) where
   }
 
   pub does-image-fault : (output : Output) → DecodesTo output format before after (Err ImageFault)
-      → Does (Some (command_for output format)) ImageFaultStatus before after
+      → Does (command_for output format) ImageFaultStatus before after
   does-image-fault output t = record {
     answer = tt;
     says = (cut output ImageFaultStatus (record { taken = t.taken; later = t.later; input = t.input; place = t.says }), t.cause);
@@ -228,7 +228,7 @@ module _ {S W N : Type 0} (format : Format) (before after : Outside S W N) where
   }
 
   pub does-notes-fault : (output : Output) → DecodesTo output format before after (Err NotesFault)
-      → Does (Some (command_for output format)) NotesFaultStatus before after
+      → Does (command_for output format) NotesFaultStatus before after
   does-notes-fault output t = record {
     answer = tt;
     says = (cut output NotesFaultStatus (record { taken = t.taken; later = t.later; input = t.input; place = inl t.says }), t.cause);
@@ -239,7 +239,7 @@ module _ {S W N : Type 0} (format : Format) (before after : Outside S W N) where
   module _ (output : Output) (mid : Moment N) (track block : ℕ) (fault : StreamFault)
       (t : DecodesTo output format before (record after { notes = mid }) (Err (Refused track block fault))) where
     pub does-refuse : Got (growth mid after.notes) (refused_text track block fault) → mid.faults ≤ after.notes.faults
-        → Does (Some (command_for output format)) RefusedStatus before after
+        → Does (command_for output format) RefusedStatus before after
     does-refuse line later = record {
       answer = tt;
       says = finished output RefusedStatus (refused output format before after mid track block fault t line);
@@ -248,7 +248,7 @@ module _ {S W N : Type 0} (format : Format) (before after : Outside S W N) where
     }
 
     pub does-cut-refusal : GotPart (growth mid after.notes) (refused_text track block fault) → mid.faults ≤ after.notes.faults
-        → Rose mid.faults after.notes.faults → Does (Some (command_for output format)) NotesFaultStatus before after
+        → Rose mid.faults after.notes.faults → Does (command_for output format) NotesFaultStatus before after
     does-cut-refusal part later rose = record {
       answer = tt;
       says = (cut output NotesFaultStatus (cut-refusal output format before after mid track block fault t part), omega (arith, t.counts.notes, rose));

@@ -34,7 +34,7 @@ leaves-if x later false none = none
 pub file-does : {S W N : Type 0} (disk : G64Disk) (before after : Outside S W N) (b : Bool)
     → Finished (from_g64_work (format_of disk)) (if b then AllGood else NotAllGood) before after → NoCountFell before after
     → WasReadWhereNeeded (from_g64_work (format_of disk)) before after
-    → Does (Some (FromG64 disk)) (if b then AllGood else NotAllGood) before after
+    → Does (FromG64 disk) (if b then AllGood else NotAllGood) before after
 file-does disk before after true finished counts needed = record { answer = tt; says = finished; counts = counts; needed = needed }
 file-does disk before after false finished counts needed = record { answer = tt; says = finished; counts = counts; needed = needed }
 

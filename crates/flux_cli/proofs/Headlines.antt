@@ -1,6 +1,6 @@
 -- From what a run did to what is known of its outcome.
 use Rattle.std.specs.Prelude.{◌≡◌, ◌==◌, ℕ, ◌++◌, Bool, true, false, List, [], if◌then◌else◌, Option, Some, None, refl}
-use Rattle.std.proofs.Common.{ap, inl, inr, sym, subst, ◌∙◌, append-nil}
+use Rattle.std.proofs.Common.{ap, arith, inl, inr, sym, subst, ◌∙◌, append-nil}
 use Rattle.std.proofs.lemmas.Bool.{eq-eqb}
 use Rattle.capture_set.specs.Sets.{set_plan, set_streams}
 use Rattle.disk_rescue.specs.Rescued.{rescuing, track_streams}
@@ -201,7 +201,7 @@ module _ (laws : Laws) (x : List ℕ) (o : Outcome) where
       is ∙ ap (λ (text : List ℕ). record { status = AllGood; image = text; notes = [] }) (laws.trials format seed line no_hole trial)
 
   -- what a command's row says is as expected
-  pub expected : (command : Command) (words : List (List ℕ)) → AreWordsOf command words → (work_of (Some command)).gives x o → IsExpected command x o
+  pub expected : (command : Command) (words : List (List ℕ)) → AreWordsOf command words → (work_of command).gives x o → IsExpected command x o
   expected Turns words are gives = tt
   expected (Decode format) words are gives = of_disk ImageAndReport format gives.0 gives.1 gives.2
   expected (Report format) words are gives = of_disk ReportAlone format gives.0 gives.1 gives.2
@@ -216,8 +216,8 @@ module _ (laws : Laws) (x : List ℕ) (o : Outcome) where
 
 -- what holds of each outcome of a command over an input, holds of what a run gave
 module _ {S W N : Type 0} (before after : Outside S W N) (command : Command) (x : List ℕ) (told : before.source.bytes ≡ Some x) (Holds : Outcome → Type 0)
-    (holds : (o : Outcome) → (work_of (Some command)).gives x o → Holds o) where
-  gave : (status : Status) → Finished (work_of (Some command)) status before after → Gave Holds status before after
+    (holds : (o : Outcome) → (work_of command).gives x o → Holds o) where
+  gave : (status : Status) → Finished (work_of command) status before after → Gave Holds status before after
   gave status done =
       let whole : x ≡ done.taken ++ done.later = (done.input x told).0 in
       record {
@@ -225,10 +225,10 @@ module _ {S W N : Type 0} (before after : Outside S W N) (command : Command) (x 
         status_is = done.status_is;
         image_got = done.image_got;
         notes_got = done.notes_got;
-        holds = holds done.outcome (subst (λ (y : List ℕ). (work_of (Some command)).gives y done.outcome) (sym whole) done.gives);
+        holds = holds done.outcome (subst (λ (y : List ℕ). (work_of command).gives y done.outcome) (sym whole) done.gives);
       }
 
-  pub gave_or_cut : (status : Status) → Says (Some command) status before after → GaveOrCut Holds status before after
+  pub gave_or_cut : (status : Status) → Says command status before after → GaveOrCut Holds status before after
   gave_or_cut AllGood says = gave AllGood says
   gave_or_cut NotAllGood says = gave NotAllGood says
   gave_or_cut Refused says = gave Refused says
@@ -245,11 +245,11 @@ asked_is names words command (Some other) are asks = ap Some (one_command names 
 
 module _ (names : WordsNameFormats) {S W N H : Type 0} (words : List (List ℕ)) (status : Status) (before after : Surroundings S W N H) (ran : Ran words status before after) where
   -- what was done for a command over the source
-  pub says_of : (command : Command) → AreWordsOf command words → Says (Some command) status before.outside after.outside
+  pub says_of : (command : Command) → AreWordsOf command words → Says command status before.outside after.outside
   says_of command are = by ran.folder ran.names ran.did
     where
       by : (folder : Option (Format × List ℕ)) → NamesFolder words folder → RanBy folder words status before after
-          → Says (Some command) status before.outside after.outside
+          → Says command status before.outside after.outside
       by None none did =
           subst (λ (asked : Option Command). SaysBy (work_for words asked) asked status before.outside after.outside)
           (asked_is names words command did.0.asked are did.0.asks) did.0.does.says

@@ -1,5 +1,5 @@
 -- What `map` does by what the drawing of the disk says.
-use Rattle.std.proofs.Common.{◌≡◌, ◌==◌, ◌≤◌, ℕ, ◌++◌, Bool, true, false, if◌then◌else◌, List, [], length, Some, None, Ok, Err, refl, sym, ap, ◌∙◌, subst, append-nil, arith}
+use Rattle.std.proofs.Common.{◌≡◌, ◌==◌, ◌≤◌, ℕ, ◌++◌, Bool, true, false, if◌then◌else◌, List, [], length, None, Ok, Err, refl, sym, ap, ◌∙◌, subst, append-nil, arith}
 use Rattle.std.specs.Io.KnownBytes.{Appends, Keeps}
 use Rattle.disk_map.specs.Answers.{DrewFront, MapCause, MapsDisk}
 use Rattle.disk_map.specs.Maps.{Mapped}
@@ -55,15 +55,15 @@ module _ {S W N : Type 0} (format : Format) (before after : Outside S W N) (coun
         leaves = leaves-if format (d.taken ++ r.later) r.later (totals.good == totals.sectors) s.4;
       }
 
-  pub map-done : (totals : Totals) → Maps (Ok totals) → Does (Some (Map format)) (status_of totals None) before after
+  pub map-done : (totals : Totals) → Maps (Ok totals) → Does (Map format) (status_of totals None) before after
   map-done totals d = by (totals.good == totals.sectors) (drawn totals d)
     where
       by : (b : Bool) → Finished (map_work format) (if b then AllGood else NotAllGood) before after
-          → Does (Some (Map format)) (if b then AllGood else NotAllGood) before after
+          → Does (Map format) (if b then AllGood else NotAllGood) before after
       by true done = record { answer = tt; says = done; counts = counts; needed = needed }
       by false done = record { answer = tt; says = done; counts = counts; needed = needed }
 
-  pub map-unread : Maps (Err ReadFault) → Caused (Err ReadFault) → Does (Some (Map format)) ReadFaultStatus before after
+  pub map-unread : Maps (Err ReadFault) → Caused (Err ReadFault) → Does (Map format) ReadFaultStatus before after
   map-unread d cause =
       let r = rest before.source after.source d.taken d.consumed in
       let s = subst (λ x. DrewFront format x before.image.bytes after.image.bytes) (append-nil d.taken) (d.says [] (λ _. refl)) in record {
@@ -73,7 +73,7 @@ module _ {S W N : Type 0} (format : Format) (before after : Outside S W N) (coun
         needed = needed;
       }
 
-  pub map-image-fault : Maps (Err ImageFault) → Caused (Err ImageFault) → Does (Some (Map format)) ImageFaultStatus before after
+  pub map-image-fault : Maps (Err ImageFault) → Caused (Err ImageFault) → Does (Map format) ImageFaultStatus before after
   map-image-fault d cause =
       let r = rest before.source after.source d.taken d.consumed in record {
         answer = tt;
@@ -86,7 +86,7 @@ module _ {S W N : Type 0} (format : Format) (before after : Outside S W N) (coun
 module _ {S W N : Type 0} (format : Format) (before after : Outside S W N) (track capture block : ℕ) (fault : StreamFault)
     (d : MapsDisk format before.source.bytes after.source.bytes before.image.bytes after.image.bytes (Err (Refused track capture block fault)))
     (counts : NoCountFell before after) (needed : WasReadWhereNeeded (map_work format) before after) where
-  pub map-refused : Got (growth before.notes after.notes) (refused_text track block fault) → Does (Some (Map format)) RefusedStatus before after
+  pub map-refused : Got (growth before.notes after.notes) (refused_text track block fault) → Does (Map format) RefusedStatus before after
   map-refused line =
       let r = rest before.source after.source d.taken d.consumed in
       let s = d.says r.later (λ cut. r.ended (d.ended cut)) in
@@ -109,7 +109,7 @@ module _ {S W N : Type 0} (format : Format) (before after : Outside S W N) (trac
       }
 
   pub map-cut-refusal : GotPart (growth before.notes after.notes) (refused_text track block fault) → Rose before.notes.faults after.notes.faults
-      → Does (Some (Map format)) NotesFaultStatus before after
+      → Does (Map format) NotesFaultStatus before after
   map-cut-refusal part rose =
       let r = rest before.source after.source d.taken d.consumed in
       let s = d.says r.later (λ cut. r.ended (d.ended cut)) in

@@ -1,5 +1,5 @@
 -- What a command does that reads a disk by a plan, by what the reading says.
-use Rattle.std.proofs.Common.{◌≡◌, ◌==◌, ◌≤◌, ℕ, ◌+◌, ◌*◌, ◌++◌, Bool, true, false, if◌then◌else◌, inl, inr, List, [], take, length, Some, None, Ok, Err, refl, sym, ap, ◌∙◌, subst, append-nil, arith}
+use Rattle.std.proofs.Common.{◌≡◌, ◌==◌, ◌≤◌, ℕ, ◌+◌, ◌*◌, ◌++◌, Bool, true, false, if◌then◌else◌, inl, inr, List, [], take, length, None, Ok, Err, refl, sym, ap, ◌∙◌, subst, append-nil, arith}
 use Rattle.std.proofs.KnownBytes.{Appends-trans}
 use Rattle.flux_base.specs.Moments.{Moment}
 use Rattle.flux_base.specs.Outside.{Rose}
@@ -26,7 +26,7 @@ use Rattle.flux_cli.specs.declared.command.Command.TheVariants.{DecodeSet, Rescu
 use Rattle.flux_cli.proofs.Inputs.{rest}
 
 -- what holds of the work of the plan holds of the command's
-carried : (command : Command) (plan : Plan) (format : Format) → IsByPlan command plan format → (P : Work → Type 0) → P (planned_work plan format) → P (work_of (Some command))
+carried : (command : Command) (plan : Plan) (format : Format) → IsByPlan command plan format → (P : Work → Type 0) → P (planned_work plan format) → P (work_of command)
 carried (DecodeSet disk count) plan format (by, of) P here =
     subst (λ (q : Plan). P (planned_work q disk)) by (subst (λ (d : Format). P (planned_work plan d)) of here)
 carried (Rescue disk) plan format (by, of) P here =
@@ -63,15 +63,15 @@ module _ {S W N : Type 0} (plan : Plan) (format : Format) (command : Command) (b
         leaves = leaves-if plan format (d.taken ++ r.later) r.later (totals.good == totals.sectors) s.4;
       }
 
-  pub planned-done : (totals : Totals) → Decodes (Ok totals) → Does (Some command) (status_of totals None) before after
+  pub planned-done : (totals : Totals) → Decodes (Ok totals) → Does command (status_of totals None) before after
   planned-done totals d = by (totals.good == totals.sectors) (decoded totals d)
     where
       by : (b : Bool) → Finished (planned_work plan format) (if b then AllGood else NotAllGood) before after
-          → Does (Some command) (if b then AllGood else NotAllGood) before after
+          → Does command (if b then AllGood else NotAllGood) before after
       by true done = record { answer = tt; says = carried command plan format by_plan (λ (w : Work). Finished w AllGood before after) done; counts = counts; needed = carried command plan format by_plan (λ (w : Work). WasReadWhereNeeded w before after) needed }
       by false done = record { answer = tt; says = carried command plan format by_plan (λ (w : Work). Finished w NotAllGood before after) done; counts = counts; needed = carried command plan format by_plan (λ (w : Work). WasReadWhereNeeded w before after) needed }
 
-  pub planned-unread : Decodes (Err ReadFault) → Caused (Err ReadFault) → Does (Some command) ReadFaultStatus before after
+  pub planned-unread : Decodes (Err ReadFault) → Caused (Err ReadFault) → Does command ReadFaultStatus before after
   planned-unread d cause =
       let r = rest before.source after.source d.taken d.consumed in
       let s = d.says [] (λ _. refl) in
@@ -95,7 +95,7 @@ module _ {S W N : Type 0} (plan : Plan) (format : Format) (command : Command) (b
         needed = carried command plan format by_plan (λ (w : Work). WasReadWhereNeeded w before after) needed;
       }
 
-  pub planned-image-fault : Decodes (Err ImageFault) → Caused (Err ImageFault) → Does (Some command) ImageFaultStatus before after
+  pub planned-image-fault : Decodes (Err ImageFault) → Caused (Err ImageFault) → Does command ImageFaultStatus before after
   planned-image-fault d cause =
       let r = rest before.source after.source d.taken d.consumed in
       let cut : IsCut (planned_work plan format) ImageFaultStatus before after =
@@ -106,7 +106,7 @@ module _ {S W N : Type 0} (plan : Plan) (format : Format) (command : Command) (b
         needed = carried command plan format by_plan (λ (w : Work). WasReadWhereNeeded w before after) needed;
       }
 
-  pub planned-notes-fault : Decodes (Err NotesFault) → Caused (Err NotesFault) → Does (Some command) NotesFaultStatus before after
+  pub planned-notes-fault : Decodes (Err NotesFault) → Caused (Err NotesFault) → Does command NotesFaultStatus before after
   planned-notes-fault d cause =
       let r = rest before.source after.source d.taken d.consumed in
       let cut : IsCut (planned_work plan format) NotesFaultStatus before after =
@@ -128,7 +128,7 @@ module _ {S W N : Type 0} (plan : Plan) (format : Format) (command : Command) (b
   all_counts = record { source = counts.source; image = counts.image; notes = omega (arith, counts.notes, later) }
 
   pub planned-refused : Got (growth mid after.notes) (stop_text plan.naming stop)
-      → Does (Some command) RefusedStatus before after
+      → Does command RefusedStatus before after
   planned-refused line =
       let r = rest before.source after.source d.taken d.consumed in
       let s = d.says r.later (λ cut. r.ended (d.ended cut)) in
@@ -153,7 +153,7 @@ module _ {S W N : Type 0} (plan : Plan) (format : Format) (command : Command) (b
       }
 
   pub planned-cut-refusal : GotPart (growth mid after.notes) (stop_text plan.naming stop) → Rose mid.faults after.notes.faults
-      → Does (Some command) NotesFaultStatus before after
+      → Does command NotesFaultStatus before after
   planned-cut-refusal part rose =
       let r = rest before.source after.source d.taken d.consumed in
       let s = d.says r.later (λ cut. r.ended (d.ended cut)) in

@@ -1,11 +1,13 @@
 -- What a run does that reads nothing.
-use Rattle.std.proofs.Common.{ℕ, List, [], Option, None, Some, refl, sym, arith, append-nil}
+use Rattle.std.proofs.Common.{◌≡◌, ℕ, List, [], Option, None, Some, refl, sym, subst, arith, append-nil}
 use Rattle.std.proofs.KnownBytes.{Consumes-nil}
 use Rattle.std.specs.Io.KnownBytes.{Consumes}
 use Rattle.flux_base.specs.Outside.{Gives}
+use Rattle.flux_base.specs.declared.status.Status.{Status}
 use Rattle.flux_base.specs.declared.status.Status.TheVariants.{Usage, NotesFault, Memory}
 use Rattle.flux_engine.specs.Needed.{ReadsWhereOpen}
 use Rattle.kryo_stream.specs.Reads.{SourceMoment}
+use Rattle.sector_images.specs.declared.format.Format.{Format}
 use Rattle.flux_cli.specs.Runs.{Does, Finished, IsCut, Outside, growth, reads_of}
 use Rattle.flux_cli.specs.Work.{Got, GotNothing, GotPart}
 use Rattle.flux_cli.specs.Works.{usage_work, work_of}
@@ -27,13 +29,18 @@ not_read IsOpen m = record {
 }
 
 -- a command for which there was no memory
-pub out_of_memory : {S W N : Type 0} (command : Command) (now : Outside S W N) → Does (Some command) Memory now now
+pub out_of_memory : {S W N : Type 0} (command : Command) (now : Outside S W N) → Does command Memory now now
 out_of_memory command now = record {
   answer = tt;
   says = (refl, refl);
   counts = record { source = omega arith; image = omega arith; notes = omega arith };
-  needed = λ x told. not_read (work_of (Some command)).untold (reads_of now);
+  needed = λ x told. not_read (work_of command).untold (reads_of now);
 }
+
+-- what was done in a room that was made for a format was done for the format
+pub for_format : {S W N : Type 0} (command : Format → Command) (held format : Format) (status : Status) (before after : Outside S W N)
+    → held ≡ format → Does (command held) status before after → Does (command format) status before after
+for_format command held format status before after same did = subst (λ (f : Format). Does (command f) status before after) same did
 
 module _ {S W N : Type 0} (before after : Outside S W N) (unread : Consumes before.source.bytes after.source.bytes []) where
   -- what is told of wrong words

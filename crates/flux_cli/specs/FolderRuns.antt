@@ -72,7 +72,7 @@ pub record DecodesShelf {H W N : Type 0} (format : Format) (status : Status) (be
   pub inner : Status
   pub status_is : status ≡ over_shelf inner
   pub enough : inner ≢ Memory
-  pub does : Does (Some (Decode format)) inner (as_source before) (as_source after)
+  pub does : Does (Decode format) inner (as_source before) (as_source after)
 
 -- what was done by what `begin` answered
 abbrev pub DidBy : {H W N : Type 0} → Format → Result (Option ℕ) Failed → Status → (before after : OnShelf H W N) → Type 0

@@ -1,5 +1,5 @@
 -- What a run did that reads a disk by a plan.
-use Rattle.std.specs.Prelude.{◌≡◌, Some}
+use Rattle.std.specs.Prelude.{◌≡◌}
 use Rattle.capture_set.specs.Sets.{set_plan}
 use Rattle.disk_rescue.specs.Rescued.{rescuing}
 use Rattle.flux_base.specs.declared.status.Status.{Status}
@@ -17,4 +17,4 @@ IsByPlan _ plan format = ⊥
 
 -- what was done is what each command does that reads the disk by the plan
 abbrev pub DoesPlanned : {S W N : Type 0} → Plan → Format → Status → (before after : Outside S W N) → Type 0
-DoesPlanned plan format status before after = (command : Command) → IsByPlan command plan format → Does (Some command) status before after
+DoesPlanned plan format status before after = (command : Command) → IsByPlan command plan format → Does command status before after

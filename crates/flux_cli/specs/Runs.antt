@@ -48,7 +48,7 @@ pub record IsCut {S W N : Type 0} (work : Work) (status : Status) (before after 
   pub input : IsInput before.source after.source taken later
   pub place : work.cut status taken later (growth before.image after.image) (growth before.notes after.notes)
 
--- what the status says, by a row
+-- what the status says, by the row of what was asked
 abbrev pub SaysBy : {S W N : Type 0} → Work → Option Command → Status → (before after : Outside S W N) → Type 0
 SaysBy work asked AllGood before after = Finished work AllGood before after
 SaysBy work asked NotAllGood before after = Finished work NotAllGood before after
@@ -60,8 +60,8 @@ SaysBy work asked NotesFault before after = IsCut work NotesFault before after �
 SaysBy work asked Memory before after = IsSome asked × (after ≡ before)
 SaysBy work asked ShelfFault before after = ⊥
 
-abbrev pub Says : {S W N : Type 0} → Option Command → Status → (before after : Outside S W N) → Type 0
-Says asked status before after = SaysBy (work_of asked) asked status before after
+abbrev pub Says : {S W N : Type 0} → Command → Status → (before after : Outside S W N) → Type 0
+Says command status before after = SaysBy (work_of command) (Some command) status before after
 
 -- no object's count of faults is lower than it was
 pub record NoCountFell {S W N : Type 0} (before after : Outside S W N) : Type 0 where
@@ -86,15 +86,16 @@ abbrev pub WasReadWhereNeeded : {S W N : Type 0} → Work → (before after : Ou
 WasReadWhereNeeded work before after =
     (x : List ℕ) → before.source.bytes ≡ Some x → ReadsWhereOpen work.untold (reads_of before) (reads_of after)
 
--- what was done that was asked, by a row
+-- what was done that was asked, by its row
 pub record DoesBy {S W N : Type 0} (work : Work) (asked : Option Command) (status : Status) (before after : Outside S W N) : Type 0 where
   pub answer : IsAnswer asked status
   pub says : SaysBy work asked status before after
   pub counts : NoCountFell before after
   pub needed : WasReadWhereNeeded work before after
 
-abbrev pub Does : {S W N : Type 0} → Option Command → Status → (before after : Outside S W N) → Type 0
-Does asked status before after = DoesBy (work_of asked) asked status before after
+-- what was done for a command
+abbrev pub Does : {S W N : Type 0} → Command → Status → (before after : Outside S W N) → Type 0
+Does command status before after = DoesBy (work_of command) (Some command) status before after
 
 -- what a run over the source with these words did
 pub record RanOverSource {S W N : Type 0} (words : List (List ℕ)) (status : Status) (before after : Outside S W N) : Type 0 where

@@ -4,7 +4,6 @@ use Rattle.capture_set.specs.Sets.{set_plan}
 use Rattle.disk_rescue.specs.Rescued.{rescuing}
 use Rattle.flux_base.specs.declared.status.Status.{Status}
 use Rattle.flux_base.specs.declared.status.Status.TheVariants.{Usage, NotesFault}
-use Rattle.sector_report.specs.Lines.{usage_text}
 use Rattle.flux_help.specs.WrongWords.{wrong_text}
 use Rattle.flux_cli.specs.Commands.{AskFor}
 use Rattle.flux_cli.specs.DisksWork.{disk_work}
@@ -39,25 +38,24 @@ usage_work text = record {
   cut = usage_cut text;
 }
 
--- the row of a command; and of words that are none, of which no more is known
-abbrev pub work_of : Option Command → Work
-work_of None = usage_work usage_text
-work_of (Some Turns) = turns_work
-work_of (Some (Decode format)) = disk_work ImageAndReport format
-work_of (Some (Report format)) = disk_work ReportAlone format
-work_of (Some (Map format)) = map_work format
-work_of (Some (Write format)) = write_work format
-work_of (Some (Trial format seed)) = trial_work format seed
-work_of (Some (ToG64 disk)) = to_g64_work (format_of disk)
-work_of (Some (FromG64 disk)) = from_g64_work (format_of disk)
-work_of (Some (DecodeSet format count)) = planned_work (set_plan count) format
-work_of (Some (Rescue format)) = planned_work rescuing format
-work_of (Some (Tell page)) = page_work page
+-- the row of a command
+abbrev pub work_of : Command → Work
+work_of Turns = turns_work
+work_of (Decode format) = disk_work ImageAndReport format
+work_of (Report format) = disk_work ReportAlone format
+work_of (Map format) = map_work format
+work_of (Write format) = write_work format
+work_of (Trial format seed) = trial_work format seed
+work_of (ToG64 disk) = to_g64_work (format_of disk)
+work_of (FromG64 disk) = from_g64_work (format_of disk)
+work_of (DecodeSet format count) = planned_work (set_plan count) format
+work_of (Rescue format) = planned_work rescuing format
+work_of (Tell page) = page_work page
 
 -- the row of what these words ask for: where they are no command, they are told what is wrong with them
 abbrev pub work_for : List (List ℕ) → Option Command → Work
 work_for words None = usage_work (wrong_text words)
-work_for words (Some command) = work_of (Some command)
+work_for words (Some command) = work_of command
 
 -- this is the outcome of the words over the input, where they name no folder
 abbrev pub IsOutcome : List (List ℕ) → List ℕ → Outcome → Type 0

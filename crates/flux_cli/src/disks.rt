@@ -1,4 +1,4 @@
-ghost use Rattle.std.specs.Prelude.{◌≡◌, ◌≢◌, None, Some};
+ghost use Rattle.std.specs.Prelude.{◌≡◌, ◌≢◌, None};
 ghost use Rattle.flux_base.specs.Moments.{moment};
 ghost use Rattle.flux_base.specs.declared.status.Status.{Status};
 ghost use Rattle.flux_cli.specs.Commands.{command_for};
@@ -22,7 +22,7 @@ pub fn decode<S: Source, W: Sink, N: Sink>(
     notes: &mut N,
 ) -> Status
     requires { room.old ≡ fresh room.old.format }
-    ensures does { Does (Some (command_for output room.old.format)) result
+    ensures does { Does (command_for output room.old.format) result
         (outside (moment S.left S.faults source.old) (S.given source.old) (moment W.written W.faults image.old) (moment N.written N.faults notes.old))
         (outside (moment S.left S.faults source.new) (S.given source.new) (moment W.written W.faults image.new) (moment N.written N.faults notes.new)) }
     ensures memory { result ≢ Status.Memory }

@@ -1,6 +1,6 @@
 //! A Commodore 1541's disk as the file that emulators keep of it, and back.
 
-ghost use Rattle.std.specs.Prelude.{◌≡◌, ◌≢◌, Some};
+ghost use Rattle.std.specs.Prelude.{◌≡◌, ◌≢◌};
 ghost use Rattle.flux_base.specs.Moments.{moment};
 ghost use Rattle.flux_base.specs.declared.status.Status.{Status};
 ghost use Rattle.flux_cli.specs.Runs.{Does, outside};
@@ -20,7 +20,7 @@ pub fn to_file<S: Source, W: Sink, N: Sink>(
     image: &mut W,
     notes: &mut N,
 ) -> Status
-    ensures does { (disk : Disk) → room.old ≡ format_of disk → Does (Some (ToG64 disk)) result
+    ensures does { (disk : Disk) → room.old ≡ format_of disk → Does (ToG64 disk) result
         (outside (moment S.left S.faults source.old) (S.given source.old) (moment W.written W.faults image.old) (moment N.written N.faults notes.old))
         (outside (moment S.left S.faults source.new) (S.given source.new) (moment W.written W.faults image.new) (moment N.written N.faults notes.new)) }
     ensures memory { result ≢ Status.Memory }
@@ -45,7 +45,7 @@ pub fn from_file<S: Source, W: Sink, N: Sink>(
     image: &mut W,
     notes: &mut N,
 ) -> Status
-    ensures does { (disk : Disk) → room.old ≡ format_of disk → Does (Some (FromG64 disk)) result
+    ensures does { (disk : Disk) → room.old ≡ format_of disk → Does (FromG64 disk) result
         (outside (moment S.left S.faults source.old) (S.given source.old) (moment W.written W.faults image.old) (moment N.written N.faults notes.old))
         (outside (moment S.left S.faults source.new) (S.given source.new) (moment W.written W.faults image.new) (moment N.written N.faults notes.new)) }
     ensures memory { result ≢ Status.Memory }

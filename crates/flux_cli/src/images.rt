@@ -1,4 +1,4 @@
-ghost use Rattle.std.specs.Prelude.{◌≢◌, Some};
+ghost use Rattle.std.specs.Prelude.{◌≢◌};
 ghost use Rattle.flux_base.specs.Moments.{moment};
 ghost use Rattle.flux_base.specs.declared.status.Status.{Status};
 ghost use Rattle.flux_cli.specs.Runs.{Does, outside};
@@ -15,7 +15,7 @@ pub fn write<S: Source, W: Sink, N: Sink>(
     image: &mut W,
     notes: &mut N,
 ) -> Status
-    ensures does { Does (Some (Write room.old)) result
+    ensures does { Does (Write room.old) result
         (outside (moment S.left S.faults source.old) (S.given source.old) (moment W.written W.faults image.old) (moment N.written N.faults notes.old))
         (outside (moment S.left S.faults source.new) (S.given source.new) (moment W.written W.faults image.new) (moment N.written N.faults notes.new)) }
     ensures memory { result ≢ Status.Memory }

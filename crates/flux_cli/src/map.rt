@@ -1,6 +1,6 @@
 //! A picture of a disk.
 
-ghost use Rattle.std.specs.Prelude.{◌≡◌, ◌≢◌, Some};
+ghost use Rattle.std.specs.Prelude.{◌≡◌, ◌≢◌};
 ghost use Rattle.flux_base.specs.Moments.{moment};
 ghost use Rattle.flux_base.specs.declared.status.Status.{Status};
 ghost use Rattle.flux_cli.specs.Runs.{Does, outside};
@@ -21,7 +21,7 @@ pub fn draw<S: Source, W: Sink, N: Sink>(
     notes: &mut N,
 ) -> Status
     requires { room.old ≡ fresh room.old.format }
-    ensures does { Does (Some (Map room.old.format)) result
+    ensures does { Does (Map room.old.format) result
         (outside (moment S.left S.faults source.old) (S.given source.old) (moment W.written W.faults image.old) (moment N.written N.faults notes.old))
         (outside (moment S.left S.faults source.new) (S.given source.new) (moment W.written W.faults image.new) (moment N.written N.faults notes.new)) }
     ensures memory { result ≢ Status.Memory }

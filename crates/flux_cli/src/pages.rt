@@ -1,4 +1,3 @@
-ghost use Rattle.std.specs.Prelude.{Some};
 ghost use Rattle.flux_base.specs.Moments.{moment};
 ghost use Rattle.flux_cli.specs.Runs.{Does, outside};
 ghost use Rattle.flux_cli.specs.declared.command.Command.TheVariants.{Tell};
@@ -13,7 +12,7 @@ pub fn tell<S: Source, W: Sink, N: Sink>(
     image: &mut W,
     _notes: &mut N,
 ) -> Status
-    ensures { Does (Some (Tell page)) result
+    ensures { Does (Tell page) result
         (outside (moment S.left S.faults _source.old) (S.given _source.old) (moment W.written W.faults image.old) (moment N.written N.faults _notes.old))
         (outside (moment S.left S.faults _source.new) (S.given _source.new) (moment W.written W.faults image.new) (moment N.written N.faults _notes.new)) }
 {

@@ -1,6 +1,6 @@
 //! Disks that are read by a plan: one of which several streams capture each track, and one whose streams are each read by two clocks.
 
-ghost use Rattle.std.specs.Prelude.{◌≡◌, ◌≢◌, ◌≤◌, Some};
+ghost use Rattle.std.specs.Prelude.{◌≡◌, ◌≢◌, ◌≤◌};
 ghost use Rattle.flux_base.specs.Moments.{moment};
 ghost use Rattle.flux_base.specs.declared.status.Status.{Status};
 ghost use Rattle.flux_cli.specs.PlanRuns.{DoesPlanned};
@@ -29,7 +29,7 @@ pub fn decode_captures<S: Source, W: Sink, N: Sink>(
     requires fresh { room.old ≡ fresh room.old.format }
     requires some { 1 ≤ count }
     requires few { count ≤ 16 }
-    ensures does { Does (Some (DecodeSet room.old.format count)) result
+    ensures does { Does (DecodeSet room.old.format count) result
         (outside (moment S.left S.faults source.old) (S.given source.old) (moment W.written W.faults image.old) (moment N.written N.faults notes.old))
         (outside (moment S.left S.faults source.new) (S.given source.new) (moment W.written W.faults image.new) (moment N.written N.faults notes.new)) }
     ensures memory { result ≢ Status.Memory }
@@ -45,7 +45,7 @@ pub fn rescue<S: Source, W: Sink, N: Sink>(
     notes: &mut N,
 ) -> Status
     requires fresh { room.old ≡ fresh room.old.format }
-    ensures does { Does (Some (Rescue room.old.format)) result
+    ensures does { Does (Rescue room.old.format) result
         (outside (moment S.left S.faults source.old) (S.given source.old) (moment W.written W.faults image.old) (moment N.written N.faults notes.old))
         (outside (moment S.left S.faults source.new) (S.given source.new) (moment W.written W.faults image.new) (moment N.written N.faults notes.new)) }
     ensures memory { result ≢ Status.Memory }

@@ -170,7 +170,7 @@ fn run_turns<S: Source, W: Sink, N: Sink>(
     image: &mut W,
     notes: &mut N,
 ) -> Status
-    ensures { Does (Some Turns) result
+    ensures { Does Turns result
         (outside (moment S.left S.faults source.old) (S.given source.old) (moment W.written W.faults image.old) (moment N.written N.faults notes.old))
         (outside (moment S.left S.faults source.new) (S.given source.new) (moment W.written W.faults image.new) (moment N.written N.faults notes.new)) }
 {
@@ -189,7 +189,7 @@ fn run_decode<S: Source, W: Sink, N: Sink>(
     image: &mut W,
     notes: &mut N,
 ) -> Status
-    ensures { Does (Some (command_for output format)) result
+    ensures { Does (command_for output format) result
         (outside (moment S.left S.faults source.old) (S.given source.old) (moment W.written W.faults image.old) (moment N.written N.faults notes.old))
         (outside (moment S.left S.faults source.new) (S.given source.new) (moment W.written W.faults image.new) (moment N.written N.faults notes.new)) }
 {
@@ -207,7 +207,7 @@ fn run_map<S: Source, W: Sink, N: Sink>(
     image: &mut W,
     notes: &mut N,
 ) -> Status
-    ensures { Does (Some (Map format)) result
+    ensures { Does (Map format) result
         (outside (moment S.left S.faults source.old) (S.given source.old) (moment W.written W.faults image.old) (moment N.written N.faults notes.old))
         (outside (moment S.left S.faults source.new) (S.given source.new) (moment W.written W.faults image.new) (moment N.written N.faults notes.new)) }
 {
@@ -225,7 +225,7 @@ fn run_write<S: Source, W: Sink, N: Sink>(
     image: &mut W,
     notes: &mut N,
 ) -> Status
-    ensures { Does (Some (Write format)) result
+    ensures { Does (Write format) result
         (outside (moment S.left S.faults source.old) (S.given source.old) (moment W.written W.faults image.old) (moment N.written N.faults notes.old))
         (outside (moment S.left S.faults source.new) (S.given source.new) (moment W.written W.faults image.new) (moment N.written N.faults notes.new)) }
 {
@@ -244,7 +244,7 @@ fn run_trial<S: Source, W: Sink, N: Sink>(
     image: &mut W,
     notes: &mut N,
 ) -> Status
-    ensures { Does (Some (Trial format seed)) result
+    ensures { Does (Trial format seed) result
         (outside (moment S.left S.faults source.old) (S.given source.old) (moment W.written W.faults image.old) (moment N.written N.faults notes.old))
         (outside (moment S.left S.faults source.new) (S.given source.new) (moment W.written W.faults image.new) (moment N.written N.faults notes.new)) }
 {
@@ -262,7 +262,7 @@ fn run_to_file<S: Source, W: Sink, N: Sink>(
     image: &mut W,
     notes: &mut N,
 ) -> Status
-    ensures { Does (Some (ToG64 disk)) result
+    ensures { Does (ToG64 disk) result
         (outside (moment S.left S.faults source.old) (S.given source.old) (moment W.written W.faults image.old) (moment N.written N.faults notes.old))
         (outside (moment S.left S.faults source.new) (S.given source.new) (moment W.written W.faults image.new) (moment N.written N.faults notes.new)) }
 {
@@ -280,7 +280,7 @@ fn run_from_file<S: Source, W: Sink, N: Sink>(
     image: &mut W,
     notes: &mut N,
 ) -> Status
-    ensures { Does (Some (FromG64 disk)) result
+    ensures { Does (FromG64 disk) result
         (outside (moment S.left S.faults source.old) (S.given source.old) (moment W.written W.faults image.old) (moment N.written N.faults notes.old))
         (outside (moment S.left S.faults source.new) (S.given source.new) (moment W.written W.faults image.new) (moment N.written N.faults notes.new)) }
 {
@@ -301,7 +301,7 @@ fn run_set<S: Source, W: Sink, N: Sink>(
 ) -> Status
     requires some { 1 ≤ count }
     requires few { count ≤ 16 }
-    ensures { Does (Some (DecodeSet format count)) result
+    ensures { Does (DecodeSet format count) result
         (outside (moment S.left S.faults source.old) (S.given source.old) (moment W.written W.faults image.old) (moment N.written N.faults notes.old))
         (outside (moment S.left S.faults source.new) (S.given source.new) (moment W.written W.faults image.new) (moment N.written N.faults notes.new)) }
 {
@@ -319,7 +319,7 @@ fn run_rescue<S: Source, W: Sink, N: Sink>(
     image: &mut W,
     notes: &mut N,
 ) -> Status
-    ensures { Does (Some (Rescue format)) result
+    ensures { Does (Rescue format) result
         (outside (moment S.left S.faults source.old) (S.given source.old) (moment W.written W.faults image.old) (moment N.written N.faults notes.old))
         (outside (moment S.left S.faults source.new) (S.given source.new) (moment W.written W.faults image.new) (moment N.written N.faults notes.new)) }
 {
@@ -337,7 +337,7 @@ fn turns<S: Source, W: Sink, N: Sink>(
     notes: &mut N,
 ) -> Status
     requires { IsFresh room.old }
-    ensures does { Does (Some Turns) result
+    ensures does { Does Turns result
         (outside (moment S.left S.faults source.old) (S.given source.old) (moment W.written W.faults image.old) (moment N.written N.faults notes.old))
         (outside (moment S.left S.faults source.new) (S.given source.new) (moment W.written W.faults image.new) (moment N.written N.faults notes.new)) }
     ensures memory { result ≢ Status.Memory }

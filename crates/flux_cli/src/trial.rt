@@ -1,4 +1,4 @@
-ghost use Rattle.std.specs.Prelude.{◌≡◌, ◌≢◌, Some, false};
+ghost use Rattle.std.specs.Prelude.{◌≡◌, ◌≢◌, false};
 ghost use Rattle.flux_base.specs.Moments.{moment};
 ghost use Rattle.flux_base.specs.declared.status.Status.{Status};
 ghost use Rattle.flux_cli.specs.Runs.{Does, outside};
@@ -16,7 +16,7 @@ pub fn trial<S: Source, W: Sink, N: Sink>(
     _notes: &mut N,
 ) -> Status
     requires { room.old.used ≡ false }
-    ensures does { Does (Some (Trial room.old.format seed)) result
+    ensures does { Does (Trial room.old.format seed) result
         (outside (moment S.left S.faults _source.old) (S.given _source.old) (moment W.written W.faults image.old) (moment N.written N.faults _notes.old))
         (outside (moment S.left S.faults _source.new) (S.given _source.new) (moment W.written W.faults image.new) (moment N.written N.faults _notes.new)) }
     ensures memory { result ≢ Status.Memory }
