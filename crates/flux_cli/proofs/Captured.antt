@@ -16,7 +16,8 @@ use Rattle.flux_cli.specs.Captured.{DecodesFolder, FolderCaptured, FolderErased,
 use Rattle.flux_cli.specs.Commands.{words_of}
 use Rattle.flux_cli.specs.Headlines.{Gave, GaveOrCut, IsExpected, IsOfDecoded, WasRead}
 use Rattle.flux_cli.specs.Runs.{Outside, Says, growth}
-use Rattle.flux_cli.specs.FolderRuns.{Began, DidBy, DoesFolder, OnShelf, Ran, RanBy, ShelfMoment, Surroundings, as_source, on_shelf, over_shelf}
+use Rattle.flux_cli.specs.FolderRuns.{Began, DidBy, DoesFolder, OnShelf, ShelfMoment, as_source, over_shelf}
+use Rattle.flux_cli.specs.ShelfRuns.{Ran, RanBy, Surroundings, on_shelf}
 use Rattle.flux_cli.specs.FolderWords.{NamesFolder, folder_words}
 use Rattle.flux_cli.specs.Work.{Got}
 use Rattle.flux_cli.specs.declared.command.Command.TheVariants.{Decode}
@@ -99,7 +100,7 @@ module _ (laws : Laws) {S W N H : Type 0} (words : List (List ℕ)) (status : St
       → DoesFolder format folder status (on_shelf before) (on_shelf after)
   folder_did format folder are some = by ran.folder ran.names ran.did
     where
-      by : (named : Option (Format × List ℕ)) → NamesFolder words named → RanBy named words status before after
+      by : (named : Option (Format × List ℕ)) → NamesFolder words named → RanBy named ran.dumps words status before after
           → DoesFolder format folder status (on_shelf before) (on_shelf after)
       by None none did = absurd (none format folder some are)
       by (Some named) named_is did =

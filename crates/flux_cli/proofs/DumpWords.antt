@@ -9,20 +9,15 @@ use Rattle.sector_images.specs.Formats.{formats, is_listed, row}
 use Rattle.sector_images.specs.declared.format.Format.{Format}
 use Rattle.track_shelf.specs.declared.stepping.Stepping.{Stepping}
 use Rattle.track_shelf.specs.declared.stepping.Stepping.TheVariants.{Single, Double}
-use Rattle.flux_cli.specs.DumpParts.{IsMaybeReadable, IsNotFirst, NamesBehind, NamesStepped, NamesWith, disk_words}
-use Rattle.flux_cli.specs.DumpWords.{Asked, CanBeRead, NamesDumps, double_step_word, output_words, picture_word, stepping_words}
-use Rattle.flux_cli.specs.declared.dump_words.DumpOutput.{DumpOutput}
-use Rattle.flux_cli.specs.declared.dump_words.DumpOutput.TheVariants.{ImageAndReport, Picture}
+use Rattle.flux_cli.specs.DumpParts.{IsMaybeReadable, IsNotFirst, NamesBehind, NamesWith, disk_words}
+use Rattle.flux_cli.specs.DumpWords.{Asked, CanBeRead, NamesDumps, double_step_word, stepping_words}
 
--- no format has an option's word
+-- no format has this word
 abbrev is_other : List ℕ → Format → Bool
 is_other word f = not (bytes_eq (row f).word word)
 
 others_step : list_all (is_other double_step_word) formats ≡ true
 others_step = refl
-
-others_picture : list_all (is_other picture_word) formats ≡ true
-others_picture = refl
 
 not_same : (b : Bool) → not b ≡ true → b ≡ true → ⊥
 not_same b is_not is = cc
@@ -39,12 +34,6 @@ head-same x y xs ys same = cc
 tail-same : {X : Type 0} (x y : X) (xs ys : List X) → x ∷ xs ≡ y ∷ ys → xs ≡ ys
 tail-same x y xs ys same = cc
 
-options-differ : picture_word ≢ double_step_word
-options-differ same = differ (ap (λ (w : List ℕ). bytes_eq w picture_word) same)
-  where
-    differ : true ≡ false → ⊥
-    differ same = cc
-
 -- the command's word
 pub dumps-named : (words rest : List (List ℕ)) (r : Option Asked) → words ≡ codes "read" ∷ rest → NamesBehind rest r → NamesDumps words r
 dumps-named words rest None at names = λ asked can same. names asked can (tail-same _ _ _ _ (sym at ∙ same))
@@ -53,82 +42,51 @@ dumps-named words rest (Some asked) at names = (at ∙ ap (λ later. codes "read
 pub dumps-unnamed : (words : List (List ℕ)) → IsNotFirst (codes "read") words → NamesDumps words None
 dumps-unnamed words other = λ asked can same. other _ same
 
--- that of the stepping, if there is one
 module _ (words : List (List ℕ)) where
-  pub step-named : (rest : List (List ℕ)) (r : Option Asked) → words ≡ double_step_word ∷ rest → NamesStepped Double rest r → NamesBehind words r
-  step-named rest (Some asked) at names =
-      (at ∙ ap (λ later. double_step_word ∷ later) names.1 ∙ ap (λ (s : Stepping). stepping_words s ++ (output_words asked.output ++ disk_words asked)) (sym names.0), names.2)
-  step-named rest None at names = λ asked can same. by asked.stepping asked.output asked refl refl can same
-    where
-      by : (s : Stepping) (o : DumpOutput) → (asked : Asked) → asked.stepping ≡ s → asked.output ≡ o → CanBeRead asked
-          → words ≢ stepping_words asked.stepping ++ (output_words asked.output ++ disk_words asked)
-      by Double o asked is given can same =
-          names asked is can (tail-same _ _ _ _ (sym at ∙ same ∙ ap (λ (t : Stepping). stepping_words t ++ (output_words asked.output ++ disk_words asked)) is))
-      by Single ImageAndReport asked is given can same =
-          other-word double_step_word others_step asked.format
-          (head-same _ _ _ _ (sym (sym at ∙ same ∙ ap (λ (t : Stepping). stepping_words t ++ (output_words asked.output ++ disk_words asked)) is
-          ∙ ap (λ (p : DumpOutput). output_words p ++ disk_words asked) given)))
-      by Single Picture asked is given can same =
-          options-differ
-          (head-same _ _ _ _ (sym (sym at ∙ same ∙ ap (λ (t : Stepping). stepping_words t ++ (output_words asked.output ++ disk_words asked)) is
-          ∙ ap (λ (p : DumpOutput). output_words p ++ disk_words asked) given)))
+  -- the words of a disk behind those of its stepping
+  stepped : (asked : Asked) (stepping : Stepping) → asked.stepping ≡ stepping
+      → stepping_words asked.stepping ++ disk_words asked ≡ stepping_words stepping ++ disk_words asked
+  stepped asked stepping is = ap (λ (s : Stepping). stepping_words s ++ disk_words asked) is
 
-  pub step-unnamed : (r : Option Asked) → IsNotFirst double_step_word words → NamesStepped Single words r → NamesBehind words r
-  step-unnamed (Some asked) other names =
-      (names.1 ∙ ap (λ (s : Stepping). stepping_words s ++ (output_words asked.output ++ disk_words asked)) (sym names.0), names.2)
+  -- that of the stepping, if there is one
+  pub step-named : (rest : List (List ℕ)) (r : Option Asked) → words ≡ double_step_word ∷ rest → NamesWith Double rest r → NamesBehind words r
+  step-named rest (Some asked) at names = (at ∙ ap (λ later. double_step_word ∷ later) names.1 ∙ sym (stepped asked Double names.0), names.2)
+  step-named rest None at names = λ asked can same. by asked.stepping asked refl can same
+    where
+      by : (s : Stepping) (asked : Asked) → asked.stepping ≡ s → CanBeRead asked → words ≢ stepping_words asked.stepping ++ disk_words asked
+      by Double asked is can same = names asked is can (tail-same _ _ _ _ (sym at ∙ same ∙ stepped asked Double is))
+      by Single asked is can same =
+          other-word double_step_word others_step asked.format (head-same _ _ _ _ (sym (sym at ∙ same ∙ stepped asked Single is)))
+
+  pub step-unnamed : (r : Option Asked) → IsNotFirst double_step_word words → NamesWith Single words r → NamesBehind words r
+  step-unnamed (Some asked) other names = (names.1 ∙ sym (stepped asked Single names.0), names.2)
   step-unnamed None other names = λ asked can same. by asked.stepping asked refl can same
     where
-      by : (s : Stepping) → (asked : Asked) → asked.stepping ≡ s → CanBeRead asked
-          → words ≢ stepping_words asked.stepping ++ (output_words asked.output ++ disk_words asked)
-      by Double asked is can same = other _ (same ∙ ap (λ (t : Stepping). stepping_words t ++ (output_words asked.output ++ disk_words asked)) is)
-      by Single asked is can same = names asked is can (same ∙ ap (λ (t : Stepping). stepping_words t ++ (output_words asked.output ++ disk_words asked)) is)
+      by : (s : Stepping) (asked : Asked) → asked.stepping ≡ s → CanBeRead asked → words ≢ stepping_words asked.stepping ++ disk_words asked
+      by Double asked is can same = other _ (same ∙ stepped asked Double is)
+      by Single asked is can same = names asked is can (same ∙ stepped asked Single is)
 
+  -- the format and the dumps
   module _ (stepping : Stepping) where
-    -- that of the picture, if there is one
-    pub picture-named : (rest : List (List ℕ)) (r : Option Asked) → words ≡ picture_word ∷ rest → NamesWith stepping Picture rest r → NamesStepped stepping words r
-    picture-named rest (Some asked) at names =
-        (names.0, at ∙ ap (λ later. picture_word ∷ later) names.2 ∙ ap (λ (p : DumpOutput). output_words p ++ disk_words asked) (sym names.1), names.3)
-    picture-named rest None at names = λ asked steps can same. by asked.output asked refl steps can same
+    pub with-format : (format : Format) (word : List ℕ) (dumps : List (List ℕ)) (r : Option Asked) → words ≡ word ∷ dumps → (row format).word ≡ word
+        → ((f g : Format) → (row f).word ≡ (row g).word → f ≡ g)
+        → IsMaybeReadable (record { stepping = stepping; dumps = dumps; format = format }) r → NamesWith stepping words r
+    with-format format word dumps (Some asked) at is one readable = (
+      ap (λ (a : Asked). a.stepping) readable.0,
+      at ∙ ap (λ w. w ∷ dumps) (sym is) ∙ ap disk_words (sym readable.0),
+      readable.1,
+    )
+    with-format format word dumps None at is one readable = λ asked steps can same.
+        let both : (row asked.format).word ∷ asked.dumps ≡ word ∷ dumps = sym same ∙ at in
+        let kind : asked.format ≡ format = one asked.format format (head-same _ _ _ _ both ∙ sym is) in
+        let rest : asked.dumps ≡ dumps = tail-same _ _ _ _ both in
+        readable (subst CanBeRead (same-asked asked (record { stepping = stepping; dumps = dumps; format = format }) steps rest kind) can)
       where
-        by : (o : DumpOutput) → (asked : Asked) → asked.output ≡ o → asked.stepping ≡ stepping → CanBeRead asked → words ≢ output_words asked.output ++ disk_words asked
-        by Picture asked given steps can same =
-            names asked steps given can (tail-same _ _ _ _ (sym at ∙ same ∙ ap (λ (p : DumpOutput). output_words p ++ disk_words asked) given))
-        by ImageAndReport asked given steps can same =
-            other-word picture_word others_picture asked.format
-            (head-same _ _ _ _ (sym (sym at ∙ same ∙ ap (λ (p : DumpOutput). output_words p ++ disk_words asked) given)))
+        same-asked : (a b : Asked) → a.stepping ≡ b.stepping → a.dumps ≡ b.dumps → a.format ≡ b.format → a ≡ b
+        same-asked a b steps rest kinds =
+            ap (λ (s : Stepping). record a { stepping = s }) steps
+            ∙ ap (λ (d : List (List ℕ)). record a { stepping = b.stepping; dumps = d }) rest
+            ∙ ap (λ (f : Format). record b { format = f }) kinds
 
-    pub picture-unnamed : (r : Option Asked) → IsNotFirst picture_word words → NamesWith stepping ImageAndReport words r → NamesStepped stepping words r
-    picture-unnamed (Some asked) other names =
-        (names.0, names.2 ∙ ap (λ (p : DumpOutput). output_words p ++ disk_words asked) (sym names.1), names.3)
-    picture-unnamed None other names = λ asked steps can same. by asked.output asked refl steps can same
-      where
-        by : (o : DumpOutput) → (asked : Asked) → asked.output ≡ o → asked.stepping ≡ stepping → CanBeRead asked → words ≢ output_words asked.output ++ disk_words asked
-        by Picture asked given steps can same = other _ (same ∙ ap (λ (p : DumpOutput). output_words p ++ disk_words asked) given)
-        by ImageAndReport asked given steps can same = names asked steps given can (same ∙ ap (λ (p : DumpOutput). output_words p ++ disk_words asked) given)
-
-    -- the format and the dumps
-    module _ (output : DumpOutput) where
-      pub with-format : (format : Format) (word : List ℕ) (dumps : List (List ℕ)) (r : Option Asked) → words ≡ word ∷ dumps → (row format).word ≡ word
-          → ((f g : Format) → (row f).word ≡ (row g).word → f ≡ g)
-          → IsMaybeReadable (record { stepping = stepping; output = output; format = format; dumps = dumps }) r → NamesWith stepping output words r
-      with-format format word dumps (Some asked) at is one readable = (
-        ap (λ (a : Asked). a.stepping) readable.0,
-        ap (λ (a : Asked). a.output) readable.0,
-        at ∙ ap (λ w. w ∷ dumps) (sym is) ∙ ap disk_words (sym readable.0),
-        readable.1,
-      )
-      with-format format word dumps None at is one readable = λ asked steps given can same.
-          let both : (row asked.format).word ∷ asked.dumps ≡ word ∷ dumps = sym same ∙ at in
-          let kind : asked.format ≡ format = one asked.format format (head-same _ _ _ _ both ∙ sym is) in
-          let rest : asked.dumps ≡ dumps = tail-same _ _ _ _ both in
-          readable (subst CanBeRead (same-asked asked (record { stepping = stepping; output = output; format = format; dumps = dumps }) steps given kind rest) can)
-        where
-          same-asked : (a b : Asked) → a.stepping ≡ b.stepping → a.output ≡ b.output → a.format ≡ b.format → a.dumps ≡ b.dumps → a ≡ b
-          same-asked a b steps given kinds rest =
-              ap (λ (s : Stepping). record a { stepping = s }) steps
-              ∙ ap (λ (o : DumpOutput). record a { stepping = b.stepping; output = o }) given
-              ∙ ap (λ (f : Format). record a { stepping = b.stepping; output = b.output; format = f }) kinds
-              ∙ ap (λ (d : List (List ℕ)). record b { dumps = d }) rest
-
-      pub no-format : (word : List ℕ) (dumps : List (List ℕ)) → words ≡ word ∷ dumps → ((f : Format) → (row f).word ≢ word) → NamesWith stepping output words None
-      no-format word dumps at none = λ asked steps given can same. none asked.format (head-same _ _ _ _ (sym same ∙ at))
+    pub no-format : (word : List ℕ) (dumps : List (List ℕ)) → words ≡ word ∷ dumps → ((f : Format) → (row f).word ≢ word) → NamesWith stepping words None
+    no-format word dumps at none = λ asked steps can same. none asked.format (head-same _ _ _ _ (sym same ∙ at))

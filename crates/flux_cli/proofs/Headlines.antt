@@ -27,13 +27,14 @@ use Rattle.sector_report.specs.declared.totals.Totals.{Totals}
 use Rattle.turn_merge.specs.declared.verdict.Verdict.TheVariants.{Good}
 use Rattle.flux_cli.specs.Commands.{AreWordsOf, AskFor}
 use Rattle.flux_cli.specs.DisksWork.{disk_outcome, refusal_of, status_of, to_notes}
-use Rattle.flux_cli.specs.FolderRuns.{Ran, RanBy, Surroundings}
+use Rattle.flux_cli.specs.DumpWords.{Asked, NamesDumps}
 use Rattle.flux_cli.specs.FolderWords.{NamesFolder}
 use Rattle.flux_cli.specs.G64Disks.{format_of}
 use Rattle.flux_cli.specs.G64Work.{file_refusal, file_status, from_g64_outcome}
 use Rattle.flux_cli.specs.Headlines.{AreRightInFile, AreRightOnDisk, Gave, GaveOrCut, IsExpected, IsOfDecoded, IsOfFile, IsOfPlanned, OfDisk, OfFile, OfRescue, OfSet, OfTrial, RunsAsExpected, WasRead}
 use Rattle.flux_cli.specs.PlanWork.{IsRead, planned_outcome, planned_refusal, planned_status}
 use Rattle.flux_cli.specs.Runs.{Finished, Outside, Says, SaysBy}
+use Rattle.flux_cli.specs.ShelfRuns.{Ran, RanBy, Surroundings}
 use Rattle.flux_cli.specs.Work.{Outcome}
 use Rattle.flux_cli.specs.Works.{work_for, work_of}
 use Rattle.flux_cli.specs.declared.command.Command.{Command}
@@ -42,7 +43,7 @@ use Rattle.flux_cli.specs.declared.command.Output.{Output}
 use Rattle.flux_cli.specs.declared.command.Output.TheVariants.{ImageAndReport, ReportAlone}
 use Rattle.flux_cli.specs.declared.g64_disk.G64Disk.{G64Disk}
 use Rattle.flux_cli.specs.declared.g64_disk.G64Disk.TheVariants.{Tracks35, Tracks40}
-use Rattle.flux_cli.proofs.Outcomes.{no_folder, one_command}
+use Rattle.flux_cli.proofs.Outcomes.{no_dumps, no_folder, one_command}
 
 -- what the crates below promise
 pub record Laws : Type 0 where
@@ -246,14 +247,15 @@ asked_is names words command (Some other) are asks = ap Some (one_command names 
 module _ (names : WordsNameFormats) {S W N H : Type 0} (words : List (List ℕ)) (status : Status) (before after : Surroundings S W N H) (ran : Ran words status before after) where
   -- what was done for a command over the source
   pub says_of : (command : Command) → AreWordsOf command words → Says command status before.outside after.outside
-  says_of command are = by ran.folder ran.names ran.did
+  says_of command are = by ran.folder ran.dumps ran.names ran.names_dumps ran.did
     where
-      by : (folder : Option (Format × List ℕ)) → NamesFolder words folder → RanBy folder words status before after
-          → Says command status before.outside after.outside
-      by None none did =
+      by : (folder : Option (Format × List ℕ)) (dumps : Option Asked) → NamesFolder words folder → NamesDumps words dumps
+          → RanBy folder dumps words status before after → Says command status before.outside after.outside
+      by None None none no_read did =
           subst (λ (asked : Option Command). SaysBy (work_for words asked) asked status before.outside after.outside)
           (asked_is names words command did.0.asked are did.0.asks) did.0.does.says
-      by (Some named) named_is did = absurd (no_folder command words are named.0 named.1 named_is.0)
+      by (Some named) dumps named_is names_dumps did = absurd (no_folder command words are named.0 named.1 named_is.0)
+      by None (Some asked) none read_is did = absurd (no_dumps command words are asked read_is.0)
 
 pub runs_as_expected : Laws → {S W N H : Type 0} (words : List (List ℕ)) (status : Status) (before after : Surroundings S W N H) → Ran words status before after
     → RunsAsExpected words status before.outside after.outside

@@ -14,4 +14,5 @@ pub mod TrialRun
 pub mod PagesRun
 pub mod Digits
 pub mod FolderRun
+pub mod ReadRun
 pub mod DumpWords

@@ -21,6 +21,7 @@ use Rattle.sector_images.specs.declared.format.Format.{Format}
 use Rattle.sector_report.specs.Lines.{trial_text}
 use Rattle.flux_cli.specs.Commands.{AreWordsOf, AskFor}
 use Rattle.flux_cli.specs.DisksWork.{disk_outcome}
+use Rattle.flux_cli.specs.DumpWords.{Asked, NamesDumps, read_words}
 use Rattle.flux_cli.specs.FolderWords.{folder_words}
 use Rattle.flux_cli.specs.G64Disks.{format_of}
 use Rattle.flux_cli.specs.G64Work.{from_g64_outcome}
@@ -265,6 +266,24 @@ no_folder (DecodeSet f c) words are format folder same = differ 10 13 refl (ap f
 no_folder (Rescue f) words are format folder same = differ 2 3 refl (ap length (sym are ∙ same))
 no_folder (Tell page) words are format folder same = no_page page words (folder_words format folder) refl are same
 
+-- and those that ask to read dumps for none
+pub no_dumps : (command : Command) (words : List (List ℕ)) → AreWordsOf command words → (dumps : Asked) → words ≡ read_words dumps → ⊥
+no_dumps Turns words are dumps same = differ 29813 29285 refl (ap letters (sym are ∙ same))
+no_dumps (Decode f) words are dumps same = differ 25701 29285 refl (ap letters (sym are ∙ same))
+no_dumps (Report f) words are dumps same = differ 112 97 refl (ap third_letter (sym are ∙ same))
+no_dumps (Map f) words are dumps same = differ 28001 29285 refl (ap letters (sym are ∙ same))
+no_dumps (Write f) words are dumps same = differ 30578 29285 refl (ap letters (sym are ∙ same))
+no_dumps (Trial f s) words are dumps same = differ 29810 29285 refl (ap letters (sym are.1 ∙ same))
+no_dumps (ToG64 g) words are dumps same = differ 29807 29285 refl (ap letters (sym are ∙ same))
+no_dumps (FromG64 g) words are dumps same = differ 26226 29285 refl (ap letters (sym are ∙ same))
+no_dumps (DecodeSet f c) words are dumps same = differ 25701 29285 refl (ap letters (sym are.1 ∙ same))
+no_dumps (Rescue f) words are dumps same = differ 115 97 refl (ap third_letter (sym are ∙ same))
+no_dumps (Tell page) words are dumps same = no_page page words (read_words dumps) refl are same
+
+-- nor do those that name a folder
+pub folder_no_dumps : (words : List (List ℕ)) (format : Format) (folder : List ℕ) → words ≡ folder_words format folder → NamesDumps words None
+folder_no_dumps words format folder are = λ disk can same. differ 25701 29285 refl (ap letters (sym are ∙ same))
+
 -- words ask for one thing at most
 one_asked : WordsNameFormats → (words : List (List ℕ)) (a b : Option Command) → AskFor words a → AskFor words b → a ≡ b
 one_asked names words None None first second = refl
@@ -304,5 +323,5 @@ module _ (names : WordsNameFormats) (one : OneOutcome) (one_file : OneFileDisk) 
 
   pub one_outcome : (words : List (List ℕ)) (x : List ℕ) (a b : Outcome) → IsOutcome words x a → IsOutcome words x b → a ≡ b
   one_outcome words x a b first second =
-      let same = one_asked names words first.1 second.1 first.2 second.2 in
-      one_of words second.1 x a b (subst (λ asked. (work_for words asked).gives x a) same first.3) second.3
+      let same = one_asked names words first.2 second.2 first.3 second.3 in
+      one_of words second.2 x a b (subst (λ asked. (work_for words asked).gives x a) same first.4) second.4

@@ -1,10 +1,8 @@
 -- What the words of `read` ask for from a word on, word after word.
 use Rattle.std.specs.Prelude.{◌≡◌, ◌≢◌, ℕ, List, ◌∷◌, ◌++◌, Option, Some, None}
 use Rattle.sector_images.specs.Formats.{row}
-use Rattle.sector_images.specs.declared.format.Format.{Format}
 use Rattle.track_shelf.specs.declared.stepping.Stepping.{Stepping}
-use Rattle.flux_cli.specs.DumpWords.{Asked, CanBeRead, output_words, stepping_words}
-use Rattle.flux_cli.specs.declared.dump_words.DumpOutput.{DumpOutput}
+use Rattle.flux_cli.specs.DumpWords.{Asked, CanBeRead, stepping_words}
 
 -- the words do not begin with this one
 abbrev pub IsNotFirst : List ℕ → List (List ℕ) → Type 0
@@ -16,18 +14,13 @@ disk_words asked = (row asked.format).word ∷ asked.dumps
 
 -- what the words behind the command's ask for
 abbrev pub NamesBehind : List (List ℕ) → Option Asked → Type 0
-NamesBehind words (Some asked) = (words ≡ stepping_words asked.stepping ++ (output_words asked.output ++ disk_words asked)) × CanBeRead asked
-NamesBehind words None = (asked : Asked) → CanBeRead asked → words ≢ stepping_words asked.stepping ++ (output_words asked.output ++ disk_words asked)
-
--- what those behind the words of the stepping ask for
-abbrev pub NamesStepped : Stepping → List (List ℕ) → Option Asked → Type 0
-NamesStepped stepping words (Some asked) = (asked.stepping ≡ stepping) × (words ≡ output_words asked.output ++ disk_words asked) × CanBeRead asked
-NamesStepped stepping words None = (asked : Asked) → asked.stepping ≡ stepping → CanBeRead asked → words ≢ output_words asked.output ++ disk_words asked
+NamesBehind words (Some asked) = (words ≡ stepping_words asked.stepping ++ disk_words asked) × CanBeRead asked
+NamesBehind words None = (asked : Asked) → CanBeRead asked → words ≢ stepping_words asked.stepping ++ disk_words asked
 
 -- what those from the format's on ask for
-abbrev pub NamesWith : Stepping → DumpOutput → List (List ℕ) → Option Asked → Type 0
-NamesWith stepping output words (Some asked) = (asked.stepping ≡ stepping) × (asked.output ≡ output) × (words ≡ disk_words asked) × CanBeRead asked
-NamesWith stepping output words None = (asked : Asked) → asked.stepping ≡ stepping → asked.output ≡ output → CanBeRead asked → words ≢ disk_words asked
+abbrev pub NamesWith : Stepping → List (List ℕ) → Option Asked → Type 0
+NamesWith stepping words (Some asked) = (asked.stepping ≡ stepping) × (words ≡ disk_words asked) × CanBeRead asked
+NamesWith stepping words None = (asked : Asked) → asked.stepping ≡ stepping → CanBeRead asked → words ≢ disk_words asked
 
 -- the same, where it can be read
 abbrev pub IsMaybeReadable : Asked → Option Asked → Type 0

@@ -6,38 +6,32 @@ use Rattle.sector_images.specs.declared.format.Format.{Format}
 use Rattle.track_shelf.specs.Stepping.{reaches_all}
 use Rattle.track_shelf.specs.declared.stepping.Stepping.{Stepping}
 use Rattle.track_shelf.specs.declared.stepping.Stepping.TheVariants.{Single, Double}
-use Rattle.flux_cli.specs.declared.dump_words.DumpOutput.{DumpOutput}
-use Rattle.flux_cli.specs.declared.dump_words.DumpOutput.TheVariants.{ImageAndReport, Picture}
+use Rattle.dump_reading.specs.Outcomes.{DumpDisk}
 use Rattle.flux_cli.specs.declared.dump_words.DumpsAsked.{DumpsAsked}
 
--- what is asked of dumps: how the drive stepped, what is to be given, the format, and the dumps by their names
+-- what is asked of dumps: how the drive stepped, the dumps by their names, and the format
 pub record Asked : Type 0 where
   pub stepping : Stepping
-  pub output : DumpOutput
-  pub format : Format
   pub dumps : List (List ℕ)
+  pub format : Format
 
 abbrev pub asked_of : DumpsAsked → Asked
-asked_of asked = record { stepping = asked.stepping; output = asked.output; format = asked.format; dumps = asked.dumps.now }
+asked_of asked = record { stepping = asked.stepping; dumps = asked.dumps.now; format = asked.format }
+
+-- the disk that is to be read of them
+abbrev pub asked_disk : Asked → DumpDisk
+asked_disk asked = record { stepping = asked.stepping; dumps = asked.dumps; format = asked.format }
 
 abbrev pub double_step_word : List ℕ
 double_step_word = codes "--double-step"
-
-abbrev pub picture_word : List ℕ
-picture_word = codes "--picture"
 
 -- the words before the format
 abbrev pub stepping_words : Stepping → List (List ℕ)
 stepping_words Single = []
 stepping_words Double = double_step_word ∷ []
 
-abbrev pub output_words : DumpOutput → List (List ℕ)
-output_words ImageAndReport = []
-output_words Picture = picture_word ∷ []
-
 abbrev pub read_words : Asked → List (List ℕ)
-read_words asked =
-    codes "read" ∷ (stepping_words asked.stepping ++ (output_words asked.output ++ ((row asked.format).word ∷ asked.dumps)))
+read_words asked = codes "read" ∷ (stepping_words asked.stepping ++ ((row asked.format).word ∷ asked.dumps))
 
 -- most dumps of a disk
 abbrev pub MOST_DUMPS : ℕ

@@ -11,8 +11,7 @@ use Rattle.sector_images.specs.Places.{tracks}
 use Rattle.sector_images.specs.declared.format.Format.{Format}
 use Rattle.track_shelf.specs.Files.{File, LeavesWanted, NamesMissing}
 use Rattle.track_shelf.specs.Names.{missing_text}
-use Rattle.flux_cli.specs.FolderWords.{NamesFolder}
-use Rattle.flux_cli.specs.Runs.{Does, Outside, RanOverSource, growth}
+use Rattle.flux_cli.specs.Runs.{Does, Outside, growth}
 use Rattle.flux_cli.specs.Work.{Got, GotPart}
 use Rattle.flux_cli.specs.declared.command.Command.TheVariants.{Decode}
 
@@ -90,27 +89,3 @@ pub record DidFolder {H W N : Type 0} (format : Format) (folder : List ℕ) (sta
 -- or there was no memory to begin
 abbrev pub DoesFolder : {H W N : Type 0} → Format → (folder : List ℕ) → Status → (before after : OnShelf H W N) → Type 0
 DoesFolder format folder status before after = ((status ≡ Memory) × (after ≡ before)) ⊎ DidFolder format folder status before after
-
--- all objects at a moment
-pub record Surroundings (S W N H : Type 0) : Type 0 where
-  pub outside : Outside S W N
-  pub shelf : ShelfMoment H
-
-abbrev pub surroundings : {S W N H : Type 0} → Outside S W N → ShelfMoment H → Surroundings S W N H
-surroundings outside shelf = record { outside = outside; shelf = shelf }
-
-abbrev pub on_shelf : {S W N H : Type 0} → Surroundings S W N H → OnShelf H W N
-on_shelf now = record { shelf = now.shelf; image = now.outside.image; notes = now.outside.notes }
-
--- where the words name a folder, the source is not touched; else the shelf is not
-abbrev pub RanBy : {S W N H : Type 0} → Option (Format × List ℕ) → (words : List (List ℕ)) → Status → (before after : Surroundings S W N H) → Type 0
-RanBy None words status before after = RanOverSource words status before.outside after.outside × (after.shelf ≡ before.shelf)
-RanBy (Some named) words status before after =
-    DoesFolder named.0 named.1 status (on_shelf before) (on_shelf after)
-    × (after.outside.source ≡ before.outside.source) × (after.outside.given ≡ before.outside.given)
-
--- what a run with these words did
-pub record Ran {S W N H : Type 0} (words : List (List ℕ)) (status : Status) (before after : Surroundings S W N H) : Type 0 where
-  pub folder : Option (Format × List ℕ)
-  pub names : NamesFolder words folder
-  pub did : RanBy folder words status before after

@@ -20,5 +20,7 @@ pub mod Runs
 pub mod PlanRuns
 pub mod DisksRuns
 pub mod FolderRuns
+pub mod ReadRuns
+pub mod ShelfRuns
 pub mod Captured
 pub mod Headlines

@@ -7,6 +7,7 @@ use Rattle.flux_base.specs.declared.status.Status.TheVariants.{Usage, NotesFault
 use Rattle.flux_help.specs.WrongWords.{wrong_text}
 use Rattle.flux_cli.specs.Commands.{AskFor}
 use Rattle.flux_cli.specs.DisksWork.{disk_work}
+use Rattle.flux_cli.specs.DumpWords.{NamesDumps}
 use Rattle.flux_cli.specs.FolderWords.{NamesFolder}
 use Rattle.flux_cli.specs.G64Disks.{format_of}
 use Rattle.flux_cli.specs.G64Work.{from_g64_work, to_g64_work}
@@ -57,6 +58,6 @@ abbrev pub work_for : List (List ℕ) → Option Command → Work
 work_for words None = usage_work (wrong_text words)
 work_for words (Some command) = work_of command
 
--- this is the outcome of the words over the input, where they name no folder
+-- this is the outcome of the words over the input, where they name neither a folder nor dumps
 abbrev pub IsOutcome : List (List ℕ) → List ℕ → Outcome → Type 0
-IsOutcome words x o = NamesFolder words None × (asked : Option Command) × AskFor words asked × (work_for words asked).gives x o
+IsOutcome words x o = NamesFolder words None × NamesDumps words None × (asked : Option Command) × AskFor words asked × (work_for words asked).gives x o

@@ -3,7 +3,7 @@
 ghost use Rattle.std.specs.Prelude.{◌≡◌, ◌∷◌, IfNone, IfSome, codes};
 ghost use Rattle.std.specs.List.{list_any};
 ghost use Rattle.std.specs.Option.{option_map};
-ghost use Rattle.flux_cli.specs.DumpParts.{IsMaybeReadable, IsNotFirst, NamesBehind, NamesStepped, NamesWith};
+ghost use Rattle.flux_cli.specs.DumpParts.{IsMaybeReadable, IsNotFirst, NamesBehind, NamesWith};
 ghost use Rattle.flux_cli.specs.DumpWords.{NamesDumps, asked_of, is_nameless};
 
 use flux_base::Word;
@@ -13,26 +13,16 @@ use track_shelf::Stepping;
 /// How many dumps are read at most.
 const MOST_DUMPS: usize = 8;
 
-/// What reading dumps is to give.
-#[derive(Clone, Copy, Debug, PartialEq, Eq)]
-pub enum DumpOutput {
-    /// The image, and the report in the notes.
-    ImageAndReport,
-    /// A picture of the disk, in the image's place.
-    Picture,
-}
-
 /// What is asked of dumps.
 #[derive(Clone, Copy)]
 pub struct DumpsAsked<'a> {
     pub stepping: Stepping,
-    pub output: DumpOutput,
-    pub format: Format,
     /// The dumps by their names, 1 to 8 of them, each a folder or one of its files.
     pub dumps: &'a [Word],
+    pub format: Format,
 }
 
-/// What the words ask of dumps, if they ask for that: `read [--double-step] [--picture] FORMAT DUMP...`.
+/// What the words ask of dumps, if they ask for that: `read [--double-step] FORMAT DUMP...`.
 pub fn dumps_of(words: &[Word]) -> Option<DumpsAsked<'_>>
     ensures { NamesDumps words.now (option_map asked_of result) }
 {
@@ -62,24 +52,14 @@ fn asked_behind(words: &[Word]) -> Option<DumpsAsked<'_>>
     ensures { NamesBehind words.now (option_map asked_of result) }
 {
     match behind(words, b"--double-step") {
-        Some(rest) => asked_stepped(Stepping::Double, rest),
-        None => asked_stepped(Stepping::Single, words),
-    }
-}
-
-/// What the words behind those of the stepping ask for.
-fn asked_stepped(stepping: Stepping, words: &[Word]) -> Option<DumpsAsked<'_>>
-    ensures { NamesStepped stepping words.now (option_map asked_of result) }
-{
-    match behind(words, b"--picture") {
-        Some(rest) => asked_with(stepping, DumpOutput::Picture, rest),
-        None => asked_with(stepping, DumpOutput::ImageAndReport, words),
+        Some(rest) => asked_with(Stepping::Double, rest),
+        None => asked_with(Stepping::Single, words),
     }
 }
 
 /// What the words from the format's on ask for.
-fn asked_with(stepping: Stepping, output: DumpOutput, words: &[Word]) -> Option<DumpsAsked<'_>>
-    ensures { NamesWith stepping output words.now (option_map asked_of result) }
+fn asked_with(stepping: Stepping, words: &[Word]) -> Option<DumpsAsked<'_>>
+    ensures { NamesWith stepping words.now (option_map asked_of result) }
 {
     words_name_formats();
     let Some((word, dumps)) = words.split_first() else {
@@ -88,9 +68,8 @@ fn asked_with(stepping: Stepping, output: DumpOutput, words: &[Word]) -> Option<
     match Format::of_word(word.bytes()) {
         Some(format) => readable(DumpsAsked {
             stepping,
-            output,
-            format,
             dumps,
+            format,
         }),
         None => None,
     }

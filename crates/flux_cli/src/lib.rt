@@ -14,6 +14,7 @@ mod map;
 mod pages;
 mod planned;
 mod program;
+mod read;
 mod seed;
 mod standard;
 mod std_shelf;

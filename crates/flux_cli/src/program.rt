@@ -1,16 +1,20 @@
-ghost use Rattle.std.specs.Prelude.{◌≢◌, ◌≤◌, Some};
+ghost use Rattle.std.specs.Prelude.{◌≢◌, ◌≤◌, Some, length};
 ghost use Rattle.flux_base.specs.Moments.{moment};
 ghost use Rattle.flux_base.specs.declared.status.Status.{Status};
 ghost use Rattle.flux_cli.specs.Captured.{FolderCaptured, FolderErased, RunsCaptured, RunsErased};
 ghost use Rattle.flux_cli.specs.Commands.{command_for};
-ghost use Rattle.flux_cli.specs.FolderRuns.{Ran, on, shelf_moment, surroundings};
+ghost use Rattle.flux_cli.specs.DumpWords.{asked_disk, asked_of};
+ghost use Rattle.flux_cli.specs.FolderRuns.{on, shelf_moment};
 ghost use Rattle.flux_cli.specs.Headlines.{RunsAsExpected};
+ghost use Rattle.flux_cli.specs.ReadRuns.{DidRead};
 ghost use Rattle.flux_cli.specs.Runs.{Does, RanOverSource, outside};
+ghost use Rattle.flux_cli.specs.ShelfRuns.{Ran, surroundings};
 ghost use Rattle.flux_cli.specs.declared.command.Command.TheVariants.{DecodeSet, FromG64, Map, Rescue, ToG64, Trial, Turns, Write};
 ghost use Rattle.kryo_stream.specs.Room.{IsFresh};
 
 use crate::command::{Command, Output, command_of};
 use crate::disks::decode;
+use crate::dump_words::{DumpsAsked, dumps_of};
 use crate::folder::{decode_folder, folder_of};
 use crate::g64_disk::G64Disk;
 use crate::g64_files::{from_file, to_file};
@@ -18,8 +22,10 @@ use crate::images::write;
 use crate::map::draw;
 use crate::pages::tell;
 use crate::planned::{decode_captures, rescue};
+use crate::read::read;
 use crate::trial::trial;
 use crate::turns::write_turns;
+use dump_reading::Dumps;
 use flux_base::{Memory, Sink, Source, Status, Word};
 use flux_engine::{DiskRoom, WriteRoom, good_is_right_on_disks, lines_tell_verdicts};
 use flux_help::write_wrong_words;
@@ -49,7 +55,8 @@ pub fn run<S: Source, W: Sink, N: Sink, H: Shelf>(
     // command's row states; or there was no memory to begin, and all objects are as they were. The source is
     // read only where the bytes that it gave do not tell what there is to do, so that nothing is awaited on an open pipe
     // that isn't needed. Where the words name a folder, the shelf stands in the source's place, and where a wanted file is
-    // missing, the notes say so and nothing is read; else the shelf is not touched.
+    // missing, the notes say so and nothing is read; where they name dumps, the files of these are read on the shelf; else the
+    // shelf is not touched.
     ensures ran { Ran words.now result
         (surroundings (outside (moment S.left S.faults source.old) (S.given source.old) (moment W.written W.faults image.old) (moment N.written N.faults notes.old))
         (shelf_moment (moment H.left H.faults shelf.old) (H.given shelf.old) (H.files shelf.old)))
@@ -118,11 +125,37 @@ fn run_words<S: Source, W: Sink, N: Sink, H: Shelf>(
         (shelf_moment (moment H.left H.faults shelf.new) (H.given shelf.new) (H.files shelf.new))) }
 {
     match folder_of(words) {
-        None => run_over_source(alloc, words, source, image, notes),
+        None => match dumps_of(words) {
+            None => run_over_source(alloc, words, source, image, notes),
+            Some(asked) => run_read(alloc, asked, shelf, image, notes),
+        },
         Some((format, folder)) => match DiskRoom::reserve(alloc, format) {
             Ok(mut room) => decode_folder(&mut room, format, folder, shelf, image, notes),
             Err(Memory) => Status::Memory,
         },
+    }
+}
+
+/// Runs the command `read` in a room of its own.
+fn run_read<W: Sink, N: Sink, H: Shelf>(
+    alloc: Global,
+    asked: DumpsAsked<'_>,
+    shelf: &mut H,
+    image: &mut W,
+    notes: &mut N,
+) -> Status
+    requires { length asked.dumps.now ≤ 8 }
+    ensures { DidRead (asked_disk (asked_of asked.entry)) result
+        (on (shelf_moment (moment H.left H.faults shelf.old) (H.given shelf.old) (H.files shelf.old)) (moment W.written W.faults image.old) (moment N.written N.faults notes.old))
+        (on (shelf_moment (moment H.left H.faults shelf.new) (H.given shelf.new) (H.files shelf.new)) (moment W.written W.faults image.new) (moment N.written N.faults notes.new)) }
+{
+    let dumps = Dumps {
+        names: asked.dumps,
+        stepping: asked.stepping,
+    };
+    match DiskRoom::reserve(alloc, asked.format) {
+        Ok(mut room) => read(&dumps, &mut room, shelf, image, notes),
+        Err(Memory) => Status::Memory,
     }
 }
 

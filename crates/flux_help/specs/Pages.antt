@@ -15,7 +15,7 @@ version_text = codes "flux 0.1.0\n"
 unfoldable pub intro_text : List ℕ
 intro_text =
     codes "flux reads KryoFlux stream captures of floppy disks and writes images back as streams.\n"
-    ++ codes "It reads standard input or a folder and writes standard output; reports and refusals go to standard error.\n"
+    ++ codes "It reads standard input or folders and writes standard output; reports and refusals go to standard error.\n"
     ++ codes "\n"
     ++ codes "Commands:\n"
 
@@ -71,14 +71,14 @@ codes_text =
     codes "\n"
     ++ codes "Exit codes:\n"
     ++ codes "   0\tall was done; every sector is good\n"
-    ++ codes "   1\tall was done; a sector is not good\n"
+    ++ codes "   1\tall was done; a sector is not good, or read found data of others\n"
     ++ codes "   2\tthe input is refused: the last line of standard error says why\n"
     ++ codes "   3\tthe words are not a command\n"
     ++ codes "   4\tstandard input failed\n"
     ++ codes "   5\tstandard output failed\n"
     ++ codes "   6\tstandard error failed\n"
     ++ codes "   7\tthere was not enough memory to begin\n"
-    ++ codes "   8\tthe folder failed\n"
+    ++ codes "   8\ta folder or one of its files failed\n"
     ++ codes "   9\tthe system gave no words\n"
 
 -- a line for each format of the table

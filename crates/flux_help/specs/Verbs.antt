@@ -4,11 +4,11 @@ use Rattle.std.specs.List.{position_from, slice_get}
 use Rattle.std.specs.Option.{option_and_then}
 use Rattle.std.specs.Str.{bytes_eq}
 use Rattle.flux_help.specs.declared.verb.Verb.{Verb}
-use Rattle.flux_help.specs.declared.verb.Verb.TheVariants.{DecodeFolder, DecodeSet, Rescue, Decode, Report, Map, Write, Turns, ToG64, FromG64, Trial, Help}
+use Rattle.flux_help.specs.declared.verb.Verb.TheVariants.{Read, DecodeFolder, DecodeSet, Rescue, Decode, Report, Map, Write, Turns, ToG64, FromG64, Trial, Help}
 
 -- all commands, in the order in which the help lists them
 abbrev pub verbs : List Verb
-verbs = DecodeFolder ∷ DecodeSet ∷ Rescue ∷ Decode ∷ Report ∷ Map ∷ Write ∷ Turns ∷ ToG64 ∷ FromG64 ∷ Trial ∷ Help ∷ []
+verbs = Read ∷ DecodeFolder ∷ DecodeSet ∷ Rescue ∷ Decode ∷ Report ∷ Map ∷ Write ∷ Turns ∷ ToG64 ∷ FromG64 ∷ Trial ∷ Help ∷ []
 
 -- the first word, the line in the list of commands, the line that says which words follow, and what the command does, with an example
 pub record VerbRow : Type 0 where
@@ -18,6 +18,20 @@ pub record VerbRow : Type 0 where
   pub about : List ℕ
 
 unfoldable pub verb_row : Verb → VerbRow
+verb_row Read = record {
+  word = codes "read";
+  line = codes "   read FORMAT DUMP...          one or more dumps of a disk to its image, with a report\n";
+  usage = codes "usage: flux read [--double-step] FORMAT DUMP...\n";
+  about =
+      codes "\n"
+      ++ codes "Reads the files trackCC.H.raw of 1 to 8 folders, each a dump of the disk, and gives one verdict for each sector over all of\n"
+      ++ codes "them. A DUMP that is a file, as shelf/disk00.0.raw, stands for all files that begin as it does. A file that is missing or\n"
+      ++ codes "refused is told and passed over, and headers of other sectors than the disk's are told. The image goes to standard output,\n"
+      ++ codes "the report to standard error. With --double-step the file of cylinder 2C is that of the disk's cylinder C.\n"
+      ++ codes "\n"
+      ++ codes "Example:\n"
+      ++ codes "   flux read amiga dump second > disk.adf 2> report.txt\n";
+}
 verb_row DecodeFolder = record {
   word = codes "decode-folder";
   line = codes "   decode-folder FORMAT FOLDER  a folder of track files to the disk's image, with a report\n";
@@ -168,13 +182,15 @@ verb_of word = option_and_then (slice_get verbs) (position_from (has_word word) 
 
 -- the usage line does not name the command
 abbrev pub is_own : Verb → Bool
+is_own Read = true
 is_own Rescue = true
 is_own Map = true
 is_own Help = true
 is_own _ = false
 
--- a format follows the word
+-- a format follows the word, and no other word may stand between
 abbrev pub asks_format : Verb → Bool
+asks_format Read = false
 asks_format Turns = false
 asks_format Help = false
 asks_format _ = true

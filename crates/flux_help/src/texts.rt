@@ -10,7 +10,7 @@ const VERSION: &str = "flux 0.1.0\n";
 /// What the program is.
 const INTRO: &str = "\
 flux reads KryoFlux stream captures of floppy disks and writes images back as streams.
-It reads standard input or a folder and writes standard output; reports and refusals go to standard error.
+It reads standard input or folders and writes standard output; reports and refusals go to standard error.
 
 Commands:
 ";
@@ -24,14 +24,14 @@ Formats:
 /// A line for each exit code.
 const CODES: &str = "\nExit codes:
    0\tall was done; every sector is good
-   1\tall was done; a sector is not good
+   1\tall was done; a sector is not good, or read found data of others
    2\tthe input is refused: the last line of standard error says why
    3\tthe words are not a command
    4\tstandard input failed
    5\tstandard output failed
    6\tstandard error failed
    7\tthere was not enough memory to begin
-   8\tthe folder failed
+   8\ta folder or one of its files failed
    9\tthe system gave no words
 ";
 

@@ -6,6 +6,8 @@ ghost use Rattle.flux_help.specs.Verbs.{asks_format, has_word, is_own, verb_of, 
 /// A command, by its first word.
 #[derive(Clone, Copy, Debug, PartialEq, Eq)]
 pub enum Verb {
+    /// The files of several dumps to an image.
+    Read,
     /// A folder of track files to an image.
     DecodeFolder,
     /// Several streams of each track to one image.
@@ -33,7 +35,8 @@ pub enum Verb {
 }
 
 /// All commands, in the order in which the help lists them.
-const VERBS: [Verb; 12] = [
+const VERBS: [Verb; 13] = [
+    Verb::Read,
     Verb::DecodeFolder,
     Verb::DecodeSet,
     Verb::Rescue,
@@ -88,14 +91,14 @@ impl Verb {
     pub(crate) fn is_own(self) -> bool
         ensures { result ≡ is_own self }
     {
-        matches!(self, Verb::Rescue | Verb::Map | Verb::Help)
+        matches!(self, Verb::Read | Verb::Rescue | Verb::Map | Verb::Help)
     }
 
-    /// Whether a format follows it.
+    /// Whether a format follows it, and no other word may stand between.
     pub(crate) fn asks_format(self) -> bool
         ensures { result ≡ asks_format self }
     {
-        self != Verb::Turns && self != Verb::Help
+        !matches!(self, Verb::Read | Verb::Turns | Verb::Help)
     }
 
     #[tactic(auto, unfolding(crate::specs::Verbs::verb_row))]
@@ -106,6 +109,20 @@ impl Verb {
         ensures about { result.about.now ≡ (verb_row self).about }
     {
         match self {
+            Verb::Read => Texts {
+                word: "read",
+                line: "   read FORMAT DUMP...          one or more dumps of a disk to its image, with a report\n",
+                usage: "usage: flux read [--double-step] FORMAT DUMP...\n",
+                about: "
+Reads the files trackCC.H.raw of 1 to 8 folders, each a dump of the disk, and gives one verdict for each sector over all of
+them. A DUMP that is a file, as shelf/disk00.0.raw, stands for all files that begin as it does. A file that is missing or
+refused is told and passed over, and headers of other sectors than the disk's are told. The image goes to standard output,
+the report to standard error. With --double-step the file of cylinder 2C is that of the disk's cylinder C.
+
+Example:
+   flux read amiga dump second > disk.adf 2> report.txt
+",
+            },
             Verb::DecodeFolder => Texts {
                 word: "decode-folder",
                 line: "   decode-folder FORMAT FOLDER  a folder of track files to the disk's image, with a report\n",

@@ -1,0 +1,60 @@
+-- What `read` did by what reading the dumps answered.
+use Rattle.std.specs.Prelude.{if◌then◌else◌}
+use Rattle.std.proofs.Common.{◌≡◌, ◌<◌, ℕ, Bool, true, false, List, [], length, Option, Some, None, inl, inr, refl, sym, ap, ◌∙◌, subst}
+use Rattle.std.proofs.KnownBytes.{Appends-nil, Keeps-refl}
+use Rattle.std.specs.Io.KnownBytes.{Appends, Keeps}
+use Rattle.dump_reading.specs.Outcomes.{DumpDisk, IsToldEmpty, WroteDumps}
+use Rattle.dump_reading.specs.Totals.{is_complete}
+use Rattle.dump_reading.specs.declared.totals.DumpTotals.{DumpTotals}
+use Rattle.flux_base.specs.Outside.{AppendsPart}
+use Rattle.flux_base.specs.declared.status.Status.{Status}
+use Rattle.flux_base.specs.declared.status.Status.TheVariants.{AllGood, NotAllGood, Refused}
+use Rattle.sector_images.specs.declared.format.Format.{Format}
+use Rattle.sector_report.specs.DumpLines.{no_files_text}
+use Rattle.flux_cli.specs.FolderRuns.{OnShelf}
+use Rattle.flux_cli.specs.ReadRuns.{CutInEmpty, DidRead, FinishedDumps, SaysOfRead, empty_outcome, read_outcome, read_status}
+
+module _ {H W N : Type 0} (disk : DumpDisk) (before after : OnShelf H W N) where
+  -- what was done in a room that was made for the disk's format
+  pub in_room : (held : Format) (status : Status) → held ≡ disk.format → DidRead (record disk { format = held }) status before after → DidRead disk status before after
+  in_room held status same did = subst (λ (f : Format). DidRead (record disk { format = f }) status before after) same did
+
+  -- all was read and written
+  module _ (totals : DumpTotals) (found : IsToldEmpty disk before.shelf.files None)
+      (wrote : WroteDumps disk before.shelf.files before.image.bytes after.image.bytes before.notes.bytes after.notes.bytes totals) where
+    finished : (status : Status) → status ≡ read_status totals → FinishedDumps disk status before after
+    finished status is = record {
+      outcome = read_outcome wrote.outcome;
+      is = inr (wrote.outcome, found, wrote.is, refl);
+      status_is = is ∙ ap read_status wrote.totals_are;
+      image_got = wrote.image_grew;
+      notes_got = wrote.notes_grew;
+    }
+
+    pub read-done : SaysOfRead disk (read_status totals) before after
+    read-done = by (is_complete totals) refl
+      where
+        by : (b : Bool) → is_complete totals ≡ b → SaysOfRead disk (if b then AllGood else NotAllGood) before after
+        by true is = finished AllGood (ap (λ (c : Bool). if c then AllGood else NotAllGood) (sym is))
+        by false is = finished NotAllGood (ap (λ (c : Bool). if c then AllGood else NotAllGood) (sym is))
+
+  -- a dump has none of the files; nothing was written yet, and then the line that says so, or a part of it
+  module _ (number : ℕ) (low : number < length disk.dumps) (is : IsToldEmpty disk before.shelf.files (Some number))
+      (same : after.image.bytes ≡ before.image.bytes) (start : Option (List ℕ)) (kept : start ≡ before.notes.bytes) where
+    pub read-empty : Appends start after.notes.bytes (no_files_text number) → FinishedDumps disk Refused before after
+    read-empty got = record {
+      outcome = empty_outcome number;
+      is = inl (number, low, is, refl);
+      status_is = refl;
+      image_got = subst (λ (now : Option (List ℕ)). Appends before.image.bytes now []) (sym same) (Appends-nil before.image.bytes);
+      notes_got = subst (λ (old : Option (List ℕ)). Appends old after.notes.bytes (no_files_text number)) kept got;
+    }
+
+    pub read-cut-empty : AppendsPart start after.notes.bytes (no_files_text number) → CutInEmpty disk before after
+    read-cut-empty got = record {
+      number = number;
+      low = low;
+      is = is;
+      image_got = subst (λ (now : Option (List ℕ)). Keeps before.image.bytes now) (sym same) (Keeps-refl before.image.bytes);
+      notes_got = subst (λ (old : Option (List ℕ)). AppendsPart old after.notes.bytes (no_files_text number)) kept got;
+    }

@@ -1,0 +1,12 @@
+use Rattle.std.proofs.Common.{ap, arith, refl}
+use Rattle.flux_engine.specs.Room.{RoomState}
+use Rattle.flux_cli.specs.DumpWords.{asked_disk, asked_of}
+use Rattle.flux_cli.proofs.ReadRun.{in_room}
+use Rattle.flux_cli.proofs.program.run_read.Goals as goal
+
+pub returns-in-Ok : goal.returns-in-Ok
+returns-in-Ok g c =
+    in_room (asked_disk (asked_of c.args.asked)) _ _ c.in-Ok.room.format c.read.result (ap (λ (room : RoomState). room.format) c.in-Ok.ensures) c.read.ensures
+
+pub returns-in-Err : goal.returns-in-Err
+returns-in-Err g c = record { says = refl; counts = record { shelf = omega arith; image = omega arith; notes = omega arith } }

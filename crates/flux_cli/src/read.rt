@@ -1,0 +1,51 @@
+//! A disk that is read of its dumps.
+
+ghost use Rattle.std.specs.Prelude.{◌≡◌, ◌≤◌, length};
+ghost use Rattle.dump_reading.specs.Outcomes.{disk_of};
+ghost use Rattle.flux_base.specs.Moments.{moment};
+ghost use Rattle.flux_cli.specs.FolderRuns.{on, shelf_moment};
+ghost use Rattle.flux_cli.specs.ReadRuns.{DidRead, read_status};
+ghost use Rattle.flux_engine.specs.Room.{fresh};
+
+use dump_reading::{DumpTotals, Dumps, DumpsFault, read_dumps};
+use flux_base::{Sink, Status};
+use flux_engine::DiskRoom;
+use sector_report::{no_files_line, write_line};
+use track_shelf::Shelf;
+
+/// Reads a disk of its dumps: its image goes to `image`, and its report to `notes`. Notes say which dump has none of its files.
+pub fn read<H: Shelf, W: Sink, N: Sink>(
+    dumps: &Dumps,
+    room: &mut DiskRoom,
+    shelf: &mut H,
+    image: &mut W,
+    notes: &mut N,
+) -> Status
+    requires fresh { room.old ≡ fresh room.old.format }
+    requires few { length dumps.now.names.now ≤ 16 }
+    ensures { DidRead (disk_of dumps.now room.old.format) result
+        (on (shelf_moment (moment H.left H.faults shelf.old) (H.given shelf.old) (H.files shelf.old)) (moment W.written W.faults image.old) (moment N.written N.faults notes.old))
+        (on (shelf_moment (moment H.left H.faults shelf.new) (H.given shelf.new) (H.files shelf.new)) (moment W.written W.faults image.new) (moment N.written N.faults notes.new)) }
+{
+    match read_dumps(dumps, room, shelf, image, notes) {
+        Ok(totals) => status_of(&totals),
+        Err(DumpsFault::NoFiles { dump }) => match write_line(notes, &no_files_line(dump)) {
+            Ok(()) => Status::Refused,
+            Err(_) => Status::NotesFault,
+        },
+        Err(DumpsFault::ShelfFault) => Status::ShelfFault,
+        Err(DumpsFault::ImageFault) => Status::ImageFault,
+        Err(DumpsFault::NotesFault) => Status::NotesFault,
+    }
+}
+
+/// Whether the image is all that can be read there.
+fn status_of(totals: &DumpTotals) -> Status
+    ensures { result ≡ read_status totals.now }
+{
+    if totals.is_complete() {
+        Status::AllGood
+    } else {
+        Status::NotAllGood
+    }
+}
