@@ -165,23 +165,32 @@ def read(dumps, form):
 
 # Which disk it is
 
+def candidates():
+    """The disks that a dump may be of: each format, with the steps that the drive made for one of its cylinders."""
+    return [(form, steps) for form in FORMATS.values() for steps in ((1, 2) if reaches_all(form) else (1,))]
+
+
 def identify(shelf, name):
-    """The outcome of `identify`: a line for each format, and each stepping, by which a sector is good, and the best of them."""
-    lines, best = [], None
+    """The outcome of `identify`: a line for each disk of which a sector is good, and the best of them."""
+    lines, found, best = [], False, None
     try:
-        for form in FORMATS.values():
-            for steps in (1, 2) if reaches_all(form) else (1,):
-                answer = DumpAnswer(form)
-                read_tracks(Dumps(shelf, [name], steps, clocks=(0,)), form, answer)
-                good, total = answer.number["good"], sum(answer.number.values())
-                if good:
-                    words = "--double-step " * (steps - 1) + form.word
-                    lines.append(f"{words} good {good} of {total} other {answer.whole}\n")
-                    # most good sectors, then fewest others, then the smallest disk, then the table's order
-                    rank = good, -answer.whole, -total
-                    if best is None or rank > best[0]:
-                        best = rank, words, good == total and answer.whole == 0
+        for form, steps in candidates():
+            dumps, answer = Dumps(shelf, [name], steps, clocks=(0,)), DumpAnswer(form)
+            if dumps.first_empty(form) is not None:
+                continue
+            found = True
+            read_tracks(dumps, form, answer)
+            good, total = answer.number["good"], sum(answer.number.values())
+            if good:
+                words = "--double-step " * (steps - 1) + form.word
+                lines.append(f"{words} good {good} of {total} other {answer.whole}\n")
+                # most good sectors, then fewest others that have data, then the smallest disk, then the table's order
+                rank = good, -answer.whole, -total
+                if best is None or rank > best[0]:
+                    best = rank, words, good == total and answer.whole == 0
     except Failed:
         return 8, "".join(lines).encode(), b""
+    if not found:
+        return 2, b"", b"refused dump 0 no track files\n"
     lines.append(f"best {best[1] if best else 'none'}\n")
     return 0 if best and best[2] else 1, "".join(lines).encode(), b""
