@@ -1,4 +1,4 @@
-# For a newcomer: `make demo` builds the program and decodes a disk with it, `make test` runs the gate.
+# For a newcomer: `make demo` builds the program and reads a disk with it, `make test` runs the gate.
 PREFIX ?= /usr/local
 # How many crates are proved side by side at a first build.
 JOBS ?= $(shell nproc)
@@ -7,25 +7,31 @@ PROGRAM = crates/flux/out/flux
 # What the program is made of.
 SOURCES = crates.txt $(shell find crates -name out -prune -o \( -name '*.rt' -o -name '*.antt' \) -print)
 
-# Where the demo's disk is made, and how it is decoded.
+# Where the demo's dumps are made, and how they are read.
 DEMO = out/demo
-DECODE = $(PROGRAM) decode-folder amiga $(DEMO)/disk
+FIRST = $(PROGRAM) read ibm-720 $(DEMO)/first
+BOTH = $(FIRST) $(DEMO)/second
 
 .PHONY: demo test check wrong install uninstall
 
 # The program is built only once all of it is proved, so a first build takes long. Later calls start at once.
-demo: $(PROGRAM) $(DEMO)/disk.adf
-	@echo "$(DECODE) > $(DEMO)/decoded.adf 2> $(DEMO)/report.txt"
-	@$(DECODE) > $(DEMO)/decoded.adf 2> $(DEMO)/report.txt; echo "exit code $$?"
-	@echo "the sectors that are not good, those of a worn track, and the total:"
-	@grep -v ' good \|^total' $(DEMO)/report.txt; grep '^12\.0' $(DEMO)/report.txt; tail -n 1 $(DEMO)/report.txt
-	@echo "bytes of the image that differ from what was recorded, all of them in these sectors:"
-	@cmp -l $(DEMO)/decoded.adf $(DEMO)/disk.adf | wc -l
-	@echo "a picture of it, for any browser: $(DEMO)/map.svg"
-	@cat $(DEMO)/disk/*.raw | $(PROGRAM) map amiga > $(DEMO)/map.svg; test $$? -le 1
+demo: $(PROGRAM) $(DEMO)/disk.img
+	@echo "one dump: $(FIRST) > $(DEMO)/first.img 2> $(DEMO)/first.txt"
+	@$(FIRST) > $(DEMO)/first.img 2> $(DEMO)/first.txt; echo "exit code $$?"
+	@echo "what is not good, and the totals:"
+	@grep -v ' good [1-9]' $(DEMO)/first.txt; tail -n 1 $(DEMO)/first.txt
+	@echo
+	@echo "with a second dump: $(BOTH) > $(DEMO)/both.img 2> $(DEMO)/both.txt"
+	@$(BOTH) > $(DEMO)/both.img 2> $(DEMO)/both.txt; echo "exit code $$?"
+	@echo "what is not good, a sector that another drive wrote again, and the totals:"
+	@grep -v ' good [1-9]' $(DEMO)/both.txt; grep '^21\.0 04' $(DEMO)/both.txt; tail -n 1 $(DEMO)/both.txt
+	@echo "bytes of the image that differ from what was recorded, all of them in the sectors that are not good:"
+	@cmp -l $(DEMO)/both.img $(DEMO)/disk.img | wc -l
+	@echo "the strict reading of the second dump has one sector less; a picture of it, for any browser: $(DEMO)/map.svg"
+	@cat $(DEMO)/second/*.raw | $(PROGRAM) map ibm-720 > $(DEMO)/map.svg; test $$? -le 1
 
-# The streams are made by the program from an image that is made up, and two tracks are then damaged.
-$(DEMO)/disk.adf: $(PROGRAM) samples/demo.py
+# The streams are made by the program from an image that is made up, and are then damaged.
+$(DEMO)/disk.img: $(PROGRAM) samples/demo.py
 	python3 samples/demo.py $(PROGRAM) $(DEMO)
 
 # The crates that do not stand on each other are proved side by side; then the program is linked, and run on a stream.

@@ -1,21 +1,29 @@
 #!/usr/bin/env python3
-"""Makes an Amiga disk as a folder of streams, one file a track, of which two tracks are damaged.
+"""Makes two dumps of a PC disk, each a folder of streams with one file a track, as an archive might have them.
 
-demo.py PROGRAM FOLDER writes FOLDER/disk.adf, an image that is made up, and FOLDER/disk/trackCC.H.raw, what PROGRAM
-writes of it, one stream a file. On track 40.1 a stretch is unreadable in each revolution, and on track 12.0 in one alone.
+demo.py PROGRAM FOLDER writes FOLDER/disk.img, an image that is made up, and FOLDER/first and FOLDER/second, dumps of what PROGRAM writes of
+it. On the disk itself a stretch of track 40.1 is worn, and sector 4 of track 21.0 was written again by another drive, a little late. The
+first dump lacks the file of track 33.0, and in one of its revolutions a stretch of track 12.0 was not read.
 """
 import pathlib
 import re
 import subprocess
 import sys
 
-SIZE = 901120
+FORMAT = "ibm-720"
+SIZE = 737280
 
 # In-stream blocks: of one byte, of two, and of three.
 IN_STREAM = re.compile(rb"(?:[\x08\x0b\x0e-\xff]|[\x00-\x07\x09].|[\x0a\x0c]..)*", re.S)
 
-# A transition 4 microseconds after the one before: cells that say nothing.
-NOISE = 0x60
+# A transition 4 microseconds after the one before: cells that say nothing. A block that says nothing at all.
+NOISE, NOP = 0x60, 0x08
+
+# A cell in ticks, the cells of a revolution, and those of a stream before its first whole revolution.
+CELL, TURN, BEFORE = 49208 / 1024, 100000, 25000
+
+# Where sector 4's data begin in a revolution, how many cells they have, and how many cells late they were written again.
+DATA, DATA_CELLS, LATE = 2528 + 3 * 10464 + 704, 8288, 20
 
 
 def image():
@@ -34,29 +42,69 @@ def stream_end(streams, at):
             return at
 
 
-def damage(stream, turns):
+def worn(stream, turns):
     """Puts noise into a sixth of these turns; a stream holds a quarter of a turn, three turns, and a quarter."""
-    worn = bytearray(stream)
+    out = bytearray(stream)
     for turn in turns:
         begin = int(len(stream) * (turn + 0.75) / 3.5)
         for at in range(begin, begin + len(stream) // 21):
-            if worn[at] >= 0x0E:
-                worn[at] = NOISE
-    return bytes(worn)
+            if out[at] >= 0x0E:
+                out[at] = NOISE
+    return bytes(out)
+
+
+def place_of_cell(stream, cell):
+    """The place of the block that ends with the first transition at a cell or after it. All transitions are of one byte."""
+    at, ticks = 0, 0
+    while ticks < cell * CELL:
+        if stream[at] == 0x0D:
+            at += 4 + int.from_bytes(stream[at + 2 : at + 4], "little")
+            continue
+        ticks += stream[at]
+        at += 1
+    return at - 1
+
+
+def written_again(stream):
+    """The data of the sector stand late in each turn: behind a seam without transitions, and before one that is as much shorter. The
+    number of bytes stays, since Index blocks tell places by it."""
+    out = bytearray(stream)
+    for turn in range(3):
+        begin = BEFORE + TURN * turn + DATA
+        seam, end = place_of_cell(stream, begin - 60), place_of_cell(stream, begin + DATA_CELLS + 160)
+        late = int(LATE * CELL)
+        out[seam : seam + 2] = (out[seam] + out[seam + 1] + late).to_bytes(2, "big")
+        while late >= out[end]:
+            late -= out[end]
+            out[end] = NOP
+            end += 1
+        out[end] -= late
+    return bytes(out)
+
+
+def dumps(number, stream):
+    """The stream of a track as it stands in the first dump, if it does, and in the second."""
+    if number == "40.1":
+        stream = worn(stream, range(3))
+    if number == "21.0":
+        stream = written_again(stream)
+    first = None if number == "33.0" else worn(stream, [1]) if number == "12.0" else stream
+    return first, stream
 
 
 def main(program, folder):
-    disk = folder / "disk"
-    disk.mkdir(parents=True, exist_ok=True)
-    (folder / "disk.adf").write_bytes(image())
-    streams = subprocess.run([program, "write", "amiga"], input=image(), stdout=subprocess.PIPE, check=True).stdout
+    for name in ("first", "second"):
+        (folder / name).mkdir(parents=True, exist_ok=True)
+    streams = subprocess.run([program, "write", FORMAT], input=image(), stdout=subprocess.PIPE, check=True).stdout
     at = 0
     for number in range(160):
         end = stream_end(streams, at)
-        name, stream = f"{number // 2:02}.{number % 2}", streams[at:end]
-        worn = {"40.1": range(3), "12.0": [1]}.get(name, [])
-        (disk / f"track{name}.raw").write_bytes(damage(stream, worn))
+        track = f"{number // 2:02}.{number % 2}"
+        for name, stream in zip(("first", "second"), dumps(track, streams[at:end])):
+            if stream is not None:
+                (folder / name / f"track{track}.raw").write_bytes(stream)
         at = end
+    (folder / "disk.img").write_bytes(image())
 
 
 if __name__ == "__main__":
