@@ -63,4 +63,11 @@ has trial apple-do 1 && sweep empty 0 trial apple-do 1
 has to-g64 c1541 && sweep commodore_image 0 to-g64 c1541
 has from-g64 c1541 && sweep empty 2 from-g64 c1541
 has decode-set apple-do 2 && sweep disk 1 decode-set apple-do 2
+has rescue apple-do && sweep disk 1 rescue apple-do
+has map apple-do && sweep disk 1 map apple-do
+mkdir dump
+for track in $(seq -w 0 34); do cp stream "dump/track$track.0.raw"; done
+has decode-folder apple-do dump && sweep empty 1 decode-folder apple-do dump
+has read apple-do dump && sweep empty 1 read apple-do dump dump
+has identify dump && sweep empty 1 identify dump
 exit $wrong
