@@ -1,0 +1,5 @@
+pub mod Streams
+pub mod Lines
+pub mod Said
+pub mod Owning
+pub mod Captured

@@ -1,0 +1,259 @@
+-- What dumps that were read say of each sector.
+use Rattle.std.specs.Prelude.{◌≡◌, ◌≤◌, ◌<◌, ◌⊎◌, ℕ, zero, suc, ◌+◌, ◌-◌, map, List, [], ◌∷◌, ◌++◌, flat_map, get_or, length, Option, None, Some, refl}
+use Rattle.std.specs.List.{range_with_len}
+use Rattle.std.proofs.Common.{ap, sym, subst, ◌∙◌, arith, append_assoc, inl, inr}
+use Rattle.std.proofs.lemmas.Bool.{cases_lt}
+use Rattle.dump_reading.specs.Outcomes.{DumpDisk, DumpsRead, IsDumpsRead, numbers_of}
+use Rattle.dump_reading.specs.Reports.{end_text, other_lines, passed_line_of, passed_lines, read_part}
+use Rattle.flux_base.specs.declared.track.TrackId.{TrackId}
+use Rattle.flux_engine.specs.DiskLaws.{HasLine, bytes_at}
+use Rattle.flux_engine.specs.Disks.{images, lines, no_totals, part_at}
+use Rattle.flux_engine.specs.LoopProgress.{streams_over}
+use Rattle.flux_engine.specs.PlanLaws.{ContradictionsAreNamedInPlans, GoodIsRightInPlans, ReadingsInPlansAreOne, StrictGoodStays}
+use Rattle.flux_engine.specs.Plans.{AreCaptures, IsPlanned, IsPlannedPart, Planned, Streams, joined, passed_to, planned_of}
+use Rattle.flux_engine.specs.Recordings.{sectors_of, track_at}
+use Rattle.flux_engine.specs.Tracks.{TrackPart, image_bytes, line_by, lines_by, named_part, part_by, track_notes}
+use Rattle.flux_engine.specs.declared.gathered_track.PassedStream.{PassedStream}
+use Rattle.flux_engine.specs.declared.plan.Plan.{Plan}
+use Rattle.flux_engine.specs.lemmas.Pieces.{pieces-at}
+use Rattle.law_captured_disks.specs.Headline.{IsSectorOf}
+use Rattle.law_captured_plans.specs.Said.{IsSaid as IsSaidByPlan, SectorsAreSaid}
+use Rattle.sector_images.specs.Formats.{row}
+use Rattle.sector_images.specs.Places.{tracks}
+use Rattle.sector_images.specs.declared.format.Format.{Format}
+use Rattle.sector_report.specs.DumpLines.{DumpsHaveLines, other_text, passed_text}
+use Rattle.sector_report.specs.LineLaws.{IsOneLine, SectorsHaveOneLine}
+use Rattle.sector_report.specs.Lines.{named_text}
+use Rattle.sector_report.specs.declared.naming.Naming.TheVariants.{ByCaptureAndClock}
+use Rattle.track_shelf.specs.Files.{File}
+use Rattle.turn_merge.specs.Others.{NotedOther, others_over}
+use Rattle.turn_merge.specs.Readings.{NotedReading, verdict}
+use Rattle.turn_merge.specs.declared.others.OtherTold.{OtherTold}
+use Rattle.turn_merge.specs.declared.verdict.Verdict.{Verdict}
+use Rattle.turn_merge.specs.declared.verdict.Verdict.TheVariants.{Bad, Contradictory, Good, Missing}
+use Rattle.law_captured_dumps.specs.Said.{EachIsSaid, GoodStaysOrIsContradicted, IsSaid, IsSaidRightly, SaidIsRight, plan_of, streams_on}
+use Rattle.law_captured_dumps.proofs.Lines.{AreLines, are-append, are-each, are-range, has_line, split_lines}
+use Rattle.law_captured_dumps.proofs.Streams.{no_part}
+
+-- what the crates below promise
+pub record Laws : Type 0 where
+  pub said : SectorsAreSaid
+  pub readings : ReadingsInPlansAreOne
+  pub one : SectorsHaveOneLine
+  pub dump_lines : DumpsHaveLines
+
+-- a list of so many items, each by its number
+item_at : {X : Type 0} (f : ℕ → X) (d : X) (first count k : ℕ) → k < count → get_or (map f (range_with_len first count)) k d ≡ f (first + k)
+item_at f d first zero k low = absurd (omega (arith, low))
+item_at f d first (suc count) zero low = (let here : first ≡ first + 0 = omega arith in ap f here)
+item_at f d first (suc count) (suc k) low =
+    let next : first + 1 + k ≡ first + suc k = omega arith in
+    item_at f d (first + 1) count k (omega (arith, low)) ∙ ap f next
+
+items_many : {X : Type 0} (f : ℕ → X) (first count : ℕ) → length (map f (range_with_len first count)) ≡ count
+items_many f first zero = refl
+items_many f first (suc count) = ap suc (items_many f (first + 1) count)
+
+-- parts with the same images have one image
+images_one : (ps qs : List TrackPart) → length ps ≡ length qs → ((n : ℕ) → n < length ps → (part_at ps n).image ≡ (part_at qs n).image) → images ps ≡ images qs
+images_one [] [] same each = refl
+images_one [] (q ∷ qs) same each = absurd (omega (arith, same))
+images_one (p ∷ ps) [] same each = absurd (omega (arith, same))
+images_one (p ∷ ps) (q ∷ qs) same each =
+    ap (λ (image : List ℕ). image ++ images ps) (each 0 (omega arith))
+    ∙ ap (λ (rest : List ℕ). q.image ++ rest) (images_one ps qs (omega (arith, same)) (λ n low. each (suc n) (omega (arith, low))))
+
+-- a line among the lines of a track, and of a disk
+line_in : (before passed earlier line later others rest end : List ℕ)
+    → (before ++ ((passed ++ ((earlier ++ (line ++ later)) ++ others)) ++ rest)) ++ end
+    ≡ (before ++ (passed ++ earlier)) ++ (line ++ (later ++ (others ++ (rest ++ end))))
+line_in before passed earlier line later others rest end = simp append_assoc
+
+module _ (laws : Laws) (disk : DumpDisk) (files : List File) (o : DumpsRead) (is : IsDumpsRead disk (Some files) o) where
+  abbrev format : Format
+  format = disk.format
+
+  abbrev plan : Plan
+  plan = plan_of disk
+
+  abbrev came : Streams
+  came = streams_over plan is.streams
+
+  abbrev parts : List TrackPart
+  parts = is.parts
+
+  abbrev track : ℕ → TrackId
+  track n = track_at format n
+
+  module _ (n : ℕ) (low : n < length parts) where
+    abbrev at : IsPlannedPart plan read_part format came n (part_at parts n)
+    at = is.all.read.each n low
+
+    abbrev readings : List NotedReading
+    readings = joined at.captures
+
+    abbrev passed : List ℕ
+    passed = passed_lines (track n) (passed_to came n plan.captures)
+
+    abbrev others : List ℕ
+    others = other_lines (track n) (others_over at.others)
+
+    abbrev sector_line : ℕ → List ℕ
+    sector_line sector = line_by ByCaptureAndClock (track n) readings sector
+
+    sector_lines : List ℕ
+    sector_lines = flat_map sector_line (range_with_len (sectors_of format (track n)).first (sectors_of format (track n)).count)
+
+    lines_are : (part_at parts n).lines ≡ passed ++ (sector_lines ++ others)
+    unfolding lines_by sector_lines
+    lines_are = ap (λ (p : TrackPart). p.lines) at.is
+
+    one_line : (sector : ℕ) → IsOneLine (sector_line sector)
+    one_line sector = laws.one ByCaptureAndClock (track n) sector (verdict readings sector)
+
+    passed_are : AreLines passed
+    passed_are = are-each (passed_line_of (track n)) (λ (s : PassedStream). laws.dump_lines.passed (track n) s.capture s.why) (passed_to came n plan.captures)
+
+    are_lines : AreLines (part_at parts n).lines
+    unfolding sector_lines
+    are_lines =
+        subst AreLines (sym lines_are)
+        (are-append passed (sector_lines ++ others) passed_are
+        (are-append sector_lines others (are-range sector_line one_line (sectors_of format (track n)).first (sectors_of format (track n)).count)
+        (are-each (other_text ByCaptureAndClock (track n)) (λ (told : OtherTold). laws.dump_lines.other ByCaptureAndClock (track n) told) (others_over at.others))))
+
+  -- each sector of a track has its line
+  module _ (n : ℕ) (low : n < length parts) (sector : ℕ) (one : IsSectorOf format n sector) where
+    pub line : (number : ℕ) × HasLine o.notes (sector_line n low sector) number
+    unfolding sector_lines
+    line =
+        let first : ℕ = (row format).first_sector in
+        let count : ℕ = (sectors_of format (track n)).count in
+        let i : ℕ = sector - first in
+        let here : first + i ≡ sector = omega (arith, one.known.0) in
+        let few : i < count = omega (arith, one.known.0, one.known.1) in
+        let text : List ℕ = sector_line n low sector in
+        let earlier : List ℕ = flat_map (sector_line n low) (range_with_len first i) in
+        let later : List ℕ = flat_map (sector_line n low) (range_with_len (first + i + 1) (count - i - 1)) in
+        let mine : sector_lines n low ≡ earlier ++ (text ++ later) =
+        pieces-at (sector_line n low) first i count few ∙ ap (λ (k : ℕ). earlier ++ (sector_line n low k ++ later)) here in
+        let s = split_lines parts are_lines n low in
+        let end : List ℕ = end_text (numbers_of is.streams parts is.others) in
+        let split : o.notes ≡ (s.before ++ (passed n low ++ earlier)) ++ (text ++ (later ++ (others n low ++ (s.rest ++ end)))) =
+        ap (λ (d : DumpsRead). d.notes) is.is
+        ∙ ap (λ (t : List ℕ). t ++ end) s.is
+        ∙ ap (λ (t : List ℕ). (s.before ++ (t ++ s.rest)) ++ end) (lines_are n low)
+        ∙ ap (λ (t : List ℕ). (s.before ++ ((passed n low ++ (t ++ others n low)) ++ s.rest)) ++ end) mine
+        ∙ line_in s.before (passed n low) earlier text later (others n low) s.rest end in
+        let front : AreLines (s.before ++ (passed n low ++ earlier)) =
+        are-append s.before (passed n low ++ earlier) s.whole
+        (are-append (passed n low) earlier (passed_are n low) (are-range (sector_line n low) (one_line n low) first i)) in
+        (front.count, has_line o.notes (s.before ++ (passed n low ++ earlier)) text (later ++ (others n low ++ (s.rest ++ end))) split front (one_line n low sector))
+
+  -- the same disk without what is told beside the sectors: what it comes to by the plan
+  plain_of : (n : ℕ) → (n < length parts) ⊎ (length parts ≤ n) → TrackPart
+  plain_of n (inl low) = named_part ByCaptureAndClock format (track n) (readings n low)
+  plain_of n (inr past) = no_part
+
+  plain_at : ℕ → TrackPart
+  plain_at n = plain_of n (cases_lt n (length parts))
+
+  plain : List TrackPart
+  plain = map plain_at (range_with_len 0 (length parts))
+
+  plain_many : length plain ≡ length parts
+  unfolding plain
+  plain_many = items_many plain_at 0 (length parts)
+
+  plain_is : (n : ℕ) → n < length parts → part_at plain n ≡ plain_at n
+  unfolding plain
+  plain_is n low = (let same : 0 + n ≡ n = omega arith in item_at plain_at no_part 0 (length parts) n low ∙ ap plain_at same)
+
+  planned_of_one : (n : ℕ) → n < length parts → (c : (n < length parts) ⊎ (length parts ≤ n)) → IsPlannedPart plan (part_by plan.naming) format came n (plain_of n c)
+  unfolding plain_of
+  planned_of_one n low (inl known) = (let here = at n known in record {
+    no_fault = here.no_fault;
+    captures = here.captures;
+    many = here.many;
+    each = here.each;
+    others = here.others;
+    others_are = here.others_are;
+    is = refl;
+  })
+  planned_of_one n low (inr past) = absurd (omega (arith, low, past))
+
+  image_of_one : (n : ℕ) → n < length parts → (c : (n < length parts) ⊎ (length parts ≤ n)) → (plain_of n c).image ≡ (part_at parts n).image
+  unfolding plain_of
+  image_of_one n low (inl known) = sym (ap (λ (p : TrackPart). p.image) (at n known).is)
+  image_of_one n low (inr past) = absurd (omega (arith, low, past))
+
+  abbrev planned : Planned
+  planned = planned_of plain None
+
+  each_planned : (n : ℕ) → n < length plain → IsPlannedPart plan (part_by plan.naming) format came n (part_at plain n)
+  unfolding plain_at
+  each_planned n low =
+      let known : n < length parts = omega (arith, low, plain_many) in
+      subst (IsPlannedPart plan (part_by plan.naming) format came n) (sym (plain_is n known)) (planned_of_one n known (cases_lt n (length parts)))
+
+  is_planned : IsPlanned plan (part_by plan.naming) format came planned
+  is_planned = record {
+    parts = plain;
+    each = each_planned;
+    stops = λ n q low few. (at n (omega (arith, low, is.all.many))).no_fault q few;
+    many = plain_many ∙ is.all.many;
+    is = refl;
+  }
+
+  image_is : images plain ≡ o.image
+  unfolding plain_at
+  image_is =
+      images_one plain parts plain_many
+      (λ n low.
+      let known : n < length parts = omega (arith, low, plain_many) in
+      ap (λ (p : TrackPart). p.image) (plain_is n known) ∙ image_of_one n known (cases_lt n (length parts)))
+      ∙ sym (ap (λ (d : DumpsRead). d.image) is.is)
+
+  pub each_said : (n sector : ℕ) → IsSectorOf format n sector
+      → ((known : n < length parts) (captures : List (List NotedReading)) → length captures ≡ length disk.dumps → AreCaptures plan format came n captures
+      → AreCaptures plan format (streams_on disk files) n captures)
+      → IsSaid disk files o n sector
+  each_said n sector one moved =
+      let known : n < length parts = omega (arith, one.track, is.all.many) in
+      let here = at n known in
+      let said : IsSaidByPlan plan format came planned n sector = laws.said plan format came planned is_planned n sector one.track one.known in
+      let same : said.captures ≡ here.captures = laws.readings plan format came n said.captures here.captures said.each here.each (said.many ∙ sym here.many) in
+      let text = line n known sector one in
+      record {
+        captures = here.captures;
+        many = here.many;
+        each = moved known here.captures here.many here.each;
+        number = text.0;
+        line = text.1;
+        held =
+            ap (λ (image : List ℕ). bytes_at format image (track n) sector) (sym image_is)
+            ∙ said.held
+            ∙ ap (λ (captures : List (List NotedReading)). image_bytes (sectors_of format (track n)) (joined captures) sector) same;
+      }
+
+-- what a line says is right
+pub said_is_right : GoodIsRightInPlans → ContradictionsAreNamedInPlans → SaidIsRight
+said_is_right good contradicted disk files o n sector said = by (verdict (joined said.captures) sector) refl
+  where
+    by : (v : Verdict) → verdict (joined said.captures) sector ≡ v → IsSaidRightly disk files o n sector v
+    by (Good g b first) is =
+        let right = good (plan_of disk) disk.format (streams_on disk files) n said.captures said.many said.each sector g b first is in
+        record {
+          bytes = right.bytes;
+          named = right.named;
+          in_image = said.held ∙ right.in_image;
+          agreed = right.agreed;
+        }
+    by (Contradictory g b first other) is =
+        contradicted (plan_of disk) disk.format (streams_on disk files) n said.captures said.many said.each sector g b first other is
+    by (Bad b first) is = tt
+    by Missing is = tt
+
+pub good_stays : StrictGoodStays → GoodStaysOrIsContradicted
+good_stays stays disk files o n sector said q low clock used found all good bad first is =
+    stays (plan_of disk) disk.format (streams_on disk files) n said.captures said.many said.each q low clock used found all sector good bad first is

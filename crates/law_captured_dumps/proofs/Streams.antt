@@ -1,0 +1,149 @@
+-- The streams that came of dumps are those of their files, and the files decide what they come to.
+use Rattle.std.specs.Prelude.{◌≡◌, ◌≤◌, ◌<◌, ℕ, zero, suc, ◌+◌, ◌*◌, ◌/◌, ◌%◌, map, List, [], ◌∷◌, ◌++◌, get_or, length, Option, None, Some, refl}
+use Rattle.std.proofs.Common.{ap, sym, subst, ◌∙◌, arith}
+use Rattle.std.proofs.Math.Nat.{div-lt_iff_lt-mul, mod-lt, mul_comm}
+use Rattle.std.proofs.lemmas.List.{ext_get_or}
+use Rattle.std.proofs.lemmas.Nat.{div-add-mod', mul-add-lt}
+use Rattle.dump_reading.specs.Outcomes.{AreAllTracks, AreReadTracks, DumpDisk, DumpsRead, IsDumpsRead, numbers_of}
+use Rattle.dump_reading.specs.Reports.{end_text, read_part}
+use Rattle.flux_base.specs.declared.track.TrackId.{TrackId}
+use Rattle.flux_engine.specs.Captured.{AreOthersOf, AreReadingsOf, IsUsed, joined_by, noted_other}
+use Rattle.flux_engine.specs.Counts.{AreOthersOver}
+use Rattle.flux_engine.specs.Disks.{images, lines, no_totals, part_at}
+use Rattle.flux_engine.specs.LoopProgress.{seen_at, streams_over}
+use Rattle.flux_engine.specs.PlanLaws.{ReadingsInPlansAreOne}
+use Rattle.flux_engine.specs.Plans.{AreCaptures, AreOthersTo, ArePlannedParts, IsPlannedPart, Seen, Streams, joined, passed_to}
+use Rattle.flux_engine.specs.Recordings.{cells_by, track_at}
+use Rattle.flux_engine.specs.Rules.{RulesAreRead}
+use Rattle.flux_engine.specs.Tracks.{TrackPart, track_notes}
+use Rattle.flux_engine.specs.declared.plan.Clocks.{Clocks}
+use Rattle.flux_engine.specs.declared.plan.Clocks.TheVariants.{Both, FollowingAlone}
+use Rattle.flux_engine.specs.declared.plan.Plan.{Plan}
+use Rattle.flux_engine.specs.declared.plan.Rule.{Rule}
+use Rattle.sector_images.specs.Places.{tracks}
+use Rattle.sector_images.specs.declared.format.Format.{Format}
+use Rattle.track_shelf.specs.Files.{File}
+use Rattle.turn_merge.specs.Others.{NotedOther}
+use Rattle.turn_merge.specs.Readings.{NotedReading}
+use Rattle.turn_merge.specs.declared.clock.Clock.{Clock}
+use Rattle.turn_merge.specs.declared.clock.Clock.TheVariants.{Following, Held}
+use Rattle.law_captured_dumps.specs.Said.{DumpsAreOne, plan_of, streams_on}
+
+abbrev none_seen : Seen
+none_seen = record { fault = None; passed = None; times = []; indexes = [] }
+
+abbrev pub no_part : TrackPart
+no_part = record { image = []; lines = []; totals = no_totals }
+
+-- what has a number has a count
+some_of : (i a count : ℕ) → i < a * count → 0 < count
+some_of i a zero low = (let none : a * 0 ≡ 0 = omega arith in absurd (omega (arith, low, none)))
+some_of i a (suc count) low = omega arith
+
+module _ (disk : DumpDisk) (files : List File) (streams : List Seen) (parts : List TrackPart) (read : AreReadTracks disk (Some files) streams parts) where
+  abbrev many : ℕ
+  many = length disk.dumps
+
+  number : (n q : ℕ) → n < length parts → q < many → n * many + q < length streams
+  number n q known low =
+      let below : n * many + q < many * length parts = mul-add-lt n many q (length parts) known low in
+      omega (arith, below, mul_comm many (length parts), read.all)
+
+  pub same_stream : (n q : ℕ) → n < length parts → q < many → seen_at streams (n * many + q) ≡ streams_on disk files n q
+  same_stream n q known low = read.are files refl n q low (number n q known low)
+
+  -- so the readings of a track are those of the files
+  pub same_captures : (n : ℕ) → n < length parts → (captures : List (List NotedReading)) → length captures ≡ many
+      → AreCaptures (plan_of disk) disk.format (streams_over (plan_of disk) streams) n captures → AreCaptures (plan_of disk) disk.format (streams_on disk files) n captures
+  same_captures n known captures all each q low =
+      subst (λ (s : Seen). AreReadingsOf (plan_of disk).rule (plan_of disk).clocks disk.format (track_at disk.format n) s.times s.indexes q (get_or captures q []))
+      (same_stream n q known (omega (arith, low, all))) (each q low)
+
+  -- and each of them has its place among those that came
+  pub at_place : (i : ℕ) → i < length streams → seen_at streams i ≡ streams_on disk files (i / many) (i % many)
+  at_place i low =
+      let below : i < length parts * many = omega (arith, low, read.all) in
+      let positive : 0 < many = some_of i (length parts) many below in
+      ap (seen_at streams) (sym (div-add-mod' i many)) ∙ same_stream (i / many) (i % many) ((div-lt_iff_lt-mul positive).1 below) (mod-lt i positive)
+
+-- the others of a track are decided by its streams
+module _ (read : RulesAreRead) where
+  joined_same : {X : Type 0} (clocks : Clocks) (f g : Clock → List X) → ((clock : Clock) → IsUsed clocks clock → f clock ≡ g clock) → joined_by clocks f ≡ joined_by clocks g
+  joined_same FollowingAlone f g same = same Following tt
+  joined_same Both f g same = ap (λ rs. rs ++ f Held) (same Following tt) ∙ ap (λ rs. g Following ++ rs) (same Held tt)
+
+  others_of : (rule : Rule) (clocks : Clocks) (format : Format) (track : TrackId) (times indexes : List ℕ) (capture : ℕ) (a b : List NotedOther)
+      → AreOthersOf rule clocks format track times indexes capture a → AreOthersOf rule clocks format track times indexes capture b → a ≡ b
+  others_of rule clocks format track times indexes capture a b p q =
+      p.are ∙ joined_same clocks p.by_clock q.by_clock (λ clock used.
+      let x = p.each clock used in
+      let y = q.each clock used in
+      let cells = cells_by clock format track times indexes in
+      x.are ∙ ap (map (noted_other capture clock times indexes cells)) (read.one_others rule format track cells x.found y.found x.all y.all) ∙ sym y.are)
+      ∙ sym q.are
+
+  others_to : (plan : Plan) (format : Format) (streams : Streams) (n q : ℕ) (a b : List NotedOther)
+      → AreOthersTo plan format streams n q a → AreOthersTo plan format streams n q b → a ≡ b
+  others_to plan format streams n zero a b p r = p ∙ sym r
+  others_to plan format streams n (suc q) a b (before, now, earlier, here, is) (before', now', earlier', here', is') =
+      is ∙ ap (λ (os : List NotedOther). os ++ now) (others_to plan format streams n q before before' earlier earlier')
+      ∙ ap (λ (os : List NotedOther). before' ++ os)
+      (others_of plan.rule plan.clocks format (track_at format n) (streams n q).times (streams n q).indexes q now now' here here')
+      ∙ sym is'
+
+  others_over_one : (plan : Plan) (format : Format) (streams : Streams) (a b : List (List NotedOther)) → length a ≡ length b
+      → AreOthersOver plan format streams a → AreOthersOver plan format streams b → a ≡ b
+  others_over_one plan format streams a b same p q =
+      ext_get_or [] a b same (λ n low. others_to plan format streams n plan.captures (get_or a n []) (get_or b n []) (p n low) (q n (omega (arith, low, same))))
+
+  module _ (one : ReadingsInPlansAreOne) (plan : Plan) (format : Format) (streams : Streams) where
+    one_part : (n : ℕ) (a b : TrackPart) → IsPlannedPart plan read_part format streams n a → IsPlannedPart plan read_part format streams n b → a ≡ b
+    one_part n a b p q =
+        p.is ∙ ap (λ (captures : List (List NotedReading)). read_part format (track_at format n) (track_notes (joined captures) (passed_to streams n plan.captures) p.others))
+        (one plan format streams n p.captures q.captures p.each q.each (p.many ∙ sym q.many))
+        ∙ ap (λ (others : List NotedOther). read_part format (track_at format n) (track_notes (joined q.captures) (passed_to streams n plan.captures) others))
+        (others_to plan format streams n plan.captures p.others q.others p.others_are q.others_are) ∙ sym q.is
+
+    one_parts : (ps qs : List TrackPart) → ArePlannedParts plan read_part format streams ps → ArePlannedParts plan read_part format streams qs → length ps ≡ length qs → ps ≡ qs
+    one_parts ps qs are others same =
+        ext_get_or no_part ps qs same (λ k low. one_part k (part_at ps k) (part_at qs k) (are k low) (others k (omega (arith, low, same))))
+
+  module _ (one : ReadingsInPlansAreOne) (disk : DumpDisk) (files : List File) (a b : DumpsRead) (p : IsDumpsRead disk (Some files) a) (q : IsDumpsRead disk (Some files) b) where
+    parts_many : length p.parts ≡ length q.parts
+    parts_many = p.all.many ∙ sym q.all.many
+
+    streams_many : length p.streams ≡ length q.streams
+    streams_many = p.all.read.all ∙ ap (λ (n : ℕ). n * length disk.dumps) parts_many ∙ sym q.all.read.all
+
+    streams_same : p.streams ≡ q.streams
+    streams_same =
+        ext_get_or none_seen p.streams q.streams streams_many
+        (λ i low.
+        at_place disk files p.streams p.parts p.all.read i low ∙ sym (at_place disk files q.streams q.parts q.all.read i (omega (arith, low, streams_many))))
+
+    abbrev over : List Seen → Streams
+    over streams = streams_over (plan_of disk) streams
+
+    parts_same : p.parts ≡ q.parts
+    parts_same =
+        one_parts one (plan_of disk) disk.format (over q.streams) p.parts q.parts
+        (subst (λ (ss : List Seen). ArePlannedParts (plan_of disk) read_part disk.format (over ss) p.parts) streams_same p.all.read.each) q.all.read.each parts_many
+
+    others_same : p.others ≡ q.others
+    others_same =
+        others_over_one (plan_of disk) disk.format (over q.streams) p.others q.others (p.all.many_others ∙ sym q.all.many_others)
+        (subst (λ (ss : List Seen). AreOthersOver (plan_of disk) disk.format (over ss) p.others) streams_same p.all.others_are) q.all.others_are
+
+    abbrev read_of : List Seen → List TrackPart → List (List NotedOther) → DumpsRead
+    read_of ss ps os = record { image = images ps; notes = lines ps ++ end_text (numbers_of ss ps os); totals = numbers_of ss ps os }
+
+    one_read : a ≡ b
+    one_read =
+        p.is
+        ∙ ap (λ (ss : List Seen). read_of ss p.parts p.others) streams_same
+        ∙ ap (λ (ps : List TrackPart). read_of q.streams ps p.others) parts_same
+        ∙ ap (λ (os : List (List NotedOther)). read_of q.streams q.parts os) others_same
+        ∙ sym q.is
+
+pub dumps_are_one : RulesAreRead → ReadingsInPlansAreOne → DumpsAreOne
+dumps_are_one read one disk files a b p q = one_read read one disk files a b p q

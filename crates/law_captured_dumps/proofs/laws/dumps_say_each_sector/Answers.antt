@@ -1,0 +1,21 @@
+use Rattle.law_captured_dumps.proofs.Said.{Laws, each_said, good_stays, said_is_right}
+use Rattle.law_captured_dumps.proofs.Streams.{same_captures}
+use Rattle.law_captured_dumps.proofs.laws.dumps_say_each_sector.Goals as goal
+
+laws : (c : goal.After-dumps_have_lines) → Laws
+laws c = record {
+  said = c.planned_sectors_are_said.ensures;
+  readings = c.plans_are_right.ensures.readings;
+  one = c.sectors_have_one_line.ensures;
+  dump_lines = c.dumps_have_lines.ensures.lines;
+}
+
+pub returns-clause-said : goal.returns-clause-said
+returns-clause-said c disk files o is n sector one =
+    each_said (laws c) disk files o is n sector one (same_captures disk files is.streams is.parts is.all.read n)
+
+pub returns-clause-right : goal.returns-clause-right
+returns-clause-right c = said_is_right c.plans_are_right.ensures.good c.plans_are_right.ensures.contradictory
+
+pub returns-clause-stays : goal.returns-clause-stays
+returns-clause-stays c = good_stays c.plans_are_right.ensures.strict

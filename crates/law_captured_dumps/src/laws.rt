@@ -1,0 +1,55 @@
+//! What dumps come to that are read together.
+
+ghost use Rattle.law_captured_dumps.specs.Headline.{CapturedDumpsAreNeverWrong, SteadyDumpsAreReadWell};
+ghost use Rattle.law_captured_dumps.specs.Said.{DumpsAreOne, EachIsSaid, GoodStaysOrIsContradicted, SaidIsRight};
+
+use disk_recordings::{DiskRecording, rewritten_tracks_have_only_own, tracks_have_rings};
+use flux_engine::{
+    captures_are_recovered, plans_are_right, rules_are_read, steady_captures_are_recovered,
+};
+use kryo_stream::growth_law;
+use law_captured_plans::planned_sectors_are_said;
+use law_decoded_rings::own_sectors_are_right;
+use sector_images::sectors_lie_in_images;
+use sector_report::{dumps_have_lines, sectors_have_one_line};
+
+/// The files on the shelf decide what dumps come to.
+pub fn dumps_are_one()
+    ensures { DumpsAreOne }
+{
+    plans_are_right();
+    rules_are_read()
+}
+
+/// Each sector of a disk that is read of its dumps has its line in the report, with the verdict over all that was read of its track, of
+/// all dumps and by both clocks, and at its place in the image the bytes that its good readings hold, or zeros. So it is called good, or
+/// contradictory, only where the dump, the clock and the place that are named hold it. And a sector that one dump's stream makes good by
+/// the strict rule and one clock, as `decode` reads it, is good with the same bytes, or contradictory.
+pub fn dumps_say_each_sector()
+    ensures said { EachIsSaid }
+    ensures right { SaidIsRight }
+    ensures stays { GoodStaysOrIsContradicted }
+{
+    planned_sectors_are_said();
+    plans_are_right();
+    sectors_have_one_line();
+    dumps_have_lines()
+}
+
+/// A sector that one dump has whole, since its file captures the track, or captures it in part with the sector between two erased
+/// stretches, is never wrong unsaid, whatever the other files are: it is good with its own bytes, or contradictory. Where all files of the
+/// track capture it, whole or in part, or are passed over, and the drives kept their speed, it is good with its own bytes.
+pub fn captured_dumps_are_read()
+    ensures never_wrong { CapturedDumpsAreNeverWrong }
+    ensures well { SteadyDumpsAreReadWell }
+{
+    dumps_say_each_sector();
+    own_sectors_are_right::<DiskRecording>();
+    rules_are_read();
+    tracks_have_rings();
+    rewritten_tracks_have_only_own();
+    growth_law();
+    captures_are_recovered();
+    steady_captures_are_recovered();
+    sectors_lie_in_images()
+}
