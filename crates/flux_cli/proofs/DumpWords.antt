@@ -16,22 +16,22 @@ use Rattle.flux_cli.specs.DumpWords.{Asked, CanBeRead, NamesDumps, double_step_w
 abbrev is_other : List ℕ → Format → Bool
 is_other word f = not (bytes_eq (row f).word word)
 
-others_step : list_all (is_other double_step_word) formats ≡ true
+pub others_step : list_all (is_other double_step_word) formats ≡ true
 others_step = refl
 
 not_same : (b : Bool) → not b ≡ true → b ≡ true → ⊥
 not_same b is_not is = cc
 
-other-word : (word : List ℕ) → list_all (is_other word) formats ≡ true → (f : Format) → (row f).word ≢ word
+pub other-word : (word : List ℕ) → list_all (is_other word) formats ≡ true → (f : Format) → (row f).word ≢ word
 other-word word all f same =
     not_same (bytes_eq (row f).word word)
     (All-contains (λ (g : Format). is_other word g ≡ true) formats f (AllPass-from_list_all (is_other word) formats all) (is_listed f))
     ((bytes_eq-Decides (row f).word word).1 same)
 
-head-same : {X : Type 0} (x y : X) (xs ys : List X) → x ∷ xs ≡ y ∷ ys → x ≡ y
+pub head-same : {X : Type 0} (x y : X) (xs ys : List X) → x ∷ xs ≡ y ∷ ys → x ≡ y
 head-same x y xs ys same = cc
 
-tail-same : {X : Type 0} (x y : X) (xs ys : List X) → x ∷ xs ≡ y ∷ ys → xs ≡ ys
+pub tail-same : {X : Type 0} (x y : X) (xs ys : List X) → x ∷ xs ≡ y ∷ ys → xs ≡ ys
 tail-same x y xs ys same = cc
 
 -- the command's word

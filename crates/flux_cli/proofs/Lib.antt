@@ -16,3 +16,4 @@ pub mod Digits
 pub mod FolderRun
 pub mod ReadRun
 pub mod DumpWords
+pub mod ReadHeadline

@@ -1,18 +1,22 @@
 -- What `read` did by what reading the dumps answered.
 use Rattle.std.specs.Prelude.{if◌then◌else◌}
-use Rattle.std.proofs.Common.{◌≡◌, ◌<◌, ℕ, Bool, true, false, List, [], length, Option, Some, None, inl, inr, refl, sym, ap, ◌∙◌, subst}
+use Rattle.std.proofs.Common.{◌≡◌, ◌<◌, ℕ, Bool, true, false, List, [], length, Option, Some, None, inl, inr, refl, sym, ap, ◌∙◌, subst, arith}
+use Rattle.std.proofs.lemmas.Bool.{cases_lt}
 use Rattle.std.proofs.KnownBytes.{Appends-nil, Keeps-refl}
 use Rattle.std.specs.Io.KnownBytes.{Appends, Keeps}
-use Rattle.dump_reading.specs.Outcomes.{DumpDisk, IsToldEmpty, WroteDumps}
+use Rattle.dump_reading.specs.Outcomes.{DumpDisk, IsFirstEmpty, IsToldEmpty, WroteDumps, has_files}
 use Rattle.dump_reading.specs.Totals.{is_complete}
 use Rattle.dump_reading.specs.declared.totals.DumpTotals.{DumpTotals}
 use Rattle.flux_base.specs.Outside.{AppendsPart}
 use Rattle.flux_base.specs.declared.status.Status.{Status}
 use Rattle.flux_base.specs.declared.status.Status.TheVariants.{AllGood, NotAllGood, Refused}
+use Rattle.law_captured_dumps.specs.Said.{DumpsAreOne}
 use Rattle.sector_images.specs.declared.format.Format.{Format}
 use Rattle.sector_report.specs.DumpLines.{no_files_text}
+use Rattle.track_shelf.specs.Files.{File}
 use Rattle.flux_cli.specs.FolderRuns.{OnShelf}
-use Rattle.flux_cli.specs.ReadRuns.{CutInEmpty, DidRead, FinishedDumps, SaysOfRead, empty_outcome, read_outcome, read_status}
+use Rattle.flux_cli.specs.ReadRuns.{CutInEmpty, DidRead, FinishedDumps, IsOutcomeOfDumps, SaysOfRead, empty_outcome, read_outcome, read_status}
+use Rattle.flux_cli.specs.Work.{Outcome}
 
 module _ {H W N : Type 0} (disk : DumpDisk) (before after : OnShelf H W N) where
   -- what was done in a room that was made for the disk's format
@@ -58,3 +62,30 @@ module _ {H W N : Type 0} (disk : DumpDisk) (before after : OnShelf H W N) where
       image_got = subst (λ (now : Option (List ℕ)). Keeps before.image.bytes now) (sym same) (Keeps-refl before.image.bytes);
       notes_got = subst (λ (old : Option (List ℕ)). AppendsPart old after.notes.bytes (no_files_text number)) kept got;
     }
+
+true_false : (b : Bool) → b ≡ true → b ≡ false → ⊥
+true_false b is other = cc
+
+-- the first dump without files is one
+first_same : (disk : DumpDisk) (files : List File) (n m : ℕ) → IsFirstEmpty disk files (Some n) → IsFirstEmpty disk files (Some m) → n ≡ m
+first_same disk files n m p q =
+    elim (cases_lt n m) [
+      | inl less ↦ absurd (true_false (has_files disk files n) (q.1 n less) p.0)
+      | inr least ↦
+          elim (cases_lt m n) [
+            | inl more ↦ absurd (true_false (has_files disk files m) (p.1 m more) q.0)
+            | inr most ↦ omega (arith, least, most)
+          ]
+    ]
+
+-- the files decide the outcome of `read`
+pub one_outcome_of_dumps : DumpsAreOne → (disk : DumpDisk) (files : List File) (a b : Outcome)
+    → IsOutcomeOfDumps disk (Some files) a → IsOutcomeOfDumps disk (Some files) b → a ≡ b
+one_outcome_of_dumps one disk files a b (inl (n, low, first, is)) (inl (m, low', second, is')) =
+    is ∙ ap empty_outcome (first_same disk files n m (first files refl) (second files refl)) ∙ sym is'
+one_outcome_of_dumps one disk files a b (inl (n, low, first, is)) (inr (d, none, read, is')) =
+    absurd (true_false (has_files disk files n) (none files refl n low) (first files refl).0)
+one_outcome_of_dumps one disk files a b (inr (d, none, read, is)) (inl (m, low, second, is')) =
+    absurd (true_false (has_files disk files m) (none files refl m low) (second files refl).0)
+one_outcome_of_dumps one disk files a b (inr (d, none, read, is)) (inr (e, none', other, is')) =
+    is ∙ ap read_outcome (one disk files d e read other) ∙ sym is'

@@ -22,5 +22,6 @@ pub mod DisksRuns
 pub mod FolderRuns
 pub mod ReadRuns
 pub mod ShelfRuns
+pub mod ReadHeadline
 pub mod Captured
 pub mod Headlines

@@ -1,8 +1,11 @@
 //! What the definition of an outcome comes to.
 
-ghost use Rattle.std.specs.Prelude.{◌≡◌, ℕ, List};
+ghost use Rattle.std.specs.Prelude.{◌≡◌, ℕ, List, Some};
+ghost use Rattle.dump_reading.specs.Outcomes.{DumpDisk};
+ghost use Rattle.flux_cli.specs.ReadRuns.{IsOutcomeOfDumps};
 ghost use Rattle.flux_cli.specs.Work.{Outcome};
 ghost use Rattle.flux_cli.specs.Works.{IsOutcome};
+ghost use Rattle.track_shelf.specs.Files.{File};
 
 use sector_images::words_name_formats;
 
@@ -16,4 +19,11 @@ pub fn outcomes_are_one()
     disk_rescue::rescues_are_one();
     disk_map::maps_are_one();
     flux_engine::outcomes_are_one()
+}
+
+/// The dumps and the files on the shelf decide the outcome of `read`: there is one at most.
+pub fn read_outcomes_are_one()
+    ensures { (disk : DumpDisk) (files : List File) (a b : Outcome) → IsOutcomeOfDumps disk (Some files) a → IsOutcomeOfDumps disk (Some files) b → a ≡ b }
+{
+    law_captured_dumps::dumps_are_one()
 }

@@ -21,7 +21,7 @@ mod std_shelf;
 mod trial;
 mod turns;
 
-pub use laws::outcomes_are_one;
+pub use laws::{outcomes_are_one, read_outcomes_are_one};
 pub use program::run;
 pub use standard::{StdSink, StdSource};
 pub use std_shelf::StdShelf;

@@ -6,6 +6,7 @@ ghost use Rattle.flux_cli.specs.Commands.{command_for};
 ghost use Rattle.flux_cli.specs.DumpWords.{asked_disk, asked_of};
 ghost use Rattle.flux_cli.specs.FolderRuns.{on, shelf_moment};
 ghost use Rattle.flux_cli.specs.Headlines.{RunsAsExpected};
+ghost use Rattle.flux_cli.specs.ReadHeadline.{ReadsAsExpected};
 ghost use Rattle.flux_cli.specs.ReadRuns.{DidRead};
 ghost use Rattle.flux_cli.specs.Runs.{Does, RanOverSource, outside};
 ghost use Rattle.flux_cli.specs.ShelfRuns.{Ran, surroundings};
@@ -33,6 +34,7 @@ use flux_trial::{TrialRoom, whole_trials_have_one_line};
 use g64_image::{G64Room, file_lines_tell, good_is_right_in_files, written_files_come_back};
 use kryo_stream::{RoomFault, StreamRoom};
 use law_captured_disks::captured_disks_decode;
+use law_captured_dumps::{captured_dumps_are_read, dumps_say_each_sector};
 use law_captured_plans::planned_lines_tell;
 use law_captured_rescues::{captured_disks_are_rescued, steady_disks_are_rescued};
 use law_captured_sets::captured_sets_decode;
@@ -93,6 +95,13 @@ pub fn run<S: Source, W: Sink, N: Sink, H: Shelf>(
     ensures folder_erased { FolderErased words.now result
         (on (shelf_moment (moment H.left H.faults shelf.old) (H.given shelf.old) (H.files shelf.old)) (moment W.written W.faults image.old) (moment N.written N.faults notes.old))
         (on (shelf_moment (moment H.left H.faults shelf.new) (H.given shelf.new) (H.files shelf.new)) (moment W.written W.faults image.new) (moment N.written N.faults notes.new)) }
+
+    // Of `read`, where the shelf tells its files: each sector's line and its bytes are those that all readings of the dumps bear out; a
+    // sector that one dump has whole is good with its own bytes or contradictory, and good where the other files are captures too or
+    // passed over and the drives kept their speed.
+    ensures dumps { ReadsAsExpected words.now result
+        (on (shelf_moment (moment H.left H.faults shelf.old) (H.given shelf.old) (H.files shelf.old)) (moment W.written W.faults image.old) (moment N.written N.faults notes.old))
+        (on (shelf_moment (moment H.left H.faults shelf.new) (H.given shelf.new) (H.files shelf.new)) (moment W.written W.faults image.new) (moment N.written N.faults notes.new)) }
 {
     words_name_formats();
     captured_disks_decode();
@@ -106,6 +115,8 @@ pub fn run<S: Source, W: Sink, N: Sink, H: Shelf>(
     planned_lines_tell();
     file_lines_tell();
     good_is_right_in_files();
+    dumps_say_each_sector();
+    captured_dumps_are_read();
     run_words(alloc, words, source, image, notes, shelf)
 }
 

@@ -1,5 +1,6 @@
 use Rattle.flux_cli.proofs.Captured.{folder_captured, folder_erased, runs_captured, runs_erased}
 use Rattle.flux_cli.proofs.Headlines.{Laws, runs_as_expected}
+use Rattle.flux_cli.proofs.ReadHeadline.{reads_as_expected}
 use Rattle.flux_cli.proofs.program.run.Given.{Over}
 use Rattle.flux_cli.proofs.program.run.Goals as goal
 
@@ -37,3 +38,9 @@ returns-clause-folder_captured g c = folder_captured (laws g c) _ _ _ _ c.run_wo
 
 pub returns-clause-folder_erased : goal.returns-clause-folder_erased
 returns-clause-folder_erased g c = folder_erased (laws g c) _ _ _ _ c.run_words.ensures
+
+pub returns-clause-dumps : goal.returns-clause-dumps
+returns-clause-dumps g c =
+    let said = c.dumps_say_each_sector.ensures in
+    let read = c.captured_dumps_are_read.ensures in
+    reads_as_expected (record { said = said.said; right = said.right; whole = read.never_wrong; steady = read.well }) c.words_name_formats.ensures _ _ _ _ c.run_words.ensures

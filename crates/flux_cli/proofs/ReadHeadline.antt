@@ -1,0 +1,110 @@
+-- From what a run did over dumps to what is known of it.
+use Rattle.std.specs.Prelude.{if◌then◌else◌}
+use Rattle.std.proofs.Common.{◌≡◌, ℕ, Bool, true, false, List, ◌∷◌, ◌++◌, Option, Some, None, inl, inr, refl, sym, ap, ◌∙◌, subst}
+use Rattle.dump_reading.specs.Outcomes.{DumpDisk, DumpsRead, IsDumpsRead}
+use Rattle.dump_reading.specs.Totals.{is_complete}
+use Rattle.flux_base.specs.declared.status.Status.{Status}
+use Rattle.flux_base.specs.declared.status.Status.TheVariants.{AllGood, NotAllGood, Refused, Usage, ReadFault, ImageFault, NotesFault, Memory, ShelfFault}
+use Rattle.law_captured_dumps.specs.Headline.{CapturedDumpsAreNeverWrong, SteadyDumpsAreReadWell}
+use Rattle.law_captured_dumps.specs.Said.{EachIsSaid, SaidIsRight}
+use Rattle.sector_images.specs.Formats.{WordsNameFormats, row}
+use Rattle.sector_images.specs.declared.format.Format.{Format}
+use Rattle.track_shelf.specs.Files.{File}
+use Rattle.track_shelf.specs.declared.stepping.Stepping.{Stepping}
+use Rattle.track_shelf.specs.declared.stepping.Stepping.TheVariants.{Single, Double}
+use Rattle.flux_cli.specs.DumpParts.{disk_words}
+use Rattle.flux_cli.specs.DumpWords.{Asked, CanBeRead, NamesDumps, asked_disk, double_step_word, read_words, stepping_words}
+use Rattle.flux_cli.specs.FolderRuns.{OnShelf}
+use Rattle.flux_cli.specs.FolderWords.{NamesFolder}
+use Rattle.flux_cli.specs.ReadHeadline.{GaveDumps, GaveDumpsOrCut, OfDumps, ReadsAsExpected}
+use Rattle.flux_cli.specs.ReadRuns.{DidRead, FinishedDumps, SaysOfRead}
+use Rattle.flux_cli.specs.ShelfRuns.{Ran, RanBy, Surroundings, on_shelf}
+use Rattle.flux_cli.proofs.DumpWords.{head-same, other-word, others_step, tail-same}
+use Rattle.flux_cli.proofs.Outcomes.{folder_no_dumps}
+
+-- what the laws of dumps promise
+pub record DumpLaws : Type 0 where
+  pub said : EachIsSaid
+  pub right : SaidIsRight
+  pub whole : CapturedDumpsAreNeverWrong
+  pub steady : SteadyDumpsAreReadWell
+
+-- words ask for one disk at most
+module _ (names : WordsNameFormats) where
+  by_parts : (a b : Asked) → a.stepping ≡ b.stepping → disk_words a ≡ disk_words b → a ≡ b
+  by_parts a b steps same =
+      let kinds : a.format ≡ b.format = names a.format b.format (head-same _ _ _ _ same) in
+      let rest : a.dumps ≡ b.dumps = tail-same _ _ _ _ same in
+      ap (λ (s : Stepping). record a { stepping = s }) steps
+      ∙ ap (λ (d : List (List ℕ)). record a { stepping = b.stepping; dumps = d }) rest
+      ∙ ap (λ (f : Format). record b { format = f }) kinds
+
+  by_steps : (s t : Stepping) (a b : Asked) → a.stepping ≡ s → b.stepping ≡ t → stepping_words s ++ disk_words a ≡ stepping_words t ++ disk_words b → a ≡ b
+  by_steps Single Single a b first second same = by_parts a b (first ∙ sym second) same
+  by_steps Double Double a b first second same = by_parts a b (first ∙ sym second) (tail-same _ _ _ _ same)
+  by_steps Single Double a b first second same = absurd (other-word double_step_word others_step a.format (head-same _ _ _ _ same))
+  by_steps Double Single a b first second same = absurd (other-word double_step_word others_step b.format (head-same _ _ _ _ (sym same)))
+
+  one_asked : (a b : Asked) → read_words a ≡ read_words b → a ≡ b
+  one_asked a b same = by_steps a.stepping b.stepping a b refl refl (tail-same _ _ _ _ same)
+
+-- what was read of dumps
+of_dumps : DumpLaws → (disk : DumpDisk) (files : List File) (d : DumpsRead) → IsDumpsRead disk (Some files) d → OfDumps disk files d
+of_dumps laws disk files d read = record {
+  said = laws.said disk files d read;
+  right = laws.right disk files d;
+  whole = λ image is. laws.whole disk files image d is read;
+  steady = λ image is. laws.steady disk files image d is read;
+}
+
+all_refused : AllGood ≡ Refused → ⊥
+all_refused same = cc
+
+not_refused : NotAllGood ≡ Refused → ⊥
+not_refused same = cc
+
+-- a status that a disk has which was read is not that of a refusal
+by_complete : (b : Bool) → Refused ≡ (if b then AllGood else NotAllGood) → ⊥
+by_complete true same = all_refused (sym same)
+by_complete false same = not_refused (sym same)
+
+module _ (laws : DumpLaws) {H W N : Type 0} (disk : DumpDisk) (files : List File) (before after : OnShelf H W N) (told : before.shelf.files ≡ Some files) where
+  gave : (status : Status) → (status ≡ Refused → ⊥) → FinishedDumps disk status before after → GaveDumps disk files status before after
+  gave status other f =
+      elim f.is [
+        | inl (number, low, first, is) ↦ absurd (other (f.status_is ∙ ap (λ o. o.status) is))
+        | inr (d, none, read, is) ↦ record {
+          read = d;
+          status_is = f.status_is ∙ ap (λ o. o.status) is;
+          image_got = rw is at f.image_got;
+          notes_got = rw is at f.notes_got;
+          holds = of_dumps laws disk files d (subst (λ (t : Option (List File)). IsDumpsRead disk t d) told read);
+        }
+      ]
+
+  pub gave_or_cut : (status : Status) → SaysOfRead disk status before after → GaveDumpsOrCut disk files status before after
+  gave_or_cut AllGood says = gave AllGood all_refused says
+  gave_or_cut NotAllGood says = gave NotAllGood not_refused says
+  gave_or_cut Refused f =
+      elim f.is [
+        | inl (number, low, first, is) ↦ (number, low, first files told)
+        | inr (d, none, read, is) ↦ absurd (by_complete (is_complete d.totals) (f.status_is ∙ ap (λ o. o.status) is))
+      ]
+  gave_or_cut Usage says = says
+  gave_or_cut ReadFault says = says
+  gave_or_cut ImageFault says = says.1
+  gave_or_cut NotesFault says = says.1
+  gave_or_cut Memory says = says
+  gave_or_cut ShelfFault says = says.1
+
+pub reads_as_expected : DumpLaws → WordsNameFormats → {S W N H : Type 0} (words : List (List ℕ)) (status : Status) (before after : Surroundings S W N H)
+    → Ran words status before after → ReadsAsExpected words status (on_shelf before) (on_shelf after)
+reads_as_expected laws names words status before after ran asked files are can told =
+    gave_or_cut laws (asked_disk asked) files (on_shelf before) (on_shelf after) told status (by ran.folder ran.dumps ran.names ran.names_dumps ran.did).says
+  where
+    by : (folder : Option (Format × List ℕ)) (dumps : Option Asked) → NamesFolder words folder → NamesDumps words dumps
+        → RanBy folder dumps words status before after → DidRead (asked_disk asked) status (on_shelf before) (on_shelf after)
+    by (Some named) dumps named_is names_dumps did = absurd (folder_no_dumps words named.0 named.1 named_is.0 asked can are)
+    by None None none no_read did = absurd (no_read asked can are)
+    by None (Some other) none read_is did =
+        subst (λ (a : Asked). DidRead (asked_disk a) status (on_shelf before) (on_shelf after)) (one_asked names other asked (sym read_is.0 ∙ are)) did.0

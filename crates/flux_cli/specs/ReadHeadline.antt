@@ -1,0 +1,56 @@
+-- What is known of what `read` gives, where the shelf tells its files.
+use Rattle.std.specs.Prelude.{◌≡◌, ◌<◌, ℕ, List, length, Some}
+use Rattle.dump_reading.specs.Outcomes.{DumpDisk, DumpsRead, IsFirstEmpty}
+use Rattle.flux_base.specs.Outside.{Rose}
+use Rattle.flux_base.specs.declared.status.Status.{Status}
+use Rattle.flux_base.specs.declared.status.Status.TheVariants.{AllGood, NotAllGood, Refused, Usage, ReadFault, ImageFault, NotesFault, Memory, ShelfFault}
+use Rattle.flux_engine.specs.Plans.{joined}
+use Rattle.flux_engine.specs.Rings.{IsImage}
+use Rattle.law_captured_disks.specs.Headline.{IsSectorOf}
+use Rattle.law_captured_dumps.specs.Headline.{IsReadRightly, IsReadWell}
+use Rattle.law_captured_dumps.specs.Inputs.{HasWhole, IsSteadyOrPassed}
+use Rattle.law_captured_dumps.specs.Said.{IsSaid, IsSaidRightly}
+use Rattle.track_shelf.specs.Files.{File}
+use Rattle.turn_merge.specs.Readings.{verdict}
+use Rattle.flux_cli.specs.DumpWords.{Asked, CanBeRead, asked_disk, read_words}
+use Rattle.flux_cli.specs.FolderRuns.{OnShelf}
+use Rattle.flux_cli.specs.ReadRuns.{read_status}
+use Rattle.flux_cli.specs.Runs.{growth}
+use Rattle.flux_cli.specs.Work.{Got}
+
+-- Each sector's line and its bytes in the image are those that all readings of the dumps bear out. A sector that one dump has whole is never
+-- wrong unsaid, whatever the other files are; where these are captures too or passed over, and the drives kept their speed, it is good with
+-- its own bytes.
+pub record OfDumps (disk : DumpDisk) (files : List File) (d : DumpsRead) : Type 0 where
+  pub said : (n sector : ℕ) → IsSectorOf disk.format n sector → IsSaid disk files d n sector
+  pub right : (n sector : ℕ) (said : IsSaid disk files d n sector) → IsSaidRightly disk files d n sector (verdict (joined said.captures) sector)
+  pub whole : (image : List ℕ) → IsImage disk.format image → (n sector : ℕ) → IsSectorOf disk.format n sector
+      → (dump : ℕ) → dump < length disk.dumps → HasWhole disk files image n dump sector → IsReadRightly disk files image d n sector
+  pub steady : (image : List ℕ) → IsImage disk.format image → (n sector : ℕ) → IsSectorOf disk.format n sector
+      → (dump : ℕ) → dump < length disk.dumps → HasWhole disk files image n dump sector
+      → ((other : ℕ) → other < length disk.dumps → IsSteadyOrPassed disk files image n other) → IsReadWell disk files image d n sector
+
+-- the sinks got the image and the report of the dumps
+pub record GaveDumps {H W N : Type 0} (disk : DumpDisk) (files : List File) (status : Status) (before after : OnShelf H W N) : Type 0 where
+  pub read : DumpsRead
+  pub status_is : status ≡ read_status read.totals
+  pub image_got : Got (growth before.image after.image) read.image
+  pub notes_got : Got (growth before.notes after.notes) read.notes
+  pub holds : OfDumps disk files read
+
+-- or a dump has none of the files; or a fault of one object, which that object counted, cut the run; or there was no memory to begin
+abbrev pub GaveDumpsOrCut : {H W N : Type 0} → DumpDisk → List File → Status → (before after : OnShelf H W N) → Type 0
+GaveDumpsOrCut disk files AllGood before after = GaveDumps disk files AllGood before after
+GaveDumpsOrCut disk files NotAllGood before after = GaveDumps disk files NotAllGood before after
+GaveDumpsOrCut disk files Refused before after = (number : ℕ) × (number < length disk.dumps) × IsFirstEmpty disk files (Some number)
+GaveDumpsOrCut disk files Usage before after = ⊥
+GaveDumpsOrCut disk files ReadFault before after = ⊥
+GaveDumpsOrCut disk files ImageFault before after = Rose before.image.faults after.image.faults
+GaveDumpsOrCut disk files NotesFault before after = Rose before.notes.faults after.notes.faults
+GaveDumpsOrCut disk files Memory before after = after ≡ before
+GaveDumpsOrCut disk files ShelfFault before after = Rose before.shelf.source.faults after.shelf.source.faults
+
+-- The headline of `read`.
+abbrev pub ReadsAsExpected : {H W N : Type 0} → (words : List (List ℕ)) → Status → (before after : OnShelf H W N) → Type 0
+ReadsAsExpected words status before after = (asked : Asked) (files : List File) → words ≡ read_words asked → CanBeRead asked
+    → before.shelf.files ≡ Some files → GaveDumpsOrCut (asked_disk asked) files status before after
