@@ -1,3 +1,4 @@
+mod dumps;
 mod pictures;
 mod sets;
 mod trials;

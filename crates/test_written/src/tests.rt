@@ -1,4 +1,5 @@
 mod captures;
+mod dumps;
 mod folders;
 mod images;
 mod pc_disk;

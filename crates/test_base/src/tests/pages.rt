@@ -18,10 +18,13 @@ fn the_version_is_one_line(rt: HostRuntime) -> Result<(), Fail> {
 #[test]
 fn the_help_names_formats(rt: HostRuntime) -> Result<(), Fail> {
     let alloc = rt.alloc();
-    let mut sink = MemorySink::new(alloc, 4096, Vec::new(alloc))?;
+    let mut sink = MemorySink::new(alloc, 8192, Vec::new(alloc))?;
     assert!(rt; write_page(Page::Help, &mut sink).is_ok());
     let text = str::from_utf8(sink.bytes()).unwrap_or("");
     assert!(rt; text.starts_with("flux reads "));
+    assert!(rt;
+        text.contains("\nCommands:\n   read FORMAT DUMP...          one or more dumps of a disk")
+    );
     assert!(rt; text.contains("\n   turns                        one stream to its transitions"));
     assert!(rt;
         text.contains("\n   ibm-3740\tIBM 3740, 8-inch, 77 cylinders, 26 sectors, 256256 bytes\n")

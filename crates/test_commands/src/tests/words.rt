@@ -72,6 +72,9 @@ fn words_that_are_no_command(rt: HostRuntime) -> Result<(), Fail> {
     Ok(())
 }
 
+/// What is told of wrong words behind `read`.
+const READ: &str = "usage: flux read [--double-step] FORMAT DUMP...\n";
+
 /// After a command that the usage line does not name: the words, and what is told of them in its place.
 const TOLD: &[(&[&str], &str, u64)] = &[
     (&["map"], "usage: flux map FORMAT\n", 1),
@@ -81,6 +84,17 @@ const TOLD: &[(&[&str], &str, u64)] = &[
         &["map", "ibm720", "now"],
         "no format ibm720; nearest: ibm-720\n",
         3,
+    ),
+    (&["read"], READ, 1),
+    (&["read", "amiga"], READ, 1),
+    (&["read", "amigo", "dump"], READ, 1),
+    (&["read", "amiga", "dump", ""], READ, 1),
+    // The drive does not reach so many cylinders by two steps each.
+    (&["read", "--double-step", "amiga", "dump"], READ, 1),
+    (
+        &["read", "amiga", "1", "2", "3", "4", "5", "6", "7", "8", "9"],
+        READ,
+        1,
     ),
     (&["rescue"], "usage: flux rescue FORMAT\n", 1),
     (&["rescue", ""], "no format ; nearest: amiga\n", 2),
@@ -134,7 +148,28 @@ const FIRST_WRITE_FAILS: Row = Row {
     ..TRIAL
 };
 
+/// The shelf has no files.
+const NO_FILES: Row = Row {
+    name: "dumps without files",
+    words: &["read", "amiga", "dump"],
+    status: Status::Refused,
+    image: "",
+    notes: "refused dump 0 no track files\n",
+    calls: Some((0, 0, 1)),
+    ..TURNS
+};
+
 const ROWS: &[Row] = &[
+    NO_FILES,
+    Row {
+        failing: Failing {
+            notes: Some(0),
+            ..NONE
+        },
+        status: Status::NotesFault,
+        notes: "",
+        ..NO_FILES
+    },
     Row {
         name: "the usage line fails",
         failing: Failing {
