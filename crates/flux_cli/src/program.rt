@@ -77,8 +77,8 @@ pub fn run<S: Source, W: Sink, N: Sink, H: Shelf>(
         (outside (moment S.left S.faults source.old) (S.given source.old) (moment W.written W.faults image.old) (moment N.written N.faults notes.old))
         (outside (moment S.left S.faults source.new) (S.given source.new) (moment W.written W.faults image.new) (moment N.written N.faults notes.new)) }
 
-    // Whatever the input is, a sector's line that says good, of a disk that was not refused, names a place of the capture and the
-    // clock that it names whose cells hold the sector, with the bytes that the image has at its place.
+    // Of what is read of standard input, whatever it is: a sector's line that says good, of a disk that was not refused, names a
+    // place of the capture and the clock that it names whose cells hold the sector, with the bytes that the image has at its place.
     //
     // Of the words whose inputs the laws speak of: `report` writes such a disk's report; a captured set comes to the image, a
     // sector good that one capture has whole; `rescue` calls a captured disk's sectors good with their own bytes or contradictory,
