@@ -102,7 +102,7 @@ fn is_read(rt: &impl Abort, alloc: Global, row: &Row) -> Result<(), Fail> {
 
 fn has_report(rt: &impl Abort, notes: &[u8], row: &Row) {
     let text = str::from_utf8(notes).unwrap_or("");
-    assert!(rt; text.starts_with(row.begin), "{}", row.words[0]);
+    assert!(rt; text.starts_with(row.begin), "{}", row.disk.word);
     assert!(rt; text.contains(row.other));
     assert!(rt; text.ends_with(row.end));
 }
