@@ -32,3 +32,4 @@ pub mod Filling
 pub mod Needed
 pub mod Growing
 pub mod ReportLines
+pub mod FormatBooks

@@ -51,7 +51,7 @@ pub use plan::{Clocks, Plan, Rule};
 pub use planned::{decode_planned, decode_planned_tracks, decode_tracks};
 pub use recordings::sectors_of;
 pub use ring_making::track_ring;
-pub use room::DiskRoom;
+pub use room::{DiskRoom, format_book};
 pub use sectors::Sectors;
 pub use track::decode_track;
 pub use track_part::{PartFault, write_part};

@@ -1,4 +1,5 @@
 ghost use Rattle.std.specs.Prelude.{◌≡◌, ◌+◌, ◌<◌, ◌^◌, [], length, IfOk};
+ghost use Rattle.flux_engine.specs.Room.{empty_book};
 
 use crate::gathered_track::{Gathered, PassedStreams};
 use crate::recordings::sectors_of;
@@ -74,7 +75,7 @@ impl Model for DiskRoom {
 
 impl DiskRoom {
     ghost use Rattle.flux_engine.specs.Counts.{counted};
-    ghost use Rattle.flux_engine.specs.Room.{fresh};
+    ghost use Rattle.flux_engine.specs.Room.{empty_book, fresh};
 
     /// Takes all memory that decoding a disk of the format needs.
     pub fn reserve(alloc: Global, format: Format) -> Result<DiskRoom, Memory>
@@ -94,6 +95,27 @@ impl DiskRoom {
             whole_others: 0,
             failed: false,
         })
+    }
+
+    /// Begins anew, for a disk of another format, as after `reserve` for it: all that came before is forgotten. The book is one for
+    /// that format's tracks. No memory is taken.
+    pub fn begin_format(&mut self, format: Format, book: Book)
+        requires { book ≡ empty_book format }
+        ensures { self.new ≡ fresh format }
+    {
+        tracks_keep_bounds();
+        self.stream.restart();
+        self.tools.gathered.book = book;
+        self.tools.gathered.passed.clear();
+        self.tools.gathered.others.clear();
+        self.format = format;
+        self.next = 0;
+        self.started = 0;
+        self.captures = 0;
+        self.unread = 0;
+        self.told_others = 0;
+        self.whole_others = 0;
+        self.failed = false;
     }
 
     /// How many streams were passed over, of all tracks whose captures were read.
@@ -146,10 +168,8 @@ impl Tools {
         let clock = Loop::new(alloc)?;
         let mut cells = Cells::new(alloc);
         cells.reserve(MOST_CELLS)?;
-        // No track has more sectors than the first.
         tracks_keep_bounds();
-        let sectors = sectors_of(format, track_id(format, 0));
-        let book = Book::new(alloc, sectors.first, sectors.count, sectors.size)?;
+        let book = format_book(alloc, format)?;
         let others = Others::new(alloc)?;
         Ok(Tools {
             clock,
@@ -161,4 +181,15 @@ impl Tools {
             },
         })
     }
+}
+
+/// A book for the tracks of a format's disks, of which the first is started.
+pub fn format_book(alloc: Global, format: Format) -> Result<Book, Memory>
+    ensures { IfOk result (λ book. book ≡ empty_book format) }
+{
+    // No track has more sectors than the first.
+    tracks_keep_bounds();
+    let sectors = sectors_of(format, track_id(format, 0));
+    let book = Book::new(alloc, sectors.first, sectors.count, sectors.size)?;
+    Ok(book)
 }
