@@ -20,8 +20,8 @@ use Rattle.flux_engine.specs.declared.track_part.PartFault.{PartFault}
 use Rattle.flux_engine.specs.declared.track_part.PartFault.TheVariants.{ImageFault as PartImageFault, NotesFault as PartNotesFault}
 use Rattle.kryo_stream.specs.declared.fault.StreamFault.{StreamFault}
 use Rattle.dump_reading.specs.DumpStreams.{AreOfDumps, HaveComeOf}
-use Rattle.dump_reading.specs.Outcomes.{DumpDisk, HasReadTracks, WroteDumps, WroteFront, WroteIntoEnd, WroteIntoImage, WroteIntoLines, numbers_of}
-use Rattle.dump_reading.specs.Reports.{dump_plan, end_text, read_part}
+use Rattle.dump_reading.specs.Outcomes.{DumpDisk, HasReadTracks, WroteDumps, WroteFront, WroteIntoEnd, WroteIntoImage, WroteIntoLines, numbers_of, plan_of}
+use Rattle.dump_reading.specs.Reports.{end_text, read_part}
 use Rattle.dump_reading.specs.declared.totals.DumpTotals.{DumpTotals}
 
 abbrev none-seen : Seen
@@ -29,20 +29,20 @@ none-seen = record { fault = None; passed = None; times = []; indexes = [] }
 
 module _ (disk : DumpDisk) (told told' : Option (List File)) where
   abbrev pub CameOf : List ℕ → Bool → List Seen → Type 0
-  CameOf held used streams = HaveComeOf disk.stepping disk.dumps (dump_plan (length disk.dumps)) disk.format told told' streams
+  CameOf held used streams = HaveComeOf disk.stepping disk.dumps (plan_of disk) disk.format told told' streams
 
   abbrev pub EndedOf : List Seen → CaptureFault → Type 0
-  EndedOf streams fault = (fault ≡ UnreadCapture) × HaveComeOf disk.stepping disk.dumps (dump_plan (length disk.dumps)) disk.format told told' streams
+  EndedOf streams fault = (fault ≡ UnreadCapture) × HaveComeOf disk.stepping disk.dumps (plan_of disk) disk.format told told' streams
 
   -- the first of some streams are of the dumps too
-  front-of : (before more : List Seen) → AreOfDumps disk.stepping disk.dumps (dump_plan (length disk.dumps)) disk.format told (before ++ more)
-      → AreOfDumps disk.stepping disk.dumps (dump_plan (length disk.dumps)) disk.format told before
+  front-of : (before more : List Seen) → AreOfDumps disk.stepping disk.dumps (plan_of disk) disk.format told (before ++ more)
+      → AreOfDumps disk.stepping disk.dumps (plan_of disk) disk.format told before
   front-of before more are files known n q few below =
       sym (get_or_append_left before more none-seen (n * length disk.dumps + q) below)
       ∙ are files known n q few (omega (arith, below, length-append before more))
 
   module _ (image image' notes notes' : Option (List ℕ)) (room : RoomState) (totals : Totals) where
-    pub all-read : HasWritten (dump_plan (length disk.dumps)) read_part disk.format CameOf image image' notes notes' room (length (tracks disk.format)) totals
+    pub all-read : HasWritten (plan_of disk) read_part disk.format CameOf image image' notes notes' room (length (tracks disk.format)) totals
         → HasReadTracks disk told image image' notes notes'
         (record { sectors = totals; unread = room.unread; others = room.told_others; whole = room.whole_others })
     all-read w = record {
@@ -69,7 +69,12 @@ module _ (disk : DumpDisk) (told told' : Option (List File)) where
             ∙ ap (λ (n : ℕ). record { sectors = t; unread = b; others = d; whole = n }) whole
 
     abbrev pub Ends : PlanFault → Type 0
-    Ends fault = EndsLoop (dump_plan (length disk.dumps)) read_part disk.format CameOf EndedOf image image' notes notes' room totals fault
+    Ends fault = EndsLoop (plan_of disk) read_part disk.format CameOf EndedOf image image' notes notes' room totals fault
+
+    -- the shelf's files stayed as they were
+    pub files-stayed : (fault : PlanFault) → Ends fault → told' ≡ told
+    files-stayed fault (inl e) = e.ended.ended.1.kept
+    files-stayed fault (inr s) = s.came.kept
 
     read-is-no-image : ReadFault ≡ ImageFault → ⊥
     read-is-no-image same = cc
@@ -90,7 +95,7 @@ module _ (disk : DumpDisk) (told told' : Option (List File)) where
     notes-is-no-refused track capture block fault same = cc
 
     -- a stream can end the disk by a fault of reading alone
-    by-stream : (fault : PlanFault) → EndedByStream (dump_plan (length disk.dumps)) read_part disk.format EndedOf image image' notes notes' totals fault → ReadFault ≡ fault
+    by-stream : (fault : PlanFault) → EndedByStream (plan_of disk) read_part disk.format EndedOf image image' notes notes' totals fault → ReadFault ≡ fault
     by-stream fault e = sym (e.ended.is ∙ ap (of_stream e.number e.ended.capture) e.ended.ended.0)
 
     pub front-wrote : Ends ReadFault → WroteFront disk told image image' notes notes'
@@ -109,7 +114,7 @@ module _ (disk : DumpDisk) (told told' : Option (List File)) where
         by PartNotesFault same = absurd (read-is-no-notes same)
 
     abbrev BySink : PlanFault → Type 0
-    BySink fault = EndedBySink (dump_plan (length disk.dumps)) read_part disk.format CameOf image image' notes notes' room fault
+    BySink fault = EndedBySink (plan_of disk) read_part disk.format CameOf image image' notes notes' room fault
 
     sink-all : (fault : PlanFault) (s : BySink fault) → length s.streams ≡ length (s.parts ++ s.next ∷ []) * length disk.dumps
     sink-all fault s =

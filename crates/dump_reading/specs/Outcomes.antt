@@ -18,8 +18,11 @@ use Rattle.flux_engine.specs.Disks.{images, lines, totals_over}
 use Rattle.flux_engine.specs.LoopProgress.{passed_count, streams_over}
 use Rattle.flux_engine.specs.Plans.{ArePlannedParts, Seen}
 use Rattle.flux_engine.specs.Tracks.{TrackPart}
+use Rattle.flux_engine.specs.declared.plan.Clocks.{Clocks}
+use Rattle.flux_engine.specs.declared.plan.Clocks.TheVariants.{Both}
+use Rattle.flux_engine.specs.declared.plan.Plan.{Plan}
 use Rattle.dump_reading.specs.DumpStreams.{AreOfDumps}
-use Rattle.dump_reading.specs.Reports.{dump_plan, end_text, read_part}
+use Rattle.dump_reading.specs.Reports.{end_text, plan_by, read_part}
 use Rattle.dump_reading.specs.declared.dumps.Dumps.{Dumps}
 use Rattle.dump_reading.specs.declared.fault.DumpsFault.{DumpsFault}
 use Rattle.dump_reading.specs.declared.totals.DumpTotals.{DumpTotals}
@@ -33,14 +36,22 @@ has_file stepping files dump track = is_some (file_at files (path_text dump (fil
 unfoldable pub has_any : Stepping → List File → Format → (dump : List ℕ) → Bool
 has_any stepping files format dump = list_any (has_file stepping files dump) (tracks format)
 
--- what is asked: how the drive stepped, the dumps, and the format
+-- what is asked: how the drive stepped, the dumps, the format, and by which clocks each stream is read
 pub record DumpDisk : Type 0 where
   pub stepping : Stepping
   pub dumps : List (List ℕ)
   pub format : Format
+  pub clocks : Clocks
 
+abbrev pub disk_by : Clocks → Dumps → Format → DumpDisk
+disk_by clocks dumps format = record { stepping = dumps.stepping; dumps = dumps.names.now; format = format; clocks = clocks }
+
+-- the same by both clocks
 abbrev pub disk_of : Dumps → Format → DumpDisk
-disk_of dumps format = record { stepping = dumps.stepping; dumps = dumps.names.now; format = format }
+disk_of dumps format = disk_by Both dumps format
+
+abbrev pub plan_of : DumpDisk → Plan
+plan_of disk = plan_by disk.clocks (length disk.dumps)
 
 -- the dump of this number has one of the disk's files
 abbrev pub has_files : DumpDisk → List File → ℕ → Bool
@@ -64,15 +75,15 @@ pub record DumpsRead : Type 0 where
 -- The first streams of the dumps, in order, and what the tracks come to of which these are all the streams: so many tracks.
 pub record AreReadTracks (disk : DumpDisk) (told : Option (List File)) (streams : List Seen) (parts : List TrackPart) : Type 0 where
   pub all : length streams ≡ length parts * length disk.dumps
-  pub are : AreOfDumps disk.stepping disk.dumps (dump_plan (length disk.dumps)) disk.format told streams
-  pub each : ArePlannedParts (dump_plan (length disk.dumps)) read_part disk.format (streams_over (dump_plan (length disk.dumps)) streams) parts
+  pub are : AreOfDumps disk.stepping disk.dumps (plan_of disk) disk.format told streams
+  pub each : ArePlannedParts (plan_of disk) read_part disk.format (streams_over (plan_of disk) streams) parts
 
 -- The streams of the dumps, in order, what all tracks come to, and the other headers of each track.
 pub record AreAllTracks (disk : DumpDisk) (told : Option (List File)) (streams : List Seen) (parts : List TrackPart) (others : List (List NotedOther)) : Type 0 where
   pub many : length parts ≡ length (tracks disk.format)
   pub read : AreReadTracks disk told streams parts
   pub many_others : length others ≡ length (tracks disk.format)
-  pub others_are : AreOthersOver (dump_plan (length disk.dumps)) disk.format (streams_over (dump_plan (length disk.dumps)) streams) others
+  pub others_are : AreOthersOver (plan_of disk) disk.format (streams_over (plan_of disk) streams) others
 
 -- the numbers that these come to
 abbrev pub numbers_of : List Seen → List TrackPart → List (List NotedOther) → DumpTotals

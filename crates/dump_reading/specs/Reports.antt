@@ -10,14 +10,19 @@ use Rattle.turn_merge.specs.declared.others.OtherTold.{OtherTold}
 use Rattle.flux_engine.specs.Recordings.{sectors_of}
 use Rattle.flux_engine.specs.Tracks.{TrackNotes, TrackPart, lines_by, named_part}
 use Rattle.flux_engine.specs.declared.gathered_track.PassedStream.{PassedStream}
+use Rattle.flux_engine.specs.declared.plan.Clocks.{Clocks}
 use Rattle.flux_engine.specs.declared.plan.Clocks.TheVariants.{Both}
 use Rattle.flux_engine.specs.declared.plan.Plan.{Plan}
 use Rattle.flux_engine.specs.declared.plan.Rule.TheVariants.{Controller}
 use Rattle.dump_reading.specs.declared.totals.DumpTotals.{DumpTotals}
 
--- the plan by which so many dumps are read: as controllers read, by both clocks, with lines that name the dump and the clock
+-- the plan by which so many dumps are read by these clocks: as controllers read, with lines that name the dump and the clock
+abbrev pub plan_by : Clocks → (dumps : ℕ) → Plan
+plan_by clocks dumps = record { captures = dumps; rule = Controller; clocks = clocks; naming = ByCaptureAndClock }
+
+-- the same by both clocks
 abbrev pub dump_plan : (dumps : ℕ) → Plan
-dump_plan dumps = record { captures = dumps; rule = Controller; clocks = Both; naming = ByCaptureAndClock }
+dump_plan dumps = plan_by Both dumps
 
 -- the line of a stream that is passed over
 abbrev pub passed_line_of : TrackId → PassedStream → List ℕ

@@ -11,5 +11,5 @@ mod totals;
 
 pub use dumps::Dumps;
 pub use fault::DumpsFault;
-pub use reading::read_dumps;
+pub use reading::{read_dumps, read_dumps_by};
 pub use totals::DumpTotals;

@@ -3,7 +3,7 @@
 ghost use Rattle.std.specs.Prelude.{◌≡◌, ◌≤◌, Err, length, IfErr, IfOk};
 ghost use Rattle.flux_base.specs.Moments.{Puts, moment};
 ghost use Rattle.flux_engine.specs.Room.{fresh};
-ghost use Rattle.dump_reading.specs.Outcomes.{DumpsCause, HasReadTracks, SaysOfDumps, disk_of};
+ghost use Rattle.dump_reading.specs.Outcomes.{DumpsCause, HasReadTracks, SaysOfDumps, disk_by, disk_of};
 ghost use Rattle.dump_reading.specs.Reports.{end_text};
 
 use crate::dumps::Dumps;
@@ -33,6 +33,28 @@ pub fn read_dumps<H: Shelf, W: Sink, N: Sink>(
     requires fresh { room.old ≡ fresh room.old.format }
     requires few { length dumps.now.names.now ≤ 16 }
     ensures says { SaysOfDumps (disk_of dumps.now room.old.format) (H.files shelf.old) (W.written image.old) (W.written image.new) (N.written notes.old) (N.written notes.new) result }
+    ensures files { H.files shelf.new ≡ H.files shelf.old }
+    ensures cause { DumpsCause (H.faults shelf.old) (H.faults shelf.new) (W.faults image.old) (W.faults image.new) (N.faults notes.old) (N.faults notes.new) result }
+    ensures shelf_later { H.faults shelf.old ≤ H.faults shelf.new }
+    ensures image_later { W.faults image.old ≤ W.faults image.new }
+    ensures notes_later { N.faults notes.old ≤ N.faults notes.new }
+{
+    read_dumps_by(Clocks::Both, dumps, room, shelf, image, notes)
+}
+
+/// The same by these clocks.
+pub fn read_dumps_by<H: Shelf, W: Sink, N: Sink>(
+    clocks: Clocks,
+    dumps: &Dumps,
+    room: &mut DiskRoom,
+    shelf: &mut H,
+    image: &mut W,
+    notes: &mut N,
+) -> Result<DumpTotals, DumpsFault>
+    requires fresh { room.old ≡ fresh room.old.format }
+    requires few { length dumps.now.names.now ≤ 16 }
+    ensures says { SaysOfDumps (disk_by clocks dumps.now room.old.format) (H.files shelf.old) (W.written image.old) (W.written image.new) (N.written notes.old) (N.written notes.new) result }
+    ensures files { H.files shelf.new ≡ H.files shelf.old }
     ensures cause { DumpsCause (H.faults shelf.old) (H.faults shelf.new) (W.faults image.old) (W.faults image.new) (N.faults notes.old) (N.faults notes.new) result }
     ensures shelf_later { H.faults shelf.old ≤ H.faults shelf.new }
     ensures image_later { W.faults image.old ≤ W.faults image.new }
@@ -43,7 +65,7 @@ pub fn read_dumps<H: Shelf, W: Sink, N: Sink>(
         Ok(Some(dump)) => return Err(DumpsFault::NoFiles { dump }),
         Err(Failed) => return Err(DumpsFault::ShelfFault),
     }
-    let totals = match read_tracks(dumps, room, shelf, image, notes) {
+    let totals = match read_tracks(clocks, dumps, room, shelf, image, notes) {
         Ok(totals) => totals,
         Err(fault) => return Err(fault),
     };
@@ -55,6 +77,7 @@ pub fn read_dumps<H: Shelf, W: Sink, N: Sink>(
 
 /// Reads all tracks of a disk of its dumps, and writes what each comes to.
 fn read_tracks<H: Shelf, W: Sink, N: Sink>(
+    clocks: Clocks,
     dumps: &Dumps,
     room: &mut DiskRoom,
     shelf: &mut H,
@@ -63,8 +86,9 @@ fn read_tracks<H: Shelf, W: Sink, N: Sink>(
 ) -> Result<DumpTotals, DumpsFault>
     requires fresh { room.old ≡ fresh room.old.format }
     requires few { length dumps.now.names.now ≤ 16 }
-    ensures ok { IfOk result (HasReadTracks (disk_of dumps.now room.old.format) (H.files shelf.old) (W.written image.old) (W.written image.new) (N.written notes.old) (N.written notes.new)) }
-    ensures err { IfErr result (λ fault. SaysOfDumps (disk_of dumps.now room.old.format) (H.files shelf.old) (W.written image.old) (W.written image.new) (N.written notes.old) (N.written notes.new) (Err fault)) }
+    ensures ok { IfOk result (HasReadTracks (disk_by clocks dumps.now room.old.format) (H.files shelf.old) (W.written image.old) (W.written image.new) (N.written notes.old) (N.written notes.new)) }
+    ensures err { IfErr result (λ fault. SaysOfDumps (disk_by clocks dumps.now room.old.format) (H.files shelf.old) (W.written image.old) (W.written image.new) (N.written notes.old) (N.written notes.new) (Err fault)) }
+    ensures files { H.files shelf.new ≡ H.files shelf.old }
     ensures cause { DumpsCause (H.faults shelf.old) (H.faults shelf.new) (W.faults image.old) (W.faults image.new) (N.faults notes.old) (N.faults notes.new) result }
     ensures shelf_later { H.faults shelf.old ≤ H.faults shelf.new }
     ensures image_later { W.faults image.old ≤ W.faults image.new }
@@ -73,7 +97,7 @@ fn read_tracks<H: Shelf, W: Sink, N: Sink>(
     let plan = Plan {
         captures: dumps.names.len() as u8,
         rule: Rule::Controller,
-        clocks: Clocks::Both,
+        clocks,
         naming: NAMING,
     };
     let mut sectors = no_totals();

@@ -1,6 +1,7 @@
 -- The words that ask to read dumps of a disk.
 use Rattle.std.specs.Prelude.{◌≡◌, ◌≢◌, ◌≤◌, ℕ, Bool, true, false, List, [], ◌∷◌, ◌++◌, length, codes, Option, Some, None}
 use Rattle.std.specs.List.{list_any}
+use Rattle.flux_engine.specs.declared.plan.Clocks.TheVariants.{Both}
 use Rattle.sector_images.specs.Formats.{row}
 use Rattle.sector_images.specs.declared.format.Format.{Format}
 use Rattle.track_shelf.specs.Stepping.{reaches_all}
@@ -20,7 +21,7 @@ asked_of asked = record { stepping = asked.stepping; dumps = asked.dumps.now; fo
 
 -- the disk that is to be read of them
 abbrev pub asked_disk : Asked → DumpDisk
-asked_disk asked = record { stepping = asked.stepping; dumps = asked.dumps; format = asked.format }
+asked_disk asked = record { stepping = asked.stepping; dumps = asked.dumps; format = asked.format; clocks = Both }
 
 abbrev pub double_step_word : List ℕ
 double_step_word = codes "--double-step"

@@ -2,7 +2,7 @@
 use Rattle.std.specs.Prelude.{◌≡◌, ◌<◌, ◌⊎◌, ℕ, Bool, true, false, ◌&&◌, List, [], ◌∷◌, if◌then◌else◌, is_none, length, replicate, unwrap_or, Option, None, Some, refl}
 use Rattle.std.proofs.Common.{ap, sym, subst, ◌∙◌, arith, inl, inr}
 use Rattle.std.proofs.lemmas.Bool.{eq-eqb}
-use Rattle.dump_reading.specs.Outcomes.{DumpDisk, DumpsRead}
+use Rattle.dump_reading.specs.Outcomes.{DumpDisk, DumpsRead, plan_of}
 use Rattle.flux_engine.specs.Captured.{IsUsed}
 use Rattle.flux_engine.specs.DiskLaws.{bytes_at}
 use Rattle.flux_engine.specs.PlanLaws.{StandsIn, cells_in}
@@ -33,7 +33,7 @@ use Rattle.turn_merge.specs.declared.verdict.Verdict.{Verdict}
 use Rattle.turn_merge.specs.declared.verdict.Verdict.TheVariants.{Bad, Contradictory, Good, Missing}
 use Rattle.law_captured_dumps.specs.Headline.{CapturedDumpsAreNeverWrong, IsReadRightly, IsReadWell, SteadyDumpsAreReadWell}
 use Rattle.law_captured_dumps.specs.Inputs.{HasWhole, IsSteadyOrPassed}
-use Rattle.law_captured_dumps.specs.Said.{EachIsSaid, IsRightlyGood, IsSaid, IsSaidRightly, SaidIsRight, plan_of, streams_on}
+use Rattle.law_captured_dumps.specs.Said.{EachIsSaid, IsRightlyGood, IsSaid, IsSaidRightly, SaidIsRight, streams_on}
 use Rattle.law_captured_dumps.proofs.Owning.{HoldsOwn, Laws as OwnLaws, content, holds, mine, stands}
 
 -- what the crates below promise, and the laws before

@@ -3,7 +3,7 @@ use Rattle.std.specs.Prelude.{◌≡◌, ◌≤◌, ◌<◌, ◌⊎◌, ℕ, zer
 use Rattle.std.specs.List.{range_with_len}
 use Rattle.std.proofs.Common.{ap, sym, subst, ◌∙◌, arith, append_assoc, inl, inr}
 use Rattle.std.proofs.lemmas.Bool.{cases_lt}
-use Rattle.dump_reading.specs.Outcomes.{DumpDisk, DumpsRead, IsDumpsRead, numbers_of}
+use Rattle.dump_reading.specs.Outcomes.{DumpDisk, DumpsRead, IsDumpsRead, numbers_of, plan_of}
 use Rattle.dump_reading.specs.Reports.{end_text, other_lines, passed_line_of, passed_lines, read_part}
 use Rattle.flux_base.specs.declared.track.TrackId.{TrackId}
 use Rattle.flux_engine.specs.DiskLaws.{HasLine, bytes_at}
@@ -31,7 +31,7 @@ use Rattle.turn_merge.specs.Readings.{NotedReading, verdict}
 use Rattle.turn_merge.specs.declared.others.OtherTold.{OtherTold}
 use Rattle.turn_merge.specs.declared.verdict.Verdict.{Verdict}
 use Rattle.turn_merge.specs.declared.verdict.Verdict.TheVariants.{Bad, Contradictory, Good, Missing}
-use Rattle.law_captured_dumps.specs.Said.{EachIsSaid, GoodStaysOrIsContradicted, IsSaid, IsSaidRightly, SaidIsRight, plan_of, streams_on}
+use Rattle.law_captured_dumps.specs.Said.{EachIsSaid, GoodStaysOrIsContradicted, IsSaid, IsSaidRightly, SaidIsRight, streams_on}
 use Rattle.law_captured_dumps.proofs.Lines.{AreLines, are-append, are-each, are-range, has_line, split_lines}
 use Rattle.law_captured_dumps.proofs.Streams.{no_part}
 

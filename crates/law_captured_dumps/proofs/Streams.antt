@@ -4,7 +4,7 @@ use Rattle.std.proofs.Common.{ap, sym, subst, ◌∙◌, arith}
 use Rattle.std.proofs.Math.Nat.{div-lt_iff_lt-mul, mod-lt, mul_comm}
 use Rattle.std.proofs.lemmas.List.{ext_get_or}
 use Rattle.std.proofs.lemmas.Nat.{div-add-mod', mul-add-lt}
-use Rattle.dump_reading.specs.Outcomes.{AreAllTracks, AreReadTracks, DumpDisk, DumpsRead, IsDumpsRead, numbers_of}
+use Rattle.dump_reading.specs.Outcomes.{AreAllTracks, AreReadTracks, DumpDisk, DumpsRead, IsDumpsRead, numbers_of, plan_of}
 use Rattle.dump_reading.specs.Reports.{end_text, read_part}
 use Rattle.flux_base.specs.declared.track.TrackId.{TrackId}
 use Rattle.flux_engine.specs.Captured.{AreOthersOf, AreReadingsOf, IsUsed, joined_by, noted_other}
@@ -27,7 +27,7 @@ use Rattle.turn_merge.specs.Others.{NotedOther}
 use Rattle.turn_merge.specs.Readings.{NotedReading}
 use Rattle.turn_merge.specs.declared.clock.Clock.{Clock}
 use Rattle.turn_merge.specs.declared.clock.Clock.TheVariants.{Following, Held}
-use Rattle.law_captured_dumps.specs.Said.{DumpsAreOne, plan_of, streams_on}
+use Rattle.law_captured_dumps.specs.Said.{DumpsAreOne, streams_on}
 
 abbrev none_seen : Seen
 none_seen = record { fault = None; passed = None; times = []; indexes = [] }

@@ -2,15 +2,13 @@
 use Rattle.std.specs.Prelude.{◌≡◌, ◌<◌, ◌⊎◌, ℕ, List, length, Some}
 use Rattle.disk_recordings.specs.Members.{header_at, sector_at}
 use Rattle.dump_reading.specs.DumpStreams.{dump_streams}
-use Rattle.dump_reading.specs.Outcomes.{DumpDisk, DumpsRead, IsDumpsRead}
-use Rattle.dump_reading.specs.Reports.{dump_plan}
+use Rattle.dump_reading.specs.Outcomes.{DumpDisk, DumpsRead, IsDumpsRead, plan_of}
 use Rattle.flux_engine.specs.Captured.{IsUsed}
 use Rattle.flux_engine.specs.DiskLaws.{HasLine, bytes_at}
 use Rattle.flux_engine.specs.PlanLaws.{IsGoodTooOrContradicted, IsNamedIn, IsRightlyContradictoryIn, StandsIn, cells_in}
 use Rattle.flux_engine.specs.Plans.{AreCaptures, Streams, joined}
 use Rattle.flux_engine.specs.Recordings.{sectors_of, track_at}
 use Rattle.flux_engine.specs.Tracks.{Found, image_bytes, readings_in}
-use Rattle.flux_engine.specs.declared.plan.Plan.{Plan}
 use Rattle.frame_law.specs.Readings.{AreReadings}
 use Rattle.law_captured_disks.specs.Headline.{IsSectorOf}
 use Rattle.sector_report.specs.Lines.{named_text}
@@ -21,10 +19,6 @@ use Rattle.turn_merge.specs.declared.clock.Clock.{Clock}
 use Rattle.turn_merge.specs.declared.verdict.Place.{Place}
 use Rattle.turn_merge.specs.declared.verdict.Verdict.{Verdict}
 use Rattle.turn_merge.specs.declared.verdict.Verdict.TheVariants.{Contradictory, Good}
-
--- the plan by which the dumps are read
-abbrev pub plan_of : DumpDisk → Plan
-plan_of disk = dump_plan (length disk.dumps)
 
 -- the streams of the disk, by the files on the shelf
 abbrev pub streams_on : DumpDisk → List File → Streams
