@@ -1,3 +1,4 @@
 -- What follows from the definitions: nobody has to believe it.
 pub mod NumberLaws
 pub mod PlanLaws
+pub mod DiskLaws

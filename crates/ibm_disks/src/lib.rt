@@ -2,12 +2,14 @@
 //! tracks of each have of their own. No call takes memory.
 #![tactic(auto)]
 
+mod disk;
 mod plan;
 mod rate;
 mod sector_size;
 mod track_numbers;
 mod word;
 
+pub use disk::{IbmDisk, disks_have_tracks, words_name_disks};
 pub use rate::{Density, Rate};
 pub use sector_size::SectorSize;
 pub use track_numbers::{LeadIn, TrackNumbers};

@@ -1,4 +1,4 @@
-ghost use Rattle.std.specs.Prelude.{◌≡◌};
+ghost use Rattle.std.specs.Prelude.{◌≡◌, ◌≢◌, IfNone, IfSome};
 ghost use Rattle.ibm_disks.specs.Numbers.{code_of, size_of};
 
 /// How many bytes a sector has.
@@ -11,6 +11,20 @@ pub enum SectorSize {
 }
 
 impl SectorSize {
+    /// The size of so many bytes, if there is one.
+    pub fn of_bytes(bytes: u16) -> Option<SectorSize>
+        ensures some { IfSome result (λ size. size_of size ≡ bytes) }
+        ensures none { IfNone result ((size : SectorSize) → size_of size ≢ bytes) }
+    {
+        match bytes {
+            128 => Some(SectorSize::Bytes128),
+            256 => Some(SectorSize::Bytes256),
+            512 => Some(SectorSize::Bytes512),
+            1024 => Some(SectorSize::Bytes1024),
+            _ => None,
+        }
+    }
+
     /// In bytes.
     pub fn bytes(self) -> u16
         ensures { result ≡ size_of self }

@@ -1,5 +1,6 @@
 mod disks;
 mod lines;
+mod numbers;
 mod objects;
 mod pages;
 mod shelves;

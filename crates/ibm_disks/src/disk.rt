@@ -1,0 +1,182 @@
+ghost use Rattle.std.specs.Prelude.{◌≡◌, IfNone, IfSome};
+ghost use Rattle.ibm_disks.specs.Disks.{AllHaveDisks, HasTrack, IsDiskOf, IsWordOfDisk, WordsNameDisks, are_few, cylinders_of, fill_at, heads_of, is_disk, rate_of, sound, track_of_disk};
+ghost use Rattle.ibm_disks.specs.Plans.{FillsTrackOf, density_of};
+
+use crate::rate::{Density, Rate};
+use crate::sector_size::SectorSize;
+use crate::track_numbers::TrackNumbers;
+use crate::word::DiskNumbers;
+
+/// The most cylinders, heads and sectors of a track, and the greatest number of a sector.
+const MOST_CYLINDERS: u16 = 99;
+
+const MOST_HEADS: u16 = 2;
+
+const MOST_SECTORS: u16 = 32;
+
+const GREATEST_SECTOR: u16 = 255;
+
+/// A disk by its numbers, of which there is such a track.
+#[derive(Clone, Copy, Debug, PartialEq, Eq)]
+pub struct IbmDisk {
+    cylinders: u8,
+    heads: u8,
+    rate: Rate,
+    track: TrackNumbers,
+}
+
+impl IbmDisk {
+    /// The PC's disk of 720 KB.
+    const PC_720: IbmDisk = IbmDisk {
+        cylinders: 80,
+        heads: 2,
+        rate: Rate::Double,
+        track: TrackNumbers::PC_9,
+    };
+
+    /// The disk that a word names by its numbers, if there is one.
+    pub fn of_word(word: &[u8]) -> Option<IbmDisk>
+        ensures some { IfSome result (IsWordOfDisk word.now) }
+        ensures none { IfNone result ((disk : IbmDisk) → ¬ IsWordOfDisk word.now disk) }
+    {
+        match DiskNumbers::of_word(word) {
+            Some(numbers) => IbmDisk::of_numbers(numbers),
+            None => None,
+        }
+    }
+
+    /// The disk of these numbers: 1 to 99 cylinders, one head or two, and a track of so many sectors. None where there is
+    /// no such disk.
+    pub fn of_numbers(numbers: DiskNumbers) -> Option<IbmDisk>
+        ensures some { IfSome result (IsDiskOf numbers) }
+        ensures none { IfNone result ((disk : IbmDisk) → ¬ IsDiskOf numbers disk) }
+    {
+        if numbers.cylinders == 0 {
+            return None;
+        }
+        if numbers.cylinders > MOST_CYLINDERS {
+            return None;
+        }
+        if numbers.heads == 0 {
+            return None;
+        }
+        if numbers.heads > MOST_HEADS {
+            return None;
+        }
+        match track_of(numbers) {
+            Some(track) => Some(IbmDisk {
+                cylinders: numbers.cylinders as u8,
+                heads: numbers.heads as u8,
+                rate: numbers.rate,
+                track,
+            }),
+            None => None,
+        }
+    }
+
+    /// How many cylinders it has.
+    pub fn cylinders(self) -> u8
+        ensures { result ≡ cylinders_of self }
+    {
+        self.sound().cylinders
+    }
+
+    /// How many heads each cylinder has.
+    pub fn heads(self) -> u8
+        ensures { result ≡ heads_of self }
+    {
+        self.sound().heads
+    }
+
+    /// How fast its drive turns and writes.
+    pub fn rate(self) -> Rate
+        ensures { result ≡ rate_of self }
+    {
+        self.sound().rate
+    }
+
+    /// The numbers of each of its tracks.
+    pub fn track(self) -> TrackNumbers
+        ensures { result ≡ track_of_disk self }
+    {
+        self.sound().track
+    }
+
+    /// The disk that the value means: itself, wherever one was made.
+    #[tactic(auto, unfolding(crate::specs::Disks::sound))]
+    fn sound(self) -> IbmDisk
+        ensures { result ≡ sound self }
+    {
+        if self.is_disk() {
+            self
+        } else {
+            IbmDisk::PC_720
+        }
+    }
+
+    /// Whether the numbers are a disk's.
+    #[tactic(auto, unfolding(crate::specs::Disks::is_disk))]
+    fn is_disk(self) -> bool
+        ensures { result ≡ is_disk self }
+    {
+        let few = are_few(self.cylinders, self.heads);
+        let whole = self.track.bytes == self.rate.track_bytes();
+        let filled = self.fills_track();
+        few && whole && filled
+    }
+
+    /// Whether they fill their track.
+    fn fills_track(self) -> bool
+        ensures { result ≡ fill_at (density_of self.rate) self.track }
+    {
+        let lead_in = self.track.lead_in;
+        match self.rate.density() {
+            Density::Double => {
+                let around = u16::from(lead_in.mfm_zeros()) + 50;
+                self.track.fill_track(lead_in.mfm_before(), around)
+            }
+            Density::Single => self.track.fill_track(lead_in.fm_before(), 33),
+        }
+    }
+}
+
+/// Whether a disk may have so many cylinders and heads.
+fn are_few(cylinders: u8, heads: u8) -> bool
+    ensures { result ≡ are_few cylinders heads }
+{
+    let some_cylinders = cylinders >= 1;
+    let few_cylinders = cylinders <= 99;
+    let some_heads = heads >= 1;
+    let few_heads = heads <= 2;
+    some_cylinders && few_cylinders && some_heads && few_heads
+}
+
+/// The track of these numbers.
+fn track_of(numbers: DiskNumbers) -> Option<TrackNumbers>
+    ensures some { IfSome result (HasTrack numbers) }
+    ensures fills { IfSome result (FillsTrackOf numbers.rate) }
+    ensures none { IfNone result ((track : TrackNumbers) → ¬ HasTrack numbers track) }
+{
+    if numbers.sectors > MOST_SECTORS {
+        return None;
+    }
+    if numbers.first_sector > GREATEST_SECTOR {
+        return None;
+    }
+    let Some(size) = SectorSize::of_bytes(numbers.sector_bytes) else {
+        return None;
+    };
+    let sectors = numbers.sectors as u8;
+    let first_sector = numbers.first_sector as u8;
+    TrackNumbers::of_disk(numbers.rate, sectors, first_sector, size)
+}
+
+/// A word names one disk.
+pub fn words_name_disks()
+    ensures { WordsNameDisks }
+{}
+
+/// Every value has the numbers of a disk.
+pub fn disks_have_tracks()
+    ensures { AllHaveDisks }
+{}
