@@ -126,7 +126,7 @@ OWN_USAGES = {
     b"read": b"usage: flux read [--double-step] FORMAT DUMP...", b"identify": b"usage: flux identify DUMP",
     b"rescue": b"usage: flux rescue FORMAT", b"map": b"usage: flux map FORMAT",
 }
-ASK_FORMATS = b"rescue", b"map"
+ASK_FORMATS = b"read", b"rescue", b"map"
 
 
 def differing(name, word):
@@ -139,9 +139,10 @@ def wrong_words(words, built, usage):
     first = words[0] if words else b""
     if first not in OWN_USAGES or first not in built:
         return usage
-    if first in ASK_FORMATS and len(words) > 1 and words[1].decode() not in FORMATS:
-        nearest = min(FORMATS, key=lambda name: differing(name.encode(), words[1]))
-        return b"no format " + words[1] + b"; nearest: " + nearest.encode()
+    word = next((word for word in words[1:] if not word.startswith(b"-")), None)
+    if first in ASK_FORMATS and word is not None and word.decode() not in FORMATS:
+        nearest = min(FORMATS, key=lambda name: differing(name.encode(), word))
+        return b"no format " + word + b"; nearest: " + nearest.encode()
     return OWN_USAGES[first]
 
 

@@ -1,4 +1,3 @@
 pub mod Listed
 pub mod Joined
 pub mod Best
-pub mod Told

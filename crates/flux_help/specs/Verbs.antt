@@ -188,9 +188,8 @@ is_own Map = true
 is_own Help = true
 is_own _ = false
 
--- a format follows the word, and no other word may stand between
+-- a format follows the word, behind its options
 abbrev pub asks_format : Verb → Bool
-asks_format Read = false
 asks_format Turns = false
 asks_format Help = false
 asks_format _ = true

@@ -1,6 +1,7 @@
 -- What is told of words that are no command.
-use Rattle.std.specs.Prelude.{ℕ, List, [], ◌∷◌, ◌++◌, ◌&&◌, Bool, false, codes, if◌then◌else◌, not, Option, Some, None, is_some}
-use Rattle.std.specs.List.{position_from}
+use Rattle.std.specs.Prelude.{ℕ, List, [], ◌∷◌, ◌++◌, ◌&&◌, Bool, false, codes, if◌then◌else◌, nat_eq, not, Option, Some, None, is_some}
+use Rattle.std.specs.List.{position_from, slice_get}
+use Rattle.std.specs.Option.{option_and_then}
 use Rattle.std.specs.Str.{bytes_eq}
 use Rattle.sector_images.specs.Formats.{formats, row}
 use Rattle.sector_images.specs.declared.format.Format.{Format}
@@ -34,11 +35,20 @@ nearest_text word = codes "; nearest: " ++ (row (nearest word)).word ++ codes "\
 abbrev pub no_format_text : List ℕ → List ℕ
 no_format_text word = codes "no format " ++ (word ++ nearest_text word)
 
--- by the command of the first word, and by the second where it is in a format's place
-abbrev pub told_by : Option Verb → List ℕ → List ℕ
-told_by verb word = if wants_format verb && not (names_format word) then no_format_text word else usage_by verb
+-- an option begins with a minus
+abbrev pub is_option : List ℕ → Bool
+is_option [] = false
+is_option (byte ∷ bytes) = nat_eq byte 45
+
+-- the word in a format's place: of those behind the command's the first that is no option
+abbrev pub format_word : List (List ℕ) → Option (List ℕ)
+format_word words = option_and_then (slice_get words) (position_from (λ word. not (is_option word)) 0 words)
+
+-- by the command of the first word, and by the word in a format's place
+abbrev pub told_by : Option Verb → Option (List ℕ) → List ℕ
+told_by verb None = usage_by verb
+told_by verb (Some word) = if wants_format verb && not (names_format word) then no_format_text word else usage_by verb
 
 abbrev pub wrong_text : List (List ℕ) → List ℕ
 wrong_text [] = usage_text
-wrong_text (first ∷ []) = usage_by (verb_of first)
-wrong_text (first ∷ second ∷ others) = told_by (verb_of first) second
+wrong_text (first ∷ others) = told_by (verb_of first) (format_word others)

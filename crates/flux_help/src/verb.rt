@@ -94,11 +94,11 @@ impl Verb {
         matches!(self, Verb::Read | Verb::Rescue | Verb::Map | Verb::Help)
     }
 
-    /// Whether a format follows it, and no other word may stand between.
+    /// Whether a format follows it, behind its options.
     pub(crate) fn asks_format(self) -> bool
         ensures { result ≡ asks_format self }
     {
-        !matches!(self, Verb::Read | Verb::Turns | Verb::Help)
+        !matches!(self, Verb::Turns | Verb::Help)
     }
 
     #[tactic(auto, unfolding(crate::specs::Verbs::verb_row))]

@@ -1,9 +1,10 @@
-ghost use Rattle.std.specs.Prelude.{◌≡◌, ◌≤◌, ◌++◌, ◌&&◌, OnOk, OnErr, not};
+ghost use Rattle.std.specs.Prelude.{◌≡◌, ◌≤◌, ◌++◌, ◌&&◌, OnOk, OnErr, Some, not};
 ghost use Rattle.std.specs.Io.KnownBytes.{Appends};
 ghost use Rattle.std.specs.List.{position_from};
+ghost use Rattle.std.specs.Option.{option_map};
 ghost use Rattle.flux_base.specs.Outside.{AppendsPart, Rose};
 ghost use Rattle.sector_images.specs.Formats.{formats};
-ghost use Rattle.flux_help.specs.WrongWords.{has_format_word, names_format, nearest_text, no_format_text, told_by, usage_by, wants_format, wrong_text};
+ghost use Rattle.flux_help.specs.WrongWords.{format_word, has_format_word, is_option, names_format, nearest_text, no_format_text, told_by, usage_by, wants_format, wrong_text};
 
 use crate::nearest::nearest_format;
 use crate::verb::Verb;
@@ -20,15 +21,51 @@ pub fn write_wrong_words<N: Sink>(words: &[Word], notes: &mut N) -> Result<(), F
 {
     match words {
         [] => write_whole(notes, usage_line().as_bytes()),
-        [first] => write_whole(notes, usage_of(Verb::of_word(first.bytes())).as_bytes()),
-        [first, second, ..] => write_by(Verb::of_word(first.bytes()), second.bytes(), notes),
+        [first, others @ ..] => write_behind(Verb::of_word(first.bytes()), others, notes),
     }
 }
 
-/// Writes what is told by the first word and the second.
+/// Writes what is told of the words behind a command's.
+fn write_behind<N: Sink>(verb: Option<Verb>, words: &[Word], notes: &mut N) -> Result<(), Failed>
+    ensures ok { OnOk result (Appends (N.written notes.old) (N.written notes.new) (told_by verb (format_word words.now))) }
+    ensures err { OnErr result (AppendsPart (N.written notes.old) (N.written notes.new) (told_by verb (format_word words.now))) }
+    ensures later { N.faults notes.old ≤ N.faults notes.new }
+    ensures cause { OnErr result (Rose (N.faults notes.old) (N.faults notes.new)) }
+{
+    match format_word(words) {
+        Some(word) => write_by(verb, word.bytes(), notes),
+        None => write_whole(notes, usage_of(verb).as_bytes()),
+    }
+}
+
+/// The word in a format's place, of those behind a command's: the first that is no option.
+fn format_word(words: &[Word]) -> Option<&Word>
+    ensures { option_map (λ word. word.now) result ≡ format_word words.now }
+{
+    match format_word_place(words) {
+        Some(place) => words.get(place),
+        None => None,
+    }
+}
+
+/// Where the first word stands that is no option.
+fn format_word_place(words: &[Word]) -> Option<usize>
+    ensures { result ≡ position_from (λ word. not (is_option word)) 0 words.now }
+{
+    words.iter().position(|word| !is_option(word.bytes()))
+}
+
+/// Whether a word begins with a minus.
+fn is_option(word: &[u8]) -> bool
+    ensures { result ≡ is_option word.now }
+{
+    matches!(word, [b'-', ..])
+}
+
+/// Writes what is told by the first word and the one in a format's place.
 fn write_by<N: Sink>(verb: Option<Verb>, word: &[u8], notes: &mut N) -> Result<(), Failed>
-    ensures ok { OnOk result (Appends (N.written notes.old) (N.written notes.new) (told_by verb word.now)) }
-    ensures err { OnErr result (AppendsPart (N.written notes.old) (N.written notes.new) (told_by verb word.now)) }
+    ensures ok { OnOk result (Appends (N.written notes.old) (N.written notes.new) (told_by verb (Some word.now))) }
+    ensures err { OnErr result (AppendsPart (N.written notes.old) (N.written notes.new) (told_by verb (Some word.now))) }
     ensures later { N.faults notes.old ≤ N.faults notes.new }
     ensures cause { OnErr result (Rose (N.faults notes.old) (N.faults notes.new)) }
 {

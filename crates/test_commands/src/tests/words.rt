@@ -87,7 +87,15 @@ const TOLD: &[(&[&str], &str, u64)] = &[
     ),
     (&["read"], READ, 1),
     (&["read", "amiga"], READ, 1),
-    (&["read", "amigo", "dump"], READ, 1),
+    // The format's word is the first that is no option.
+    (&["read", "amigo"], "no format amigo; nearest: amiga\n", 3),
+    (
+        &["read", "--double-step", "ibm180", "dump"],
+        "no format ibm180; nearest: ibm-180\n",
+        3,
+    ),
+    (&["read", "--double-step"], READ, 1),
+    (&["read", "--single-step", "amiga", "dump"], READ, 1),
     (&["read", "amiga", "dump", ""], READ, 1),
     // The drive does not reach so many cylinders by two steps each.
     (&["read", "--double-step", "amiga", "dump"], READ, 1),
