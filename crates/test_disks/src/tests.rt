@@ -1,4 +1,5 @@
 mod dumps;
+mod identities;
 mod pictures;
 mod sets;
 mod trials;

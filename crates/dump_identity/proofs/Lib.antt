@@ -1,0 +1,6 @@
+pub mod Best
+pub mod Complete
+pub mod One
+pub mod Readings
+pub mod Rooms
+pub mod Tries

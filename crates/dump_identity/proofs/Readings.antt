@@ -1,0 +1,39 @@
+-- What reading a dump as one disk says.
+use Rattle.std.proofs.Common.{◌≡◌, ◌<◌, ◌≤◌, ℕ, List, [], ◌∷◌, length, Option, None, Some, Ok, Err, arith, sym, ap, subst, ◌∙◌}
+use Rattle.track_shelf.specs.Files.{File}
+use Rattle.dump_reading.specs.Outcomes.{DumpDisk, IsToldEmpty, SaysOfDumps}
+use Rattle.dump_reading.specs.declared.fault.DumpsFault.TheVariants.{NoFiles}
+use Rattle.dump_reading.specs.declared.totals.DumpTotals.{DumpTotals}
+use Rattle.flux_engine.specs.Room.{RoomState, fresh}
+use Rattle.flux_engine.specs.declared.plan.Clocks.TheVariants.{FollowingAlone}
+use Rattle.sector_images.specs.declared.format.Format.{Format}
+use Rattle.dump_identity.specs.Findings.{ComesTo, disk_as}
+use Rattle.dump_identity.specs.declared.candidate.Candidate.{Candidate}
+
+module _ (dump : List ℕ) (told : Option (List File)) (candidate : Candidate) (disk : DumpDisk) (same : disk ≡ disk_as dump candidate) (image image' notes notes' : Option (List ℕ)) where
+  -- the dump has a file of one of its tracks
+  pub comes-read : (totals : DumpTotals) → SaysOfDumps disk told image image' notes notes' (Ok totals) → ComesTo dump told candidate (Some totals)
+  comes-read totals says =
+      let s = subst (λ (d : DumpDisk). SaysOfDumps d told image image' notes notes' (Ok totals)) same says in
+      (s.0, s.1.outcome, s.1.is, s.1.totals_are)
+
+  -- or of none
+  pub comes-none : (number : ℕ) → SaysOfDumps disk told image image' notes notes' (Err (NoFiles number)) → ComesTo dump told candidate None
+  comes-none number says =
+      let s = subst (λ (d : DumpDisk). SaysOfDumps d told image image' notes notes' (Err (NoFiles number))) same says in
+      let first : number ≡ 0 = omega (arith, s.0) in
+      subst (λ (n : ℕ). IsToldEmpty (disk_as dump candidate) told (Some n)) first s.1
+
+-- the dump alone, as the candidate's disk
+pub same-disk : (dump : List ℕ) (candidate : Candidate) (names : List (List ℕ)) (format : Format) → names ≡ dump ∷ [] → format ≡ candidate.format
+    → ◌≡◌ {A = DumpDisk} (record { stepping = candidate.stepping; dumps = names; format = format; clocks = FollowingAlone }) (disk_as dump candidate)
+same-disk dump candidate names format one same =
+    ap (λ (ns : List (List ℕ)). let d : DumpDisk = record { stepping = candidate.stepping; dumps = ns; format = format; clocks = FollowingAlone } in d) one
+    ∙ ap (λ (f : Format). let d : DumpDisk = record { stepping = candidate.stepping; dumps = dump ∷ []; format = f; clocks = FollowingAlone } in d) same
+
+-- a fresh room is one of its own format
+pub format-of : (room : RoomState) (format : Format) → room ≡ fresh format → room.format ≡ format
+format-of room format same = ap (λ (r : RoomState). r.format) same
+
+pub fresh-own : (room : RoomState) (format : Format) → room ≡ fresh format → room ≡ fresh room.format
+fresh-own room format same = same ∙ ap fresh (sym (format-of room format same))

@@ -1,0 +1,18 @@
+use Rattle.std.proofs.Common.{inr}
+use Rattle.dump_identity.proofs.Tries.{tried-cut, tried-none, tried-wrote}
+use Rattle.dump_identity.proofs.identifying.identify.Goals as goal
+
+pub returns-then-not-tried-clause-says : goal.returns-then-not-tried-clause-says
+returns-then-not-tried-clause-says g c =
+    tried-none c.args.dump.now (g.H.Shelf.files c.args.shelf.now) (g.W.Sink.written c.args.lines.now) (g.W.Sink.written c.try_all.new.lines) c.in-Ok.tried c.in-Ok.ensures.ok
+    c.if-not-tried.true
+
+pub returns-in-Ok-write_line-clause-says : goal.returns-in-Ok-write_line-clause-says
+returns-in-Ok-write_line-clause-says g c =
+    tried-wrote c.args.dump.now (g.H.Shelf.files c.args.shelf.now) (g.W.Sink.written c.args.lines.now) (g.W.Sink.written c.try_all.new.lines) c.in-Ok.tried c.in-Ok.ensures.ok
+    c.if-not-tried.false (g.W.Sink.written c.write_line.new.sink) (rw c.best_line.ensures at c.in-Ok-write_line.ensures.ok)
+
+pub returns-in-Err-write_line-clause-says : goal.returns-in-Err-write_line-clause-says
+returns-in-Err-write_line-clause-says g c =
+    inr (tried-cut c.args.dump.now (g.H.Shelf.files c.args.shelf.now) (g.W.Sink.written c.args.lines.now) (g.W.Sink.written c.try_all.new.lines) c.in-Ok.tried c.in-Ok.ensures.ok
+    (g.W.Sink.written c.write_line.new.sink) (rw c.best_line.ensures at c.in-Err-write_line.ensures.err))

@@ -1,0 +1,74 @@
+use Rattle.std.proofs.Common.{◌≡◌, ◌≤◌, ◌+◌, [], ◌∷◌, ◌++◌, List, Option, length, map, Ok, Err, refl, sym, ap, subst, ◌∙◌, append_assoc, append-nil, arith}
+use Rattle.std.proofs.lemmas.Grind.{common_steps}
+use Rattle.std.specs.Vec.Iter.{into_iter_items}
+use Rattle.track_shelf.specs.Files.{File}
+use Rattle.dump_identity.specs.Candidates.{candidates}
+use Rattle.dump_identity.specs.Outcomes.{CutAtOne, FoundOne}
+use Rattle.dump_identity.specs.Trials.{trial_of}
+use Rattle.dump_identity.specs.declared.finding.Finding.{Finding}
+use Rattle.dump_identity.specs.declared.room.Trial.{Trial}
+use Rattle.dump_identity.specs.declared.tried.Tried.{Tried}
+use Rattle.dump_identity.proofs.Tries.{is-trial, made-all, made-cut, made-next, made-none, cause-since}
+use Rattle.dump_identity.proofs.identifying.try_all.Goals as goal
+
+none-left : (trials : List Trial) → length trials ≡ 0 → trials ≡ []
+none-left [] none = refl
+none-left (t ∷ trials) none = absurd (omega (arith, none))
+
+pub loop-trial-init : goal.loop-trial-init
+loop-trial-init g c = record {
+  rest = c.into_iter-trial-iterator.ensures.into_iter_gives.0 ∙ c.room.invariant;
+  left = grind (arith, common_steps, c.into_iter-trial-iterator.ensures.into_iter_gives.0, c.into_iter-trial-iterator.ensures.into_iter_gives.1);
+  made = made-none c.args.dump.now (g.H.Shelf.files c.args.shelf.now) (g.W.Sink.written c.args.lines.now) c.none-tried.result c.none-tried.ensures;
+  kept = refl;
+  shelf_later = omega arith;
+  lines_later = omega arith;
+}
+
+pub try_one-requires : goal.try_one-requires
+try_one-requires g c =
+    let at = c.loop-trial in
+    let trial = c.in-Some.trial in
+    let steps : into_iter_items at.trial-iterator ≡ trial ∷ into_iter_items c.next.new.self = c.in-Some.ensures.steps.0 in
+    ap (λ (t : Trial). t.book)
+    (is-trial at.yielded (into_iter_items c.next.new.self) trial candidates (ap (λ (ts : List Trial). at.yielded ++ ts) (sym steps) ∙ at.invariant.rest))
+
+pub loop-trial-preserved : goal.loop-trial-preserved
+loop-trial-preserved g c =
+    let at = c.loop-trial in
+    let trial = c.in-Some.trial in
+    let steps : into_iter_items at.trial-iterator ≡ trial ∷ into_iter_items c.next.new.self = c.in-Some.ensures.steps.0 in
+    let whole : at.yielded ++ trial ∷ into_iter_items c.next.new.self ≡ map trial_of candidates =
+    ap (λ (ts : List Trial). at.yielded ++ ts) (sym steps) ∙ at.invariant.rest in
+    record {
+      rest = append_assoc at.yielded (trial ∷ []) (into_iter_items c.next.new.self) ∙ whole;
+      left = omega (arith, ap length steps, at.invariant.left, c.in-Some.ensures.steps.1);
+      made = made-next c.args.dump.now (g.H.Shelf.files c.args.shelf.now) (g.W.Sink.written c.args.lines.now) at.yielded (g.W.Sink.written at.lines) at.tried at.invariant.made trial
+          (g.W.Sink.written c.try_one.new.lines) c.in-Ok.finding c.note.new.self
+          (subst (λ (o : Option (List File)). FoundOne c.args.dump.now o (g.W.Sink.written at.lines) (g.W.Sink.written c.try_one.new.lines) trial.candidate c.in-Ok.finding) at.invariant.kept c.in-Ok.ensures.ok)
+          c.note.ensures;
+      kept = c.try_one.ensures.files ∙ at.invariant.kept;
+      shelf_later = omega (arith, at.invariant.shelf_later, c.try_one.ensures.shelf_later);
+      lines_later = omega (arith, at.invariant.lines_later, c.try_one.ensures.lines_later);
+    }
+
+pub returns-clause-ok : goal.returns-clause-ok
+returns-clause-ok g c =
+    let at = c.loop-trial in
+    let empty : into_iter_items at.trial-iterator ≡ [] = none-left _ (sym at.invariant.left ∙ c.in-None.ensures.steps.0) in
+    let all : at.yielded ≡ map trial_of candidates = sym (append-nil at.yielded) ∙ ap (λ (ts : List Trial). at.yielded ++ ts) (sym empty) ∙ at.invariant.rest in
+    made-all c.args.dump.now (g.H.Shelf.files c.args.shelf.now) (g.W.Sink.written c.args.lines.now) at.yielded (g.W.Sink.written at.lines) at.tried at.invariant.made all
+
+pub returns-in-Err-clause-err : goal.returns-in-Err-clause-err
+returns-in-Err-clause-err g c =
+    let at = c.loop-trial in
+    let trial = c.in-Some.trial in
+    let steps : into_iter_items at.trial-iterator ≡ trial ∷ into_iter_items c.next.new.self = c.in-Some.ensures.steps.0 in
+    let whole : at.yielded ++ trial ∷ into_iter_items c.next.new.self ≡ map trial_of candidates =
+    ap (λ (ts : List Trial). at.yielded ++ ts) (sym steps) ∙ at.invariant.rest in
+    made-cut c.args.dump.now (g.H.Shelf.files c.args.shelf.now) (g.W.Sink.written c.args.lines.now) at.yielded (g.W.Sink.written at.lines) at.tried at.invariant.made trial
+    (into_iter_items c.next.new.self) whole (g.W.Sink.written c.try_one.new.lines) c.in-Err.fault
+    (subst (λ (o : Option (List File)). CutAtOne c.args.dump.now o (g.W.Sink.written at.lines) (g.W.Sink.written c.try_one.new.lines) trial.candidate c.in-Err.fault) at.invariant.kept c.in-Err.ensures.err)
+
+pub returns-in-Err-clause-cause : goal.returns-in-Err-clause-cause
+returns-in-Err-clause-cause g c = cause-since Finding Tried _ _ _ _ _ _ c.in-Err.fault c.loop-trial.invariant.shelf_later c.loop-trial.invariant.lines_later c.in-Err.ensures.cause

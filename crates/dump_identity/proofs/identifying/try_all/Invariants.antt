@@ -1,0 +1,16 @@
+use Rattle.std.proofs.Common.{◌≡◌, ◌≤◌, ◌++◌, length, map}
+use Rattle.std.specs.Vec.Iter.{into_iter_items, into_iter_len}
+use Rattle.dump_identity.specs.Candidates.{candidates}
+use Rattle.dump_identity.specs.Trials.{trial_of}
+use Rattle.dump_identity.proofs.Tries.{Made}
+use Rattle.dump_identity.proofs.identifying.try_all.Given as goal
+
+abbrev pub invariant-loop-trial : goal.invariant-loop-trial
+invariant-loop-trial g l = record {
+  rest : l.yielded ++ into_iter_items l.trial-iterator ≡ map trial_of candidates;
+  left : into_iter_len l.trial-iterator ≡ length (into_iter_items l.trial-iterator);
+  made : Made l.dump (g.H.Shelf.files l.initial.shelf) (g.W.Sink.written l.initial.lines) l.yielded (g.W.Sink.written l.lines) l.tried;
+  kept : g.H.Shelf.files l.shelf ≡ g.H.Shelf.files l.initial.shelf;
+  shelf_later : g.H.Source.faults l.initial.shelf ≤ g.H.Source.faults l.shelf;
+  lines_later : g.W.Sink.faults l.initial.lines ≤ g.W.Sink.faults l.lines;
+}

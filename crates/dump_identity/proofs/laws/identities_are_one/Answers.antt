@@ -1,0 +1,8 @@
+use Rattle.dump_identity.proofs.One.{no-identity, one-identity}
+use Rattle.dump_identity.proofs.laws.identities_are_one.Goals as goal
+
+pub returns-clause-one : goal.returns-clause-one
+returns-clause-one c = λ dump files a b first second. one-identity c.dumps_are_one.ensures dump files a b first second
+
+pub returns-clause-refused : goal.returns-clause-refused
+returns-clause-refused c = λ dump files o none said. no-identity c.dumps_are_one.ensures dump files o none said

@@ -1,0 +1,78 @@
+-- What reading a dump as each disk comes to, and which disk is the best.
+use Rattle.std.specs.Prelude.{◌≡◌, ◌&&◌, if◌then◌else◌, ℕ, Bool, false, not, nat_eq, nat_lt, All, List, [], ◌∷◌, find, Option, Some, None}
+use Rattle.std.specs.List.{list_all, list_any}
+use Rattle.std.specs.Option.{is_some}
+use Rattle.track_shelf.specs.Files.{File}
+use Rattle.flux_engine.specs.declared.plan.Clocks.TheVariants.{FollowingAlone}
+use Rattle.dump_reading.specs.Outcomes.{DumpDisk, DumpsRead, IsDumpsRead, IsToldEmpty}
+use Rattle.dump_reading.specs.Totals.{is_complete as are_complete}
+use Rattle.dump_reading.specs.declared.totals.DumpTotals.{DumpTotals}
+use Rattle.dump_identity.specs.declared.candidate.Candidate.{Candidate}
+use Rattle.dump_identity.specs.declared.finding.Finding.{Finding}
+use Rattle.dump_identity.specs.declared.tried.Tried.{Tried}
+
+-- a dump as a candidate's disk, read by the clock that follows the drive alone
+abbrev pub disk_as : (dump : List ℕ) → Candidate → DumpDisk
+disk_as dump candidate = record { stepping = candidate.stepping; dumps = dump ∷ []; format = candidate.format; clocks = FollowingAlone }
+
+-- What it comes to, by the files that are told: the numbers of all that reading it comes to; none, where the dump has the file of none of
+-- the disk's tracks.
+abbrev pub ComesTo : (dump : List ℕ) → (told : Option (List File)) → Candidate → Option DumpTotals → Type 0
+ComesTo dump told candidate None = IsToldEmpty (disk_as dump candidate) told (Some 0)
+ComesTo dump told candidate (Some totals) =
+    IsToldEmpty (disk_as dump candidate) told None
+    × (outcome : DumpsRead) × IsDumpsRead (disk_as dump candidate) told outcome × (totals ≡ outcome.totals)
+
+-- what each of some candidates comes to
+abbrev pub AreFindings : (dump : List ℕ) → (told : Option (List File)) → List Finding → Type 0
+AreFindings dump told findings = All (λ f. ComesTo dump told f.candidate f.totals) findings
+
+-- how many sectors are good, and how many other names have whole data
+abbrev pub good_in : Option DumpTotals → ℕ
+good_in None = 0
+good_in (Some totals) = totals.sectors.good
+
+abbrev pub whole_in : Option DumpTotals → ℕ
+whole_in None = 0
+whole_in (Some totals) = totals.whole
+
+-- how many sectors the disk has
+abbrev pub sectors_in : Option DumpTotals → ℕ
+sectors_in None = 0
+sectors_in (Some totals) = totals.sectors.sectors
+
+abbrev pub has_files : Finding → Bool
+has_files f = is_some f.totals
+
+-- a sector is good
+abbrev pub has_good : Finding → Bool
+has_good f = nat_lt 0 (good_in f.totals)
+
+-- more is good; or as much, and fewer others have data; or that too, and the disk has fewer sectors
+abbrev pub is_over : (good whole sectors good' whole' sectors' : ℕ) → Bool
+is_over good whole sectors good' whole' sectors' =
+    if nat_eq good good' then (if nat_eq whole whole' then nat_lt sectors sectors' else nat_lt whole whole') else nat_lt good' good
+
+abbrev pub beats : Finding → Finding → Bool
+beats f g =
+    is_over (good_in f.totals) (whole_in f.totals) (sectors_in f.totals) (good_in g.totals) (whole_in g.totals) (sectors_in g.totals)
+
+-- a sector is good, and none of these is better
+abbrev pub is_unbeaten : List Finding → Finding → Bool
+is_unbeaten findings f = has_good f && list_all (λ g. not (beats g f)) findings
+
+-- the best: the first of those that have a good sector and than which none is better
+unfoldable pub best_of : List Finding → Option Finding
+best_of findings = find (is_unbeaten findings) findings
+
+-- every sector is good, and no other name has data
+abbrev pub complete_in : Option DumpTotals → Bool
+complete_in None = false
+complete_in (Some totals) = are_complete totals
+
+abbrev pub is_complete : Finding → Bool
+is_complete f = complete_in f.totals
+
+-- the best of some, and whether the dump has a file of a track of one of them
+abbrev pub tried_of : List Finding → Tried
+tried_of findings = record { best = best_of findings; has_files = list_any has_files findings }

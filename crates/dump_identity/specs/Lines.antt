@@ -1,0 +1,40 @@
+-- What is said of the disks that a dump may be of.
+use Rattle.std.specs.Prelude.{if◌then◌else◌, ℕ, List, [], ◌++◌, codes, decimal, flat_map, Option, Some, None}
+use Rattle.sector_images.specs.Formats.{row}
+use Rattle.track_shelf.specs.declared.stepping.Stepping.{Stepping}
+use Rattle.track_shelf.specs.declared.stepping.Stepping.TheVariants.{Single, Double}
+use Rattle.dump_reading.specs.declared.totals.DumpTotals.{DumpTotals}
+use Rattle.dump_identity.specs.Findings.{has_good}
+use Rattle.dump_identity.specs.declared.candidate.Candidate.{Candidate}
+use Rattle.dump_identity.specs.declared.finding.Finding.{Finding}
+
+-- the word of the steps, with a blank behind it
+abbrev pub stepping_text : Stepping → List ℕ
+stepping_text Single = []
+stepping_text Double = codes "--double-step "
+
+-- the words for a candidate, as they stand behind `read`
+unfoldable pub candidate_text : Candidate → List ℕ
+candidate_text candidate = stepping_text candidate.stepping ++ (row candidate.format).word
+
+-- how many of a candidate's sectors are good, and how many other names have whole data
+unfoldable pub finding_text : Candidate → DumpTotals → List ℕ
+finding_text candidate totals =
+    candidate_text candidate ++ (codes " good " ++ decimal totals.sectors.good) ++ (codes " of " ++ decimal totals.sectors.sectors)
+    ++ (codes " other " ++ decimal totals.whole) ++ codes "\n"
+
+-- the line of one that has a good sector
+abbrev pub line_in : Candidate → Option DumpTotals → List ℕ
+line_in candidate None = []
+line_in candidate (Some totals) = finding_text candidate totals
+
+abbrev pub line_of : Finding → List ℕ
+line_of f = if has_good f then line_in f.candidate f.totals else []
+
+abbrev pub lines_of : List Finding → List ℕ
+lines_of findings = flat_map line_of findings
+
+-- the last line: the words for the best, if there is one
+unfoldable pub best_text : Option Finding → List ℕ
+best_text None = codes "best none\n"
+best_text (Some f) = codes "best " ++ candidate_text f.candidate ++ codes "\n"

@@ -1,0 +1,158 @@
+//! Which disk a dump is of.
+
+ghost use Rattle.std.specs.Prelude.{◌≡◌, ◌≤◌, OnErr, IfErr, IfOk};
+ghost use Rattle.flux_base.specs.Moments.{Puts, moment};
+ghost use Rattle.flux_base.specs.Outside.{Rose};
+ghost use Rattle.flux_engine.specs.Room.{empty_book, fresh};
+ghost use Rattle.dump_identity.specs.Findings.{ComesTo};
+ghost use Rattle.dump_identity.specs.Lines.{line_of};
+ghost use Rattle.dump_identity.specs.Outcomes.{CutAtOne, FoundOne, HasTried, IdentityCause, SaysOfIdentity};
+
+use crate::candidate::Candidate;
+use crate::fault::IdentityFault;
+use crate::finding::Finding;
+use crate::lines::{best_line, finding_line};
+use crate::room::{IdentityRoom, Trial};
+use crate::tried::Tried;
+use dump_reading::{DumpTotals, Dumps, DumpsFault, read_dumps_by};
+use flux_base::{CountingSink, Failed, Sink, Word};
+use flux_engine::{Clocks, DiskRoom};
+use sector_report::write_line;
+use std::slice::from_ref;
+use track_shelf::Shelf;
+
+/// Says which disk a dump is of. It is read as a disk of each format, in the order of their table, with one step for each cylinder,
+/// and for those of up to 42 cylinders then with two: as `read_dumps` reads it, by the clock that follows the drive alone. Each that
+/// has a good sector gets a line as soon as it was read, and the last line names the best: the one with most good sectors, of those
+/// the one with fewest other names that have whole data, of those the one with fewest sectors, and of those the first. No answer is
+/// for want of memory.
+///
+/// A dump that has no file of any track is refused, and nothing is written. After a fault nothing more is read or written, and the
+/// lines before are written whole.
+pub fn identify<H: Shelf, W: Sink>(
+    dump: &Word,
+    room: IdentityRoom,
+    shelf: &mut H,
+    lines: &mut W,
+) -> Result<Option<Finding>, IdentityFault>
+    ensures says { SaysOfIdentity dump.now (H.files shelf.old) (W.written lines.old) (W.written lines.new) result }
+    ensures files { H.files shelf.new ≡ H.files shelf.old }
+    ensures cause { IdentityCause (H.faults shelf.old) (H.faults shelf.new) (W.faults lines.old) (W.faults lines.new) result }
+    ensures shelf_later { H.faults shelf.old ≤ H.faults shelf.new }
+    ensures lines_later { W.faults lines.old ≤ W.faults lines.new }
+{
+    let tried = match try_all(dump, room, shelf, lines) {
+        Ok(tried) => tried,
+        Err(fault) => return Err(fault),
+    };
+    if !tried.has_files {
+        return Err(IdentityFault::NoFiles);
+    }
+    match write_line(lines, &best_line(&tried.best)) {
+        Ok(()) => Ok(tried.best),
+        Err(Failed) => Err(IdentityFault::LinesFault),
+    }
+}
+
+/// Tries all candidates, and writes the lines of those that have a good sector.
+fn try_all<H: Shelf, W: Sink>(
+    dump: &Word,
+    room: IdentityRoom,
+    shelf: &mut H,
+    lines: &mut W,
+) -> Result<Tried, IdentityFault>
+    ensures ok { IfOk result (HasTried dump.now (H.files shelf.old) (W.written lines.old) (W.written lines.new)) }
+    ensures err { IfErr result (λ fault. SaysOfIdentity dump.now (H.files shelf.old) (W.written lines.old) (W.written lines.new) (Err fault)) }
+    ensures files { H.files shelf.new ≡ H.files shelf.old }
+    ensures cause { IdentityCause (H.faults shelf.old) (H.faults shelf.new) (W.faults lines.old) (W.faults lines.new) result }
+    ensures shelf_later { H.faults shelf.old ≤ H.faults shelf.new }
+    ensures lines_later { W.faults lines.old ≤ W.faults lines.new }
+{
+    let mut disk = room.disk;
+    let mut tried = Tried::none();
+    for trial in room.trials {
+        match try_one(trial, dump, &mut disk, shelf, lines) {
+            Ok(finding) => tried.note(finding),
+            Err(fault) => return Err(fault),
+        }
+    }
+    Ok(tried)
+}
+
+/// Tries a candidate, and writes its line where it has a good sector.
+fn try_one<H: Shelf, W: Sink>(
+    trial: Trial,
+    dump: &Word,
+    disk: &mut DiskRoom,
+    shelf: &mut H,
+    lines: &mut W,
+) -> Result<Finding, IdentityFault>
+    requires { trial.book ≡ empty_book trial.candidate.format }
+    ensures ok { IfOk result (FoundOne dump.now (H.files shelf.old) (W.written lines.old) (W.written lines.new) trial.candidate) }
+    ensures err { IfErr result (CutAtOne dump.now (H.files shelf.old) (W.written lines.old) (W.written lines.new) trial.candidate) }
+    ensures files { H.files shelf.new ≡ H.files shelf.old }
+    ensures cause { IdentityCause (H.faults shelf.old) (H.faults shelf.new) (W.faults lines.old) (W.faults lines.new) result }
+    ensures shelf_later { H.faults shelf.old ≤ H.faults shelf.new }
+    ensures lines_later { W.faults lines.old ≤ W.faults lines.new }
+{
+    let candidate = trial.candidate;
+    disk.begin_format(candidate.format, trial.book);
+    let finding = match read_as(candidate, dump, disk, shelf) {
+        Ok(totals) => Finding { candidate, totals },
+        Err(Failed) => return Err(IdentityFault::ShelfFault),
+    };
+    match write_finding(&finding, lines) {
+        Ok(()) => Ok(finding),
+        Err(Failed) => Err(IdentityFault::LinesFault),
+    }
+}
+
+/// Reads a dump as a candidate's disk, by the clock that follows the drive alone, and counts what it comes to. None where the dump
+/// has the file of none of its tracks.
+fn read_as<H: Shelf>(
+    candidate: Candidate,
+    dump: &Word,
+    disk: &mut DiskRoom,
+    shelf: &mut H,
+) -> Result<Option<DumpTotals>, Failed>
+    requires { disk.old ≡ fresh candidate.format }
+    ensures ok { IfOk result (ComesTo dump.now (H.files shelf.old) candidate) }
+    ensures files { H.files shelf.new ≡ H.files shelf.old }
+    ensures cause { OnErr result (Rose (H.faults shelf.old) (H.faults shelf.new)) }
+    ensures later { H.faults shelf.old ≤ H.faults shelf.new }
+{
+    let dumps = Dumps {
+        names: from_ref(dump),
+        stepping: candidate.stepping,
+    };
+    let mut image = CountingSink::new();
+    let mut notes = CountingSink::new();
+    match read_dumps_by(
+        Clocks::FollowingAlone,
+        &dumps,
+        disk,
+        shelf,
+        &mut image,
+        &mut notes,
+    ) {
+        Ok(totals) => Ok(Some(totals)),
+        Err(DumpsFault::NoFiles { .. }) => Ok(None),
+        Err(DumpsFault::ShelfFault) => Err(Failed),
+        // The sinks do not fail.
+        Err(DumpsFault::ImageFault) => unreachable!(),
+        Err(DumpsFault::NotesFault) => unreachable!(),
+    }
+}
+
+/// Writes the line of a candidate, where it has a good sector.
+fn write_finding<W: Sink>(finding: &Finding, lines: &mut W) -> Result<(), Failed>
+    ensures { Puts (moment W.written W.faults lines.old) (moment W.written W.faults lines.new) (line_of finding.now) result }
+{
+    if !finding.has_good() {
+        return Ok(());
+    }
+    match &finding.totals {
+        Some(totals) => write_line(lines, &finding_line(finding.candidate, totals)),
+        None => Ok(()),
+    }
+}

@@ -1,0 +1,18 @@
+//! Which disk a dump is of: it is read as a disk of each format in turn, and what each comes to is said.
+#![tactic(auto)]
+
+mod candidate;
+mod fault;
+mod finding;
+mod identifying;
+mod laws;
+mod lines;
+mod room;
+mod tried;
+
+pub use candidate::Candidate;
+pub use fault::IdentityFault;
+pub use finding::Finding;
+pub use identifying::identify;
+pub use laws::{complete_is_read_whole, identities_are_one};
+pub use room::IdentityRoom;

@@ -1,0 +1,79 @@
+//! What is said of the disks that a dump may be of.
+
+ghost use Rattle.std.specs.Prelude.{◌≡◌, ◌≤◌, ◌+◌, ◌++◌, codes};
+ghost use Rattle.arrayvec.specs.ArrayString.{array_string_len};
+ghost use Rattle.dump_identity.specs.Lines.{best_text, candidate_text, finding_text, stepping_text};
+
+use crate::candidate::Candidate;
+use crate::finding::Finding;
+use dump_reading::DumpTotals;
+use sector_report::{Line, put, put_named};
+use track_shelf::Stepping;
+
+/// What a candidate comes to that has a good sector: the words for it that stand behind `read`, and the numbers.
+#[tactic(auto, unfolding(crate::specs::Lines::finding_text))]
+pub(crate) fn finding_line(candidate: Candidate, totals: &DumpTotals) -> Line
+    ensures { result.bytes ≡ finding_text candidate totals.now }
+{
+    let mut line = Line::new();
+    put_candidate(&mut line, candidate);
+    put_named(&mut line, " good ", totals.sectors.good);
+    put_named(&mut line, " of ", totals.sectors.sectors);
+    put_named(&mut line, " other ", totals.whole);
+    put(&mut line, "\n");
+    line
+}
+
+/// The words for the best of all candidates, or that none has a good sector.
+#[tactic(auto, unfolding(crate::specs::Lines::best_text))]
+pub(crate) fn best_line(best: &Option<Finding>) -> Line
+    ensures { result.bytes ≡ best_text best.now }
+{
+    match best {
+        Some(finding) => named_line(finding.candidate),
+        None => none_line(),
+    }
+}
+
+/// That this is the best.
+fn named_line(candidate: Candidate) -> Line
+    ensures { result.bytes ≡ codes "best " ++ candidate_text candidate ++ codes "\n" }
+{
+    let mut line = Line::new();
+    put(&mut line, "best ");
+    put_candidate(&mut line, candidate);
+    put(&mut line, "\n");
+    line
+}
+
+/// That there is no best.
+fn none_line() -> Line
+    ensures { result.bytes ≡ codes "best none\n" }
+{
+    let mut line = Line::new();
+    put(&mut line, "best none\n");
+    line
+}
+
+/// Appends the words for a candidate that stand behind `read`.
+#[tactic(auto, unfolding(crate::specs::Lines::candidate_text))]
+fn put_candidate(line: &mut Line, candidate: Candidate)
+    requires { array_string_len line.old + 40 ≤ 192 }
+    ensures bytes { line.new.bytes ≡ line.old.bytes ++ candidate_text candidate }
+    ensures len { array_string_len line.new ≤ array_string_len line.old + 40 }
+{
+    put_steps(line, candidate.stepping);
+    put(line, candidate.format.word());
+}
+
+/// Appends the word of the steps, with a blank behind it.
+fn put_steps(line: &mut Line, stepping: Stepping)
+    requires { array_string_len line.old + 14 ≤ 192 }
+    ensures bytes { line.new.bytes ≡ line.old.bytes ++ stepping_text stepping }
+    ensures len { array_string_len line.new ≤ array_string_len line.old + 14 }
+{
+    match stepping {
+        Stepping::Single => {}
+        Stepping::Double => put(line, "--double-step "),
+    }
+}

@@ -1,0 +1,120 @@
+//! Which disk a dump is of.
+use dump_identity::{Candidate, Finding, IdentityFault, IdentityRoom, identify};
+use dump_reading::DumpTotals;
+use flux_base::{Memory, MemorySink, MemorySource, TrackId, Word};
+use flux_engine::{WriteRoom, write_disk};
+use sector_images::Format;
+use sector_report::Totals;
+use std::alloc::Global;
+use std::test::Fail;
+use track_shelf::{MemoryShelf, ShelfFile, Stepping};
+
+/// The shortest good stream: two transitions, with an Index block before and after them. No sector is in it.
+const SHORT: [u8; 50] = [
+    0x0D, 2, 12, 0, 0, 0, 0, 0, 0, 0, 0, 0, 0, 0, 0, 0, 0x60, 0x60, 0x0D, 2, 12, 0, 2, 0, 0, 0, 5,
+    0, 0, 0, 24, 0, 0, 0, 0x0D, 3, 8, 0, 2, 0, 0, 0, 0, 0, 0, 0, 0x0D, 0x0D, 0x0D, 0x0D,
+];
+
+/// The stream of the first track of Acorn's disk, ten sectors of zeros.
+fn acorn_track(alloc: Global) -> Result<Vec<u8>, Memory> {
+    let image = vec![in alloc; 0u8; 102_400]?;
+    let mut source = MemorySource::new(image, 4096, Vec::new(alloc));
+    let mut sink = MemorySink::new(alloc, 1 << 22, Vec::new(alloc))?;
+    let mut room = WriteRoom::reserve(alloc, Format::AcornDfs40)?;
+    let _ = write_disk(&mut room, &mut source, &mut sink);
+    let streams = sink.bytes();
+    let end = streams.windows(4).position(|bytes| bytes == [0x0D; 4]);
+    let size = end.unwrap_or(0).saturating_add(4).min(streams.len());
+    Ok(streams[..size].to_vec(alloc)?)
+}
+
+/// What was said of a dump.
+#[derive(Drop)]
+struct Said {
+    answer: Result<Option<Finding>, IdentityFault>,
+    lines: MemorySink,
+}
+
+/// Says which disk a dump is of that has this file for its first track. The call of the shelf with this number fails, if one does,
+/// and the sink takes so many bytes.
+fn say(
+    alloc: Global,
+    dump: &str,
+    stream: &[u8],
+    failing: &[u64],
+    room: usize,
+) -> Result<Said, Memory> {
+    let track = TrackId {
+        cylinder: 0,
+        head: 0,
+    };
+    let mut files = Vec::new(alloc);
+    files.push(ShelfFile::new(b"dump".to_vec(alloc)?, track, stream.to_vec(alloc)?))?;
+    let mut shelf = MemoryShelf::new(&files, 4096, failing);
+    let mut lines = MemorySink::new(alloc, room, Vec::new(alloc))?;
+    let word = Word::new(dump.to_string(alloc)?);
+    let identity_room = IdentityRoom::reserve(alloc)?;
+    let answer = identify(&word, identity_room, &mut shelf, &mut lines);
+    Ok(Said { answer, lines })
+}
+
+/// One track reads as well in three ways. The disk with fewest sectors is named, and of those the first.
+const ACORN: &[u8] = b"acorn-dfs-40 good 10 of 400 other 0
+--double-step acorn-dfs-40 good 10 of 400 other 0
+acorn-dfs-80 good 10 of 800 other 0
+best acorn-dfs-40
+";
+
+/// What reading the track as that disk comes to.
+const BEST: Finding = Finding {
+    candidate: Candidate {
+        stepping: Stepping::Single,
+        format: Format::AcornDfs40,
+    },
+    totals: Some(DumpTotals {
+        sectors: Totals {
+            sectors: 400,
+            good: 10,
+            bad: 0,
+            missing: 390,
+            contradictory: 0,
+        },
+        unread: 39,
+        others: 0,
+        whole: 0,
+    }),
+};
+
+#[test]
+fn the_smallest_disk_is_named(rt: HostRuntime) -> Result<(), Fail> {
+    let alloc = rt.alloc();
+    let said = say(alloc, "dump", &acorn_track(alloc)?, &[], 4096)?;
+    assert!(rt; said.lines.bytes() == ACORN);
+    assert_eq!(rt; said.answer, Ok(Some(BEST)));
+    assert!(rt; !BEST.is_complete());
+    Ok(())
+}
+
+/// The name of the dump, the calls of the shelf that fail, the bytes that the sink takes, what is answered, and what is written.
+const ENDS: [(
+    &str,
+    &[u64],
+    usize,
+    Result<Option<Finding>, IdentityFault>,
+    &[u8],
+); 4] = [
+    ("dump", &[], 4096, Ok(None), b"best none\n"),
+    ("dump", &[], 3, Err(IdentityFault::LinesFault), b"bes"),
+    ("dump", &[0], 4096, Err(IdentityFault::ShelfFault), b""),
+    ("none", &[], 4096, Err(IdentityFault::NoFiles), b""),
+];
+
+#[test]
+fn no_disk_is_named(rt: HostRuntime) -> Result<(), Fail> {
+    for (dump, failing, room, answer, lines) in ENDS {
+        let said = say(rt.alloc(), dump, &SHORT, failing, room)?;
+        assert_eq!(rt; said.answer, answer);
+        assert!(rt; said.lines.bytes() == lines);
+    }
+    Ok(())
+}
