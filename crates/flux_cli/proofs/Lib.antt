@@ -15,5 +15,6 @@ pub mod PagesRun
 pub mod Digits
 pub mod FolderRun
 pub mod ReadRun
+pub mod IdentityRun
 pub mod DumpWords
 pub mod ReadHeadline

@@ -23,6 +23,7 @@ use Rattle.flux_cli.specs.Commands.{AreWordsOf, AskFor}
 use Rattle.flux_cli.specs.DisksWork.{disk_outcome}
 use Rattle.flux_cli.specs.DumpWords.{Asked, NamesDumps, read_words}
 use Rattle.flux_cli.specs.FolderWords.{folder_words}
+use Rattle.flux_cli.specs.IdentityWords.{NamesIdentity, identity_words}
 use Rattle.flux_cli.specs.G64Disks.{format_of}
 use Rattle.flux_cli.specs.G64Work.{from_g64_outcome}
 use Rattle.flux_cli.specs.MapWork.{map_outcome}
@@ -284,6 +285,27 @@ no_dumps (Tell page) words are dumps same = no_page page words (read_words dumps
 pub folder_no_dumps : (words : List (List ℕ)) (format : Format) (folder : List ℕ) → words ≡ folder_words format folder → NamesDumps words None
 folder_no_dumps words format folder are = λ disk can same. differ 25701 29285 refl (ap letters (sym are ∙ same))
 
+-- and those that ask which disk a dump is of for none
+pub no_identity : (command : Command) (words : List (List ℕ)) → AreWordsOf command words → (dump : List ℕ) → words ≡ identity_words dump → ⊥
+no_identity Turns words are dump same = differ 29813 26980 refl (ap letters (sym are ∙ same))
+no_identity (Decode f) words are dump same = differ 25701 26980 refl (ap letters (sym are ∙ same))
+no_identity (Report f) words are dump same = differ 29285 26980 refl (ap letters (sym are ∙ same))
+no_identity (Map f) words are dump same = differ 28001 26980 refl (ap letters (sym are ∙ same))
+no_identity (Write f) words are dump same = differ 30578 26980 refl (ap letters (sym are ∙ same))
+no_identity (Trial f s) words are dump same = differ 29810 26980 refl (ap letters (sym are.1 ∙ same))
+no_identity (ToG64 g) words are dump same = differ 29807 26980 refl (ap letters (sym are ∙ same))
+no_identity (FromG64 g) words are dump same = differ 26226 26980 refl (ap letters (sym are ∙ same))
+no_identity (DecodeSet f c) words are dump same = differ 25701 26980 refl (ap letters (sym are.1 ∙ same))
+no_identity (Rescue f) words are dump same = differ 29285 26980 refl (ap letters (sym are ∙ same))
+no_identity (Tell page) words are dump same = no_page page words (identity_words dump) refl are same
+
+-- nor do those that name a folder, or dumps
+pub folder_no_identity : (words : List (List ℕ)) (format : Format) (folder : List ℕ) → words ≡ folder_words format folder → NamesIdentity words None
+folder_no_identity words format folder are = λ dump some same. differ 25701 26980 refl (ap letters (sym are ∙ same))
+
+pub dumps_no_identity : (words : List (List ℕ)) (dumps : Asked) → words ≡ read_words dumps → NamesIdentity words None
+dumps_no_identity words dumps are = λ dump some same. differ 29285 26980 refl (ap letters (sym are ∙ same))
+
 -- words ask for one thing at most
 one_asked : WordsNameFormats → (words : List (List ℕ)) (a b : Option Command) → AskFor words a → AskFor words b → a ≡ b
 one_asked names words None None first second = refl
@@ -323,5 +345,5 @@ module _ (names : WordsNameFormats) (one : OneOutcome) (one_file : OneFileDisk) 
 
   pub one_outcome : (words : List (List ℕ)) (x : List ℕ) (a b : Outcome) → IsOutcome words x a → IsOutcome words x b → a ≡ b
   one_outcome words x a b first second =
-      let same = one_asked names words first.2 second.2 first.3 second.3 in
-      one_of words second.2 x a b (subst (λ asked. (work_for words asked).gives x a) same first.4) second.4
+      let same = one_asked names words first.3 second.3 first.4 second.4 in
+      one_of words second.3 x a b (subst (λ asked. (work_for words asked).gives x a) same first.5) second.5

@@ -16,6 +16,7 @@ use Rattle.flux_cli.specs.DumpParts.{disk_words}
 use Rattle.flux_cli.specs.DumpWords.{Asked, CanBeRead, NamesDumps, asked_disk, double_step_word, read_words, stepping_words}
 use Rattle.flux_cli.specs.FolderRuns.{OnShelf}
 use Rattle.flux_cli.specs.FolderWords.{NamesFolder}
+use Rattle.flux_cli.specs.IdentityWords.{NamesIdentity}
 use Rattle.flux_cli.specs.ReadHeadline.{GaveDumps, GaveDumpsOrCut, OfDumps, ReadsAsExpected}
 use Rattle.flux_cli.specs.ReadRuns.{DidRead, FinishedDumps, SaysOfRead}
 use Rattle.flux_cli.specs.ShelfRuns.{Ran, RanBy, Surroundings, on_shelf}
@@ -100,11 +101,12 @@ module _ (laws : DumpLaws) {H W N : Type 0} (disk : DumpDisk) (files : List File
 pub reads_as_expected : DumpLaws → WordsNameFormats → {S W N H : Type 0} (words : List (List ℕ)) (status : Status) (before after : Surroundings S W N H)
     → Ran words status before after → ReadsAsExpected words status (on_shelf before) (on_shelf after)
 reads_as_expected laws names words status before after ran asked files are can told =
-    gave_or_cut laws (asked_disk asked) files (on_shelf before) (on_shelf after) told status (by ran.folder ran.dumps ran.names ran.names_dumps ran.did).says
+    gave_or_cut laws (asked_disk asked) files (on_shelf before) (on_shelf after) told status (by ran.folder ran.dumps ran.identity ran.names ran.names_dumps ran.names_identity ran.did).says
   where
-    by : (folder : Option (Format × List ℕ)) (dumps : Option Asked) → NamesFolder words folder → NamesDumps words dumps
-        → RanBy folder dumps words status before after → DidRead (asked_disk asked) status (on_shelf before) (on_shelf after)
-    by (Some named) dumps named_is names_dumps did = absurd (folder_no_dumps words named.0 named.1 named_is.0 asked can are)
-    by None None none no_read did = absurd (no_read asked can are)
-    by None (Some other) none read_is did =
+    by : (folder : Option (Format × List ℕ)) (dumps : Option Asked) (identity : Option (List ℕ)) → NamesFolder words folder → NamesDumps words dumps
+        → NamesIdentity words identity → RanBy folder dumps identity words status before after → DidRead (asked_disk asked) status (on_shelf before) (on_shelf after)
+    by (Some named) dumps identity named_is names_dumps names_identity did = absurd (folder_no_dumps words named.0 named.1 named_is.0 asked can are)
+    by None None None none no_read no_name did = absurd (no_read asked can are)
+    by None None (Some dump) none no_read name_is did = absurd (no_read asked can are)
+    by None (Some other) identity none read_is names_identity did =
         subst (λ (a : Asked). DidRead (asked_disk a) status (on_shelf before) (on_shelf after)) (one_asked names other asked (sym read_is.0 ∙ are)) did.0

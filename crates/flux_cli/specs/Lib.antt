@@ -4,6 +4,7 @@ pub mod Counts
 pub mod Commands
 pub mod FolderWords
 pub mod DumpWords
+pub mod IdentityWords
 pub mod DumpParts
 pub mod Turns
 pub mod Work
@@ -21,6 +22,7 @@ pub mod PlanRuns
 pub mod DisksRuns
 pub mod FolderRuns
 pub mod ReadRuns
+pub mod IdentityRuns
 pub mod ShelfRuns
 pub mod ReadHeadline
 pub mod Captured

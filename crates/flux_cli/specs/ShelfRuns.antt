@@ -1,10 +1,12 @@
--- What a run did: over the source, or over the shelf where the words name a folder or dumps.
+-- What a run did: over the source, or over the shelf where the words name a folder or dumps, or ask which disk a dump is of.
 use Rattle.std.specs.Prelude.{◌≡◌, ℕ, List, Option, Some, None}
 use Rattle.flux_base.specs.declared.status.Status.{Status}
 use Rattle.sector_images.specs.declared.format.Format.{Format}
 use Rattle.flux_cli.specs.DumpWords.{Asked, NamesDumps, asked_disk}
 use Rattle.flux_cli.specs.FolderRuns.{DoesFolder, OnShelf, ShelfMoment}
 use Rattle.flux_cli.specs.FolderWords.{NamesFolder}
+use Rattle.flux_cli.specs.IdentityRuns.{DidIdentify}
+use Rattle.flux_cli.specs.IdentityWords.{NamesIdentity}
 use Rattle.flux_cli.specs.ReadRuns.{DidRead}
 use Rattle.flux_cli.specs.Runs.{Outside, RanOverSource}
 
@@ -20,13 +22,16 @@ abbrev pub on_shelf : {S W N H : Type 0} → Surroundings S W N H → OnShelf H 
 on_shelf now = record { shelf = now.shelf; image = now.outside.image; notes = now.outside.notes }
 
 -- where the words name a folder or dumps, the source is not touched; else the shelf is not
-abbrev pub RanBy : {S W N H : Type 0} → Option (Format × List ℕ) → Option Asked → (words : List (List ℕ)) → Status → (before after : Surroundings S W N H) → Type 0
-RanBy None None words status before after = RanOverSource words status before.outside after.outside × (after.shelf ≡ before.shelf)
-RanBy (Some named) dumps words status before after =
+abbrev pub RanBy : {S W N H : Type 0} → Option (Format × List ℕ) → Option Asked → (identity : Option (List ℕ)) → (words : List (List ℕ)) → Status → (before after : Surroundings S W N H) → Type 0
+RanBy None None None words status before after = RanOverSource words status before.outside after.outside × (after.shelf ≡ before.shelf)
+RanBy (Some named) dumps identity words status before after =
     DoesFolder named.0 named.1 status (on_shelf before) (on_shelf after)
     × (after.outside.source ≡ before.outside.source) × (after.outside.given ≡ before.outside.given)
-RanBy None (Some asked) words status before after =
+RanBy None (Some asked) identity words status before after =
     DidRead (asked_disk asked) status (on_shelf before) (on_shelf after)
+    × (after.outside.source ≡ before.outside.source) × (after.outside.given ≡ before.outside.given)
+RanBy None None (Some dump) words status before after =
+    DidIdentify dump status (on_shelf before) (on_shelf after)
     × (after.outside.source ≡ before.outside.source) × (after.outside.given ≡ before.outside.given)
 
 -- what a run with these words did
@@ -35,4 +40,6 @@ pub record Ran {S W N H : Type 0} (words : List (List ℕ)) (status : Status) (b
   pub names : NamesFolder words folder
   pub dumps : Option Asked
   pub names_dumps : NamesDumps words dumps
-  pub did : RanBy folder dumps words status before after
+  pub identity : Option (List ℕ)
+  pub names_identity : NamesIdentity words identity
+  pub did : RanBy folder dumps identity words status before after

@@ -11,6 +11,7 @@ use Rattle.flux_cli.specs.DumpWords.{NamesDumps}
 use Rattle.flux_cli.specs.FolderWords.{NamesFolder}
 use Rattle.flux_cli.specs.G64Disks.{format_of}
 use Rattle.flux_cli.specs.G64Work.{from_g64_work, to_g64_work}
+use Rattle.flux_cli.specs.IdentityWords.{NamesIdentity}
 use Rattle.flux_cli.specs.ImagesWork.{write_work}
 use Rattle.flux_cli.specs.PlanWork.{planned_work}
 use Rattle.flux_cli.specs.MapWork.{map_work}
@@ -58,6 +59,6 @@ abbrev pub work_for : List (List ℕ) → Option Command → Work
 work_for words None = usage_work (wrong_text words)
 work_for words (Some command) = work_of command
 
--- this is the outcome of the words over the input, where they name neither a folder nor dumps
+-- this is the outcome of the words over the input, where they name neither a folder nor a dump
 abbrev pub IsOutcome : List (List ℕ) → List ℕ → Outcome → Type 0
-IsOutcome words x o = NamesFolder words None × NamesDumps words None × (asked : Option Command) × AskFor words asked × (work_for words asked).gives x o
+IsOutcome words x o = NamesFolder words None × NamesDumps words None × NamesIdentity words None × (asked : Option Command) × AskFor words asked × (work_for words asked).gives x o

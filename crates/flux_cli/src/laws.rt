@@ -3,6 +3,7 @@
 ghost use Rattle.std.specs.Prelude.{◌≡◌, ℕ, List, Some};
 ghost use Rattle.dump_reading.specs.Outcomes.{DumpDisk};
 ghost use Rattle.flux_cli.specs.ReadRuns.{IsOutcomeOfDumps};
+ghost use Rattle.flux_cli.specs.IdentityRuns.{IsOutcomeOfDump};
 ghost use Rattle.flux_cli.specs.Work.{Outcome};
 ghost use Rattle.flux_cli.specs.Works.{IsOutcome};
 ghost use Rattle.track_shelf.specs.Files.{File};
@@ -26,4 +27,11 @@ pub fn read_outcomes_are_one()
     ensures { (disk : DumpDisk) (files : List File) (a b : Outcome) → IsOutcomeOfDumps disk (Some files) a → IsOutcomeOfDumps disk (Some files) b → a ≡ b }
 {
     law_captured_dumps::dumps_are_one()
+}
+
+/// A dump and the files on the shelf decide the outcome of `identify`: there is one at most.
+pub fn identity_outcomes_are_one()
+    ensures { (dump : List ℕ) (files : List File) (a b : Outcome) → IsOutcomeOfDump dump (Some files) a → IsOutcomeOfDump dump (Some files) b → a ≡ b }
+{
+    dump_identity::identities_are_one()
 }

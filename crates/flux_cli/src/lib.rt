@@ -8,6 +8,7 @@ mod dump_words;
 mod folder;
 mod g64_disk;
 mod g64_files;
+mod identity;
 mod images;
 mod laws;
 mod map;
@@ -21,7 +22,7 @@ mod std_shelf;
 mod trial;
 mod turns;
 
-pub use laws::{outcomes_are_one, read_outcomes_are_one};
+pub use laws::{identity_outcomes_are_one, outcomes_are_one, read_outcomes_are_one};
 pub use program::run;
 pub use standard::{StdSink, StdSource};
 pub use std_shelf::StdShelf;

@@ -6,6 +6,7 @@ ghost use Rattle.flux_cli.specs.Commands.{command_for};
 ghost use Rattle.flux_cli.specs.DumpWords.{asked_disk, asked_of};
 ghost use Rattle.flux_cli.specs.FolderRuns.{on, shelf_moment};
 ghost use Rattle.flux_cli.specs.Headlines.{RunsAsExpected};
+ghost use Rattle.flux_cli.specs.IdentityRuns.{DidIdentify};
 ghost use Rattle.flux_cli.specs.ReadHeadline.{ReadsAsExpected};
 ghost use Rattle.flux_cli.specs.ReadRuns.{DidRead};
 ghost use Rattle.flux_cli.specs.Runs.{Does, RanOverSource, outside};
@@ -19,6 +20,7 @@ use crate::dump_words::{DumpsAsked, dumps_of};
 use crate::folder::{decode_folder, folder_of};
 use crate::g64_disk::G64Disk;
 use crate::g64_files::{from_file, to_file};
+use crate::identity::{identify_dump, identity_of};
 use crate::images::write;
 use crate::map::draw;
 use crate::pages::tell;
@@ -26,6 +28,7 @@ use crate::planned::{decode_captures, rescue};
 use crate::read::read;
 use crate::trial::trial;
 use crate::turns::write_turns;
+use dump_identity::IdentityRoom;
 use dump_reading::Dumps;
 use flux_base::{Memory, Sink, Source, Status, Word};
 use flux_engine::{DiskRoom, WriteRoom, good_is_right_on_disks, lines_tell_verdicts};
@@ -57,7 +60,7 @@ pub fn run<S: Source, W: Sink, N: Sink, H: Shelf>(
     // command's row states; or there was no memory to begin, and all objects are as they were. The source is
     // read only where the bytes that it gave do not tell what there is to do, so that nothing is awaited on an open pipe
     // that isn't needed. Where the words name a folder, the shelf stands in the source's place, and where a wanted file is
-    // missing, the notes say so and nothing is read; where they name dumps, the files of these are read on the shelf; else the
+    // missing, the notes say so and nothing is read; where they name dumps, or ask which disk a dump is of, the files of these are read on the shelf; else the
     // shelf is not touched.
     ensures ran { Ran words.now result
         (surroundings (outside (moment S.left S.faults source.old) (S.given source.old) (moment W.written W.faults image.old) (moment N.written N.faults notes.old))
@@ -137,7 +140,10 @@ fn run_words<S: Source, W: Sink, N: Sink, H: Shelf>(
 {
     match folder_of(words) {
         None => match dumps_of(words) {
-            None => run_over_source(alloc, words, source, image, notes),
+            None => match identity_of(words) {
+                None => run_over_source(alloc, words, source, image, notes),
+                Some(dump) => run_identity(alloc, dump, shelf, image, notes),
+            },
             Some(asked) => run_read(alloc, asked, shelf, image, notes),
         },
         Some((format, folder)) => match DiskRoom::reserve(alloc, format) {
@@ -166,6 +172,24 @@ fn run_read<W: Sink, N: Sink, H: Shelf>(
     };
     match DiskRoom::reserve(alloc, asked.format) {
         Ok(mut room) => read(&dumps, &mut room, shelf, image, notes),
+        Err(Memory) => Status::Memory,
+    }
+}
+
+/// Runs the command `identify` in a room of its own.
+fn run_identity<W: Sink, N: Sink, H: Shelf>(
+    alloc: Global,
+    dump: &Word,
+    shelf: &mut H,
+    image: &mut W,
+    notes: &mut N,
+) -> Status
+    ensures { DidIdentify dump.now result
+        (on (shelf_moment (moment H.left H.faults shelf.old) (H.given shelf.old) (H.files shelf.old)) (moment W.written W.faults image.old) (moment N.written N.faults notes.old))
+        (on (shelf_moment (moment H.left H.faults shelf.new) (H.given shelf.new) (H.files shelf.new)) (moment W.written W.faults image.new) (moment N.written N.faults notes.new)) }
+{
+    match IdentityRoom::reserve(alloc) {
+        Ok(room) => identify_dump(dump, room, shelf, image, notes),
         Err(Memory) => Status::Memory,
     }
 }

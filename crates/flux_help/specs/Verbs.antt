@@ -4,11 +4,11 @@ use Rattle.std.specs.List.{position_from, slice_get}
 use Rattle.std.specs.Option.{option_and_then}
 use Rattle.std.specs.Str.{bytes_eq}
 use Rattle.flux_help.specs.declared.verb.Verb.{Verb}
-use Rattle.flux_help.specs.declared.verb.Verb.TheVariants.{Read, DecodeFolder, DecodeSet, Rescue, Decode, Report, Map, Write, Turns, ToG64, FromG64, Trial, Help}
+use Rattle.flux_help.specs.declared.verb.Verb.TheVariants.{Identify, Read, DecodeFolder, DecodeSet, Rescue, Decode, Report, Map, Write, Turns, ToG64, FromG64, Trial, Help}
 
 -- all commands, in the order in which the help lists them
 abbrev pub verbs : List Verb
-verbs = Read ∷ DecodeFolder ∷ DecodeSet ∷ Rescue ∷ Decode ∷ Report ∷ Map ∷ Write ∷ Turns ∷ ToG64 ∷ FromG64 ∷ Trial ∷ Help ∷ []
+verbs = Identify ∷ Read ∷ DecodeFolder ∷ DecodeSet ∷ Rescue ∷ Decode ∷ Report ∷ Map ∷ Write ∷ Turns ∷ ToG64 ∷ FromG64 ∷ Trial ∷ Help ∷ []
 
 -- the first word, the line in the list of commands, the line that says which words follow, and what the command does, with an example
 pub record VerbRow : Type 0 where
@@ -18,6 +18,19 @@ pub record VerbRow : Type 0 where
   pub about : List ℕ
 
 unfoldable pub verb_row : Verb → VerbRow
+verb_row Identify = record {
+  word = codes "identify";
+  line = codes "   identify DUMP                which disk a dump is of: what each format reads of it, and the best\n";
+  usage = codes "usage: flux identify DUMP\n";
+  about =
+      codes "\n"
+      ++ codes "Reads a dump as a disk of each format, and of those of up to 42 cylinders also with --double-step. Each that has a good sector\n"
+      ++ codes "gets a line, in words that can stand behind read: how many sectors are good, and how many other names have data. The last line\n"
+      ++ codes "names the best: most good sectors, then fewest others, then fewest sectors. The exit code is 0 where that is all of the dump.\n"
+      ++ codes "\n"
+      ++ codes "Example:\n"
+      ++ codes "   flux identify dump\n";
+}
 verb_row Read = record {
   word = codes "read";
   line = codes "   read FORMAT DUMP...          one or more dumps of a disk to its image, with a report\n";
@@ -182,6 +195,7 @@ verb_of word = option_and_then (slice_get verbs) (position_from (has_word word) 
 
 -- the usage line does not name the command
 abbrev pub is_own : Verb → Bool
+is_own Identify = true
 is_own Read = true
 is_own Rescue = true
 is_own Map = true
@@ -190,6 +204,7 @@ is_own _ = false
 
 -- a format follows the word, behind its options
 abbrev pub asks_format : Verb → Bool
+asks_format Identify = false
 asks_format Turns = false
 asks_format Help = false
 asks_format _ = true

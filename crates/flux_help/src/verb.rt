@@ -6,6 +6,8 @@ ghost use Rattle.flux_help.specs.Verbs.{asks_format, has_word, is_own, verb_of, 
 /// A command, by its first word.
 #[derive(Clone, Copy, Debug, PartialEq, Eq)]
 pub enum Verb {
+    /// Which disk a dump is of.
+    Identify,
     /// The files of several dumps to an image.
     Read,
     /// A folder of track files to an image.
@@ -35,7 +37,8 @@ pub enum Verb {
 }
 
 /// All commands, in the order in which the help lists them.
-const VERBS: [Verb; 13] = [
+const VERBS: [Verb; 14] = [
+    Verb::Identify,
     Verb::Read,
     Verb::DecodeFolder,
     Verb::DecodeSet,
@@ -91,14 +94,17 @@ impl Verb {
     pub(crate) fn is_own(self) -> bool
         ensures { result ≡ is_own self }
     {
-        matches!(self, Verb::Read | Verb::Rescue | Verb::Map | Verb::Help)
+        matches!(
+            self,
+            Verb::Identify | Verb::Read | Verb::Rescue | Verb::Map | Verb::Help
+        )
     }
 
     /// Whether a format follows it, behind its options.
     pub(crate) fn asks_format(self) -> bool
         ensures { result ≡ asks_format self }
     {
-        !matches!(self, Verb::Turns | Verb::Help)
+        !matches!(self, Verb::Identify | Verb::Turns | Verb::Help)
     }
 
     #[tactic(auto, unfolding(crate::specs::Verbs::verb_row))]
@@ -109,6 +115,19 @@ impl Verb {
         ensures about { result.about.now ≡ (verb_row self).about }
     {
         match self {
+            Verb::Identify => Texts {
+                word: "identify",
+                line: "   identify DUMP                which disk a dump is of: what each format reads of it, and the best\n",
+                usage: "usage: flux identify DUMP\n",
+                about: "
+Reads a dump as a disk of each format, and of those of up to 42 cylinders also with --double-step. Each that has a good sector
+gets a line, in words that can stand behind read: how many sectors are good, and how many other names have data. The last line
+names the best: most good sectors, then fewest others, then fewest sectors. The exit code is 0 where that is all of the dump.
+
+Example:
+   flux identify dump
+",
+            },
             Verb::Read => Texts {
                 word: "read",
                 line: "   read FORMAT DUMP...          one or more dumps of a disk to its image, with a report\n",

@@ -85,6 +85,9 @@ const TOLD: &[(&[&str], &str, u64)] = &[
         "no format ibm720; nearest: ibm-720\n",
         3,
     ),
+    (&["identify"], "usage: flux identify DUMP\n", 1),
+    (&["identify", ""], "usage: flux identify DUMP\n", 1),
+    (&["identify", "a", "b"], "usage: flux identify DUMP\n", 1),
     (&["read"], READ, 1),
     (&["read", "amiga"], READ, 1),
     // The format's word is the first that is no option.
@@ -167,7 +170,15 @@ const NO_FILES: Row = Row {
     ..TURNS
 };
 
+/// The same of a dump whose disk is asked for.
+const NO_DISK: Row = Row {
+    name: "which disk a dump without files is of",
+    words: &["identify", "dump"],
+    ..NO_FILES
+};
+
 const ROWS: &[Row] = &[
+    NO_DISK,
     NO_FILES,
     Row {
         failing: Failing {

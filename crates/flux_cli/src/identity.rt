@@ -1,0 +1,69 @@
+//! Which disk a dump is of.
+
+ghost use Rattle.std.specs.Prelude.{◌≡◌, [], ◌∷◌};
+ghost use Rattle.std.specs.Option.{option_map};
+ghost use Rattle.flux_base.specs.Moments.{moment};
+ghost use Rattle.flux_cli.specs.FolderRuns.{on, shelf_moment};
+ghost use Rattle.flux_cli.specs.IdentityRuns.{DidIdentify, identity_status};
+ghost use Rattle.flux_cli.specs.IdentityWords.{NamesIdentity};
+
+use dump_identity::{Finding, IdentityFault, IdentityRoom, identify};
+use flux_base::{Sink, Status, Word};
+use sector_report::{no_files_line, write_line};
+use track_shelf::Shelf;
+
+/// The dump that the words name, if they ask which disk it is of: `identify DUMP`.
+pub fn identity_of(words: &[Word]) -> Option<&Word>
+    ensures { NamesIdentity words.now (option_map (λ dump. dump.now) result) }
+{
+    match words {
+        [verb, dump] => named_dump(verb.bytes(), dump),
+        _ => None,
+    }
+}
+
+/// The same of two words.
+fn named_dump<'a>(verb: &[u8], dump: &'a Word) -> Option<&'a Word>
+    ensures { NamesIdentity (verb.now ∷ dump.now ∷ []) (option_map (λ dump. dump.now) result) }
+{
+    if verb != b"identify".as_slice() {
+        return None;
+    }
+    if dump.bytes().is_empty() {
+        return None;
+    }
+    Some(dump)
+}
+
+/// Says which disk a dump is of: the lines go to `image`. Notes say that it has no file of any track.
+pub fn identify_dump<H: Shelf, W: Sink, N: Sink>(
+    dump: &Word,
+    room: IdentityRoom,
+    shelf: &mut H,
+    image: &mut W,
+    notes: &mut N,
+) -> Status
+    ensures { DidIdentify dump.now result
+        (on (shelf_moment (moment H.left H.faults shelf.old) (H.given shelf.old) (H.files shelf.old)) (moment W.written W.faults image.old) (moment N.written N.faults notes.old))
+        (on (shelf_moment (moment H.left H.faults shelf.new) (H.given shelf.new) (H.files shelf.new)) (moment W.written W.faults image.new) (moment N.written N.faults notes.new)) }
+{
+    match identify(dump, room, shelf, image) {
+        Ok(best) => status_of(&best),
+        Err(IdentityFault::NoFiles) => match write_line(notes, &no_files_line(0)) {
+            Ok(()) => Status::Refused,
+            Err(_) => Status::NotesFault,
+        },
+        Err(IdentityFault::ShelfFault) => Status::ShelfFault,
+        Err(IdentityFault::LinesFault) => Status::ImageFault,
+    }
+}
+
+/// Whether one disk explains all of the dump.
+fn status_of(best: &Option<Finding>) -> Status
+    ensures { result ≡ identity_status best.now }
+{
+    match best {
+        Some(finding) if finding.is_complete() => Status::AllGood,
+        _ => Status::NotAllGood,
+    }
+}
