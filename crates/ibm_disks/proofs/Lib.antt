@@ -1,3 +1,4 @@
 mod Digits
 mod Splits
 mod Tracks
+mod Printed

@@ -25,6 +25,13 @@ chosen false b c o x is = absurd (cc)
 chosen true false c o x is = absurd (cc)
 chosen true true false o x is = absurd (cc)
 
+-- and it is what was chosen
+pub chosen-is : {X : Type 0} (a b c : Bool) (o : Option X) (x : X) → (if a && b && c then o else None) ≡ Some x → o ≡ Some x
+chosen-is true true true o x is = is
+chosen-is false b c o x is = absurd (cc)
+chosen-is true false c o x is = absurd (cc)
+chosen-is true true false o x is = absurd (cc)
+
 -- numbers that have a track are small
 pub few-sectors : (rate : Rate) (sectors first : ℕ) (size : SectorSize) (track : TrackNumbers) → track_of rate sectors first size ≡ Some track
     → (1 ≤ sectors) × (sectors ≤ 32) × (first + sectors ≤ 256)
@@ -113,7 +120,7 @@ one-end text b f b' f' low first_low low' first_low' (inr short) (inr short') =
     (decimal-one b b' low low' (sym short.0 ∙ short'.0), short.1 ∙ sym short'.1)
 
 -- numbers that agree in all parts are one
-same-numbers : (m n : DiskNumbers) → m.rate ≡ n.rate → m.cylinders ≡ n.cylinders → m.heads ≡ n.heads → m.sectors ≡ n.sectors
+pub same-numbers : (m n : DiskNumbers) → m.rate ≡ n.rate → m.cylinders ≡ n.cylinders → m.heads ≡ n.heads → m.sectors ≡ n.sectors
     → m.sector_bytes ≡ n.sector_bytes → m.first_sector ≡ n.first_sector → m ≡ n
 same-numbers m n rate cylinders heads sectors bytes first =
     ap (λ (r : Rate). numbers r m.cylinders m.heads m.sectors m.sector_bytes m.first_sector) rate
@@ -165,7 +172,7 @@ no-disk word n None written short none = λ disk is.
 no-disk word n (Some disk) written short none = tt
 
 -- numbers have one track
-some-one : (a b : TrackNumbers) → Some a ≡ Some b → a ≡ b
+pub some-one : (a b : TrackNumbers) → Some a ≡ Some b → a ≡ b
 some-one a b same = cc
 
 one-track : (n : DiskNumbers) (a b : TrackNumbers) → HasTrack n a → HasTrack n b → a ≡ b

@@ -11,7 +11,7 @@ use Rattle.ibm_disks.specs.declared.word.DiskNumbers.{DiskNumbers}
 use Rattle.ibm_disks.specs.Numbers.{FM_AROUND, fm_before, mfm_around, mfm_before, size_of, used}
 use Rattle.ibm_disks.specs.Plans.{FillsTrackOf, density_of, track_bytes, track_of}
 use Rattle.ibm_disks.specs.Tracks.{pc_9}
-use Rattle.ibm_disks.specs.Words.{IsWordOf}
+use Rattle.ibm_disks.specs.Words.{IsWordOf, numbers_word}
 
 -- whether numbers fill a track, as `FillTrack` says it, and one of the recording that a density has
 abbrev pub fill_track : (before around : ℕ) → TrackNumbers → Bool
@@ -51,6 +51,10 @@ rate_of disk = (sound disk).rate
 abbrev pub track_of_disk : IbmDisk → TrackNumbers
 track_of_disk disk = (sound disk).track
 
+-- the word that is printed of a disk
+unfoldable pub disk_word : IbmDisk → List ℕ
+disk_word disk = numbers_word (rate_of disk) (cylinders_of disk) (heads_of disk) (track_of_disk disk)
+
 -- what holds of every disk
 pub record HasDisk (disk : IbmDisk) : Type 0 where
   pub some_cylinders : 1 ≤ cylinders_of disk
@@ -86,6 +90,10 @@ pub record IsWordOfDisk (word : List ℕ) (disk : IbmDisk) : Type 0 where
 -- a word names one disk
 abbrev pub WordsNameDisks : Type 0
 WordsNameDisks = (word : List ℕ) (a b : IbmDisk) → IsWordOfDisk word a → IsWordOfDisk word b → a ≡ b
+
+-- and where it names one, so does the word that is printed of it
+abbrev pub PrintedWordsNameDisks : Type 0
+PrintedWordsNameDisks = (word : List ℕ) (disk : IbmDisk) → IsWordOfDisk word disk → IsWordOfDisk (disk_word disk) disk
 
 -- every value means a disk
 abbrev pub AllHaveDisks : Type 0

@@ -1,9 +1,11 @@
 -- How a word writes the numbers of a disk (own): the density and the rate, then cylinders, heads, sectors and the bytes of a sector, with
 -- `x` between them, and `@` and the number of the first sector where that is not 1. All numbers are decimal, without zeros before them.
-use Rattle.std.specs.Prelude.{◌≡◌, ◌≢◌, ◌⊎◌, ℕ, ◌<◌, List, [], ◌∷◌, ◌++◌, codes, decimal}
+use Rattle.std.specs.Prelude.{◌≡◌, ◌≢◌, ◌⊎◌, ℕ, ◌<◌, List, [], ◌∷◌, ◌++◌, ◌&&◌, ◌||◌, Bool, codes, decimal, get_or, if◌then◌else◌, nat_eq}
 use Rattle.ibm_disks.specs.declared.rate.Rate.{Rate}
 use Rattle.ibm_disks.specs.declared.rate.Rate.TheVariants.{Double, High, HighAt360, Single, SingleAt360}
+use Rattle.ibm_disks.specs.declared.track_numbers.TrackNumbers.{TrackNumbers}
 use Rattle.ibm_disks.specs.declared.word.DiskNumbers.{DiskNumbers}
+use Rattle.ibm_disks.specs.Numbers.{size_of}
 
 -- the two parts of a word that name a rate
 abbrev pub density_word : Rate → List ℕ
@@ -43,6 +45,21 @@ pub record IsWordOf (word : List ℕ) (n : DiskNumbers) : Type 0 where
   pub rest : List ℕ
   pub is : word ≡ density_word n.rate ++ 45 ∷ (rate_word n.rate ++ 45 ∷ rest)
   pub behind : AreBehindRate n.rate rest n
+
+-- the word as it is printed: the number of the first sector where it is not 1
+abbrev pub first_word : ℕ → List ℕ
+first_word first = if nat_eq first 1 then [] else 64 ∷ decimal first
+
+abbrev pub numbers_word : Rate → (cylinders heads : ℕ) → TrackNumbers → List ℕ
+numbers_word rate cylinders heads track =
+    density_word rate ++ 45 ∷ (rate_word rate ++ 45 ∷ (decimal cylinders ++ 120 ∷ (decimal heads ++ 120 ∷ (decimal track.sectors ++ 120 ∷ (decimal (size_of track.size)
+    ++ first_word track.first_sector)))))
+
+-- a word begins as those do that write numbers
+abbrev pub begins_numbers : List ℕ → Bool
+begins_numbers word =
+    (nat_eq (get_or word 0 0) 102 && nat_eq (get_or word 1 0) 109 && nat_eq (get_or word 2 0) 45)
+    || (nat_eq (get_or word 0 0) 109 && nat_eq (get_or word 1 0) 102 && nat_eq (get_or word 2 0) 109 && nat_eq (get_or word 3 0) 45)
 
 -- numbers of at most four digits
 pub record AreShort (n : DiskNumbers) : Type 0 where

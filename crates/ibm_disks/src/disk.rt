@@ -1,9 +1,10 @@
 ghost use Rattle.std.specs.Prelude.{◌≡◌, IfNone, IfSome};
-ghost use Rattle.ibm_disks.specs.Disks.{AllHaveDisks, HasTrack, IsDiskOf, IsWordOfDisk, WordsNameDisks, are_few, cylinders_of, fill_at, heads_of, is_disk, rate_of, sound, track_of_disk};
+ghost use Rattle.ibm_disks.specs.Disks.{AllHaveDisks, HasTrack, IsDiskOf, IsWordOfDisk, PrintedWordsNameDisks, WordsNameDisks, are_few, cylinders_of, disk_word, fill_at, heads_of, is_disk, rate_of, sound, track_of_disk};
 ghost use Rattle.ibm_disks.specs.Plans.{FillsTrackOf, density_of};
 
 use crate::rate::{Density, Rate};
 use crate::sector_size::SectorSize;
+use crate::text::{DiskWord, disk_word};
 use crate::track_numbers::TrackNumbers;
 use crate::word::DiskNumbers;
 
@@ -102,6 +103,14 @@ impl IbmDisk {
         self.sound().track
     }
 
+    /// The word that writes it, where one does.
+    #[tactic(auto, unfolding(crate::specs::Disks::disk_word))]
+    pub fn word(self) -> DiskWord
+        ensures { result.bytes ≡ disk_word self }
+    {
+        disk_word(self.rate(), self.cylinders(), self.heads(), self.track())
+    }
+
     /// The disk that the value means: itself, wherever one was made.
     #[tactic(auto, unfolding(crate::specs::Disks::sound))]
     fn sound(self) -> IbmDisk
@@ -171,9 +180,10 @@ fn track_of(numbers: DiskNumbers) -> Option<TrackNumbers>
     TrackNumbers::of_disk(numbers.rate, sectors, first_sector, size)
 }
 
-/// A word names one disk.
+/// A word names one disk, and where one does, so does the word that is printed of it.
 pub fn words_name_disks()
-    ensures { WordsNameDisks }
+    ensures one { WordsNameDisks }
+    ensures printed { PrintedWordsNameDisks }
 {}
 
 /// Every value has the numbers of a disk.

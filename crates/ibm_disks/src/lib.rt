@@ -6,11 +6,13 @@ mod disk;
 mod plan;
 mod rate;
 mod sector_size;
+mod text;
 mod track_numbers;
 mod word;
 
 pub use disk::{IbmDisk, disks_have_tracks, words_name_disks};
 pub use rate::{Density, Rate};
 pub use sector_size::SectorSize;
+pub use text::DiskWord;
 pub use track_numbers::{LeadIn, TrackNumbers};
 pub use word::DiskNumbers;
