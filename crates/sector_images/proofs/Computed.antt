@@ -2,19 +2,26 @@
 use Rattle.std.proofs.Common.{◌≡◌, ℕ, suc, ◌+◌, ◌*◌, ◌<◌, ◌≤◌, ◌^◌, Bool, true, length, map, get_or, slice_get, sum_by, take, Some, refl, subst, sym, ◌∙◌, ap, arith}
 use Rattle.std.specs.List.{list_all, range_with_len}
 use Rattle.std.specs.Prelude.{nat_eq, nat_lt}
-use Rattle.std.proofs.Math.Nat.{mul-le-mul_right, suc-mul, zero-div, zero-mod}
-use Rattle.std.proofs.lemmas.Bool.{eqb-true, ltb-true}
+use Rattle.std.proofs.Math.Nat.{mul-le-mul_left, mul-le-mul_right, suc-mul, zero-div, zero-mod}
+use Rattle.std.proofs.lemmas.Bool.{eq-eqb, eqb-true, lt-ltb, ltb-true}
 use Rattle.std.proofs.lemmas.Nat.{div-mul-add, mod-mul-add}
 use Rattle.std.proofs.lemmas.Option.{get_or_from_slice_get, slice_get-get_or, slice_get_within}
 use Rattle.flux_base.specs.Bounds.{MOST_SECTOR_BYTES, MOST_TRACK_BYTES}
 use Rattle.flux_base.specs.declared.track.TrackId.{TrackId}
+use Rattle.ibm_disks.specs.Disks.{cylinders_of, heads_of, track_of_disk}
+use Rattle.ibm_disks.specs.Numbers.{size_of}
+use Rattle.ibm_disks.specs.declared.disk.IbmDisk.{IbmDisk}
+use Rattle.ibm_disks.specs.lemmas.DiskLaws.{all_have_disks}
+use Rattle.ibm_disks.specs.lemmas.NumberLaws.{size-most}
 use Rattle.sector_images.specs.declared.format.Format.{Format}
+use Rattle.sector_images.specs.declared.format.Format.TheVariants.{Numbered}
 use Rattle.sector_images.specs.declared.format.TrackOrder.{TrackOrder}
 use Rattle.sector_images.specs.declared.format.TrackOrder.TheVariants.{ByCylinder, ByHead}
 use Rattle.sector_images.specs.Formats.{formats, row, track_order, zone}
-use Rattle.sector_images.specs.Places.{ImagesAreSmall, IsTrack, TracksAreFew, TracksKeepBounds, tracks, bytes_of, place_of, sectors_before, sectors_before_track}
-use Rattle.sector_images.proofs.EachFormat.{each_below, each_format}
+use Rattle.sector_images.specs.Places.{FormatsHaveTracks, ImagesAreSmall, IsTrack, TracksAreFew, TracksKeepBounds, tracks, bytes_of, place_of, sectors_before, sectors_before_track}
+use Rattle.sector_images.proofs.EachFormat.{each_below, each_format, each_named}
 use Rattle.sector_images.proofs.Grids.{weigh-within}
+use Rattle.sector_images.proofs.Numbered.{before_few, before_numbered, bounds_of, image_few, tracks_few}
 use Rattle.sector_images.proofs.Orders.{before_track, bytes_before, bytes_of_all, length_tracks, number_within, numbered, track_of}
 
 abbrev first_track : TrackId
@@ -40,14 +47,14 @@ two_test = refl
 -- there is a cylinder at least
 some_cylinders : (f : Format) → 1 ≤ (row f).cylinders
 some_cylinders f =
-    let some : 0 < (row f).cylinders = ltb-true _ _ (each_format (λ g. nat_lt 0 (row g).cylinders) some_cylinders_test f) in
+    let some : 0 < (row f).cylinders = ltb-true _ _ (each_format (λ g. nat_lt 0 (row g).cylinders) some_cylinders_test (λ d. lt-ltb _ _ (let has = all_have_disks d in omega (arith, has.some_cylinders))) f) in
     omega (arith, some)
 
 -- each cylinder has a head at least, and at most two
 pub some_heads : (f : Format) → (1 ≤ (row f).heads) × ((row f).heads ≤ 2)
 some_heads f =
-    let some : 0 < (row f).heads = ltb-true _ _ (each_format (λ g. nat_lt 0 (row g).heads) some_test f) in
-    let two : (row f).heads < 3 = ltb-true _ _ (each_format (λ g. nat_lt (row g).heads 3) two_test f) in
+    let some : 0 < (row f).heads = ltb-true _ _ (each_format (λ g. nat_lt 0 (row g).heads) some_test (λ d. lt-ltb _ _ (let has = all_have_disks d in omega (arith, has.some_heads))) f) in
+    let two : (row f).heads < 3 = ltb-true _ _ (each_format (λ g. nat_lt (row g).heads 3) two_test (λ d. lt-ltb _ _ (let has = all_have_disks d in omega (arith, has.few_heads))) f) in
     (omega (arith, some), omega (arith, two))
 
 sum_test : list_all (λ f. nat_eq (row f).image_size (sectors_before f (row f).cylinders * (row f).heads * (row f).sector_size)) formats ≡ true
@@ -56,7 +63,9 @@ sum_test = refl
 
 pub size_is_sum : (f : Format) → (row f).image_size ≡ sum_by (bytes_of f) (tracks f)
 size_is_sum f =
-    eqb-true _ _ (each_format (λ g. nat_eq (row g).image_size (sectors_before g (row g).cylinders * (row g).heads * (row g).sector_size)) sum_test f)
+    eqb-true _ _
+    (each_format (λ g. nat_eq (row g).image_size (sectors_before g (row g).cylinders * (row g).heads * (row g).sector_size)) sum_test
+    (λ d. eq-eqb _ _ (ap (λ (n : ℕ). n * heads_of d * size_of (track_of_disk d).size) (sym (before_numbered d (cylinders_of d))))) f)
     ∙ sym (bytes_of_all f (track_order f) (some_cylinders f) (some_heads f).0)
 
 pub track_number : (f : Format) → (row f).cylinders * (row f).heads ≡ length (tracks f)
@@ -66,14 +75,20 @@ small_test : list_all (λ f. nat_lt (row f).image_size (2 ^ 32)) formats ≡ tru
 small_test = refl
 
 pub image_small : (f : Format) → (row f).image_size < 2 ^ 32
-image_small f = ltb-true _ _ (each_format (λ g. nat_lt (row g).image_size (2 ^ 32)) small_test f)
+image_small f = ltb-true _ _ (each_format (λ g. nat_lt (row g).image_size (2 ^ 32)) small_test (λ d. lt-ltb _ _ (omega (arith, image_few d))) f)
+
+-- there is a track at least
+pub have_tracks : FormatsHaveTracks
+have_tracks f =
+    let some : (row f).cylinders * 1 ≤ (row f).cylinders * (row f).heads = mul-le-mul_left (row f).cylinders (some_heads f).0 in
+    omega (arith, some, some_cylinders f, track_number f)
 
 few_test : list_all (λ f. nat_lt ((row f).cylinders * (row f).heads) 1001) formats ≡ true
 few_test = refl
 
 pub few_tracks : TracksAreFew
 few_tracks f =
-    let few : (row f).cylinders * (row f).heads < 1001 = ltb-true _ _ (each_format (λ g. nat_lt ((row g).cylinders * (row g).heads) 1001) few_test f) in
+    let few : (row f).cylinders * (row f).heads < 1001 = ltb-true _ _ (each_format (λ g. nat_lt ((row g).cylinders * (row g).heads) 1001) few_test (λ d. lt-ltb _ _ (omega (arith, tracks_few d))) f) in
     omega (arith, few, track_number f)
 
 before_small_test : list_all (λ f. list_all (λ b. b) (map (λ c. nat_lt (sectors_before f c) 65536) (range_with_len 0 (suc (row f).cylinders)))) formats ≡ true
@@ -82,10 +97,11 @@ before_small_test = refl
 
 -- few sectors stand before a cylinder
 pub few_before : (f : Format) (c : ℕ) → c ≤ (row f).cylinders → sectors_before f c < 65536
+few_before (Numbered disk) c below = before_few disk c below
 few_before f c below =
     ltb-true _ _
     (each_below (λ n. nat_lt (sectors_before f n) 65536) (suc (row f).cylinders)
-    (each_format (λ g. list_all (λ b. b) (map (λ n. nat_lt (sectors_before g n) 65536) (range_with_len 0 (suc (row g).cylinders)))) before_small_test f) c
+    (each_named (λ g. list_all (λ b. b) (map (λ n. nat_lt (sectors_before g n) 65536) (range_with_len 0 (suc (row g).cylinders)))) before_small_test f refl) c
     (omega (arith, below)))
 
 track_made : (t : TrackId) (c h : ℕ) → t.cylinder ≡ c → t.head ≡ h → t ≡ record { cylinder = c; head = h }
@@ -175,48 +191,54 @@ first_cylinder cylinders heads ByHead = zero-mod cylinders
 abbrev cylinders_pass : (Format → ℕ → Bool) → Format → Bool
 cylinders_pass test f = list_all (λ b. b) (map (test f) (range_with_len 0 (row f).cylinders))
 
-bounds : (test : Format → ℕ → Bool) → list_all (cylinders_pass test) formats ≡ true → (f : Format) (t : TrackId) → IsTrack f t → test f t.cylinder ≡ true
-bounds test all f t known = each_below (test f) (row f).cylinders (each_format (cylinders_pass test) all f) t.cylinder known.0
+bounds : (test : Format → ℕ → Bool) → list_all (cylinders_pass test) formats ≡ true
+    → ((disk : IbmDisk) (c : ℕ) → c < cylinders_of disk → test (Numbered disk) c ≡ true) → (f : Format) (t : TrackId) → IsTrack f t → test f t.cylinder ≡ true
+bounds test all numbered (Numbered disk) t known = numbered disk t.cylinder known.0
+bounds test all numbered f t known = each_below (test f) (row f).cylinders (each_named (cylinders_pass test) all f refl) t.cylinder known.0
 
 pub keep_bounds : TracksKeepBounds
 keep_bounds f t known = record {
-  cylinder = ltb-true _ _ (bounds (λ g c. nat_lt c 100) refl f t known);
+  cylinder = ltb-true _ _ (bounds (λ g c. nat_lt c 100) refl (λ d c below. lt-ltb _ _ (let has = all_have_disks d in omega (arith, has.few_cylinders, below))) f t known);
   head = (let two = some_heads f in omega (arith, two.1, known.1));
+  some =
+      (let least : 0 < (zone f t.cylinder).sectors =
+      ltb-true _ _ (bounds (λ g c. nat_lt 0 (zone g c).sectors) refl (λ d c below. lt-ltb _ _ (let has = bounds_of d in omega (arith, has.some))) f t known) in
+      omega (arith, least));
   sectors =
-      (let least : (zone f t.cylinder).sectors < 101 = ltb-true _ _ (bounds (λ g c. nat_lt (zone g c).sectors 101) refl f t known) in
+      (let least : (zone f t.cylinder).sectors < 101 = ltb-true _ _ (bounds (λ g c. nat_lt (zone g c).sectors 101) refl (λ d c below. lt-ltb _ _ (let has = bounds_of d in omega (arith, has.few.0))) f t known) in
       omega (arith, least));
   numbers =
-      (let least : (row f).first_sector + (zone f t.cylinder).sectors < 257 = ltb-true _ _ (bounds (λ g c. nat_lt ((row g).first_sector + (zone g c).sectors) 257) refl f t known) in
+      (let least : (row f).first_sector + (zone f t.cylinder).sectors < 257 = ltb-true _ _ (bounds (λ g c. nat_lt ((row g).first_sector + (zone g c).sectors) 257) refl (λ d c below. lt-ltb _ _ (let has = bounds_of d in omega (arith, has.numbers))) f t known) in
       omega (arith, least));
   size =
       (let least : (row f).sector_size < MOST_SECTOR_BYTES + 1 =
-      ltb-true _ _ (bounds (λ g c. nat_lt (row g).sector_size (MOST_SECTOR_BYTES + 1)) refl f t known) in
+      ltb-true _ _ (bounds (λ g c. nat_lt (row g).sector_size (MOST_SECTOR_BYTES + 1)) refl (λ d c below. lt-ltb _ _ (let most = size-most (track_of_disk d).size in omega (arith, most))) f t known) in
       omega (arith, least));
   bytes =
       (let least : (zone f t.cylinder).sectors * (row f).sector_size < MOST_TRACK_BYTES + 1 =
-      ltb-true _ _ (bounds (λ g c. nat_lt ((zone g c).sectors * (row g).sector_size) (MOST_TRACK_BYTES + 1)) refl f t known) in
+      ltb-true _ _ (bounds (λ g c. nat_lt ((zone g c).sectors * (row g).sector_size) (MOST_TRACK_BYTES + 1)) refl (λ d c below. lt-ltb _ _ (let has = bounds_of d in omega (arith, has.few.1))) f t known) in
       omega (arith, least));
   most = λ first at.
       let least : (zone f t.cylinder).sectors < (zone f 0).sectors + 1 =
-      ltb-true _ _ (bounds (λ g c. nat_lt (zone g c).sectors ((zone g 0).sectors + 1)) refl f t known) in
+      ltb-true _ _ (bounds (λ g c. nat_lt (zone g c).sectors ((zone g 0).sectors + 1)) refl (λ d c below. lt-ltb _ _ (omega arith)) f t known) in
       let below : 0 < length (tracks f) = slice_get_within (tracks f) 0 first at in
       let is : (zone f 0).sectors ≡ (zone f first.cylinder).sectors =
       ap (λ (n : ℕ). (zone f n).sectors) (sym (first_cylinder (row f).cylinders (row f).heads (track_order f)))
       ∙ ap (λ (u : TrackId). (zone f u.cylinder).sectors) (sym (is_counted f 0 below) ∙ get_or_from_slice_get (tracks f) 0 first first_track at) in
       omega (arith, least, is);
   shortest_cell =
-      (let least : 16383 < (zone f t.cylinder).nominal = ltb-true _ _ (bounds (λ g c. nat_lt 16383 (zone g c).nominal) refl f t known) in
+      (let least : 16383 < (zone f t.cylinder).nominal = ltb-true _ _ (bounds (λ g c. nat_lt 16383 (zone g c).nominal) refl (λ d c below. lt-ltb _ _ (let has = bounds_of d in omega (arith, has.shortest_cell))) f t known) in
       omega (arith, least));
   longest_cell =
-      (let least : (zone f t.cylinder).nominal < 131073 = ltb-true _ _ (bounds (λ g c. nat_lt (zone g c).nominal 131073) refl f t known) in
+      (let least : (zone f t.cylinder).nominal < 131073 = ltb-true _ _ (bounds (λ g c. nat_lt (zone g c).nominal 131073) refl (λ d c below. lt-ltb _ _ (let has = bounds_of d in omega (arith, has.longest_cell))) f t known) in
       omega (arith, least));
   shortest_ring =
-      (let least : 32767 < (zone f t.cylinder).ring_cells = ltb-true _ _ (bounds (λ g c. nat_lt 32767 (zone g c).ring_cells) refl f t known) in
+      (let least : 32767 < (zone f t.cylinder).ring_cells = ltb-true _ _ (bounds (λ g c. nat_lt 32767 (zone g c).ring_cells) refl (λ d c below. lt-ltb _ _ (let has = bounds_of d in omega (arith, has.shortest))) f t known) in
       omega (arith, least));
   longest_ring =
-      (let least : (zone f t.cylinder).ring_cells < 262145 = ltb-true _ _ (bounds (λ g c. nat_lt (zone g c).ring_cells 262145) refl f t known) in
+      (let least : (zone f t.cylinder).ring_cells < 262145 = ltb-true _ _ (bounds (λ g c. nat_lt (zone g c).ring_cells 262145) refl (λ d c below. lt-ltb _ _ (let has = bounds_of d in omega (arith, has.longest))) f t known) in
       omega (arith, least));
 }
 
 pub small_images : ImagesAreSmall
-small_images f = ltb-true _ _ (each_format (λ g. nat_lt (row g).image_size 4194304) refl f)
+small_images f = ltb-true _ _ (each_format (λ g. nat_lt (row g).image_size 4194304) refl (λ d. lt-ltb _ _ (omega (arith, image_few d))) f)

@@ -5,3 +5,4 @@ pub mod Computed
 pub mod Slots
 pub mod Inside
 pub mod Words
+mod Numbered

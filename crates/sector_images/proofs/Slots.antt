@@ -46,7 +46,7 @@ each_order : (test : List ℕ → ℕ → Bool) → list_all (orders_pass test) 
 each_order test all f order is n below =
     let passes : list_all (λ b. b) (map (test order) (range_with_len 0 16)) ≡ true =
     sym (ap (λ (o : Option (List ℕ)). unwrap_or (option_map (λ (xs : List ℕ). list_all (λ b. b) (map (test xs) (range_with_len 0 16))) o) true) is)
-    ∙ each_format (orders_pass test) all f in
+    ∙ each_format (orders_pass test) all (λ d. refl) f in
     each_below (test order) 16 passes n below
 
 below_test : list_all (orders_pass (λ order s. nat_lt (get_or order s 0) 16)) formats ≡ true
@@ -76,7 +76,7 @@ are_sixteen : (f : Format) (order : List ℕ) (cylinder : ℕ) → (row f).order
 are_sixteen f order cylinder is =
     let test : (nat_eq (row f).first_sector 0 && nat_eq (zone f cylinder).sectors 16) ≡ true =
     sym (ap (λ (o : Option (List ℕ)). unwrap_or (option_map (λ (xs : List ℕ). nat_eq (row f).first_sector 0 && nat_eq (zone f cylinder).sectors 16) o) true) is)
-    ∙ each_format (sixteen cylinder) (sixteen_test cylinder) f in
+    ∙ each_format (sixteen cylinder) (sixteen_test cylinder) (λ d. refl) f in
     let both = and_both (nat_eq (row f).first_sector 0) (nat_eq (zone f cylinder).sectors 16) test in
     (eqb-true _ _ both.0, eqb-true _ _ both.1)
 

@@ -1,75 +1,176 @@
 -- The words of the formats.
-use Rattle.std.specs.Prelude.{◌≡◌, ◌<◌, ℕ, suc, ◌+◌, Bool, true, false, cond, not, drop, find, get_or, length, List, [], ◌∷◌, ◌≢◌, MatchOption, nat_eq, option_map, slice_get, unwrap_or, Option, Some, None, refl}
+use Rattle.std.specs.Prelude.{◌≡◌, ◌<◌, ◌≤◌, ◌++◌, ◌&&◌, ℕ, suc, ◌+◌, Bool, true, false, cond, not, drop, find, get_or, length, List, [], ◌∷◌, ◌≢◌, MatchOption, nat_eq, nat_le, option_map, slice_get, unwrap_or, Option, Some, None, refl}
 use Rattle.std.specs.List.{list_all, position}
 use Rattle.std.specs.Str.{bytes_eq}
-use Rattle.std.proofs.Common.{ap, arith, sym, subst, ◌∙◌}
+use Rattle.std.proofs.Common.{ap, arith, lit≤, sym, subst, ◌∙◌}
 use Rattle.std.proofs.Math.Seq.{drop-cons}
-use Rattle.std.proofs.lemmas.Bool.{eqb-true}
+use Rattle.std.proofs.lemmas.Bool.{eqb-true, leb-true}
 use Rattle.std.proofs.lemmas.Slice.Eq.{bytes_eq-Decides}
 use Rattle.std.proofs.lemmas.Option.{slice_get-get_or}
-use Rattle.sector_images.specs.Formats.{WordsNameFormats, formats, is_listed, row}
+use Rattle.ibm_disks.specs.Disks.{IsWordOfDisk, PrintedWordsNameDisks, WordsNameDisks}
+use Rattle.ibm_disks.specs.Words.{begins_numbers, density_word, rate_word}
+use Rattle.ibm_disks.specs.declared.disk.IbmDisk.{IbmDisk}
+use Rattle.ibm_disks.specs.declared.rate.Rate.{Rate}
+use Rattle.ibm_disks.specs.declared.rate.Rate.TheVariants.{Double, High, HighAt360, Single, SingleAt360}
+use Rattle.sector_images.specs.Formats.{IsWordOfFormat, PrintedWordsNameFormats, WordsBeginWithLetters, WordsNameFormats, formats, has_name, number_of, row}
 use Rattle.sector_images.specs.declared.format.Format.{Format}
-use Rattle.sector_images.specs.declared.format.Format.TheVariants.{Ibm3740}
-use Rattle.sector_images.proofs.EachFormat.{each_format}
+use Rattle.sector_images.specs.declared.format.Format.TheVariants.{Ibm3740, Numbered}
+use Rattle.sector_images.proofs.EachFormat.{each_named}
 
--- the first format of this word, by its number in the list of all formats
+-- the first format of this name, by its number in the list of all formats that have one
 abbrev named : List ℕ → Option ℕ
 named word = position (λ f. bytes_eq (row f).word word) formats
 
 abbrev is_number : Option ℕ → ℕ → Bool
 is_number found number = unwrap_or (option_map (λ k. nat_eq k number) found) false
 
-first_test : list_all (λ f. is_number (named (row f).word) (is_listed f).0) formats ≡ true
-unfolding is_listed
+abbrev has_number : Format → Bool
+has_number f = is_number (named (row f).word) (number_of f)
+
+first_test : list_all has_number formats ≡ true
 first_test = refl
 
 one_number : (found : Option ℕ) (m n : ℕ) → is_number found m ≡ true → is_number found n ≡ true → m ≡ n
 one_number None m n first second = absurd (cc)
 one_number (Some k) m n first second = sym (eqb-true k m first) ∙ eqb-true k n second
 
-listed_at : (f : Format) → slice_get formats (is_listed f).0 ≡ Some f
-listed_at f = slice_get-get_or formats (is_listed f).0 f (is_listed f).1 ∙ ap Some (is_listed f).2
+number_below : (f : Format) → has_name f ≡ true → number_of f < length formats
+number_below (Numbered disk) known = absurd (cc)
+number_below f known = omega arith
+
+read_at : (f : Format) → has_name f ≡ true → get_or formats (number_of f) f ≡ f
+read_at (Numbered disk) known = absurd (cc)
+read_at f known = refl
+
+listed_at : (f : Format) → has_name f ≡ true → slice_get formats (number_of f) ≡ Some f
+listed_at f known = slice_get-get_or formats (number_of f) f (number_below f known) ∙ ap Some (read_at f known)
 
 some_same : (f g : Format) → Some f ≡ Some g → f ≡ g
 some_same f g same = cc
 
-pub words_name_formats : WordsNameFormats
-words_name_formats f g same =
-    let mine = each_format (λ h. is_number (named (row h).word) (is_listed h).0) first_test f in
-    let other = each_format (λ h. is_number (named (row h).word) (is_listed h).0) first_test g in
-    let number : (is_listed f).0 ≡ (is_listed g).0 =
-    one_number (named (row f).word) (is_listed f).0 (is_listed g).0 mine
-    (subst (λ (word : List ℕ). is_number (named word) (is_listed g).0 ≡ true) (sym same) other) in
-    some_same f g (sym (listed_at f) ∙ ap (slice_get formats) number ∙ listed_at g)
+-- no two names are the same
+one_named : (f g : Format) → has_name f ≡ true → has_name g ≡ true → (row f).word ≡ (row g).word → f ≡ g
+one_named f g first second same =
+    let mine = each_named has_number first_test f first in
+    let other = each_named has_number first_test g second in
+    let number : number_of f ≡ number_of g =
+    one_number (named (row f).word) (number_of f) (number_of g) mine
+    (subst (λ (word : List ℕ). is_number (named word) (number_of g) ≡ true) (sym same) other) in
+    some_same f g (sym (listed_at f first) ∙ ap (slice_get formats) number ∙ listed_at g second)
 
--- what is found passes the test, and where nothing is found nothing does
-finds : (test : Format → Bool) (some : List Format) → MatchOption (find test some) (list_all (λ f. not (test f)) some ≡ true) (λ f. test f ≡ true)
-finds test [] = refl
-finds test (f ∷ others) = either (test f) refl (finds test others)
-  where
-    Finds : List Format → Type 0
-    Finds some = MatchOption (find test some) (list_all (λ g. not (test g)) some ≡ true) (λ g. test g ≡ true)
+-- a word that writes numbers begins as no name does
+names_test : list_all (λ f. not (begins_numbers (row f).word)) formats ≡ true
+names_test = refl
 
-    either : (is : Bool) → test f ≡ is → Finds others → Finds (f ∷ others)
-    either true is later = rw is is
-    either false is later = rw is later
+rate_begins : (rate : Rate) (rest : List ℕ) → begins_numbers (density_word rate ++ 45 ∷ rest) ≡ true
+rate_begins Double rest = refl
+rate_begins High rest = refl
+rate_begins HighAt360 rest = refl
+rate_begins Single rest = refl
+rate_begins SingleAt360 rest = refl
+
+disk_begins : (word : List ℕ) (disk : IbmDisk) → IsWordOfDisk word disk → begins_numbers word ≡ true
+disk_begins word disk is =
+    ap begins_numbers is.written.is ∙ rate_begins is.numbers.rate (rate_word is.numbers.rate ++ 45 ∷ is.written.rest)
 
 not_both : (b : Bool) → not b ≡ true → b ≡ true → ⊥
 not_both b is_not is = cc
 
+other_word : (word : List ℕ) (disk : IbmDisk) (f : Format) → has_name f ≡ true → IsWordOfDisk word disk → (row f).word ≡ word → ⊥
+other_word word disk f known is same =
+    not_both (begins_numbers word)
+    (subst (λ (w : List ℕ). not (begins_numbers w) ≡ true) same (each_named (λ g. not (begins_numbers (row g).word)) names_test f known))
+    (disk_begins word disk is)
+
+-- a format that has a name has that word
+pub by_name : (word : List ℕ) (f : Format) → has_name f ≡ true → (row f).word ≡ word → IsWordOfFormat word f
+by_name word (Numbered disk) known is = absurd (cc)
+by_name word f known is = is
+
+with_name : (word : List ℕ) (f : Format) → has_name f ≡ true → (row f).word ≡ word → (g : Format) → IsWordOfFormat word g → f ≡ g
+with_name word f known is (Numbered disk) other = absurd (other_word word disk f known other is)
+with_name word f known is g other = one_named f g known refl (is ∙ sym other)
+
+module _ (disks : WordsNameDisks) (word : List ℕ) where
+  with_disk : (disk : IbmDisk) → IsWordOfDisk word disk → (g : Format) → IsWordOfFormat word g → Numbered disk ≡ g
+  with_disk disk is (Numbered other) same = ap Numbered (disks word disk other is same)
+  with_disk disk is g same = absurd (other_word word disk g refl is same)
+
+  one_format : (f g : Format) → IsWordOfFormat word f → IsWordOfFormat word g → f ≡ g
+  one_format (Numbered disk) g is other = with_disk disk is g other
+  one_format f g is other = with_name word f refl is g other
+
+pub words_name_formats : WordsNameDisks → WordsNameFormats
+words_name_formats disks word f g is other = one_format disks word f g is other
+
+-- and the word that is printed of a format names it
+pub printed_words_name_formats : PrintedWordsNameDisks → PrintedWordsNameFormats
+printed_words_name_formats disks word (Numbered disk) is = disks word disk is
+printed_words_name_formats disks word f is = refl
+
+-- each begins with a letter
+letters_test : list_all (λ f. nat_le 97 (get_or (row f).word 0 0)) formats ≡ true
+letters_test = refl
+
+rate_letter : (rate : Rate) (rest : List ℕ) → 97 ≤ get_or (density_word rate ++ 45 ∷ rest) 0 0
+rate_letter Double rest = lit≤ tt
+rate_letter High rest = lit≤ tt
+rate_letter HighAt360 rest = lit≤ tt
+rate_letter Single rest = lit≤ tt
+rate_letter SingleAt360 rest = lit≤ tt
+
+pub words_begin_with_letters : WordsBeginWithLetters
+words_begin_with_letters word (Numbered disk) is =
+    subst (λ (w : List ℕ). 97 ≤ get_or w 0 0) (sym is.written.is) (rate_letter is.numbers.rate (rate_word is.numbers.rate ++ 45 ∷ is.written.rest))
+words_begin_with_letters word f is =
+    subst (λ (w : List ℕ). 97 ≤ get_or w 0 0) is (leb-true _ _ (each_named (λ g. nat_le 97 (get_or (row g).word 0 0)) letters_test f refl))
+
+-- what is found passes the test and has a name, and where nothing is found nothing passes
+all_both : (a b : Bool) → (a && b) ≡ true → (a ≡ true) × (b ≡ true)
+all_both true b is = (refl, is)
+all_both false b is = absurd (cc)
+
+finds : (test : Format → Bool) (some : List Format) → list_all has_name some ≡ true
+    → MatchOption (find test some) (list_all (λ f. not (test f)) some ≡ true) (λ f. (test f ≡ true) × (has_name f ≡ true))
+finds test [] known = refl
+finds test (f ∷ others) known =
+    let all = all_both (has_name f) (list_all has_name others) known in
+    either (test f) refl all.0 (finds test others all.1)
+  where
+    Finds : List Format → Type 0
+    Finds some = MatchOption (find test some) (list_all (λ g. not (test g)) some ≡ true) (λ g. (test g ≡ true) × (has_name g ≡ true))
+
+    either : (is : Bool) → test f ≡ is → has_name f ≡ true → Finds others → Finds (f ∷ others)
+    either true is name later = rw is (is, name)
+    either false is name later = rw is later
+
+all_named : list_all has_name formats ≡ true
+all_named = refl
+
 abbrev pub has_word : List ℕ → Format → Bool
 has_word word f = bytes_eq (row f).word word
 
--- so it is the format of the word
-pub is_found : (word : List ℕ) → MatchOption (find (has_word word) formats) ((f : Format) → (row f).word ≢ word) (λ f. (row f).word ≡ word)
-is_found word = by (find (has_word word) formats) (finds (has_word word) formats)
+-- so it is the format of the word, or the word is no name
+pub is_found : (word : List ℕ) → MatchOption (find (has_word word) formats) ((f : Format) → has_name f ≡ true → (row f).word ≢ word) (IsWordOfFormat word)
+is_found word = by (find (has_word word) formats) (finds (has_word word) formats all_named)
   where
-    by : (o : Option Format) → MatchOption o (list_all (λ f. not (bytes_eq (row f).word word)) formats ≡ true) (λ f. bytes_eq (row f).word word ≡ true)
-        → MatchOption o ((f : Format) → (row f).word ≢ word) (λ f. (row f).word ≡ word)
-    by None none = λ f same.
-        not_both (bytes_eq (row f).word word) (each_format (λ g. not (bytes_eq (row g).word word)) none f)
+    by : (o : Option Format) → MatchOption o (list_all (λ f. not (bytes_eq (row f).word word)) formats ≡ true) (λ f. (bytes_eq (row f).word word ≡ true) × (has_name f ≡ true))
+        → MatchOption o ((f : Format) → has_name f ≡ true → (row f).word ≢ word) (IsWordOfFormat word)
+    by None none = λ f known same.
+        not_both (bytes_eq (row f).word word) (each_named (λ g. not (bytes_eq (row g).word word)) none f known)
         ((bytes_eq-Decides (row f).word word).1 same)
-    by (Some f) is = (bytes_eq-Decides (row f).word word).0 is
+    by (Some f) is = by_name word f is.1 ((bytes_eq-Decides (row f).word word).0 is.0)
+
+-- a word that is no name and writes no disk's numbers is none's
+pub none_named : (word : List ℕ) → ((f : Format) → has_name f ≡ true → (row f).word ≢ word) → ((disk : IbmDisk) → ¬ IsWordOfDisk word disk)
+    → (f : Format) → ¬ IsWordOfFormat word f
+none_named word names disks (Numbered disk) is = disks disk is
+none_named word names disks f is = names f refl is
+
+pub found_or : (word : List ℕ) (o : Option Format) → ((f : Format) → has_name f ≡ true → (row f).word ≢ word)
+    → MatchOption o ((disk : IbmDisk) → ¬ IsWordOfDisk word disk) (IsWordOfFormat word) → MatchOption o ((f : Format) → ¬ IsWordOfFormat word f) (IsWordOfFormat word)
+found_or word None names disks = none_named word names disks
+found_or word (Some f) names is = is
 
 -- the search, from one format to the next
 pub find-step : (test : Format → Bool) (some : List Format) (i : ℕ) (is : Bool) → i < length some → test (get_or some i Ibm3740) ≡ is

@@ -1,47 +1,84 @@
 -- The formats of sector images, a row for each.
-use Rattle.std.specs.Prelude.{◌≡◌, ℕ, ◌-◌, List, [], ◌∷◌, codes, Contains, get_or, refl, Option, Some, None}
+use Rattle.std.specs.Prelude.{◌≡◌, ◌≤◌, ℕ, ◌-◌, ◌*◌, Bool, true, false, List, [], ◌∷◌, codes, Contains, get_or, refl, Option, Some, None}
 use Rattle.std.proofs.Common.{arith}
 use Rattle.disk_zones.specs.Units.{fine_units}
 use Rattle.disk_zones.specs.Zones.{commodore_inner, commodore_outer, macintosh_inner, macintosh_outer, zone_in}
 use Rattle.disk_zones.specs.declared.zones.Zone.{Zone}
+use Rattle.ibm_disks.specs.Disks.{IsWordOfDisk, cylinders_of, disk_word, heads_of, rate_of, track_of_disk}
+use Rattle.ibm_disks.specs.Numbers.{size_of}
+use Rattle.ibm_disks.specs.declared.rate.Rate.{Rate}
+use Rattle.ibm_disks.specs.declared.rate.Rate.TheVariants.{Double, High, HighAt360, Single, SingleAt360}
 use Rattle.sector_images.specs.declared.format.Format.{Format}
 use Rattle.sector_images.specs.declared.format.TrackOrder.{TrackOrder}
 use Rattle.sector_images.specs.declared.format.TrackOrder.TheVariants.{ByCylinder, ByHead}
-use Rattle.sector_images.specs.declared.format.Format.TheVariants.{Ibm3740, Ibm360, Ibm720, Ibm1440, Amiga, C1541, C1541Forty, AppleDo, ApplePo, Ibm160, Ibm180, Ibm320, Ibm1200, AtariSt800, CpcData, CpcSystem, AcornDfs40, AcornDfs80, AppleDos33, AppleProdos, Mac400, Mac800, C1571, AmigaHd}
+use Rattle.sector_images.specs.declared.format.Format.TheVariants.{Ibm3740, Ibm360, Ibm720, Ibm1440, Amiga, C1541, C1541Forty, AppleDo, ApplePo, Ibm160, Ibm180, Ibm320, Ibm1200, AtariSt800, CpcData, CpcSystem, AcornDfs40, AcornDfs80, AppleDos33, AppleProdos, Mac400, Mac800, C1571, AmigaHd, Numbered}
 
--- all formats
+-- all formats that have a name
 abbrev pub formats : List Format
 formats =
     Ibm3740 ∷ Ibm360 ∷ Ibm720 ∷ Ibm1440 ∷ Amiga ∷ C1541 ∷ C1541Forty ∷ AppleDo ∷ ApplePo
     ∷ Ibm160 ∷ Ibm180 ∷ Ibm320 ∷ Ibm1200 ∷ AtariSt800 ∷ CpcData ∷ CpcSystem ∷ AcornDfs40 ∷ AcornDfs80
     ∷ AppleDos33 ∷ AppleProdos ∷ Mac400 ∷ Mac800 ∷ C1571 ∷ AmigaHd ∷ []
 
--- each is among them
-unfoldable pub is_listed : (f : Format) → Contains formats f
-is_listed Ibm3740 = (0, omega arith, refl)
-is_listed Ibm360 = (1, omega arith, refl)
-is_listed Ibm720 = (2, omega arith, refl)
-is_listed Ibm1440 = (3, omega arith, refl)
-is_listed Amiga = (4, omega arith, refl)
-is_listed C1541 = (5, omega arith, refl)
-is_listed C1541Forty = (6, omega arith, refl)
-is_listed AppleDo = (7, omega arith, refl)
-is_listed ApplePo = (8, omega arith, refl)
-is_listed Ibm160 = (9, omega arith, refl)
-is_listed Ibm180 = (10, omega arith, refl)
-is_listed Ibm320 = (11, omega arith, refl)
-is_listed Ibm1200 = (12, omega arith, refl)
-is_listed AtariSt800 = (13, omega arith, refl)
-is_listed CpcData = (14, omega arith, refl)
-is_listed CpcSystem = (15, omega arith, refl)
-is_listed AcornDfs40 = (16, omega arith, refl)
-is_listed AcornDfs80 = (17, omega arith, refl)
-is_listed AppleDos33 = (18, omega arith, refl)
-is_listed AppleProdos = (19, omega arith, refl)
-is_listed Mac400 = (20, omega arith, refl)
-is_listed Mac800 = (21, omega arith, refl)
-is_listed C1571 = (22, omega arith, refl)
-is_listed AmigaHd = (23, omega arith, refl)
+-- every other is a disk by its numbers
+abbrev pub has_name : Format → Bool
+has_name (Numbered disk) = false
+has_name format = true
+
+-- where each that has a name stands among them
+abbrev pub number_of : Format → ℕ
+number_of Ibm3740 = 0
+number_of Ibm360 = 1
+number_of Ibm720 = 2
+number_of Ibm1440 = 3
+number_of Amiga = 4
+number_of C1541 = 5
+number_of C1541Forty = 6
+number_of AppleDo = 7
+number_of ApplePo = 8
+number_of Ibm160 = 9
+number_of Ibm180 = 10
+number_of Ibm320 = 11
+number_of Ibm1200 = 12
+number_of AtariSt800 = 13
+number_of CpcData = 14
+number_of CpcSystem = 15
+number_of AcornDfs40 = 16
+number_of AcornDfs80 = 17
+number_of AppleDos33 = 18
+number_of AppleProdos = 19
+number_of Mac400 = 20
+number_of Mac800 = 21
+number_of C1571 = 22
+number_of AmigaHd = 23
+number_of (Numbered disk) = 24
+
+unfoldable pub is_listed : (f : Format) → has_name f ≡ true → Contains formats f
+is_listed Ibm3740 named = (0, omega arith, refl)
+is_listed Ibm360 named = (1, omega arith, refl)
+is_listed Ibm720 named = (2, omega arith, refl)
+is_listed Ibm1440 named = (3, omega arith, refl)
+is_listed Amiga named = (4, omega arith, refl)
+is_listed C1541 named = (5, omega arith, refl)
+is_listed C1541Forty named = (6, omega arith, refl)
+is_listed AppleDo named = (7, omega arith, refl)
+is_listed ApplePo named = (8, omega arith, refl)
+is_listed Ibm160 named = (9, omega arith, refl)
+is_listed Ibm180 named = (10, omega arith, refl)
+is_listed Ibm320 named = (11, omega arith, refl)
+is_listed Ibm1200 named = (12, omega arith, refl)
+is_listed AtariSt800 named = (13, omega arith, refl)
+is_listed CpcData named = (14, omega arith, refl)
+is_listed CpcSystem named = (15, omega arith, refl)
+is_listed AcornDfs40 named = (16, omega arith, refl)
+is_listed AcornDfs80 named = (17, omega arith, refl)
+is_listed AppleDos33 named = (18, omega arith, refl)
+is_listed AppleProdos named = (19, omega arith, refl)
+is_listed Mac400 named = (20, omega arith, refl)
+is_listed Mac800 named = (21, omega arith, refl)
+is_listed C1571 named = (22, omega arith, refl)
+is_listed AmigaHd named = (23, omega arith, refl)
+is_listed (Numbered disk) named = absurd (cc)
 
 -- what each physical sector of an Apple track holds, from sector 0 on: in DOS 3.3 a logical sector, in ProDOS a half block
 abbrev pub dos_order : List ℕ
@@ -281,6 +318,15 @@ row AmigaHd = record {
   image_size = 1802240;
   order = None;
 }
+row (Numbered disk) = record {
+  word = disk_word disk;
+  cylinders = cylinders_of disk;
+  heads = heads_of disk;
+  first_sector = (track_of_disk disk).first_sector;
+  sector_size = size_of (track_of_disk disk).size;
+  image_size = cylinders_of disk * (track_of_disk disk).sectors * heads_of disk * size_of (track_of_disk disk).size;
+  order = None;
+}
 
 -- the order of the tracks, in the image and where streams are joined: the Commodore 1571's disk has all of a head one after another
 abbrev pub track_order : Format → TrackOrder
@@ -294,6 +340,15 @@ commodore_zone cylinder = zone_in commodore_outer commodore_inner cylinder
 
 abbrev pub macintosh_zone : ℕ → Zone
 macintosh_zone cylinder = zone_in macintosh_outer macintosh_inner cylinder
+
+-- a disk by its numbers has the nominal cell of its rate: two microseconds in double density, one in high, four in single, and two in
+-- single density at 360 revolutions a minute
+abbrev pub cell_of : Rate → ℕ
+cell_of Double = fine_units 8
+cell_of High = fine_units 4
+cell_of HighAt360 = fine_units 4
+cell_of Single = fine_units 16
+cell_of SingleAt360 = fine_units 8
 
 abbrev pub zone : Format → ℕ → Zone
 zone Ibm3740 cylinder = record { sectors = 26; nominal = fine_units 8; ring_cells = 83328 }
@@ -320,6 +375,11 @@ zone Mac400 cylinder = macintosh_zone cylinder
 zone Mac800 cylinder = macintosh_zone cylinder
 zone C1571 cylinder = commodore_zone cylinder
 zone AmigaHd cylinder = record { sectors = 22; nominal = fine_units 4; ring_cells = 200000 }
+zone (Numbered disk) cylinder = record {
+  sectors = (track_of_disk disk).sectors;
+  nominal = cell_of (rate_of disk);
+  ring_cells = 16 * (track_of_disk disk).bytes;
+}
 
 -- where a sector stands in an order, or else by its number
 abbrev pub slot_by : Option (List ℕ) → (first sector : ℕ) → ℕ
@@ -330,6 +390,19 @@ slot_by (Some order) first sector = get_or order sector 0
 abbrev pub slot : Format → ℕ → ℕ
 slot format sector = slot_by (row format).order (row format).first_sector sector
 
--- no two formats have one word
+-- the word names the format: it is the one that it is printed by, or writes its numbers
+abbrev pub IsWordOfFormat : List ℕ → Format → Type 0
+IsWordOfFormat word (Numbered disk) = IsWordOfDisk word disk
+IsWordOfFormat word format = (row format).word ≡ word
+
+-- no word names two
 abbrev pub WordsNameFormats : Type 0
-WordsNameFormats = (f g : Format) → (row f).word ≡ (row g).word → f ≡ g
+WordsNameFormats = (word : List ℕ) (f g : Format) → IsWordOfFormat word f → IsWordOfFormat word g → f ≡ g
+
+-- where one names a format, so does the word that is printed of it
+abbrev pub PrintedWordsNameFormats : Type 0
+PrintedWordsNameFormats = (word : List ℕ) (f : Format) → IsWordOfFormat word f → IsWordOfFormat (row f).word f
+
+-- and each begins with a letter
+abbrev pub WordsBeginWithLetters : Type 0
+WordsBeginWithLetters = (word : List ℕ) (f : Format) → IsWordOfFormat word f → 97 ≤ get_or word 0 0

@@ -90,12 +90,13 @@ abbrev pub SectorsLieInImages : Type 0
 SectorsLieInImages = (format : Format) (track : TrackId) (sector : ℕ) → IsTrack format track → IsSector format track sector
     → sector_place format track sector + (row format).sector_size ≤ (row format).image_size
 
--- What all tracks of all formats keep to: cylinders are numbered by two digits, heads by 0 and 1, sectors by 8 bits, a track has not too
--- many sectors, which have not too many bytes, each and all together, no track has more sectors than its format's first, and cells and
+-- What all tracks of all formats keep to: cylinders are numbered by two digits, heads by 0 and 1, sectors by 8 bits, a track has a sector, and not too
+-- many, which have not too many bytes, each and all together, no track has more sectors than its format's first, and cells and
 -- rings are neither very short nor very long.
 pub record KeepsBounds (format : Format) (track : TrackId) : Type 0 where
   pub cylinder : track.cylinder < 100
   pub head : track.head < 2
+  pub some : 1 ≤ (zone format track.cylinder).sectors
   pub sectors : (zone format track.cylinder).sectors ≤ MOST_SECTORS
   pub numbers : (row format).first_sector + (zone format track.cylinder).sectors ≤ 256
   pub size : (row format).sector_size ≤ MOST_SECTOR_BYTES
@@ -109,7 +110,11 @@ pub record KeepsBounds (format : Format) (track : TrackId) : Type 0 where
 abbrev pub TracksKeepBounds : Type 0
 TracksKeepBounds = (format : Format) (track : TrackId) → IsTrack format track → KeepsBounds format track
 
--- no format has more tracks than a thousand
+-- each format has a track
+abbrev pub FormatsHaveTracks : Type 0
+FormatsHaveTracks = (format : Format) → 0 < length (tracks format)
+
+-- none has more than a thousand
 abbrev pub TracksAreFew : Type 0
 TracksAreFew = (format : Format) → length (tracks format) ≤ MOST_TRACKS
 

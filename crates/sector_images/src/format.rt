@@ -1,8 +1,11 @@
-ghost use Rattle.std.specs.Prelude.{◌≡◌, ◌≢◌, MatchOption, find, option_map};
+ghost use Rattle.std.specs.Prelude.{◌≡◌, ◌≤◌, MatchOption, find, length, option_map};
 ghost use Rattle.std.specs.Str.{bytes_eq};
-ghost use Rattle.sector_images.specs.Formats.{formats, row, track_order, zone};
+ghost use Rattle.ibm_disks.specs.Disks.{IsWordOfDisk};
+ghost use Rattle.sector_images.specs.Formats.{IsWordOfFormat, formats, row, track_order, zone};
 
+use crate::numbered_disks::{cell_of, geometry_of};
 use disk_zones::{Zone, commodore_zone, macintosh_zone};
+use ibm_disks::{DiskWord, IbmDisk};
 
 /// A format of sector images.
 #[derive(Clone, Copy, Debug, PartialEq, Eq)]
@@ -55,9 +58,11 @@ pub enum Format {
     C1571,
     /// The Amiga's disk of high density: 80 cylinders of two heads, 22 sectors of 512 bytes (MFM).
     AmigaHd,
+    /// A disk of one of IBM's two recordings that has no name, by its numbers.
+    Numbered(IbmDisk),
 }
 
-/// All formats.
+/// All formats that have a name.
 const FORMATS: [Format; 24] = [
     Format::Ibm3740,
     Format::Ibm360,
@@ -85,7 +90,7 @@ const FORMATS: [Format; 24] = [
     Format::AmigaHd,
 ];
 
-/// All formats, in the order of their table.
+/// All formats that have a name, in the order of their table.
 pub fn all_formats() -> &'static [Format]
     ensures { result.now ≡ formats }
 {
@@ -93,49 +98,73 @@ pub fn all_formats() -> &'static [Format]
 }
 
 impl Format {
-    /// The format of this word of the command line.
+    /// The format that this word of the command line names: the one of this name, or the disk whose numbers it writes.
     pub fn of_word(word: &[u8]) -> Option<Format>
-        ensures { MatchOption result ((f : Format) → (row f).word ≢ word.now) (λ f. (row f).word ≡ word.now) }
+        ensures { MatchOption result ((f : Format) → ¬ IsWordOfFormat word.now f) (IsWordOfFormat word.now) }
     {
-        first_named(&FORMATS, word)
+        match first_named(&FORMATS, word) {
+            Some(format) => Some(format),
+            None => by_numbers(word),
+        }
     }
 
     fn has_word(self, word: &[u8]) -> bool
         ensures { result ≡ bytes_eq (row self).word word.now }
     {
-        self.word().as_bytes() == word
+        self.word().as_str().as_bytes() == word
     }
 
-    /// The format's word of the command line.
-    pub fn word(self) -> &'static str
-        ensures { result.now ≡ (row self).word }
+    /// The format's word, as it is printed.
+    pub fn word(self) -> DiskWord
+        ensures { result.bytes ≡ (row self).word }
     {
         match self {
-            Format::Ibm3740 => "ibm-3740",
-            Format::Ibm360 => "ibm-360",
-            Format::Ibm720 => "ibm-720",
-            Format::Ibm1440 => "ibm-1440",
-            Format::Ibm160 => "ibm-160",
-            Format::Ibm180 => "ibm-180",
-            Format::Ibm320 => "ibm-320",
-            Format::Ibm1200 => "ibm-1200",
-            Format::AtariSt800 => "atari-st-800",
-            Format::CpcData => "cpc-data",
-            Format::CpcSystem => "cpc-system",
-            Format::AcornDfs40 => "acorn-dfs-40",
-            Format::AcornDfs80 => "acorn-dfs-80",
-            Format::Amiga => "amiga",
-            Format::C1541 => "c1541",
-            Format::C1541Forty => "c1541-40",
-            Format::AppleDo => "apple-do",
-            Format::ApplePo => "apple-po",
-            Format::AppleDos33 => "apple-dos33",
-            Format::AppleProdos => "apple-prodos",
-            Format::Mac400 => "mac-400",
-            Format::Mac800 => "mac-800",
-            Format::C1571 => "c1571",
-            Format::AmigaHd => "amiga-hd",
+            Format::Ibm3740 => name("ibm-3740"),
+            Format::Ibm360 => name("ibm-360"),
+            Format::Ibm720 => name("ibm-720"),
+            Format::Ibm1440 => name("ibm-1440"),
+            Format::Ibm160 => name("ibm-160"),
+            Format::Ibm180 => name("ibm-180"),
+            Format::Ibm320 => name("ibm-320"),
+            Format::Ibm1200 => name("ibm-1200"),
+            Format::AtariSt800 => name("atari-st-800"),
+            Format::CpcData => name("cpc-data"),
+            Format::CpcSystem => name("cpc-system"),
+            Format::AcornDfs40 => name("acorn-dfs-40"),
+            Format::AcornDfs80 => name("acorn-dfs-80"),
+            Format::Amiga => name("amiga"),
+            Format::C1541 => name("c1541"),
+            Format::C1541Forty => name("c1541-40"),
+            Format::AppleDo => name("apple-do"),
+            Format::ApplePo => name("apple-po"),
+            Format::AppleDos33 => name("apple-dos33"),
+            Format::AppleProdos => name("apple-prodos"),
+            Format::Mac400 => name("mac-400"),
+            Format::Mac800 => name("mac-800"),
+            Format::C1571 => name("c1571"),
+            Format::AmigaHd => name("amiga-hd"),
+            Format::Numbered(disk) => disk.word(),
         }
+    }
+}
+
+/// A name as a word.
+fn name(text: &str) -> DiskWord
+    requires { length text.now ≤ 32 }
+    ensures { result.bytes ≡ text.now }
+{
+    let mut word = DiskWord::new();
+    word.push_str(text);
+    word
+}
+
+/// The disk whose numbers this word writes.
+fn by_numbers(word: &[u8]) -> Option<Format>
+    ensures { MatchOption result ((disk : IbmDisk) → ¬ IsWordOfDisk word.now disk) (IsWordOfFormat word.now) }
+{
+    match IbmDisk::of_word(word) {
+        Some(disk) => Some(Format::Numbered(disk)),
+        None => None,
     }
 }
 
@@ -371,6 +400,7 @@ impl Format {
                 image_size: 1802240,
                 order: None,
             },
+            Format::Numbered(disk) => geometry_of(disk),
         }
     }
 
@@ -448,6 +478,14 @@ impl Format {
                 nominal: 98416,
                 ring_cells: 50000,
             },
+            Format::Numbered(disk) => {
+                let track = disk.track();
+                Zone {
+                    sectors: track.sectors,
+                    nominal: cell_of(disk.rate()),
+                    ring_cells: track.cells(),
+                }
+            }
         }
     }
 }

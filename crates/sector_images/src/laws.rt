@@ -1,7 +1,9 @@
 //! What the places of sectors come to.
 
-ghost use Rattle.sector_images.specs.Formats.{WordsNameFormats};
-ghost use Rattle.sector_images.specs.Places.{ImagesAreSmall, NumbersHoldSectors, NumbersNameTracks, SectorsFillTracks, SectorsLieInImages, TracksAreFew, TracksFillImages, TracksJoin, TracksKeepBounds};
+ghost use Rattle.sector_images.specs.Formats.{PrintedWordsNameFormats, WordsBeginWithLetters, WordsNameFormats};
+ghost use Rattle.sector_images.specs.Places.{FormatsHaveTracks, ImagesAreSmall, NumbersHoldSectors, NumbersNameTracks, SectorsFillTracks, SectorsLieInImages, TracksAreFew, TracksFillImages, TracksJoin, TracksKeepBounds};
+
+use ibm_disks::words_name_disks;
 
 /// Each sector of a track stands at one number among those of its track in the image, and is the one that
 /// stands there; and at each of these numbers one stands.
@@ -25,12 +27,17 @@ pub fn tracks_fill_images()
 
 /// All formats keep to bounds that their reports, their rings and their streams need.
 pub fn tracks_keep_bounds()
+    ensures some { FormatsHaveTracks }
     ensures few { TracksAreFew }
     ensures bounds { TracksKeepBounds }
     ensures images { ImagesAreSmall }
 {}
 
-/// No two formats have one word.
+/// A word names one format, and where one does, so does the word that is printed of it; each begins with a letter.
 pub fn words_name_formats()
-    ensures { WordsNameFormats }
-{}
+    ensures one { WordsNameFormats }
+    ensures printed { PrintedWordsNameFormats }
+    ensures letters { WordsBeginWithLetters }
+{
+    words_name_disks();
+}

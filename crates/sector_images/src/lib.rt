@@ -4,6 +4,7 @@
 
 mod format;
 mod laws;
+mod numbered_disks;
 mod places;
 
 pub use format::{Format, all_formats};

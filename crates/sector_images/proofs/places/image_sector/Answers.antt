@@ -1,5 +1,6 @@
 use Rattle.std.proofs.Common.{◌≡◌, ◌+◌, ◌∙◌, arith, sym, Some, None}
 use Rattle.sector_images.specs.Formats.{row}
+use Rattle.sector_images.proofs.Computed.{keep_bounds}
 use Rattle.sector_images.proofs.Slots.{found_there, is_order, slot_by_number, slot_in_order}
 use Rattle.sector_images.proofs.places.image_sector.Goals as goal
 
@@ -23,3 +24,8 @@ returns-in-None-clause-first c =
     rw c.geometry-geometry.ensures.first_sector
     (found_there c.args.format c.args.track ((row c.args.format).first_sector + c.args.number) c.args.number
     (omega arith, omega (arith, c.requires.number)) (slot_by_number c.args.format c.args.number none))
+
+pub overflow_add-result : goal.overflow_add-result
+overflow_add-result c =
+    let keeps = keep_bounds c.args.format c.args.track c.requires.track in
+    omega (arith, c.geometry-geometry.ensures.first_sector, keeps.numbers, c.requires.number)
