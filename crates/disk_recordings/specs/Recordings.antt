@@ -2,10 +2,15 @@
 use Rattle.either.specs.declared.Either.{Either}
 use Rattle.either.specs.declared.Either.TheVariants.{Left, Right}
 use Rattle.amiga_mfm.specs.declared.recording.AmigaMfm.{AmigaMfm}
-use Rattle.amiga_mfm.specs.declared.recording.AmigaMfm.TheVariants.{DoubleDensity, HighDensity}
+use Rattle.amiga_mfm.specs.declared.recording.AmigaMfm.TheVariants.{DoubleDensity as AmigaDouble, HighDensity}
 use Rattle.apple_gcr.specs.declared.recording.AppleGcr.{AppleGcr}
 use Rattle.apple_gcr.specs.declared.disk_bytes.ByteRule.TheVariants.{Strict, Controller}
 use Rattle.commodore_gcr.specs.declared.recording.CommodoreGcr.{CommodoreGcr}
+use Rattle.ibm_disks.specs.Disks.{rate_of, track_of_disk}
+use Rattle.ibm_disks.specs.Plans.{density_of}
+use Rattle.ibm_disks.specs.declared.rate.Density.{Density}
+use Rattle.ibm_disks.specs.declared.rate.Density.TheVariants.{Single as SingleDensity, Double as DoubleDensity}
+use Rattle.ibm_disks.specs.declared.track_numbers.TrackNumbers.{TrackNumbers}
 use Rattle.ibm_fm.specs.declared.recording.IbmFm.{IbmFm}
 use Rattle.ibm_fm.specs.Disks.{acorn, ibm_3740}
 use Rattle.ibm_mfm.specs.declared.recording.IbmMfm.{IbmMfm}
@@ -13,12 +18,17 @@ use Rattle.ibm_mfm.specs.Disks.{atari_10, cpc_data, cpc_system, pc_15, pc_18, pc
 use Rattle.macintosh_gcr.specs.declared.recording.MacintoshGcr.{MacintoshGcr}
 use Rattle.macintosh_gcr.specs.declared.recording.MacintoshGcr.TheVariants.{SingleSided, DoubleSided}
 use Rattle.sector_images.specs.declared.format.Format.{Format}
-use Rattle.sector_images.specs.declared.format.Format.TheVariants.{Ibm3740, Ibm360, Ibm720, Ibm1440, Amiga, C1541, C1541Forty, AppleDo, ApplePo, Ibm160, Ibm180, Ibm320, Ibm1200, AtariSt800, CpcData, CpcSystem, AcornDfs40, AcornDfs80, AppleDos33, AppleProdos, Mac400, Mac800, C1571, AmigaHd}
+use Rattle.sector_images.specs.declared.format.Format.TheVariants.{Ibm3740, Ibm360, Ibm720, Ibm1440, Amiga, C1541, C1541Forty, AppleDo, ApplePo, Ibm160, Ibm180, Ibm320, Ibm1200, AtariSt800, CpcData, CpcSystem, AcornDfs40, AcornDfs80, AppleDos33, AppleProdos, Mac400, Mac800, C1571, AmigaHd, Numbered}
 use Rattle.disk_recordings.specs.declared.disk_id.DiskId.{DiskId}
 
 -- one of the recordings
 abbrev pub DiskRecording : Type 0
 DiskRecording = Either IbmFm (Either IbmMfm (Either AmigaMfm (Either CommodoreGcr (Either AppleGcr MacintoshGcr))))
+
+-- the recording of a density, with the numbers of a track
+abbrev pub numbered_by : Density → TrackNumbers → DiskRecording
+numbered_by SingleDensity track = Left (record { numbers = track })
+numbered_by DoubleDensity track = Right (Left (record { numbers = track }))
 
 -- the recording of a format's tracks, on a disk with this id
 abbrev pub recording_of : Format → DiskId → DiskRecording
@@ -26,7 +36,7 @@ recording_of Ibm3740 id = Left ibm_3740
 recording_of Ibm360 id = Right (Left pc_9)
 recording_of Ibm720 id = Right (Left pc_9)
 recording_of Ibm1440 id = Right (Left pc_18)
-recording_of Amiga id = Right (Right (Left DoubleDensity))
+recording_of Amiga id = Right (Right (Left AmigaDouble))
 recording_of C1541 id = Right (Right (Right (Left (record { id1 = id.first; id2 = id.second }))))
 recording_of C1541Forty id = Right (Right (Right (Left (record { id1 = id.first; id2 = id.second }))))
 recording_of AppleDo id = Right (Right (Right (Right (Left (record { rule = Strict })))))
@@ -46,6 +56,7 @@ recording_of Mac400 id = Right (Right (Right (Right (Right SingleSided))))
 recording_of Mac800 id = Right (Right (Right (Right (Right DoubleSided))))
 recording_of C1571 id = Right (Right (Right (Left (record { id1 = id.first; id2 = id.second }))))
 recording_of AmigaHd id = Right (Right (Left HighDensity))
+recording_of (Numbered disk) id = numbered_by (density_of (rate_of disk)) (track_of_disk disk)
 
 -- an id for disks that are read
 abbrev pub ANY_ID : DiskId

@@ -3,13 +3,16 @@
 ghost use Rattle.std.specs.Prelude.{◌≡◌, IsTrue, IsFalse};
 ghost use Rattle.disk_recordings.specs.Agreement.{Agrees, HasDirectory, HasNoId};
 ghost use Rattle.disk_recordings.specs.Members.{as_controllers_read};
-ghost use Rattle.disk_recordings.specs.Recordings.{recording_of as recording_in};
+ghost use Rattle.disk_recordings.specs.Recordings.{numbered_by, recording_of as recording_in};
+ghost use Rattle.ibm_disks.specs.Disks.{rate_of, track_of_disk};
+ghost use Rattle.ibm_disks.specs.Plans.{density_of};
 
 use crate::disk_id::DiskId;
 use amiga_mfm::AmigaMfm;
 use apple_gcr::AppleGcr;
 use commodore_gcr::CommodoreGcr;
 use either::{Either, Left, Right};
+use ibm_disks::{Density, IbmDisk};
 use ibm_fm::IbmFm;
 use ibm_mfm::IbmMfm;
 use macintosh_gcr::MacintoshGcr;
@@ -51,6 +54,18 @@ pub fn recording_of(format: Format, id: DiskId) -> DiskRecording
         }
         Format::Mac400 => Right(Right(Right(Right(Right(MacintoshGcr::SingleSided))))),
         Format::Mac800 => Right(Right(Right(Right(Right(MacintoshGcr::DoubleSided))))),
+        Format::Numbered(disk) => numbered(disk),
+    }
+}
+
+/// That of a disk by its numbers.
+fn numbered(disk: IbmDisk) -> DiskRecording
+    ensures { result ≡ numbered_by (density_of (rate_of disk)) (track_of_disk disk) }
+{
+    let numbers = disk.track();
+    match disk.rate().density() {
+        Density::Single => Left(IbmFm { numbers }),
+        Density::Double => Right(Left(IbmMfm { numbers })),
     }
 }
 
