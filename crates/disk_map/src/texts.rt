@@ -60,12 +60,12 @@ pub(crate) fn begin_text(format: Format, layout: Layout) -> Text
         &mut text,
         "\" font-family=\"monospace\" font-size=\"9\">\n<title>flux map ",
     );
-    append(&mut text, format.word());
+    append(&mut text, format.word().as_str());
     append(
         &mut text,
         "</title>\n<rect width=\"100%\" height=\"100%\" fill=\"#ffffff\"/>\n<text x=\"40\" y=\"20\" font-size=\"13\">",
     );
-    append(&mut text, format.word());
+    append(&mut text, format.word().as_str());
     append(&mut text, "</text>\n");
     text
 }

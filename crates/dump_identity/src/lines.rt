@@ -58,12 +58,12 @@ fn none_line() -> Line
 /// Appends the words for a candidate that stand behind `read`.
 #[tactic(auto, unfolding(crate::specs::Lines::candidate_text))]
 fn put_candidate(line: &mut Line, candidate: Candidate)
-    requires { array_string_len line.old + 40 ≤ 192 }
+    requires { array_string_len line.old + 46 ≤ 192 }
     ensures bytes { line.new.bytes ≡ line.old.bytes ++ candidate_text candidate }
-    ensures len { array_string_len line.new ≤ array_string_len line.old + 40 }
+    ensures len { array_string_len line.new ≤ array_string_len line.old + 46 }
 {
     put_steps(line, candidate.stepping);
-    put(line, candidate.format.word());
+    put(line, candidate.format.word().as_str());
 }
 
 /// Appends the word of the steps, with a blank behind it.

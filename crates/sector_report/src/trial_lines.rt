@@ -13,7 +13,7 @@ pub fn trial_line(format: Format, seed: u32, tracks: u32, totals: &Totals, sum: 
 {
     let mut line = Line::new();
     put(&mut line, "trial ");
-    put(&mut line, format.word());
+    put(&mut line, format.word().as_str());
     put_named(&mut line, " ", seed);
     put_named(&mut line, " tracks ", tracks);
     put_named(&mut line, " sectors ", totals.sectors);

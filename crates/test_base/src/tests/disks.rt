@@ -41,7 +41,8 @@ const NO_FORMATS: [&[u8]; 5] = [b"", b"ibm-374", b"ibm-37400", b"IBM-3740", b"c1
 fn formats_have_their_words_and_sizes(rt: HostRuntime) {
     for (word, format, size, tracks) in FORMATS {
         assert_eq!(rt; Format::of_word(word.as_bytes()), Some(format), "{word}");
-        let row = (format.word(), image_size(format), track_count(format));
+        let name = format.word();
+        let row = (name.as_str(), image_size(format), track_count(format));
         assert_eq!(rt; row, (word, size, tracks));
     }
     for word in NO_FORMATS {

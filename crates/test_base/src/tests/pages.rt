@@ -32,7 +32,7 @@ fn the_help_names_formats(rt: HostRuntime) -> Result<(), Fail> {
     assert!(rt;
         text.contains("\n   cpc-data\tAmstrad CPC, 40 cylinders, 9 sectors from C1, 184320 bytes\n")
     );
-    assert!(rt; text.contains(Format::ApplePo.word()));
+    assert!(rt; text.contains(Format::ApplePo.word().as_str()));
     assert!(rt; text.ends_with("   9\tthe system gave no words\n"));
     Ok(())
 }
@@ -69,7 +69,7 @@ const NEAREST: &[(&str, &str)] = &[
 #[test]
 fn the_nearest_format(rt: HostRuntime) -> Result<(), Fail> {
     for (word, named) in NEAREST {
-        assert_eq!(rt; nearest_format(word.as_bytes()).word(), *named);
+        assert_eq!(rt; nearest_format(word.as_bytes()).word().as_str(), *named);
     }
     Ok(())
 }

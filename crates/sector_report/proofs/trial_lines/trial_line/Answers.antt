@@ -27,6 +27,7 @@ returns c =
       c.put_named.ensures.bytes,
       c.put-2.ensures.bytes,
       c.put.ensures.bytes,
+      c.as_str.ensures.value,
       c.word.ensures,
       c.new-line.ensures,
     )
