@@ -2,7 +2,7 @@
 use Rattle.std.specs.Prelude.{ℕ, List, ◌++◌, codes, decimal, flat_map}
 use Rattle.sector_images.specs.Formats.{formats, row}
 use Rattle.sector_images.specs.declared.format.Format.{Format}
-use Rattle.sector_images.specs.declared.format.Format.TheVariants.{Ibm3740, Ibm360, Ibm720, Ibm1440, Amiga, AmigaHd, C1541, C1541Forty, C1571, AppleDo, ApplePo, Ibm160, Ibm180, Ibm320, Ibm1200, AtariSt800, CpcData, CpcSystem, AcornDfs40, AcornDfs80, AppleDos33, AppleProdos, Mac400, Mac800}
+use Rattle.sector_images.specs.declared.format.Format.TheVariants.{Ibm3740, Ibm360, Ibm720, Ibm1440, Amiga, AmigaHd, C1541, C1541Forty, C1571, AppleDo, ApplePo, Ibm160, Ibm180, Ibm320, Ibm1200, AtariSt800, CpcData, CpcSystem, AcornDfs40, AcornDfs80, AppleDos33, AppleProdos, Mac400, Mac800, Numbered}
 use Rattle.flux_help.specs.Verbs.{verb_row, verbs}
 use Rattle.flux_help.specs.declared.page.Page.{Page}
 use Rattle.flux_help.specs.declared.page.Page.TheVariants.{Help, Version, About}
@@ -56,6 +56,7 @@ disk_name AppleDos33 = codes "Apple II, as DOS 3.3 wrote it, 35 cylinders, 16 se
 disk_name AppleProdos = codes "Apple II, as ProDOS wrote it, 35 cylinders, 16 sectors"
 disk_name Mac400 = codes "Macintosh, 3.5-inch, 80 cylinders, 12 to 8 sectors"
 disk_name Mac800 = codes "Macintosh, 3.5-inch, 80 cylinders, 2 heads, 12 to 8 sectors"
+disk_name (Numbered disk) = codes "a disk by its numbers"
 
 -- a word, a disk's name and a number of bytes in one line
 unfoldable pub disk_text : (word name : List ℕ) → (bytes : ℕ) → List ℕ
@@ -65,10 +66,13 @@ disk_text word name bytes = codes "   " ++ word ++ codes "\t" ++ name ++ codes "
 unfoldable pub format_text : Format → List ℕ
 format_text format = disk_text (row format).word (disk_name format) (row format).image_size
 
--- a line for each exit code
+-- how disks are written by their numbers, and a line for each exit code
 unfoldable pub codes_text : List ℕ
 codes_text =
     codes "\n"
+    ++ codes "Any other disk of IBM's double or single density is a format by its numbers: mfm-RATE-CxHxSxB with dd, hd or hd360 for RATE,\n"
+    ++ codes "or fm-RATE-CxHxSxB with sd or sd8; C cylinders, H heads, S sectors of B bytes, and @F behind it where F is the number of the first.\n"
+    ++ codes "\n"
     ++ codes "Exit codes:\n"
     ++ codes "   0\tall was done; every sector is good\n"
     ++ codes "   1\tall was done; a sector is not good, or read found data of others\n"

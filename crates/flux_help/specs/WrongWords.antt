@@ -1,8 +1,9 @@
 -- What is told of words that are no command.
-use Rattle.std.specs.Prelude.{ℕ, List, [], ◌∷◌, ◌++◌, ◌&&◌, Bool, false, codes, if◌then◌else◌, nat_eq, not, Option, Some, None, is_some}
+use Rattle.std.specs.Prelude.{ℕ, List, [], ◌∷◌, ◌++◌, ◌&&◌, ◌||◌, Bool, false, codes, if◌then◌else◌, nat_eq, not, Option, Some, None, is_some}
 use Rattle.std.specs.List.{position_from, slice_get}
 use Rattle.std.specs.Option.{option_and_then}
 use Rattle.std.specs.Str.{bytes_eq}
+use Rattle.ibm_disks.specs.Words.{begins_numbers}
 use Rattle.sector_images.specs.Formats.{formats, row}
 use Rattle.sector_images.specs.declared.format.Format.{Format}
 use Rattle.sector_report.specs.Lines.{usage_text}
@@ -23,9 +24,9 @@ wants_format (Some verb) = is_own verb && asks_format verb
 abbrev pub has_format_word : List ℕ → Format → Bool
 has_format_word word format = bytes_eq (row format).word word
 
--- a format has this word
+-- a format has this word, or it begins as those do that write a disk's numbers
 abbrev pub names_format : List ℕ → Bool
-names_format word = is_some (position_from (has_format_word word) 0 formats)
+names_format word = is_some (position_from (has_format_word word) 0 formats) || begins_numbers word
 
 -- the format whose word is nearest to this one
 unfoldable pub nearest_text : List ℕ → List ℕ

@@ -30,7 +30,8 @@ fn nearer(format: Format, best: Format, word: &[u8]) -> Format
 fn differing(format: Format, word: &[u8]) -> u128
     ensures { result ≡ differing (row format).word word.now }
 {
-    let name = format.word().as_bytes();
+    let own = format.word();
+    let name = own.as_str().as_bytes();
     let shared = shared(name, word);
     2 * (word.len().saturating_sub(shared) as u128) + (name.len().saturating_sub(shared) as u128)
 }

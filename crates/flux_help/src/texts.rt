@@ -21,8 +21,12 @@ const HEADING: &str = "   --version                    the version
 Formats:
 ";
 
-/// A line for each exit code.
-const CODES: &str = "\nExit codes:
+/// How disks are written by their numbers, and a line for each exit code.
+const CODES: &str = "
+Any other disk of IBM's double or single density is a format by its numbers: mfm-RATE-CxHxSxB with dd, hd or hd360 for RATE,
+or fm-RATE-CxHxSxB with sd or sd8; C cylinders, H heads, S sectors of B bytes, and @F behind it where F is the number of the first.
+
+Exit codes:
    0\tall was done; every sector is good
    1\tall was done; a sector is not good, or read found data of others
    2\tthe input is refused: the last line of standard error says why
@@ -59,7 +63,7 @@ pub(crate) fn heading() -> &'static str
     HEADING
 }
 
-/// The exit codes, as contracts see them.
+/// What stands after the formats, as contracts see it.
 #[tactic(auto, unfolding(crate::specs::Pages::codes_text))]
 pub(crate) fn exit_codes() -> &'static str
     ensures { result.now ≡ codes_text }
@@ -72,7 +76,11 @@ pub(crate) fn exit_codes() -> &'static str
 pub(crate) fn format_line(format: Format) -> Line
     ensures { result.bytes ≡ format_text format }
 {
-    disk_line(format.word(), disk_name(format), image_size(format))
+    disk_line(
+        format.word().as_str(),
+        disk_name(format),
+        image_size(format),
+    )
 }
 
 /// A word, a disk's name of at most 100 bytes, and a number of bytes in one line.
@@ -124,5 +132,6 @@ fn disk_name(format: Format) -> &'static str
         Format::AppleProdos => "Apple II, as ProDOS wrote it, 35 cylinders, 16 sectors",
         Format::Mac400 => "Macintosh, 3.5-inch, 80 cylinders, 12 to 8 sectors",
         Format::Mac800 => "Macintosh, 3.5-inch, 80 cylinders, 2 heads, 12 to 8 sectors",
+        Format::Numbered(_) => "a disk by its numbers",
     }
 }

@@ -3,6 +3,7 @@ ghost use Rattle.std.specs.Io.KnownBytes.{Appends};
 ghost use Rattle.std.specs.List.{position_from};
 ghost use Rattle.std.specs.Option.{option_map};
 ghost use Rattle.flux_base.specs.Outside.{AppendsPart, Rose};
+ghost use Rattle.ibm_disks.specs.Words.{begins_numbers};
 ghost use Rattle.sector_images.specs.Formats.{formats};
 ghost use Rattle.flux_help.specs.WrongWords.{format_word, has_format_word, is_option, names_format, nearest_text, no_format_text, told_by, usage_by, wants_format, wrong_text};
 
@@ -102,11 +103,24 @@ fn usage_of(verb: Option<Verb>) -> &'static str
     }
 }
 
-/// Whether a format has this word.
+/// Whether a format has this word, or it begins as those do that write a disk's numbers.
 fn names_format(word: &[u8]) -> bool
     ensures { result ≡ names_format word.now }
 {
-    format_place(word).is_some()
+    let named = format_place(word).is_some();
+    let numbered = begins_numbers(word);
+    named || numbered
+}
+
+/// Whether a word begins as those do that write a disk's numbers.
+fn begins_numbers(word: &[u8]) -> bool
+    ensures { result ≡ begins_numbers word.now }
+{
+    match word {
+        [b'f', b'm', b'-', ..] => true,
+        [b'm', b'f', b'm', b'-', ..] => true,
+        _ => false,
+    }
 }
 
 /// Where the format of this word stands in the table.
@@ -122,7 +136,7 @@ fn format_place(word: &[u8]) -> Option<usize>
 fn has_word(format: Format, word: &[u8]) -> bool
     ensures { result ≡ has_format_word word.now format }
 {
-    format.word().as_bytes() == word
+    format.word().as_str().as_bytes() == word
 }
 
 /// Writes that no format has this word, and the one whose word is nearest.
@@ -157,7 +171,7 @@ fn nearest_line(word: &[u8]) -> Line
 {
     let mut line = Line::new();
     put(&mut line, "; nearest: ");
-    put(&mut line, nearest_format(word).word());
+    put(&mut line, nearest_format(word).word().as_str());
     put(&mut line, "\n");
     line
 }
