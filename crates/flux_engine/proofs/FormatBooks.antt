@@ -5,7 +5,7 @@ use Rattle.std.proofs.lemmas.List.{length-replicate}
 use Rattle.std.proofs.lemmas.Option.{slice_get-get_or}
 use Rattle.flux_base.specs.declared.track.TrackId.{TrackId}
 use Rattle.sector_images.specs.Formats.{zone}
-use Rattle.sector_images.specs.Places.{TracksKeepBounds, tracks}
+use Rattle.sector_images.specs.Places.{FormatsHaveTracks, TracksKeepBounds, tracks}
 use Rattle.sector_images.specs.declared.format.Format.{Format}
 use Rattle.turn_merge.specs.Book.{Found, Knowledge}
 use Rattle.turn_merge.specs.Others.{OthersKnown}
@@ -17,31 +17,27 @@ use Rattle.flux_engine.specs.declared.gathered_track.PassedStream.{PassedStream}
 abbrev nothing : Found
 nothing = record { verdict = Missing; bytes = None }
 
--- each format has a track
-some-track : (format : Format) → 0 < length (tracks format)
-some-track format = grind (arith)
-
 abbrev no-track : TrackId
 no-track = record { cylinder = 0; head = 0 }
 
-first-at : (format : Format) → (first : TrackId) × (slice_get (tracks format) 0 ≡ Some first)
-first-at format = (_, slice_get-get_or (tracks format) 0 no-track (some-track format))
+first-at : FormatsHaveTracks → (format : Format) → (first : TrackId) × (slice_get (tracks format) 0 ≡ Some first)
+first-at some format = (_, slice_get-get_or (tracks format) 0 no-track (omega (arith, some format)))
 
 -- no track has more sectors than the first
-pub is-book : TracksKeepBounds → (format : Format) → IsBookOf format (empty_book format)
-is-book bounds format = record {
+pub is-book : FormatsHaveTracks → TracksKeepBounds → (format : Format) → IsBookOf format (empty_book format)
+is-book some bounds format = record {
   first = refl;
   size = refl;
   most = λ (track : TrackId) known.
-      let first = first-at format in
+      let first = first-at some format in
       subst (λ (o : Option TrackId). (zone format track.cylinder).sectors ≤ (zone format (unwrap_or o no-track).cylinder).sectors) (sym first.1)
       ((bounds format track known).most first.0 first.1);
 }
 
 -- it is started, without a stream
-pub is-started : (format : Format) → IsStarted format 0 0 (empty_book format) (record { notes = 0; told = [] })
-is-started format = record {
-  low = some-track format;
+pub is-started : FormatsHaveTracks → (format : Format) → IsStarted format 0 0 (empty_book format) (record { notes = 0; told = [] })
+is-started some format = record {
+  low = omega (arith, some format);
   knows = record { first = refl; count = length-replicate (sectors_of format (track_at format 0)).count nothing };
   few = omega arith;
   few_others = omega arith;

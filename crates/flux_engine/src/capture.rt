@@ -342,6 +342,7 @@ fn recover_cells(
     ensures are { AreCellsOf flux.now.times cells.new.cells }
     ensures room { room cells.old ≤ room cells.new }
 {
+    tracks_keep_bounds();
     let turn = flux.first_turn_ticks();
     let mean = LoopStart::for_turn(nominal(format, track), turn, ring_cells(format, track));
     let start = start_by(clock, mean);

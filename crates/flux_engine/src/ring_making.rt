@@ -88,6 +88,7 @@ fn id_of(format: Format, image: &[u8]) -> DiskId
     if !has_id(format) {
         return DiskId::ANY;
     }
+    tracks_keep_bounds();
     let directory = image_place(format, DIRECTORY_TRACK, 0);
     DiskId {
         first: image[(directory + FIRST_ID) as usize],

@@ -2,7 +2,7 @@ ghost use Rattle.std.specs.Prelude.{◌≡◌, IfOk};
 
 use cell_bits::Cells;
 use flux_base::Memory;
-use sector_images::{Format, image_size, ring_cells, track_id};
+use sector_images::{Format, image_size, ring_cells, track_id, tracks_keep_bounds};
 use std::alloc::Global;
 use std::marker::Model;
 
@@ -35,6 +35,7 @@ impl WriteRoom {
     pub fn reserve(alloc: Global, format: Format) -> Result<WriteRoom, Memory>
         ensures { IfOk result (λ room. room ≡ format) }
     {
+        tracks_keep_bounds();
         let image = vec![in alloc; 0u8; image_size(format) as usize + 1]?;
         let mut ring = Cells::new(alloc);
         // No track has a longer ring than the first.

@@ -15,7 +15,7 @@ ghost use Rattle.flux_engine.specs.Writing.{Knows, AreFew, IsSum};
 use crate::recordings::sectors_of;
 use crate::sectors::Sectors;
 use flux_base::{Failed, MOST_SECTOR_BYTES, Sink, TrackId, write_whole};
-use sector_images::{Format, image_sector};
+use sector_images::{Format, image_sector, tracks_keep_bounds};
 use sector_report::{Naming, Totals, named_line, write_line};
 use turn_merge::{Book, Verdict};
 
@@ -36,6 +36,7 @@ pub fn write_image<W: Sink>(
     ensures later { W.faults image.old ≤ W.faults image.new }
     ensures cause { OnErr result (Rose (W.faults image.old) (W.faults image.new)) }
 {
+    tracks_keep_bounds();
     let sectors = sectors_of(format, track);
     for number in 0..sectors.count {
         let sector = image_sector(format, track, number);

@@ -1,4 +1,4 @@
-use Rattle.std.proofs.Common.{◌≡◌, ap, subst, sym, ◌∙◌}
+use Rattle.std.proofs.Common.{◌≡◌, ap, arith, subst, sym, ◌∙◌}
 use Rattle.phase_loop.specs.Rows.{recovered}
 use Rattle.phase_loop.specs.declared.start.LoopStart.{LoopStart}
 use Rattle.flux_engine.specs.Gathering.{AreCellsOf}
@@ -15,3 +15,8 @@ returns-clause-cells c =
 pub returns-clause-are : goal.returns-clause-are
 returns-clause-are c =
     subst (AreCellsOf c.args.flux.now.times) (sym c.in-Ok.ensures.ok) (are_cells c.start_by-start.result c.args.flux.now.times c.requires.bounded.few_times)
+
+pub for_turn-mean-requires-clause-cells : goal.for_turn-mean-requires-clause-cells
+for_turn-mean-requires-clause-cells c =
+    let keeps = c.tracks_keep_bounds.ensures.bounds c.args.format c.args.track c.requires.track in
+    omega (arith, c.ring_cells.ensures, keeps.shortest_ring)

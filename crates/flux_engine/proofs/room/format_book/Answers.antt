@@ -14,3 +14,6 @@ returns c =
     let s = c.sectors_of-sectors.result in
     empty_is c.in_ok-book.book s.first s.count s.size s.count c.in_ok-book.ensures.empty c.in_ok-book.ensures.shape
     ∙ ap (λ (s : Sectors). let k : Knowledge = record { first_sector = s.first; most = s.count; size = s.size; notes = 0; found = replicate s.count (record { verdict = Missing; bytes = None }) } in k) first
+
+pub track_id-requires : goal.track_id-requires
+track_id-requires c = c.tracks_keep_bounds.ensures.some c.args.format

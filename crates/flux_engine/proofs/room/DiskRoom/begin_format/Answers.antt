@@ -8,9 +8,9 @@ use Rattle.flux_engine.proofs.room.DiskRoom.begin_format.Goals as goal
 
 pub invariant_of-self : goal.invariant_of-self
 invariant_of-self c = (
-  record { for_cells = c.self.invariant.0.for_cells; for_book = subst (IsBookOf c.args.format) (sym c.requires) (is-book c.tracks_keep_bounds.ensures.bounds c.args.format) },
+  record { for_cells = c.self.invariant.0.for_cells; for_book = subst (IsBookOf c.args.format) (sym c.requires) (is-book c.tracks_keep_bounds.ensures.some c.tracks_keep_bounds.ensures.bounds c.args.format) },
   subst (λ (b : Knowledge). IsStarted c.args.format 0 0 b c.clear-2.new.self) (sym c.requires)
-      (subst (λ (o : OthersKnown). IsStarted c.args.format 0 0 (empty_book c.args.format) o) (sym (no_others_is c.clear-2.new.self c.clear-2.ensures)) (is-started c.args.format)),
+      (subst (λ (o : OthersKnown). IsStarted c.args.format 0 0 (empty_book c.args.format) o) (sym (no_others_is c.clear-2.new.self c.clear-2.ensures)) (is-started c.tracks_keep_bounds.ensures.some c.args.format)),
 )
 
 pub returns : goal.returns

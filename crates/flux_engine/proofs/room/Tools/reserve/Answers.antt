@@ -9,13 +9,13 @@ use Rattle.flux_engine.proofs.room.Tools.reserve.Goals as goal
 pub returns-clause-roomy : goal.returns-clause-roomy
 returns-clause-roomy c = record {
   for_cells = omega (arith, c.in_ok-reserve.ensures.spare);
-  for_book = subst (IsBookOf c.args.format) (sym c.in_ok-book.ensures) (is-book c.tracks_keep_bounds.ensures.bounds c.args.format);
+  for_book = subst (IsBookOf c.args.format) (sym c.in_ok-book.ensures) (is-book c.tracks_keep_bounds.ensures.some c.tracks_keep_bounds.ensures.bounds c.args.format);
 }
 
 pub returns-clause-started : goal.returns-clause-started
 returns-clause-started c =
     subst (λ (b : Knowledge). IsStarted c.args.format 0 0 b c.in_ok-others.others) (sym c.in_ok-book.ensures)
-    (subst (λ (o : OthersKnown). IsStarted c.args.format 0 0 (empty_book c.args.format) o) (sym (no_others_is c.in_ok-others.others c.in_ok-others.ensures)) (is-started c.args.format))
+    (subst (λ (o : OthersKnown). IsStarted c.args.format 0 0 (empty_book c.args.format) o) (sym (no_others_is c.in_ok-others.others c.in_ok-others.ensures)) (is-started c.tracks_keep_bounds.ensures.some c.args.format))
 
 pub returns-clause-no_others : goal.returns-clause-no_others
 returns-clause-no_others c = no_others_is c.in_ok-others.others c.in_ok-others.ensures
