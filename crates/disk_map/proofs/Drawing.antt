@@ -54,7 +54,7 @@ mapped_no_top format left picture picture' part = record {
 }
 
 -- some bytes whole, and a part of more
-cut_after : (old new : Option (List ℕ)) (whole more : List ℕ) (n : ℕ) → n < length more → Appends old new (whole ++ take n more) → AppendsPart old new (whole ++ more)
+pub cut_after : (old new : Option (List ℕ)) (whole more : List ℕ) (n : ℕ) → n < length more → Appends old new (whole ++ take n more) → AppendsPart old new (whole ++ more)
 cut_after old new whole more n within grew =
     let low : length whole + n < length (whole ++ more) = omega (arith, within, length-append whole more) in
     (length whole + n, low, subst (Appends old new) (sym (take-append-add whole more n)) grew)

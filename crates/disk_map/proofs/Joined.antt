@@ -29,5 +29,5 @@ legend t m a b c d e f g =
     ∙ ap (λ (r : List ℕ). r ++ g) (pair t (m ++ a ++ b ++ c ++ d) e f)
     ∙ append_assoc t (m ++ a ++ b ++ c ++ d ++ e ++ f) g
 
-pub begin : (a b c d e f g h i : List ℕ) → ((((((a ++ b) ++ (c ++ d)) ++ e) ++ f) ++ g) ++ h) ++ i ≡ a ++ b ++ c ++ d ++ e ++ f ++ g ++ h ++ i
-begin a b c d e f g h i = ap (λ (r : List ℕ). ((((r ++ e) ++ f) ++ g) ++ h) ++ i) (sym (append_assoc (a ++ b) c d))
+pub begin : (a b c d e k l f g h i : List ℕ) → ((((((((a ++ b) ++ (c ++ d)) ++ e) ++ k) ++ l) ++ f) ++ g) ++ h) ++ i ≡ a ++ b ++ c ++ d ++ e ++ k ++ l ++ f ++ g ++ h ++ i
+begin a b c d e k l f g h i = ap (λ (r : List ℕ). ((((((r ++ e) ++ k) ++ l) ++ f) ++ g) ++ h) ++ i) (sym (append_assoc (a ++ b) c d))

@@ -5,3 +5,5 @@ pub mod Joined
 pub mod Reports
 pub mod Outcomes
 pub mod Fields
+pub mod DrawnDumps
+pub mod DumpReports

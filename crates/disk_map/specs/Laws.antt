@@ -3,12 +3,13 @@ use Rattle.std.specs.Prelude.{◌≡◌, ◌<◌, ℕ, ◌+◌, List, ◌++◌, 
 use Rattle.std.specs.List.{range_with_len}
 use Rattle.flux_base.specs.declared.track.TrackId.{TrackId}
 use Rattle.sector_images.specs.declared.format.Format.{Format}
+use Rattle.sector_report.specs.declared.naming.Naming.{Naming}
 use Rattle.turn_merge.specs.Readings.{NotedReading, verdict}
 use Rattle.flux_engine.specs.Disks.{IsDecoded, decoded_of}
 use Rattle.flux_engine.specs.Recordings.{sectors_of}
-use Rattle.flux_engine.specs.Tracks.{line_of}
+use Rattle.flux_engine.specs.Tracks.{line_by}
 use Rattle.disk_map.specs.Looks.{colour_of, kind_of, shape_of}
-use Rattle.disk_map.specs.Maps.{IsMapped, Mapped, field_of, fields_of, parts_of}
+use Rattle.disk_map.specs.Maps.{IsMapped, Mapped, field_of, fields_by, parts_of}
 use Rattle.disk_map.specs.Places.{field_top, layout_of, left_of}
 use Rattle.disk_map.specs.Texts.{mark_text}
 use Rattle.disk_map.specs.declared.kind.Kind.{Kind}
@@ -27,18 +28,18 @@ ShapesTell = (a b : Kind) → shape_of a ≡ shape_of b → a ≡ b
 
 -- Among the fields of a track stands, after one field for each sector before it, that of a sector: it has the colour and the shape of the
 -- verdict on the sector, at the sector's place, and the sector's line of the report as its title.
-pub record HasField (format : Format) (track : TrackId) (readings : List NotedReading) (index sector : ℕ) : Type 0 where
+pub record HasField (naming : Naming) (format : Format) (track : TrackId) (readings : List NotedReading) (index sector : ℕ) : Type 0 where
   pub before : List ℕ
   pub field : List ℕ
   pub after : List ℕ
-  pub are : fields_of format track readings ≡ before ++ (field ++ after)
-  pub others : before ≡ flat_map (field_of format track readings) (range_with_len (sectors_of format track).first index)
+  pub are : fields_by naming format track readings ≡ before ++ (field ++ after)
+  pub others : before ≡ flat_map (field_of naming format track readings) (range_with_len (sectors_of format track).first index)
   pub tells : field ≡ mark_text (kind_of (verdict readings sector)) (left_of track) (field_top (layout_of format) track sector)
-      ++ codes "\"><title>" ++ line_of track readings sector ++ codes "</title></path>\n"
+      ++ codes "\"><title>" ++ line_by naming track readings sector ++ codes "</title></path>\n"
 
 abbrev pub EachSectorHasItsField : Type 0
-EachSectorHasItsField = (format : Format) (track : TrackId) (readings : List NotedReading) (index : ℕ) → index < (sectors_of format track).count
-    → HasField format track readings index ((sectors_of format track).first + index)
+EachSectorHasItsField = (naming : Naming) (format : Format) (track : TrackId) (readings : List NotedReading) (index : ℕ) → index < (sectors_of format track).count
+    → HasField naming format track readings index ((sectors_of format track).first + index)
 
 -- What is drawn of an input is what the input decodes to: the same tracks by the same readings, the same totals, and the same stop.
 abbrev pub MapsAreOfReports : Type 0

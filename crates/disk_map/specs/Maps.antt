@@ -6,6 +6,8 @@ use Rattle.disk_recordings.specs.Members.{header_at, sector_at}
 use Rattle.kryo_stream.specs.Stream.{first_fault, times, indexes}
 use Rattle.sector_images.specs.declared.format.Format.{Format}
 use Rattle.sector_report.specs.Lines.{refused_text, total_text}
+use Rattle.sector_report.specs.declared.naming.Naming.{Naming}
+use Rattle.sector_report.specs.declared.naming.Naming.TheVariants.{Unnamed}
 use Rattle.sector_report.specs.declared.totals.Totals.{Totals}
 use Rattle.turn_merge.specs.Readings.{NotedReading, verdict}
 use Rattle.flux_engine.specs.Disks.{Stop, decoded_count, no_totals, stop_of, totals_over}
@@ -13,23 +15,31 @@ use Rattle.flux_engine.specs.Recordings.{cells_of, sectors_of, track_at}
 use Rattle.flux_engine.specs.Streams.{stream_at}
 use Rattle.flux_engine.specs.Tracks.{Found, TrackNotes, TrackPart, numbers, part_of, readings_of, totals_of}
 use Rattle.disk_map.specs.Places.{layout_of}
-use Rattle.disk_map.specs.Texts.{field_text, foot_text, top_text}
+use Rattle.disk_map.specs.Texts.{field_by, foot_text, top_text}
 
 -- the field of a sector, by the readings of its track
-abbrev pub field_of : Format → TrackId → List NotedReading → (sector : ℕ) → List ℕ
-field_of format track readings sector = field_text (layout_of format) track sector (verdict readings sector)
+abbrev pub field_of : Naming → Format → TrackId → List NotedReading → (sector : ℕ) → List ℕ
+field_of naming format track readings sector = field_by naming (layout_of format) track sector (verdict readings sector)
 
 -- the fields of a track, one for each sector, in the order of their numbers
-unfoldable pub fields_of : Format → TrackId → List NotedReading → List ℕ
-fields_of format track readings = flat_map (field_of format track readings) (numbers (sectors_of format track))
+unfoldable pub fields_by : Naming → Format → TrackId → List NotedReading → List ℕ
+fields_by naming format track readings = flat_map (field_of naming format track readings) (numbers (sectors_of format track))
 
--- what the engine's loop writes of a track: its fields, and no notes
-abbrev pub drawn_part : Format → TrackId → TrackNotes → TrackPart
-drawn_part format track notes = record {
-  image = fields_of format track notes.readings;
+-- the same where the lines name no source
+abbrev pub fields_of : Format → TrackId → List NotedReading → List ℕ
+fields_of format track readings = fields_by Unnamed format track readings
+
+-- what becomes of a track in a picture: its fields, and no notes
+abbrev pub drawn_by : Naming → Format → TrackId → TrackNotes → TrackPart
+drawn_by naming format track notes = record {
+  image = fields_by naming format track notes.readings;
   lines = [];
   totals = totals_of (map (verdict notes.readings) (numbers (sectors_of format track)));
 }
+
+-- what the engine's loop writes of it by the plan of decoding
+abbrev pub drawn_part : Format → TrackId → TrackNotes → TrackPart
+drawn_part format track notes = drawn_by Unnamed format track notes
 
 -- what a track comes to: its fields, and what it comes to where the disk is decoded
 pub record MapTrack : Type 0 where

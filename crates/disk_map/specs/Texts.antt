@@ -4,7 +4,9 @@ use Rattle.std.specs.List.{range_with_len}
 use Rattle.flux_base.specs.declared.track.TrackId.{TrackId}
 use Rattle.sector_images.specs.Formats.{row}
 use Rattle.sector_images.specs.declared.format.Format.{Format}
-use Rattle.sector_report.specs.Lines.{sector_text}
+use Rattle.sector_report.specs.Lines.{named_text}
+use Rattle.sector_report.specs.declared.naming.Naming.{Naming}
+use Rattle.sector_report.specs.declared.naming.Naming.TheVariants.{Unnamed}
 use Rattle.sector_report.specs.declared.totals.Totals.{Totals}
 use Rattle.turn_merge.specs.declared.verdict.Verdict.{Verdict}
 use Rattle.disk_map.specs.Looks.{colour_of, kind_of, name_of, shape_of}
@@ -37,11 +39,11 @@ labels_text =
     ++ codes "<text x=\"18\" y=\"2421\">201</text>\n"
     ++ codes "</g></defs>\n"
 
--- the picture's begin: its size, its title and its ground
-unfoldable pub begin_text : Format → Layout → List ℕ
-begin_text format layout =
+-- the picture's begin: its size, its title, which names the command and the format, and its ground
+unfoldable pub begin_text : (command : List ℕ) → Format → Layout → List ℕ
+begin_text command format layout =
     codes "<svg xmlns=\"http://www.w3.org/2000/svg\" viewBox=\"0 0 " ++ decimal (width_of layout) ++ codes " " ++ decimal (height_of layout)
-    ++ codes "\" font-family=\"monospace\" font-size=\"9\">\n<title>flux map " ++ (row format).word
+    ++ codes "\" font-family=\"monospace\" font-size=\"9\">\n<title>flux " ++ command ++ codes " " ++ (row format).word
     ++ codes "</title>\n<rect width=\"100%\" height=\"100%\" fill=\"#ffffff\"/>\n<text x=\"40\" y=\"20\" font-size=\"13\">" ++ (row format).word ++ codes "</text>\n"
 
 -- the name of a head, at its grid's place
@@ -69,9 +71,13 @@ grid_text layout head = heading_text layout head ++ ground_text layout ++ row_la
 abbrev pub grids_text : Layout → List ℕ
 grids_text layout = labels_text ++ flat_map (grid_text layout) (range_with_len 0 (layout.last.head + 1))
 
--- all that stands before the fields
+-- all that stands before the fields, in a picture that this command draws
+abbrev pub top_by : (command : List ℕ) → Format → List ℕ
+top_by command format = begin_text command format (layout_of format) ++ grids_text (layout_of format)
+
+-- in one that `map` draws
 abbrev pub top_text : Format → List ℕ
-top_text format = begin_text format (layout_of format) ++ grids_text (layout_of format)
+top_text format = top_by (codes "map") format
 
 -- the colour and the shape of a verdict at a place
 unfoldable pub mark_text : Kind → (left top : ℕ) → List ℕ
@@ -79,10 +85,14 @@ mark_text kind left top =
     codes "<path fill=\"" ++ colour_of kind ++ codes "\" d=\"M" ++ decimal left ++ codes " " ++ decimal top ++ shape_of kind
 
 -- the field of a sector, at its place: its verdict's colour and shape, and as its title its line of the report
-abbrev pub field_text : Layout → TrackId → (sector : ℕ) → Verdict → List ℕ
-field_text layout track sector verdict =
+abbrev pub field_by : Naming → Layout → TrackId → (sector : ℕ) → Verdict → List ℕ
+field_by naming layout track sector verdict =
     mark_text (kind_of verdict) (left_of track) (field_top layout track sector)
-    ++ codes "\"><title>" ++ sector_text track sector verdict ++ codes "</title></path>\n"
+    ++ codes "\"><title>" ++ named_text naming track sector verdict ++ codes "</title></path>\n"
+
+-- the same where the line names no source
+abbrev pub field_text : Layout → TrackId → (sector : ℕ) → Verdict → List ℕ
+field_text layout track sector verdict = field_by Unnamed layout track sector verdict
 
 -- how far below the legend's top a verdict stands
 abbrev pub legend_row : Kind → ℕ
@@ -115,3 +125,7 @@ abbrev pub foot_text : Layout → Totals → (last : List ℕ) → List ℕ
 foot_text layout totals last =
     legend_text layout totals Good ++ legend_text layout totals Contradictory ++ legend_text layout totals Bad ++ legend_text layout totals Missing
     ++ ending_text layout last
+
+-- a line to the right of the legend
+unfoldable pub counts_text : Layout → (line : List ℕ) → List ℕ
+counts_text layout line = codes "<text x=\"240\" y=\"" ++ decimal (foot_top layout + 9) ++ codes "\">" ++ line ++ codes "</text>\n"

@@ -1,4 +1,4 @@
-ghost use Rattle.std.specs.Prelude.{◌≡◌, ◌+◌, ◌≤◌, ℕ, List, Some, flat_map};
+ghost use Rattle.std.specs.Prelude.{◌≡◌, ◌+◌, ◌≤◌, ℕ, List, Some, flat_map, length};
 ghost use Rattle.std.specs.List.{range_with_len};
 ghost use Rattle.flux_base.specs.Moments.{Puts, moment};
 ghost use Rattle.flux_engine.specs.Answers.{Stayed};
@@ -8,7 +8,7 @@ ghost use Rattle.kryo_stream.specs.Reads.{source_at};
 ghost use Rattle.disk_map.specs.Answers.{IsWholeOrRefused, MapCause, MapsDisk, SaysOfMapInput};
 ghost use Rattle.disk_map.specs.Places.{layout_of};
 ghost use Rattle.disk_map.specs.Progress.{EndsEarly};
-ghost use Rattle.disk_map.specs.Texts.{grid_text, grids_text, top_text};
+ghost use Rattle.disk_map.specs.Texts.{grid_text, grids_text, top_by};
 
 use crate::field_writer::FieldWriter;
 use crate::layout::Layout;
@@ -47,7 +47,7 @@ pub fn map_disk<S: Source, P: Sink>(
     ensures picture_later { P.faults picture.old ≤ P.faults picture.new }
 {
     let format = room_format(room);
-    match write_top(format, picture) {
+    match write_top("map", format, picture) {
         Ok(()) => {}
         Err(_) => return Err(PlanFault::ImageFault),
     }
@@ -61,7 +61,9 @@ pub fn map_disk<S: Source, P: Sink>(
     let mut totals = no_totals();
     match decode_planned_tracks(
         plan,
-        &FieldWriter,
+        &FieldWriter {
+            naming: Naming::Unnamed,
+        },
         room,
         source,
         picture,
@@ -107,12 +109,17 @@ fn end_early<P: Sink>(
     }
 }
 
-/// Writes what stands before the fields.
-fn write_top<P: Sink>(format: Format, picture: &mut P) -> Result<(), Failed>
-    ensures { Puts (moment P.written P.faults picture.old) (moment P.written P.faults picture.new) (top_text format) result }
+/// Writes what stands before the fields, in a picture that this command draws.
+pub(crate) fn write_top<P: Sink>(
+    command: &str,
+    format: Format,
+    picture: &mut P,
+) -> Result<(), Failed>
+    requires { length command.now ≤ 8 }
+    ensures { Puts (moment P.written P.faults picture.old) (moment P.written P.faults picture.new) (top_by command.now format) result }
 {
     let layout = Layout::of_format(format);
-    match write_text(picture, &begin_text(format, layout)) {
+    match write_text(picture, &begin_text(command, format, layout)) {
         Ok(()) => write_grids(layout, picture),
         Err(failed) => Err(failed),
     }

@@ -9,22 +9,26 @@ ghost use Rattle.flux_engine.specs.Writing.{IsSum, Knows};
 ghost use Rattle.sector_images.specs.Places.{IsTrack};
 ghost use Rattle.turn_merge.specs.Book.{StandsFor};
 ghost use Rattle.turn_merge.specs.Readings.{NotedReading, verdict as verdict_over};
-ghost use Rattle.disk_map.specs.Maps.{drawn_part, fields_of};
+ghost use Rattle.disk_map.specs.Maps.{drawn_by, fields_by};
 
 use crate::layout::Layout;
 use crate::text::write_text;
-use crate::texts::field_text;
+use crate::texts::field_by;
 use flux_base::{Failed, Sink, TrackId};
 use flux_engine::{Gathered, PartFault, TrackWriter, count_verdict, no_totals, sectors_of};
 use sector_images::{Format, tracks_keep_bounds};
-use sector_report::Totals;
+use sector_report::{Naming, Totals};
 use turn_merge::Book;
 
 /// Writes the fields of a track to the sink of the image, and nothing to that of the notes.
-pub(crate) struct FieldWriter;
+#[derive(Clone, Copy, Debug)]
+pub(crate) struct FieldWriter {
+    /// How their titles name the places of readings.
+    pub(crate) naming: Naming,
+}
 
 impl TrackWriter for FieldWriter {
-    ghost part_of = { λ _. drawn_part };
+    ghost part_of = { λ writer. drawn_by writer.naming };
 
     fn write_track<W: Sink, N: Sink>(
         &self,
@@ -34,7 +38,7 @@ impl TrackWriter for FieldWriter {
         image: &mut W,
         notes: &mut N,
     ) -> Result<Totals, PartFault> {
-        match write_fields(format, track, &gathered.book, image) {
+        match write_fields(self.naming, format, track, &gathered.book, image) {
             Ok(totals) => Ok(totals),
             Err(_) => Err(PartFault::ImageFault),
         }
@@ -43,6 +47,7 @@ impl TrackWriter for FieldWriter {
 
 /// Writes the fields of a track, one for each sector, by the sectors' numbers, each in one piece, and gives the track's totals.
 fn write_fields<P: Sink>(
+    naming: Naming,
     format: Format,
     track: TrackId,
     book: &Book,
@@ -50,10 +55,10 @@ fn write_fields<P: Sink>(
 ) -> Result<Totals, Failed>
     requires track { IsTrack format track }
     requires knows { Knows (sectors_in format track) book.now }
-    ensures ok { OnOk result ((readings : List NotedReading) → StandsFor book.now readings → Appends (P.written picture.old) (P.written picture.new) (fields_of format track readings)) }
+    ensures ok { OnOk result ((readings : List NotedReading) → StandsFor book.now readings → Appends (P.written picture.old) (P.written picture.new) (fields_by naming format track readings)) }
     ensures counted { IfOk result (λ totals. IsSum totals × (totals.sectors ≤ 100)) }
     ensures totals { IfOk result (λ totals. (readings : List NotedReading) → StandsFor book.now readings → totals ≡ totals_of (map (verdict_over readings) (numbers (sectors_in format track)))) }
-    ensures err { OnErr result ((readings : List NotedReading) → StandsFor book.now readings → AppendsPart (P.written picture.old) (P.written picture.new) (fields_of format track readings)) }
+    ensures err { OnErr result ((readings : List NotedReading) → StandsFor book.now readings → AppendsPart (P.written picture.old) (P.written picture.new) (fields_by naming format track readings)) }
     ensures later { P.faults picture.old ≤ P.faults picture.new }
     ensures cause { OnErr result (Rose (P.faults picture.old) (P.faults picture.new)) }
 {
@@ -64,7 +69,7 @@ fn write_fields<P: Sink>(
     for index in 0..sectors.count {
         let sector = sectors.first + index;
         let outcome = book.verdict(sector);
-        match write_text(picture, &field_text(layout, track, sector, &outcome)) {
+        match write_text(picture, &field_by(naming, layout, track, sector, &outcome)) {
             Ok(()) => count_verdict(&mut totals, outcome),
             Err(failed) => return Err(failed),
         }

@@ -1,5 +1,6 @@
 //! What a picture tells.
 
+ghost use Rattle.disk_map.specs.Dumps.{PicturesOfDumpsShowReports};
 ghost use Rattle.disk_map.specs.Laws.{ColoursTell, EachSectorHasItsField, MapsAreOfReports, OneMap, ShapesTell};
 
 use disk_recordings::tracks_are_read;
@@ -18,6 +19,12 @@ pub fn each_sector_has_its_field()
 /// The tracks of a picture are those of the report of the same input, by the same readings, with its totals and its stop.
 pub fn maps_are_of_reports()
     ensures { MapsAreOfReports }
+{}
+
+/// The picture of dumps is that of their report: the same numbers, and in each track the fields of the sectors whose lines the report has, by
+/// the same readings.
+pub fn dumps_are_drawn_as_reported()
+    ensures { PicturesOfDumpsShowReports }
 {}
 
 /// An input comes to one picture.

@@ -2,10 +2,11 @@
 //! colour and shape are its verdict and whose title is its line of the report.
 //!
 //! A disk is read by the engine's loop (`flux_engine`), by the plan of its report, and the fields of a track are written as soon as
-//! it is read. What is written depends on the format and on the verdicts alone.
+//! it is read. What is written depends on the format and on the verdicts alone. Dumps of a disk are read as `dump_reading` reads them.
 #![tactic(auto)]
 
 mod disk;
+mod dumps;
 mod field_writer;
 mod kind;
 mod laws;
@@ -14,9 +15,11 @@ mod text;
 mod texts;
 
 pub use disk::map_disk;
+pub use dumps::map_dumps;
 pub use kind::Kind;
 pub use laws::{
-    each_sector_has_its_field, fields_tell_verdicts, maps_are_of_reports, maps_are_one,
+    dumps_are_drawn_as_reported, each_sector_has_its_field, fields_tell_verdicts,
+    maps_are_of_reports, maps_are_one,
 };
 pub use layout::Layout;
 pub use text::Text;

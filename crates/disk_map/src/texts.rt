@@ -2,14 +2,14 @@
 
 ghost use Rattle.std.specs.Prelude.{◌≡◌, ◌+◌, ◌≤◌, ◌<◌, ◌++◌, length};
 ghost use Rattle.arrayvec.specs.ArrayString.{array_string_len};
-ghost use Rattle.disk_map.specs.Texts.{begin_text, count_of, ending_text, field_text, foot_text, grid_text, heading_text, labels_text, legend_row, legend_text, mark_text, row_labels_text, ground_text};
+ghost use Rattle.disk_map.specs.Texts.{begin_text, count_of, counts_text, ending_text, field_by, field_text, foot_text, grid_text, heading_text, labels_text, legend_row, legend_text, mark_text, row_labels_text, ground_text};
 
 use crate::kind::{Kind, colour_of, kind_of, name_of, shape_of};
 use crate::layout::Layout;
 use crate::text::{Text, append, append_number};
 use flux_base::TrackId;
 use sector_images::Format;
-use sector_report::{Line, Totals, sector_line};
+use sector_report::{Line, Naming, Totals, named_line};
 use turn_merge::Verdict;
 
 /// The numbers at the sides of a grid, of which each grid shows those that it has: every fifth cylinder, and the sectors of
@@ -45,9 +45,10 @@ pub(crate) fn labels() -> &'static str
     LABELS
 }
 
-/// The picture's begin: its size, its title and its ground.
-pub(crate) fn begin_text(format: Format, layout: Layout) -> Text
-    ensures { result.bytes ≡ begin_text format layout }
+/// The picture's begin: its size, its title, which names the command and the format, and its ground.
+pub(crate) fn begin_text(command: &str, format: Format, layout: Layout) -> Text
+    requires { length command.now ≤ 8 }
+    ensures { result.bytes ≡ begin_text command.now format layout }
 {
     let mut text = Text::new();
     append_number(
@@ -58,8 +59,10 @@ pub(crate) fn begin_text(format: Format, layout: Layout) -> Text
     append_number(&mut text, " ", layout.height());
     append(
         &mut text,
-        "\" font-family=\"monospace\" font-size=\"9\">\n<title>flux map ",
+        "\" font-family=\"monospace\" font-size=\"9\">\n<title>flux ",
     );
+    append(&mut text, command);
+    append(&mut text, " ");
     append(&mut text, format.word().as_str());
     append(
         &mut text,
@@ -130,6 +133,20 @@ pub fn field_text(layout: Layout, track: TrackId, sector: u8, verdict: &Verdict)
     requires { track.cylinder < 100 }
     ensures { result.bytes ≡ field_text layout track sector verdict.now }
 {
+    field_by(Naming::Unnamed, layout, track, sector, verdict)
+}
+
+/// The same with a title that names a part of the source of each reading.
+pub(crate) fn field_by(
+    naming: Naming,
+    layout: Layout,
+    track: TrackId,
+    sector: u8,
+    verdict: &Verdict,
+) -> Text
+    requires { track.cylinder < 100 }
+    ensures { result.bytes ≡ field_by naming layout track sector verdict.now }
+{
     let mut text = Text::new();
     append_mark(
         &mut text,
@@ -138,7 +155,7 @@ pub fn field_text(layout: Layout, track: TrackId, sector: u8, verdict: &Verdict)
         layout.field_top(track, sector),
     );
     append(&mut text, "\"><title>");
-    append_line(&mut text, &sector_line(track, sector, verdict));
+    append_line(&mut text, &named_line(naming, track, sector, verdict));
     append(&mut text, "</title></path>\n");
     text
 }
@@ -177,6 +194,19 @@ pub fn foot_text(layout: Layout, totals: &Totals, last: &Line) -> Text
     append_legend(&mut text, layout, Kind::Bad, totals);
     append_legend(&mut text, layout, Kind::Missing, totals);
     append_ending(&mut text, layout, last);
+    text
+}
+
+/// A line to the right of the legend.
+#[tactic(auto, unfolding(crate::specs::Texts::counts_text))]
+pub(crate) fn counts_text(layout: Layout, line: &Line) -> Text
+    ensures { result.bytes ≡ counts_text layout line.now.bytes }
+{
+    let mut text = Text::new();
+    append_number(&mut text, "<text x=\"240\" y=\"", layout.foot_top() + 9);
+    append(&mut text, "\">");
+    append_line(&mut text, line);
+    append(&mut text, "</text>\n");
     text
 }
 

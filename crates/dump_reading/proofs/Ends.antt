@@ -10,7 +10,7 @@ use Rattle.track_shelf.specs.Files.{File}
 use Rattle.flux_engine.specs.Disks.{images, lines}
 use Rattle.flux_engine.specs.LoopProgress.{EndedBySink, EndedByStream, EndsLoop, HasWritten, WritesFront}
 use Rattle.flux_engine.specs.PlanAnswers.{of_part, of_stream}
-use Rattle.flux_engine.specs.Plans.{Seen}
+use Rattle.flux_engine.specs.Plans.{PartOf, Seen}
 use Rattle.flux_engine.specs.Room.{RoomState}
 use Rattle.flux_engine.specs.declared.fault.CaptureFault.{CaptureFault}
 use Rattle.flux_engine.specs.declared.fault.CaptureFault.TheVariants.{ReadFault as UnreadCapture}
@@ -20,14 +20,16 @@ use Rattle.flux_engine.specs.declared.track_part.PartFault.{PartFault}
 use Rattle.flux_engine.specs.declared.track_part.PartFault.TheVariants.{ImageFault as PartImageFault, NotesFault as PartNotesFault}
 use Rattle.kryo_stream.specs.declared.fault.StreamFault.{StreamFault}
 use Rattle.dump_reading.specs.DumpStreams.{AreOfDumps, HaveComeOf}
-use Rattle.dump_reading.specs.Outcomes.{DumpDisk, HasReadTracks, WroteDumps, WroteFront, WroteIntoEnd, WroteIntoImage, WroteIntoLines, numbers_of, plan_of}
+use Rattle.dump_reading.specs.Outcomes.{DumpDisk, HasTracksBy, SaysOfDumps, StopsBy, WroteDumps, WroteFront, WroteFrontBy, WroteIntoEnd, WroteIntoImageBy, WroteIntoLinesBy, numbers_of, plan_of}
 use Rattle.dump_reading.specs.Reports.{end_text, read_part}
+use Rattle.dump_reading.specs.declared.fault.DumpsFault.{DumpsFault}
+use Rattle.dump_reading.specs.declared.fault.DumpsFault.TheVariants.{NoFiles, ShelfFault, ImageFault as DumpsImageFault, NotesFault as DumpsNotesFault}
 use Rattle.dump_reading.specs.declared.totals.DumpTotals.{DumpTotals}
 
 abbrev none-seen : Seen
 none-seen = record { fault = None; passed = None; times = []; indexes = [] }
 
-module _ (disk : DumpDisk) (told told' : Option (List File)) where
+module _ (of : PartOf) (disk : DumpDisk) (told told' : Option (List File)) where
   abbrev pub CameOf : List ℕ → Bool → List Seen → Type 0
   CameOf held used streams = HaveComeOf disk.stepping disk.dumps (plan_of disk) disk.format told told' streams
 
@@ -42,8 +44,8 @@ module _ (disk : DumpDisk) (told told' : Option (List File)) where
       ∙ are files known n q few (omega (arith, below, length-append before more))
 
   module _ (image image' notes notes' : Option (List ℕ)) (room : RoomState) (totals : Totals) where
-    pub all-read : HasWritten (plan_of disk) read_part disk.format CameOf image image' notes notes' room (length (tracks disk.format)) totals
-        → HasReadTracks disk told image image' notes notes'
+    pub all-read : HasWritten (plan_of disk) of disk.format CameOf image image' notes notes' room (length (tracks disk.format)) totals
+        → HasTracksBy of disk told image image' notes notes'
         (record { sectors = totals; unread = room.unread; others = room.told_others; whole = room.whole_others })
     all-read w = record {
       streams = w.streams;
@@ -69,7 +71,7 @@ module _ (disk : DumpDisk) (told told' : Option (List File)) where
             ∙ ap (λ (n : ℕ). record { sectors = t; unread = b; others = d; whole = n }) whole
 
     abbrev pub Ends : PlanFault → Type 0
-    Ends fault = EndsLoop (plan_of disk) read_part disk.format CameOf EndedOf image image' notes notes' room totals fault
+    Ends fault = EndsLoop (plan_of disk) of disk.format CameOf EndedOf image image' notes notes' room totals fault
 
     -- the shelf's files stayed as they were
     pub files-stayed : (fault : PlanFault) → Ends fault → told' ≡ told
@@ -95,10 +97,10 @@ module _ (disk : DumpDisk) (told told' : Option (List File)) where
     notes-is-no-refused track capture block fault same = cc
 
     -- a stream can end the disk by a fault of reading alone
-    by-stream : (fault : PlanFault) → EndedByStream (plan_of disk) read_part disk.format EndedOf image image' notes notes' totals fault → ReadFault ≡ fault
+    by-stream : (fault : PlanFault) → EndedByStream (plan_of disk) of disk.format EndedOf image image' notes notes' totals fault → ReadFault ≡ fault
     by-stream fault e = sym (e.ended.is ∙ ap (of_stream e.number e.ended.capture) e.ended.ended.0)
 
-    pub front-wrote : Ends ReadFault → WroteFront disk told image image' notes notes'
+    pub front-wrote : Ends ReadFault → WroteFrontBy of disk told image image' notes notes'
     front-wrote (inl e) = record {
       streams = e.streams;
       parts = e.parts;
@@ -109,12 +111,12 @@ module _ (disk : DumpDisk) (told told' : Option (List File)) where
     }
     front-wrote (inr s) = by s.cause (s.is)
       where
-        by : (cause : PartFault) → ReadFault ≡ of_part cause → WroteFront disk told image image' notes notes'
+        by : (cause : PartFault) → ReadFault ≡ of_part cause → WroteFrontBy of disk told image image' notes notes'
         by PartImageFault same = absurd (read-is-no-image same)
         by PartNotesFault same = absurd (read-is-no-notes same)
 
     abbrev BySink : PlanFault → Type 0
-    BySink fault = EndedBySink (plan_of disk) read_part disk.format CameOf image image' notes notes' room fault
+    BySink fault = EndedBySink (plan_of disk) of disk.format CameOf image image' notes notes' room fault
 
     sink-all : (fault : PlanFault) (s : BySink fault) → length s.streams ≡ length (s.parts ++ s.next ∷ []) * length disk.dumps
     sink-all fault s =
@@ -124,11 +126,11 @@ module _ (disk : DumpDisk) (told told' : Option (List File)) where
         times-next : (n m : ℕ) → (n + 1) * m ≡ n * m + m
         times-next n m = grind (arith)
 
-    pub image-wrote : Ends ImageFault → WroteIntoImage disk told image image' notes notes'
+    pub image-wrote : Ends ImageFault → WroteIntoImageBy of disk told image image' notes notes'
     image-wrote (inl e) = absurd (read-is-no-image (by-stream ImageFault e))
     image-wrote (inr s) = by s.cause s.is s.wrote
       where
-        by : (cause : PartFault) → ImageFault ≡ of_part cause → WritesFront cause s.parts s.next image image' notes notes' → WroteIntoImage disk told image image' notes notes'
+        by : (cause : PartFault) → ImageFault ≡ of_part cause → WritesFront cause s.parts s.next image image' notes notes' → WroteIntoImageBy of disk told image image' notes notes'
         by PartImageFault same wrote = record {
           streams = s.streams;
           parts = s.parts;
@@ -140,11 +142,11 @@ module _ (disk : DumpDisk) (told told' : Option (List File)) where
         }
         by PartNotesFault same wrote = absurd (image-is-no-notes same)
 
-    pub lines-wrote : Ends NotesFault → WroteIntoLines disk told image image' notes notes'
+    pub lines-wrote : Ends NotesFault → WroteIntoLinesBy of disk told image image' notes notes'
     lines-wrote (inl e) = absurd (read-is-no-notes (by-stream NotesFault e))
     lines-wrote (inr s) = by s.cause s.is s.wrote
       where
-        by : (cause : PartFault) → NotesFault ≡ of_part cause → WritesFront cause s.parts s.next image image' notes notes' → WroteIntoLines disk told image image' notes notes'
+        by : (cause : PartFault) → NotesFault ≡ of_part cause → WritesFront cause s.parts s.next image image' notes notes' → WroteIntoLinesBy of disk told image image' notes notes'
         by PartImageFault same wrote = absurd (image-is-no-notes (sym same))
         by PartNotesFault same wrote = record {
           streams = s.streams;
@@ -167,7 +169,7 @@ module _ (disk : DumpDisk) (told told' : Option (List File)) where
 
 module _ (disk : DumpDisk) (told : Option (List File)) (image image' notes mid notes' : Option (List ℕ)) (totals : DumpTotals) where
   -- the last two lines were written
-  pub all-wrote : HasReadTracks disk told image image' notes mid totals → Appends mid notes' (end_text totals)
+  pub all-wrote : HasTracksBy read_part disk told image image' notes mid totals → Appends mid notes' (end_text totals)
       → WroteDumps disk told image image' notes notes' totals
   all-wrote r ended =
       let numbers = numbers_of r.streams r.parts r.others in
@@ -182,7 +184,7 @@ module _ (disk : DumpDisk) (told : Option (List File)) (image image' notes mid n
       }
 
   -- or a part of them
-  pub end-cut : HasReadTracks disk told image image' notes mid totals → AppendsPart mid notes' (end_text totals) → WroteIntoEnd disk told image image' notes notes'
+  pub end-cut : HasTracksBy read_part disk told image image' notes mid totals → AppendsPart mid notes' (end_text totals) → WroteIntoEnd disk told image image' notes notes'
   end-cut r part =
       let numbers = numbers_of r.streams r.parts r.others in
       let p = subst (λ (t : DumpTotals). AppendsPart mid notes' (end_text t)) r.totals_are part in
@@ -205,3 +207,11 @@ none-wrote disk told image notes = record {
   image_grew = Appends-nil image;
   notes_grew = Appends-nil notes;
 }
+
+-- reading the tracks stopped
+pub says-stopped : (disk : DumpDisk) (told : Option (List File)) (image image' notes notes' : Option (List ℕ)) (fault : DumpsFault)
+    → StopsBy read_part disk told image image' notes notes' fault → SaysOfDumps disk told image image' notes notes' (Err fault)
+says-stopped disk told image image' notes notes' (NoFiles dump) stops = absurd stops
+says-stopped disk told image image' notes notes' ShelfFault stops = stops
+says-stopped disk told image image' notes notes' DumpsImageFault stops = stops
+says-stopped disk told image image' notes notes' DumpsNotesFault stops = inl stops

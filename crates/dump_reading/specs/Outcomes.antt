@@ -16,7 +16,7 @@ use Rattle.flux_engine.specs.Answers.{AppendsAndPart}
 use Rattle.flux_engine.specs.Counts.{AreOthersOver, told_count, whole_count}
 use Rattle.flux_engine.specs.Disks.{images, lines, totals_over}
 use Rattle.flux_engine.specs.LoopProgress.{passed_count, streams_over}
-use Rattle.flux_engine.specs.Plans.{ArePlannedParts, Seen}
+use Rattle.flux_engine.specs.Plans.{ArePlannedParts, PartOf, Seen}
 use Rattle.flux_engine.specs.Tracks.{TrackPart}
 use Rattle.flux_engine.specs.declared.plan.Clocks.{Clocks}
 use Rattle.flux_engine.specs.declared.plan.Clocks.TheVariants.{Both}
@@ -72,38 +72,52 @@ pub record DumpsRead : Type 0 where
   pub notes : List ℕ
   pub totals : DumpTotals
 
--- The first streams of the dumps, in order, and what the tracks come to of which these are all the streams: so many tracks.
-pub record AreReadTracks (disk : DumpDisk) (told : Option (List File)) (streams : List Seen) (parts : List TrackPart) : Type 0 where
+-- The first streams of the dumps, in order, and what becomes of the tracks of which these are all the streams: so many tracks.
+pub record AreTracksBy (of : PartOf) (disk : DumpDisk) (told : Option (List File)) (streams : List Seen) (parts : List TrackPart) : Type 0 where
   pub all : length streams ≡ length parts * length disk.dumps
   pub are : AreOfDumps disk.stepping disk.dumps (plan_of disk) disk.format told streams
-  pub each : ArePlannedParts (plan_of disk) read_part disk.format (streams_over (plan_of disk) streams) parts
+  pub each : ArePlannedParts (plan_of disk) of disk.format (streams_over (plan_of disk) streams) parts
 
--- The streams of the dumps, in order, what all tracks come to, and the other headers of each track.
-pub record AreAllTracks (disk : DumpDisk) (told : Option (List File)) (streams : List Seen) (parts : List TrackPart) (others : List (List NotedOther)) : Type 0 where
+-- the same of the report
+abbrev pub AreReadTracks : DumpDisk → Option (List File) → List Seen → List TrackPart → Type 0
+AreReadTracks disk told streams parts = AreTracksBy read_part disk told streams parts
+
+-- The streams of the dumps, in order, what becomes of all tracks, and the other headers of each track.
+pub record AreAllBy (of : PartOf) (disk : DumpDisk) (told : Option (List File)) (streams : List Seen) (parts : List TrackPart) (others : List (List NotedOther)) : Type 0 where
   pub many : length parts ≡ length (tracks disk.format)
-  pub read : AreReadTracks disk told streams parts
+  pub read : AreTracksBy of disk told streams parts
   pub many_others : length others ≡ length (tracks disk.format)
   pub others_are : AreOthersOver (plan_of disk) disk.format (streams_over (plan_of disk) streams) others
+
+abbrev pub AreAllTracks : DumpDisk → Option (List File) → List Seen → List TrackPart → List (List NotedOther) → Type 0
+AreAllTracks disk told streams parts others = AreAllBy read_part disk told streams parts others
 
 -- the numbers that these come to
 abbrev pub numbers_of : List Seen → List TrackPart → List (List NotedOther) → DumpTotals
 numbers_of streams parts others =
     record { sectors = totals_over parts; unread = passed_count streams; others = told_count others; whole = whole_count others }
 
--- what the dumps come to, by the files that are told
-pub record IsDumpsRead (disk : DumpDisk) (told : Option (List File)) (o : DumpsRead) : Type 0 where
+-- What the dumps come to, by the files that are told: what becomes of each track, and how that of all tracks makes up the bytes of both sinks.
+pub record IsReadBy (of : PartOf) (whole : List TrackPart → DumpTotals → DumpsRead) (disk : DumpDisk) (told : Option (List File)) (o : DumpsRead) : Type 0 where
   pub streams : List Seen
   pub parts : List TrackPart
   pub others : List (List NotedOther)
-  pub all : AreAllTracks disk told streams parts others
-  pub is : o ≡ record { image = images parts; notes = lines parts ++ end_text (numbers_of streams parts others); totals = numbers_of streams parts others }
+  pub all : AreAllBy of disk told streams parts others
+  pub is : o ≡ whole parts (numbers_of streams parts others)
 
--- what all tracks come to was written, but not the last two lines
-pub record HasReadTracks (disk : DumpDisk) (told : Option (List File)) (image image' notes notes' : Option (List ℕ)) (totals : DumpTotals) : Type 0 where
+-- the image, and the report with its last two lines
+abbrev pub report_of : List TrackPart → DumpTotals → DumpsRead
+report_of parts totals = record { image = images parts; notes = lines parts ++ end_text totals; totals = totals }
+
+abbrev pub IsDumpsRead : DumpDisk → Option (List File) → DumpsRead → Type 0
+IsDumpsRead disk told o = IsReadBy read_part report_of disk told o
+
+-- what becomes of all tracks was written
+pub record HasTracksBy (of : PartOf) (disk : DumpDisk) (told : Option (List File)) (image image' notes notes' : Option (List ℕ)) (totals : DumpTotals) : Type 0 where
   pub streams : List Seen
   pub parts : List TrackPart
   pub others : List (List NotedOther)
-  pub all : AreAllTracks disk told streams parts others
+  pub all : AreAllBy of disk told streams parts others
   pub image_grew : Appends image image' (images parts)
   pub notes_grew : Appends notes notes' (lines parts)
   pub totals_are : totals ≡ numbers_of streams parts others
@@ -116,34 +130,51 @@ pub record WroteDumps (disk : DumpDisk) (told : Option (List File)) (image image
   pub notes_grew : Appends notes notes' outcome.notes
   pub totals_are : totals ≡ outcome.totals
 
--- what the first tracks come to was written
-pub record WroteFront (disk : DumpDisk) (told : Option (List File)) (image image' notes notes' : Option (List ℕ)) : Type 0 where
+-- what becomes of the first tracks was written
+pub record WroteFrontBy (of : PartOf) (disk : DumpDisk) (told : Option (List File)) (image image' notes notes' : Option (List ℕ)) : Type 0 where
   pub streams : List Seen
   pub parts : List TrackPart
   pub few : length parts ≤ length (tracks disk.format)
-  pub read : AreReadTracks disk told streams parts
+  pub read : AreTracksBy of disk told streams parts
   pub image_grew : Appends image image' (images parts)
   pub notes_grew : Appends notes notes' (lines parts)
 
 -- the same, and of the next track a part of its part of the image that is shorter than it
-pub record WroteIntoImage (disk : DumpDisk) (told : Option (List File)) (image image' notes notes' : Option (List ℕ)) : Type 0 where
+pub record WroteIntoImageBy (of : PartOf) (disk : DumpDisk) (told : Option (List File)) (image image' notes notes' : Option (List ℕ)) : Type 0 where
   pub streams : List Seen
   pub parts : List TrackPart
   pub next : TrackPart
   pub few : length parts < length (tracks disk.format)
-  pub read : AreReadTracks disk told streams (parts ++ next ∷ [])
+  pub read : AreTracksBy of disk told streams (parts ++ next ∷ [])
   pub image_grew : AppendsAndPart image image' (images parts) next.image
   pub notes_grew : Appends notes notes' (lines parts)
 
 -- the same, and of the next track its part of the image, and a part of its lines that is shorter than they are
-pub record WroteIntoLines (disk : DumpDisk) (told : Option (List File)) (image image' notes notes' : Option (List ℕ)) : Type 0 where
+pub record WroteIntoLinesBy (of : PartOf) (disk : DumpDisk) (told : Option (List File)) (image image' notes notes' : Option (List ℕ)) : Type 0 where
   pub streams : List Seen
   pub parts : List TrackPart
   pub next : TrackPart
   pub few : length parts < length (tracks disk.format)
-  pub read : AreReadTracks disk told streams (parts ++ next ∷ [])
+  pub read : AreTracksBy of disk told streams (parts ++ next ∷ [])
   pub image_grew : Appends image image' (images (parts ++ next ∷ []))
   pub notes_grew : AppendsAndPart notes notes' (lines parts) next.lines
+
+-- what was written of the tracks where reading them stopped; a dump without files was told before
+abbrev pub StopsBy : PartOf → DumpDisk → Option (List File) → (image image' notes notes' : Option (List ℕ)) → DumpsFault → Type 0
+StopsBy of disk told image image' notes notes' (NoFiles dump) = ⊥
+StopsBy of disk told image image' notes notes' ShelfFault = WroteFrontBy of disk told image image' notes notes'
+StopsBy of disk told image image' notes notes' ImageFault = WroteIntoImageBy of disk told image image' notes notes'
+StopsBy of disk told image image' notes notes' NotesFault = WroteIntoLinesBy of disk told image image' notes notes'
+
+-- the same of the report
+abbrev pub WroteFront : DumpDisk → Option (List File) → (image image' notes notes' : Option (List ℕ)) → Type 0
+WroteFront disk told image image' notes notes' = WroteFrontBy read_part disk told image image' notes notes'
+
+abbrev pub WroteIntoImage : DumpDisk → Option (List File) → (image image' notes notes' : Option (List ℕ)) → Type 0
+WroteIntoImage disk told image image' notes notes' = WroteIntoImageBy read_part disk told image image' notes notes'
+
+abbrev pub WroteIntoLines : DumpDisk → Option (List File) → (image image' notes notes' : Option (List ℕ)) → Type 0
+WroteIntoLines disk told image image' notes notes' = WroteIntoLinesBy read_part disk told image image' notes notes'
 
 -- all was written but the last two lines: of them a part that is shorter than they are
 pub record WroteIntoEnd (disk : DumpDisk) (told : Option (List File)) (image image' notes notes' : Option (List ℕ)) : Type 0 where

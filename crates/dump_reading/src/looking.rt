@@ -13,7 +13,7 @@ use sector_images::{Format, track_count, track_id, tracks_keep_bounds};
 use track_shelf::{Shelf, Stepping};
 
 /// The number of the first dump that has the file of none of the format's tracks, if one has none.
-pub(crate) fn find_empty<H: Shelf>(
+pub fn find_empty<H: Shelf>(
     dumps: &Dumps,
     format: Format,
     shelf: &mut H,

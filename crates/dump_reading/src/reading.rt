@@ -1,9 +1,9 @@
 //! A disk that is read of its dumps.
 
-ghost use Rattle.std.specs.Prelude.{◌≡◌, ◌≤◌, Err, length, IfErr, IfOk};
+ghost use Rattle.std.specs.Prelude.{◌≡◌, ◌≤◌, length, IfErr, IfOk};
 ghost use Rattle.flux_base.specs.Moments.{Puts, moment};
 ghost use Rattle.flux_engine.specs.Room.{fresh};
-ghost use Rattle.dump_reading.specs.Outcomes.{DumpsCause, HasReadTracks, SaysOfDumps, disk_by, disk_of};
+ghost use Rattle.dump_reading.specs.Outcomes.{DumpsCause, HasTracksBy, SaysOfDumps, StopsBy, disk_by, disk_of};
 ghost use Rattle.dump_reading.specs.Reports.{end_text};
 
 use crate::dumps::Dumps;
@@ -12,7 +12,9 @@ use crate::looking::find_empty;
 use crate::report::{DumpReport, NAMING};
 use crate::totals::DumpTotals;
 use flux_base::{Failed, Sink};
-use flux_engine::{Clocks, DiskRoom, Plan, PlanFault, Rule, decode_tracks, no_totals, room_format};
+use flux_engine::{
+    Clocks, DiskRoom, Plan, PlanFault, Rule, TrackWriter, decode_tracks, no_totals, room_format,
+};
 use sector_report::{total_line, unread_line, write_line};
 use track_shelf::Shelf;
 
@@ -65,7 +67,7 @@ pub fn read_dumps_by<H: Shelf, W: Sink, N: Sink>(
         Ok(Some(dump)) => return Err(DumpsFault::NoFiles { dump }),
         Err(Failed) => return Err(DumpsFault::ShelfFault),
     }
-    let totals = match read_tracks(clocks, dumps, room, shelf, image, notes) {
+    let totals = match read_dump_tracks(clocks, dumps, &DumpReport, room, shelf, image, notes) {
         Ok(totals) => totals,
         Err(fault) => return Err(fault),
     };
@@ -75,10 +77,12 @@ pub fn read_dumps_by<H: Shelf, W: Sink, N: Sink>(
     }
 }
 
-/// Reads all tracks of a disk of its dumps, and writes what each comes to.
-fn read_tracks<H: Shelf, W: Sink, N: Sink>(
+/// Reads all tracks of a disk of its dumps, as `read_dumps` does, and gives what was gathered of each to a writer. That dumps have files is not
+/// looked at here, so `NoFiles` does not come. After a fault nothing more is read or written, and the tracks before are written whole.
+pub fn read_dump_tracks<O: TrackWriter, H: Shelf, W: Sink, N: Sink>(
     clocks: Clocks,
     dumps: &Dumps,
+    writer: &O,
     room: &mut DiskRoom,
     shelf: &mut H,
     image: &mut W,
@@ -86,8 +90,8 @@ fn read_tracks<H: Shelf, W: Sink, N: Sink>(
 ) -> Result<DumpTotals, DumpsFault>
     requires fresh { room.old ≡ fresh room.old.format }
     requires few { length dumps.now.names.now ≤ 16 }
-    ensures ok { IfOk result (HasReadTracks (disk_by clocks dumps.now room.old.format) (H.files shelf.old) (W.written image.old) (W.written image.new) (N.written notes.old) (N.written notes.new)) }
-    ensures err { IfErr result (λ fault. SaysOfDumps (disk_by clocks dumps.now room.old.format) (H.files shelf.old) (W.written image.old) (W.written image.new) (N.written notes.old) (N.written notes.new) (Err fault)) }
+    ensures ok { IfOk result (HasTracksBy (O.part_of writer.now) (disk_by clocks dumps.now room.old.format) (H.files shelf.old) (W.written image.old) (W.written image.new) (N.written notes.old) (N.written notes.new)) }
+    ensures err { IfErr result (StopsBy (O.part_of writer.now) (disk_by clocks dumps.now room.old.format) (H.files shelf.old) (W.written image.old) (W.written image.new) (N.written notes.old) (N.written notes.new)) }
     ensures files { H.files shelf.new ≡ H.files shelf.old }
     ensures cause { DumpsCause (H.faults shelf.old) (H.faults shelf.new) (W.faults image.old) (W.faults image.new) (N.faults notes.old) (N.faults notes.new) result }
     ensures shelf_later { H.faults shelf.old ≤ H.faults shelf.new }
@@ -101,16 +105,7 @@ fn read_tracks<H: Shelf, W: Sink, N: Sink>(
         naming: NAMING,
     };
     let mut sectors = no_totals();
-    match decode_tracks(
-        plan,
-        dumps,
-        &DumpReport,
-        room,
-        shelf,
-        image,
-        notes,
-        &mut sectors,
-    ) {
+    match decode_tracks(plan, dumps, writer, room, shelf, image, notes, &mut sectors) {
         Ok(()) => Ok(DumpTotals {
             sectors,
             unread: room.unread(),

@@ -4,15 +4,15 @@ use Rattle.std.proofs.Common.{ap, sym, subst, ◌∙◌, arith}
 use Rattle.std.proofs.Math.Nat.{div-lt_iff_lt-mul, mod-lt, mul_comm}
 use Rattle.std.proofs.lemmas.List.{ext_get_or}
 use Rattle.std.proofs.lemmas.Nat.{div-add-mod', mul-add-lt}
-use Rattle.dump_reading.specs.Outcomes.{AreAllTracks, AreReadTracks, DumpDisk, DumpsRead, IsDumpsRead, numbers_of, plan_of}
-use Rattle.dump_reading.specs.Reports.{end_text, read_part}
+use Rattle.dump_reading.specs.Outcomes.{AreTracksBy, DumpDisk, DumpsRead, IsReadBy, numbers_of, plan_of}
+use Rattle.dump_reading.specs.declared.totals.DumpTotals.{DumpTotals}
 use Rattle.flux_base.specs.declared.track.TrackId.{TrackId}
 use Rattle.flux_engine.specs.Captured.{AreOthersOf, AreReadingsOf, IsUsed, joined_by, noted_other}
 use Rattle.flux_engine.specs.Counts.{AreOthersOver}
-use Rattle.flux_engine.specs.Disks.{images, lines, no_totals, part_at}
+use Rattle.flux_engine.specs.Disks.{no_totals, part_at}
 use Rattle.flux_engine.specs.LoopProgress.{seen_at, streams_over}
 use Rattle.flux_engine.specs.PlanLaws.{ReadingsInPlansAreOne}
-use Rattle.flux_engine.specs.Plans.{AreCaptures, AreOthersTo, ArePlannedParts, IsPlannedPart, Seen, Streams, joined, passed_to}
+use Rattle.flux_engine.specs.Plans.{AreCaptures, AreOthersTo, ArePlannedParts, IsPlannedPart, PartOf, Seen, Streams, joined, passed_to}
 use Rattle.flux_engine.specs.Recordings.{cells_by, track_at}
 use Rattle.flux_engine.specs.Rules.{RulesAreRead}
 use Rattle.flux_engine.specs.Tracks.{TrackPart, track_notes}
@@ -27,7 +27,7 @@ use Rattle.turn_merge.specs.Others.{NotedOther}
 use Rattle.turn_merge.specs.Readings.{NotedReading}
 use Rattle.turn_merge.specs.declared.clock.Clock.{Clock}
 use Rattle.turn_merge.specs.declared.clock.Clock.TheVariants.{Following, Held}
-use Rattle.law_captured_dumps.specs.Said.{DumpsAreOne, streams_on}
+use Rattle.law_captured_dumps.specs.Said.{AllOfDumpsIsOne, streams_on}
 
 abbrev none_seen : Seen
 none_seen = record { fault = None; passed = None; times = []; indexes = [] }
@@ -40,7 +40,7 @@ some_of : (i a count : ℕ) → i < a * count → 0 < count
 some_of i a zero low = (let none : a * 0 ≡ 0 = omega arith in absurd (omega (arith, low, none)))
 some_of i a (suc count) low = omega arith
 
-module _ (disk : DumpDisk) (files : List File) (streams : List Seen) (parts : List TrackPart) (read : AreReadTracks disk (Some files) streams parts) where
+module _ (of : PartOf) (disk : DumpDisk) (files : List File) (streams : List Seen) (parts : List TrackPart) (read : AreTracksBy of disk (Some files) streams parts) where
   abbrev many : ℕ
   many = length disk.dumps
 
@@ -96,19 +96,20 @@ module _ (read : RulesAreRead) where
   others_over_one plan format streams a b same p q =
       ext_get_or [] a b same (λ n low. others_to plan format streams n plan.captures (get_or a n []) (get_or b n []) (p n low) (q n (omega (arith, low, same))))
 
-  module _ (one : ReadingsInPlansAreOne) (plan : Plan) (format : Format) (streams : Streams) where
-    one_part : (n : ℕ) (a b : TrackPart) → IsPlannedPart plan read_part format streams n a → IsPlannedPart plan read_part format streams n b → a ≡ b
+  module _ (one : ReadingsInPlansAreOne) (of : PartOf) (plan : Plan) (format : Format) (streams : Streams) where
+    one_part : (n : ℕ) (a b : TrackPart) → IsPlannedPart plan of format streams n a → IsPlannedPart plan of format streams n b → a ≡ b
     one_part n a b p q =
-        p.is ∙ ap (λ (captures : List (List NotedReading)). read_part format (track_at format n) (track_notes (joined captures) (passed_to streams n plan.captures) p.others))
+        p.is ∙ ap (λ (captures : List (List NotedReading)). of format (track_at format n) (track_notes (joined captures) (passed_to streams n plan.captures) p.others))
         (one plan format streams n p.captures q.captures p.each q.each (p.many ∙ sym q.many))
-        ∙ ap (λ (others : List NotedOther). read_part format (track_at format n) (track_notes (joined q.captures) (passed_to streams n plan.captures) others))
+        ∙ ap (λ (others : List NotedOther). of format (track_at format n) (track_notes (joined q.captures) (passed_to streams n plan.captures) others))
         (others_to plan format streams n plan.captures p.others q.others p.others_are q.others_are) ∙ sym q.is
 
-    one_parts : (ps qs : List TrackPart) → ArePlannedParts plan read_part format streams ps → ArePlannedParts plan read_part format streams qs → length ps ≡ length qs → ps ≡ qs
+    one_parts : (ps qs : List TrackPart) → ArePlannedParts plan of format streams ps → ArePlannedParts plan of format streams qs → length ps ≡ length qs → ps ≡ qs
     one_parts ps qs are others same =
         ext_get_or no_part ps qs same (λ k low. one_part k (part_at ps k) (part_at qs k) (are k low) (others k (omega (arith, low, same))))
 
-  module _ (one : ReadingsInPlansAreOne) (disk : DumpDisk) (files : List File) (a b : DumpsRead) (p : IsDumpsRead disk (Some files) a) (q : IsDumpsRead disk (Some files) b) where
+  module _ (one : ReadingsInPlansAreOne) (of : PartOf) (whole : List TrackPart → DumpTotals → DumpsRead) (disk : DumpDisk) (files : List File) (a b : DumpsRead)
+      (p : IsReadBy of whole disk (Some files) a) (q : IsReadBy of whole disk (Some files) b) where
     parts_many : length p.parts ≡ length q.parts
     parts_many = p.all.many ∙ sym q.all.many
 
@@ -119,15 +120,15 @@ module _ (read : RulesAreRead) where
     streams_same =
         ext_get_or none_seen p.streams q.streams streams_many
         (λ i low.
-        at_place disk files p.streams p.parts p.all.read i low ∙ sym (at_place disk files q.streams q.parts q.all.read i (omega (arith, low, streams_many))))
+        at_place of disk files p.streams p.parts p.all.read i low ∙ sym (at_place of disk files q.streams q.parts q.all.read i (omega (arith, low, streams_many))))
 
     abbrev over : List Seen → Streams
     over streams = streams_over (plan_of disk) streams
 
     parts_same : p.parts ≡ q.parts
     parts_same =
-        one_parts one (plan_of disk) disk.format (over q.streams) p.parts q.parts
-        (subst (λ (ss : List Seen). ArePlannedParts (plan_of disk) read_part disk.format (over ss) p.parts) streams_same p.all.read.each) q.all.read.each parts_many
+        one_parts one of (plan_of disk) disk.format (over q.streams) p.parts q.parts
+        (subst (λ (ss : List Seen). ArePlannedParts (plan_of disk) of disk.format (over ss) p.parts) streams_same p.all.read.each) q.all.read.each parts_many
 
     others_same : p.others ≡ q.others
     others_same =
@@ -135,7 +136,7 @@ module _ (read : RulesAreRead) where
         (subst (λ (ss : List Seen). AreOthersOver (plan_of disk) disk.format (over ss) p.others) streams_same p.all.others_are) q.all.others_are
 
     abbrev read_of : List Seen → List TrackPart → List (List NotedOther) → DumpsRead
-    read_of ss ps os = record { image = images ps; notes = lines ps ++ end_text (numbers_of ss ps os); totals = numbers_of ss ps os }
+    read_of ss ps os = whole ps (numbers_of ss ps os)
 
     one_read : a ≡ b
     one_read =
@@ -145,5 +146,5 @@ module _ (read : RulesAreRead) where
         ∙ ap (λ (os : List (List NotedOther)). read_of q.streams q.parts os) others_same
         ∙ sym q.is
 
-pub dumps_are_one : RulesAreRead → ReadingsInPlansAreOne → DumpsAreOne
-dumps_are_one read one disk files a b p q = one_read read one disk files a b p q
+pub all_is_one : RulesAreRead → ReadingsInPlansAreOne → AllOfDumpsIsOne
+all_is_one read one of whole disk files a b p q = one_read read one of whole disk files a b p q

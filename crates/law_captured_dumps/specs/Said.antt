@@ -2,13 +2,14 @@
 use Rattle.std.specs.Prelude.{◌≡◌, ◌<◌, ◌⊎◌, ℕ, List, length, Some}
 use Rattle.disk_recordings.specs.Members.{header_at, sector_at}
 use Rattle.dump_reading.specs.DumpStreams.{dump_streams}
-use Rattle.dump_reading.specs.Outcomes.{DumpDisk, DumpsRead, IsDumpsRead, plan_of}
+use Rattle.dump_reading.specs.Outcomes.{DumpDisk, DumpsRead, IsDumpsRead, IsReadBy, plan_of}
+use Rattle.dump_reading.specs.declared.totals.DumpTotals.{DumpTotals}
 use Rattle.flux_engine.specs.Captured.{IsUsed}
 use Rattle.flux_engine.specs.DiskLaws.{HasLine, bytes_at}
 use Rattle.flux_engine.specs.PlanLaws.{IsGoodTooOrContradicted, IsNamedIn, IsRightlyContradictoryIn, StandsIn, cells_in}
-use Rattle.flux_engine.specs.Plans.{AreCaptures, Streams, joined}
+use Rattle.flux_engine.specs.Plans.{AreCaptures, PartOf, Streams, joined}
 use Rattle.flux_engine.specs.Recordings.{sectors_of, track_at}
-use Rattle.flux_engine.specs.Tracks.{Found, image_bytes, readings_in}
+use Rattle.flux_engine.specs.Tracks.{Found, TrackPart, image_bytes, readings_in}
 use Rattle.frame_law.specs.Readings.{AreReadings}
 use Rattle.law_captured_disks.specs.Headline.{IsSectorOf}
 use Rattle.sector_report.specs.Lines.{named_text}
@@ -27,6 +28,11 @@ streams_on disk files = dump_streams disk.stepping disk.dumps files disk.format
 -- the files decide what the dumps come to
 abbrev pub DumpsAreOne : Type 0
 DumpsAreOne = (disk : DumpDisk) (files : List File) (a b : DumpsRead) → IsDumpsRead disk (Some files) a → IsDumpsRead disk (Some files) b → a ≡ b
+
+-- the same whatever becomes of each track and of all
+abbrev pub AllOfDumpsIsOne : Type 0
+AllOfDumpsIsOne = (of : PartOf) (whole : List TrackPart → DumpTotals → DumpsRead) (disk : DumpDisk) (files : List File) (a b : DumpsRead)
+    → IsReadBy of whole disk (Some files) a → IsReadBy of whole disk (Some files) b → a ≡ b
 
 -- The report has the sector's line, with the verdict over all readings of its track, of all dumps and by both clocks. At its place in
 -- the image stand the bytes that all good readings hold, where no two differ, and else zeros.

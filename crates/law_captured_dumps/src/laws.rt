@@ -1,7 +1,7 @@
 //! What dumps come to that are read together.
 
 ghost use Rattle.law_captured_dumps.specs.Headline.{CapturedDumpsAreNeverWrong, SteadyDumpsAreReadWell};
-ghost use Rattle.law_captured_dumps.specs.Said.{DumpsAreOne, EachIsSaid, GoodStaysOrIsContradicted, SaidIsRight};
+ghost use Rattle.law_captured_dumps.specs.Said.{AllOfDumpsIsOne, DumpsAreOne, EachIsSaid, GoodStaysOrIsContradicted, SaidIsRight};
 
 use disk_recordings::{DiskRecording, rewritten_tracks_have_only_own, tracks_have_rings};
 use flux_engine::{
@@ -16,6 +16,13 @@ use sector_report::{dumps_have_lines, sectors_have_one_line};
 /// The files on the shelf decide what dumps come to.
 pub fn dumps_are_one()
     ensures { DumpsAreOne }
+{
+    all_of_dumps_is_one()
+}
+
+/// The same whatever becomes of each track and of all: of a report, and of a picture.
+pub fn all_of_dumps_is_one()
+    ensures { AllOfDumpsIsOne }
 {
     plans_are_right();
     rules_are_read()

@@ -5,4 +5,6 @@
 
 mod laws;
 
-pub use laws::{captured_dumps_are_read, dumps_are_one, dumps_say_each_sector};
+pub use laws::{
+    all_of_dumps_is_one, captured_dumps_are_read, dumps_are_one, dumps_say_each_sector,
+};

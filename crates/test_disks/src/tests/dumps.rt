@@ -1,4 +1,5 @@
 //! Disks that are read of their dumps.
+use disk_map::map_dumps;
 use dump_reading::{DumpTotals, Dumps, DumpsFault, read_dumps};
 use flux_base::{Memory, MemorySink, TrackId, Word};
 use flux_engine::DiskRoom;
@@ -34,12 +35,17 @@ struct Ended {
     notes: MemorySink,
 }
 
-/// Reads a disk of 77 tracks of these dumps. The call of the shelf with this number fails, if one does.
-fn read(alloc: Global, names: &[&str], failing: &[u64]) -> Result<Ended, Memory> {
+fn words_of(alloc: Global, names: &[&str]) -> Result<Vec<Word>, Memory> {
     let mut words = Vec::new(alloc);
     for name in names {
         words.push(Word::new(name.to_string(alloc)?))?;
     }
+    Ok(words)
+}
+
+/// Reads a disk of 77 tracks of these dumps. The call of the shelf with this number fails, if one does.
+fn read(alloc: Global, names: &[&str], failing: &[u64]) -> Result<Ended, Memory> {
+    let words = words_of(alloc, names)?;
     let files = files(alloc)?;
     let mut shelf = MemoryShelf::new(&files, 4096, failing);
     let mut image = MemorySink::new(alloc, 1 << 18, Vec::new(alloc))?;
@@ -66,22 +72,24 @@ const SECOND: &str =
 const END: &[u8] =
     b"unread 153 other 0 whole 0\ntotal 2002 good 0 bad 0 missing 2002 contradictory 0\n";
 
+/// What both dumps come to.
+const BOTH: DumpTotals = DumpTotals {
+    sectors: Totals {
+        sectors: 2002,
+        good: 0,
+        bad: 0,
+        missing: 2002,
+        contradictory: 0,
+    },
+    unread: 153,
+    others: 0,
+    whole: 0,
+};
+
 #[test]
 fn streams_are_passed_over(rt: HostRuntime) -> Result<(), Fail> {
     let end = read(rt.alloc(), &["a", "b"], &[])?;
-    let totals = DumpTotals {
-        sectors: Totals {
-            sectors: 2002,
-            good: 0,
-            bad: 0,
-            missing: 2002,
-            contradictory: 0,
-        },
-        unread: 153,
-        others: 0,
-        whole: 0,
-    };
-    assert_eq!(rt; end.answer, Ok(totals));
+    assert_eq!(rt; end.answer, Ok(BOTH));
     assert_eq!(rt; end.image.bytes().len(), 256_256);
     let notes = end.notes.bytes();
     assert!(rt; notes.starts_with(FIRST));
@@ -103,6 +111,80 @@ fn dumps_without_files_are_refused(rt: HostRuntime) -> Result<(), Fail> {
         let end = read(rt.alloc(), names, failing)?;
         assert_eq!(rt; end.answer, Err(why));
         assert_eq!(rt; (end.image.bytes().len(), end.notes.bytes().len()), (0, 0));
+    }
+    Ok(())
+}
+
+/// Draws the same disk of these dumps. The call of the shelf and the write of the picture with these numbers fail, if some do.
+fn draw(
+    alloc: Global,
+    names: &[&str],
+    calls: &[u64],
+    writes: &[u64],
+) -> Result<(Result<DumpTotals, DumpsFault>, MemorySink), Memory> {
+    let words = words_of(alloc, names)?;
+    let files = files(alloc)?;
+    let mut shelf = MemoryShelf::new(&files, 4096, calls);
+    let mut picture = MemorySink::new(alloc, 1 << 20, writes.to_vec(alloc)?)?;
+    let mut room = DiskRoom::reserve(alloc, Format::Ibm3740)?;
+    let dumps = Dumps {
+        names: &words[..words.len().min(16)],
+        stepping: Stepping::Single,
+    };
+    let answer = map_dumps(&dumps, &mut room, &mut shelf, &mut picture);
+    Ok((answer, picture))
+}
+
+/// A row of the picture of both dumps: its title, a field, what it counts right of the legend, below one grid of 26 rows, and its end.
+const PARTS: [&str; 3] = [
+    "<title>flux read ibm-3740</title>\n",
+    "<path fill=\"#8c8c8c\" d=\"M40 56v10h10v-10zm2 2h6v6h-6z\"><title>00.0 01 missing 0 0\n</title></path>\n",
+    "<text x=\"240\" y=\"391\">unread 153 other 0 whole 0\n</text>\n",
+];
+
+const PICTURE_END: &str =
+    ">total 2002 good 0 bad 0 missing 2002 contradictory 0\n</text>\n</svg>\n";
+
+#[test]
+fn dumps_are_drawn(rt: HostRuntime) -> Result<(), Fail> {
+    let (answer, picture) = draw(rt.alloc(), &["a", "b"], &[], &[])?;
+    assert_eq!(rt; answer, Ok(BOTH));
+    let text = str::from_utf8(picture.bytes()).unwrap_or("");
+    for part in PARTS {
+        assert!(rt; text.contains(part), "{part}");
+    }
+    assert!(rt; text.ends_with(PICTURE_END));
+    Ok(())
+}
+
+/// The dumps, the calls of the shelf and the writes that fail, why the picture ends early, and how it ends then.
+type Cut = (
+    &'static [&'static str],
+    &'static [u64],
+    &'static [u64],
+    DumpsFault,
+    &'static str,
+);
+
+const LAST_FIELD: &str = "<title>00.0 26 missing 0 0\n</title></path>\n";
+
+const CUT: [Cut; 5] = [
+    (&["a", "c"], &[], &[], DumpsFault::NoFiles { dump: 1 }, ""),
+    (&["a", "b"], &[0], &[], DumpsFault::ShelfFault, ""),
+    // The file of the second track cannot be opened.
+    (&["a", "b"], &[6], &[], DumpsFault::ShelfFault, LAST_FIELD),
+    (&["a", "b"], &[], &[0], DumpsFault::ImageFault, ""),
+    // Three pieces stand before the fields, of which the first track has 26.
+    (&["a", "b"], &[], &[29], DumpsFault::ImageFault, LAST_FIELD),
+];
+
+#[test]
+fn pictures_of_dumps_are_cut(rt: HostRuntime) -> Result<(), Fail> {
+    for (names, calls, writes, why, end) in CUT {
+        let (answer, picture) = draw(rt.alloc(), names, calls, writes)?;
+        assert_eq!(rt; answer, Err(why));
+        let text = str::from_utf8(picture.bytes()).unwrap_or("");
+        assert!(rt; text.ends_with(end) && text.is_empty() == end.is_empty());
     }
     Ok(())
 }

@@ -8,8 +8,8 @@ use Rattle.turn_merge.specs.declared.verdict.Verdict.{Verdict}
 use Rattle.flux_engine.specs.Tracks.{totals_of}
 use Rattle.flux_engine.specs.declared.sectors.Sectors.{Sectors}
 use Rattle.flux_engine.specs.lemmas.Pieces.{pieces_next, pieces_stop}
-use Rattle.disk_map.specs.Maps.{field_of, fields_of}
-use Rattle.disk_map.specs.Texts.{field_text}
+use Rattle.disk_map.specs.Maps.{field_of, fields_by}
+use Rattle.disk_map.specs.Texts.{field_by}
 use Rattle.disk_map.specs.declared.layout.Layout.{Layout}
 use Rattle.disk_map.proofs.field_writer.write_fields.Goals as goal
 
@@ -20,9 +20,9 @@ loop-index-preserved g c = record {
       let track = c.args.track in
       let first = c.sectors_of-sectors.result.first in
       let sector : ℕ = first + c.loop-index.index in
-      let is : c.field_text.result.bytes ≡ field_text layout track sector (verdict readings sector) =
-      c.field_text.ensures ∙ ap (field_text layout track sector) (c.verdict-outcome.ensures readings stands) in
-      pieces_next (λ (s : ℕ). field_text layout track s (verdict readings s)) _ _ _ first c.loop-index.index c.field_text.result.bytes
+      let is : c.field_by.result.bytes ≡ field_by c.args.naming layout track sector (verdict readings sector) =
+      c.field_by.ensures ∙ ap (field_by c.args.naming layout track sector) (c.verdict-outcome.ensures readings stands) in
+      pieces_next (λ (s : ℕ). field_by c.args.naming layout track s (verdict readings s)) _ _ _ first c.loop-index.index c.field_by.result.bytes
       is (c.loop-index.invariant.grew readings stands) c.in-Ok.ensures.ok;
   counted = λ readings stands.
       let sector : ℕ = c.sectors_of-sectors.result.first + c.loop-index.index in
@@ -36,23 +36,23 @@ loop-index-preserved g c = record {
 }
 
 pub returns-in-Err-clause-err : goal.returns-in-Err-clause-err
-unfolding fields_of
+unfolding fields_by
 returns-in-Err-clause-err g c = λ readings stands.
     let l = c.of_format-layout.result in
     let t = c.args.track in
     let s = c.sectors_of-sectors.result in
     let sector : ℕ = s.first + c.loop-index.index in
-    let is : c.field_text.result.bytes ≡ field_text l t sector (verdict readings sector) =
-    c.field_text.ensures ∙ ap (field_text l t sector) (c.verdict-outcome.ensures readings stands) in
+    let is : c.field_by.result.bytes ≡ field_by c.args.naming l t sector (verdict readings sector) =
+    c.field_by.ensures ∙ ap (field_by c.args.naming l t sector) (c.verdict-outcome.ensures readings stands) in
     let old = g.P.Sink.written c.args.picture.now in
     let new = g.P.Sink.written c.write_text.new.sink in
-    subst (λ (v : Sectors). AppendsPart old new (flat_map (field_of c.args.format t readings) (range_with_len v.first v.count))) c.sectors_of-sectors.ensures
-    (subst (λ (m : Layout). AppendsPart old new (flat_map (λ (k : ℕ). field_text m t k (verdict readings k)) (range_with_len s.first s.count))) c.of_format-layout.ensures
-    (pieces_stop (λ (k : ℕ). field_text l t k (verdict readings k)) _ _ _ s.first c.loop-index.index s.count c.field_text.result.bytes
+    subst (λ (v : Sectors). AppendsPart old new (flat_map (field_of c.args.naming c.args.format t readings) (range_with_len v.first v.count))) c.sectors_of-sectors.ensures
+    (subst (λ (m : Layout). AppendsPart old new (flat_map (λ (k : ℕ). field_by c.args.naming m t k (verdict readings k)) (range_with_len s.first s.count))) c.of_format-layout.ensures
+    (pieces_stop (λ (k : ℕ). field_by c.args.naming l t k (verdict readings k)) _ _ _ s.first c.loop-index.index s.count c.field_by.result.bytes
     (omega arith) is (c.loop-index.invariant.grew readings stands) c.in-Err.ensures.err))
 
 pub returns-clause-ok : goal.returns-clause-ok
-unfolding fields_of
+unfolding fields_by
 returns-clause-ok g c = λ readings stands.
     let l = c.of_format-layout.result in
     let t = c.args.track in
@@ -60,6 +60,6 @@ returns-clause-ok g c = λ readings stands.
     let all : c.loop-index.index ≡ s.count = omega arith in
     let old = g.P.Sink.written c.args.picture.now in
     let new = g.P.Sink.written c.loop-index.picture in
-    subst (λ (v : Sectors). Appends old new (flat_map (field_of c.args.format t readings) (range_with_len v.first v.count))) c.sectors_of-sectors.ensures
-    (subst (λ (m : Layout). Appends old new (flat_map (λ (k : ℕ). field_text m t k (verdict readings k)) (range_with_len s.first s.count))) c.of_format-layout.ensures
-    (subst (λ (n : ℕ). Appends old new (flat_map (λ (k : ℕ). field_text l t k (verdict readings k)) (range_with_len s.first n))) all (c.loop-index.invariant.grew readings stands)))
+    subst (λ (v : Sectors). Appends old new (flat_map (field_of c.args.naming c.args.format t readings) (range_with_len v.first v.count))) c.sectors_of-sectors.ensures
+    (subst (λ (m : Layout). Appends old new (flat_map (λ (k : ℕ). field_by c.args.naming m t k (verdict readings k)) (range_with_len s.first s.count))) c.of_format-layout.ensures
+    (subst (λ (n : ℕ). Appends old new (flat_map (λ (k : ℕ). field_by c.args.naming l t k (verdict readings k)) (range_with_len s.first n))) all (c.loop-index.invariant.grew readings stands)))

@@ -6,13 +6,13 @@ use Rattle.turn_merge.specs.Book.{StandsFor}
 use Rattle.turn_merge.specs.Readings.{NotedReading, verdict}
 use Rattle.flux_engine.specs.Tracks.{totals_of}
 use Rattle.flux_engine.specs.Writing.{IsSum}
-use Rattle.disk_map.specs.Texts.{field_text}
+use Rattle.disk_map.specs.Texts.{field_by}
 use Rattle.disk_map.proofs.field_writer.write_fields.Given as goal
 
 abbrev pub invariant-loop-index : goal.invariant-loop-index
 invariant-loop-index g l = record {
   grew : (readings : List NotedReading) → StandsFor l.book readings
-      → Appends (g.P.Sink.written l.initial.picture) (g.P.Sink.written l.picture) (flat_map (λ sector. field_text l.layout l.track sector (verdict readings sector)) (range_with_len l.sectors.first l.index));
+      → Appends (g.P.Sink.written l.initial.picture) (g.P.Sink.written l.picture) (flat_map (λ sector. field_by l.naming l.layout l.track sector (verdict readings sector)) (range_with_len l.sectors.first l.index));
   counted : (readings : List NotedReading) → StandsFor l.book readings
       → l.totals ≡ totals_of (map (verdict readings) (range_with_len l.sectors.first l.index));
   sum : IsSum l.totals;

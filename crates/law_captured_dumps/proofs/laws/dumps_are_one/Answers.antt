@@ -1,5 +1,6 @@
-use Rattle.law_captured_dumps.proofs.Streams.{dumps_are_one}
+use Rattle.dump_reading.specs.Outcomes.{report_of}
+use Rattle.dump_reading.specs.Reports.{read_part}
 use Rattle.law_captured_dumps.proofs.laws.dumps_are_one.Goals as goal
 
 pub returns : goal.returns
-returns c = dumps_are_one c.rules_are_read.ensures c.plans_are_right.ensures.readings
+returns c = c.all_of_dumps_is_one.ensures read_part report_of

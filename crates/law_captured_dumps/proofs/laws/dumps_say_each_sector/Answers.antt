@@ -1,3 +1,4 @@
+use Rattle.dump_reading.specs.Reports.{read_part}
 use Rattle.law_captured_dumps.proofs.Said.{Laws, each_said, good_stays, said_is_right}
 use Rattle.law_captured_dumps.proofs.Streams.{same_captures}
 use Rattle.law_captured_dumps.proofs.laws.dumps_say_each_sector.Goals as goal
@@ -12,7 +13,7 @@ laws c = record {
 
 pub returns-clause-said : goal.returns-clause-said
 returns-clause-said c disk files o is n sector one =
-    each_said (laws c) disk files o is n sector one (same_captures disk files is.streams is.parts is.all.read n)
+    each_said (laws c) disk files o is n sector one (same_captures read_part disk files is.streams is.parts is.all.read n)
 
 pub returns-clause-right : goal.returns-clause-right
 returns-clause-right c = said_is_right c.plans_are_right.ensures.good c.plans_are_right.ensures.contradictory

@@ -1,0 +1,115 @@
+-- From what the loop over dumps wrote to the picture of a disk.
+use Rattle.std.specs.Prelude.{◌≡◌, ◌≤◌, ◌<◌, ℕ, ◌+◌, List, [], ◌∷◌, ◌++◌, codes, length, take, Option, None, Result, Ok, Err, refl}
+use Rattle.std.specs.Io.KnownBytes.{Appends}
+use Rattle.std.proofs.Common.{ap, sym, subst, ◌∙◌, arith, inl, inr, append_assoc, append-nil}
+use Rattle.std.proofs.KnownBytes.{Appends-trans}
+use Rattle.std.proofs.lemmas.List.{length_push}
+use Rattle.flux_base.specs.Outside.{AppendsPart}
+use Rattle.flux_base.specs.lemmas.Parts.{AppendsPart-second}
+use Rattle.track_shelf.specs.Files.{File}
+use Rattle.flux_engine.specs.Answers.{AppendsAndPart}
+use Rattle.flux_engine.specs.Disks.{images}
+use Rattle.flux_engine.specs.Tracks.{TrackPart}
+use Rattle.flux_engine.specs.lemmas.PartLaws.{images-more}
+use Rattle.dump_reading.specs.Outcomes.{DumpDisk, DumpsCause, HasTracksBy, IsToldEmpty, StopsBy, WroteFrontBy, WroteIntoImageBy, numbers_of}
+use Rattle.dump_reading.specs.declared.fault.DumpsFault.{DumpsFault}
+use Rattle.dump_reading.specs.declared.fault.DumpsFault.TheVariants.{NoFiles, ShelfFault, ImageFault, NotesFault}
+use Rattle.dump_reading.specs.declared.totals.DumpTotals.{DumpTotals}
+use Rattle.disk_map.specs.Dumps.{DrewDumps, DrewFirst, SaysOfDrawing, StoppedInDumps, dumps_foot, dumps_front, dumps_part, picture_of}
+use Rattle.disk_map.specs.Places.{layout_of}
+use Rattle.disk_map.specs.Texts.{top_by}
+use Rattle.disk_map.proofs.Drawing.{cut_after}
+
+module _ (disk : DumpDisk) (told : Option (List File)) (picture : Option (List ℕ)) where
+  -- the sink failed before the first field
+  pub no-top : (picture' : Option (List ℕ)) → AppendsPart picture picture' (top_by (codes "read") disk.format) → StoppedInDumps disk told picture picture'
+  no-top picture' part = record {
+    streams = [];
+    parts = [];
+    few = omega arith;
+    read = record { all = omega arith; are = λ files known n q few below. absurd (omega (arith, below)); each = λ n below. absurd (omega (arith, below)) };
+    ending = [];
+    ends = inl refl;
+    grew = subst (AppendsPart picture picture') (sym (append-nil (dumps_front disk.format []) ∙ append-nil (top_by (codes "read") disk.format))) part;
+  }
+
+  module _ (top : Option (List ℕ)) (begun : Appends picture top (top_by (codes "read") disk.format)) where
+    front : (parts : List TrackPart) (written : Option (List ℕ)) → Appends top written (images parts) → Appends picture written (dumps_front disk.format parts)
+    front parts written grew = Appends-trans picture top written (top_by (codes "read") disk.format) (images parts) begun grew
+
+    module _ (written notes notes' picture' : Option (List ℕ)) (totals : DumpTotals) (h : HasTracksBy dumps_part disk told top written notes notes' totals) where
+      abbrev foot-of : DumpTotals → List ℕ
+      foot-of t = dumps_foot (layout_of disk.format) t
+
+      -- all was written
+      pub drawn-all : Appends written picture' (dumps_foot (layout_of disk.format) totals) → DrewDumps disk told picture picture' totals
+      drawn-all foot = record {
+        outcome = picture_of disk.format h.parts (numbers_of h.streams h.parts h.others);
+        is = record { streams = h.streams; parts = h.parts; others = h.others; all = h.all; is = refl };
+        grew =
+            Appends-trans picture written picture' (dumps_front disk.format h.parts) (foot-of (numbers_of h.streams h.parts h.others)) (front h.parts written h.image_grew)
+            (subst (λ (t : DumpTotals). Appends written picture' (dumps_foot (layout_of disk.format) t)) h.totals_are foot);
+        totals_are = h.totals_are;
+      }
+
+      -- a part of the foot
+      pub no-foot : AppendsPart written picture' (dumps_foot (layout_of disk.format) totals) → StoppedInDumps disk told picture picture'
+      no-foot foot = record {
+        streams = h.streams;
+        parts = h.parts;
+        few = omega (arith, h.all.many);
+        read = h.all.read;
+        ending = foot-of (numbers_of h.streams h.parts h.others);
+        ends = inr (h.others, h.all, refl);
+        grew =
+            AppendsPart-second picture written picture' (dumps_front disk.format h.parts) (foot-of (numbers_of h.streams h.parts h.others)) (front h.parts written h.image_grew)
+            (subst (λ (t : DumpTotals). AppendsPart written picture' (dumps_foot (layout_of disk.format) t)) h.totals_are foot);
+      }
+
+    -- the shelf failed after some tracks
+    drawn-first : (written notes notes' : Option (List ℕ)) → WroteFrontBy dumps_part disk told top written notes notes' → DrewFirst disk told picture written
+    drawn-first written notes notes' w = record {
+      streams = w.streams;
+      parts = w.parts;
+      few = w.few;
+      read = w.read;
+      grew = front w.parts written w.image_grew;
+    }
+
+    -- the sink failed at a field
+    cut-field : (written notes notes' : Option (List ℕ)) → WroteIntoImageBy dumps_part disk told top written notes notes' → StoppedInDumps disk told picture written
+    cut-field written notes notes' w =
+        let before : List ℕ = top_by (codes "read") disk.format in
+        let many : length (w.parts ++ w.next ∷ []) ≡ length w.parts + 1 = length_push w.parts w.next in
+        let n = w.image_grew.0 in
+        let whole : (before ++ images w.parts) ++ w.next.image ≡ dumps_front disk.format (w.parts ++ w.next ∷ []) ++ [] =
+        append_assoc before (images w.parts) w.next.image ∙ ap (λ (r : List ℕ). before ++ r) (sym (images-more w.parts w.next))
+        ∙ sym (append-nil (dumps_front disk.format (w.parts ++ w.next ∷ []))) in
+        let grew : Appends picture written ((before ++ images w.parts) ++ take n w.next.image) =
+        subst (Appends picture written) (sym (append_assoc before (images w.parts) (take n w.next.image)))
+        (Appends-trans picture top written before (images w.parts ++ take n w.next.image) begun w.image_grew.2) in
+        record {
+          streams = w.streams;
+          parts = w.parts ++ w.next ∷ [];
+          few = omega (arith, w.few, many);
+          read = w.read;
+          ending = [];
+          ends = inl refl;
+          grew = subst (AppendsPart picture written) whole (cut_after picture written (before ++ images w.parts) w.next.image n w.image_grew.1 grew);
+        }
+
+    -- reading the tracks stopped; there are no notes that could have failed
+    pub drawn-stopped : (written notes notes' : Option (List ℕ)) (fault : DumpsFault) (s s' p p' : ℕ) → DumpsCause {A = DumpTotals} s s' p p' 0 0 (Err fault)
+        → StopsBy dumps_part disk told top written notes notes' fault → SaysOfDrawing disk told picture written (Err fault)
+    drawn-stopped written notes notes' (NoFiles dump) s s' p p' cause stops = absurd stops
+    drawn-stopped written notes notes' ShelfFault s s' p p' cause stops = inr (drawn-first written notes notes' stops)
+    drawn-stopped written notes notes' ImageFault s s' p p' cause stops = cut-field written notes notes' stops
+    drawn-stopped written notes notes' NotesFault s s' p p' cause stops = omega (arith, cause)
+
+-- a fault that rose later rose since before
+pub cause-since : (fault : DumpsFault) (s t s' p q p' : ℕ) → s ≤ t → p ≤ q → DumpsCause {A = DumpTotals} t s' q p' 0 0 (Err fault)
+    → DumpsCause {A = DumpTotals} s s' p p' 0 0 (Err fault)
+cause-since (NoFiles dump) s t s' p q p' shelf picture cause = tt
+cause-since ShelfFault s t s' p q p' shelf picture cause = omega (arith, shelf, cause)
+cause-since ImageFault s t s' p q p' shelf picture cause = omega (arith, picture, cause)
+cause-since NotesFault s t s' p q p' shelf picture cause = omega (arith, cause)

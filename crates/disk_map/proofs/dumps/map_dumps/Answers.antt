@@ -1,0 +1,36 @@
+use Rattle.std.proofs.Common.{inl, refl}
+use Rattle.dump_reading.specs.Outcomes.{disk_of}
+use Rattle.disk_map.proofs.DrawnDumps.{cause-since, drawn-all, drawn-stopped, no-foot, no-top}
+use Rattle.disk_map.proofs.dumps.map_dumps.Goals as goal
+
+pub returns-in-Err-clause-says : goal.returns-in-Err-clause-says
+returns-in-Err-clause-says g c = inl refl
+
+pub returns-in-Err-write_top-clause-says : goal.returns-in-Err-write_top-clause-says
+returns-in-Err-write_top-clause-says g c =
+    no-top (disk_of c.args.dumps.now c.args.room.now.format) (g.H.Shelf.files c.args.shelf.now) (g.P.Sink.written c.args.picture.now) (g.P.Sink.written c.write_top.new.picture)
+    (rw c.room_format-format.ensures at c.in-Err-write_top.ensures.err)
+
+pub returns-in-Err-read_dump_tracks-clause-says : goal.returns-in-Err-read_dump_tracks-clause-says
+returns-in-Err-read_dump_tracks-clause-says g c =
+    drawn-stopped (disk_of c.args.dumps.now c.args.room.now.format) (g.H.Shelf.files c.args.shelf.now) (g.P.Sink.written c.args.picture.now) (g.P.Sink.written c.write_top.new.picture)
+    (rw c.room_format-format.ensures at c.in-Ok.ensures.ok) (g.P.Sink.written c.read_dump_tracks.new.image) _ _ c.in-Err-read_dump_tracks.fault _ _ _ _
+    c.in-Err-read_dump_tracks.ensures.cause (rw c.in-Ok-None.ensures.kept at c.in-Err-read_dump_tracks.ensures.err)
+
+pub returns-in-Err-read_dump_tracks-clause-cause : goal.returns-in-Err-read_dump_tracks-clause-cause
+returns-in-Err-read_dump_tracks-clause-cause g c =
+    cause-since c.in-Err-read_dump_tracks.fault _ _ _ _ _ _ c.in-Ok-None.ensures.later c.in-Ok.ensures.later c.in-Err-read_dump_tracks.ensures.cause
+
+pub returns-in-Ok-write_foot-clause-says : goal.returns-in-Ok-write_foot-clause-says
+returns-in-Ok-write_foot-clause-says g c = (
+  rw (c.room_format-format.ensures, c.in-Ok-None.field-0-is) at c.in-Ok-None.ensures.told,
+  drawn-all (disk_of c.args.dumps.now c.args.room.now.format) (g.H.Shelf.files c.args.shelf.now) (g.P.Sink.written c.args.picture.now) (g.P.Sink.written c.write_top.new.picture)
+      (rw c.room_format-format.ensures at c.in-Ok.ensures.ok) (g.P.Sink.written c.read_dump_tracks.new.image) _ _ (g.P.Sink.written c.write_foot.new.picture) c.in-Ok-read_dump_tracks.totals
+      (rw c.in-Ok-None.ensures.kept at c.in-Ok-read_dump_tracks.ensures.ok) (rw (c.of_format.ensures, c.room_format-format.ensures) at c.in-Ok-write_foot.ensures.ok),
+)
+
+pub returns-in-Err-write_foot-clause-says : goal.returns-in-Err-write_foot-clause-says
+returns-in-Err-write_foot-clause-says g c =
+    no-foot (disk_of c.args.dumps.now c.args.room.now.format) (g.H.Shelf.files c.args.shelf.now) (g.P.Sink.written c.args.picture.now) (g.P.Sink.written c.write_top.new.picture)
+    (rw c.room_format-format.ensures at c.in-Ok.ensures.ok) (g.P.Sink.written c.read_dump_tracks.new.image) _ _ (g.P.Sink.written c.write_foot.new.picture) c.in-Ok-read_dump_tracks.totals
+    (rw c.in-Ok-None.ensures.kept at c.in-Ok-read_dump_tracks.ensures.ok) (rw (c.of_format.ensures, c.room_format-format.ensures) at c.in-Err-write_foot.ensures.err)

@@ -1,0 +1,102 @@
+-- What a disk comes to in a picture that is read of its dumps, and what drawing it may answer.
+use Rattle.std.specs.Prelude.{◌≡◌, ◌<◌, ◌≤◌, ◌⊎◌, ℕ, List, [], ◌++◌, codes, length, Option, Some, None, Result, Ok, Err}
+use Rattle.std.specs.Io.KnownBytes.{Appends}
+use Rattle.flux_base.specs.Outside.{AppendsPart}
+use Rattle.sector_images.specs.Places.{tracks}
+use Rattle.sector_images.specs.declared.format.Format.{Format}
+use Rattle.sector_report.specs.DumpLines.{unread_text}
+use Rattle.sector_report.specs.Lines.{total_text}
+use Rattle.sector_report.specs.declared.naming.Naming.TheVariants.{ByCaptureAndClock}
+use Rattle.track_shelf.specs.Files.{File}
+use Rattle.turn_merge.specs.Others.{NotedOther}
+use Rattle.flux_engine.specs.Disks.{images, part_at}
+use Rattle.flux_engine.specs.Plans.{PartOf, Seen}
+use Rattle.flux_engine.specs.Recordings.{track_at}
+use Rattle.flux_engine.specs.Tracks.{TrackNotes, TrackPart}
+use Rattle.dump_reading.specs.Outcomes.{AreAllBy, AreTracksBy, DumpDisk, DumpsRead, IsDumpsRead, IsReadBy, IsToldEmpty, numbers_of}
+use Rattle.dump_reading.specs.Reports.{read_part}
+use Rattle.dump_reading.specs.declared.fault.DumpsFault.{DumpsFault}
+use Rattle.dump_reading.specs.declared.fault.DumpsFault.TheVariants.{NoFiles, ShelfFault, ImageFault, NotesFault}
+use Rattle.dump_reading.specs.declared.totals.DumpTotals.{DumpTotals}
+use Rattle.disk_map.specs.Maps.{drawn_by}
+use Rattle.disk_map.specs.Places.{layout_of}
+use Rattle.disk_map.specs.Texts.{counts_text, foot_text, top_by}
+use Rattle.disk_map.specs.declared.layout.Layout.{Layout}
+
+-- what becomes of a track: its fields, with the lines of the report of dumps as titles
+abbrev pub dumps_part : PartOf
+dumps_part = drawn_by ByCaptureAndClock
+
+-- a picture of dumps up to its foot
+abbrev pub dumps_front : Format → List TrackPart → List ℕ
+dumps_front format parts = top_by (codes "read") format ++ images parts
+
+-- its foot: beside the legend how many streams were passed over, how many other names are told, and how many of these have data
+abbrev pub dumps_foot : Layout → DumpTotals → List ℕ
+dumps_foot layout totals =
+    counts_text layout (unread_text totals.unread totals.others totals.whole) ++ foot_text layout totals.sectors (total_text totals.sectors)
+
+-- the picture stands in the place of the image, and there are no notes
+abbrev pub picture_of : Format → List TrackPart → DumpTotals → DumpsRead
+picture_of format parts totals = record { image = dumps_front format parts ++ dumps_foot (layout_of format) totals; notes = []; totals = totals }
+
+-- what the dumps come to in a picture, by the files that are told
+abbrev pub IsDumpsDrawn : DumpDisk → Option (List File) → DumpsRead → Type 0
+IsDumpsDrawn disk told o = IsReadBy dumps_part (picture_of disk.format) disk told o
+
+-- all of it was written
+pub record DrewDumps (disk : DumpDisk) (told : Option (List File)) (picture picture' : Option (List ℕ)) (totals : DumpTotals) : Type 0 where
+  pub outcome : DumpsRead
+  pub is : IsDumpsDrawn disk told outcome
+  pub grew : Appends picture picture' outcome.image
+  pub totals_are : totals ≡ outcome.totals
+
+-- the picture was written up to its foot, with the first tracks
+pub record DrewFirst (disk : DumpDisk) (told : Option (List File)) (picture picture' : Option (List ℕ)) : Type 0 where
+  pub streams : List Seen
+  pub parts : List TrackPart
+  pub few : length parts ≤ length (tracks disk.format)
+  pub read : AreTracksBy dumps_part disk told streams parts
+  pub grew : Appends picture picture' (dumps_front disk.format parts)
+
+-- what stands in a picture after some of its tracks: nothing yet, or the foot where these are all
+abbrev pub IsDumpsEnding : DumpDisk → Option (List File) → List Seen → List TrackPart → List ℕ → Type 0
+IsDumpsEnding disk told streams parts ending =
+    (ending ≡ [])
+    ⊎ ((others : List (List NotedOther)) × AreAllBy dumps_part disk told streams parts others × (ending ≡ dumps_foot (layout_of disk.format) (numbers_of streams parts others)))
+
+-- The sink failed: a part of a picture of the first tracks was written, which is shorter than it.
+pub record StoppedInDumps (disk : DumpDisk) (told : Option (List File)) (picture picture' : Option (List ℕ)) : Type 0 where
+  pub streams : List Seen
+  pub parts : List TrackPart
+  pub few : length parts ≤ length (tracks disk.format)
+  pub read : AreTracksBy dumps_part disk told streams parts
+  pub ending : List ℕ
+  pub ends : IsDumpsEnding disk told streams parts ending
+  pub grew : AppendsPart picture picture' (dumps_front disk.format parts ++ ending)
+
+-- What an answer says. A dump without files is told before anything is written; where the shelf fails, nothing was written yet, or the
+-- picture up to its foot, with the tracks that were read.
+abbrev pub SaysOfDrawing : DumpDisk → Option (List File) → (picture picture' : Option (List ℕ)) → Result DumpTotals DumpsFault → Type 0
+SaysOfDrawing disk told picture picture' (Ok totals) = IsToldEmpty disk told None × DrewDumps disk told picture picture' totals
+SaysOfDrawing disk told picture picture' (Err (NoFiles dump)) = (dump < length disk.dumps) × IsToldEmpty disk told (Some dump) × (picture' ≡ picture)
+SaysOfDrawing disk told picture picture' (Err ShelfFault) = (picture' ≡ picture) ⊎ DrewFirst disk told picture picture'
+SaysOfDrawing disk told picture picture' (Err ImageFault) = StoppedInDumps disk told picture picture'
+SaysOfDrawing disk told picture picture' (Err NotesFault) = ⊥
+
+-- a track in a picture and in the report, by what was gathered of it
+pub record ShowsTrack (format : Format) (n : ℕ) (drawn read : TrackPart) : Type 0 where
+  pub notes : TrackNotes
+  pub drawn_is : drawn ≡ dumps_part format (track_at format n) notes
+  pub read_is : read ≡ read_part format (track_at format n) notes
+
+-- A picture is that of a report: the report of the same dumps has the same numbers, and of each track the picture has the fields by what was
+-- gathered of it, of which the report has the lines.
+pub record ShowsReport (disk : DumpDisk) (told : Option (List File)) (o : DumpsRead) (is : IsDumpsDrawn disk told o) : Type 0 where
+  pub report : DumpsRead
+  pub read : IsDumpsRead disk told report
+  pub totals : report.totals ≡ o.totals
+  pub tracks : (n : ℕ) → n < length is.parts → ShowsTrack disk.format n (part_at is.parts n) (part_at read.parts n)
+
+abbrev pub PicturesOfDumpsShowReports : Type 0
+PicturesOfDumpsShowReports = (disk : DumpDisk) (told : Option (List File)) (o : DumpsRead) (is : IsDumpsDrawn disk told o) → ShowsReport disk told o is
