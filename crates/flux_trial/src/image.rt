@@ -2,13 +2,14 @@ ghost use Rattle.std.specs.Prelude.{◌≡◌, ◌<◌, length};
 ghost use Rattle.sector_images.specs.Formats.{row};
 ghost use Rattle.flux_trial.specs.Image.{image_byte, trial_image};
 
-use sector_images::Format;
+use sector_images::{Format, tracks_keep_bounds};
 
 /// Fills a slice with the image of a trial; it has an image's bytes in number.
 pub fn trial_image(format: Format, seed: u32, image: &mut [u8])
     requires { length image.old ≡ (row format).image_size }
     ensures { image.new ≡ trial_image format seed }
 {
+    tracks_keep_bounds();
     for place in 0..image.len() {
         image[place] = image_byte(seed, place as u32);
     }

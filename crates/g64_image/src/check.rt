@@ -3,7 +3,7 @@
 ghost use Rattle.std.specs.Prelude.{◌≡◌, ◌≤◌, ◌<◌, ◌+◌, None, length};
 ghost use Rattle.sector_images.specs.Places.{tracks};
 ghost use Rattle.g64_image.specs.Faults.{HasTables, first_fault as first_fault_of, table_fault as table_fault_of, track_fault as track_fault_of, tracks_fault as tracks_fault_of};
-ghost use Rattle.g64_image.specs.Layout.{cells_of_bytes, length_at as length_of, offset_of as offset_in, track_cells};
+ghost use Rattle.g64_image.specs.Layout.{IsCommodore, cells_of_bytes, length_at as length_of, offset_of as offset_in, track_cells};
 
 use crate::fault::G64Fault;
 use crate::front::{HALF_TRACKS, SIGNATURE};
@@ -19,7 +19,8 @@ const HEADER_SIZE: usize = 12;
 #[tactic(auto, unfolding(crate::specs::Faults::first_fault))]
 /// The first fault of a file, in the order in which they are looked at.
 pub(crate) fn first_fault(format: Format, file: &[u8]) -> Option<G64Fault>
-    requires { length file.now ≤ 4194305 }
+    requires format { IsCommodore format }
+    requires few { length file.now ≤ 4194305 }
     ensures value { result ≡ first_fault_of format file.now }
     ensures tables { result ≡ None → HasTables file.now }
 {

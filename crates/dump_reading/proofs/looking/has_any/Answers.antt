@@ -3,6 +3,11 @@ use Rattle.sector_images.specs.Places.{tracks}
 use Rattle.dump_reading.proofs.Looks.{none-found, none-more, one-found}
 use Rattle.dump_reading.proofs.looking.has_any.Goals as goal
 
+pub file_track-track-requires : goal.file_track-track-requires
+file_track-track-requires g c =
+    let keeps = c.tracks_keep_bounds.ensures.bounds c.args.format c.track_id.result c.track_id.ensures.track in
+    omega (arith, keeps.cylinder)
+
 pub returns-in-Ok-true-clause-told : goal.returns-in-Ok-true-clause-told
 returns-in-Ok-true-clause-told g c = λ files told.
     let there = rw c.file_track-track.ensures at (c.in-Ok-true.ensures.told files (c.loop-number.invariant.kept ∙ told)) in

@@ -26,3 +26,11 @@ returns c =
     let all : place ≡ (row c.args.format).image_size = omega (arith, c.loop-place-test.false, c.loop-place.auto.place-end, c.requires) in
     sym (take_all place c.loop-place.image (omega (arith, i.len, all, c.requires)))
     ∙ i.done ∙ ap (λ (n : ℕ). map (image_byte c.args.seed) (range_with_len 0 n)) all
+
+pub overflow_cast-place : goal.overflow_cast-place
+overflow_cast-place c =
+    omega (arith, c.loop-place-test.true, c.loop-place.auto.place-end, c.requires, c.tracks_keep_bounds.ensures.images c.args.format)
+
+pub image_byte-requires : goal.image_byte-requires
+image_byte-requires c =
+    omega (arith, c.loop-place-test.true, c.loop-place.auto.place-end, c.requires, c.tracks_keep_bounds.ensures.images c.args.format)

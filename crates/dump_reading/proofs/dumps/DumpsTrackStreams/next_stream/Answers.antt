@@ -1,7 +1,12 @@
-use Rattle.std.proofs.Common.{refl, sym, ◌∙◌}
+use Rattle.std.proofs.Common.{arith, refl, sym, ◌∙◌}
 use Rattle.dump_reading.specs.DumpStreams.{dump_streams}
 use Rattle.dump_reading.proofs.NextStreams.{came-next, dump-says, gives-next, item-none, item-some, none-says, says-same}
 use Rattle.dump_reading.proofs.dumps.DumpsTrackStreams.next_stream.Goals as goal
+
+pub file_track-track-requires : goal.file_track-track-requires
+file_track-track-requires g c =
+    let keeps = c.tracks_keep_bounds.ensures.bounds c.args.format c.track_id.result c.track_id.ensures.track in
+    omega (arith, keeps.cylinder)
 
 pub returns-in-Some-clause-next : goal.returns-in-Some-clause-next
 returns-in-Some-clause-next g c = λ plan start before few size came.
