@@ -1,11 +1,12 @@
 -- From what a run did to what it does with a captured disk.
-use Rattle.std.specs.Prelude.{◌≡◌, ◌≢◌, ◌≤◌, ℕ, List, [], ◌∷◌, Result, Ok, Err, Option, Some, None, refl}
+use Rattle.std.specs.Prelude.{◌≡◌, ◌≢◌, ◌≤◌, ℕ, List, [], ◌∷◌, Result, Ok, Err, Option, Some, None, codes, refl}
 use Rattle.std.proofs.Common.{arith, inl, inr, ap, sym, subst, ◌∙◌}
 use Rattle.flux_base.specs.Moments.{Moment}
 use Rattle.flux_base.specs.Outside.{Rose}
 use Rattle.flux_base.specs.declared.outside.Failed.{Failed}
 use Rattle.flux_base.specs.declared.status.Status.{Status}
 use Rattle.flux_base.specs.declared.status.Status.TheVariants.{AllGood, NotAllGood, Refused, Usage, ReadFault, ImageFault, NotesFault, Memory, ShelfFault}
+use Rattle.sector_images.specs.Formats.{IsWordOfFormat}
 use Rattle.sector_images.specs.declared.format.Format.{Format}
 use Rattle.track_shelf.specs.Files.{File, LeavesWanted, NamesMissing}
 use Rattle.law_captured_disks.specs.Headline.{DecodesRest, DecodesWhole}
@@ -13,17 +14,16 @@ use Rattle.law_captured_disks.specs.Inputs.{IsCapturedDisk, IsErasedDisk}
 use Rattle.flux_engine.specs.Disks.{Decoded}
 use Rattle.flux_engine.specs.Rings.{IsImage}
 use Rattle.flux_cli.specs.Captured.{DecodesFolder, FolderCaptured, FolderErased, RunsCaptured, RunsErased, Wrote, WroteOrCut, WroteOrCutOnShelf}
-use Rattle.flux_cli.specs.Commands.{words_of}
 use Rattle.flux_cli.specs.Headlines.{Gave, GaveOrCut, IsExpected, IsOfDecoded, WasRead}
 use Rattle.flux_cli.specs.Runs.{Outside, Says, growth}
 use Rattle.flux_cli.specs.FolderRuns.{Began, DidBy, DoesFolder, OnShelf, ShelfMoment, as_source, over_shelf}
 use Rattle.flux_cli.specs.ShelfRuns.{Ran, RanBy, Surroundings, on_shelf}
-use Rattle.flux_cli.specs.FolderWords.{NamesFolder, folder_words}
+use Rattle.flux_cli.specs.FolderWords.{AreFolderWords, NamesFolder}
 use Rattle.flux_cli.specs.Work.{Got}
 use Rattle.flux_cli.specs.declared.command.Command.TheVariants.{Decode}
 use Rattle.flux_cli.specs.declared.command.Output.TheVariants.{ImageAndReport}
 use Rattle.flux_cli.proofs.Headlines.{Laws, expected, gave_or_cut, runs_as_expected}
-use Rattle.flux_cli.proofs.Outcomes.{format_word}
+use Rattle.flux_cli.proofs.Outcomes.{format_word, one_format}
 
 -- what follows from a run that is done
 with_done : {S W N : Type 0} (before after : Outside S W N) (Done Done' : Status → Type 0) → ((s : Status) → Done s → Done' s)
@@ -88,15 +88,15 @@ module _ {S W N : Type 0} (before after : Outside S W N) (format : Format) (imag
     erased_of ShelfFault g = g
 
 -- what a run of `decode` gave
-decode_gave : Laws → {S W N : Type 0} (before after : Outside S W N) (format : Format) (x : List ℕ) → before.source.bytes ≡ Some x → (status : Status)
-    → Says (Decode format) status before after → GaveOrCut (IsExpected (Decode format) x) status before after
-decode_gave laws before after format x told status says =
+decode_gave : Laws → {S W N : Type 0} (before after : Outside S W N) (format : Format) (x word : List ℕ) → IsWordOfFormat word format → before.source.bytes ≡ Some x
+    → (status : Status) → Says (Decode format) status before after → GaveOrCut (IsExpected (Decode format) x) status before after
+decode_gave laws before after format x word named told status says =
     gave_or_cut before after (Decode format) x told (IsExpected (Decode format) x)
-    (λ o gives. expected laws x o (Decode format) (words_of (Decode format)) refl gives) status says
+    (λ o gives. expected laws x o (Decode format) (codes "decode" ∷ word ∷ []) (record { word = word; is = refl; named = named }) gives) status says
 
 module _ (laws : Laws) {S W N H : Type 0} (words : List (List ℕ)) (status : Status) (before after : Surroundings S W N H) (ran : Ran words status before after) where
   -- what was done for `decode-folder`
-  folder_did : (format : Format) (folder : List ℕ) → words ≡ folder_words format folder → folder ≢ []
+  folder_did : (format : Format) (folder : List ℕ) → AreFolderWords format folder words → folder ≢ []
       → DoesFolder format folder status (on_shelf before) (on_shelf after)
   folder_did format folder are some = by ran.folder ran.names ran.did
     where
@@ -104,8 +104,9 @@ module _ (laws : Laws) {S W N H : Type 0} (words : List (List ℕ)) (status : St
           → DoesFolder format folder status (on_shelf before) (on_shelf after)
       by None none did = absurd (none format folder some are)
       by (Some named) named_is did =
-          let same : folder_words named.0 named.1 ≡ folder_words format folder = sym named_is.0 ∙ are in
-          subst (λ (f : Format). DoesFolder f folder status (on_shelf before) (on_shelf after)) (laws.names named.0 format (ap format_word same))
+          let same = sym named_is.0.is ∙ are.is in
+          subst (λ (f : Format). DoesFolder f folder status (on_shelf before) (on_shelf after))
+          (one_format laws.names named_is.0.word are.word named.0 format (ap format_word same) named_is.0.named are.named)
           (subst (λ (n : List ℕ). DoesFolder named.0 n status (on_shelf before) (on_shelf after)) (ap third_word same) did.0)
 
   pub runs_captured : RunsCaptured words status before.outside after.outside
@@ -174,7 +175,7 @@ module _ (laws : Laws) {S W N H : Type 0} (words : List (List ℕ)) (status : St
       let mid = as_source (record (on_shelf before) { shelf = shelf }) in
       let end = as_source (on_shelf after) in
       with_done mid end (Captured mid end format image x is disk) (Captured (as_source (on_shelf before)) end format image x is disk)
-      (λ s d. (d.0, rewrote shelf d.1)) inner (captured_of mid end format image x is disk inner (decode_gave laws mid end format x told inner says)))
+      (λ s d. (d.0, rewrote shelf d.1)) inner (captured_of mid end format image x is disk inner (decode_gave laws mid end format x decodes.words_are.word decodes.words_are.named told inner says)))
 
   pub folder_erased : FolderErased words status (on_shelf before) (on_shelf after)
   folder_erased format image x decodes is disk =
@@ -183,4 +184,4 @@ module _ (laws : Laws) {S W N H : Type 0} (words : List (List ℕ)) (status : St
       let mid = as_source (record (on_shelf before) { shelf = shelf }) in
       let end = as_source (on_shelf after) in
       with_done mid end (Erased mid end format image x is disk) (Erased (as_source (on_shelf before)) end format image x is disk)
-      (λ s w. rewrote shelf w) inner (erased_of mid end format image x is disk inner (decode_gave laws mid end format x told inner says)))
+      (λ s w. rewrote shelf w) inner (erased_of mid end format image x is disk inner (decode_gave laws mid end format x decodes.words_are.word decodes.words_are.named told inner says)))

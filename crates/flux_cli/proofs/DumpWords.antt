@@ -1,32 +1,18 @@
 -- What the words of `read` ask for.
-use Rattle.std.proofs.Common.{◌≡◌, ◌≢◌, ℕ, Bool, true, false, not, List, [], ◌∷◌, ◌++◌, codes, Option, Some, None, refl, sym, ap, ◌∙◌, subst}
-use Rattle.std.specs.List.{list_all}
-use Rattle.std.specs.Str.{bytes_eq}
-use Rattle.std.proofs.lemmas.List.Elements.{All-contains}
-use Rattle.std.proofs.lemmas.List.Sums.{AllPass-from_list_all}
-use Rattle.std.proofs.lemmas.Slice.Eq.{bytes_eq-Decides}
-use Rattle.sector_images.specs.Formats.{formats, is_listed, row}
+use Rattle.std.proofs.Common.{◌≡◌, ◌≢◌, ◌≤◌, ℕ, List, [], ◌∷◌, ◌++◌, codes, get_or, Option, Some, None, arith, refl, sym, ap, ◌∙◌, subst}
+use Rattle.sector_images.specs.Formats.{IsWordOfFormat, WordsBeginWithLetters, WordsNameFormats}
 use Rattle.sector_images.specs.declared.format.Format.{Format}
 use Rattle.track_shelf.specs.declared.stepping.Stepping.{Stepping}
 use Rattle.track_shelf.specs.declared.stepping.Stepping.TheVariants.{Single, Double}
-use Rattle.flux_cli.specs.DumpParts.{IsMaybeReadable, IsNotFirst, NamesBehind, NamesWith, disk_words}
+use Rattle.flux_cli.specs.DumpParts.{AreSteppedWords, IsMaybeReadable, IsNotFirst, NamesBehind, NamesWith}
 use Rattle.flux_cli.specs.DumpWords.{Asked, CanBeRead, NamesDumps, double_step_word, stepping_words}
 
--- no format has this word
-abbrev is_other : List ℕ → Format → Bool
-is_other word f = not (bytes_eq (row f).word word)
-
-pub others_step : list_all (is_other double_step_word) formats ≡ true
-others_step = refl
-
-not_same : (b : Bool) → not b ≡ true → b ≡ true → ⊥
-not_same b is_not is = cc
-
-pub other-word : (word : List ℕ) → list_all (is_other word) formats ≡ true → (f : Format) → (row f).word ≢ word
-other-word word all f same =
-    not_same (bytes_eq (row f).word word)
-    (All-contains (λ (g : Format). is_other word g ≡ true) formats f (AllPass-from_list_all (is_other word) formats all) (is_listed f))
-    ((bytes_eq-Decides (row f).word word).1 same)
+-- no format has an option's word, which begins with a dash
+pub no_option : WordsBeginWithLetters → (word : List ℕ) (f : Format) → IsWordOfFormat word f → double_step_word ≢ word
+no_option letters word f named same =
+    let letter = letters word f named in
+    let dash : 45 ≡ get_or word 0 0 = ap (λ (w : List ℕ). get_or w 0 0) same in
+    omega (arith, letter, dash)
 
 pub head-same : {X : Type 0} (x y : X) (xs ys : List X) → x ∷ xs ≡ y ∷ ys → x ≡ y
 head-same x y xs ys same = cc
@@ -36,49 +22,64 @@ tail-same x y xs ys same = cc
 
 -- the command's word
 pub dumps-named : (words rest : List (List ℕ)) (r : Option Asked) → words ≡ codes "read" ∷ rest → NamesBehind rest r → NamesDumps words r
-dumps-named words rest None at names = λ asked can same. names asked can (tail-same _ _ _ _ (sym at ∙ same))
-dumps-named words rest (Some asked) at names = (at ∙ ap (λ later. codes "read" ∷ later) names.0, names.1)
+dumps-named words rest None at names = λ asked can are.
+    names asked can (record { word = are.word; is = tail-same _ _ _ _ (sym at ∙ are.is); named = are.named })
+dumps-named words rest (Some asked) at names =
+    (record { word = names.0.word; is = at ∙ ap (λ later. codes "read" ∷ later) names.0.is; named = names.0.named }, names.1)
 
 pub dumps-unnamed : (words : List (List ℕ)) → IsNotFirst (codes "read") words → NamesDumps words None
-dumps-unnamed words other = λ asked can same. other _ same
+dumps-unnamed words other = λ asked can are. other _ are.is
 
 module _ (words : List (List ℕ)) where
   -- the words of a disk behind those of its stepping
-  stepped : (asked : Asked) (stepping : Stepping) → asked.stepping ≡ stepping
-      → stepping_words asked.stepping ++ disk_words asked ≡ stepping_words stepping ++ disk_words asked
-  stepped asked stepping is = ap (λ (s : Stepping). stepping_words s ++ disk_words asked) is
+  stepped : (asked : Asked) (word : List ℕ) (stepping : Stepping) → asked.stepping ≡ stepping
+      → stepping_words asked.stepping ++ (word ∷ asked.dumps) ≡ stepping_words stepping ++ (word ∷ asked.dumps)
+  stepped asked word stepping is = ap (λ (s : Stepping). stepping_words s ++ (word ∷ asked.dumps)) is
 
   -- that of the stepping, if there is one
-  pub step-named : (rest : List (List ℕ)) (r : Option Asked) → words ≡ double_step_word ∷ rest → NamesWith Double rest r → NamesBehind words r
-  step-named rest (Some asked) at names = (at ∙ ap (λ later. double_step_word ∷ later) names.1 ∙ sym (stepped asked Double names.0), names.2)
-  step-named rest None at names = λ asked can same. by asked.stepping asked refl can same
+  pub step-named : WordsBeginWithLetters → (rest : List (List ℕ)) (r : Option Asked) → words ≡ double_step_word ∷ rest → NamesWith Double rest r → NamesBehind words r
+  step-named letters rest (Some asked) at names = (
+    record {
+      word = names.1.word;
+      is = at ∙ ap (λ later. double_step_word ∷ later) names.1.is ∙ sym (stepped asked names.1.word Double names.0);
+      named = names.1.named;
+    },
+    names.2,
+  )
+  step-named letters rest None at names = λ asked can are. by asked.stepping asked refl can are
     where
-      by : (s : Stepping) (asked : Asked) → asked.stepping ≡ s → CanBeRead asked → words ≢ stepping_words asked.stepping ++ disk_words asked
-      by Double asked is can same = names asked is can (tail-same _ _ _ _ (sym at ∙ same ∙ stepped asked Double is))
-      by Single asked is can same =
-          other-word double_step_word others_step asked.format (head-same _ _ _ _ (sym (sym at ∙ same ∙ stepped asked Single is)))
+      by : (s : Stepping) (asked : Asked) → asked.stepping ≡ s → CanBeRead asked → ¬ AreSteppedWords asked words
+      by Double asked is can are =
+          names asked is can (record { word = are.word; is = tail-same _ _ _ _ (sym at ∙ are.is ∙ stepped asked are.word Double is); named = are.named })
+      by Single asked is can are =
+          no_option letters are.word asked.format are.named (head-same _ _ _ _ (sym at ∙ are.is ∙ stepped asked are.word Single is))
 
   pub step-unnamed : (r : Option Asked) → IsNotFirst double_step_word words → NamesWith Single words r → NamesBehind words r
-  step-unnamed (Some asked) other names = (names.1 ∙ sym (stepped asked Single names.0), names.2)
-  step-unnamed None other names = λ asked can same. by asked.stepping asked refl can same
+  step-unnamed (Some asked) other names =
+      (record { word = names.1.word; is = names.1.is ∙ sym (stepped asked names.1.word Single names.0); named = names.1.named }, names.2)
+  step-unnamed None other names = λ asked can are. by asked.stepping asked refl can are
     where
-      by : (s : Stepping) (asked : Asked) → asked.stepping ≡ s → CanBeRead asked → words ≢ stepping_words asked.stepping ++ disk_words asked
-      by Double asked is can same = other _ (same ∙ stepped asked Double is)
-      by Single asked is can same = names asked is can (same ∙ stepped asked Single is)
+      by : (s : Stepping) (asked : Asked) → asked.stepping ≡ s → CanBeRead asked → ¬ AreSteppedWords asked words
+      by Double asked is can are = other _ (are.is ∙ stepped asked are.word Double is)
+      by Single asked is can are = names asked is can (record { word = are.word; is = are.is ∙ stepped asked are.word Single is; named = are.named })
 
   -- the format and the dumps
   module _ (stepping : Stepping) where
-    pub with-format : (format : Format) (word : List ℕ) (dumps : List (List ℕ)) (r : Option Asked) → words ≡ word ∷ dumps → (row format).word ≡ word
-        → ((f g : Format) → (row f).word ≡ (row g).word → f ≡ g)
-        → IsMaybeReadable (record { stepping = stepping; dumps = dumps; format = format }) r → NamesWith stepping words r
+    pub with-format : (format : Format) (word : List ℕ) (dumps : List (List ℕ)) (r : Option Asked) → words ≡ word ∷ dumps → IsWordOfFormat word format
+        → WordsNameFormats → IsMaybeReadable (record { stepping = stepping; dumps = dumps; format = format }) r → NamesWith stepping words r
     with-format format word dumps (Some asked) at is one readable = (
       ap (λ (a : Asked). a.stepping) readable.0,
-      at ∙ ap (λ w. w ∷ dumps) (sym is) ∙ ap disk_words (sym readable.0),
+      record {
+        word = word;
+        is = at ∙ ap (λ (a : Asked). word ∷ a.dumps) (sym readable.0);
+        named = subst (λ (a : Asked). IsWordOfFormat word a.format) (sym readable.0) is;
+      },
       readable.1,
     )
-    with-format format word dumps None at is one readable = λ asked steps can same.
-        let both : (row asked.format).word ∷ asked.dumps ≡ word ∷ dumps = sym same ∙ at in
-        let kind : asked.format ≡ format = one asked.format format (head-same _ _ _ _ both ∙ sym is) in
+    with-format format word dumps None at is one readable = λ asked steps can are.
+        let both : are.word ∷ asked.dumps ≡ word ∷ dumps = sym are.is ∙ at in
+        let kind : asked.format ≡ format =
+        one word asked.format format (subst (λ (w : List ℕ). IsWordOfFormat w asked.format) (head-same _ _ _ _ both) are.named) is in
         let rest : asked.dumps ≡ dumps = tail-same _ _ _ _ both in
         readable (subst CanBeRead (same-asked asked (record { stepping = stepping; dumps = dumps; format = format }) steps rest kind) can)
       where
@@ -88,5 +89,6 @@ module _ (words : List (List ℕ)) where
             ∙ ap (λ (d : List (List ℕ)). record a { stepping = b.stepping; dumps = d }) rest
             ∙ ap (λ (f : Format). record b { format = f }) kinds
 
-    pub no-format : (word : List ℕ) (dumps : List (List ℕ)) → words ≡ word ∷ dumps → ((f : Format) → (row f).word ≢ word) → NamesWith stepping words None
-    no-format word dumps at none = λ asked steps can same. none asked.format (head-same _ _ _ _ (sym same ∙ at))
+    pub no-format : (word : List ℕ) (dumps : List (List ℕ)) → words ≡ word ∷ dumps → ((f : Format) → ¬ IsWordOfFormat word f) → NamesWith stepping words None
+    no-format word dumps at none = λ asked steps can are.
+        none asked.format (subst (λ (w : List ℕ). IsWordOfFormat w asked.format) (head-same _ _ _ _ (sym are.is ∙ at)) are.named)

@@ -7,21 +7,20 @@ use Rattle.flux_base.specs.declared.status.Status.{Status}
 use Rattle.flux_base.specs.declared.status.Status.TheVariants.{AllGood, NotAllGood, Refused, Usage, ReadFault, ImageFault, NotesFault, Memory, ShelfFault}
 use Rattle.law_captured_dumps.specs.Headline.{CapturedDumpsAreNeverWrong, SteadyDumpsAreReadWell}
 use Rattle.law_captured_dumps.specs.Said.{EachIsSaid, SaidIsRight}
-use Rattle.sector_images.specs.Formats.{WordsNameFormats, row}
+use Rattle.sector_images.specs.Formats.{IsWordOfFormat, WordsBeginWithLetters, WordsNameFormats}
 use Rattle.sector_images.specs.declared.format.Format.{Format}
 use Rattle.track_shelf.specs.Files.{File}
 use Rattle.track_shelf.specs.declared.stepping.Stepping.{Stepping}
 use Rattle.track_shelf.specs.declared.stepping.Stepping.TheVariants.{Single, Double}
-use Rattle.flux_cli.specs.DumpParts.{disk_words}
-use Rattle.flux_cli.specs.DumpWords.{Asked, CanBeRead, NamesDumps, asked_disk, double_step_word, read_words, stepping_words}
+use Rattle.flux_cli.specs.DumpWords.{AreReadWords, Asked, CanBeRead, NamesDumps, asked_disk, stepping_words}
 use Rattle.flux_cli.specs.FolderRuns.{OnShelf}
 use Rattle.flux_cli.specs.FolderWords.{NamesFolder}
 use Rattle.flux_cli.specs.IdentityWords.{NamesIdentity}
 use Rattle.flux_cli.specs.ReadHeadline.{GaveDumps, GaveDumpsOrCut, OfDumps, ReadsAsExpected}
 use Rattle.flux_cli.specs.ReadRuns.{DidRead, FinishedDumps, SaysOfRead}
 use Rattle.flux_cli.specs.ShelfRuns.{Ran, RanBy, Surroundings, on_shelf}
-use Rattle.flux_cli.proofs.DumpWords.{head-same, other-word, others_step, tail-same}
-use Rattle.flux_cli.proofs.Outcomes.{folder_no_dumps}
+use Rattle.flux_cli.proofs.DumpWords.{head-same, no_option, tail-same}
+use Rattle.flux_cli.proofs.Outcomes.{folder_no_dumps, one_format}
 
 -- what the laws of dumps promise
 pub record DumpLaws : Type 0 where
@@ -31,23 +30,29 @@ pub record DumpLaws : Type 0 where
   pub steady : SteadyDumpsAreReadWell
 
 -- words ask for one disk at most
-module _ (names : WordsNameFormats) where
-  by_parts : (a b : Asked) → a.stepping ≡ b.stepping → disk_words a ≡ disk_words b → a ≡ b
-  by_parts a b steps same =
-      let kinds : a.format ≡ b.format = names a.format b.format (head-same _ _ _ _ same) in
+module _ (letters : WordsBeginWithLetters) (names : WordsNameFormats) where
+  by_parts : (a b : Asked) (word other : List ℕ) → IsWordOfFormat word a.format → IsWordOfFormat other b.format → a.stepping ≡ b.stepping
+      → word ∷ a.dumps ≡ other ∷ b.dumps → a ≡ b
+  by_parts a b word other is_mine is_other steps same =
+      let kinds : a.format ≡ b.format = one_format names word other a.format b.format (head-same _ _ _ _ same) is_mine is_other in
       let rest : a.dumps ≡ b.dumps = tail-same _ _ _ _ same in
       ap (λ (s : Stepping). record a { stepping = s }) steps
       ∙ ap (λ (d : List (List ℕ)). record a { stepping = b.stepping; dumps = d }) rest
       ∙ ap (λ (f : Format). record b { format = f }) kinds
 
-  by_steps : (s t : Stepping) (a b : Asked) → a.stepping ≡ s → b.stepping ≡ t → stepping_words s ++ disk_words a ≡ stepping_words t ++ disk_words b → a ≡ b
-  by_steps Single Single a b first second same = by_parts a b (first ∙ sym second) same
-  by_steps Double Double a b first second same = by_parts a b (first ∙ sym second) (tail-same _ _ _ _ same)
-  by_steps Single Double a b first second same = absurd (other-word double_step_word others_step a.format (head-same _ _ _ _ same))
-  by_steps Double Single a b first second same = absurd (other-word double_step_word others_step b.format (head-same _ _ _ _ (sym same)))
+  by_steps : (s t : Stepping) (a b : Asked) (word other : List ℕ) → IsWordOfFormat word a.format → IsWordOfFormat other b.format
+      → a.stepping ≡ s → b.stepping ≡ t → stepping_words s ++ (word ∷ a.dumps) ≡ stepping_words t ++ (other ∷ b.dumps) → a ≡ b
+  by_steps Single Single a b word other is_mine is_other first second same = by_parts a b word other is_mine is_other (first ∙ sym second) same
+  by_steps Double Double a b word other is_mine is_other first second same =
+      by_parts a b word other is_mine is_other (first ∙ sym second) (tail-same _ _ _ _ same)
+  by_steps Single Double a b word other is_mine is_other first second same =
+      absurd (no_option letters word a.format is_mine (head-same _ _ _ _ (sym same)))
+  by_steps Double Single a b word other is_mine is_other first second same =
+      absurd (no_option letters other b.format is_other (head-same _ _ _ _ same))
 
-  one_asked : (a b : Asked) → read_words a ≡ read_words b → a ≡ b
-  one_asked a b same = by_steps a.stepping b.stepping a b refl refl (tail-same _ _ _ _ same)
+  one_asked : (words : List (List ℕ)) (a b : Asked) → AreReadWords a words → AreReadWords b words → a ≡ b
+  one_asked words a b first second =
+      by_steps a.stepping b.stepping a b first.word second.word first.named second.named refl refl (tail-same _ _ _ _ (sym first.is ∙ second.is))
 
 -- what was read of dumps
 of_dumps : DumpLaws → (disk : DumpDisk) (files : List File) (d : DumpsRead) → IsDumpsRead disk (Some files) d → OfDumps disk files d
@@ -98,9 +103,9 @@ module _ (laws : DumpLaws) {H W N : Type 0} (disk : DumpDisk) (files : List File
   gave_or_cut Memory says = says
   gave_or_cut ShelfFault says = says.1
 
-pub reads_as_expected : DumpLaws → WordsNameFormats → {S W N H : Type 0} (words : List (List ℕ)) (status : Status) (before after : Surroundings S W N H)
+pub reads_as_expected : DumpLaws → WordsBeginWithLetters → WordsNameFormats → {S W N H : Type 0} (words : List (List ℕ)) (status : Status) (before after : Surroundings S W N H)
     → Ran words status before after → ReadsAsExpected words status (on_shelf before) (on_shelf after)
-reads_as_expected laws names words status before after ran asked files are can told =
+reads_as_expected laws letters names words status before after ran asked files are can told =
     gave_or_cut laws (asked_disk asked) files (on_shelf before) (on_shelf after) told status (by ran.folder ran.dumps ran.identity ran.names ran.names_dumps ran.names_identity ran.did).says
   where
     by : (folder : Option (Format × List ℕ)) (dumps : Option Asked) (identity : Option (List ℕ)) → NamesFolder words folder → NamesDumps words dumps
@@ -109,4 +114,4 @@ reads_as_expected laws names words status before after ran asked files are can t
     by None None None none no_read no_name did = absurd (no_read asked can are)
     by None None (Some dump) none no_read name_is did = absurd (no_read asked can are)
     by None (Some other) identity none read_is names_identity did =
-        subst (λ (a : Asked). DidRead (asked_disk a) status (on_shelf before) (on_shelf after)) (one_asked names other asked (sym read_is.0 ∙ are)) did.0
+        subst (λ (a : Asked). DidRead (asked_disk a) status (on_shelf before) (on_shelf after)) (one_asked letters names words other asked read_is.0 are) did.0

@@ -9,9 +9,9 @@ use Rattle.law_captured_disks.specs.Headline.{DecodesRest, DecodesWhole}
 use Rattle.law_captured_disks.specs.Inputs.{IsCapturedDisk, IsErasedDisk}
 use Rattle.flux_engine.specs.Disks.{Decoded}
 use Rattle.flux_engine.specs.Rings.{IsImage}
-use Rattle.flux_cli.specs.Commands.{words_of}
+use Rattle.flux_cli.specs.Commands.{AreWordsOf}
 use Rattle.flux_cli.specs.FolderRuns.{OnShelf, as_source}
-use Rattle.flux_cli.specs.FolderWords.{folder_words}
+use Rattle.flux_cli.specs.FolderWords.{AreFolderWords}
 use Rattle.flux_cli.specs.Runs.{Outside, growth}
 use Rattle.flux_cli.specs.Work.{Got}
 use Rattle.flux_cli.specs.declared.command.Command.TheVariants.{Decode}
@@ -37,7 +37,7 @@ WroteOrCut Done ShelfFault before after = ⊥
 
 -- The words ask to decode a disk of this format, and the source tells this input.
 pub record Decodes {S W N : Type 0} (words : List (List ℕ)) (before : Outside S W N) (format : Format) (x : List ℕ) : Type 0 where
-  pub words_are : words ≡ words_of (Decode format)
+  pub words_are : AreWordsOf (Decode format) words
   pub input : before.source.bytes ≡ Some x
 
 -- The headline. From any streams that carry an image's written tracks, disturbed within the bounds, the run writes exactly that
@@ -56,7 +56,7 @@ RunsErased words status before after = (format : Format) (image x : List ℕ) �
 -- The words ask to decode a folder, all of whose wanted files are there; the shelf tells them, and joined they are this input.
 pub record DecodesFolder {H W N : Type 0} (words : List (List ℕ)) (before : OnShelf H W N) (format : Format) (x : List ℕ) : Type 0 where
   pub folder : List ℕ
-  pub words_are : words ≡ folder_words format folder
+  pub words_are : AreFolderWords format folder words
   pub named : folder ≢ []
   pub files : List File
   pub told : before.shelf.files ≡ Some files

@@ -1,8 +1,8 @@
 -- The words that ask to read dumps of a disk.
-use Rattle.std.specs.Prelude.{◌≡◌, ◌≢◌, ◌≤◌, ℕ, Bool, true, false, List, [], ◌∷◌, ◌++◌, length, codes, Option, Some, None}
+use Rattle.std.specs.Prelude.{◌≡◌, ◌≤◌, ℕ, Bool, true, false, List, [], ◌∷◌, ◌++◌, length, codes, Option, Some, None}
 use Rattle.std.specs.List.{list_any}
 use Rattle.flux_engine.specs.declared.plan.Clocks.TheVariants.{Both}
-use Rattle.sector_images.specs.Formats.{row}
+use Rattle.sector_images.specs.Formats.{IsWordOfFormat}
 use Rattle.sector_images.specs.declared.format.Format.{Format}
 use Rattle.track_shelf.specs.Stepping.{reaches_all}
 use Rattle.track_shelf.specs.declared.stepping.Stepping.{Stepping}
@@ -31,8 +31,10 @@ abbrev pub stepping_words : Stepping → List (List ℕ)
 stepping_words Single = []
 stepping_words Double = double_step_word ∷ []
 
-abbrev pub read_words : Asked → List (List ℕ)
-read_words asked = codes "read" ∷ (stepping_words asked.stepping ++ ((row asked.format).word ∷ asked.dumps))
+pub record AreReadWords (asked : Asked) (words : List (List ℕ)) : Type 0 where
+  pub word : List ℕ
+  pub is : words ≡ codes "read" ∷ (stepping_words asked.stepping ++ (word ∷ asked.dumps))
+  pub named : IsWordOfFormat word asked.format
 
 -- most dumps of a disk
 abbrev pub MOST_DUMPS : ℕ
@@ -51,5 +53,5 @@ pub record CanBeRead (asked : Asked) : Type 0 where
 
 -- what the words ask of dumps, if they ask for that
 abbrev pub NamesDumps : List (List ℕ) → Option Asked → Type 0
-NamesDumps words (Some asked) = (words ≡ read_words asked) × CanBeRead asked
-NamesDumps words None = (asked : Asked) → CanBeRead asked → words ≢ read_words asked
+NamesDumps words (Some asked) = AreReadWords asked words × CanBeRead asked
+NamesDumps words None = (asked : Asked) → CanBeRead asked → ¬ AreReadWords asked words

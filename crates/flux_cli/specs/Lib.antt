@@ -3,6 +3,7 @@ pub mod Seeds
 pub mod Counts
 pub mod Commands
 pub mod FolderWords
+pub mod FormatWords
 pub mod DumpWords
 pub mod IdentityWords
 pub mod DumpParts

@@ -12,7 +12,7 @@ use Rattle.law_captured_dumps.specs.Inputs.{HasWhole, IsSteadyOrPassed}
 use Rattle.law_captured_dumps.specs.Said.{IsSaid, IsSaidRightly}
 use Rattle.track_shelf.specs.Files.{File}
 use Rattle.turn_merge.specs.Readings.{verdict}
-use Rattle.flux_cli.specs.DumpWords.{Asked, CanBeRead, asked_disk, read_words}
+use Rattle.flux_cli.specs.DumpWords.{AreReadWords, Asked, CanBeRead, asked_disk}
 use Rattle.flux_cli.specs.FolderRuns.{OnShelf}
 use Rattle.flux_cli.specs.ReadRuns.{read_status}
 use Rattle.flux_cli.specs.Runs.{growth}
@@ -52,5 +52,5 @@ GaveDumpsOrCut disk files ShelfFault before after = Rose before.shelf.source.fau
 
 -- The headline of `read`.
 abbrev pub ReadsAsExpected : {H W N : Type 0} → (words : List (List ℕ)) → Status → (before after : OnShelf H W N) → Type 0
-ReadsAsExpected words status before after = (asked : Asked) (files : List File) → words ≡ read_words asked → CanBeRead asked
+ReadsAsExpected words status before after = (asked : Asked) (files : List File) → AreReadWords asked words → CanBeRead asked
     → before.shelf.files ≡ Some files → GaveDumpsOrCut (asked_disk asked) files status before after

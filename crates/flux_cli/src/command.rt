@@ -1,6 +1,6 @@
 ghost use Rattle.std.specs.Prelude.{◌≡◌, ◌≢◌, [], ◌∷◌, codes};
 ghost use Rattle.flux_cli.specs.Commands.{AskFor};
-ghost use Rattle.sector_images.specs.Formats.{row};
+ghost use Rattle.sector_images.specs.Formats.{IsWordOfFormat};
 
 use crate::count::count_of;
 use crate::g64_disk::G64Disk;
@@ -87,15 +87,16 @@ fn format_command(verb: &[u8], word: &[u8]) -> Option<Command>
         };
     }
     match Format::of_word(word) {
-        Some(format) => command_over(verb, format),
+        Some(format) => command_over(verb, word, format),
         None => None,
     }
 }
 
-/// The command of a word and a format.
-fn command_over(verb: &[u8], format: Format) -> Option<Command>
-    requires { verb.now ≢ codes "help" }
-    ensures { AskFor (verb.now ∷ (row format).word ∷ []) result }
+/// The command of a word, and of one that names this format.
+fn command_over(verb: &[u8], word: &[u8], format: Format) -> Option<Command>
+    requires other { verb.now ≢ codes "help" }
+    requires named { IsWordOfFormat word.now format }
+    ensures { AskFor (verb.now ∷ word.now ∷ []) result }
 {
     words_name_formats();
     if verb == b"decode".as_slice() {
@@ -128,14 +129,15 @@ fn number_command(verb: &[u8], word: &[u8], number: &[u8]) -> Option<Command>
     ensures { AskFor (verb.now ∷ word.now ∷ number.now ∷ []) result }
 {
     match Format::of_word(word) {
-        Some(format) => command_with(verb, format, number),
+        Some(format) => command_with(verb, word, format, number),
         None => None,
     }
 }
 
-/// The command of a word, a format and a number.
-fn command_with(verb: &[u8], format: Format, number: &[u8]) -> Option<Command>
-    ensures { AskFor (verb.now ∷ (row format).word ∷ number.now ∷ []) result }
+/// The command of a word, of one that names this format, and of a number.
+fn command_with(verb: &[u8], word: &[u8], format: Format, number: &[u8]) -> Option<Command>
+    requires { IsWordOfFormat word.now format }
+    ensures { AskFor (verb.now ∷ word.now ∷ number.now ∷ []) result }
 {
     words_name_formats();
     if verb == b"trial".as_slice() {

@@ -51,6 +51,7 @@ fn behind<'a>(words: &'a [Word], first: &[u8]) -> Option<&'a [Word]>
 fn asked_behind(words: &[Word]) -> Option<DumpsAsked<'_>>
     ensures { NamesBehind words.now (option_map asked_of result) }
 {
+    words_name_formats();
     match behind(words, b"--double-step") {
         Some(rest) => asked_with(Stepping::Double, rest),
         None => asked_with(Stepping::Single, words),

@@ -6,7 +6,7 @@ use Rattle.flux_cli.proofs.program.run.Goals as goal
 
 laws : (g : Over) (c : goal.After-run_words g) → Laws
 laws g c = record {
-  names = c.words_name_formats.ensures;
+  names = c.words_name_formats.ensures.one;
   disks = c.captured_disks_decode.ensures.whole;
   erased_disks = c.captured_disks_decode.ensures.erased;
   sets = c.captured_sets_decode.ensures.whole;
@@ -43,4 +43,4 @@ pub returns-clause-dumps : goal.returns-clause-dumps
 returns-clause-dumps g c =
     let said = c.dumps_say_each_sector.ensures in
     let read = c.captured_dumps_are_read.ensures in
-    reads_as_expected (record { said = said.said; right = said.right; whole = read.never_wrong; steady = read.well }) c.words_name_formats.ensures _ _ _ _ c.run_words.ensures
+    reads_as_expected (record { said = said.said; right = said.right; whole = read.never_wrong; steady = read.well }) c.words_name_formats.ensures.letters c.words_name_formats.ensures.one _ _ _ _ c.run_words.ensures
