@@ -14,8 +14,8 @@ LOOKS = {
 # A field has so many units across and down.
 FIELD = 12
 
-LABELLED_CYLINDERS = range(0, 81, 5)
-LABELLED_SECTORS = [*range(27), *range(65, 74), *range(193, 202)]
+LABELLED_CYLINDERS = range(0, 99, 5)
+LABELLED_SECTORS = [*range(33), *range(65, 74), *range(193, 202)]
 
 
 def label(x, y, number):

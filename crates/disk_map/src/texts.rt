@@ -13,14 +13,14 @@ use sector_report::{Line, Naming, Totals, named_line};
 use turn_merge::Verdict;
 
 /// The numbers at the sides of a grid, of which each grid shows those that it has: every fifth cylinder, and the sectors of
-/// all formats.
+/// all formats that have a name, and up to 32.
 const LABELS: &str = "\
 <defs><g id=\"columns\" text-anchor=\"middle\">
 <text x=\"5\" y=\"9\">0</text><text x=\"65\" y=\"9\">5</text><text x=\"125\" y=\"9\">10</text><text x=\"185\" y=\"9\">15</text>
 <text x=\"245\" y=\"9\">20</text><text x=\"305\" y=\"9\">25</text><text x=\"365\" y=\"9\">30</text><text x=\"425\" y=\"9\">35</text>
 <text x=\"485\" y=\"9\">40</text><text x=\"545\" y=\"9\">45</text><text x=\"605\" y=\"9\">50</text><text x=\"665\" y=\"9\">55</text>
 <text x=\"725\" y=\"9\">60</text><text x=\"785\" y=\"9\">65</text><text x=\"845\" y=\"9\">70</text><text x=\"905\" y=\"9\">75</text>
-<text x=\"965\" y=\"9\">80</text>
+<text x=\"965\" y=\"9\">80</text><text x=\"1025\" y=\"9\">85</text><text x=\"1085\" y=\"9\">90</text><text x=\"1145\" y=\"9\">95</text>
 </g><g id=\"rows\" text-anchor=\"end\">
 <text x=\"18\" y=\"9\">0</text><text x=\"18\" y=\"21\">1</text><text x=\"18\" y=\"33\">2</text><text x=\"18\" y=\"45\">3</text>
 <text x=\"18\" y=\"57\">4</text><text x=\"18\" y=\"69\">5</text><text x=\"18\" y=\"81\">6</text><text x=\"18\" y=\"93\">7</text>
@@ -28,12 +28,13 @@ const LABELS: &str = "\
 <text x=\"18\" y=\"153\">12</text><text x=\"18\" y=\"165\">13</text><text x=\"18\" y=\"177\">14</text><text x=\"18\" y=\"189\">15</text>
 <text x=\"18\" y=\"201\">16</text><text x=\"18\" y=\"213\">17</text><text x=\"18\" y=\"225\">18</text><text x=\"18\" y=\"237\">19</text>
 <text x=\"18\" y=\"249\">20</text><text x=\"18\" y=\"261\">21</text><text x=\"18\" y=\"273\">22</text><text x=\"18\" y=\"285\">23</text>
-<text x=\"18\" y=\"297\">24</text><text x=\"18\" y=\"309\">25</text><text x=\"18\" y=\"321\">26</text><text x=\"18\" y=\"789\">65</text>
-<text x=\"18\" y=\"801\">66</text><text x=\"18\" y=\"813\">67</text><text x=\"18\" y=\"825\">68</text><text x=\"18\" y=\"837\">69</text>
-<text x=\"18\" y=\"849\">70</text><text x=\"18\" y=\"861\">71</text><text x=\"18\" y=\"873\">72</text><text x=\"18\" y=\"885\">73</text>
-<text x=\"18\" y=\"2325\">193</text><text x=\"18\" y=\"2337\">194</text><text x=\"18\" y=\"2349\">195</text><text x=\"18\" y=\"2361\">196</text>
-<text x=\"18\" y=\"2373\">197</text><text x=\"18\" y=\"2385\">198</text><text x=\"18\" y=\"2397\">199</text><text x=\"18\" y=\"2409\">200</text>
-<text x=\"18\" y=\"2421\">201</text>
+<text x=\"18\" y=\"297\">24</text><text x=\"18\" y=\"309\">25</text><text x=\"18\" y=\"321\">26</text><text x=\"18\" y=\"333\">27</text>
+<text x=\"18\" y=\"345\">28</text><text x=\"18\" y=\"357\">29</text><text x=\"18\" y=\"369\">30</text><text x=\"18\" y=\"381\">31</text>
+<text x=\"18\" y=\"393\">32</text><text x=\"18\" y=\"789\">65</text><text x=\"18\" y=\"801\">66</text><text x=\"18\" y=\"813\">67</text>
+<text x=\"18\" y=\"825\">68</text><text x=\"18\" y=\"837\">69</text><text x=\"18\" y=\"849\">70</text><text x=\"18\" y=\"861\">71</text>
+<text x=\"18\" y=\"873\">72</text><text x=\"18\" y=\"885\">73</text><text x=\"18\" y=\"2325\">193</text><text x=\"18\" y=\"2337\">194</text>
+<text x=\"18\" y=\"2349\">195</text><text x=\"18\" y=\"2361\">196</text><text x=\"18\" y=\"2373\">197</text><text x=\"18\" y=\"2385\">198</text>
+<text x=\"18\" y=\"2397\">199</text><text x=\"18\" y=\"2409\">200</text><text x=\"18\" y=\"2421\">201</text>
 </g></defs>
 ";
 
