@@ -2,7 +2,7 @@
 disk. An input is the files by their paths, None for a folder in the place of a file."""
 from case_streams import FILLER, SHORTEST, few_blocks, faulty, one_in, spell
 from case_tracks import noisy_track, track_stream, whole_track
-from plain import FORMATS
+from plain import FORMATS, any_format
 from plain_dumps import path_of, reaches_all
 
 
@@ -15,7 +15,7 @@ def few(chance, kinds):
 
 def case_folder(chance, kinds, built):
     """The files of a dump, by their names: a track or a few with sectors, sometimes one that is refused, missing or joined of two."""
-    form = FORMATS[chance.choice(list(FORMATS))]
+    form = any_format(chance)
     kinds |= {f"format {form.word}", "a folder"}
     names = [f"dump/track{cylinder:02}.{head}.raw" for cylinder, head in form.tracks]
     files = dict.fromkeys(names, FILLER)
@@ -108,7 +108,7 @@ def dumps_of(chance, kinds, form, steps, count):
 
 def case_read(chance, kinds, built):
     """Dumps of a disk, one to eight of them, with two steps for one in some."""
-    form = FORMATS[chance.choice(list(FORMATS))]
+    form = any_format(chance)
     steps = 2 if reaches_all(form) and one_in(chance, 3) else 1
     count = chance.choice([1, 1, 1, 2, 2, 2, 3, 8])
     kinds |= {f"format {form.word}", f"{count} dumps"} | ({"two steps for one"} if steps == 2 else set())
@@ -128,12 +128,12 @@ def wrong_words(chance, words):
     if roll == 1:
         return words + (9 - len(words) + 3) * [b"dump0"]
     if roll == 2:
-        return [word for word in words if word.decode() in FORMATS or word in (b"read", b"--double-step")]
+        return [word for word in words if FORMATS.get(word.decode()) or word in (b"read", b"--double-step")]
     if roll == 3:
         return words[:1] + [b"--double-step"] + words[1:]
     if roll == 4:
         return words[:1] + [b"--double-steps"] + words[1:]
-    return words[:1] + [word[:-1] if word.decode() in FORMATS else word for word in words[1:]]
+    return words[:1] + [word[:-1] if FORMATS.get(word.decode()) else word for word in words[1:]]
 
 
 def case_identify(chance, kinds, built):

@@ -39,7 +39,7 @@ def case_turns(chance, kinds, built):
 
 def reader(chance, kinds, built):
     """Words that read the streams of a disk, the format, and the captures of a track."""
-    form = chance.choice(list(FORMATS.values()))
+    form = plain.any_format(chance)
     more = [word for word in (b"decode-set", b"rescue", b"map") if word in built]
     command = chance.choice([b"decode", b"decode", b"report"] + 2 * more)
     kinds.add(f"format {form.word}")
@@ -120,9 +120,9 @@ def case_noise(chance, kinds, built):
 
 
 def case_wrong_size(chance, kinds, built):
-    form = chance.choice(list(FORMATS.values()))
+    form = plain.any_format(chance)
     commands = [b"write"] + [b"to-g64"] * (b"to-g64" in built and plain_commands.commodore(form))
-    right, another = form.image_bytes, chance.choice(list(FORMATS.values())).image_bytes
+    right, another = form.image_bytes, plain.any_format(chance).image_bytes
     size = chance.choice([0, 1, right - 1, right + 1, right + 2, right + 100000, right // 2, another])
     if size == right > 200000:
         size -= 1
@@ -132,7 +132,7 @@ def case_wrong_size(chance, kinds, built):
 
 def case_write(chance, kinds, built):
     small = ["c1541", "c1541-40", "apple-do", "apple-po"]
-    form = FORMATS[chance.choice(small * 8 + list(FORMATS))]
+    form = FORMATS[chance.choice(small)] if one_in(chance, 2) else plain.any_format(chance)
     commands = [b"write"] + [b"to-g64"] * (b"to-g64" in built and plain_commands.commodore(form))
     kinds |= {f"format {form.word}", "image of the size"}
     return [chance.choice(commands), form.word.encode()], random_data(chance, form.image_bytes)
@@ -141,7 +141,7 @@ def case_write(chance, kinds, built):
 def case_words(chance, kinds, built):
     """Words that are no command, or almost none."""
     kinds.add("words")
-    form = chance.choice(list(FORMATS)).encode()
+    form = plain.any_format(chance).word.encode()
     command = chance.choice([b"turns", b"decode", b"report", b"write", b"trial", b"to-g64", b"from-g64", b"decode-set", b"rescue",
                              b"map", b"read", b"identify", b"TURNS", b"", b"-x"])
     number = chance.choice([b"1", b"", b"4294967296", b"99999999999", b"00000000001", b"+1", b"-1", b" 1", b"1 ", b"0x1", b"1.0", "\u0661".encode(),

@@ -94,6 +94,55 @@ def ibm_mfm(gap, end, first=1):
     return ring
 
 
+# IBM's recordings by numbers
+
+BY_NUMBERS = re.compile(r"(mfm|fm)-(dd|hd|hd360|sd|sd8)-(\d+)x(\d+)x(\d+)x(\d+)(?:@(\d+))?")
+TRACK_BYTES = {"dd": 6250, "hd": 12500, "hd360": 10416, "sd": 3125, "sd8": 5208}
+MICROSECONDS = {"dd": 2, "hd": 1, "hd360": 1, "sd": 4, "sd8": 2}
+
+
+def sized_fm(total, count, size, first):
+    def ring(cylinder, head, sectors):
+        rest = total - 73 - count * (33 + size)
+        gap = min(80, 7 * rest // (8 * count))
+        lead_in = fm(b"\xff" * 40 + bytes(6)) + f"{0xF77A:016b}" + fm(b"\xff" * 26)
+        out = lead_in + fm_sectors(cylinder, head, sectors, first, size.bit_length() - 8, gap)
+        return out + fm(b"\xff") * (total - len(out) // 16)
+    return ring
+
+
+def sized_mfm(total, count, size, first):
+    rest = total - 146 - count * (62 + size)
+    gap, zeros = min(80, 7 * rest // (8 * count)), 12
+    if gap < 10:
+        gap, zeros = (total - 10 - count * (53 + size)) // (count + 1), 3
+
+    def ring(cylinder, head, sectors):
+        out = Mfm()
+        if zeros == 12:
+            out.bytes(b"\x4e" * 80 + bytes(12))
+            out.mark(0x5224, 3)
+            out.bytes(b"\xfc" + b"\x4e" * 50)
+        else:
+            out.bytes(b"\x4e" * 10)
+        for number, data in enumerate(sectors, first):
+            header = bytes([cylinder, head, number, size.bit_length() - 8])
+            for mark, content, before, behind in ((b"\xfe", header, zeros, 22), (b"\xfb", data, 12, gap)):
+                out.bytes(bytes(before))
+                out.mark(0x4489, 3)
+                out.bytes(mark + checked(b"\xa1\xa1\xa1" + mark, content) + b"\x4e" * behind)
+        out.bytes(b"\x4e" * (total - len(out.cells()) // 16))
+        return out.cells()
+    return ring
+
+
+def numbered(word):
+    """A disk by its numbers, as a word writes them."""
+    kind, rate, cylinders, heads, count, size, first = BY_NUMBERS.fullmatch(word).groups(default="1")
+    ring = (sized_mfm if kind == "mfm" else sized_fm)(TRACK_BYTES[rate], int(count), int(size), int(first))
+    return Format(ring, int(cylinders), int(heads), int(size), lambda _: int(count), lambda _: MICROSECONDS[rate])
+
+
 # Amiga
 
 def halves(longs):
@@ -254,7 +303,14 @@ def mac_microseconds(cylinder):
     return 200_000 / MAC_CELLS[cylinder // 16]
 
 
-FORMATS = {
+class Formats(dict):
+    """Those that have names; any other word has to write numbers."""
+
+    def __missing__(self, word):
+        return numbered(word)
+
+
+FORMATS = Formats({
     "ibm-3740": Format(ibm_fm, 77, 1, 128, lambda _: 26, lambda _: 2),
     "ibm-360": Format(ibm_mfm(80, 218), 40, 2, 512, lambda _: 9, lambda _: 2),
     "ibm-720": Format(ibm_mfm(80, 218), 80, 2, 512, lambda _: 9, lambda _: 2),
@@ -279,7 +335,7 @@ FORMATS = {
     "apple-prodos": Format(apple_gcr_late, 35, 1, 256, lambda _: 16, lambda _: 4, PRODOS),
     "mac-400": Format(macintosh_gcr(1), 80, 1, 512, mac_sectors, mac_microseconds),
     "mac-800": Format(macintosh_gcr(2), 80, 2, 512, mac_sectors, mac_microseconds),
-}
+})
 
 
 def transitions(cells, ticks, chance):

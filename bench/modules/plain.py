@@ -5,6 +5,7 @@ pictures are drawn in plain_map.py, and plain_commands.py has what words come to
 """
 import bisect
 import itertools
+import re
 import struct
 
 from plain_recordings import AmigaMfm, AppleGcr, CommodoreGcr, IbmFm, IbmMfm, MacintoshGcr, places_of, word
@@ -57,8 +58,51 @@ MAC_RINGS = lambda cylinder: MacintoshGcr.RINGS[cylinder // 16]
 IBM_3740 = IbmFm(first=1, count=26, size=128, code=0, gap=27, end_gap=247, index_mark=True)
 ACORN = IbmFm(first=0, count=10, size=256, code=1, gap=21, end_gap=9, index_mark=False)
 
+# by numbers: the nominal cell and the cells of a ring
+RATES = {
+    "mfm-dd": (49208, 100000), "mfm-hd": (24604, 200000), "mfm-hd360": (24604, 166656), "fm-sd": (98416, 50000), "fm-sd8": (49208, 83328),
+}
+NUMBER = "(0|[1-9][0-9]{0,3})"
+NUMBERED = re.compile(f"({'|'.join(RATES)})-{NUMBER}x{NUMBER}x{NUMBER}x{NUMBER}(?:@{NUMBER})?")
+
+
+def numbered(name):
+    """The disk whose numbers a word writes, or None."""
+    matched = NUMBERED.fullmatch(name)
+    if not matched:
+        return None
+    rate, *numbers = matched.groups()
+    cylinders, heads, count, size, first = (1 if number is None else int(number) for number in numbers)
+    if not (1 <= cylinders <= 99 and 1 <= heads <= 2 and 1 <= count <= 32 and size in (128, 256, 512, 1024) and first + count <= 256):
+        return None
+    nominal, cells = RATES[rate]
+    recording = made_track(rate.startswith("mfm"), cells // 16, count, first, size)
+    return recording and Format(name, recording, cylinders, heads, always(nominal), always(cells))
+
+
+def made_track(double, total, count, first, size):
+    """The recording of so many sectors in so many bytes; None where they do not fit."""
+    code = size.bit_length() - 8
+    before, around, least = (146, 62, 10) if double else (73, 33, 4)
+    rest = total - before - count * (around + size)
+    gap = min(80, 7 * rest // (8 * count))
+    if gap >= least:
+        end = rest - count * gap
+        return IbmMfm(count, gap, end, first, size, code) if double else IbmFm(first, count, size, code, gap, end, True)
+    rest = total - 10 - count * (53 + size)
+    gap = min(80, rest // (count + 1))
+    return IbmMfm(count, gap, rest - count * gap, first, size, code, tight=True) if double and gap >= 1 else None
+
+
+class Formats(dict):
+    """Those that have names, by their names; any other word may write the numbers of a disk."""
+
+    def get(self, name, default=None):
+        return self[name] if name in self else numbered(name) or default
+
+
 # in the order of the program's table
-FORMATS = {form.word: form for form in (
+FORMATS = Formats((form.word, form) for form in (
     Format("ibm-3740", IBM_3740, 77, 1, always(49208), always(83328)),
     Format("ibm-360", IbmMfm(9, 80, 218), 40, 2, always(49208), always(100000)),
     Format("ibm-720", IbmMfm(9, 80, 218), 80, 2, always(49208), always(100000)),
@@ -83,7 +127,19 @@ FORMATS = {form.word: form for form in (
     Format("mac-800", MacintoshGcr(2), 80, 2, MAC_CELLS, MAC_RINGS),
     Format("c1571", CommodoreGcr(), 35, 2, ZONE_CELLS, ZONE_RINGS, by_head=True),
     Format("amiga-hd", AmigaMfm(22, 532), 80, 2, always(24604), always(200000)),
-)}
+))
+
+
+# some disks by their numbers
+BY_NUMBERS = (
+    "mfm-dd-82x2x10x512", "mfm-dd-80x2x11x512", "mfm-hd-80x2x21x512", "mfm-hd360-77x2x8x1024", "mfm-dd-80x2x16x256@0", "mfm-dd-80x1x9x512",
+    "mfm-hd360-77x2x26x256", "fm-sd-40x1x10x256@0", "fm-sd8-77x1x26x128", "mfm-dd-40x2x5x1024@0", "mfm-dd-99x1x1x128@255", "mfm-hd-3x2x32x128",
+)
+
+
+def any_format(chance):
+    """One of those that have names, or else a disk by its numbers."""
+    return numbered(chance.choice(BY_NUMBERS)) if chance.randrange(4) == 0 else chance.choice(list(FORMATS.values()))
 
 
 # Readings, verdicts and lines
@@ -101,7 +157,8 @@ AS_CONTROLLERS_READ = {"apple-do": "apple-dos33", "apple-po": "apple-prodos"}
 
 def as_controllers_read(form):
     """The format as which a controller reads the format's disks."""
-    return FORMATS[AS_CONTROLLERS_READ.get(form.word, form.word)]
+    other = AS_CONTROLLERS_READ.get(form.word)
+    return FORMATS[other] if other else form
 
 
 def controller_readings(recording, cells, cylinder, head):

@@ -129,6 +129,11 @@ OWN_USAGES = {
 ASK_FORMATS = b"read", b"rescue", b"map"
 
 
+def names_format(name):
+    """A format has this name, or it begins as words do that write a disk's numbers."""
+    return name in FORMATS or name.startswith(("fm-", "mfm-"))
+
+
 def differing(name, word):
     """How many letters only one of the two has; those of the word count twice."""
     both = sum((Counter(name) & Counter(word)).values())
@@ -140,7 +145,7 @@ def wrong_words(words, built, usage):
     if first not in OWN_USAGES or first not in built:
         return usage
     word = next((word for word in words[1:] if not word.startswith(b"-")), None)
-    if first in ASK_FORMATS and word is not None and word.decode() not in FORMATS:
+    if first in ASK_FORMATS and word is not None and not names_format(word.decode()):
         nearest = min(FORMATS, key=lambda name: differing(name.encode(), word))
         return b"no format " + word + b"; nearest: " + nearest.encode()
     return OWN_USAGES[first]

@@ -186,10 +186,11 @@ class MfmList:
 
 
 class IbmMfm(Recording):
-    size, sync, data_syncs = 512, word(0x4489) * 3, [word(0x4489) * 3]
+    sync, data_syncs = word(0x4489) * 3, [word(0x4489) * 3]
 
-    def __init__(self, count, gap, end_gap, first=1):
+    def __init__(self, count, gap, end_gap, first=1, size=512, code=2, tight=False):
         self.count, self.gap, self.end_gap, self.first = count, gap, end_gap, first
+        self.size, self.code, self.tight = size, code, tight
 
     def sectors(self, cylinder):
         return self.count
@@ -201,7 +202,7 @@ class IbmMfm(Recording):
         return tuple(field[1:5]), place + 160
 
     def own(self, name, cylinder, head):
-        return name[2] if name[2] in range(self.first, self.first + self.count) and name == (cylinder, head, name[2], 2) else None
+        return name[2] if name[2] in range(self.first, self.first + self.count) and name == (cylinder, head, name[2], self.code) else None
 
     def size_of(self, name):
         return ibm_size(name)
@@ -213,10 +214,14 @@ class IbmMfm(Recording):
         return field[1 : size + 1], q + 48 + 16 * (size + 3)
 
     def ring(self, cylinder, head, sectors, ids=None):
-        out = MfmList().bytes(b"\x4e" * 80 + bytes(12)).mark(0x5224, 3).bytes(b"\xfc" + b"\x4e" * 50)
+        out = MfmList()
+        if self.tight:
+            out.bytes(b"\x4e" * 10)
+        else:
+            out.bytes(b"\x4e" * 80 + bytes(12)).mark(0x5224, 3).bytes(b"\xfc" + b"\x4e" * 50)
         for number, data in enumerate(sectors, self.first):
-            header = checked(b"\xa1" * 3, bytes([0xFE, cylinder, head, number, 2]))
-            out.bytes(bytes(12)).mark(0x4489, 3).bytes(header + b"\x4e" * 22)
+            header = checked(b"\xa1" * 3, bytes([0xFE, cylinder, head, number, self.code]))
+            out.bytes(bytes(3 if self.tight else 12)).mark(0x4489, 3).bytes(header + b"\x4e" * 22)
             out.bytes(bytes(12)).mark(0x4489, 3).bytes(checked(b"\xa1" * 3, b"\xfb" + data) + b"\x4e" * self.gap)
         return out.bytes(b"\x4e" * self.end_gap).cells()
 
