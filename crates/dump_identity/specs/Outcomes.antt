@@ -41,7 +41,7 @@ pub record IsIdentified (dump : List ℕ) (told : Option (List File)) (o : Ident
   pub some : list_any has_files findings ≡ true
   pub is : o ≡ record { lines = lines_of findings ++ best_text (best_of findings); best = best_of findings }
 
--- the dump has no file of any track of any format
+-- the dump has no file of any track of any of these disks
 pub record HasNoFiles (dump : List ℕ) (told : Option (List File)) : Type 0 where
   pub findings : List Finding
   pub all : AreAllFindings dump told findings

@@ -21,7 +21,7 @@ use sector_report::write_line;
 use std::slice::from_ref;
 use track_shelf::Shelf;
 
-/// Says which disk a dump is of. It is read as a disk of each format, in the order of their table, with one step for each cylinder,
+/// Says which disk a dump is of. It is read as a disk of each format that has a name, in the order of their table, with one step for each cylinder,
 /// and for those of up to 42 cylinders then with two: as `read_dumps` reads it, by the clock that follows the drive alone. Each that
 /// has a good sector gets a line as soon as it was read, and the last line names the best: the one with most good sectors, of those
 /// the one with fewest other names that have whole data, of those the one with fewest sectors, and of those the first. No answer is

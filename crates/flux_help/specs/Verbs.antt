@@ -24,9 +24,10 @@ verb_row Identify = record {
   usage = codes "usage: flux identify DUMP\n";
   about =
       codes "\n"
-      ++ codes "Reads a dump as a disk of each format, and of those of up to 42 cylinders also with --double-step. Each that has a good sector\n"
-      ++ codes "gets a line, in words that can stand behind read: how many sectors are good, and how many other names have data. The last line\n"
-      ++ codes "names the best: most good sectors, then fewest others, then fewest sectors. The exit code is 0 where that is all of the dump.\n"
+      ++ codes "Reads a dump as a disk of each format that has a name, and of those of up to 42 cylinders also with --double-step. Each\n"
+      ++ codes "that has a good sector gets a line, in words that can stand behind read: how many sectors are good, and how many other names\n"
+      ++ codes "have data. The last line names the best: most good sectors, then fewest others, then fewest sectors. The exit code is 0 where\n"
+      ++ codes "that is all of the dump.\n"
       ++ codes "\n"
       ++ codes "Example:\n"
       ++ codes "   flux identify dump\n";
