@@ -15,17 +15,14 @@ const SHORT: [u8; 50] = [
     0, 0, 0, 24, 0, 0, 0, 0x0D, 3, 8, 0, 2, 0, 0, 0, 0, 0, 0, 0, 0x0D, 0x0D, 0x0D, 0x0D,
 ];
 
-/// The stream of the first track of Acorn's disk, ten sectors of zeros.
+/// A file with the stream of the first track of Acorn's disk, ten sectors of zeros. What stands behind it is not looked at.
 fn acorn_track(alloc: Global) -> Result<Vec<u8>, Memory> {
     let image = vec![in alloc; 0u8; 102_400]?;
     let mut source = MemorySource::new(image, 4096, Vec::new(alloc));
-    let mut sink = MemorySink::new(alloc, 1 << 22, Vec::new(alloc))?;
+    let mut sink = MemorySink::new(alloc, 1 << 18, Vec::new(alloc))?;
     let mut room = WriteRoom::reserve(alloc, Format::AcornDfs40)?;
     let _ = write_disk(&mut room, &mut source, &mut sink);
-    let streams = sink.bytes();
-    let end = streams.windows(4).position(|bytes| bytes == [0x0D; 4]);
-    let size = end.unwrap_or(0).saturating_add(4).min(streams.len());
-    Ok(streams[..size].to_vec(alloc)?)
+    Ok(sink.bytes().to_vec(alloc)?)
 }
 
 /// What was said of a dump.
