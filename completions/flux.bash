@@ -1,14 +1,18 @@
 # Completion of flux for bash. The words come from `flux help`, so that they are those of the program that is installed.
 _flux()
 {
-    local word=${COMP_WORDS[COMP_CWORD]} verb=${COMP_WORDS[1]} at=2 part option=
-    # The word of an option, where the command's page has one: it may stand before the format.
+    local word=${COMP_WORDS[COMP_CWORD]} verb=${COMP_WORDS[1]} at=2 part options="" before
+    # The words of options, where the command's page has some: they may stand before the format, each once.
     if [ "$COMP_CWORD" -ge 2 ] && [ "$verb" != help ]; then
-        option=$(flux help "$verb" 2> /dev/null | sed -n '1s/.*\[\(--[a-z-]*\)\].*/\1/p')
+        options=$(flux help "$verb" 2> /dev/null | sed -n '1p' | grep -o -e '\[--[a-z-]*\]' | tr -d '[]' | tr '\n' ' ')
     fi
-    if [ "$COMP_CWORD" -gt 2 ] && [ -n "$option" ] && [ "${COMP_WORDS[2]}" = "$option" ]; then
-        at=3 option=
-    fi
+    while [ "$COMP_CWORD" -gt "$at" ]; do
+        before=${COMP_WORDS[at]}
+        case " $options" in
+            *" $before "*) options=" $options" options=${options/" $before "/ } at=$((at + 1)) ;;
+            *) break ;;
+        esac
+    done
     case $((COMP_CWORD - at)),$verb in
         -1,*) part='/^Commands:/,/^$/' ;;
         0,help) part='/^Commands:/,/^$/' ;;
@@ -18,6 +22,6 @@ _flux()
     if [ "$COMP_CWORD" -ge 2 ] && [ "$verb" != help ] && ! flux help 2> /dev/null | grep -q "^   $verb FORMAT"; then
         return
     fi
-    mapfile -t COMPREPLY < <(compgen -W "$option $(flux help 2> /dev/null | sed -n "$part"'s/^   \([^ \t,]*\).*/\1/p')" -- "$word")
+    mapfile -t COMPREPLY < <(compgen -W "$options $(flux help 2> /dev/null | sed -n "$part"'s/^   \([^ \t,]*\).*/\1/p')" -- "$word")
 }
 complete -o default -F _flux flux

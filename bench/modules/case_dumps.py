@@ -107,13 +107,17 @@ def dumps_of(chance, kinds, form, steps, count):
 
 
 def case_read(chance, kinds, built):
-    """Dumps of a disk, one to eight of them, with two steps for one in some."""
+    """Dumps of a disk, one to eight of them, with two steps for one in some, and a picture of some."""
     form = any_format(chance)
     steps = 2 if reaches_all(form) and one_in(chance, 3) else 1
     count = chance.choice([1, 1, 1, 2, 2, 2, 3, 8])
     kinds |= {f"format {form.word}", f"{count} dumps"} | ({"two steps for one"} if steps == 2 else set())
     names, files = dumps_of(chance, kinds, form, steps, count)
-    words = [b"read"] + [b"--double-step"] * (steps - 1) + [form.word.encode(), *names]
+    options = [b"--double-step"] * (steps - 1)
+    if one_in(chance, 4):
+        kinds.add("a picture of dumps")
+        options.insert(chance.randrange(len(options) + 1), b"--picture")
+    words = [b"read"] + options + [form.word.encode(), *names]
     if one_in(chance, 20):
         kinds.add("words of read that are wrong")
         words = wrong_words(chance, words)
@@ -128,7 +132,7 @@ def wrong_words(chance, words):
     if roll == 1:
         return words + (9 - len(words) + 3) * [b"dump0"]
     if roll == 2:
-        return [word for word in words if FORMATS.get(word.decode()) or word in (b"read", b"--double-step")]
+        return [word for word in words if FORMATS.get(word.decode()) or word in (b"read", b"--picture", b"--double-step")]
     if roll == 3:
         return words[:1] + [b"--double-step"] + words[1:]
     if roll == 4:

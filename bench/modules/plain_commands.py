@@ -109,21 +109,26 @@ def is_text(data):
 
 
 def dumps_asked(words):
-    """What words ask of dumps, if they ask for it: how many steps the drive made for one, the format, and the dumps' names."""
+    """What words ask of dumps, if they ask for it: whether they are drawn, how many steps the drive made for one, the format, and the dumps'
+    names."""
     if words[:1] != [b"read"]:
         return None
-    steps = 2 if words[1:2] == [b"--double-step"] else 1
-    form = FORMATS.get(words[steps].decode()) if len(words) > steps else None
-    names = words[steps + 1 :]
+    options, rest = [], words[1:]
+    while rest and rest[0] in (b"--picture", b"--double-step") and rest[0] not in options:
+        options.append(rest[0])
+        rest = rest[1:]
+    steps = 2 if b"--double-step" in options else 1
+    form = FORMATS.get(rest[0].decode()) if rest else None
+    names = rest[1:]
     if not form or not 1 <= len(names) <= plain_dumps.MOST_DUMPS or b"" in names or steps == 2 and not plain_dumps.reaches_all(form):
         return None
-    return steps, form, names
+    return b"--picture" in options, steps, form, names
 
 
 # What is told of words that are none, by their first one; of any other it is the usage line. Where a format's word has to follow at once, another
 # word in its place is told by itself.
 OWN_USAGES = {
-    b"read": b"usage: flux read [--double-step] FORMAT DUMP...", b"identify": b"usage: flux identify DUMP",
+    b"read": b"usage: flux read [--picture] [--double-step] FORMAT DUMP...", b"identify": b"usage: flux identify DUMP",
     b"rescue": b"usage: flux rescue FORMAT", b"map": b"usage: flux map FORMAT",
 }
 ASK_FORMATS = b"read", b"rescue", b"map"
@@ -159,8 +164,8 @@ def outcome(words, data, built, usage):
     if words == [b"turns"]:
         return turns(data)
     if words[:1] == [b"read"] and b"read" in built and (asked := dumps_asked(words)):
-        steps, form, names = asked
-        return plain_dumps.read(Dumps(Shelf(data), names, steps), form)
+        drawn, steps, form, names = asked
+        return (plain_dumps.draw if drawn else plain_dumps.read)(Dumps(Shelf(data), names, steps), form)
     if words[:1] == [b"identify"] and b"identify" in built and len(words) == 2 and words[1]:
         return plain_dumps.identify(Shelf(data), words[1])
     if words and words[0] in COMMANDS and words[0] in built:

@@ -5,6 +5,7 @@ Dumps lie on a shelf, which is a folder's files by their paths. A file that is n
 import re
 
 from plain import FORMATS, Answer, as_controllers_read, controller_readings, turn_of
+from plain_map import Picture
 from plain_streams import Refused, Stream, recovered
 
 MOST_DUMPS = 8
@@ -123,13 +124,16 @@ class DumpAnswer(Answer):
 
     def __init__(self, form):
         super().__init__(form)
+        self.sectors = []          # the sectors' lines alone
         self.unread = self.others = self.whole = 0
 
     def dump_track(self, k, passed, entries, others):
         cylinder, head = self.form.tracks[k]
         told = others_told(others)
         self.lines += [f"{cylinder:02}.{head} {why}\n" for why in passed]
+        before = len(self.lines)
         self.track(k, entries)
+        self.sectors += self.lines[before:]
         self.lines += [f"{cylinder:02}.{head} other {' '.join(map(str, name))} {headers} {whole} {first}\n" for name, headers, whole, first in told]
         self.unread += len(passed)
         self.others += len(told)
@@ -161,6 +165,23 @@ def read(dumps, form):
         return 8, *answer.said()
     code = answer.end()
     return code, *answer.said()
+
+
+def draw(dumps, form):
+    """The outcome of `read --picture`: the picture of the same verdicts, and no report."""
+    answer, picture = DumpAnswer(form), Picture(form, "read")
+    out = ""
+    try:
+        empty = dumps.first_empty(form)
+        if empty is not None:
+            return 2, b"", f"refused dump {empty} no track files\n".encode()
+        out = picture.top()
+        read_tracks(dumps, form, answer)
+    except Failed:
+        return 8, (out + "".join(map(picture.field, answer.sectors))).encode(), b""
+    code = answer.end()
+    counts, totals = answer.lines[-2:]
+    return code, (out + "".join(map(picture.field, answer.sectors)) + picture.counts(counts) + picture.foot(answer.sectors, totals)).encode(), b""
 
 
 # Which disk it is

@@ -37,8 +37,9 @@ def all_labels():
 class Picture:
     """Where the parts of a format's picture lie: 40 units from its left, a grid for each head below the one before, then the legend."""
 
-    def __init__(self, form):
+    def __init__(self, form, command="map"):
         self.form = form
+        self.command = command
         self.heads = 1 + max(head for _, head in form.tracks)
         self.across = FIELD * (1 + max(cylinder for cylinder, _ in form.tracks))
         self.down = FIELD * max(len(form.sector_numbers(k)) for k in range(len(form.tracks)))
@@ -52,7 +53,7 @@ class Picture:
         word = self.form.word
         return (f'<svg xmlns="http://www.w3.org/2000/svg" viewBox="0 0 {self.across + 56} {self.legend + 88}"'
                 ' font-family="monospace" font-size="9">\n'
-                f'<title>flux map {word}</title>\n<rect width="100%" height="100%" fill="#ffffff"/>\n'
+                f'<title>flux {self.command} {word}</title>\n<rect width="100%" height="100%" fill="#ffffff"/>\n'
                 f'<text x="40" y="20" font-size="13">{word}</text>\n') + all_labels() + "".join(map(self.empty_grid, range(self.heads)))
 
     def empty_grid(self, head):
@@ -82,6 +83,10 @@ class Picture:
             top = self.legend + 16 * row
             out += self.mark(verdict, 40, top) + f'/><text x="58" y="{top + 9}">{verdict} {verdicts.count(verdict)}</text>\n'
         return out + f'<text x="40" y="{self.legend + 76}">{last}</text>\n</svg>\n'
+
+    def counts(self, line):
+        """A line right of the legend's first row."""
+        return f'<text x="240" y="{self.legend + 9}">{line}</text>\n'
 
 
 def picture(form, lines, last):

@@ -1,6 +1,7 @@
 -- From what a run did over dumps to what is known of it.
 use Rattle.std.specs.Prelude.{if◌then◌else◌}
-use Rattle.std.proofs.Common.{◌≡◌, ℕ, Bool, true, false, List, ◌∷◌, ◌++◌, Option, Some, None, inl, inr, refl, sym, ap, ◌∙◌, subst}
+use Rattle.std.proofs.Common.{◌≡◌, ℕ, Bool, true, false, List, ◌∷◌, ◌++◌, drop, length, Option, Some, None, inl, inr, refl, sym, ap, ◌∙◌, subst}
+use Rattle.disk_map.specs.Dumps.{IsDumpsDrawn, PicturesOfDumpsShowReports, ShowsReport}
 use Rattle.dump_reading.specs.Outcomes.{DumpDisk, DumpsRead, IsDumpsRead}
 use Rattle.dump_reading.specs.Totals.{is_complete}
 use Rattle.flux_base.specs.declared.status.Status.{Status}
@@ -10,16 +11,20 @@ use Rattle.law_captured_dumps.specs.Said.{EachIsSaid, SaidIsRight}
 use Rattle.sector_images.specs.Formats.{IsWordOfFormat, WordsBeginWithLetters, WordsNameFormats}
 use Rattle.sector_images.specs.declared.format.Format.{Format}
 use Rattle.track_shelf.specs.Files.{File}
-use Rattle.track_shelf.specs.declared.stepping.Stepping.{Stepping}
-use Rattle.track_shelf.specs.declared.stepping.Stepping.TheVariants.{Single, Double}
-use Rattle.flux_cli.specs.DumpWords.{AreReadWords, Asked, CanBeRead, NamesDumps, asked_disk, stepping_words}
+use Rattle.flux_cli.specs.DumpParts.{options_in}
+use Rattle.flux_cli.specs.DumpWords.{AreReadWords, Asked, CanBeRead, NamesDumps, asked_disk, option_words, shown_of}
 use Rattle.flux_cli.specs.FolderRuns.{OnShelf}
 use Rattle.flux_cli.specs.FolderWords.{NamesFolder}
 use Rattle.flux_cli.specs.IdentityWords.{NamesIdentity}
-use Rattle.flux_cli.specs.ReadHeadline.{GaveDumps, GaveDumpsOrCut, OfDumps, ReadsAsExpected}
-use Rattle.flux_cli.specs.ReadRuns.{DidRead, FinishedDumps, SaysOfRead}
+use Rattle.flux_cli.specs.ReadHeadline.{GaveDumps, GaveDumpsOrCut, GavePicture, GaveShown, OfDumps, ReadsAsExpected}
+use Rattle.flux_cli.specs.ReadRuns.{DidRead, FinishedDumps, IsShown, SaysOfRead, read_status}
+use Rattle.flux_cli.specs.Runs.{growth}
 use Rattle.flux_cli.specs.ShelfRuns.{Ran, RanBy, Surroundings, on_shelf}
-use Rattle.flux_cli.proofs.DumpWords.{head-same, no_option, tail-same}
+use Rattle.flux_cli.specs.Work.{Got}
+use Rattle.flux_cli.specs.declared.dump_words.DumpOptions.{DumpOptions}
+use Rattle.flux_cli.specs.declared.dump_words.Shown.{Shown}
+use Rattle.flux_cli.specs.declared.dump_words.Shown.TheVariants.{Image, Picture}
+use Rattle.flux_cli.proofs.DumpWords.{head-same, options-passed, options-read, tail-same}
 use Rattle.flux_cli.proofs.Outcomes.{folder_no_dumps, one_format}
 
 -- what the laws of dumps promise
@@ -28,31 +33,31 @@ pub record DumpLaws : Type 0 where
   pub right : SaidIsRight
   pub whole : CapturedDumpsAreNeverWrong
   pub steady : SteadyDumpsAreReadWell
+  pub pictures : PicturesOfDumpsShowReports
 
 -- words ask for one disk at most
 module _ (letters : WordsBeginWithLetters) (names : WordsNameFormats) where
-  by_parts : (a b : Asked) (word other : List ℕ) → IsWordOfFormat word a.format → IsWordOfFormat other b.format → a.stepping ≡ b.stepping
+  by_parts : (a b : Asked) (word other : List ℕ) → IsWordOfFormat word a.format → IsWordOfFormat other b.format → a.options ≡ b.options
       → word ∷ a.dumps ≡ other ∷ b.dumps → a ≡ b
-  by_parts a b word other is_mine is_other steps same =
+  by_parts a b word other is_mine is_other chosen same =
       let kinds : a.format ≡ b.format = one_format names word other a.format b.format (head-same _ _ _ _ same) is_mine is_other in
       let rest : a.dumps ≡ b.dumps = tail-same _ _ _ _ same in
-      ap (λ (s : Stepping). record a { stepping = s }) steps
-      ∙ ap (λ (d : List (List ℕ)). record a { stepping = b.stepping; dumps = d }) rest
+      ap (λ (o : DumpOptions). record a { options = o }) chosen
+      ∙ ap (λ (d : List (List ℕ)). record a { options = b.options; dumps = d }) rest
       ∙ ap (λ (f : Format). record b { format = f }) kinds
-
-  by_steps : (s t : Stepping) (a b : Asked) (word other : List ℕ) → IsWordOfFormat word a.format → IsWordOfFormat other b.format
-      → a.stepping ≡ s → b.stepping ≡ t → stepping_words s ++ (word ∷ a.dumps) ≡ stepping_words t ++ (other ∷ b.dumps) → a ≡ b
-  by_steps Single Single a b word other is_mine is_other first second same = by_parts a b word other is_mine is_other (first ∙ sym second) same
-  by_steps Double Double a b word other is_mine is_other first second same =
-      by_parts a b word other is_mine is_other (first ∙ sym second) (tail-same _ _ _ _ same)
-  by_steps Single Double a b word other is_mine is_other first second same =
-      absurd (no_option letters word a.format is_mine (head-same _ _ _ _ (sym same)))
-  by_steps Double Single a b word other is_mine is_other first second same =
-      absurd (no_option letters other b.format is_other (head-same _ _ _ _ same))
 
   one_asked : (words : List (List ℕ)) (a b : Asked) → AreReadWords a words → AreReadWords b words → a ≡ b
   one_asked words a b first second =
-      by_steps a.stepping b.stepping a b first.word second.word first.named second.named refl refl (tail-same _ _ _ _ (sym first.is ∙ second.is))
+      let mine : List (List ℕ) = first.word ∷ a.dumps in
+      let others : List (List ℕ) = second.word ∷ b.dumps in
+      let behind : option_words a.options ++ mine ≡ option_words b.options ++ others = tail-same _ _ _ _ (sym first.is ∙ second.is) in
+      let chosen : a.options ≡ b.options =
+      sym (options-read letters a.options first.word a.dumps a.format first.named) ∙ ap options_in behind
+      ∙ options-read letters b.options second.word b.dumps b.format second.named in
+      by_parts a b first.word second.word first.named second.named chosen (
+      sym (options-passed a.options mine)
+      ∙ ap (λ (o : DumpOptions). drop (length (option_words o)) (option_words a.options ++ mine)) chosen
+      ∙ ap (drop (length (option_words b.options))) behind ∙ options-passed b.options others)
 
 -- what was read of dumps
 of_dumps : DumpLaws → (disk : DumpDisk) (files : List File) (d : DumpsRead) → IsDumpsRead disk (Some files) d → OfDumps disk files d
@@ -74,44 +79,66 @@ by_complete : (b : Bool) → Refused ≡ (if b then AllGood else NotAllGood) →
 by_complete true same = all_refused (sym same)
 by_complete false same = not_refused (sym same)
 
+-- a picture was drawn of dumps, and with it their report is known
+of_picture : DumpLaws → {H W N : Type 0} (disk : DumpDisk) (files : List File) (status : Status) (before after : OnShelf H W N) (d : DumpsRead) → IsDumpsDrawn disk (Some files) d
+    → status ≡ read_status d.totals → Got (growth before.image after.image) d.image → Got (growth before.notes after.notes) d.notes
+    → GavePicture disk files status before after
+of_picture laws disk files status before after d is status_is image_got notes_got =
+    let shows : ShowsReport disk (Some files) d is = laws.pictures disk (Some files) d is in
+    record {
+      drawn = d;
+      is = is;
+      status_is = status_is;
+      image_got = image_got;
+      notes_got = subst (λ (bytes : List ℕ). Got (growth before.notes after.notes) bytes) (ap (λ (o : DumpsRead). o.notes) is.is) notes_got;
+      shows = shows;
+      holds = of_dumps laws disk files shows.report shows.read;
+    }
+
 module _ (laws : DumpLaws) {H W N : Type 0} (disk : DumpDisk) (files : List File) (before after : OnShelf H W N) (told : before.shelf.files ≡ Some files) where
-  gave : (status : Status) → (status ≡ Refused → ⊥) → FinishedDumps disk status before after → GaveDumps disk files status before after
-  gave status other f =
+  gave_shown : (shown : Shown) (status : Status) (d : DumpsRead) → IsShown shown disk (Some files) d → status ≡ read_status d.totals
+      → Got (growth before.image after.image) d.image → Got (growth before.notes after.notes) d.notes → GaveShown shown disk files status before after
+  gave_shown Image status d read status_is image_got notes_got = record {
+    read = d;
+    status_is = status_is;
+    image_got = image_got;
+    notes_got = notes_got;
+    holds = of_dumps laws disk files d read;
+  }
+  gave_shown Picture status d drawn status_is image_got notes_got = of_picture laws disk files status before after d drawn status_is image_got notes_got
+
+  gave : (shown : Shown) (status : Status) → (status ≡ Refused → ⊥) → FinishedDumps shown disk status before after → GaveShown shown disk files status before after
+  gave shown status other f =
       elim f.is [
         | inl (number, low, first, is) ↦ absurd (other (f.status_is ∙ ap (λ o. o.status) is))
-        | inr (d, none, read, is) ↦ record {
-          read = d;
-          status_is = f.status_is ∙ ap (λ o. o.status) is;
-          image_got = rw is at f.image_got;
-          notes_got = rw is at f.notes_got;
-          holds = of_dumps laws disk files d (subst (λ (t : Option (List File)). IsDumpsRead disk t d) told read);
-        }
+        | inr (d, none, read, is) ↦ gave_shown shown status d (subst (λ (t : Option (List File)). IsShown shown disk t d) told read) (f.status_is ∙ ap (λ o. o.status) is)
+            (rw is at f.image_got) (rw is at f.notes_got)
       ]
 
-  pub gave_or_cut : (status : Status) → SaysOfRead disk status before after → GaveDumpsOrCut disk files status before after
-  gave_or_cut AllGood says = gave AllGood all_refused says
-  gave_or_cut NotAllGood says = gave NotAllGood not_refused says
-  gave_or_cut Refused f =
+  pub gave_or_cut : (shown : Shown) (status : Status) → SaysOfRead shown disk status before after → GaveDumpsOrCut shown disk files status before after
+  gave_or_cut shown AllGood says = gave shown AllGood all_refused says
+  gave_or_cut shown NotAllGood says = gave shown NotAllGood not_refused says
+  gave_or_cut shown Refused f =
       elim f.is [
         | inl (number, low, first, is) ↦ (number, low, first files told)
         | inr (d, none, read, is) ↦ absurd (by_complete (is_complete d.totals) (f.status_is ∙ ap (λ o. o.status) is))
       ]
-  gave_or_cut Usage says = says
-  gave_or_cut ReadFault says = says
-  gave_or_cut ImageFault says = says.1
-  gave_or_cut NotesFault says = says.1
-  gave_or_cut Memory says = says
-  gave_or_cut ShelfFault says = says.1
+  gave_or_cut shown Usage says = says
+  gave_or_cut shown ReadFault says = says
+  gave_or_cut shown ImageFault says = says.1
+  gave_or_cut shown NotesFault says = says.1
+  gave_or_cut shown Memory says = says
+  gave_or_cut shown ShelfFault says = says.1
 
 pub reads_as_expected : DumpLaws → WordsBeginWithLetters → WordsNameFormats → {S W N H : Type 0} (words : List (List ℕ)) (status : Status) (before after : Surroundings S W N H)
     → Ran words status before after → ReadsAsExpected words status (on_shelf before) (on_shelf after)
 reads_as_expected laws letters names words status before after ran asked files are can told =
-    gave_or_cut laws (asked_disk asked) files (on_shelf before) (on_shelf after) told status (by ran.folder ran.dumps ran.identity ran.names ran.names_dumps ran.names_identity ran.did).says
+    gave_or_cut laws (asked_disk asked) files (on_shelf before) (on_shelf after) told (shown_of asked.options) status (by ran.folder ran.dumps ran.identity ran.names ran.names_dumps ran.names_identity ran.did).says
   where
     by : (folder : Option (Format × List ℕ)) (dumps : Option Asked) (identity : Option (List ℕ)) → NamesFolder words folder → NamesDumps words dumps
-        → NamesIdentity words identity → RanBy folder dumps identity words status before after → DidRead (asked_disk asked) status (on_shelf before) (on_shelf after)
+        → NamesIdentity words identity → RanBy folder dumps identity words status before after → DidRead (shown_of asked.options) (asked_disk asked) status (on_shelf before) (on_shelf after)
     by (Some named) dumps identity named_is names_dumps names_identity did = absurd (folder_no_dumps words named.0 named.1 named_is.0 asked can are)
     by None None None none no_read no_name did = absurd (no_read asked can are)
     by None None (Some dump) none no_read name_is did = absurd (no_read asked can are)
     by None (Some other) identity none read_is names_identity did =
-        subst (λ (a : Asked). DidRead (asked_disk a) status (on_shelf before) (on_shelf after)) (one_asked letters names words other asked read_is.0 are) did.0
+        subst (λ (a : Asked). DidRead (shown_of a.options) (asked_disk a) status (on_shelf before) (on_shelf after)) (one_asked letters names words other asked read_is.0 are) did.0

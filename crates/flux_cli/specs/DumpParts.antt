@@ -1,8 +1,10 @@
 -- What the words of `read` ask for from a word on, word after word.
-use Rattle.std.specs.Prelude.{◌≡◌, ◌≢◌, ℕ, List, ◌∷◌, ◌++◌, Option, Some, None}
+use Rattle.std.specs.Prelude.{◌≡◌, ◌≢◌, ℕ, Bool, false, if◌then◌else◌, List, [], ◌∷◌, ◌++◌, Option, Some, None}
+use Rattle.std.specs.Str.{bytes_eq}
 use Rattle.sector_images.specs.Formats.{IsWordOfFormat}
-use Rattle.track_shelf.specs.declared.stepping.Stepping.{Stepping}
-use Rattle.flux_cli.specs.DumpWords.{Asked, CanBeRead, stepping_words}
+use Rattle.flux_cli.specs.DumpWords.{Asked, CanBeRead, double_step_word, option_words, picture_word}
+use Rattle.flux_cli.specs.declared.dump_words.DumpOptions.{DumpOptions}
+use Rattle.flux_cli.specs.declared.dump_words.DumpOptions.TheVariants.{Without, DoubleStep, Picture, PictureDoubleStep, DoubleStepPicture}
 
 -- the words do not begin with this one
 abbrev pub IsNotFirst : List ℕ → List (List ℕ) → Type 0
@@ -14,21 +16,33 @@ pub record AreDiskWords (asked : Asked) (words : List (List ℕ)) : Type 0 where
   pub is : words ≡ word ∷ asked.dumps
   pub named : IsWordOfFormat word asked.format
 
--- and the words of the stepping before them
-pub record AreSteppedWords (asked : Asked) (words : List (List ℕ)) : Type 0 where
+-- and the options before them
+pub record AreWordsBehind (asked : Asked) (words : List (List ℕ)) : Type 0 where
   pub word : List ℕ
-  pub is : words ≡ stepping_words asked.stepping ++ (word ∷ asked.dumps)
+  pub is : words ≡ option_words asked.options ++ (word ∷ asked.dumps)
   pub named : IsWordOfFormat word asked.format
+
+-- the first of them is this one
+abbrev pub is_first : List ℕ → List (List ℕ) → Bool
+is_first word [] = false
+is_first word (first ∷ others) = bytes_eq first word
+
+-- the options that stand first
+abbrev pub options_in : List (List ℕ) → DumpOptions
+options_in [] = Without
+options_in (first ∷ others) =
+    if bytes_eq first picture_word then (if is_first double_step_word others then PictureDoubleStep else Picture)
+    else (if bytes_eq first double_step_word then (if is_first picture_word others then DoubleStepPicture else DoubleStep) else Without)
 
 -- what the words behind the command's ask for
 abbrev pub NamesBehind : List (List ℕ) → Option Asked → Type 0
-NamesBehind words (Some asked) = AreSteppedWords asked words × CanBeRead asked
-NamesBehind words None = (asked : Asked) → CanBeRead asked → ¬ AreSteppedWords asked words
+NamesBehind words (Some asked) = AreWordsBehind asked words × CanBeRead asked
+NamesBehind words None = (asked : Asked) → CanBeRead asked → ¬ AreWordsBehind asked words
 
 -- what those from the format's on ask for
-abbrev pub NamesWith : Stepping → List (List ℕ) → Option Asked → Type 0
-NamesWith stepping words (Some asked) = (asked.stepping ≡ stepping) × AreDiskWords asked words × CanBeRead asked
-NamesWith stepping words None = (asked : Asked) → asked.stepping ≡ stepping → CanBeRead asked → ¬ AreDiskWords asked words
+abbrev pub NamesWith : DumpOptions → List (List ℕ) → Option Asked → Type 0
+NamesWith options words (Some asked) = (asked.options ≡ options) × AreDiskWords asked words × CanBeRead asked
+NamesWith options words None = (asked : Asked) → asked.options ≡ options → CanBeRead asked → ¬ AreDiskWords asked words
 
 -- the same, where it can be read
 abbrev pub IsMaybeReadable : Asked → Option Asked → Type 0

@@ -8,32 +8,58 @@ use Rattle.track_shelf.specs.Stepping.{reaches_all}
 use Rattle.track_shelf.specs.declared.stepping.Stepping.{Stepping}
 use Rattle.track_shelf.specs.declared.stepping.Stepping.TheVariants.{Single, Double}
 use Rattle.dump_reading.specs.Outcomes.{DumpDisk}
+use Rattle.flux_cli.specs.declared.dump_words.DumpOptions.{DumpOptions}
+use Rattle.flux_cli.specs.declared.dump_words.DumpOptions.TheVariants.{Without, DoubleStep, Picture, PictureDoubleStep, DoubleStepPicture}
 use Rattle.flux_cli.specs.declared.dump_words.DumpsAsked.{DumpsAsked}
+use Rattle.flux_cli.specs.declared.dump_words.Shown.{Shown}
+use Rattle.flux_cli.specs.declared.dump_words.Shown.TheVariants.{Image as ShownImage, Picture as ShownPicture}
 
--- what is asked of dumps: how the drive stepped, the dumps by their names, and the format
+-- what is asked of dumps: the options, the dumps by their names, and the format
 pub record Asked : Type 0 where
-  pub stepping : Stepping
+  pub options : DumpOptions
   pub dumps : List (List ℕ)
   pub format : Format
 
 abbrev pub asked_of : DumpsAsked → Asked
-asked_of asked = record { stepping = asked.stepping; dumps = asked.dumps.now; format = asked.format }
+asked_of asked = record { options = asked.options; dumps = asked.dumps.now; format = asked.format }
+
+-- how the drive stepped, by the options
+abbrev pub stepping_of : DumpOptions → Stepping
+stepping_of Without = Single
+stepping_of Picture = Single
+stepping_of DoubleStep = Double
+stepping_of PictureDoubleStep = Double
+stepping_of DoubleStepPicture = Double
+
+-- and what is shown of the verdicts
+abbrev pub shown_of : DumpOptions → Shown
+shown_of Without = ShownImage
+shown_of DoubleStep = ShownImage
+shown_of Picture = ShownPicture
+shown_of PictureDoubleStep = ShownPicture
+shown_of DoubleStepPicture = ShownPicture
 
 -- the disk that is to be read of them
 abbrev pub asked_disk : Asked → DumpDisk
-asked_disk asked = record { stepping = asked.stepping; dumps = asked.dumps; format = asked.format; clocks = Both }
+asked_disk asked = record { stepping = stepping_of asked.options; dumps = asked.dumps; format = asked.format; clocks = Both }
 
 abbrev pub double_step_word : List ℕ
 double_step_word = codes "--double-step"
 
--- the words before the format
-abbrev pub stepping_words : Stepping → List (List ℕ)
-stepping_words Single = []
-stepping_words Double = double_step_word ∷ []
+abbrev pub picture_word : List ℕ
+picture_word = codes "--picture"
+
+-- the words before the format: both options may stand there, in either order
+abbrev pub option_words : DumpOptions → List (List ℕ)
+option_words Without = []
+option_words DoubleStep = double_step_word ∷ []
+option_words Picture = picture_word ∷ []
+option_words PictureDoubleStep = picture_word ∷ double_step_word ∷ []
+option_words DoubleStepPicture = double_step_word ∷ picture_word ∷ []
 
 pub record AreReadWords (asked : Asked) (words : List (List ℕ)) : Type 0 where
   pub word : List ℕ
-  pub is : words ≡ codes "read" ∷ (stepping_words asked.stepping ++ (word ∷ asked.dumps))
+  pub is : words ≡ codes "read" ∷ (option_words asked.options ++ (word ∷ asked.dumps))
   pub named : IsWordOfFormat word asked.format
 
 -- most dumps of a disk
@@ -49,7 +75,7 @@ pub record CanBeRead (asked : Asked) : Type 0 where
   pub some : 1 ≤ length asked.dumps
   pub most : length asked.dumps ≤ MOST_DUMPS
   pub named : list_any is_nameless asked.dumps ≡ false
-  pub reached : reaches_all asked.stepping asked.format ≡ true
+  pub reached : reaches_all (stepping_of asked.options) asked.format ≡ true
 
 -- what the words ask of dumps, if they ask for that
 abbrev pub NamesDumps : List (List ℕ) → Option Asked → Type 0

@@ -1,5 +1,6 @@
--- What is known of what `read` gives, where the shelf tells its files.
-use Rattle.std.specs.Prelude.{◌≡◌, ◌<◌, ℕ, List, length, Some}
+-- What is known of what `read` gives, the image and the report or a picture, where the shelf tells its files.
+use Rattle.std.specs.Prelude.{◌≡◌, ◌<◌, ℕ, List, [], length, Some}
+use Rattle.disk_map.specs.Dumps.{IsDumpsDrawn, ShowsReport}
 use Rattle.dump_reading.specs.Outcomes.{DumpDisk, DumpsRead, IsFirstEmpty}
 use Rattle.flux_base.specs.Outside.{Rose}
 use Rattle.flux_base.specs.declared.status.Status.{Status}
@@ -12,11 +13,13 @@ use Rattle.law_captured_dumps.specs.Inputs.{HasWhole, IsSteadyOrPassed}
 use Rattle.law_captured_dumps.specs.Said.{IsSaid, IsSaidRightly}
 use Rattle.track_shelf.specs.Files.{File}
 use Rattle.turn_merge.specs.Readings.{verdict}
-use Rattle.flux_cli.specs.DumpWords.{AreReadWords, Asked, CanBeRead, asked_disk}
+use Rattle.flux_cli.specs.DumpWords.{AreReadWords, Asked, CanBeRead, asked_disk, shown_of}
 use Rattle.flux_cli.specs.FolderRuns.{OnShelf}
 use Rattle.flux_cli.specs.ReadRuns.{read_status}
 use Rattle.flux_cli.specs.Runs.{growth}
 use Rattle.flux_cli.specs.Work.{Got}
+use Rattle.flux_cli.specs.declared.dump_words.Shown.{Shown}
+use Rattle.flux_cli.specs.declared.dump_words.Shown.TheVariants.{Image, Picture}
 
 -- Each sector's line and its bytes in the image are those that all readings of the dumps bear out. A sector that one dump has whole is never
 -- wrong unsaid, whatever the other files are; where these are captures too or passed over, and the drives kept their speed, it is good with
@@ -38,19 +41,35 @@ pub record GaveDumps {H W N : Type 0} (disk : DumpDisk) (files : List File) (sta
   pub notes_got : Got (growth before.notes after.notes) read.notes
   pub holds : OfDumps disk files read
 
+-- The image sink got a picture of the dumps, and the notes nothing. The picture is that of a report of the same dumps: in each track it has
+-- the fields of the sectors whose lines this report has, by the same readings, and the same numbers; and what the report says is borne out.
+pub record GavePicture {H W N : Type 0} (disk : DumpDisk) (files : List File) (status : Status) (before after : OnShelf H W N) : Type 0 where
+  pub drawn : DumpsRead
+  pub is : IsDumpsDrawn disk (Some files) drawn
+  pub status_is : status ≡ read_status drawn.totals
+  pub image_got : Got (growth before.image after.image) drawn.image
+  pub notes_got : Got (growth before.notes after.notes) []
+  pub shows : ShowsReport disk (Some files) drawn is
+  pub holds : OfDumps disk files shows.report
+
+-- what was given, by what is shown of the verdicts
+abbrev pub GaveShown : {H W N : Type 0} → Shown → DumpDisk → List File → Status → (before after : OnShelf H W N) → Type 0
+GaveShown Image disk files status before after = GaveDumps disk files status before after
+GaveShown Picture disk files status before after = GavePicture disk files status before after
+
 -- or a dump has none of the files; or a fault of one object, which that object counted, cut the run; or there was no memory to begin
-abbrev pub GaveDumpsOrCut : {H W N : Type 0} → DumpDisk → List File → Status → (before after : OnShelf H W N) → Type 0
-GaveDumpsOrCut disk files AllGood before after = GaveDumps disk files AllGood before after
-GaveDumpsOrCut disk files NotAllGood before after = GaveDumps disk files NotAllGood before after
-GaveDumpsOrCut disk files Refused before after = (number : ℕ) × (number < length disk.dumps) × IsFirstEmpty disk files (Some number)
-GaveDumpsOrCut disk files Usage before after = ⊥
-GaveDumpsOrCut disk files ReadFault before after = ⊥
-GaveDumpsOrCut disk files ImageFault before after = Rose before.image.faults after.image.faults
-GaveDumpsOrCut disk files NotesFault before after = Rose before.notes.faults after.notes.faults
-GaveDumpsOrCut disk files Memory before after = after ≡ before
-GaveDumpsOrCut disk files ShelfFault before after = Rose before.shelf.source.faults after.shelf.source.faults
+abbrev pub GaveDumpsOrCut : {H W N : Type 0} → Shown → DumpDisk → List File → Status → (before after : OnShelf H W N) → Type 0
+GaveDumpsOrCut shown disk files AllGood before after = GaveShown shown disk files AllGood before after
+GaveDumpsOrCut shown disk files NotAllGood before after = GaveShown shown disk files NotAllGood before after
+GaveDumpsOrCut shown disk files Refused before after = (number : ℕ) × (number < length disk.dumps) × IsFirstEmpty disk files (Some number)
+GaveDumpsOrCut shown disk files Usage before after = ⊥
+GaveDumpsOrCut shown disk files ReadFault before after = ⊥
+GaveDumpsOrCut shown disk files ImageFault before after = Rose before.image.faults after.image.faults
+GaveDumpsOrCut shown disk files NotesFault before after = Rose before.notes.faults after.notes.faults
+GaveDumpsOrCut shown disk files Memory before after = after ≡ before
+GaveDumpsOrCut shown disk files ShelfFault before after = Rose before.shelf.source.faults after.shelf.source.faults
 
 -- The headline of `read`.
 abbrev pub ReadsAsExpected : {H W N : Type 0} → (words : List (List ℕ)) → Status → (before after : OnShelf H W N) → Type 0
 ReadsAsExpected words status before after = (asked : Asked) (files : List File) → AreReadWords asked words → CanBeRead asked
-    → before.shelf.files ≡ Some files → GaveDumpsOrCut (asked_disk asked) files status before after
+    → before.shelf.files ≡ Some files → GaveDumpsOrCut (shown_of asked.options) (asked_disk asked) files status before after

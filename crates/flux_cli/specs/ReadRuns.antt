@@ -1,5 +1,6 @@
 -- What `read` does: the files of a disk's dumps are read on the shelf, one by one.
 use Rattle.std.specs.Prelude.{◌≡◌, ◌⊎◌, ◌≤◌, ◌<◌, ℕ, List, [], if◌then◌else◌, length, Option, Some, None}
+use Rattle.disk_map.specs.Dumps.{DrewFirst, IsDumpsDrawn, StoppedInDumps}
 use Rattle.dump_reading.specs.Outcomes.{DumpDisk, DumpsRead, IsDumpsRead, IsToldEmpty, WroteFront, WroteIntoEnd, WroteIntoImage, WroteIntoLines}
 use Rattle.dump_reading.specs.Totals.{is_complete}
 use Rattle.dump_reading.specs.declared.totals.DumpTotals.{DumpTotals}
@@ -11,6 +12,8 @@ use Rattle.track_shelf.specs.Files.{File}
 use Rattle.flux_cli.specs.FolderRuns.{OnShelf}
 use Rattle.flux_cli.specs.Runs.{growth}
 use Rattle.flux_cli.specs.Work.{Outcome, Got, GotNothing, GotPart}
+use Rattle.flux_cli.specs.declared.dump_words.Shown.{Shown}
+use Rattle.flux_cli.specs.declared.dump_words.Shown.TheVariants.{Image, Picture}
 
 -- whether the image is all that can be read there
 abbrev pub read_status : DumpTotals → Status
@@ -23,17 +26,22 @@ read_outcome d = record { status = read_status d.totals; image = d.image; notes 
 abbrev pub empty_outcome : ℕ → Outcome
 empty_outcome number = record { status = Refused; image = []; notes = no_files_text number }
 
--- What the dumps come to, by the files that are told: the first of them that has none of the disk's files is refused; where each has
--- one, they are read.
-abbrev pub IsOutcomeOfDumps : DumpDisk → Option (List File) → Outcome → Type 0
-IsOutcomeOfDumps disk told o =
+-- what the dumps come to, by what is shown of the verdicts: the image and the report, or a picture
+abbrev pub IsShown : Shown → DumpDisk → Option (List File) → DumpsRead → Type 0
+IsShown Image disk told d = IsDumpsRead disk told d
+IsShown Picture disk told d = IsDumpsDrawn disk told d
+
+-- The outcome, by the files that are told: the first of the dumps that has none of the disk's files is refused; where each has one, they are
+-- read.
+abbrev pub IsOutcomeOfDumps : Shown → DumpDisk → Option (List File) → Outcome → Type 0
+IsOutcomeOfDumps shown disk told o =
     ((number : ℕ) × (number < length disk.dumps) × IsToldEmpty disk told (Some number) × (o ≡ empty_outcome number))
-    ⊎ ((d : DumpsRead) × IsToldEmpty disk told None × IsDumpsRead disk told d × (o ≡ read_outcome d))
+    ⊎ ((d : DumpsRead) × IsToldEmpty disk told None × IsShown shown disk told d × (o ≡ read_outcome d))
 
 -- the work is done: both sinks got all that the dumps come to, and the status is the outcome's
-pub record FinishedDumps {H W N : Type 0} (disk : DumpDisk) (status : Status) (before after : OnShelf H W N) : Type 0 where
+pub record FinishedDumps {H W N : Type 0} (shown : Shown) (disk : DumpDisk) (status : Status) (before after : OnShelf H W N) : Type 0 where
   pub outcome : Outcome
-  pub is : IsOutcomeOfDumps disk before.shelf.files outcome
+  pub is : IsOutcomeOfDumps shown disk before.shelf.files outcome
   pub status_is : status ≡ outcome.status
   pub image_got : Got (growth before.image after.image) outcome.image
   pub notes_got : Got (growth before.notes after.notes) outcome.notes
@@ -47,28 +55,33 @@ pub record CutInEmpty {H W N : Type 0} (disk : DumpDisk) (before after : OnShelf
   pub notes_got : GotPart (growth before.notes after.notes) (no_files_text number)
 
 -- what was written where a fault cut the work, by the status, which says whose fault it is
-abbrev pub dumps_cut : {H W N : Type 0} → DumpDisk → Status → (before after : OnShelf H W N) → Type 0
-dumps_cut disk ShelfFault before after =
+abbrev pub dumps_cut : {H W N : Type 0} → Shown → DumpDisk → Status → (before after : OnShelf H W N) → Type 0
+dumps_cut Image disk ShelfFault before after =
     WroteFront disk before.shelf.files before.image.bytes after.image.bytes before.notes.bytes after.notes.bytes
-dumps_cut disk ImageFault before after =
+dumps_cut Image disk ImageFault before after =
     WroteIntoImage disk before.shelf.files before.image.bytes after.image.bytes before.notes.bytes after.notes.bytes
-dumps_cut disk NotesFault before after =
+dumps_cut Image disk NotesFault before after =
     (WroteIntoLines disk before.shelf.files before.image.bytes after.image.bytes before.notes.bytes after.notes.bytes
     ⊎ WroteIntoEnd disk before.shelf.files before.image.bytes after.image.bytes before.notes.bytes after.notes.bytes)
     ⊎ CutInEmpty disk before after
-dumps_cut disk _ before after = ⊥
+dumps_cut Picture disk ShelfFault before after =
+    ((after.image.bytes ≡ before.image.bytes) ⊎ DrewFirst disk before.shelf.files before.image.bytes after.image.bytes) × GotNothing (growth before.notes after.notes)
+dumps_cut Picture disk ImageFault before after =
+    StoppedInDumps disk before.shelf.files before.image.bytes after.image.bytes × GotNothing (growth before.notes after.notes)
+dumps_cut Picture disk NotesFault before after = CutInEmpty disk before after
+dumps_cut _ disk _ before after = ⊥
 
 -- what the status says
-abbrev pub SaysOfRead : {H W N : Type 0} → DumpDisk → Status → (before after : OnShelf H W N) → Type 0
-SaysOfRead disk AllGood before after = FinishedDumps disk AllGood before after
-SaysOfRead disk NotAllGood before after = FinishedDumps disk NotAllGood before after
-SaysOfRead disk Refused before after = FinishedDumps disk Refused before after
-SaysOfRead disk Usage before after = ⊥
-SaysOfRead disk ReadFault before after = ⊥
-SaysOfRead disk ImageFault before after = dumps_cut disk ImageFault before after × Rose before.image.faults after.image.faults
-SaysOfRead disk NotesFault before after = dumps_cut disk NotesFault before after × Rose before.notes.faults after.notes.faults
-SaysOfRead disk Memory before after = after ≡ before
-SaysOfRead disk ShelfFault before after = dumps_cut disk ShelfFault before after × Rose before.shelf.source.faults after.shelf.source.faults
+abbrev pub SaysOfRead : {H W N : Type 0} → Shown → DumpDisk → Status → (before after : OnShelf H W N) → Type 0
+SaysOfRead shown disk AllGood before after = FinishedDumps shown disk AllGood before after
+SaysOfRead shown disk NotAllGood before after = FinishedDumps shown disk NotAllGood before after
+SaysOfRead shown disk Refused before after = FinishedDumps shown disk Refused before after
+SaysOfRead shown disk Usage before after = ⊥
+SaysOfRead shown disk ReadFault before after = ⊥
+SaysOfRead shown disk ImageFault before after = dumps_cut shown disk ImageFault before after × Rose before.image.faults after.image.faults
+SaysOfRead shown disk NotesFault before after = dumps_cut shown disk NotesFault before after × Rose before.notes.faults after.notes.faults
+SaysOfRead shown disk Memory before after = after ≡ before
+SaysOfRead shown disk ShelfFault before after = dumps_cut shown disk ShelfFault before after × Rose before.shelf.source.faults after.shelf.source.faults
 
 -- no object's count of faults is lower than it was
 pub record NoneFell {H W N : Type 0} (before after : OnShelf H W N) : Type 0 where
@@ -76,8 +89,8 @@ pub record NoneFell {H W N : Type 0} (before after : OnShelf H W N) : Type 0 whe
   pub image : before.image.faults ≤ after.image.faults
   pub notes : before.notes.faults ≤ after.notes.faults
 
--- The dumps were read, and all was given that they come to; or a fault of one object, which that object counted, cut the work; or
+-- The dumps were read, and all was given that they come to, by what is shown; or a fault of one object, which that object counted, cut the work; or
 -- there was no memory to begin.
-pub record DidRead {H W N : Type 0} (disk : DumpDisk) (status : Status) (before after : OnShelf H W N) : Type 0 where
-  pub says : SaysOfRead disk status before after
+pub record DidRead {H W N : Type 0} (shown : Shown) (disk : DumpDisk) (status : Status) (before after : OnShelf H W N) : Type 0 where
+  pub says : SaysOfRead shown disk status before after
   pub counts : NoneFell before after

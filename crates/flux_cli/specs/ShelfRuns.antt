@@ -2,7 +2,7 @@
 use Rattle.std.specs.Prelude.{◌≡◌, ℕ, List, Option, Some, None}
 use Rattle.flux_base.specs.declared.status.Status.{Status}
 use Rattle.sector_images.specs.declared.format.Format.{Format}
-use Rattle.flux_cli.specs.DumpWords.{Asked, NamesDumps, asked_disk}
+use Rattle.flux_cli.specs.DumpWords.{Asked, NamesDumps, asked_disk, shown_of}
 use Rattle.flux_cli.specs.FolderRuns.{DoesFolder, OnShelf, ShelfMoment}
 use Rattle.flux_cli.specs.FolderWords.{NamesFolder}
 use Rattle.flux_cli.specs.IdentityRuns.{DidIdentify}
@@ -28,7 +28,7 @@ RanBy (Some named) dumps identity words status before after =
     DoesFolder named.0 named.1 status (on_shelf before) (on_shelf after)
     × (after.outside.source ≡ before.outside.source) × (after.outside.given ≡ before.outside.given)
 RanBy None (Some asked) identity words status before after =
-    DidRead (asked_disk asked) status (on_shelf before) (on_shelf after)
+    DidRead (shown_of asked.options) (asked_disk asked) status (on_shelf before) (on_shelf after)
     × (after.outside.source ≡ before.outside.source) × (after.outside.given ≡ before.outside.given)
 RanBy None None (Some dump) words status before after =
     DidIdentify dump status (on_shelf before) (on_shelf after)

@@ -6,6 +6,7 @@ ghost use Rattle.flux_cli.specs.ReadRuns.{IsOutcomeOfDumps};
 ghost use Rattle.flux_cli.specs.IdentityRuns.{IsOutcomeOfDump};
 ghost use Rattle.flux_cli.specs.Work.{Outcome};
 ghost use Rattle.flux_cli.specs.Works.{IsOutcome};
+ghost use Rattle.flux_cli.specs.declared.dump_words.Shown.{Shown};
 ghost use Rattle.track_shelf.specs.Files.{File};
 
 use sector_images::words_name_formats;
@@ -22,11 +23,11 @@ pub fn outcomes_are_one()
     flux_engine::outcomes_are_one()
 }
 
-/// The dumps and the files on the shelf decide the outcome of `read`: there is one at most.
+/// What is shown, the dumps and the files on the shelf decide the outcome of `read`: there is one at most.
 pub fn read_outcomes_are_one()
-    ensures { (disk : DumpDisk) (files : List File) (a b : Outcome) → IsOutcomeOfDumps disk (Some files) a → IsOutcomeOfDumps disk (Some files) b → a ≡ b }
+    ensures { (shown : Shown) (disk : DumpDisk) (files : List File) (a b : Outcome) → IsOutcomeOfDumps shown disk (Some files) a → IsOutcomeOfDumps shown disk (Some files) b → a ≡ b }
 {
-    law_captured_dumps::dumps_are_one()
+    law_captured_dumps::all_of_dumps_is_one()
 }
 
 /// A dump and the files on the shelf decide the outcome of `identify`: there is one at most.

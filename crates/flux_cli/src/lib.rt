@@ -4,6 +4,7 @@
 mod command;
 mod count;
 mod disks;
+mod dump_picture;
 mod dump_words;
 mod folder;
 mod g64_disk;

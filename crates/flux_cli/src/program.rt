@@ -3,7 +3,7 @@ ghost use Rattle.flux_base.specs.Moments.{moment};
 ghost use Rattle.flux_base.specs.declared.status.Status.{Status};
 ghost use Rattle.flux_cli.specs.Captured.{FolderCaptured, FolderErased, RunsCaptured, RunsErased};
 ghost use Rattle.flux_cli.specs.Commands.{command_for};
-ghost use Rattle.flux_cli.specs.DumpWords.{asked_disk, asked_of};
+ghost use Rattle.flux_cli.specs.DumpWords.{asked_disk, asked_of, shown_of};
 ghost use Rattle.flux_cli.specs.FolderRuns.{on, shelf_moment};
 ghost use Rattle.flux_cli.specs.Headlines.{RunsAsExpected};
 ghost use Rattle.flux_cli.specs.IdentityRuns.{DidIdentify};
@@ -16,6 +16,7 @@ ghost use Rattle.kryo_stream.specs.Room.{IsFresh};
 
 use crate::command::{Command, Output, command_of};
 use crate::disks::decode;
+use crate::dump_picture::show;
 use crate::dump_words::{DumpsAsked, dumps_of};
 use crate::folder::{decode_folder, folder_of};
 use crate::g64_disk::G64Disk;
@@ -25,9 +26,9 @@ use crate::images::write;
 use crate::map::draw;
 use crate::pages::tell;
 use crate::planned::{decode_captures, rescue};
-use crate::read::read;
 use crate::trial::trial;
 use crate::turns::write_turns;
+use disk_map::dumps_are_drawn_as_reported;
 use dump_identity::IdentityRoom;
 use dump_reading::Dumps;
 use flux_base::{Memory, Sink, Source, Status, Word};
@@ -101,7 +102,7 @@ pub fn run<S: Source, W: Sink, N: Sink, H: Shelf>(
 
     // Of `read`, where the shelf tells its files: each sector's line and its bytes are those that all readings of the dumps bear out; a
     // sector that one dump has whole is good with its own bytes or contradictory, and good where the other files are captures too or
-    // passed over and the drives kept their speed.
+    // passed over and the drives kept their speed. A picture of them is that of such a report.
     ensures dumps { ReadsAsExpected words.now result
         (on (shelf_moment (moment H.left H.faults shelf.old) (H.given shelf.old) (H.files shelf.old)) (moment W.written W.faults image.old) (moment N.written N.faults notes.old))
         (on (shelf_moment (moment H.left H.faults shelf.new) (H.given shelf.new) (H.files shelf.new)) (moment W.written W.faults image.new) (moment N.written N.faults notes.new)) }
@@ -120,6 +121,7 @@ pub fn run<S: Source, W: Sink, N: Sink, H: Shelf>(
     good_is_right_in_files();
     dumps_say_each_sector();
     captured_dumps_are_read();
+    dumps_are_drawn_as_reported();
     run_words(alloc, words, source, image, notes, shelf)
 }
 
@@ -162,16 +164,23 @@ fn run_read<W: Sink, N: Sink, H: Shelf>(
     notes: &mut N,
 ) -> Status
     requires { length asked.dumps.now ≤ 8 }
-    ensures { DidRead (asked_disk (asked_of asked.entry)) result
+    ensures { DidRead (shown_of asked.entry.options) (asked_disk (asked_of asked.entry)) result
         (on (shelf_moment (moment H.left H.faults shelf.old) (H.given shelf.old) (H.files shelf.old)) (moment W.written W.faults image.old) (moment N.written N.faults notes.old))
         (on (shelf_moment (moment H.left H.faults shelf.new) (H.given shelf.new) (H.files shelf.new)) (moment W.written W.faults image.new) (moment N.written N.faults notes.new)) }
 {
     let dumps = Dumps {
         names: asked.dumps,
-        stepping: asked.stepping,
+        stepping: asked.options.stepping(),
     };
     match DiskRoom::reserve(alloc, asked.format) {
-        Ok(mut room) => read(&dumps, &mut room, shelf, image, notes),
+        Ok(mut room) => show(
+            asked.options.shown(),
+            &dumps,
+            &mut room,
+            shelf,
+            image,
+            notes,
+        ),
         Err(Memory) => Status::Memory,
     }
 }

@@ -5,6 +5,7 @@ ghost use Rattle.dump_reading.specs.Outcomes.{disk_of};
 ghost use Rattle.flux_base.specs.Moments.{moment};
 ghost use Rattle.flux_cli.specs.FolderRuns.{on, shelf_moment};
 ghost use Rattle.flux_cli.specs.ReadRuns.{DidRead, read_status};
+ghost use Rattle.flux_cli.specs.declared.dump_words.Shown.TheVariants.{Image};
 ghost use Rattle.flux_engine.specs.Room.{fresh};
 
 use dump_reading::{DumpTotals, Dumps, DumpsFault, read_dumps};
@@ -23,7 +24,7 @@ pub fn read<H: Shelf, W: Sink, N: Sink>(
 ) -> Status
     requires fresh { room.old ≡ fresh room.old.format }
     requires few { length dumps.now.names.now ≤ 16 }
-    ensures { DidRead (disk_of dumps.now room.old.format) result
+    ensures { DidRead Image (disk_of dumps.now room.old.format) result
         (on (shelf_moment (moment H.left H.faults shelf.old) (H.given shelf.old) (H.files shelf.old)) (moment W.written W.faults image.old) (moment N.written N.faults notes.old))
         (on (shelf_moment (moment H.left H.faults shelf.new) (H.given shelf.new) (H.files shelf.new)) (moment W.written W.faults image.new) (moment N.written N.faults notes.new)) }
 {
@@ -40,7 +41,7 @@ pub fn read<H: Shelf, W: Sink, N: Sink>(
 }
 
 /// Whether the image is all that can be read there.
-fn status_of(totals: &DumpTotals) -> Status
+pub fn status_of(totals: &DumpTotals) -> Status
     ensures { result ≡ read_status totals.now }
 {
     if totals.is_complete() {

@@ -73,7 +73,7 @@ fn words_that_are_no_command(rt: HostRuntime) -> Result<(), Fail> {
 }
 
 /// What is told of wrong words behind `read`.
-const READ: &str = "usage: flux read [--double-step] FORMAT DUMP...\n";
+const READ: &str = "usage: flux read [--picture] [--double-step] FORMAT DUMP...\n";
 
 /// After a command that the usage line does not name: the words, and what is told of them in its place.
 const TOLD: &[(&[&str], &str, u64)] = &[
@@ -97,7 +97,18 @@ const TOLD: &[(&[&str], &str, u64)] = &[
         "no format ibm180; nearest: ibm-180\n",
         3,
     ),
+    (
+        &["read", "--picture", "amigo"],
+        "no format amigo; nearest: amiga\n",
+        3,
+    ),
     (&["read", "--double-step"], READ, 1),
+    // Each option stands once.
+    (
+        &["read", "--picture", "--picture", "amiga", "dump"],
+        READ,
+        1,
+    ),
     (&["read", "--single-step", "amiga", "dump"], READ, 1),
     (&["read", "amiga", "dump", ""], READ, 1),
     // The drive does not reach so many cylinders by two steps each.

@@ -205,16 +205,22 @@ const SHORT_ROWS: [Short; 7] = [
 #[test]
 fn dumps_that_lack_streams(rt: HostRuntime) -> Result<(), Fail> {
     for (words, failing, code, size, begin, end) in SHORT_ROWS {
-        let run = short_run(rt.alloc(), words, failing)?;
+        let run = short_run(rt.alloc(), words, failing, None)?;
         has_ended(&rt, &run, (code, size), begin, end);
     }
     Ok(())
 }
 
-fn short_run(alloc: Global, words: &[&str], failing: &[u64]) -> Result<Ended, Memory> {
+/// A run over these dumps. The call of the shelf and the write of the image with these numbers fail, if some do.
+fn short_run(
+    alloc: Global,
+    words: &[&str],
+    failing: &[u64],
+    write: Option<u64>,
+) -> Result<Ended, Memory> {
     let files = short_files(alloc)?;
     let mut shelf = MemoryShelf::new(&files, 4096, failing);
-    ends(alloc, words, &[], &mut shelf, None)
+    ends(alloc, words, &[], &mut shelf, write)
 }
 
 fn has_ended(rt: &impl Abort, run: &Ended, wanted: (u8, usize), begin: &str, end: &str) {
@@ -227,10 +233,91 @@ fn has_ended(rt: &impl Abort, run: &Ended, wanted: (u8, usize), begin: &str, end
 // What is said of the second track: one dump has no file of it, and the other one's is refused.
 #[test]
 fn a_stream_is_refused(rt: HostRuntime) -> Result<(), Fail> {
-    let run = short_run(rt.alloc(), &["read", "ibm-3740", "a", "b"], &[])?;
+    let run = short_run(rt.alloc(), &["read", "ibm-3740", "a", "b"], &[], None)?;
     let line =
         "\n01.0 dump 0 missing\n01.0 dump 1 refused block 4 Truncated\n01.0 01 missing 0 0\n";
     assert!(rt; str::from_utf8(run.notes.bytes()).is_ok_and(|text| text.contains(line)));
+    Ok(())
+}
+
+// The image fails at the third sector of the second track: the report has the first one.
+#[test]
+fn the_image_fails_in_mid_disk(rt: HostRuntime) -> Result<(), Fail> {
+    let run = short_run(rt.alloc(), &["read", "ibm-3740", "a", "b"], &[], Some(28))?;
+    has_ended(&rt, &run, (5, 3584), PASSED, "00.0 26 missing 0 0\n");
+    Ok(())
+}
+
+/// Words that ask for a picture of these dumps, the call of the shelf that fails, if one does, and what the run gives: its exit code, and how the
+/// picture and the notes end.
+type Drawn = (
+    &'static [&'static str],
+    &'static [u64],
+    u8,
+    &'static str,
+    &'static str,
+);
+
+const NONE_DRAWN: &str = ">total 2002 good 0 bad 0 missing 2002 contradictory 0\n</text>\n</svg>\n";
+
+const STEPS_DRAWN: &str = ">total 720 good 0 bad 0 missing 720 contradictory 0\n</text>\n</svg>\n";
+
+const DRAWN: [Drawn; 6] = [
+    (
+        &["read", "--picture", "ibm-3740", "a", "b"],
+        &[],
+        1,
+        NONE_DRAWN,
+        "",
+    ),
+    // The two options in either order.
+    (
+        &["read", "--picture", "--double-step", "ibm-360", "a"],
+        &[],
+        1,
+        STEPS_DRAWN,
+        "",
+    ),
+    (
+        &["read", "--double-step", "--picture", "ibm-360", "a"],
+        &[],
+        1,
+        STEPS_DRAWN,
+        "",
+    ),
+    (
+        &["read", "--picture", "ibm-3740", "a", "c"],
+        &[],
+        2,
+        "",
+        "refused dump 1 no track files\n",
+    ),
+    (
+        &["read", "--picture", "ibm-3740", "a", "b"],
+        &[0],
+        8,
+        "",
+        "",
+    ),
+    (
+        &["read", "--picture", "ibm-3740", "a", "b"],
+        &[6],
+        8,
+        "><title>00.0 26 missing 0 0\n</title></path>\n",
+        "",
+    ),
+];
+
+#[test]
+fn dumps_are_drawn(rt: HostRuntime) -> Result<(), Fail> {
+    for (words, failing, code, picture, notes) in DRAWN {
+        let run = short_run(rt.alloc(), words, failing, None)?;
+        let text = str::from_utf8(run.image.bytes()).unwrap_or("");
+        assert_eq!(rt; run.code, code);
+        assert_eq!(rt; run.notes.bytes(), notes.as_bytes());
+        assert!(rt; text.ends_with(picture), "{picture}");
+        assert!(rt; text.is_empty() == picture.is_empty());
+    }
     Ok(())
 }
 
@@ -249,18 +336,16 @@ fn contrary_files(alloc: Global) -> Result<Vec<ShelfFile>, Memory> {
     Ok(files)
 }
 
-#[test]
-fn two_dumps_differ(rt: HostRuntime) -> Result<(), Fail> {
-    let alloc = rt.alloc();
+/// A run with these words over these dumps.
+fn contrary_run(alloc: Global, words: &[&str]) -> Result<Ended, Fail> {
     let files = contrary_files(alloc)?;
     let mut shelf = MemoryShelf::new(&files, 4096, &[]);
-    let run = ends(
-        alloc,
-        &["read", "ibm-3740", "a", "b"],
-        &[],
-        &mut shelf,
-        None,
-    )?;
+    Ok(ends(alloc, words, &[], &mut shelf, None)?)
+}
+
+#[test]
+fn two_dumps_differ(rt: HostRuntime) -> Result<(), Fail> {
+    let run = contrary_run(rt.alloc(), &["read", "ibm-3740", "a", "b"])?;
     let end =
         "\nunread 152 other 0 whole 0\ntotal 2002 good 0 bad 0 missing 1976 contradictory 26\n";
     has_ended(
@@ -270,5 +355,19 @@ fn two_dumps_differ(rt: HostRuntime) -> Result<(), Fail> {
         "00.0 01 contradictory 12 0 0 0 ",
         end,
     );
+    Ok(())
+}
+
+// A field is a violet hourglass where two dumps differ, and its title is the line of the report, with the dump and the clock before the
+// revolution.
+#[test]
+fn a_picture_has_the_lines_of_the_report(rt: HostRuntime) -> Result<(), Fail> {
+    let run = contrary_run(rt.alloc(), &["read", "--picture", "ibm-3740", "a", "b"])?;
+    let text = str::from_utf8(run.image.bytes()).unwrap_or("");
+    assert_eq!(rt; (run.code, run.notes.bytes().len()), (1, 0));
+    let field = "d=\"M40 56l10 0l-10 10h10z\"><title>00.0 01 contradictory 12 0 0 0 ";
+    assert!(rt; text.contains(field));
+    let counts = ">unread 152 other 0 whole 0\n</text>\n";
+    assert!(rt; text.contains(counts));
     Ok(())
 }

@@ -1,11 +1,13 @@
+use Rattle.std.proofs.Common.{List, ℕ, length, subst}
 use Rattle.std.specs.Option.{option_map}
-use Rattle.flux_cli.specs.DumpWords.{asked_of}
-use Rattle.flux_cli.proofs.DumpWords.{step-named, step-unnamed}
+use Rattle.flux_cli.specs.DumpParts.{NamesWith, options_in}
+use Rattle.flux_cli.specs.DumpWords.{asked_of, option_words}
+use Rattle.flux_cli.proofs.DumpWords.{behind-named, options-fit, slice-rest}
 use Rattle.flux_cli.proofs.dump_words.asked_behind.Goals as goal
 
-pub returns-in-Some : goal.returns-in-Some
-returns-in-Some c =
-    step-named c.args.words.now c.words_name_formats.ensures.letters c.in-Some.rest.now (option_map asked_of c.asked_with.result) c.in-Some.ensures.there c.asked_with.ensures
-
-pub returns-in-None : goal.returns-in-None
-returns-in-None c = step-unnamed c.args.words.now (option_map asked_of c.asked_with-in-None.result) c.in-None.ensures.none c.asked_with-in-None.ensures
+pub returns : goal.returns
+returns c =
+    let words = c.args.words.now in
+    behind-named c.words_name_formats.ensures.letters words (option_map asked_of c.asked_with.result)
+    (subst (λ (rest : List (List ℕ)). NamesWith (options_in words) rest (option_map asked_of c.asked_with.result)) (slice-rest words (length (option_words (options_in words))))
+    (rw (c.count.ensures, c.options_in-options.ensures) at c.asked_with.ensures))

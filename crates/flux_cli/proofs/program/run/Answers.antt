@@ -43,4 +43,4 @@ pub returns-clause-dumps : goal.returns-clause-dumps
 returns-clause-dumps g c =
     let said = c.dumps_say_each_sector.ensures in
     let read = c.captured_dumps_are_read.ensures in
-    reads_as_expected (record { said = said.said; right = said.right; whole = read.never_wrong; steady = read.well }) c.words_name_formats.ensures.letters c.words_name_formats.ensures.one _ _ _ _ c.run_words.ensures
+    reads_as_expected (record { said = said.said; right = said.right; whole = read.never_wrong; steady = read.well; pictures = c.dumps_are_drawn_as_reported.ensures }) c.words_name_formats.ensures.letters c.words_name_formats.ensures.one _ _ _ _ c.run_words.ensures

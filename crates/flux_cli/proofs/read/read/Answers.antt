@@ -1,5 +1,6 @@
 use Rattle.std.proofs.Common.{arith, inl, inr}
 use Rattle.dump_reading.specs.Outcomes.{DumpDisk, disk_of}
+use Rattle.flux_cli.specs.declared.dump_words.Shown.TheVariants.{Image}
 use Rattle.flux_cli.proofs.ReadRun.{read-cut-empty, read-done, read-empty}
 use Rattle.flux_cli.proofs.read.read.Goals as goal
 
@@ -16,7 +17,7 @@ returns-in-Ok-write_line g c =
     let r = c.in-Err-NoFiles in
     let says = rw r.field-0-is at r.ensures.says in
     record {
-      says = read-empty (disk_of c.args.dumps.now c.args.room.now.format) _ _ r.dump says.0 says.1 says.2 _ says.3 (rw c.no_files_line.ensures at c.in-Ok-write_line.ensures.ok);
+      says = read-empty Image (disk_of c.args.dumps.now c.args.room.now.format) _ _ r.dump says.0 says.1 says.2 _ says.3 (rw c.no_files_line.ensures at c.in-Ok-write_line.ensures.ok);
       counts = record { shelf = r.ensures.shelf_later; image = r.ensures.image_later; notes = omega (arith, r.ensures.notes_later, c.in-Ok-write_line.ensures.later) };
     }
 
@@ -26,7 +27,7 @@ returns-in-Err g c =
     let says = rw r.field-0-is at r.ensures.says in
     record {
       says = (
-        inr (read-cut-empty (disk_of c.args.dumps.now c.args.room.now.format) _ _ r.dump says.0 says.1 says.2 _ says.3 (rw c.no_files_line.ensures at c.in-Err.ensures.err)),
+        inr (read-cut-empty Image (disk_of c.args.dumps.now c.args.room.now.format) _ _ r.dump says.0 says.1 says.2 _ says.3 (rw c.no_files_line.ensures at c.in-Err.ensures.err)),
         omega (arith, r.ensures.notes_later, c.in-Err.ensures.cause),
       );
       counts = record { shelf = r.ensures.shelf_later; image = r.ensures.image_later; notes = omega (arith, r.ensures.notes_later, c.in-Err.ensures.later) };
