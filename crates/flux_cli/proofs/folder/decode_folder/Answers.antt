@@ -1,4 +1,4 @@
-use Rattle.std.proofs.Common.{◌≡◌, Ok, Some, None, refl, ap, ◌∙◌, sym}
+use Rattle.std.proofs.Common.{◌≡◌, arith, Ok, Some, None, refl, ap, ◌∙◌, sym}
 use Rattle.flux_base.specs.declared.status.Status.TheVariants.{ReadFault, Memory}
 use Rattle.flux_cli.proofs.FolderRun.{folder-decodes, folder-fails, folder-lacks, other_status}
 use Rattle.flux_cli.proofs.folder.decode_folder.Goals as goal
@@ -50,3 +50,13 @@ returns-in-Err-clause-did g c =
     folder-fails c.args.format c.args.folder.now _ _ _ c.begin.result _
     (record { bound = e.bound; missing = e.missing; left = e.left; kept = e.kept; unread = e.unread; later = e.later; cause = e.cause })
     c.in-Err.field-0 c.in-Err.is refl refl
+
+pub missing_line-requires-clause-cylinder : goal.missing_line-requires-clause-cylinder
+missing_line-requires-clause-cylinder g c =
+    let keeps = c.tracks_keep_bounds.ensures.bounds c.args.format c.track_id.result c.track_id.ensures.track in
+    omega (arith, keeps.cylinder)
+
+pub missing_line-requires-clause-head : goal.missing_line-requires-clause-head
+missing_line-requires-clause-head g c =
+    let keeps = c.tracks_keep_bounds.ensures.bounds c.args.format c.track_id.result c.track_id.ensures.track in
+    omega (arith, keeps.head)
