@@ -50,6 +50,27 @@ fn formats_have_their_words_and_sizes(rt: HostRuntime) {
     }
 }
 
+/// Disks by their numbers, the bytes of their images, and their tracks.
+const BY_NUMBERS: [(&str, u32, u32); 3] = [
+    ("mfm-dd-82x2x10x512", 82 * 2 * 10 * 512, 164),
+    ("mfm-hd360-77x2x8x1024", 77 * 2 * 8 * 1024, 154),
+    ("fm-sd-40x1x10x256@0", 40 * 10 * 256, 40),
+];
+
+#[test]
+fn numbers_are_formats(rt: HostRuntime) {
+    for (word, size, tracks) in BY_NUMBERS {
+        let Some(format) = Format::of_word(word.as_bytes()) else {
+            assert!(rt; false, "{word}");
+            return;
+        };
+        let name = format.word();
+        let row = (name.as_str(), image_size(format), track_count(format));
+        assert_eq!(rt; row, (word, size, tracks));
+    }
+    assert_eq!(rt; Format::of_word(b"mfm-dd-82x2x13x512"), None);
+}
+
 /// A track of a format by its number, its cylinder and head, its place in the image and its bytes, and its nominal cell in
 /// fine units and the cells of its ring.
 const TRACKS: [(Format, u32, (u8, u8), (u32, u32), (u32, u32)); 38] = [

@@ -120,6 +120,8 @@ fn words_write_disks(rt: HostRuntime) {
         let counts = (disk.rate(), disk.cylinders(), disk.heads());
         assert_eq!(rt; counts, (rate, cylinders, heads), "{word}");
         assert_eq!(rt; disk.track(), track, "{word}");
+        let printed = disk.word();
+        assert_eq!(rt; printed.as_str(), word);
     }
 }
 
