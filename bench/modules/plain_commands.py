@@ -8,7 +8,6 @@ import plain_dumps
 from plain import FORMATS, decoded, from_g64, g64_file, stream_of, trial_line
 from plain_dumps import Dumps, Shelf
 from plain_map import picture
-from plain_recordings import CommodoreGcr
 from plain_streams import Refused, Stream
 
 USAGES = ["usage: flux turns | decode FORMAT | report FORMAT | write FORMAT | trial FORMAT SEED"]
@@ -81,7 +80,8 @@ def any_format(form):
 
 
 def commodore(form):
-    return isinstance(form.recording, CommodoreGcr)
+    """Whether the disk has a G64 file: the 1541's of 35 and of 40 tracks."""
+    return form.word in ("c1541", "c1541-40")
 
 
 # What each word of a command wants after it, and what it gives: the formats that it takes, whether a last word is right, the answer.
