@@ -163,11 +163,12 @@ def outcome(words, data, built, usage):
         return 9, b"", b""
     if words == [b"turns"]:
         return turns(data)
+    files = data if isinstance(data, dict) else {}
     if words[:1] == [b"read"] and b"read" in built and (asked := dumps_asked(words)):
         drawn, steps, form, names = asked
-        return (plain_dumps.draw if drawn else plain_dumps.read)(Dumps(Shelf(data), names, steps), form)
+        return (plain_dumps.draw if drawn else plain_dumps.read)(Dumps(Shelf(files), names, steps), form)
     if words[:1] == [b"identify"] and b"identify" in built and len(words) == 2 and words[1]:
-        return plain_dumps.identify(Shelf(data), words[1])
+        return plain_dumps.identify(Shelf(files), words[1])
     if words and words[0] in COMMANDS and words[0] in built:
         takes, last, answer = COMMANDS[words[0]]
         form = FORMATS.get(words[1].decode()) if len(words) > 1 else None
