@@ -114,7 +114,7 @@ fn words_write_disks(rt: HostRuntime) {
             bytes,
         };
         let Some(disk) = IbmDisk::of_word(word.as_bytes()) else {
-            assert!(rt; false, "{word}");
+            assert!(rt; false);
             return;
         };
         let counts = (disk.rate(), disk.cylinders(), disk.heads());
