@@ -118,10 +118,10 @@ fn words_write_disks(rt: HostRuntime) {
             return;
         };
         let counts = (disk.rate(), disk.cylinders(), disk.heads());
-        assert_eq!(rt; counts, (rate, cylinders, heads), "{word}");
-        assert_eq!(rt; disk.track(), track, "{word}");
+        assert_eq!(rt; counts, (rate, cylinders, heads));
+        assert_eq!(rt; disk.track(), track);
         let printed = disk.word();
-        assert_eq!(rt; printed.as_str(), word);
+        assert!(rt; printed.as_str().as_bytes() == word.as_bytes());
     }
 }
 
