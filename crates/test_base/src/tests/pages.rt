@@ -23,8 +23,9 @@ fn the_help_names_formats(rt: HostRuntime) -> Result<(), Fail> {
     let text = str::from_utf8(sink.bytes()).unwrap_or("");
     assert!(rt; text.starts_with("flux reads "));
     assert!(rt;
-        text.contains("\nCommands:\n   read FORMAT DUMP...          one or more dumps of a disk")
+        text.contains("\nCommands:\n   identify DUMP                which disk a dump is of")
     );
+    assert!(rt; text.contains("\n   read FORMAT DUMP...          one or more dumps of a disk"));
     assert!(rt; text.contains("\n   turns                        one stream to its transitions"));
     assert!(rt;
         text.contains("\n   ibm-3740\tIBM 3740, 8-inch, 77 cylinders, 26 sectors, 256256 bytes\n")
