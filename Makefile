@@ -16,6 +16,9 @@ BOTH = $(FIRST) $(DEMO)/second
 
 # The program is built only once all of it is proved, so a first build takes long. Later calls start at once.
 demo: $(PROGRAM) $(DEMO)/disk.img
+	@echo "which disk it is: $(PROGRAM) identify $(DEMO)/first"
+	@$(PROGRAM) identify $(DEMO)/first | tail -n 1
+	@echo
 	@echo "one dump: $(FIRST) > $(DEMO)/first.img 2> $(DEMO)/first.txt"
 	@$(FIRST) > $(DEMO)/first.img 2> $(DEMO)/first.txt; echo "exit code $$?"
 	@echo "what is not good, and the totals:"
