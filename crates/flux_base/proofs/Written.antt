@@ -1,22 +1,18 @@
 -- A piece that is written part by part.
-use Rattle.std.proofs.Common.{◌≡◌, ℕ, ◌+◌, ◌-◌, ◌≤◌, List, length, take, drop, Option, arith, length-drop, ap, sym, ◌∙◌, subst}
+use Rattle.std.proofs.Common.{◌≡◌, ℕ, ◌+◌, ◌-◌, ◌≤◌, Ok, List, length, take, drop, arith, length-drop, ap, sym, ◌∙◌, subst}
 use Rattle.std.proofs.lemmas.List.{drop-drop}
 use Rattle.std.proofs.Math.Seq.{take-add}
-use Rattle.std.proofs.KnownBytes.{Appends-trans}
-use Rattle.std.specs.Io.KnownBytes.{Appends}
-use Rattle.flux_base.specs.Outside.{Wrote}
+use Rattle.flux_base.specs.Moments.{Moment, Puts, Wrote}
+use Rattle.flux_base.specs.lemmas.Parts.{Puts-then}
 
 -- the next part of the rest is taken
-pub Wrote-step : {old mid new : Option (List ℕ)} {before between now : ℕ} {piece rest : List ℕ} (n : ℕ)
-    → Wrote old mid before between piece rest → n ≤ length rest → Appends mid new (take n rest) → between ≤ now
-    → Wrote old new before now piece (drop n rest)
-Wrote-step {old} {mid} {new} {before} {between} {now} {piece} {rest} n w bound appended later = record {
+pub Wrote-step : {A : Type 0} {old mid new : Moment A} {piece rest : List ℕ} (n : ℕ) → Wrote old mid piece rest → n ≤ length rest
+    → Puts {T = Unit {0}} mid new (take n rest) (Ok tt) → Wrote old new piece (drop n rest)
+Wrote-step {A = A} {old = old} {mid = mid} {new = new} {piece = piece} {rest = rest} n w bound next = record {
   taken = w.taken + n;
   within = (let e : length rest ≡ length piece - w.taken = ap length w.remains ∙ length-drop w.taken piece in
       omega (arith, w.within, bound, e));
   remains = ap (drop n) w.remains ∙ drop-drop n w.taken piece;
-  appended = subst (Appends old new) (sym (take-add w.taken n piece))
-      (Appends-trans old mid new (take w.taken piece) (take n (drop w.taken piece)) w.appended
-      (subst (λ r. Appends mid new (take n r)) w.remains appended));
-  later = omega (arith, w.later, later);
+  puts = subst (λ part. Puts {T = Unit {0}} old new part (Ok tt)) (sym (take-add w.taken n piece))
+      (Puts-then (Ok tt) w.puts (subst (λ r. Puts {T = Unit {0}} mid new (take n r) (Ok tt)) w.remains next));
 }

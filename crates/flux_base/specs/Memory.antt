@@ -1,7 +1,7 @@
 -- The objects of the outside that live in memory: what they hold, and which of their calls fail.
-use Rattle.std.specs.Prelude.{if◌then◌else◌, ℕ, ◌+◌, ◌-◌, ◌==◌, ◌&&◌, ◌||◌, ◌++◌, nat_lt, nat_le, min, Bool, List, length, take, drop, Result, Ok, Err}
+use Rattle.std.specs.Prelude.{if◌then◌else◌, ℕ, ◌-◌, ◌==◌, ◌&&◌, ◌||◌, ◌++◌, nat_lt, nat_le, min, Bool, List, length, take, drop, Result, Ok, Err}
 use Rattle.std.specs.List.{list_any}
-use Rattle.flux_base.specs.Outside.{GREATEST_COUNT}
+use Rattle.flux_base.specs.Outside.{risen}
 use Rattle.flux_base.specs.declared.outside.Failed.{Failed}
 
 -- a source in memory
@@ -30,10 +30,6 @@ pub record SinkState : Type 0 where
   -- how many of them failed
   pub faults : ℕ
 
--- one more, short of where a count stops
-abbrev pub next_count : ℕ → ℕ
-next_count n = min (n + 1) GREATEST_COUNT
-
 -- the call with this number is to fail
 abbrev pub is_failing : List ℕ → ℕ → Bool
 is_failing failing call = list_any (λ number. number == call) failing
@@ -50,8 +46,8 @@ read_of s buffer = if is_failing s.failing s.calls then Err (record {}) else Ok 
 abbrev pub source_after : SourceState → ℕ → SourceState
 source_after s buffer =
     if is_failing s.failing s.calls
-    then record s { calls = next_count s.calls; faults = next_count s.faults }
-    else record s { left = drop (given_of s buffer) s.left; calls = next_count s.calls }
+    then record s { calls = risen s.calls; faults = risen s.faults }
+    else record s { left = drop (given_of s buffer) s.left; calls = risen s.calls }
 
 -- how many bytes of a piece of this length a write takes
 abbrev pub taken_of : SinkState → ℕ → ℕ
@@ -69,5 +65,5 @@ write_of s piece = if write_fails s (length piece) then Err (record {}) else Ok 
 abbrev pub sink_after : SinkState → List ℕ → SinkState
 sink_after s piece =
     if write_fails s (length piece)
-    then record s { calls = next_count s.calls; faults = next_count s.faults }
-    else record s { written = s.written ++ take (taken_of s (length piece)) piece; calls = next_count s.calls }
+    then record s { calls = risen s.calls; faults = risen s.faults }
+    else record s { written = s.written ++ take (taken_of s (length piece)) piece; calls = risen s.calls }

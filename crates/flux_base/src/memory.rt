@@ -1,7 +1,7 @@
-ghost use Rattle.std.specs.Prelude.{◌≡◌, ℕ, ◌<◌, ◌≤◌, List, [], Some, length, min, take, drop, vec_len, vec_capacity, IfOk, OnErr, Ok};
+ghost use Rattle.std.specs.Prelude.{◌≡◌, ℕ, ◌<◌, ◌≤◌, List, [], Some, length, min, take, drop, vec_len, vec_capacity, is_err, IfOk, OnErr, Ok};
 ghost use Rattle.std.specs.Io.{ReadsAtMost, WritesAtMost};
 ghost use Rattle.std.specs.Io.KnownBytes.{ReadConsumes, WriteAppends};
-ghost use Rattle.flux_base.specs.Outside.{Rose};
+ghost use Rattle.flux_base.specs.Outside.{Rose, IsCounted};
 ghost use Rattle.flux_base.specs.Memory.{SourceState, SinkState, read_of, source_after, write_of, sink_after};
 
 use crate::outside::{Failed, Memory, Sink, Source};
@@ -74,11 +74,14 @@ impl Source for MemorySource {
 
     ghost faults = { λ s. s.faults };
 
+    ghost failed = { λ s. Some s.faults };
+
     fn read(&mut self, buffer: &mut [u8]) -> Result<usize, Failed>
         ensures bound { ReadsAtMost result buffer.new }
         ensures bytes { ReadConsumes (Some self.old.left) (Some self.new.left) result buffer.new }
         ensures later { self.old.faults ≤ self.new.faults }
         ensures cause { OnErr result (Rose self.old.faults self.new.faults) }
+        ensures counted { IsCounted (is_err result) (Some self.old.faults) (Some self.new.faults) }
         ensures answer { result ≡ read_of self.old (length buffer.old) }
         ensures after { self.new ≡ source_after self.old (length buffer.old) }
     {
@@ -123,6 +126,8 @@ impl Source for PlainSource {
     ghost left = { λ s. Some s };
 
     ghost faults = { λ _. 0 };
+
+    ghost failed = { λ _. Some 0 };
 
     fn read(&mut self, buffer: &mut [u8]) -> Result<usize, Failed>
         ensures bound { ReadsAtMost result buffer.new }
@@ -188,12 +193,15 @@ impl Sink for MemorySink {
 
     ghost faults = { λ s. s.faults };
 
+    ghost failed = { λ s. Some s.faults };
+
     fn write(&mut self, piece: &[u8]) -> Result<usize, Failed>
         ensures bound { WritesAtMost result piece.now }
         ensures progress { IfOk result (λ n. 0 < length piece.now → 0 < n) }
         ensures bytes { WriteAppends (Some self.old.written) (Some self.new.written) result piece.now }
         ensures later { self.old.faults ≤ self.new.faults }
         ensures cause { OnErr result (Rose self.old.faults self.new.faults) }
+        ensures counted { IsCounted (is_err result) (Some self.old.faults) (Some self.new.faults) }
         ensures answer { result ≡ write_of self.old piece.now }
         ensures after { self.new ≡ sink_after self.old piece.now }
     {
@@ -226,6 +234,8 @@ impl CountingSink {
 
 impl Sink for CountingSink {
     ghost faults = { λ _. 0 };
+
+    ghost failed = { λ _. Some 0 };
 
     fn write(&mut self, piece: &[u8]) -> Result<usize, Failed>
         ensures whole { result ≡ Ok (length piece.now) }

@@ -1,8 +1,8 @@
-ghost use Rattle.std.specs.Prelude.{ℕ, ◌<◌, ◌≤◌, List, None, length, IfOk, OnErr, Option};
+ghost use Rattle.std.specs.Prelude.{ℕ, is_err, ◌<◌, ◌≤◌, List, None, length, IfOk, OnErr, Option};
 ghost use Rattle.std.specs.Io.{ReadsAtMost, WritesAtMost};
 ghost use Rattle.std.specs.Io.KnownBytes.{ReadConsumes, WriteAppends};
 ghost use Rattle.flux_base.specs.Moments.{Puts, moment};
-ghost use Rattle.flux_base.specs.Outside.{Rose, GivesPiece};
+ghost use Rattle.flux_base.specs.Outside.{Rose, GivesPiece, IsCounted};
 
 use std::alloc::{AllocError, AllocFailed};
 
@@ -34,6 +34,9 @@ pub trait Source {
     /// How often the object has failed.
     ghost faults: { Self → ℕ };
 
+    /// How many calls have failed, where the object tells it.
+    ghost failed: { Self → Option ℕ } = { λ _. None };
+
     /// What each read so far gave, as long as the object tells it: nothing at the end, and after `Failed`.
     ghost given: { Self → Option (List (List ℕ)) } = { λ _. None };
 
@@ -46,7 +49,10 @@ pub trait Source {
         ensures bytes { ReadConsumes (left self.old) (left self.new) result buffer.new }
         ensures piece { GivesPiece (given self.old) (given self.new) result buffer.new }
         ensures later { faults self.old ≤ faults self.new }
-        ensures cause { OnErr result (Rose (faults self.old) (faults self.new)) };
+        ensures cause { OnErr result (Rose (faults self.old) (faults self.new)) }
+
+        // A call that fails is one failed call, and no other is.
+        ensures counted { IsCounted (is_err result) (failed self.old) (failed self.new) };
 }
 
 /// Where bytes go.
@@ -57,6 +63,9 @@ pub trait Sink {
     /// How often the object has failed.
     ghost faults: { Self → ℕ };
 
+    /// How many calls have failed, where the object tells it.
+    ghost failed: { Self → Option ℕ } = { λ _. None };
+
     /// Takes some bytes of the piece's front and says how many: at least one of a piece that is not empty.
     fn write(&mut self, piece: &[u8]) -> Result<usize, Failed>
         ensures bound { WritesAtMost result piece.now }
@@ -65,13 +74,16 @@ pub trait Sink {
         // The bytes taken stand after those taken before. After `Failed` none was taken.
         ensures bytes { WriteAppends (written self.old) (written self.new) result piece.now }
         ensures later { faults self.old ≤ faults self.new }
-        ensures cause { OnErr result (Rose (faults self.old) (faults self.new)) };
+        ensures cause { OnErr result (Rose (faults self.old) (faults self.new)) }
+
+        // A call that fails is one failed call, and no other is.
+        ensures counted { IsCounted (is_err result) (failed self.old) (failed self.new) };
 }
 
 /// Writes until the whole piece is taken. After `Failed` a prefix of the piece was taken that is shorter
 /// than the piece.
 pub fn write_whole<W: Sink>(sink: &mut W, piece: &[u8]) -> Result<(), Failed>
-    ensures { Puts (moment W.written W.faults sink.old) (moment W.written W.faults sink.new) piece.now result }
+    ensures { Puts (moment W.written W.faults W.failed sink.old) (moment W.written W.faults W.failed sink.new) piece.now result }
 {
     let mut rest = piece;
     while !rest.is_empty() {

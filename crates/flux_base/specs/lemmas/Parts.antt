@@ -1,10 +1,11 @@
 -- Laws of bytes that are written in several pieces, for proofs about callers of `write_whole`.
-use Rattle.std.proofs.Common.{ℕ, ◌+◌, ◌≤◌, ◌<◌, List, ◌++◌, length, take, Option, Result, Ok, Err, arith, sym, subst, length-append}
+use Rattle.std.proofs.Common.{ℕ, true, false, ◌+◌, ◌≤◌, ◌<◌, List, ◌++◌, length, take, Option, Result, Ok, Err, arith, sym, subst, length-append}
 use Rattle.std.proofs.lemmas.List.{take-append-le}
 use Rattle.std.proofs.Math.Seq.{take-append-add}
 use Rattle.std.proofs.KnownBytes.{Appends-trans}
 use Rattle.std.specs.Io.KnownBytes.{Appends}
 use Rattle.flux_base.specs.Moments.{Moment, Puts}
+use Rattle.flux_base.specs.lemmas.Counting.{Counts-then}
 use Rattle.flux_base.specs.Outside.{AppendsPart}
 use Rattle.flux_base.specs.declared.outside.Failed.{Failed}
 
@@ -28,14 +29,12 @@ pub Puts-then : {A T U : Type 0} {old mid new : Moment A} {first rest : List ℕ
 Puts-then {old = old} {mid = mid} {new = new} {first = first} {rest = rest} (Ok v) p q = record {
   ok = Appends-trans old.bytes mid.bytes new.bytes first rest p.ok q.ok;
   err = tt;
-  later = omega (arith, p.later, q.later);
-  cause = tt;
+  counts = Counts-then false p.counts q.counts;
 }
 Puts-then {old = old} {mid = mid} {new = new} {first = first} {rest = rest} (Err failed) p q = record {
   ok = tt;
   err = AppendsPart-second old.bytes mid.bytes new.bytes first rest p.ok q.err;
-  later = omega (arith, p.later, q.later);
-  cause = omega (arith, p.later, q.cause);
+  counts = Counts-then true p.counts q.counts;
 }
 
 -- a part of some bytes is a part of more
@@ -44,6 +43,5 @@ pub Puts-cut : {A T U : Type 0} {old new : Moment A} {first : List ℕ} {failed 
 Puts-cut {old = old} {new = new} {first = first} rest p = record {
   ok = tt;
   err = AppendsPart-first old.bytes new.bytes first rest p.err;
-  later = p.later;
-  cause = p.cause;
+  counts = p.counts;
 }
