@@ -7,6 +7,7 @@ use Rattle.std.specs.Prelude.{All, ◌^◌}
 use Rattle.std.specs.Io.KnownBytes.{Consumes, IsAtEnd}
 use Rattle.flux_base.specs.declared.outside.Failed.{Failed}
 use Rattle.index_turns.specs.Track.{TrackState, KeepsRoom}
+use Rattle.flux_base.specs.Counts.{FaultCounts, Counts}
 use Rattle.kryo_stream.specs.declared.block.Block.{Block}
 use Rattle.kryo_stream.specs.declared.block.Block.TheVariants.{Flux, Overflow, Nop, StreamInfo, Index, StreamEnd, Info, End}
 use Rattle.kryo_stream.specs.declared.block.SpelledBlock.{SpelledBlock}
@@ -18,7 +19,7 @@ use Rattle.kryo_stream.specs.declared.fault.TrackFault.TheVariants.{ReadFault, M
 use Rattle.kryo_stream.specs.Bench.{BenchState, IsNoted, IsComplete, TurnCause, HasFullBench, KeepsBenchRoom, IsSized}
 use Rattle.kryo_stream.specs.Pieces.{BlockOrFault, piece_at}
 use Rattle.kryo_stream.specs.Stream.{total_bytes, ticks, marks, index_time, block_of_byte, is_in_stream, in_stream_bytes, block_ticks, pieces, is_end, turn_fault, indexes_of}
-use Rattle.kryo_stream.specs.Outcome.{Answer, Says, IsTruncated, IsCut, IsRead, IsReadOfInput, DoNotTell, input_of, HasFullRoom, IsSmall, IsNotMemory, TrackCause}
+use Rattle.kryo_stream.specs.Outcome.{Answer, Says, IsTruncated, IsCut, IsRead, IsReadOfInput, DoNotTell, input_of, HasFullRoom, IsSmall, IsNotMemory, is_read_fault}
 use Rattle.kryo_stream.specs.Tally.{at_start, behind, new_times, IsWithin, MayFollow, IsTally}
 use Rattle.kryo_stream.specs.Reads.{SourceMoment, Takes}
 use Rattle.kryo_stream.specs.Progress.{TakesOpenly, IsReading, ReadsOn, Progress, IsBlockOpen, TakesBlock}
@@ -324,14 +325,14 @@ end_finds_room {held = held} {n = n} {p = p} (Err Memory) spare e room err =
     absurd (omega (arith, many, few, room, e.complete.limit))
 
 -- no source is read for the turns
-pub end_cause : {old new : SourceMoment} {held next : List ℕ} {n : ℕ} {b : Before} {ts : List ℕ} {bench bench' : BenchState} {p : SpelledBlock} {transitions : List ℕ}
-    (before now : ℕ) (answer : Answer) (spare : ℕ) → AtEnd old new held next n b ts bench bench' p transitions
+pub end_counts : {old new : SourceMoment} {held next : List ℕ} {n : ℕ} {b : Before} {ts : List ℕ} {bench bench' : BenchState} {p : SpelledBlock} {transitions : List ℕ}
+    {before now : FaultCounts} (answer : Answer) (spare : ℕ) → AtEnd old new held next n b ts bench bench' p transitions
     → IfErr answer (λ fault. (ps : List SpelledBlock) → IsComplete ps bench' transitions b.counted n → TurnCause ps spare fault)
-    → TrackCause before now answer
-end_cause before now (Ok _) spare e err = tt
-end_cause before now (Err (Refused _ _)) spare e err = tt
-end_cause before now (Err Memory) spare e err = tt
-end_cause {held = held} {n = n} {p = p} before now (Err ReadFault) spare e err =
+    → Counts false before now → Counts (is_read_fault answer) before now
+end_counts (Ok _) spare e err counts = counts
+end_counts (Err (Refused _ _)) spare e err counts = counts
+end_counts (Err Memory) spare e err counts = counts
+end_counts {held = held} {n = n} {p = p} (Err ReadFault) spare e err counts =
     absurd (err (pieces (held ++ e.progress.taken) n ++ p ∷ []) e.complete)
 
 index_times-within : (ps : List SpelledBlock) → All IsSized ps → ticks ps ≤ 274877906944 → All (λ time. time < 2 ^ 39) (indexes_of ps)

@@ -1,8 +1,9 @@
 -- What reading one track may answer, and what that says of the input.
-use Rattle.std.specs.Prelude.{◌≡◌, ◌≤◌, ◌<◌, ◌^◌, All, ◌+◌, ◌++◌, ℕ, Bool, if◌then◌else◌, List, [], length, take, drop, Option, Some, None, Result, Ok, Err}
+use Rattle.std.specs.Prelude.{◌≡◌, ◌≤◌, ◌<◌, ◌^◌, All, ◌+◌, ◌++◌, ℕ, Bool, true, false, if◌then◌else◌, List, [], length, take, drop, Option, Some, None, Result, Ok, Err}
 use Rattle.std.specs.List.{concat}
 use Rattle.std.specs.Io.KnownBytes.{Consumes, IsAtEnd}
-use Rattle.flux_base.specs.Outside.{Gives, Rose}
+use Rattle.flux_base.specs.Counts.{RoseIf}
+use Rattle.flux_base.specs.Outside.{Gives}
 use Rattle.index_turns.specs.Track.{TrackState, room_of_times, room_of_indexes}
 use Rattle.kryo_stream.specs.declared.fault.StreamFault.TheVariants.{Truncated}
 use Rattle.kryo_stream.specs.declared.fault.TrackFault.{TrackFault}
@@ -76,10 +77,14 @@ abbrev pub IsReadOfInput : List ℕ → Option (List ℕ) → List ℕ → Track
 IsReadOfInput input left' held' flux answer =
     (stays : List ℕ) × (left' ≡ Some stays) × Says answer input flux (held' ++ stays)
 
--- when an answer may come
+-- the answer is that the source failed
+abbrev pub is_read_fault : Answer → Bool
+is_read_fault (Err ReadFault) = true
+is_read_fault _ = false
+
+-- when an answer may come: that the source failed, where its count rose
 abbrev pub TrackCause : ℕ → ℕ → Answer → Type 0
-TrackCause before now (Err ReadFault) = Rose before now
-TrackCause before now _ = Unit {0}
+TrackCause before now answer = RoseIf (is_read_fault answer) before now
 
 -- what a stream's limit makes of its times: a block has at most 65536 ticks a byte, and a sample counter 32 bits
 pub record IsSmall (flux : TrackState) : Type 0 where

@@ -1,6 +1,7 @@
-ghost use Rattle.std.specs.Prelude.{◌≡◌, ℕ, ◌+◌, ◌-◌, ◌≤◌, ◌<◌, [], length, take, drop, false, true, IfOk, OnErr};
+ghost use Rattle.std.specs.Prelude.{◌≡◌, ℕ, ◌+◌, ◌-◌, ◌≤◌, ◌<◌, [], length, take, drop, false, true, is_err, IfOk, OnErr};
 ghost use Rattle.std.specs.Io.KnownBytes.{ReadConsumes};
-ghost use Rattle.flux_base.specs.Outside.{GivesPiece, Rose};
+ghost use Rattle.flux_base.specs.Counts.{Counts, counts_of};
+ghost use Rattle.flux_base.specs.Outside.{GivesPiece};
 
 use flux_base::{Failed, Memory, Source};
 use std::alloc::Global;
@@ -106,8 +107,7 @@ impl Intake {
         ensures kept { OnErr result (self.new.held ≡ self.old.held) }
         ensures bound { length self.new.held ≤ 4096 }
         ensures used { self.new.used ≡ self.old.used }
-        ensures later { S.faults source.old ≤ S.faults source.new }
-        ensures cause { OnErr result (Rose (S.faults source.old) (S.faults source.new)) }
+        ensures counts { Counts (is_err result) (counts_of S.faults S.failed source.old) (counts_of S.faults S.failed source.new) }
     {
         let held = self.end - self.start;
         let outcome = take_more(&mut self.buffer, self.start, self.end, source);
@@ -137,8 +137,7 @@ fn take_more<S: Source>(
     ensures front { take (end - start) buffer.new ≡ take (end - start) (drop start buffer.old) }
     ensures bytes { ReadConsumes (S.left source.old) (S.left source.new) result (drop (end - start) buffer.new) }
     ensures piece { GivesPiece (S.given source.old) (S.given source.new) result (drop (end - start) buffer.new) }
-    ensures later { S.faults source.old ≤ S.faults source.new }
-    ensures cause { OnErr result (Rose (S.faults source.old) (S.faults source.new)) }
+    ensures counts { Counts (is_err result) (counts_of S.faults S.failed source.old) (counts_of S.faults S.failed source.new) }
 {
     buffer.copy_within(start..end, 0);
     source.read(&mut buffer[end - start..])

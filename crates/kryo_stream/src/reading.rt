@@ -1,11 +1,11 @@
-ghost use Rattle.std.specs.Prelude.{◌≡◌, ℕ, List, ◌+◌, ◌^◌, ◌≤◌, ◌<◌, ◌++◌, [], ◌∷◌, length, Some, All, IfOk, OnOk, OnErr, IsOk, Err, true, false};
+ghost use Rattle.std.specs.Prelude.{◌≡◌, ℕ, List, ◌+◌, ◌^◌, ◌≤◌, ◌<◌, ◌++◌, [], ◌∷◌, length, Some, All, is_err, IfOk, OnOk, OnErr, IsOk, Err, true, false};
 ghost use Rattle.std.specs.Io.KnownBytes.{IsAtEnd};
-ghost use Rattle.flux_base.specs.Outside.{Rose};
+ghost use Rattle.flux_base.specs.Counts.{Counts, counts_of};
 ghost use Rattle.index_turns.specs.Track.{KeepsRoom};
 ghost use Rattle.kryo_stream.specs.declared.fault.StreamFault.TheVariants.{Truncated};
 ghost use Rattle.kryo_stream.specs.Bench.{HasFullBench, KeepsBenchRoom, IsNoted, IsSized};
 ghost use Rattle.kryo_stream.specs.Held.{Took};
-ghost use Rattle.kryo_stream.specs.Outcome.{IsRead, IsReadOfInput, IsReadWhereNeeded, IsNotMemory, TrackCause, HasFullRoom, IsSmall, input_of};
+ghost use Rattle.kryo_stream.specs.Outcome.{IsRead, IsReadOfInput, IsReadWhereNeeded, IsNotMemory, TrackCause, is_read_fault, HasFullRoom, IsSmall, input_of};
 ghost use Rattle.kryo_stream.specs.Pieces.{piece_at, IsText};
 ghost use Rattle.kryo_stream.specs.Progress.{TakesOpenly, IsReading, ReadsOn, IsBlockOpen, TakesBlock, IsSkipped, IsUnpadded};
 ghost use Rattle.kryo_stream.specs.Reads.{source_at};
@@ -60,6 +60,7 @@ pub fn read_track<S: Source>(
 
     ensures later { S.faults source.old ≤ S.faults source.new }
     ensures cause { TrackCause (S.faults source.old) (S.faults source.new) result }
+    ensures counts { Counts (is_read_fault result) (counts_of S.faults S.failed source.old) (counts_of S.faults S.failed source.new) }
 {
     flux.clear();
     match begin(source, intake) {
@@ -87,8 +88,7 @@ fn begin<S: Source>(source: &mut S, intake: &mut Intake) -> Result<More, Failed>
     ensures unpadded { IsUnpadded (source_at S.left S.given S.faults source.old) (source_at S.left S.given S.faults source.new) intake.old.used intake.old.held intake.new.held result }
     ensures used { intake.new.used ≡ true }
     ensures bound { length intake.new.held ≤ 4096 }
-    ensures later { S.faults source.old ≤ S.faults source.new }
-    ensures cause { OnErr result (Rose (S.faults source.old) (S.faults source.new)) }
+    ensures counts { Counts (is_err result) (counts_of S.faults S.failed source.old) (counts_of S.faults S.failed source.new) }
 {
     if !intake.is_used() {
         intake.begin();
@@ -102,8 +102,7 @@ fn pass_padding<S: Source>(source: &mut S, intake: &mut Intake) -> Result<More, 
     ensures unpadded { IsUnpadded (source_at S.left S.given S.faults source.old) (source_at S.left S.given S.faults source.new) true intake.old.held intake.new.held result }
     ensures used { intake.new.used ≡ intake.old.used }
     ensures bound { length intake.new.held ≤ 4096 }
-    ensures later { S.faults source.old ≤ S.faults source.new }
-    ensures cause { OnErr result (Rose (S.faults source.old) (S.faults source.new)) }
+    ensures counts { Counts (is_err result) (counts_of S.faults S.failed source.old) (counts_of S.faults S.failed source.new) }
 {
     loop {
         match padding_at_hand(intake.bytes()) {
@@ -139,8 +138,7 @@ fn read_stream<S: Source>(
     ensures room { KeepsRoom flux.old flux.new }
     ensures bench { KeepsBenchRoom bench.old bench.new }
     ensures memory { HasFullRoom flux.old → HasFullBench bench.old → IsNotMemory result }
-    ensures later { S.faults source.old ≤ S.faults source.new }
-    ensures cause { TrackCause (S.faults source.old) (S.faults source.new) result }
+    ensures counts { Counts (is_read_fault result) (counts_of S.faults S.failed source.old) (counts_of S.faults S.failed source.new) }
 {
     bench.clear();
     let mut before = Before::start();
@@ -289,8 +287,7 @@ fn take_block<S: Source>(
     ensures sized { IfOk result (λ reading. IfOk reading IsSized) }
     ensures bound { length intake.new.held ≤ 4096 }
     ensures used { intake.new.used ≡ intake.old.used }
-    ensures later { S.faults source.old ≤ S.faults source.new }
-    ensures cause { OnErr result (Rose (S.faults source.old) (S.faults source.new)) }
+    ensures counts { Counts (is_err result) (counts_of S.faults S.failed source.old) (counts_of S.faults S.failed source.new) }
 {
     let reading = match next_block(source, intake, before) {
         Ok(reading) => reading,
@@ -321,8 +318,7 @@ fn take_text<S: Source>(
     ensures sized { IfOk result (λ reading. IfOk reading IsSized) }
     ensures bound { length intake.new.held ≤ 4096 }
     ensures used { intake.new.used ≡ intake.old.used }
-    ensures later { S.faults source.old ≤ S.faults source.new }
-    ensures cause { OnErr result (Rose (S.faults source.old) (S.faults source.new)) }
+    ensures counts { Counts (is_err result) (counts_of S.faults S.failed source.old) (counts_of S.faults S.failed source.new) }
 {
     let size = match text_size(before, intake.bytes()) {
         Some(size) => size,
@@ -345,8 +341,7 @@ fn skip<S: Source>(source: &mut S, intake: &mut Intake, count: usize) -> Result<
     ensures skipped { IsSkipped (source_at S.left S.given S.faults source.old) (source_at S.left S.given S.faults source.new) intake.old.held intake.new.held count result }
     ensures bound { length intake.new.held ≤ 4096 }
     ensures used { intake.new.used ≡ intake.old.used }
-    ensures later { S.faults source.old ≤ S.faults source.new }
-    ensures cause { OnErr result (Rose (S.faults source.old) (S.faults source.new)) }
+    ensures counts { Counts (is_err result) (counts_of S.faults S.failed source.old) (counts_of S.faults S.failed source.new) }
 {
     let mut rest = count;
     loop {
@@ -380,8 +375,7 @@ fn next_block<S: Source>(
     ensures ended { IfOk result (λ reading. reading ≡ Err Truncated → ((size : ℕ) → IsText before.now.offset intake.new.held size → ⊥) → IsAtEnd (S.left source.new)) }
     ensures failed { OnErr result (piece_at before.now.offset before.now.counted before.now.ended intake.new.held ≡ Err Truncated) }
     ensures used { intake.new.used ≡ intake.old.used }
-    ensures later { S.faults source.old ≤ S.faults source.new }
-    ensures cause { OnErr result (Rose (S.faults source.old) (S.faults source.new)) }
+    ensures counts { Counts (is_err result) (counts_of S.faults S.failed source.old) (counts_of S.faults S.failed source.new) }
 {
     loop {
         match front(before, intake.bytes()) {

@@ -1,5 +1,6 @@
 ghost use Rattle.std.specs.Prelude.{◌≡◌, ◌≤◌, ◌++◌, ℕ, List, [], length, Some, true, IfOk, OnErr};
-ghost use Rattle.kryo_stream.specs.Outcome.{IsRead, IsReadOfInput, IsReadWhereNeeded, IsSmall, TrackCause, input_of};
+ghost use Rattle.flux_base.specs.Counts.{Counts, counts_of};
+ghost use Rattle.kryo_stream.specs.Outcome.{IsRead, IsReadOfInput, IsReadWhereNeeded, IsSmall, TrackCause, is_read_fault, input_of};
 ghost use Rattle.kryo_stream.specs.Reads.{source_at};
 
 use crate::bench::{MOST_INDEXES, MOST_TIMES, StreamBench};
@@ -75,6 +76,7 @@ impl StreamRoom {
         ensures no_indexes { OnErr result (self.new.flux.indexes ≡ []) }
         ensures later { S.faults source.old ≤ S.faults source.new }
         ensures cause { TrackCause (S.faults source.old) (S.faults source.new) (track_answer result) }
+        ensures counts { Counts (is_read_fault (track_answer result)) (counts_of S.faults S.failed source.old) (counts_of S.faults S.failed source.new) }
     {
         match read_track(source, &mut self.intake, &mut self.flux, &mut self.bench) {
             Ok(()) => Ok(()),

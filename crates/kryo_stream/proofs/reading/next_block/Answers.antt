@@ -1,4 +1,5 @@
 use Rattle.std.proofs.Common.{◌≡◌, ◌<◌, ◌∙◌, ap, sym, subst, arith, length, List, ℕ, Err}
+use Rattle.flux_base.specs.lemmas.Counting.{Counts-then}
 use Rattle.kryo_stream.specs.declared.fault.StreamFault.TheVariants.{Truncated}
 use Rattle.kryo_stream.specs.Pieces.{IsText, piece_at}
 use Rattle.kryo_stream.specs.Progress.{IsBlockOpen}
@@ -34,7 +35,7 @@ loop-reading-preserved g c =
     record {
       took = Took-more c.loop-reading.invariant.took c.more.ensures.took untold;
       used = c.more.ensures.used ∙ c.loop-reading.invariant.used;
-      later = omega (arith, c.loop-reading.invariant.later, c.more.ensures.later);
+      counts = Counts-then _ c.loop-reading.invariant.counts c.in-Ok-Taken.ensures.counts;
     }
 
 pub returns-in-Ok-End-clause-took : goal.returns-in-Ok-End-clause-took

@@ -1,4 +1,5 @@
 use Rattle.std.proofs.Common.{◌≡◌, ◌≤◌, ◌++◌, true, ◌∙◌, ap, sym, subst, arith, length, Ok}
+use Rattle.flux_base.specs.lemmas.Counting.{Counts-then}
 use Rattle.kryo_stream.specs.declared.intake.More.TheVariants.{Taken}
 use Rattle.kryo_stream.specs.Padding.{padding_of}
 use Rattle.kryo_stream.specs.Progress.{IsUnpadded}
@@ -22,7 +23,7 @@ loop-count-preserved g c =
     record {
       took = Took-more c.loop-count.invariant.took c.more.ensures.took untold;
       used = c.more.ensures.used ∙ c.loop-count.invariant.used;
-      later = omega (arith, c.loop-count.invariant.later, c.more.ensures.later);
+      counts = Counts-then _ c.loop-count.invariant.counts c.in-Ok-Taken.ensures.counts;
     }
 
 pub returns-in-Ok-End-clause-unpadded : goal.returns-in-Ok-End-clause-unpadded

@@ -1,6 +1,7 @@
 use Rattle.std.proofs.Common.{◌≡◌, ◌∙◌, ◌++◌, ap, arith, refl, false, true, Ok, length}
+use Rattle.flux_base.specs.lemmas.Counting.{Counts-then, Counts-none}
 use Rattle.kryo_stream.proofs.Pieces.{piece_at-follows}
-use Rattle.kryo_stream.proofs.Answering.{Progress-start, Progress-on, Progress-push, run_memory, taken_for_block, read_refused, read_failed, read_memory, at_end, complete, read_end, not_end, note_finds_room, end_finds_room, end_cause, end_small}
+use Rattle.kryo_stream.proofs.Answering.{Progress-start, Progress-on, Progress-push, run_memory, taken_for_block, read_refused, read_failed, read_memory, at_end, complete, read_end, not_end, note_finds_room, end_finds_room, end_counts, end_small}
 use Rattle.kryo_stream.proofs.Runs.{still_full_room, still_full_bench, keeps_room_both, keeps_bench_both}
 use Rattle.kryo_stream.proofs.reading.read_stream.Goals as goal
 
@@ -13,7 +14,7 @@ loop-init g c = record {
   used = refl;
   room = record { times = omega arith; indexes = omega arith };
   bench = c.clear.ensures.room;
-  later = omega arith;
+  counts = Counts-none _;
 }
 
 pub returns-in-Ok-Err-clause-read : goal.returns-in-Ok-Err-clause-read
@@ -61,12 +62,15 @@ returns-in-End-clause-memory g c = λ full full_bench.
     (at_end c.in-Ok-Ok.piece c.note.new.flux.times (Progress-on c.in-Ok.count c.loop.invariant.progress c.in-Ok.ensures.reading) takes c.in-End.is c.in-Ok-note.ensures.noted c.in-Ok-note.ensures.times)
     (omega (arith, none, full.indexes, c.loop.invariant.room.indexes, c.pass_in_stream.ensures.room.indexes, c.note.ensures.room.indexes)) c.resolve.ensures.cause
 
-pub returns-in-End-clause-cause : goal.returns-in-End-clause-cause
-returns-in-End-clause-cause g c =
+pub returns-in-End-clause-counts : goal.returns-in-End-clause-counts
+returns-in-End-clause-counts g c =
     let takes = rw c.in-Ok-Ok.field-0-is at c.in-Ok-Ok.ensures.takes in
-    end_cause _ _ c.resolve.result c.note.new.flux.spare_indexes
+    end_counts c.resolve.result c.note.new.flux.spare_indexes
     (at_end c.in-Ok-Ok.piece c.note.new.flux.times (Progress-on c.in-Ok.count c.loop.invariant.progress c.in-Ok.ensures.reading) takes c.in-End.is c.in-Ok-note.ensures.noted c.in-Ok-note.ensures.times)
-    c.resolve.ensures.cause
+    c.resolve.ensures.cause (Counts-then _ c.loop.invariant.counts c.in-Ok-Ok.ensures.counts)
+
+pub returns-in-Err-take_block-clause-counts : goal.returns-in-Err-take_block-clause-counts
+returns-in-Err-take_block-clause-counts g c = Counts-then _ c.loop.invariant.counts c.in-Err-take_block.ensures.counts
 
 pub returns-in-End-clause-small : goal.returns-in-End-clause-small
 returns-in-End-clause-small g c =
@@ -94,7 +98,7 @@ loop-preserved g c =
       used = c.take_block.ensures.used ∙ c.pass_in_stream.ensures.used ∙ c.loop.invariant.used;
       room = keeps_room_both (keeps_room_both c.loop.invariant.room c.pass_in_stream.ensures.room) c.note.ensures.room;
       bench = keeps_bench_both (keeps_bench_both c.loop.invariant.bench c.pass_in_stream.ensures.bench) c.note.ensures.bench;
-      later = omega (arith, c.loop.invariant.later, c.take_block.ensures.later);
+      counts = Counts-then _ c.loop.invariant.counts c.in-Ok-Ok.ensures.counts;
     }
 
 pub returns-in-Ok-Err-clause-takes : goal.returns-in-Ok-Err-clause-takes

@@ -1,7 +1,8 @@
-use Rattle.std.proofs.Common.{◌≡◌, ◌≤◌, [], length}
+use Rattle.std.proofs.Common.{false, ◌≡◌, ◌≤◌, [], length}
 use Rattle.index_turns.specs.Track.{KeepsRoom}
 use Rattle.kryo_stream.specs.Bench.{KeepsBenchRoom}
 use Rattle.kryo_stream.specs.Progress.{Progress}
+use Rattle.flux_base.specs.Counts.{Counts, counts_of}
 use Rattle.kryo_stream.specs.Reads.{source_at}
 use Rattle.kryo_stream.proofs.reading.read_stream.Given as goal
 
@@ -15,5 +16,5 @@ invariant-loop g l = record {
   used : l.intake.used ≡ l.initial.intake.used;
   room : KeepsRoom l.initial.flux l.flux;
   bench : KeepsBenchRoom l.fn.bench l.bench;
-  later : g.S.Source.faults l.initial.source ≤ g.S.Source.faults l.source;
+  counts : Counts false (counts_of g.S.Source.faults g.S.Source.failed l.initial.source) (counts_of g.S.Source.faults g.S.Source.failed l.source);
 }

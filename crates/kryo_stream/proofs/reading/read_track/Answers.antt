@@ -1,4 +1,5 @@
 use Rattle.std.proofs.Common.{Ok, Err}
+use Rattle.flux_base.specs.lemmas.Counting.{Counts-then}
 use Rattle.kryo_stream.specs.declared.fault.StreamFault.TheVariants.{Truncated}
 use Rattle.kryo_stream.specs.declared.fault.TrackFault.TheVariants.{Refused}
 use Rattle.kryo_stream.proofs.Answering.{IsRead-told, IsRead-fault}
@@ -57,3 +58,12 @@ pub returns-in-Err-read_stream-clause-needed : goal.returns-in-Err-read_stream-c
 returns-in-Err-read_stream-clause-needed g c =
     let unpadded = rw c.in-Ok-Taken.field-0-is at c.in-Ok-Taken.ensures.unpadded in
     taken_behind unpadded c.read_stream.ensures.takes.1
+
+pub returns-in-Ok-clause-counts : goal.returns-in-Ok-clause-counts
+returns-in-Ok-clause-counts g c = Counts-then _ c.in-Ok-Taken.ensures.counts c.in-Ok.ensures.counts
+
+pub returns-in-Err-read_stream-clause-counts : goal.returns-in-Err-read_stream-clause-counts
+returns-in-Err-read_stream-clause-counts g c = Counts-then _ c.in-Ok-Taken.ensures.counts c.in-Err-read_stream.ensures.counts
+
+pub returns-in-Err-read_stream-clause-cause : goal.returns-in-Err-read_stream-clause-cause
+returns-in-Err-read_stream-clause-cause g c = (Counts-then _ c.in-Ok-Taken.ensures.counts c.in-Err-read_stream.ensures.counts).cause

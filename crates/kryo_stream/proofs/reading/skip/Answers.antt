@@ -1,4 +1,5 @@
 use Rattle.std.proofs.Common.{◌≡◌, ◌≤◌, ◌<◌, ◌-◌, ◌∙◌, ap, arith, length, length-drop}
+use Rattle.flux_base.specs.lemmas.Counting.{Counts-then}
 use Rattle.kryo_stream.proofs.Skipping.{IsPassing-on, skipped_to_end, skipped_to_failure}
 use Rattle.kryo_stream.proofs.reading.skip.Goals as goal
 
@@ -15,7 +16,7 @@ loop-rest-preserved g c =
       passing = passing;
       within = omega (arith, within);
       used = c.more.ensures.used ∙ ap (λ i. i.used) c.pass.ensures ∙ c.loop-rest.invariant.used;
-      later = omega (arith, c.loop-rest.invariant.later, c.more.ensures.later);
+      counts = Counts-then _ c.loop-rest.invariant.counts c.in-Ok-Taken.ensures.counts;
     }
 
 pub returns-in-Ok-End-clause-skipped : goal.returns-in-Ok-End-clause-skipped

@@ -1,4 +1,5 @@
 use Rattle.std.proofs.Common.{◌∙◌, sym}
+use Rattle.flux_base.specs.lemmas.Counting.{Counts-then}
 use Rattle.kryo_stream.proofs.Pieces.{piece_at-follows}
 use Rattle.kryo_stream.proofs.Skipping.{took_before}
 use Rattle.kryo_stream.proofs.reading.take_block.Goals as goal
@@ -10,3 +11,6 @@ pass-requires g c =
 pub returns-in-Err-Truncated-clause-takes : goal.returns-in-Err-Truncated-clause-takes
 returns-in-Err-Truncated-clause-takes g c =
     took_before c.args.before.now c.take_text.result c.in-Ok.ensures.took c.take_text.ensures.takes
+
+pub returns-in-Err-Truncated-clause-counts : goal.returns-in-Err-Truncated-clause-counts
+returns-in-Err-Truncated-clause-counts g c = Counts-then _ c.in-Ok.ensures.counts c.take_text.ensures.counts

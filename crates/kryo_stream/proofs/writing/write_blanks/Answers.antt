@@ -1,8 +1,9 @@
-use Rattle.std.proofs.Common.{◌≡◌, ◌-◌, take, arith, rules, subst}
+use Rattle.std.proofs.Common.{◌≡◌, ◌-◌, take, arith, subst}
 use Rattle.std.proofs.lemmas.List.{take-replicate}
 use Rattle.std.proofs.Math.ListN.{replicate}
 use Rattle.std.specs.Io.KnownBytes.{Appends}
 use Rattle.flux_base.specs.Outside.{AppendsPart}
+use Rattle.flux_base.specs.lemmas.Counting.{Counts-then}
 use Rattle.kryo_stream.proofs.WritingLemmas.{Appends-more, AppendsPart-more}
 use Rattle.kryo_stream.proofs.writing.write_blanks.Goals as goal
 
@@ -14,7 +15,7 @@ loop-rest-preserved g c =
       within = omega arith;
       appended = Appends-more _ _ _ (c.args.count - c.loop-rest.rest) c.min-piece.result _ 32
           c.loop-rest.invariant.appended (subst (Appends (g.W.Sink.written c.loop-rest.sink) (g.W.Sink.written c.write_whole.new.sink)) piece c.in-Ok.ensures.ok) (omega arith);
-      later = omega (arith, c.write_whole.ensures.later);
+      counts = Counts-then _ c.loop-rest.invariant.counts c.in-Ok.ensures.counts;
     }
 
 pub returns-in-Err : goal.returns-in-Err
@@ -25,6 +26,5 @@ returns-in-Err g c =
       ok = tt;
       err = AppendsPart-more _ _ _ (c.args.count - c.loop-rest.rest) c.min-piece.result _ 32 c.loop-rest.invariant.appended
           (subst (AppendsPart (g.W.Sink.written c.loop-rest.sink) (g.W.Sink.written c.write_whole.new.sink)) piece c.in-Err.ensures.err) (omega arith);
-      later = search rules;
-      cause = search rules;
+      counts = Counts-then _ c.loop-rest.invariant.counts c.in-Err.ensures.counts;
     }
