@@ -1,10 +1,12 @@
 -- Bytes that are gathered in several steps.
-use Rattle.std.proofs.Common.{◌≡◌, ◌≤◌, ◌++◌, ℕ, List, [], Option, Result, Ok, Err, sym, ap, ◌∙◌, subst, arith, append_assoc, append-nil}
+use Rattle.std.proofs.Common.{◌≡◌, true, false, ◌++◌, ℕ, List, [], Option, Result, Ok, Err, sym, ap, ◌∙◌, subst, append_assoc, append-nil}
 use Rattle.std.specs.Io.KnownBytes.{Appends}
 use Rattle.std.proofs.KnownBytes.{Appends-nil, Appends-trans}
+use Rattle.flux_base.specs.Counts.{Counts}
 use Rattle.flux_base.specs.Moments.{Moment, Puts}
 use Rattle.flux_base.specs.Outside.{AppendsPart}
 use Rattle.flux_base.specs.declared.outside.Failed.{Failed}
+use Rattle.flux_base.specs.lemmas.Counting.{Counts-then}
 use Rattle.flux_base.specs.lemmas.Parts.{AppendsPart-first, AppendsPart-second}
 use Rattle.flux_writer.specs.inside.Gathering.{Gathers, Holds}
 
@@ -43,18 +45,16 @@ AppendsPart-longer a b held first then part =
 
 -- the sink is given all that is held at the end
 pub Gathers-given : {A T : Type 0} {old mid new : Moment A} {held held' more : List ℕ} (answer : Result T Failed)
-    → Gathers old.bytes mid.bytes held held' more → old.faults ≤ mid.faults → Puts mid new held' answer → Puts old new (held ++ more) answer
-Gathers-given {old = old} {mid = mid} {new = new} {held' = held'} (Ok v) g later p = record {
+    → Gathers old.bytes mid.bytes held held' more → Counts false old.counts mid.counts → Puts mid new held' answer → Puts old new (held ++ more) answer
+Gathers-given {old = old} {mid = mid} {new = new} {held' = held'} (Ok v) g counts p = record {
   ok = subst (Appends old.bytes new.bytes) (sym g.whole) (Appends-trans old.bytes mid.bytes new.bytes g.taken held' g.appended p.ok);
   err = tt;
-  later = omega (arith, later, p.later);
-  cause = tt;
+  counts = Counts-then false counts p.counts;
 }
-Gathers-given {old = old} {mid = mid} {new = new} {held' = held'} (Err failed) g later p = record {
+Gathers-given {old = old} {mid = mid} {new = new} {held' = held'} (Err failed) g counts p = record {
   ok = tt;
   err = subst (AppendsPart old.bytes new.bytes) (sym g.whole) (AppendsPart-second old.bytes mid.bytes new.bytes g.taken held' g.appended p.err);
-  later = omega (arith, later, p.later);
-  cause = omega (arith, later, p.cause);
+  counts = Counts-then true counts p.counts;
 }
 
 -- a call after one that was whole
@@ -63,14 +63,12 @@ pub Holds-then : {A T U : Type 0} {old mid new : Moment A} {held held' held'' fi
 Holds-then {old = old} {mid = mid} {new = new} {held = held} {held' = held'} {held'' = held''} {first = first} {rest = rest} (Ok v) p q = record {
   ok = Gathers-more old.bytes mid.bytes new.bytes held held' first rest p.ok held'' q.ok;
   err = tt;
-  later = omega (arith, p.later, q.later);
-  cause = tt;
+  counts = Counts-then false p.counts q.counts;
 }
 Holds-then {old = old} {mid = mid} {new = new} {held = held} {held' = held'} {first = first} {rest = rest} (Err failed) p q = record {
   ok = tt;
   err = Gathers-part old.bytes mid.bytes new.bytes held held' first rest p.ok q.err;
-  later = omega (arith, p.later, q.later);
-  cause = omega (arith, p.later, q.cause);
+  counts = Counts-then true p.counts q.counts;
 }
 
 -- a part of some bytes is a part of more
@@ -79,6 +77,5 @@ pub Holds-cut : {A T U : Type 0} {old new : Moment A} {held held' held'' first :
 Holds-cut {old = old} {new = new} {held = held} {first = first} rest p = record {
   ok = tt;
   err = AppendsPart-longer old.bytes new.bytes held first rest p.err;
-  later = p.later;
-  cause = p.cause;
+  counts = p.counts;
 }

@@ -39,7 +39,7 @@ impl OutputPiece {
     /// Puts bytes after those that are held, of which the sink is given all first where there is no room.
     pub(crate) fn put<W: Sink>(&mut self, bytes: &[u8], sink: &mut W) -> Result<(), Failed>
         requires { length bytes.now ≤ 4096 }
-        ensures { Holds (moment W.written W.faults sink.old) (moment W.written W.faults sink.new) self.old self.new
+        ensures { Holds (moment W.written W.faults W.failed sink.old) (moment W.written W.faults W.failed sink.new) self.old self.new
             bytes.now result }
     {
         if ROOM - self.filled < bytes.len() {
@@ -55,7 +55,7 @@ impl OutputPiece {
     /// Puts one byte after those that are held, as `put` does.
     #[inline]
     pub(crate) fn put_byte<W: Sink>(&mut self, byte: u8, sink: &mut W) -> Result<(), Failed>
-        ensures { Holds (moment W.written W.faults sink.old) (moment W.written W.faults sink.new) self.old self.new
+        ensures { Holds (moment W.written W.faults W.failed sink.old) (moment W.written W.faults W.failed sink.new) self.old self.new
             (byte ∷ []) result }
     {
         if self.filled == ROOM {
@@ -90,7 +90,7 @@ impl OutputPiece {
 
     /// Gives the sink all bytes that are held.
     pub(crate) fn give<W: Sink>(&mut self, sink: &mut W) -> Result<(), Failed>
-        ensures puts { Puts (moment W.written W.faults sink.old) (moment W.written W.faults sink.new) self.old result }
+        ensures puts { Puts (moment W.written W.faults W.failed sink.old) (moment W.written W.faults W.failed sink.new) self.old result }
         ensures empty { OnOk result (self.new ≡ []) }
     {
         let answer = write_whole(sink, &self.bytes[..self.filled]);

@@ -1,5 +1,6 @@
 use Rattle.std.proofs.Common.{◌≡◌, ◌+◌, ◌-◌, ◌++◌, ◌∷◌, [], ℕ, replicate, subst, ap, ◌∙◌, arith}
 use Rattle.std.proofs.lemmas.List.{replicate-append-replicate}
+use Rattle.flux_base.specs.lemmas.Counting.{Counts-then}
 use Rattle.flux_base.specs.Outside.{AppendsPart}
 use Rattle.flux_writer.specs.inside.Gathering.{Gathers}
 use Rattle.flux_writer.proofs.Gathered.{Gathers-more, Gathers-part, AppendsPart-longer}
@@ -9,7 +10,7 @@ pub loop-preserved : goal.loop-preserved
 loop-preserved g c = record {
   bytes = subst (Gathers _ _ _ _) (replicate-append-replicate c.loop.counter 1 11)
       (Gathers-more _ _ _ _ _ (replicate c.loop.counter 11) (11 ∷ []) c.loop.invariant.bytes _ c.in-Ok.ensures.ok);
-  later = omega (arith, c.loop.invariant.later, c.put_byte.ensures.later);
+  counts = Counts-then _ c.loop.invariant.counts c.in-Ok.ensures.counts;
 }
 
 pub returns-in-Err : goal.returns-in-Err
@@ -26,6 +27,5 @@ returns-in-Err g c =
       err = subst (λ bytes. AppendsPart start end (c.args.piece.now ++ bytes)) all
           (Gathers-part start before end c.args.piece.now c.loop.piece (replicate c.loop.counter 11) (11 ∷ [] ++ replicate rest 11) c.loop.invariant.bytes
           (AppendsPart-longer before end c.loop.piece (11 ∷ []) (replicate rest 11) c.in-Err.ensures.err));
-      later = omega (arith, c.loop.invariant.later, c.in-Err.ensures.later);
-      cause = omega (arith, c.loop.invariant.later, c.in-Err.ensures.cause);
+      counts = Counts-then _ c.loop.invariant.counts c.in-Err.ensures.counts;
     }

@@ -1,6 +1,7 @@
-use Rattle.std.proofs.Common.{[], ◌≤◌, ◌<◌, length, ap, ◌∙◌, subst, arith, rules}
+use Rattle.std.proofs.Common.{[], ◌≤◌, ◌<◌, length, ap, ◌∙◌, subst, arith}
 use Rattle.std.proofs.lemmas.List.{take_all}
 use Rattle.std.proofs.lemmas.Result.{on_ok_weaker, on_err_weaker}
+use Rattle.flux_base.specs.lemmas.Counting.{Counts-none, Counts-then}
 use Rattle.flux_writer.specs.inside.Writing.{IsWritten}
 use Rattle.flux_writer.proofs.Progress.{IsReady-start, IsReady-next, IsReady-fits, IsWritten-start, IsWritten-next, IsWritten-fails, IsWritten-all, IsWritten-end, next_in_order, ticks_are}
 use Rattle.flux_writer.proofs.times.write_times.Goals as goal
@@ -14,7 +15,7 @@ loop-time-init g c =
           c.new-stream.result.time c.new-stream.result.indexes c.args.flux.now.indexes e.piece e.position e.time left;
       ready = IsReady-start c.new-stream.result.position c.new-stream.result.time c.new-stream.result.indexes
           c.args.flux.now.indexes e.position e.time left c.indexes.ensures.order;
-      later = omega arith;
+      counts = Counts-none _;
     }
 
 pub transition-requires-clause-order : goal.transition-requires-clause-order
@@ -40,8 +41,7 @@ returns-in-Err g c = record {
       c.loop-time-test.true (g.W.Sink.written c.args.sink.now) (g.W.Sink.written c.loop-time.sink) (g.W.Sink.written c.transition.new.sink)
       c.args.flux.now.indexes c.loop-time.stream.piece c.loop-time.stream.position c.loop-time.stream.time c.loop-time.stream.indexes
       c.loop-time.invariant.written c.indexes.ensures.order c.in-Err.ensures.holds.err;
-  later = omega (arith, c.loop-time.invariant.later, c.in-Err.ensures.holds.later);
-  cause = omega (arith, c.loop-time.invariant.later, c.in-Err.ensures.holds.cause);
+  counts = Counts-then _ c.loop-time.invariant.counts c.in-Err.ensures.holds.counts;
 }
 
 pub loop-time-preserved : goal.loop-time-preserved
@@ -58,7 +58,7 @@ loop-time-preserved g c =
           c.loop-time.invariant.written c.transition.new.self.piece c.transition.new.self.position c.transition.new.self.time
           c.transition.new.self.indexes c.in-Ok.ensures.holds.ok c.in-Ok.ensures.position c.in-Ok.ensures.time c.in-Ok.ensures.indexes;
       ready = rw (c.in-Ok.ensures.position, c.in-Ok.ensures.time, c.in-Ok.ensures.indexes) ready;
-      later = omega (arith, c.loop-time.invariant.later, c.transition.ensures.holds.later);
+      counts = Counts-then _ c.loop-time.invariant.counts c.in-Ok.ensures.holds.counts;
     }
 
 pub returns : goal.returns
@@ -77,6 +77,5 @@ returns g c =
     record {
       ok = on_ok_weaker c.finish.result (IsWritten-all start middle end indexes n.piece n.position n.time n.indexes times written order) c.finish.ensures.ok;
       err = on_err_weaker c.finish.result (IsWritten-end start middle end indexes n.piece n.position n.time n.indexes times written order) c.finish.ensures.err;
-      later = search rules;
-      cause = search rules;
+      counts = Counts-then _ c.loop-time.invariant.counts c.finish.ensures.counts;
     }

@@ -1,4 +1,5 @@
-use Rattle.std.proofs.Common.{◌≤◌, [], take}
+use Rattle.std.proofs.Common.{false, [], take}
+use Rattle.flux_base.specs.Counts.{Counts, counts_of}
 use Rattle.flux_writer.specs.inside.Writing.{IsReady, IsWritten}
 use Rattle.flux_writer.proofs.times.write_times.Given as goal
 
@@ -7,5 +8,5 @@ invariant-loop-time g l = record {
   written : IsWritten (g.W.Sink.written l.fn.sink) (g.W.Sink.written l.sink) [] 0 0 l.fn.flux.indexes
       l.stream.piece l.stream.position l.stream.time l.stream.indexes (take l.time-index l.fn.flux.times);
   ready : IsReady l.stream.position l.stream.time l.time-index l.stream.indexes;
-  later : g.W.Sink.faults l.fn.sink ≤ g.W.Sink.faults l.sink;
+  counts : Counts false (counts_of g.W.Sink.faults g.W.Sink.failed l.fn.sink) (counts_of g.W.Sink.faults g.W.Sink.failed l.sink);
 }

@@ -1,4 +1,5 @@
 use Rattle.std.proofs.Common.{◌≡◌, ◌+◌, ◌-◌, subst, arith}
+use Rattle.flux_base.specs.lemmas.Counting.{Counts-then}
 use Rattle.flux_writer.specs.inside.Writing.{IsReadyAt}
 use Rattle.flux_writer.proofs.Parts.{next_word, next_word_fails}
 use Rattle.flux_writer.proofs.track.write_part.Goals as goal
@@ -21,7 +22,7 @@ loop-place-preserved g c =
           c.args.stream.now.piece c.args.stream.now.position c.args.stream.now.time c.args.stream.now.indexes
           s.piece s.position s.time s.indexes i.written (omega (arith, least, c.requires.within)) n.piece n.position n.time n.indexes c.in-Ok.ensures.ok;
       ready = subst (λ k. IsReadyAt c.args.nominal n.position n.time k n.indexes) number c.in-Ok.ensures.ready;
-      later = omega (arith, i.later, c.write_word.ensures.later);
+      counts = Counts-then _ i.counts c.in-Ok.ensures.counts;
     }
 
 pub returns-in-Err-clause-err : goal.returns-in-Err-clause-err

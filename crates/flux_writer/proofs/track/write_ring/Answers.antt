@@ -1,5 +1,6 @@
 use Rattle.std.proofs.Common.{◌≡◌, ◌+◌, ◌*◌, ◌/◌, ◌-◌, ◌++◌, suc, [], length, take, refl, ap, sym, ◌∙◌, subst, arith, append-nil}
 use Rattle.std.proofs.lemmas.Result.{on_ok_weaker, on_err_weaker}
+use Rattle.flux_base.specs.lemmas.Counting.{Counts-then}
 use Rattle.flux_writer.specs.Written.{quarter, track_cells}
 use Rattle.flux_writer.specs.inside.Writing.{IsReadyAt, IsWritten, times_between}
 use Rattle.flux_writer.proofs.Progress.{IsWritten-start}
@@ -50,7 +51,7 @@ loop-preserved g c =
           s.piece s.position s.time s.indexes i.written (times_between ring 0 len c.loop.number c.args.nominal) n.piece n.position n.time n.indexes
           (times_of_turn ring len c.len-length.ensures.length c.loop.number c.args.nominal) e.ok);
       ready = subst (λ m. IsReadyAt c.args.nominal n.position n.time (c.loop.number + m) n.indexes) whole e.ready;
-      later = omega (arith, i.later, c.write_part-in-loop.ensures.later);
+      counts = Counts-then _ i.counts e.counts;
     }
 
 pub returns-clause-ok : goal.returns-clause-ok
@@ -86,3 +87,6 @@ returns-clause-err g c =
     s.piece s.position s.time s.indexes written (times_between ring 0 (len / 4) c.loop.number c.args.nominal) [] (track_cells ring)
     (times_of_begin ring len c.len-length.ensures.length c.loop.number c.args.nominal)
     (append-nil (cells_after ring 3 ++ take (quarter ring) ring) ∙ all_parts ring)) c.write_part-2.ensures.err
+
+pub returns-clause-counts : goal.returns-clause-counts
+returns-clause-counts g c = Counts-then _ c.loop.invariant.counts c.write_part-2.ensures.counts

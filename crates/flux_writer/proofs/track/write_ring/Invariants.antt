@@ -1,4 +1,5 @@
-use Rattle.std.proofs.Common.{◌≡◌, ◌≤◌, ◌+◌, ◌*◌, [], length}
+use Rattle.std.proofs.Common.{false, ◌≡◌, ◌+◌, ◌*◌, [], length}
+use Rattle.flux_base.specs.Counts.{Counts, counts_of}
 use Rattle.flux_writer.specs.Written.{quarter}
 use Rattle.flux_writer.specs.inside.Writing.{IsReadyAt, IsWritten}
 use Rattle.flux_writer.proofs.Rings.{times_of_cells}
@@ -11,5 +12,5 @@ invariant-loop g l = record {
   written : IsWritten (g.W.Sink.written l.fn.sink) (g.W.Sink.written l.sink) [] 0 0 l.fn.stream.indexes
       l.stream.piece l.stream.position l.stream.time l.stream.indexes (times_of_cells l.nominal 0 (cells_after l.ring.cells l.counter));
   ready : IsReadyAt l.nominal l.stream.position l.stream.time l.number l.stream.indexes;
-  later : g.W.Sink.faults l.fn.sink ≤ g.W.Sink.faults l.sink;
+  counts : Counts false (counts_of g.W.Sink.faults g.W.Sink.failed l.fn.sink) (counts_of g.W.Sink.faults g.W.Sink.failed l.sink);
 }

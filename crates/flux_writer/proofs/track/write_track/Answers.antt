@@ -1,6 +1,7 @@
-use Rattle.std.proofs.Common.{◌≡◌, ◌≤◌, ◌<◌, ◌+◌, ◌*◌, ◌/◌, ℕ, [], ◌∷◌, List, length, map, ap, sym, ◌∙◌, subst, arith, rules}
+use Rattle.std.proofs.Common.{◌≡◌, ◌≤◌, ◌<◌, ◌+◌, ◌*◌, ◌/◌, ℕ, [], ◌∷◌, List, length, map, ap, sym, ◌∙◌, subst, arith}
 use Rattle.std.specs.List.Sorted.{IsStrictlyIncreasing}
 use Rattle.std.proofs.lemmas.Result.{on_ok_weaker, on_err_weaker}
+use Rattle.flux_base.specs.lemmas.Counting.{Counts-then}
 use Rattle.flux_base.specs.Outside.{AppendsPart}
 use Rattle.kryo_stream.specs.Sequence.{spellings}
 use Rattle.flux_writer.specs.Written.{cell_time, track_cells, track_turns}
@@ -40,8 +41,7 @@ returns-in-Ok g c =
           n.piece n.position n.time n.indexes written) c.finish.ensures.ok;
       err = on_err_weaker c.finish.result (cells_end (track_cells ring) (track_turns ring) nominal long rise start middle end
           n.piece n.position n.time n.indexes written) c.finish.ensures.err;
-      later = search rules;
-      cause = search rules;
+      counts = Counts-then _ c.in-Ok.ensures.counts c.finish.ensures.counts;
     }
 
 pub returns-in-Err : goal.returns-in-Err
@@ -56,6 +56,5 @@ returns-in-Err g c =
       ok = tt;
       err = cells_fail (track_cells ring) (track_turns ring) nominal (omega (arith, c.requires.least)) (turns_rise ring some) start start end
           (subst (λ l. AppendsPart start end (spellings (many_blocks 0 0 (track_times ring nominal) l))) made c.in-Err.ensures.err);
-      later = c.in-Err.ensures.later;
-      cause = c.in-Err.ensures.cause;
+      counts = c.in-Err.ensures.counts;
     }

@@ -1,5 +1,6 @@
-use Rattle.std.proofs.Common.{◌≤◌, [], map, refl, arith, rules, append-nil}
+use Rattle.std.proofs.Common.{◌≤◌, [], map, refl, arith, append-nil}
 use Rattle.std.proofs.lemmas.Result.{on_ok_weaker, on_err_weaker}
+use Rattle.flux_base.specs.lemmas.Counting.{Counts-then}
 use Rattle.flux_writer.specs.Written.{cell_time}
 use Rattle.flux_writer.specs.inside.Writing.{times_between}
 use Rattle.flux_writer.proofs.Progress.{IsWritten-start}
@@ -36,8 +37,7 @@ returns-in-Ok g c =
     record {
       ok = on_ok_weaker c.finish.result (cells_all cells turns nominal long order start middle end n.piece n.position n.time n.indexes written) c.finish.ensures.ok;
       err = on_err_weaker c.finish.result (cells_end cells turns nominal long order start middle end n.piece n.position n.time n.indexes written) c.finish.ensures.err;
-      later = search rules;
-      cause = search rules;
+      counts = Counts-then _ c.in-Ok.ensures.counts c.finish.ensures.counts;
     }
 
 pub returns-in-Err : goal.returns-in-Err
@@ -56,6 +56,5 @@ returns-in-Err g c =
           (IsWritten-start start s.piece s.position s.time s.indexes (map (cell_time nominal) turns) e.piece e.position e.time e.indexes)
           (times_between cells 0 c.len.result 0 nominal) [] cells (times_of_turn cells c.len.result c.len.ensures.length 0 nominal)
           (append-nil cells) c.in-Err.ensures.err);
-      later = c.in-Err.ensures.later;
-      cause = c.in-Err.ensures.cause;
+      counts = c.in-Err.ensures.counts;
     }

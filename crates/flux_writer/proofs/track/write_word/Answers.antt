@@ -1,5 +1,6 @@
 use Rattle.std.proofs.Common.{◌≡◌, ◌+◌, ◌-◌, sym, subst, arith}
 use Rattle.std.specs.Int.Count.{count_leading_zeros}
+use Rattle.flux_base.specs.lemmas.Counting.{Counts-then}
 use Rattle.flux_writer.specs.inside.Writing.{IsWritten, times_between}
 use Rattle.flux_writer.proofs.CellTimes.{times_between-none}
 use Rattle.flux_writer.proofs.Parts.{IsReadyAt-next, in_time, next_one, next_one_fails}
@@ -88,7 +89,7 @@ loop-ahead-preserved g c =
           s.piece s.position s.time s.indexes i.written n.piece n.position n.time n.indexes e.holds.ok e.position e.time e.indexes);
       ready = rw (e.position, e.time, e.indexes, ← number) (IsReadyAt-next c.args.nominal s.position s.time
           (part.number + (place - part.from)) (part.number + (one - part.from)) s.indexes i.ready (omega (arith, i.left, f.inside)));
-      later = omega (arith, i.later, c.transition.ensures.holds.later);
+      counts = Counts-then _ i.counts e.holds.counts;
     }
 
 pub returns-in-Err-clause-err : goal.returns-in-Err-clause-err

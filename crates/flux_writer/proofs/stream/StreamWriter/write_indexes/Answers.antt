@@ -1,5 +1,6 @@
 use Rattle.std.proofs.Common.{◌≡◌, ◌≤◌, ℕ, List, drop, ◌∙◌, arith, ap}
 use Rattle.std.proofs.lemmas.List.Elements.{All-drop}
+use Rattle.flux_base.specs.lemmas.Counting.{Counts-then}
 use Rattle.kryo_stream.specs.Spelling.{spelling}
 use Rattle.flux_writer.specs.Written.{index_block}
 use Rattle.flux_writer.proofs.Steps.{IndexesWritten-more, IndexesWritten-part, first_of}
@@ -20,7 +21,7 @@ loop-index-preserved g c =
       position = i.position;
       time = i.time;
       begun = rw c.pass.ensures (All-drop (λ index. c.args.self.now.time ≤ index) 1 c.loop-index.self.indexes i.begun);
-      later = omega (arith, i.later, c.put.ensures.later);
+      counts = Counts-then _ i.counts c.in-Ok.ensures.counts;
     }
 
 pub returns-in-Err-clause-holds : goal.returns-in-Err-clause-holds
@@ -32,6 +33,5 @@ returns-in-Err-clause-holds g c =
       err = IndexesWritten-part (g.W.Sink.written c.args.sink.now) (g.W.Sink.written c.loop-index.sink) (g.W.Sink.written c.put.new.sink)
           _ _ _ _ _ _ _ c.in-Some.index (drop 1 c.loop-index.self.indexes) c.index_bytes-bytes.result i.written
           first c.in-Some.ensures.some.1 (spelled c.loop-index.self.position c.loop-index.self.time c.args.self.now.position c.args.self.now.time c.in-Some.index c.index_bytes-bytes.result i.position i.time c.index_bytes-bytes.ensures) c.in-Err.ensures.err;
-      later = omega (arith, i.later, c.in-Err.ensures.later);
-      cause = omega (arith, i.later, c.in-Err.ensures.cause);
+      counts = Counts-then _ i.counts c.in-Err.ensures.counts;
     }

@@ -1,4 +1,5 @@
-use Rattle.std.proofs.Common.{◌≡◌, ◌≤◌, All, length}
+use Rattle.std.proofs.Common.{false, ◌≡◌, ◌≤◌, All, length}
+use Rattle.flux_base.specs.Counts.{Counts, counts_of}
 use Rattle.flux_writer.proofs.Steps.{IndexesWritten}
 use Rattle.flux_writer.proofs.stream.StreamWriter.write_indexes.Given as goal
 
@@ -9,7 +10,7 @@ invariant-loop-index g l = record {
   position : l.self.position ≡ l.initial.self.position;
   time : l.self.time ≡ l.initial.self.time;
   begun : All (λ index. l.initial.self.time ≤ index) l.self.indexes;
-  later : g.W.Sink.faults l.initial.sink ≤ g.W.Sink.faults l.sink;
+  counts : Counts false (counts_of g.W.Sink.faults g.W.Sink.failed l.initial.sink) (counts_of g.W.Sink.faults g.W.Sink.failed l.sink);
 }
 
 abbrev pub decreases-loop-index : goal.decreases-loop-index
