@@ -11,7 +11,7 @@ pub type Line = ArrayString<192>;
 
 /// Hands a line to a sink, in one piece. After `Failed` a part of it was written.
 pub fn write_line<W: Sink>(sink: &mut W, line: &Line) -> Result<(), Failed>
-    ensures { Puts (moment W.written W.faults sink.old) (moment W.written W.faults sink.new) line.now.bytes result }
+    ensures { Puts (moment W.written W.faults W.failed sink.old) (moment W.written W.faults W.failed sink.new) line.now.bytes result }
 {
     write_whole(sink, line.as_str().as_bytes())
 }
