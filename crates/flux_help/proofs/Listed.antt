@@ -1,5 +1,5 @@
 -- The lines of a list that are written one after another.
-use Rattle.std.proofs.Common.{◌≡◌, ◌<◌, ℕ, suc, List, ◌++◌, length, take, drop, get_or, flat_map, Option, sym, ap, ◌∙◌, subst, Result, Ok, Err, OnErr}
+use Rattle.std.proofs.Common.{◌≡◌, ◌<◌, ℕ, suc, List, ◌++◌, length, take, drop, get_or, flat_map, Option, sym, ap, ◌∙◌, subst}
 use Rattle.std.proofs.lemmas.List.{take-append-drop}
 use Rattle.std.proofs.lemmas.List.Concat.{flat_map-append}
 use Rattle.std.proofs.Math.Seq.{drop-cons}
@@ -21,8 +21,3 @@ lines-stop f xs i d old mid new within before part =
     subst (AppendsPart old new) (sym (lines-at f xs i d within))
     (AppendsPart-second old mid new (flat_map f (take i xs)) (f (get_or xs i d) ++ flat_map f (drop (suc i) xs)) before
     (AppendsPart-first mid new (f (get_or xs i d)) (flat_map f (drop (suc i) xs)) part))
-
--- a fact of a fault, from another fact of it
-pub OnErr-map : {T E P Q : Type 0} (r : Result T E) → (P → Q) → OnErr r P → OnErr r Q
-OnErr-map (Ok _) f p = tt
-OnErr-map (Err _) f p = f p

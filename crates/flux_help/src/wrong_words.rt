@@ -1,8 +1,7 @@
-ghost use Rattle.std.specs.Prelude.{◌≡◌, ◌≤◌, ◌++◌, ◌&&◌, OnOk, OnErr, Some, not};
-ghost use Rattle.std.specs.Io.KnownBytes.{Appends};
+ghost use Rattle.std.specs.Prelude.{◌≡◌, ◌++◌, ◌&&◌, Some, not};
 ghost use Rattle.std.specs.List.{position_from};
 ghost use Rattle.std.specs.Option.{option_map};
-ghost use Rattle.flux_base.specs.Outside.{AppendsPart, Rose};
+ghost use Rattle.flux_base.specs.Moments.{Puts, moment};
 ghost use Rattle.ibm_disks.specs.Words.{begins_numbers};
 ghost use Rattle.sector_images.specs.Formats.{formats};
 ghost use Rattle.flux_help.specs.WrongWords.{format_word, has_format_word, is_option, names_format, nearest_text, no_format_text, told_by, usage_by, wants_format, wrong_text};
@@ -15,10 +14,7 @@ use sector_report::{Line, put, usage_line, write_line};
 
 /// Writes what is told of words that are no command. After `Failed` a part of it was written.
 pub fn write_wrong_words<N: Sink>(words: &[Word], notes: &mut N) -> Result<(), Failed>
-    ensures ok { OnOk result (Appends (N.written notes.old) (N.written notes.new) (wrong_text words.now)) }
-    ensures err { OnErr result (AppendsPart (N.written notes.old) (N.written notes.new) (wrong_text words.now)) }
-    ensures later { N.faults notes.old ≤ N.faults notes.new }
-    ensures cause { OnErr result (Rose (N.faults notes.old) (N.faults notes.new)) }
+    ensures { Puts (moment N.written N.faults N.failed notes.old) (moment N.written N.faults N.failed notes.new) (wrong_text words.now) result }
 {
     match words {
         [] => write_whole(notes, usage_line().as_bytes()),
@@ -28,10 +24,7 @@ pub fn write_wrong_words<N: Sink>(words: &[Word], notes: &mut N) -> Result<(), F
 
 /// Writes what is told of the words behind a command's.
 fn write_behind<N: Sink>(verb: Option<Verb>, words: &[Word], notes: &mut N) -> Result<(), Failed>
-    ensures ok { OnOk result (Appends (N.written notes.old) (N.written notes.new) (told_by verb (format_word words.now))) }
-    ensures err { OnErr result (AppendsPart (N.written notes.old) (N.written notes.new) (told_by verb (format_word words.now))) }
-    ensures later { N.faults notes.old ≤ N.faults notes.new }
-    ensures cause { OnErr result (Rose (N.faults notes.old) (N.faults notes.new)) }
+    ensures { Puts (moment N.written N.faults N.failed notes.old) (moment N.written N.faults N.failed notes.new) (told_by verb (format_word words.now)) result }
 {
     match format_word(words) {
         Some(word) => write_by(verb, word.bytes(), notes),
@@ -65,10 +58,7 @@ fn is_option(word: &[u8]) -> bool
 
 /// Writes what is told by the first word and the one in a format's place.
 fn write_by<N: Sink>(verb: Option<Verb>, word: &[u8], notes: &mut N) -> Result<(), Failed>
-    ensures ok { OnOk result (Appends (N.written notes.old) (N.written notes.new) (told_by verb (Some word.now))) }
-    ensures err { OnErr result (AppendsPart (N.written notes.old) (N.written notes.new) (told_by verb (Some word.now))) }
-    ensures later { N.faults notes.old ≤ N.faults notes.new }
-    ensures cause { OnErr result (Rose (N.faults notes.old) (N.faults notes.new)) }
+    ensures { Puts (moment N.written N.faults N.failed notes.old) (moment N.written N.faults N.failed notes.new) (told_by verb (Some word.now)) result }
 {
     if is_no_format(verb, word) {
         write_no_format(word, notes)
@@ -141,10 +131,7 @@ fn has_word(format: Format, word: &[u8]) -> bool
 
 /// Writes that no format has this word, and the one whose word is nearest.
 fn write_no_format<N: Sink>(word: &[u8], notes: &mut N) -> Result<(), Failed>
-    ensures ok { OnOk result (Appends (N.written notes.old) (N.written notes.new) (no_format_text word.now)) }
-    ensures err { OnErr result (AppendsPart (N.written notes.old) (N.written notes.new) (no_format_text word.now)) }
-    ensures later { N.faults notes.old ≤ N.faults notes.new }
-    ensures cause { OnErr result (Rose (N.faults notes.old) (N.faults notes.new)) }
+    ensures { Puts (moment N.written N.faults N.failed notes.old) (moment N.written N.faults N.failed notes.new) (no_format_text word.now) result }
 {
     match write_whole(notes, "no format ".as_bytes()) {
         Ok(()) => write_word(word, notes),
@@ -154,10 +141,7 @@ fn write_no_format<N: Sink>(word: &[u8], notes: &mut N) -> Result<(), Failed>
 
 /// Writes a word, and the format whose word is nearest.
 fn write_word<N: Sink>(word: &[u8], notes: &mut N) -> Result<(), Failed>
-    ensures ok { OnOk result (Appends (N.written notes.old) (N.written notes.new) (word.now ++ nearest_text word.now)) }
-    ensures err { OnErr result (AppendsPart (N.written notes.old) (N.written notes.new) (word.now ++ nearest_text word.now)) }
-    ensures later { N.faults notes.old ≤ N.faults notes.new }
-    ensures cause { OnErr result (Rose (N.faults notes.old) (N.faults notes.new)) }
+    ensures { Puts (moment N.written N.faults N.failed notes.old) (moment N.written N.faults N.failed notes.new) (word.now ++ nearest_text word.now) result }
 {
     match write_whole(notes, word) {
         Ok(()) => write_line(notes, &nearest_line(word)),

@@ -1,11 +1,10 @@
 use Rattle.std.proofs.Common.{◌++◌}
-use Rattle.flux_base.specs.lemmas.Parts.{AppendsPart-second}
-use Rattle.flux_help.specs.Pages.{codes_text, formats_text, heading_text, intro_text, verbs_text}
-use Rattle.flux_help.proofs.Listed.{OnErr-map}
+use Rattle.flux_base.specs.lemmas.Parts.{Puts-cut, Puts-then}
+use Rattle.flux_help.specs.Pages.{codes_text, formats_text, heading_text, verbs_text}
 use Rattle.flux_help.proofs.writing.write_help.Goals as goal
 
-pub returns-in-Ok-clause-err : goal.returns-in-Ok-clause-err
-returns-in-Ok-clause-err g c =
-    OnErr-map c.write_lists.result
-    (AppendsPart-second _ _ _ intro_text (verbs_text ++ (heading_text ++ (formats_text ++ codes_text))) (rw (c.as_bytes.ensures.value, c.intro.ensures) at c.in-Ok.ensures.ok))
-    c.write_lists.ensures.err
+pub returns-in-Ok : goal.returns-in-Ok
+returns-in-Ok g c = Puts-then c.write_lists.result (rw (c.as_bytes.ensures.value, c.intro.ensures) at c.in-Ok.ensures) c.write_lists.ensures
+
+pub returns-in-Err : goal.returns-in-Err
+returns-in-Err g c = Puts-cut (verbs_text ++ (heading_text ++ (formats_text ++ codes_text))) (rw (c.as_bytes.ensures.value, c.intro.ensures) at c.in-Err.ensures)

@@ -1,9 +1,9 @@
-use Rattle.flux_base.specs.lemmas.Parts.{AppendsPart-second}
-use Rattle.flux_help.specs.Pages.{codes_text, formats_text}
-use Rattle.flux_help.proofs.Listed.{OnErr-map}
+use Rattle.flux_base.specs.lemmas.Parts.{Puts-cut, Puts-then}
+use Rattle.flux_help.specs.Pages.{codes_text}
 use Rattle.flux_help.proofs.writing.write_tables.Goals as goal
 
-pub returns-in-Ok-clause-err : goal.returns-in-Ok-clause-err
-returns-in-Ok-clause-err g c =
-    OnErr-map c.write_whole.result (AppendsPart-second _ _ _ formats_text codes_text c.in-Ok.ensures.ok)
-    (rw (c.as_bytes.ensures.value, c.exit_codes.ensures) at c.write_whole.ensures.err)
+pub returns-in-Ok : goal.returns-in-Ok
+returns-in-Ok g c = Puts-then c.write_whole.result c.in-Ok.ensures (rw (c.as_bytes.ensures.value, c.exit_codes.ensures) at c.write_whole.ensures)
+
+pub returns-in-Err : goal.returns-in-Err
+returns-in-Err g c = Puts-cut codes_text c.in-Err.ensures
