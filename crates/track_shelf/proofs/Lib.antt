@@ -3,3 +3,4 @@ pub mod Ahead
 pub mod Paths
 pub mod Joins
 pub mod Reaching
+pub mod Closing

@@ -1,8 +1,9 @@
 -- The files of dumps, and which of them a folder and a path have.
-use Rattle.std.specs.Prelude.{◌≡◌, ℕ, Bool, List, [], Option, Some, None, Result, Ok, Err}
+use Rattle.std.specs.Prelude.{◌≡◌, ℕ, zero, suc, Bool, List, [], Option, Some, None, Result, Ok, Err}
 use Rattle.std.specs.List.{find, flat_map, position_from}
 use Rattle.std.specs.Option.{is_none}
 use Rattle.std.specs.Str.{bytes_eq}
+use Rattle.flux_base.specs.Outside.{risen}
 use Rattle.flux_base.specs.declared.outside.Failed.{Failed}
 use Rattle.flux_base.specs.declared.track.TrackId.{TrackId}
 use Rattle.sector_images.specs.Places.{tracks}
@@ -65,3 +66,24 @@ Opens left _ path _ = Unit {0}
 abbrev pub NoneFailed : {F : Type 0} → (faults : F → ℕ) → Result (Option F) Failed → Type 0
 NoneFailed faults (Ok (Some opened)) = faults opened ≡ 0
 NoneFailed faults _ = Unit {0}
+
+-- none failed yet of the calls on a file, where the shelf tells how many of its own did
+abbrev pub none_yet : (shelf : Option ℕ) → Option ℕ
+none_yet None = None
+none_yet (Some count) = Some 0
+
+-- what is handed out tells how many of its calls failed where the shelf does, and they are none yet
+abbrev pub CountsFromNone : {F : Type 0} → (failed : F → Option ℕ) → (shelf : Option ℕ) → Result (Option F) Failed → Type 0
+CountsFromNone failed shelf (Ok (Some opened)) = failed opened ≡ none_yet shelf
+CountsFromNone failed shelf _ = Unit {0}
+
+-- a count that rises so often
+abbrev pub risen_by : (often count : ℕ) → ℕ
+risen_by zero count = count
+risen_by (suc often) count = risen (risen_by often count)
+
+-- the failed calls of a shelf that takes over those of a file
+abbrev pub taken_over : (file shelf : Option ℕ) → Option ℕ
+taken_over None shelf = shelf
+taken_over (Some often) None = None
+taken_over (Some often) (Some count) = Some (risen_by often count)

@@ -1,8 +1,8 @@
 -- A shelf in memory: what it holds, what is still to come of the wanted files, and which of its calls fail.
 use Rattle.std.specs.Prelude.{if◌then◌else◌, ℕ, Bool, true, false, ◌+◌, max, min, List, [], ◌∷◌, length, drop, map, filter, Option, Some, None, Result, Ok, Err}
 use Rattle.std.specs.List.{slice_get}
-use Rattle.flux_base.specs.Memory.{is_failing, next_count}
-use Rattle.flux_base.specs.Outside.{GREATEST_COUNT}
+use Rattle.flux_base.specs.Memory.{is_failing}
+use Rattle.flux_base.specs.Outside.{GREATEST_COUNT, risen}
 use Rattle.flux_base.specs.declared.outside.Failed.{Failed}
 use Rattle.sector_images.specs.Places.{tracks}
 use Rattle.sector_images.specs.declared.format.Format.{Format}
@@ -40,8 +40,8 @@ cut_first n [] = []
 cut_first n (piece ∷ rest) = drop n piece ∷ rest
 
 -- the call fails: it is counted, and nothing else changes
-abbrev pub failed : ShelfState → ShelfState
-failed s = record s { calls = next_count s.calls; faults = next_count s.faults }
+abbrev pub after_fault : ShelfState → ShelfState
+after_fault s = record s { calls = risen s.calls; faults = risen s.faults }
 
 -- how many bytes a read into a buffer of this length gives: those of one file at most
 abbrev pub given_of : ShelfState → ℕ → ℕ
@@ -55,8 +55,8 @@ read_of s buffer = if is_failing s.failing s.calls then Err (record {}) else Ok 
 abbrev pub after_read : ShelfState → ℕ → ShelfState
 after_read s buffer =
     if is_failing s.failing s.calls
-    then failed s
-    else record s { ahead = with_bytes (cut_first (given_of s buffer) s.ahead); calls = next_count s.calls }
+    then after_fault s
+    else record s { ahead = with_bytes (cut_first (given_of s buffer) s.ahead); calls = risen s.calls }
 
 -- what `begin` answers
 abbrev pub begin_of : ShelfState → List ℕ → Format → Result (Option ℕ) Failed
@@ -71,10 +71,10 @@ ahead_by (Some number) old new = old
 abbrev pub after_begin : ShelfState → List ℕ → Format → ShelfState
 after_begin s folder format =
     if is_failing s.failing s.calls
-    then failed s
+    then after_fault s
     else record s {
       ahead = ahead_by (first_missing s.files folder format) s.ahead (with_bytes (map (track_bytes s.files folder) (tracks format)));
-      calls = next_count s.calls;
+      calls = risen s.calls;
     }
 
 -- the bytes of a file, as pieces to be read
@@ -84,7 +84,7 @@ pieces_of (Some file) = file.bytes ∷ []
 
 -- the shelf after `open_file`
 abbrev pub after_open : ShelfState → ShelfState
-after_open s = if is_failing s.failing s.calls then failed s else record s { calls = next_count s.calls }
+after_open s = if is_failing s.failing s.calls then after_fault s else record s { calls = risen s.calls }
 
 -- What is handed out then is a shelf from which this file alone is to be read: its calls are counted on from those so far, and fail by the
 -- same list, and none has failed.

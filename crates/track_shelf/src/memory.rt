@@ -1,13 +1,13 @@
-ghost use Rattle.std.specs.Prelude.{◌≡◌, ◌<◌, ◌≤◌, ◌++◌, [], false, true, Some, Ok, get_or, length, map, min, take, IfOk, IfSome, IfErr, IfNone, OnErr, OnOk, None};
+ghost use Rattle.std.specs.Prelude.{◌≡◌, ◌<◌, ◌≤◌, ◌++◌, [], false, true, Some, Ok, get_or, length, is_err, map, min, take, IfOk, IfSome, IfErr, IfNone, OnErr, OnOk, None};
 ghost use Rattle.std.specs.Io.{ReadsAtMost};
 ghost use Rattle.std.specs.Io.KnownBytes.{ReadConsumes};
 ghost use Rattle.std.specs.List.{concat, position_from};
 ghost use Rattle.std.specs.Bool.{Decides};
-ghost use Rattle.flux_base.specs.Memory.{is_failing, next_count};
-ghost use Rattle.flux_base.specs.Outside.{GivesPiece, Rose};
+ghost use Rattle.flux_base.specs.Memory.{is_failing};
+ghost use Rattle.flux_base.specs.Outside.{GivesPiece, IsCounted, Rose, risen};
 ghost use Rattle.sector_images.specs.Places.{tracks};
-ghost use Rattle.track_shelf.specs.Files.{LeavesWanted, NamesMissing, NoneFailed, Opens, file_at, first_missing, has_path, track_bytes};
-ghost use Rattle.track_shelf.specs.Memory.{ShelfState, after_begin, after_close, after_open, after_read, ahead_from, begin_of, bytes_at, cut_first, failed, first_piece, open_of, pieces_of, read_of, with_bytes};
+ghost use Rattle.track_shelf.specs.Files.{CountsFromNone, LeavesWanted, NamesMissing, NoneFailed, Opens, file_at, first_missing, has_path, taken_over, track_bytes};
+ghost use Rattle.track_shelf.specs.Memory.{ShelfState, after_begin, after_close, after_fault, after_open, after_read, ahead_from, begin_of, bytes_at, cut_first, first_piece, open_of, pieces_of, read_of, with_bytes};
 ghost use Rattle.track_shelf.specs.Names.{folder_path, path_text};
 
 use crate::path::{TrackPath, folder_end};
@@ -262,8 +262,8 @@ impl<'a> MemoryShelf<'a> {
 
     /// Counts a call. One whose number is on the list fails, and is counted as a fault.
     fn count_call(&mut self) -> Result<(), Failed>
-        ensures ok { OnOk result ((is_failing self.old.failing self.old.calls ≡ false) × (self.new ≡ record self.old { calls = next_count self.old.calls })) }
-        ensures err { OnErr result ((is_failing self.old.failing self.old.calls ≡ true) × (self.new ≡ failed self.old)) }
+        ensures ok { OnOk result ((is_failing self.old.failing self.old.calls ≡ false) × (self.new ≡ record self.old { calls = risen self.old.calls })) }
+        ensures err { OnErr result ((is_failing self.old.failing self.old.calls ≡ true) × (self.new ≡ after_fault self.old)) }
         ensures later { self.old.faults ≤ self.new.faults }
     {
         let failing = self.failing.contains(&self.calls);
@@ -310,12 +310,15 @@ impl<'a> Source for MemoryShelf<'a> {
 
     ghost faults = { λ s. s.faults };
 
+    ghost failed = { λ s. Some s.faults };
+
     fn read(&mut self, buffer: &mut [u8]) -> Result<usize, Failed>
         ensures bound { ReadsAtMost result buffer.new }
         ensures bytes { ReadConsumes (Some (concat self.old.ahead)) (Some (concat self.new.ahead)) result buffer.new }
         ensures piece { GivesPiece None None result buffer.new }
         ensures later { self.old.faults ≤ self.new.faults }
         ensures cause { OnErr result (Rose self.old.faults self.new.faults) }
+        ensures counted { IsCounted (is_err result) (Some self.old.faults) (Some self.new.faults) }
         ensures answer { result ≡ read_of self.old (length buffer.old) }
         ensures after { self.new ≡ after_read self.old (length buffer.old) }
     {
@@ -338,6 +341,7 @@ impl<'a> Shelf for MemoryShelf<'a> {
         ensures kept { self.new.files ≡ self.old.files }
         ensures later { self.old.faults ≤ self.new.faults }
         ensures cause { OnErr result (Rose self.old.faults self.new.faults) }
+        ensures counted { IsCounted (is_err result) (Some self.old.faults) (Some self.new.faults) }
         ensures answer { result ≡ begin_of self.old folder.now format }
         ensures after { self.new ≡ after_begin self.old folder.now format }
     {
@@ -354,10 +358,12 @@ impl<'a> Shelf for MemoryShelf<'a> {
     fn open_file(&mut self, dump: &[u8], track: TrackId) -> Result<Option<MemoryShelf<'a>>, Failed>
         ensures opened { Opens (λ (file : ShelfState). Some (concat file.ahead)) (Some self.old.files) (path_text dump.now track) result }
         ensures sound { NoneFailed (λ (file : ShelfState). file.faults) result }
+        ensures fresh { CountsFromNone (λ (file : ShelfState). Some file.faults) (Some self.old.faults) result }
         ensures left { Some (concat self.new.ahead) ≡ Some (concat self.old.ahead) }
         ensures kept { Some self.new.files ≡ Some self.old.files }
         ensures later { self.old.faults ≤ self.new.faults }
         ensures cause { OnErr result (Rose self.old.faults self.new.faults) }
+        ensures counted { IsCounted (is_err result) (Some self.old.faults) (Some self.new.faults) }
         ensures answer { result ≡ open_of self.old (path_text dump.now track) }
         ensures after { self.new ≡ after_open self.old }
     {
@@ -374,6 +380,7 @@ impl<'a> Shelf for MemoryShelf<'a> {
         ensures left { Some (concat self.new.ahead) ≡ Some (concat self.old.ahead) }
         ensures kept { Some self.new.files ≡ Some self.old.files }
         ensures later { self.old.faults ≤ self.new.faults }
+        ensures counted { Some self.new.faults ≡ taken_over (Some file.entry.faults) (Some self.old.faults) }
         ensures after { self.new ≡ after_close self.old file.entry }
     {
         self.calls = self.calls.max(file.calls);

@@ -1,7 +1,7 @@
-ghost use Rattle.std.specs.Prelude.{◌≡◌, ℕ, ◌<◌, ◌≤◌, List, None, Some, Option, length, IfOk, IfSome, OnErr};
-ghost use Rattle.flux_base.specs.Outside.{Rose};
+ghost use Rattle.std.specs.Prelude.{◌≡◌, ℕ, ◌<◌, ◌≤◌, List, None, Some, Option, length, is_err, IfOk, IfSome, OnErr};
+ghost use Rattle.flux_base.specs.Outside.{IsCounted, Rose};
 ghost use Rattle.sector_images.specs.Places.{tracks};
-ghost use Rattle.track_shelf.specs.Files.{File, LeavesWanted, NamesMissing, NoneFailed, Opens};
+ghost use Rattle.track_shelf.specs.Files.{CountsFromNone, File, LeavesWanted, NamesMissing, NoneFailed, Opens, taken_over};
 ghost use Rattle.track_shelf.specs.Names.{path_text};
 
 use flux_base::{Failed, Source, TrackId};
@@ -29,18 +29,21 @@ pub trait Shelf: Source {
         ensures kept { files self.new ≡ files self.old }
         ensures unread { Self.given self.new ≡ Self.given self.old }
         ensures later { Self.faults self.old ≤ Self.faults self.new }
-        ensures cause { OnErr result (Rose (Self.faults self.old) (Self.faults self.new)) };
+        ensures cause { OnErr result (Rose (Self.faults self.old) (Self.faults self.new)) }
+        ensures counted { IsCounted (is_err result) (Self.failed self.old) (Self.failed self.new) };
 
     /// Opens the file of a track of a dump, which is a folder, or is named by one of its files. None where there is no such
     /// file. What is done with the file touches nothing of the shelf. No memory is taken.
     fn open_file(&mut self, dump: &[u8], track: TrackId) -> Result<Option<Self::File>, Failed>
         ensures opened { Opens Self.File.left (files self.old) (path_text dump.now track) result }
         ensures sound { NoneFailed Self.File.faults result }
+        ensures fresh { CountsFromNone Self.File.failed (Self.failed self.old) result }
         ensures left { Self.left self.new ≡ Self.left self.old }
         ensures kept { files self.new ≡ files self.old }
         ensures unread { Self.given self.new ≡ Self.given self.old }
         ensures later { Self.faults self.old ≤ Self.faults self.new }
-        ensures cause { OnErr result (Rose (Self.faults self.old) (Self.faults self.new)) };
+        ensures cause { OnErr result (Rose (Self.faults self.old) (Self.faults self.new)) }
+        ensures counted { IsCounted (is_err result) (Self.failed self.old) (Self.failed self.new) };
 
     /// Takes an open file back. How often it failed is counted with the shelf's own faults.
     fn close_file(&mut self, file: Self::File)
@@ -48,5 +51,6 @@ pub trait Shelf: Source {
         ensures left { Self.left self.new ≡ Self.left self.old }
         ensures kept { files self.new ≡ files self.old }
         ensures unread { Self.given self.new ≡ Self.given self.old }
-        ensures later { Self.faults self.old ≤ Self.faults self.new };
+        ensures later { Self.faults self.old ≤ Self.faults self.new }
+        ensures counted { Self.failed self.new ≡ taken_over (Self.File.failed file) (Self.failed self.old) };
 }
