@@ -87,7 +87,7 @@ fn end_early<P: Sink>(
     fault: PlanFault,
     picture: &mut P,
 ) -> PlanFault
-    ensures { EndsEarly format totals.now (moment P.written P.faults picture.old) (moment P.written P.faults picture.new) fault result }
+    ensures { EndsEarly format totals.now (moment P.written P.faults P.failed picture.old) (moment P.written P.faults P.failed picture.new) fault result }
 {
     match fault {
         PlanFault::Refused {
@@ -116,7 +116,7 @@ pub(crate) fn write_top<P: Sink>(
     picture: &mut P,
 ) -> Result<(), Failed>
     requires { length command.now ≤ 8 }
-    ensures { Puts (moment P.written P.faults picture.old) (moment P.written P.faults picture.new) (top_by command.now format) result }
+    ensures { Puts (moment P.written P.faults P.failed picture.old) (moment P.written P.faults P.failed picture.new) (top_by command.now format) result }
 {
     let layout = Layout::of_format(format);
     match write_text(picture, &begin_text(command, format, layout)) {
@@ -127,7 +127,7 @@ pub(crate) fn write_top<P: Sink>(
 
 /// Writes the numbers at the sides, and the empty grid of each head.
 fn write_grids<P: Sink>(layout: Layout, picture: &mut P) -> Result<(), Failed>
-    ensures { Puts (moment P.written P.faults picture.old) (moment P.written P.faults picture.new) (grids_text layout) result }
+    ensures { Puts (moment P.written P.faults P.failed picture.old) (moment P.written P.faults P.failed picture.new) (grids_text layout) result }
 {
     match write_whole(picture, labels().as_bytes()) {
         Ok(()) => write_each_grid(layout, picture),
@@ -137,7 +137,7 @@ fn write_grids<P: Sink>(layout: Layout, picture: &mut P) -> Result<(), Failed>
 
 /// Writes the empty grid of each head.
 fn write_each_grid<P: Sink>(layout: Layout, picture: &mut P) -> Result<(), Failed>
-    ensures { Puts (moment P.written P.faults picture.old) (moment P.written P.faults picture.new) (flat_map (grid_text layout) (range_with_len 0 (layout.last.head + 1))) result }
+    ensures { Puts (moment P.written P.faults P.failed picture.old) (moment P.written P.faults P.failed picture.new) (flat_map (grid_text layout) (range_with_len 0 (layout.last.head + 1))) result }
 {
     for head in 0..u32::from(layout.last.head) + 1 {
         match write_text(picture, &grid_text(layout, head)) {

@@ -71,7 +71,7 @@ pub fn map_dumps<H: Shelf, P: Sink>(
 
 /// Writes what stands behind the fields: what was passed over and what else was told, the legend, and the totals.
 fn write_foot<P: Sink>(layout: Layout, totals: &DumpTotals, picture: &mut P) -> Result<(), Failed>
-    ensures { Puts (moment P.written P.faults picture.old) (moment P.written P.faults picture.new) (dumps_foot layout totals.now) result }
+    ensures { Puts (moment P.written P.faults P.failed picture.old) (moment P.written P.faults P.failed picture.new) (dumps_foot layout totals.now) result }
 {
     let counts = unread_line(totals.unread, totals.others, totals.whole);
     match write_text(picture, &counts_text(layout, &counts)) {

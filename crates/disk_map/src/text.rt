@@ -13,7 +13,7 @@ pub type Text = ArrayString<1200>;
 
 /// Hands a piece to a sink. After `Failed` a part of it was written.
 pub(crate) fn write_text<W: Sink>(sink: &mut W, text: &Text) -> Result<(), Failed>
-    ensures { Puts (moment W.written W.faults sink.old) (moment W.written W.faults sink.new) text.now.bytes result }
+    ensures { Puts (moment W.written W.faults W.failed sink.old) (moment W.written W.faults W.failed sink.new) text.now.bytes result }
 {
     write_whole(sink, text.as_str().as_bytes())
 }

@@ -146,7 +146,7 @@ fn read_as<H: Shelf>(
 
 /// Writes the line of a candidate, where it has a good sector.
 fn write_finding<W: Sink>(finding: &Finding, lines: &mut W) -> Result<(), Failed>
-    ensures { Puts (moment W.written W.faults lines.old) (moment W.written W.faults lines.new) (line_of finding.now) result }
+    ensures { Puts (moment W.written W.faults W.failed lines.old) (moment W.written W.faults W.failed lines.new) (line_of finding.now) result }
 {
     if !finding.has_good() {
         return Ok(());

@@ -122,7 +122,7 @@ pub fn read_dump_tracks<O: TrackWriter, H: Shelf, W: Sink, N: Sink>(
 
 /// Writes the last two lines: what was passed over and what else was told, and the totals.
 fn write_end<N: Sink>(totals: &DumpTotals, notes: &mut N) -> Result<(), Failed>
-    ensures { Puts (moment N.written N.faults notes.old) (moment N.written N.faults notes.new) (end_text totals.now) result }
+    ensures { Puts (moment N.written N.faults N.failed notes.old) (moment N.written N.faults N.failed notes.new) (end_text totals.now) result }
 {
     match write_line(
         notes,

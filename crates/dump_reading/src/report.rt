@@ -64,7 +64,7 @@ fn write_passed<N: Sink>(
     notes: &mut N,
 ) -> Result<(), Failed>
     requires { track.cylinder < 100 }
-    ensures { Puts (moment N.written N.faults notes.old) (moment N.written N.faults notes.new) (passed_lines track passed.now) result }
+    ensures { Puts (moment N.written N.faults N.failed notes.old) (moment N.written N.faults N.failed notes.new) (passed_lines track passed.now) result }
 {
     for number in 0..passed.len() {
         let stream = passed[number];
@@ -79,7 +79,7 @@ fn write_passed<N: Sink>(
 /// Writes a line for each name of other headers of a track that is told, each in one piece.
 fn write_others<N: Sink>(track: TrackId, others: &[OtherTold], notes: &mut N) -> Result<(), Failed>
     requires { track.cylinder < 100 }
-    ensures { Puts (moment N.written N.faults notes.old) (moment N.written N.faults notes.new) (other_lines track others.now) result }
+    ensures { Puts (moment N.written N.faults N.failed notes.old) (moment N.written N.faults N.failed notes.new) (other_lines track others.now) result }
 {
     for number in 0..others.len() {
         match write_line(notes, &other_line(NAMING, track, &others[number])) {

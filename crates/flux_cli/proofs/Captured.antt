@@ -132,7 +132,7 @@ module _ (laws : Laws) {S W N H : Type 0} (words : List (List ℕ)) (status : St
     on_memory : (status : Status) → status ≡ Memory → on_shelf after ≡ on_shelf before → WroteOrCutOnShelf Done status (on_shelf before) (on_shelf after)
     on_memory s is same = subst (λ (t : Status). WroteOrCutOnShelf Done t (on_shelf before) (on_shelf after)) (sym is) same
 
-    over : (shelf : ShelfMoment H) → before.shelf.source.faults ≤ shelf.source.faults → (inner : Status) → inner ≢ Memory
+    over : (shelf : ShelfMoment H) → before.shelf.source.counts.faults ≤ shelf.source.counts.faults → (inner : Status) → inner ≢ Memory
         → WroteOrCut Done inner (as_source (record (on_shelf before) { shelf = shelf })) (as_source (on_shelf after))
         → WroteOrCutOnShelf Done (over_shelf inner) (on_shelf before) (on_shelf after)
     over shelf later AllGood enough w = w
@@ -148,8 +148,8 @@ module _ (laws : Laws) {S W N H : Type 0} (words : List (List ℕ)) (status : St
     by_answer : (answer : Result (Option ℕ) Failed) (shelf : ShelfMoment H) → Began decodes.folder format answer before.shelf shelf
         → DidBy format answer status (record (on_shelf before) { shelf = shelf }) (on_shelf after) → WroteOrCutOnShelf Done status (on_shelf before) (on_shelf after)
     by_answer (Err failed) shelf began did =
-        let rose : Rose before.shelf.source.faults after.shelf.source.faults =
-        subst (λ (m : Moment H). Rose before.shelf.source.faults m.faults) (sym (ap (λ (o : OnShelf H W N). o.shelf.source) did.1)) began.cause in
+        let rose : Rose before.shelf.source.counts.faults after.shelf.source.counts.faults =
+        subst (λ (m : Moment H). Rose before.shelf.source.counts.faults m.counts.faults) (sym (ap (λ (o : OnShelf H W N). o.shelf.source) did.1)) began.cause in
         subst (λ (t : Status). WroteOrCutOnShelf Done t (on_shelf before) (on_shelf after)) (sym did.0) rose
     by_answer (Ok (Some number)) shelf began did =
         let names_it : NamesMissing (Some decodes.files) decodes.folder format (Ok (Some number)) =

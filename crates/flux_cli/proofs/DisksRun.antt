@@ -54,7 +54,7 @@ module _ {S W N : Type 0} (format : Format) (before after : Outside S W N) where
   says-both (Err NotesFault) d r = d.says r.later (λ never. absurd never)
 
   pub decodes-both : (answer : Answer) → DecodesDisk format before.source.bytes after.source.bytes before.image.bytes after.image.bytes before.notes.bytes after.notes.bytes answer
-      → EngineCause {A = Totals} before.source.faults after.source.faults before.image.faults after.image.faults before.notes.faults after.notes.faults answer
+      → EngineCause {A = Totals} before.source.counts.faults after.source.counts.faults before.image.counts.faults after.image.counts.faults before.notes.counts.faults after.notes.counts.faults answer
       → NoCountFell before after → WasReadWhereNeeded (disk_work ImageAndReport format) before after → DecodesTo ImageAndReport format before after answer
   decodes-both answer d cause counts needed =
       let r = rest before.source after.source d.taken d.consumed in
@@ -79,7 +79,7 @@ module _ {S W N : Type 0} (format : Format) (before after : Outside S W N) where
       }
 
   pub report-cut : DecodesReport (Err NotesFault) → GotNothing (growth before.notes after.notes)
-      → EngineCause {A = Totals} before.source.faults after.source.faults before.image.faults after.image.faults before.notes.faults after.notes.faults (Err ImageFault)
+      → EngineCause {A = Totals} before.source.counts.faults after.source.counts.faults before.image.counts.faults after.image.counts.faults before.notes.counts.faults after.notes.counts.faults (Err ImageFault)
       → NoCountFell before after → WasReadWhereNeeded (disk_work ReportAlone format) before after → DecodesTo ReportAlone format before after (Err ImageFault)
   report-cut d notes cause counts needed =
       let r = rest before.source after.source d.taken d.consumed in record {
@@ -107,7 +107,7 @@ module _ {S W N : Type 0} (format : Format) (before after : Outside S W N) where
       }
 
   pub report-unread : DecodesReport (Err ReadFault) → Got (growth before.notes after.notes) []
-      → EngineCause {A = Totals} before.source.faults after.source.faults before.image.faults after.image.faults before.notes.faults after.notes.faults (Err ReadFault)
+      → EngineCause {A = Totals} before.source.counts.faults after.source.counts.faults before.image.counts.faults after.image.counts.faults before.notes.counts.faults after.notes.counts.faults (Err ReadFault)
       → NoCountFell before after → WasReadWhereNeeded (disk_work ReportAlone format) before after → DecodesTo ReportAlone format before after (Err ReadFault)
   report-unread d notes cause counts needed =
       let r = rest before.source after.source d.taken d.consumed in
@@ -238,7 +238,7 @@ module _ {S W N : Type 0} (format : Format) (before after : Outside S W N) where
 
   module _ (output : Output) (mid : Moment N) (track block : ℕ) (fault : StreamFault)
       (t : DecodesTo output format before (record after { notes = mid }) (Err (Refused track block fault))) where
-    pub does-refuse : Got (growth mid after.notes) (refused_text track block fault) → mid.faults ≤ after.notes.faults
+    pub does-refuse : Got (growth mid after.notes) (refused_text track block fault) → mid.counts.faults ≤ after.notes.counts.faults
         → Does (command_for output format) RefusedStatus before after
     does-refuse line later = record {
       answer = tt;
@@ -247,8 +247,8 @@ module _ {S W N : Type 0} (format : Format) (before after : Outside S W N) where
       needed = as-needed output t.needed;
     }
 
-    pub does-cut-refusal : GotPart (growth mid after.notes) (refused_text track block fault) → mid.faults ≤ after.notes.faults
-        → Rose mid.faults after.notes.faults → Does (command_for output format) NotesFaultStatus before after
+    pub does-cut-refusal : GotPart (growth mid after.notes) (refused_text track block fault) → mid.counts.faults ≤ after.notes.counts.faults
+        → Rose mid.counts.faults after.notes.counts.faults → Does (command_for output format) NotesFaultStatus before after
     does-cut-refusal part later rose = record {
       answer = tt;
       says = (cut output NotesFaultStatus (cut-refusal output format before after mid track block fault t part), omega (arith, t.counts.notes, rose));

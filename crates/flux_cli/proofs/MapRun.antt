@@ -35,7 +35,7 @@ module _ {S W N : Type 0} (format : Format) (before after : Outside S W N) (coun
   Maps answer = MapsDisk format before.source.bytes after.source.bytes before.image.bytes after.image.bytes answer
 
   abbrev Caused : PlanAnswer → Type 0
-  Caused answer = MapCause {A = Totals} before.source.faults after.source.faults before.image.faults after.image.faults answer
+  Caused answer = MapCause {A = Totals} before.source.counts.faults after.source.counts.faults before.image.counts.faults after.image.counts.faults answer
 
   -- all was drawn
   drawn : (totals : Totals) → Maps (Ok totals) → Finished (map_work format) (status_of totals None) before after
@@ -108,7 +108,7 @@ module _ {S W N : Type 0} (format : Format) (before after : Outside S W N) (trac
         needed = needed;
       }
 
-  pub map-cut-refusal : GotPart (growth before.notes after.notes) (refused_text track block fault) → Rose before.notes.faults after.notes.faults
+  pub map-cut-refusal : GotPart (growth before.notes after.notes) (refused_text track block fault) → Rose before.notes.counts.faults after.notes.counts.faults
       → Does (Map format) NotesFaultStatus before after
   map-cut-refusal part rose =
       let r = rest before.source after.source d.taken d.consumed in

@@ -43,7 +43,7 @@ module _ {S W N : Type 0} (plan : Plan) (format : Format) (command : Command) (b
   Decodes answer = DecodesPlanned plan (part_by plan.naming) format before.source.bytes after.source.bytes before.image.bytes after.image.bytes before.notes.bytes after.notes.bytes answer
 
   abbrev Caused : PlanAnswer → Type 0
-  Caused answer = PlanCause {A = Totals} before.source.faults after.source.faults before.image.faults after.image.faults before.notes.faults after.notes.faults answer
+  Caused answer = PlanCause {A = Totals} before.source.counts.faults after.source.counts.faults before.image.counts.faults after.image.counts.faults before.notes.counts.faults after.notes.counts.faults answer
 
   -- all was decoded
   decoded : (totals : Totals) → Decodes (Ok totals) → Finished (planned_work plan format) (status_of totals None) before after
@@ -120,7 +120,7 @@ module _ {S W N : Type 0} (plan : Plan) (format : Format) (command : Command) (b
 -- the line of the refusal stands after all that was written
 module _ {S W N : Type 0} (plan : Plan) (format : Format) (command : Command) (by_plan : IsByPlan command plan format) (before after : Outside S W N) (mid : Moment N) (track capture block : ℕ) (fault : StreamFault)
     (d : DecodesPlanned plan (part_by plan.naming) format before.source.bytes after.source.bytes before.image.bytes after.image.bytes before.notes.bytes mid.bytes (Err (Refused track capture block fault)))
-    (counts : NoCountFell before (record after { notes = mid })) (needed : WasReadWhereNeeded (planned_work plan format) before after) (later : mid.faults ≤ after.notes.faults) where
+    (counts : NoCountFell before (record after { notes = mid })) (needed : WasReadWhereNeeded (planned_work plan format) before after) (later : mid.counts.faults ≤ after.notes.counts.faults) where
   abbrev stop : PlanStop
   stop = record { track = track; capture = capture; block = block; fault = fault }
 
@@ -152,7 +152,7 @@ module _ {S W N : Type 0} (plan : Plan) (format : Format) (command : Command) (b
         needed = carried command plan format by_plan (λ (w : Work). WasReadWhereNeeded w before after) needed;
       }
 
-  pub planned-cut-refusal : GotPart (growth mid after.notes) (stop_text plan.naming stop) → Rose mid.faults after.notes.faults
+  pub planned-cut-refusal : GotPart (growth mid after.notes) (stop_text plan.naming stop) → Rose mid.counts.faults after.notes.counts.faults
       → Does command NotesFaultStatus before after
   planned-cut-refusal part rose =
       let r = rest before.source after.source d.taken d.consumed in

@@ -29,9 +29,9 @@ WroteOrCut Done AllGood before after = Done AllGood
 WroteOrCut Done NotAllGood before after = Done NotAllGood
 WroteOrCut Done Refused before after = ⊥
 WroteOrCut Done Usage before after = ⊥
-WroteOrCut Done ReadFault before after = Rose before.source.faults after.source.faults
-WroteOrCut Done ImageFault before after = Rose before.image.faults after.image.faults
-WroteOrCut Done NotesFault before after = Rose before.notes.faults after.notes.faults
+WroteOrCut Done ReadFault before after = Rose before.source.counts.faults after.source.counts.faults
+WroteOrCut Done ImageFault before after = Rose before.image.counts.faults after.image.counts.faults
+WroteOrCut Done NotesFault before after = Rose before.notes.counts.faults after.notes.counts.faults
 WroteOrCut Done Memory before after = after ≡ before
 WroteOrCut Done ShelfFault before after = ⊥
 
@@ -66,7 +66,7 @@ pub record DecodesFolder {H W N : Type 0} (words : List (List ℕ)) (before : On
 -- the same of a run over the shelf, whose faults are those of the shelf
 abbrev pub WroteOrCutOnShelf : {H W N : Type 0} → (Done : Status → Type 0) → Status → (before after : OnShelf H W N) → Type 0
 WroteOrCutOnShelf Done ReadFault before after = ⊥
-WroteOrCutOnShelf Done ShelfFault before after = Rose before.shelf.source.faults after.shelf.source.faults
+WroteOrCutOnShelf Done ShelfFault before after = Rose before.shelf.source.counts.faults after.shelf.source.counts.faults
 WroteOrCutOnShelf Done Memory before after = after ≡ before
 WroteOrCutOnShelf Done status before after = WroteOrCut Done status (as_source before) (as_source after)
 

@@ -29,6 +29,6 @@ pub record DecodesTo {S W N : Type 0} (output : Output) (format : Format) (befor
   pub later : List ℕ
   pub input : IsInput before.source after.source taken later
   pub says : SaysOfOutput output format taken later (growth before.image after.image) (growth before.notes after.notes) answer
-  pub cause : EngineCause before.source.faults after.source.faults before.image.faults after.image.faults before.notes.faults after.notes.faults answer
+  pub cause : EngineCause before.source.counts.faults after.source.counts.faults before.image.counts.faults after.image.counts.faults before.notes.counts.faults after.notes.counts.faults answer
   pub counts : NoCountFell before after
   pub needed : WasReadWhereNeeded (disk_work output format) before after

@@ -44,13 +44,13 @@ pub record Began {H : Type 0} (folder : List ℕ) (format : Format) (answer : Re
   pub left : LeavesWanted before.files folder format answer before.source.bytes after.source.bytes
   pub kept : after.files ≡ before.files
   pub unread : after.given ≡ before.given
-  pub later : before.source.faults ≤ after.source.faults
-  pub cause : OnErr answer (Rose before.source.faults after.source.faults)
+  pub later : before.source.counts.faults ≤ after.source.counts.faults
+  pub cause : OnErr answer (Rose before.source.counts.faults after.source.counts.faults)
 
 -- the notes got the line that says which file is missing; or their fault cut it
 abbrev pub SaysMissing : {N : Type 0} → Status → List ℕ → (before after : Moment N) → Type 0
 SaysMissing Refused line before after = Got (growth before after) line
-SaysMissing NotesFault line before after = GotPart (growth before after) line × Rose before.faults after.faults
+SaysMissing NotesFault line before after = GotPart (growth before after) line × Rose before.counts.faults after.counts.faults
 SaysMissing _ line before after = ⊥
 
 -- the file of the track of this number is missing: the notes say so, and nothing else is touched
@@ -59,7 +59,7 @@ pub record RefusesMissing {H W N : Type 0} (format : Format) (number : ℕ) (sta
   pub is : slice_get (tracks format) number ≡ Some track
   pub says : SaysMissing status (missing_text number track) before.notes after.notes
   pub untouched : after ≡ record before { notes = after.notes }
-  pub later : before.notes.faults ≤ after.notes.faults
+  pub later : before.notes.counts.faults ≤ after.notes.counts.faults
 
 -- a fault of the source is one of the shelf
 abbrev pub over_shelf : Status → Status

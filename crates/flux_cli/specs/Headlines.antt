@@ -147,9 +147,9 @@ GaveOrCut Holds AllGood before after = Gave Holds AllGood before after
 GaveOrCut Holds NotAllGood before after = Gave Holds NotAllGood before after
 GaveOrCut Holds Refused before after = Gave Holds Refused before after
 GaveOrCut Holds Usage before after = Gave Holds Usage before after
-GaveOrCut Holds ReadFault before after = Rose before.source.faults after.source.faults
-GaveOrCut Holds ImageFault before after = Rose before.image.faults after.image.faults
-GaveOrCut Holds NotesFault before after = Rose before.notes.faults after.notes.faults
+GaveOrCut Holds ReadFault before after = Rose before.source.counts.faults after.source.counts.faults
+GaveOrCut Holds ImageFault before after = Rose before.image.counts.faults after.image.counts.faults
+GaveOrCut Holds NotesFault before after = Rose before.notes.counts.faults after.notes.counts.faults
 GaveOrCut Holds Memory before after = after ≡ before
 GaveOrCut Holds ShelfFault before after = ⊥
 

@@ -56,10 +56,10 @@ SaysOfIdentify dump NotAllGood before after = FinishedIdentity dump NotAllGood b
 SaysOfIdentify dump Refused before after = FinishedIdentity dump Refused before after
 SaysOfIdentify dump Usage before after = ⊥
 SaysOfIdentify dump ReadFault before after = ⊥
-SaysOfIdentify dump ImageFault before after = identity_cut dump ImageFault before after × Rose before.image.faults after.image.faults
-SaysOfIdentify dump NotesFault before after = identity_cut dump NotesFault before after × Rose before.notes.faults after.notes.faults
+SaysOfIdentify dump ImageFault before after = identity_cut dump ImageFault before after × Rose before.image.counts.faults after.image.counts.faults
+SaysOfIdentify dump NotesFault before after = identity_cut dump NotesFault before after × Rose before.notes.counts.faults after.notes.counts.faults
 SaysOfIdentify dump Memory before after = after ≡ before
-SaysOfIdentify dump ShelfFault before after = identity_cut dump ShelfFault before after × Rose before.shelf.source.faults after.shelf.source.faults
+SaysOfIdentify dump ShelfFault before after = identity_cut dump ShelfFault before after × Rose before.shelf.source.counts.faults after.shelf.source.counts.faults
 
 -- The dump was read as each disk, and all was given that it comes to; or a fault of one object, which that object counted, cut the
 -- work; or there was no memory to begin.

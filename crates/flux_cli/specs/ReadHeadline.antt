@@ -64,10 +64,10 @@ GaveDumpsOrCut shown disk files NotAllGood before after = GaveShown shown disk f
 GaveDumpsOrCut shown disk files Refused before after = (number : ℕ) × (number < length disk.dumps) × IsFirstEmpty disk files (Some number)
 GaveDumpsOrCut shown disk files Usage before after = ⊥
 GaveDumpsOrCut shown disk files ReadFault before after = ⊥
-GaveDumpsOrCut shown disk files ImageFault before after = Rose before.image.faults after.image.faults
-GaveDumpsOrCut shown disk files NotesFault before after = Rose before.notes.faults after.notes.faults
+GaveDumpsOrCut shown disk files ImageFault before after = Rose before.image.counts.faults after.image.counts.faults
+GaveDumpsOrCut shown disk files NotesFault before after = Rose before.notes.counts.faults after.notes.counts.faults
 GaveDumpsOrCut shown disk files Memory before after = after ≡ before
-GaveDumpsOrCut shown disk files ShelfFault before after = Rose before.shelf.source.faults after.shelf.source.faults
+GaveDumpsOrCut shown disk files ShelfFault before after = Rose before.shelf.source.counts.faults after.shelf.source.counts.faults
 
 -- The headline of `read`.
 abbrev pub ReadsAsExpected : {H W N : Type 0} → (words : List (List ℕ)) → Status → (before after : OnShelf H W N) → Type 0

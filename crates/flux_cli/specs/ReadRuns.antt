@@ -78,16 +78,16 @@ SaysOfRead shown disk NotAllGood before after = FinishedDumps shown disk NotAllG
 SaysOfRead shown disk Refused before after = FinishedDumps shown disk Refused before after
 SaysOfRead shown disk Usage before after = ⊥
 SaysOfRead shown disk ReadFault before after = ⊥
-SaysOfRead shown disk ImageFault before after = dumps_cut shown disk ImageFault before after × Rose before.image.faults after.image.faults
-SaysOfRead shown disk NotesFault before after = dumps_cut shown disk NotesFault before after × Rose before.notes.faults after.notes.faults
+SaysOfRead shown disk ImageFault before after = dumps_cut shown disk ImageFault before after × Rose before.image.counts.faults after.image.counts.faults
+SaysOfRead shown disk NotesFault before after = dumps_cut shown disk NotesFault before after × Rose before.notes.counts.faults after.notes.counts.faults
 SaysOfRead shown disk Memory before after = after ≡ before
-SaysOfRead shown disk ShelfFault before after = dumps_cut shown disk ShelfFault before after × Rose before.shelf.source.faults after.shelf.source.faults
+SaysOfRead shown disk ShelfFault before after = dumps_cut shown disk ShelfFault before after × Rose before.shelf.source.counts.faults after.shelf.source.counts.faults
 
 -- no object's count of faults is lower than it was
 pub record NoneFell {H W N : Type 0} (before after : OnShelf H W N) : Type 0 where
-  pub shelf : before.shelf.source.faults ≤ after.shelf.source.faults
-  pub image : before.image.faults ≤ after.image.faults
-  pub notes : before.notes.faults ≤ after.notes.faults
+  pub shelf : before.shelf.source.counts.faults ≤ after.shelf.source.counts.faults
+  pub image : before.image.counts.faults ≤ after.image.counts.faults
+  pub notes : before.notes.counts.faults ≤ after.notes.counts.faults
 
 -- The dumps were read, and all was given that they come to, by what is shown; or a fault of one object, which that object counted, cut the work; or
 -- there was no memory to begin.

@@ -54,9 +54,9 @@ SaysBy work asked AllGood before after = Finished work AllGood before after
 SaysBy work asked NotAllGood before after = Finished work NotAllGood before after
 SaysBy work asked Refused before after = Finished work Refused before after
 SaysBy work asked Usage before after = Finished work Usage before after
-SaysBy work asked ReadFault before after = IsCut work ReadFault before after × Rose before.source.faults after.source.faults
-SaysBy work asked ImageFault before after = IsCut work ImageFault before after × Rose before.image.faults after.image.faults
-SaysBy work asked NotesFault before after = IsCut work NotesFault before after × Rose before.notes.faults after.notes.faults
+SaysBy work asked ReadFault before after = IsCut work ReadFault before after × Rose before.source.counts.faults after.source.counts.faults
+SaysBy work asked ImageFault before after = IsCut work ImageFault before after × Rose before.image.counts.faults after.image.counts.faults
+SaysBy work asked NotesFault before after = IsCut work NotesFault before after × Rose before.notes.counts.faults after.notes.counts.faults
 SaysBy work asked Memory before after = IsSome asked × (after ≡ before)
 SaysBy work asked ShelfFault before after = ⊥
 
@@ -65,9 +65,9 @@ Says command status before after = SaysBy (work_of command) (Some command) statu
 
 -- no object's count of faults is lower than it was
 pub record NoCountFell {S W N : Type 0} (before after : Outside S W N) : Type 0 where
-  pub source : before.source.faults ≤ after.source.faults
-  pub image : before.image.faults ≤ after.image.faults
-  pub notes : before.notes.faults ≤ after.notes.faults
+  pub source : before.source.counts.faults ≤ after.source.counts.faults
+  pub image : before.image.counts.faults ≤ after.image.counts.faults
+  pub notes : before.notes.counts.faults ≤ after.notes.counts.faults
 
 -- words that ask for nothing get the usage, or a fault of the sink that it was to go to; words that ask for a command do not
 abbrev pub IsAnswer : Option Command → Status → Type 0
@@ -78,7 +78,7 @@ IsAnswer (Some command) Usage = ⊥
 IsAnswer (Some command) _ = Unit {0}
 
 abbrev pub reads_of : {S W N : Type 0} → Outside S W N → SourceMoment
-reads_of now = record { left = now.source.bytes; given = now.given; faults = now.source.faults }
+reads_of now = record { left = now.source.bytes; given = now.given; faults = now.source.counts.faults }
 
 -- A source that tells its bytes was read only where those that it had given did not tell what there is to do. Where they told it,
 -- nothing was taken; and without a read its count of faults stayed.

@@ -23,8 +23,8 @@ pub fn decode<S: Source, W: Sink, N: Sink>(
 ) -> Status
     requires { room.old ≡ fresh room.old.format }
     ensures does { Does (command_for output room.old.format) result
-        (outside (moment S.left S.faults source.old) (S.given source.old) (moment W.written W.faults image.old) (moment N.written N.faults notes.old))
-        (outside (moment S.left S.faults source.new) (S.given source.new) (moment W.written W.faults image.new) (moment N.written N.faults notes.new)) }
+        (outside (moment S.left S.faults S.failed source.old) (S.given source.old) (moment W.written W.faults W.failed image.old) (moment N.written N.faults N.failed notes.old))
+        (outside (moment S.left S.faults S.failed source.new) (S.given source.new) (moment W.written W.faults W.failed image.new) (moment N.written N.faults N.failed notes.new)) }
     ensures memory { result ≢ Status.Memory }
 {
     match decode_to(room, output, source, image, notes) {
@@ -55,8 +55,8 @@ fn decode_to<S: Source, W: Sink, N: Sink>(
 ) -> Result<Totals, EngineFault>
     requires { room.old ≡ fresh room.old.format }
     ensures { DecodesTo output room.old.format
-        (outside (moment S.left S.faults source.old) (S.given source.old) (moment W.written W.faults image.old) (moment N.written N.faults notes.old))
-        (outside (moment S.left S.faults source.new) (S.given source.new) (moment W.written W.faults image.new) (moment N.written N.faults notes.new)) result }
+        (outside (moment S.left S.faults S.failed source.old) (S.given source.old) (moment W.written W.faults W.failed image.old) (moment N.written N.faults N.failed notes.old))
+        (outside (moment S.left S.faults S.failed source.new) (S.given source.new) (moment W.written W.faults W.failed image.new) (moment N.written N.faults N.failed notes.new)) result }
 {
     match output {
         Output::ImageAndReport => decode_disk(room, source, image, notes),

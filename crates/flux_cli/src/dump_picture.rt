@@ -29,8 +29,8 @@ pub fn show<H: Shelf, W: Sink, N: Sink>(
     requires fresh { room.old ≡ fresh room.old.format }
     requires few { length dumps.now.names.now ≤ 16 }
     ensures { DidRead shown (disk_of dumps.now room.old.format) result
-        (on (shelf_moment (moment H.left H.faults shelf.old) (H.given shelf.old) (H.files shelf.old)) (moment W.written W.faults image.old) (moment N.written N.faults notes.old))
-        (on (shelf_moment (moment H.left H.faults shelf.new) (H.given shelf.new) (H.files shelf.new)) (moment W.written W.faults image.new) (moment N.written N.faults notes.new)) }
+        (on (shelf_moment (moment H.left H.faults H.failed shelf.old) (H.given shelf.old) (H.files shelf.old)) (moment W.written W.faults W.failed image.old) (moment N.written N.faults N.failed notes.old))
+        (on (shelf_moment (moment H.left H.faults H.failed shelf.new) (H.given shelf.new) (H.files shelf.new)) (moment W.written W.faults W.failed image.new) (moment N.written N.faults N.failed notes.new)) }
 {
     match shown {
         Shown::Image => read(dumps, room, shelf, image, notes),
@@ -49,8 +49,8 @@ fn draw_dumps<H: Shelf, W: Sink, N: Sink>(
     requires fresh { room.old ≡ fresh room.old.format }
     requires few { length dumps.now.names.now ≤ 16 }
     ensures { DidRead Picture (disk_of dumps.now room.old.format) result
-        (on (shelf_moment (moment H.left H.faults shelf.old) (H.given shelf.old) (H.files shelf.old)) (moment W.written W.faults image.old) (moment N.written N.faults notes.old))
-        (on (shelf_moment (moment H.left H.faults shelf.new) (H.given shelf.new) (H.files shelf.new)) (moment W.written W.faults image.new) (moment N.written N.faults notes.new)) }
+        (on (shelf_moment (moment H.left H.faults H.failed shelf.old) (H.given shelf.old) (H.files shelf.old)) (moment W.written W.faults W.failed image.old) (moment N.written N.faults N.failed notes.old))
+        (on (shelf_moment (moment H.left H.faults H.failed shelf.new) (H.given shelf.new) (H.files shelf.new)) (moment W.written W.faults W.failed image.new) (moment N.written N.faults N.failed notes.new)) }
 {
     match map_dumps(dumps, room, shelf, image) {
         Ok(totals) => status_of(&totals),

@@ -53,8 +53,8 @@ pub fn decode_folder<H: Shelf, W: Sink, N: Sink>(
 ) -> Status
     requires { room.old ≡ fresh format }
     ensures did { DidFolder format folder.now result
-        (on (shelf_moment (moment H.left H.faults shelf.old) (H.given shelf.old) (H.files shelf.old)) (moment W.written W.faults image.old) (moment N.written N.faults notes.old))
-        (on (shelf_moment (moment H.left H.faults shelf.new) (H.given shelf.new) (H.files shelf.new)) (moment W.written W.faults image.new) (moment N.written N.faults notes.new)) }
+        (on (shelf_moment (moment H.left H.faults H.failed shelf.old) (H.given shelf.old) (H.files shelf.old)) (moment W.written W.faults W.failed image.old) (moment N.written N.faults N.failed notes.old))
+        (on (shelf_moment (moment H.left H.faults H.failed shelf.new) (H.given shelf.new) (H.files shelf.new)) (moment W.written W.faults W.failed image.new) (moment N.written N.faults N.failed notes.new)) }
     ensures memory { result ≢ Status.Memory }
 {
     match shelf.begin(folder, format) {

@@ -21,8 +21,8 @@ pub fn to_file<S: Source, W: Sink, N: Sink>(
     notes: &mut N,
 ) -> Status
     ensures does { (disk : Disk) → room.old ≡ format_of disk → Does (ToG64 disk) result
-        (outside (moment S.left S.faults source.old) (S.given source.old) (moment W.written W.faults image.old) (moment N.written N.faults notes.old))
-        (outside (moment S.left S.faults source.new) (S.given source.new) (moment W.written W.faults image.new) (moment N.written N.faults notes.new)) }
+        (outside (moment S.left S.faults S.failed source.old) (S.given source.old) (moment W.written W.faults W.failed image.old) (moment N.written N.faults N.failed notes.old))
+        (outside (moment S.left S.faults S.failed source.new) (S.given source.new) (moment W.written W.faults W.failed image.new) (moment N.written N.faults N.failed notes.new)) }
     ensures memory { result ≢ Status.Memory }
 {
     match to_g64(room, source, image) {
@@ -46,8 +46,8 @@ pub fn from_file<S: Source, W: Sink, N: Sink>(
     notes: &mut N,
 ) -> Status
     ensures does { (disk : Disk) → room.old ≡ format_of disk → Does (FromG64 disk) result
-        (outside (moment S.left S.faults source.old) (S.given source.old) (moment W.written W.faults image.old) (moment N.written N.faults notes.old))
-        (outside (moment S.left S.faults source.new) (S.given source.new) (moment W.written W.faults image.new) (moment N.written N.faults notes.new)) }
+        (outside (moment S.left S.faults S.failed source.old) (S.given source.old) (moment W.written W.faults W.failed image.old) (moment N.written N.faults N.failed notes.old))
+        (outside (moment S.left S.faults S.failed source.new) (S.given source.new) (moment W.written W.faults W.failed image.new) (moment N.written N.faults N.failed notes.new)) }
     ensures memory { result ≢ Status.Memory }
 {
     match from_g64(room, source, image, notes) {

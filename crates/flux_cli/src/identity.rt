@@ -44,8 +44,8 @@ pub fn identify_dump<H: Shelf, W: Sink, N: Sink>(
     notes: &mut N,
 ) -> Status
     ensures { DidIdentify dump.now result
-        (on (shelf_moment (moment H.left H.faults shelf.old) (H.given shelf.old) (H.files shelf.old)) (moment W.written W.faults image.old) (moment N.written N.faults notes.old))
-        (on (shelf_moment (moment H.left H.faults shelf.new) (H.given shelf.new) (H.files shelf.new)) (moment W.written W.faults image.new) (moment N.written N.faults notes.new)) }
+        (on (shelf_moment (moment H.left H.faults H.failed shelf.old) (H.given shelf.old) (H.files shelf.old)) (moment W.written W.faults W.failed image.old) (moment N.written N.faults N.failed notes.old))
+        (on (shelf_moment (moment H.left H.faults H.failed shelf.new) (H.given shelf.new) (H.files shelf.new)) (moment W.written W.faults W.failed image.new) (moment N.written N.faults N.failed notes.new)) }
 {
     match identify(dump, room, shelf, image) {
         Ok(best) => status_of(&best),

@@ -16,8 +16,8 @@ pub fn write<S: Source, W: Sink, N: Sink>(
     notes: &mut N,
 ) -> Status
     ensures does { Does (Write room.old) result
-        (outside (moment S.left S.faults source.old) (S.given source.old) (moment W.written W.faults image.old) (moment N.written N.faults notes.old))
-        (outside (moment S.left S.faults source.new) (S.given source.new) (moment W.written W.faults image.new) (moment N.written N.faults notes.new)) }
+        (outside (moment S.left S.faults S.failed source.old) (S.given source.old) (moment W.written W.faults W.failed image.old) (moment N.written N.faults N.failed notes.old))
+        (outside (moment S.left S.faults S.failed source.new) (S.given source.new) (moment W.written W.faults W.failed image.new) (moment N.written N.faults N.failed notes.new)) }
     ensures memory { result ≢ Status.Memory }
 {
     match write_disk(room, source, image) {

@@ -13,8 +13,8 @@ pub fn tell<S: Source, W: Sink, N: Sink>(
     _notes: &mut N,
 ) -> Status
     ensures { Does (Tell page) result
-        (outside (moment S.left S.faults _source.old) (S.given _source.old) (moment W.written W.faults image.old) (moment N.written N.faults _notes.old))
-        (outside (moment S.left S.faults _source.new) (S.given _source.new) (moment W.written W.faults image.new) (moment N.written N.faults _notes.new)) }
+        (outside (moment S.left S.faults S.failed _source.old) (S.given _source.old) (moment W.written W.faults W.failed image.old) (moment N.written N.faults N.failed _notes.old))
+        (outside (moment S.left S.faults S.failed _source.new) (S.given _source.new) (moment W.written W.faults W.failed image.new) (moment N.written N.faults N.failed _notes.new)) }
 {
     match write_page(page, image) {
         Ok(()) => Status::AllGood,

@@ -64,22 +64,22 @@ pub fn run<S: Source, W: Sink, N: Sink, H: Shelf>(
     // missing, the notes say so and nothing is read; where they name dumps, or ask which disk a dump is of, the files of these are read on the shelf; else the
     // shelf is not touched.
     ensures ran { Ran words.now result
-        (surroundings (outside (moment S.left S.faults source.old) (S.given source.old) (moment W.written W.faults image.old) (moment N.written N.faults notes.old))
-        (shelf_moment (moment H.left H.faults shelf.old) (H.given shelf.old) (H.files shelf.old)))
-        (surroundings (outside (moment S.left S.faults source.new) (S.given source.new) (moment W.written W.faults image.new) (moment N.written N.faults notes.new))
-        (shelf_moment (moment H.left H.faults shelf.new) (H.given shelf.new) (H.files shelf.new))) }
+        (surroundings (outside (moment S.left S.faults S.failed source.old) (S.given source.old) (moment W.written W.faults W.failed image.old) (moment N.written N.faults N.failed notes.old))
+        (shelf_moment (moment H.left H.faults H.failed shelf.old) (H.given shelf.old) (H.files shelf.old)))
+        (surroundings (outside (moment S.left S.faults S.failed source.new) (S.given source.new) (moment W.written W.faults W.failed image.new) (moment N.written N.faults N.failed notes.new))
+        (shelf_moment (moment H.left H.faults H.failed shelf.new) (H.given shelf.new) (H.files shelf.new))) }
 
     // From any streams that carry an image's written tracks, disturbed within the bounds, `decode` writes exactly that
     // image, every sector good; or a counted fault cut it, or there was no memory to begin.
     ensures captured { RunsCaptured words.now result
-        (outside (moment S.left S.faults source.old) (S.given source.old) (moment W.written W.faults image.old) (moment N.written N.faults notes.old))
-        (outside (moment S.left S.faults source.new) (S.given source.new) (moment W.written W.faults image.new) (moment N.written N.faults notes.new)) }
+        (outside (moment S.left S.faults S.failed source.old) (S.given source.old) (moment W.written W.faults W.failed image.old) (moment N.written N.faults N.failed notes.old))
+        (outside (moment S.left S.faults S.failed source.new) (S.given source.new) (moment W.written W.faults W.failed image.new) (moment N.written N.faults N.failed notes.new)) }
 
     // Beside erased stretches it keeps each sector of which one place lies whole between them, and calls no sector
     // contradictory.
     ensures erased { RunsErased words.now result
-        (outside (moment S.left S.faults source.old) (S.given source.old) (moment W.written W.faults image.old) (moment N.written N.faults notes.old))
-        (outside (moment S.left S.faults source.new) (S.given source.new) (moment W.written W.faults image.new) (moment N.written N.faults notes.new)) }
+        (outside (moment S.left S.faults S.failed source.old) (S.given source.old) (moment W.written W.faults W.failed image.old) (moment N.written N.faults N.failed notes.old))
+        (outside (moment S.left S.faults S.failed source.new) (S.given source.new) (moment W.written W.faults W.failed image.new) (moment N.written N.faults N.failed notes.new)) }
 
     // Of what is read of standard input, whatever it is: a sector's line that says good, of a disk that was not refused, names a
     // place of the capture and the clock that it names whose cells hold the sector, with the bytes that the image has at its place.
@@ -89,23 +89,23 @@ pub fn run<S: Source, W: Sink, N: Sink, H: Shelf>(
     // and all good where the drive keeps its speed; a file that was written of an image comes back by `from-g64`; and a trial of a
     // number without a hole prints the line that is known beforehand.
     ensures expected { RunsAsExpected words.now result
-        (outside (moment S.left S.faults source.old) (S.given source.old) (moment W.written W.faults image.old) (moment N.written N.faults notes.old))
-        (outside (moment S.left S.faults source.new) (S.given source.new) (moment W.written W.faults image.new) (moment N.written N.faults notes.new)) }
+        (outside (moment S.left S.faults S.failed source.old) (S.given source.old) (moment W.written W.faults W.failed image.old) (moment N.written N.faults N.failed notes.old))
+        (outside (moment S.left S.faults S.failed source.new) (S.given source.new) (moment W.written W.faults W.failed image.new) (moment N.written N.faults N.failed notes.new)) }
 
     // The same of `decode-folder`, where the files of a folder are such streams and none is missing.
     ensures folder_captured { FolderCaptured words.now result
-        (on (shelf_moment (moment H.left H.faults shelf.old) (H.given shelf.old) (H.files shelf.old)) (moment W.written W.faults image.old) (moment N.written N.faults notes.old))
-        (on (shelf_moment (moment H.left H.faults shelf.new) (H.given shelf.new) (H.files shelf.new)) (moment W.written W.faults image.new) (moment N.written N.faults notes.new)) }
+        (on (shelf_moment (moment H.left H.faults H.failed shelf.old) (H.given shelf.old) (H.files shelf.old)) (moment W.written W.faults W.failed image.old) (moment N.written N.faults N.failed notes.old))
+        (on (shelf_moment (moment H.left H.faults H.failed shelf.new) (H.given shelf.new) (H.files shelf.new)) (moment W.written W.faults W.failed image.new) (moment N.written N.faults N.failed notes.new)) }
     ensures folder_erased { FolderErased words.now result
-        (on (shelf_moment (moment H.left H.faults shelf.old) (H.given shelf.old) (H.files shelf.old)) (moment W.written W.faults image.old) (moment N.written N.faults notes.old))
-        (on (shelf_moment (moment H.left H.faults shelf.new) (H.given shelf.new) (H.files shelf.new)) (moment W.written W.faults image.new) (moment N.written N.faults notes.new)) }
+        (on (shelf_moment (moment H.left H.faults H.failed shelf.old) (H.given shelf.old) (H.files shelf.old)) (moment W.written W.faults W.failed image.old) (moment N.written N.faults N.failed notes.old))
+        (on (shelf_moment (moment H.left H.faults H.failed shelf.new) (H.given shelf.new) (H.files shelf.new)) (moment W.written W.faults W.failed image.new) (moment N.written N.faults N.failed notes.new)) }
 
     // Of `read`, where the shelf tells its files: each sector's line and its bytes are those that all readings of the dumps bear out; a
     // sector that one dump has whole is good with its own bytes or contradictory, and good where the other files are captures too or
     // passed over and the drives kept their speed. A picture of them is that of such a report.
     ensures dumps { ReadsAsExpected words.now result
-        (on (shelf_moment (moment H.left H.faults shelf.old) (H.given shelf.old) (H.files shelf.old)) (moment W.written W.faults image.old) (moment N.written N.faults notes.old))
-        (on (shelf_moment (moment H.left H.faults shelf.new) (H.given shelf.new) (H.files shelf.new)) (moment W.written W.faults image.new) (moment N.written N.faults notes.new)) }
+        (on (shelf_moment (moment H.left H.faults H.failed shelf.old) (H.given shelf.old) (H.files shelf.old)) (moment W.written W.faults W.failed image.old) (moment N.written N.faults N.failed notes.old))
+        (on (shelf_moment (moment H.left H.faults H.failed shelf.new) (H.given shelf.new) (H.files shelf.new)) (moment W.written W.faults W.failed image.new) (moment N.written N.faults N.failed notes.new)) }
 {
     words_name_formats();
     captured_disks_decode();
@@ -135,10 +135,10 @@ fn run_words<S: Source, W: Sink, N: Sink, H: Shelf>(
     shelf: &mut H,
 ) -> Status
     ensures { Ran words.now result
-        (surroundings (outside (moment S.left S.faults source.old) (S.given source.old) (moment W.written W.faults image.old) (moment N.written N.faults notes.old))
-        (shelf_moment (moment H.left H.faults shelf.old) (H.given shelf.old) (H.files shelf.old)))
-        (surroundings (outside (moment S.left S.faults source.new) (S.given source.new) (moment W.written W.faults image.new) (moment N.written N.faults notes.new))
-        (shelf_moment (moment H.left H.faults shelf.new) (H.given shelf.new) (H.files shelf.new))) }
+        (surroundings (outside (moment S.left S.faults S.failed source.old) (S.given source.old) (moment W.written W.faults W.failed image.old) (moment N.written N.faults N.failed notes.old))
+        (shelf_moment (moment H.left H.faults H.failed shelf.old) (H.given shelf.old) (H.files shelf.old)))
+        (surroundings (outside (moment S.left S.faults S.failed source.new) (S.given source.new) (moment W.written W.faults W.failed image.new) (moment N.written N.faults N.failed notes.new))
+        (shelf_moment (moment H.left H.faults H.failed shelf.new) (H.given shelf.new) (H.files shelf.new))) }
 {
     match folder_of(words) {
         None => match dumps_of(words) {
@@ -165,8 +165,8 @@ fn run_read<W: Sink, N: Sink, H: Shelf>(
 ) -> Status
     requires { length asked.dumps.now ≤ 8 }
     ensures { DidRead (shown_of asked.entry.options) (asked_disk (asked_of asked.entry)) result
-        (on (shelf_moment (moment H.left H.faults shelf.old) (H.given shelf.old) (H.files shelf.old)) (moment W.written W.faults image.old) (moment N.written N.faults notes.old))
-        (on (shelf_moment (moment H.left H.faults shelf.new) (H.given shelf.new) (H.files shelf.new)) (moment W.written W.faults image.new) (moment N.written N.faults notes.new)) }
+        (on (shelf_moment (moment H.left H.faults H.failed shelf.old) (H.given shelf.old) (H.files shelf.old)) (moment W.written W.faults W.failed image.old) (moment N.written N.faults N.failed notes.old))
+        (on (shelf_moment (moment H.left H.faults H.failed shelf.new) (H.given shelf.new) (H.files shelf.new)) (moment W.written W.faults W.failed image.new) (moment N.written N.faults N.failed notes.new)) }
 {
     let dumps = Dumps {
         names: asked.dumps,
@@ -194,8 +194,8 @@ fn run_identity<W: Sink, N: Sink, H: Shelf>(
     notes: &mut N,
 ) -> Status
     ensures { DidIdentify dump.now result
-        (on (shelf_moment (moment H.left H.faults shelf.old) (H.given shelf.old) (H.files shelf.old)) (moment W.written W.faults image.old) (moment N.written N.faults notes.old))
-        (on (shelf_moment (moment H.left H.faults shelf.new) (H.given shelf.new) (H.files shelf.new)) (moment W.written W.faults image.new) (moment N.written N.faults notes.new)) }
+        (on (shelf_moment (moment H.left H.faults H.failed shelf.old) (H.given shelf.old) (H.files shelf.old)) (moment W.written W.faults W.failed image.old) (moment N.written N.faults N.failed notes.old))
+        (on (shelf_moment (moment H.left H.faults H.failed shelf.new) (H.given shelf.new) (H.files shelf.new)) (moment W.written W.faults W.failed image.new) (moment N.written N.faults N.failed notes.new)) }
 {
     match IdentityRoom::reserve(alloc) {
         Ok(room) => identify_dump(dump, room, shelf, image, notes),
@@ -212,8 +212,8 @@ fn run_over_source<S: Source, W: Sink, N: Sink>(
     notes: &mut N,
 ) -> Status
     ensures { RanOverSource words.now result
-        (outside (moment S.left S.faults source.old) (S.given source.old) (moment W.written W.faults image.old) (moment N.written N.faults notes.old))
-        (outside (moment S.left S.faults source.new) (S.given source.new) (moment W.written W.faults image.new) (moment N.written N.faults notes.new)) }
+        (outside (moment S.left S.faults S.failed source.old) (S.given source.old) (moment W.written W.faults W.failed image.old) (moment N.written N.faults N.failed notes.old))
+        (outside (moment S.left S.faults S.failed source.new) (S.given source.new) (moment W.written W.faults W.failed image.new) (moment N.written N.faults N.failed notes.new)) }
 {
     match command_of(words) {
         None => match write_wrong_words(words, notes) {
@@ -248,8 +248,8 @@ fn run_turns<S: Source, W: Sink, N: Sink>(
     notes: &mut N,
 ) -> Status
     ensures { Does Turns result
-        (outside (moment S.left S.faults source.old) (S.given source.old) (moment W.written W.faults image.old) (moment N.written N.faults notes.old))
-        (outside (moment S.left S.faults source.new) (S.given source.new) (moment W.written W.faults image.new) (moment N.written N.faults notes.new)) }
+        (outside (moment S.left S.faults S.failed source.old) (S.given source.old) (moment W.written W.faults W.failed image.old) (moment N.written N.faults N.failed notes.old))
+        (outside (moment S.left S.faults S.failed source.new) (S.given source.new) (moment W.written W.faults W.failed image.new) (moment N.written N.faults N.failed notes.new)) }
 {
     match StreamRoom::reserve(alloc) {
         Ok(mut room) => turns(&mut room, source, image, notes),
@@ -267,8 +267,8 @@ fn run_decode<S: Source, W: Sink, N: Sink>(
     notes: &mut N,
 ) -> Status
     ensures { Does (command_for output format) result
-        (outside (moment S.left S.faults source.old) (S.given source.old) (moment W.written W.faults image.old) (moment N.written N.faults notes.old))
-        (outside (moment S.left S.faults source.new) (S.given source.new) (moment W.written W.faults image.new) (moment N.written N.faults notes.new)) }
+        (outside (moment S.left S.faults S.failed source.old) (S.given source.old) (moment W.written W.faults W.failed image.old) (moment N.written N.faults N.failed notes.old))
+        (outside (moment S.left S.faults S.failed source.new) (S.given source.new) (moment W.written W.faults W.failed image.new) (moment N.written N.faults N.failed notes.new)) }
 {
     match DiskRoom::reserve(alloc, format) {
         Ok(mut room) => decode(&mut room, output, source, image, notes),
@@ -285,8 +285,8 @@ fn run_map<S: Source, W: Sink, N: Sink>(
     notes: &mut N,
 ) -> Status
     ensures { Does (Map format) result
-        (outside (moment S.left S.faults source.old) (S.given source.old) (moment W.written W.faults image.old) (moment N.written N.faults notes.old))
-        (outside (moment S.left S.faults source.new) (S.given source.new) (moment W.written W.faults image.new) (moment N.written N.faults notes.new)) }
+        (outside (moment S.left S.faults S.failed source.old) (S.given source.old) (moment W.written W.faults W.failed image.old) (moment N.written N.faults N.failed notes.old))
+        (outside (moment S.left S.faults S.failed source.new) (S.given source.new) (moment W.written W.faults W.failed image.new) (moment N.written N.faults N.failed notes.new)) }
 {
     match DiskRoom::reserve(alloc, format) {
         Ok(mut room) => draw(&mut room, source, image, notes),
@@ -303,8 +303,8 @@ fn run_write<S: Source, W: Sink, N: Sink>(
     notes: &mut N,
 ) -> Status
     ensures { Does (Write format) result
-        (outside (moment S.left S.faults source.old) (S.given source.old) (moment W.written W.faults image.old) (moment N.written N.faults notes.old))
-        (outside (moment S.left S.faults source.new) (S.given source.new) (moment W.written W.faults image.new) (moment N.written N.faults notes.new)) }
+        (outside (moment S.left S.faults S.failed source.old) (S.given source.old) (moment W.written W.faults W.failed image.old) (moment N.written N.faults N.failed notes.old))
+        (outside (moment S.left S.faults S.failed source.new) (S.given source.new) (moment W.written W.faults W.failed image.new) (moment N.written N.faults N.failed notes.new)) }
 {
     match WriteRoom::reserve(alloc, format) {
         Ok(mut room) => write(&mut room, source, image, notes),
@@ -322,8 +322,8 @@ fn run_trial<S: Source, W: Sink, N: Sink>(
     notes: &mut N,
 ) -> Status
     ensures { Does (Trial format seed) result
-        (outside (moment S.left S.faults source.old) (S.given source.old) (moment W.written W.faults image.old) (moment N.written N.faults notes.old))
-        (outside (moment S.left S.faults source.new) (S.given source.new) (moment W.written W.faults image.new) (moment N.written N.faults notes.new)) }
+        (outside (moment S.left S.faults S.failed source.old) (S.given source.old) (moment W.written W.faults W.failed image.old) (moment N.written N.faults N.failed notes.old))
+        (outside (moment S.left S.faults S.failed source.new) (S.given source.new) (moment W.written W.faults W.failed image.new) (moment N.written N.faults N.failed notes.new)) }
 {
     match TrialRoom::reserve(alloc, format) {
         Ok(mut room) => trial(&mut room, seed, source, image, notes),
@@ -340,8 +340,8 @@ fn run_to_file<S: Source, W: Sink, N: Sink>(
     notes: &mut N,
 ) -> Status
     ensures { Does (ToG64 disk) result
-        (outside (moment S.left S.faults source.old) (S.given source.old) (moment W.written W.faults image.old) (moment N.written N.faults notes.old))
-        (outside (moment S.left S.faults source.new) (S.given source.new) (moment W.written W.faults image.new) (moment N.written N.faults notes.new)) }
+        (outside (moment S.left S.faults S.failed source.old) (S.given source.old) (moment W.written W.faults W.failed image.old) (moment N.written N.faults N.failed notes.old))
+        (outside (moment S.left S.faults S.failed source.new) (S.given source.new) (moment W.written W.faults W.failed image.new) (moment N.written N.faults N.failed notes.new)) }
 {
     match G64Room::reserve(alloc, disk.format()) {
         Ok(mut room) => to_file(&mut room, source, image, notes),
@@ -358,8 +358,8 @@ fn run_from_file<S: Source, W: Sink, N: Sink>(
     notes: &mut N,
 ) -> Status
     ensures { Does (FromG64 disk) result
-        (outside (moment S.left S.faults source.old) (S.given source.old) (moment W.written W.faults image.old) (moment N.written N.faults notes.old))
-        (outside (moment S.left S.faults source.new) (S.given source.new) (moment W.written W.faults image.new) (moment N.written N.faults notes.new)) }
+        (outside (moment S.left S.faults S.failed source.old) (S.given source.old) (moment W.written W.faults W.failed image.old) (moment N.written N.faults N.failed notes.old))
+        (outside (moment S.left S.faults S.failed source.new) (S.given source.new) (moment W.written W.faults W.failed image.new) (moment N.written N.faults N.failed notes.new)) }
 {
     match G64Room::reserve(alloc, disk.format()) {
         Ok(mut room) => from_file(&mut room, source, image, notes),
@@ -379,8 +379,8 @@ fn run_set<S: Source, W: Sink, N: Sink>(
     requires some { 1 ≤ count }
     requires few { count ≤ 16 }
     ensures { Does (DecodeSet format count) result
-        (outside (moment S.left S.faults source.old) (S.given source.old) (moment W.written W.faults image.old) (moment N.written N.faults notes.old))
-        (outside (moment S.left S.faults source.new) (S.given source.new) (moment W.written W.faults image.new) (moment N.written N.faults notes.new)) }
+        (outside (moment S.left S.faults S.failed source.old) (S.given source.old) (moment W.written W.faults W.failed image.old) (moment N.written N.faults N.failed notes.old))
+        (outside (moment S.left S.faults S.failed source.new) (S.given source.new) (moment W.written W.faults W.failed image.new) (moment N.written N.faults N.failed notes.new)) }
 {
     match DiskRoom::reserve(alloc, format) {
         Ok(mut room) => decode_captures(&mut room, count, source, image, notes),
@@ -397,8 +397,8 @@ fn run_rescue<S: Source, W: Sink, N: Sink>(
     notes: &mut N,
 ) -> Status
     ensures { Does (Rescue format) result
-        (outside (moment S.left S.faults source.old) (S.given source.old) (moment W.written W.faults image.old) (moment N.written N.faults notes.old))
-        (outside (moment S.left S.faults source.new) (S.given source.new) (moment W.written W.faults image.new) (moment N.written N.faults notes.new)) }
+        (outside (moment S.left S.faults S.failed source.old) (S.given source.old) (moment W.written W.faults W.failed image.old) (moment N.written N.faults N.failed notes.old))
+        (outside (moment S.left S.faults S.failed source.new) (S.given source.new) (moment W.written W.faults W.failed image.new) (moment N.written N.faults N.failed notes.new)) }
 {
     match DiskRoom::reserve(alloc, format) {
         Ok(mut room) => rescue(&mut room, source, image, notes),
@@ -415,8 +415,8 @@ fn turns<S: Source, W: Sink, N: Sink>(
 ) -> Status
     requires { IsFresh room.old }
     ensures does { Does Turns result
-        (outside (moment S.left S.faults source.old) (S.given source.old) (moment W.written W.faults image.old) (moment N.written N.faults notes.old))
-        (outside (moment S.left S.faults source.new) (S.given source.new) (moment W.written W.faults image.new) (moment N.written N.faults notes.new)) }
+        (outside (moment S.left S.faults S.failed source.old) (S.given source.old) (moment W.written W.faults W.failed image.old) (moment N.written N.faults N.failed notes.old))
+        (outside (moment S.left S.faults S.failed source.new) (S.given source.new) (moment W.written W.faults W.failed image.new) (moment N.written N.faults N.failed notes.new)) }
     ensures memory { result ≢ Status.Memory }
 {
     match room.read(source) {

@@ -17,8 +17,8 @@ pub fn trial<S: Source, W: Sink, N: Sink>(
 ) -> Status
     requires { room.old.used ≡ false }
     ensures does { Does (Trial room.old.format seed) result
-        (outside (moment S.left S.faults _source.old) (S.given _source.old) (moment W.written W.faults image.old) (moment N.written N.faults _notes.old))
-        (outside (moment S.left S.faults _source.new) (S.given _source.new) (moment W.written W.faults image.new) (moment N.written N.faults _notes.new)) }
+        (outside (moment S.left S.faults S.failed _source.old) (S.given _source.old) (moment W.written W.faults W.failed image.old) (moment N.written N.faults N.failed _notes.old))
+        (outside (moment S.left S.faults S.failed _source.new) (S.given _source.new) (moment W.written W.faults W.failed image.new) (moment N.written N.faults N.failed _notes.new)) }
     ensures memory { result ≢ Status.Memory }
 {
     match run_trial(room, seed, image) {

@@ -10,7 +10,7 @@ use sector_report::{transitions_line, turn_line, write_line};
 pub fn write_turns<W: Sink>(flux: &TrackFlux, sink: &mut W) -> Result<(), Failed>
     requires times { length flux.now.times < 2 ^ 32 }
     requires indexes { length flux.now.indexes < 2 ^ 32 }
-    ensures { Puts (moment W.written W.faults sink.old) (moment W.written W.faults sink.new) (turns_text flux.now.times flux.now.indexes) result }
+    ensures { Puts (moment W.written W.faults W.failed sink.old) (moment W.written W.faults W.failed sink.new) (turns_text flux.now.times flux.now.indexes) result }
 {
     let line = transitions_line(flux.times().len() as u32);
     match write_line(sink, &line) {
@@ -22,7 +22,7 @@ pub fn write_turns<W: Sink>(flux: &TrackFlux, sink: &mut W) -> Result<(), Failed
 /// Writes a line for each turn.
 fn write_turn_lines<W: Sink>(flux: &TrackFlux, sink: &mut W) -> Result<(), Failed>
     requires { length flux.now.indexes < 2 ^ 32 }
-    ensures { Puts (moment W.written W.faults sink.old) (moment W.written W.faults sink.new) (turn_lines flux.now.indexes (length flux.now.indexes - 1)) result }
+    ensures { Puts (moment W.written W.faults W.failed sink.old) (moment W.written W.faults W.failed sink.new) (turn_lines flux.now.indexes (length flux.now.indexes - 1)) result }
 {
     for turn in 1..flux.indexes().len() as u32 {
         let line = turn_line(turn, flux.turn_ticks(turn));

@@ -94,7 +94,7 @@ fn write_tracks<W: Sink>(
 ) -> Result<(), Failed>
     requires image { length image.now ≡ (row format).image_size }
     requires room { HasRoomForRings format ring.old }
-    ensures puts { Puts (moment W.written W.faults sink.old) (moment W.written W.faults sink.new) (streams_of format image.now) result }
+    ensures puts { Puts (moment W.written W.faults W.failed sink.old) (moment W.written W.faults W.failed sink.new) (streams_of format image.now) result }
     ensures room { room ring.old ≤ room ring.new }
 {
     tracks_keep_bounds();

@@ -17,7 +17,7 @@ use sector_report::{trial_line, write_line};
 pub fn run_trial<W: Sink>(room: &mut TrialRoom, seed: u32, sink: &mut W) -> Result<(), Failed>
     requires { room.old.used ≡ false }
     ensures { (line : List ℕ) × IsTrialLine room.old.format seed line
-        × Puts (moment W.written W.faults sink.old) (moment W.written W.faults sink.new) line result }
+        × Puts (moment W.written W.faults W.failed sink.old) (moment W.written W.faults W.failed sink.new) line result }
 {
     written_law();
     growth_law();

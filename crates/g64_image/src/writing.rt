@@ -73,7 +73,7 @@ fn write_file<W: Sink>(
     requires format { IsCommodore format }
     requires image { length image.now ≡ (row format).image_size }
     requires room { 1048560 ≤ room ring.old }
-    ensures puts { Puts (moment W.written W.faults sink.old) (moment W.written W.faults sink.new) (g64_file format image.now) result }
+    ensures puts { Puts (moment W.written W.faults W.failed sink.old) (moment W.written W.faults W.failed sink.new) (g64_file format image.now) result }
     ensures room { room ring.old ≤ room ring.new }
 {
     let front = front(format);
@@ -93,7 +93,7 @@ fn write_tracks<W: Sink>(
     requires format { IsCommodore format }
     requires image { length image.now ≡ (row format).image_size }
     requires room { 1048560 ≤ room ring.old }
-    ensures puts { Puts (moment W.written W.faults sink.old) (moment W.written W.faults sink.new) (records format image.now) result }
+    ensures puts { Puts (moment W.written W.faults W.failed sink.old) (moment W.written W.faults W.failed sink.new) (records format image.now) result }
     ensures room { room ring.old ≤ room ring.new }
 {
     for number in 0..track_count(format) {

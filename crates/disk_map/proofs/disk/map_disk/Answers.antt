@@ -26,8 +26,8 @@ returns-in-Err-clause-told g c = λ bytes told.
 pub returns-in-Err-decode_planned_tracks-clause-mapped : goal.returns-in-Err-decode_planned_tracks-clause-mapped
 returns-in-Err-decode_planned_tracks-clause-mapped g c =
     let e = c.in-Err-decode_planned_tracks.ensures in
-    let picture = moment g.P.Sink.written g.P.Sink.faults c.decode_planned_tracks.new.image in
-    let picture' = moment g.P.Sink.written g.P.Sink.faults c.end_early.new.picture in
+    let picture = moment g.P.Sink.written g.P.Sink.faults g.P.Sink.failed c.decode_planned_tracks.new.image in
+    let picture' = moment g.P.Sink.written g.P.Sink.faults g.P.Sink.failed c.end_early.new.picture in
     mapped_fault c.args.room.now.format _ _ _ (g.P.Sink.written c.write_top.new.picture) _ _ c.decode_planned_tracks.new.totals
     (subst (λ (f : Format). Appends (g.P.Sink.written c.args.picture.now) (g.P.Sink.written c.write_top.new.picture) (top_text f)) c.room_format-format.ensures c.in-Ok.ensures.ok)
     picture picture' c.in-Err-decode_planned_tracks.fault c.end_early.result e.err (no_notes_fault _ _ _ _ c.in-Err-decode_planned_tracks.fault e.cause)

@@ -19,7 +19,7 @@ returns-in-Err-read_dump_tracks-clause-says g c =
 
 pub returns-in-Err-read_dump_tracks-clause-cause : goal.returns-in-Err-read_dump_tracks-clause-cause
 returns-in-Err-read_dump_tracks-clause-cause g c =
-    cause-since c.in-Err-read_dump_tracks.fault _ _ _ _ _ _ c.in-Ok-None.ensures.later c.in-Ok.ensures.later c.in-Err-read_dump_tracks.ensures.cause
+    cause-since c.in-Err-read_dump_tracks.fault _ _ _ _ _ _ c.in-Ok-None.ensures.later c.in-Ok.ensures.counts.later c.in-Err-read_dump_tracks.ensures.cause
 
 pub returns-in-Ok-write_foot-clause-says : goal.returns-in-Ok-write_foot-clause-says
 returns-in-Ok-write_foot-clause-says g c = (

@@ -32,7 +32,7 @@ loop-index-preserved g c = record {
       ∙ ap totals_of (sym (map-range_with_len_more (verdict readings) c.sectors_of-sectors.result.first c.loop-index.index sector (omega arith)));
   sum = c.count_verdict.ensures.sum;
   number = c.count_verdict.ensures.one ∙ ap (λ (n : ℕ). n + 1) c.loop-index.invariant.number;
-  later = omega (arith, c.loop-index.invariant.later, c.write_text.ensures.later);
+  later = omega (arith, c.loop-index.invariant.later, c.write_text.ensures.counts.later);
 }
 
 pub returns-in-Err-clause-err : goal.returns-in-Err-clause-err

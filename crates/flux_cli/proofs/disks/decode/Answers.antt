@@ -21,11 +21,11 @@ returns-in-Err-NotesFault-clause-does g c =
 pub returns-in-Ok-write_line-clause-does : goal.returns-in-Ok-write_line-clause-does
 returns-in-Ok-write_line-clause-does g c =
     let e = c.in-Err-Refused in
-    does-refuse c.args.room.now.format _ _ c.args.output (moment g.N.Sink.written g.N.Sink.faults c.decode_to.new.notes) e.track e.block e.fault
-    (rw e.field-0-is at e.ensures) (rw c.refused_line.ensures at c.in-Ok-write_line.ensures.ok) c.in-Ok-write_line.ensures.later
+    does-refuse c.args.room.now.format _ _ c.args.output (moment g.N.Sink.written g.N.Sink.faults g.N.Sink.failed c.decode_to.new.notes) e.track e.block e.fault
+    (rw e.field-0-is at e.ensures) (rw c.refused_line.ensures at c.in-Ok-write_line.ensures.ok) c.in-Ok-write_line.ensures.counts.later
 
 pub returns-in-Err-clause-does : goal.returns-in-Err-clause-does
 returns-in-Err-clause-does g c =
     let e = c.in-Err-Refused in
-    does-cut-refusal c.args.room.now.format _ _ c.args.output (moment g.N.Sink.written g.N.Sink.faults c.decode_to.new.notes) e.track e.block e.fault
-    (rw e.field-0-is at e.ensures) (rw c.refused_line.ensures at c.in-Err.ensures.err) c.in-Err.ensures.later c.in-Err.ensures.cause
+    does-cut-refusal c.args.room.now.format _ _ c.args.output (moment g.N.Sink.written g.N.Sink.faults g.N.Sink.failed c.decode_to.new.notes) e.track e.block e.fault
+    (rw e.field-0-is at e.ensures) (rw c.refused_line.ensures at c.in-Err.ensures.err) c.in-Err.ensures.counts.later c.in-Err.ensures.counts.cause

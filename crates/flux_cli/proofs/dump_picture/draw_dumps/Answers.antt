@@ -19,7 +19,7 @@ returns-in-Ok-write_line g c =
     let says = rw r.field-0-is at r.ensures.says in
     record {
       says = read-empty Picture (disk_of c.args.dumps.now c.args.room.now.format) _ _ r.dump says.0 says.1 says.2 _ refl (rw c.no_files_line.ensures at c.in-Ok-write_line.ensures.ok);
-      counts = record { shelf = r.ensures.shelf_later; image = r.ensures.picture_later; notes = c.in-Ok-write_line.ensures.later };
+      counts = record { shelf = r.ensures.shelf_later; image = r.ensures.picture_later; notes = c.in-Ok-write_line.ensures.counts.later };
     }
 
 pub returns-in-Err : goal.returns-in-Err
@@ -29,9 +29,9 @@ returns-in-Err g c =
     record {
       says = (
         read-cut-empty Picture (disk_of c.args.dumps.now c.args.room.now.format) _ _ r.dump says.0 says.1 says.2 _ refl (rw c.no_files_line.ensures at c.in-Err.ensures.err),
-        c.in-Err.ensures.cause,
+        c.in-Err.ensures.counts.cause,
       );
-      counts = record { shelf = r.ensures.shelf_later; image = r.ensures.picture_later; notes = c.in-Err.ensures.later };
+      counts = record { shelf = r.ensures.shelf_later; image = r.ensures.picture_later; notes = c.in-Err.ensures.counts.later };
     }
 
 pub returns-in-Err-ShelfFault : goal.returns-in-Err-ShelfFault

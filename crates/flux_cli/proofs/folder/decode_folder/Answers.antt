@@ -28,7 +28,7 @@ returns-in-Ok-clause-did g c =
     folder-lacks c.args.format c.args.folder.now _ _ _ c.begin.result _
     (record { bound = e.bound; missing = e.missing; left = e.left; kept = e.kept; unread = e.unread; later = e.later; cause = e.cause })
     c.in-Ok-Some.number (c.in-Ok-Some.is ∙ ap Ok c.in-Ok-Some.field-0-is)
-    (record { track = c.track_id.result; is = c.track_id.ensures.at; says = rw c.missing_line.ensures at c.in-Ok.ensures.ok; untouched = refl; later = c.in-Ok.ensures.later })
+    (record { track = c.track_id.result; is = c.track_id.ensures.at; says = rw c.missing_line.ensures at c.in-Ok.ensures.ok; untouched = refl; later = c.in-Ok.ensures.counts.later })
 
 pub returns-in-Err-write_line-clause-did : goal.returns-in-Err-write_line-clause-did
 returns-in-Err-write_line-clause-did g c =
@@ -39,9 +39,9 @@ returns-in-Err-write_line-clause-did g c =
     (record {
       track = c.track_id.result;
       is = c.track_id.ensures.at;
-      says = (rw c.missing_line.ensures at c.in-Err-write_line.ensures.err, c.in-Err-write_line.ensures.cause);
+      says = (rw c.missing_line.ensures at c.in-Err-write_line.ensures.err, c.in-Err-write_line.ensures.counts.cause);
       untouched = refl;
-      later = c.in-Err-write_line.ensures.later;
+      later = c.in-Err-write_line.ensures.counts.later;
     })
 
 pub returns-in-Err-clause-did : goal.returns-in-Err-clause-did

@@ -44,7 +44,7 @@ returns-in-Ok-write_line-clause-does g c = λ disk is.
       answer = tt;
       says = file-refuse (format_of disk) _ _ (g.N.Sink.written c.from_g64.new.notes) e.fault (rw (e.field-0-is, is) at e.ensures.read)
           (rw c.g64_line.ensures at c.in-Ok-write_line.ensures.ok);
-      counts = record { source = e.ensures.source_later; image = e.ensures.image_later; notes = omega (arith, e.ensures.notes_later, c.in-Ok-write_line.ensures.later) };
+      counts = record { source = e.ensures.source_later; image = e.ensures.image_later; notes = omega (arith, e.ensures.notes_later, c.in-Ok-write_line.ensures.counts.later) };
       needed = λ x told. file-reads e.ensures.needed;
     }
 
@@ -55,8 +55,8 @@ returns-in-Err-clause-does g c = λ disk is.
       says = (
         (let part = rw c.g64_line.ensures at c.in-Err.ensures.err in
             file-cut-refusal (format_of disk) _ _ (g.N.Sink.written c.from_g64.new.notes) e.fault (rw (e.field-0-is, is) at e.ensures.read) part.0 part.1 part.2),
-        omega (arith, e.ensures.notes_later, c.in-Err.ensures.cause),
+        omega (arith, e.ensures.notes_later, c.in-Err.ensures.counts.cause),
       );
-      counts = record { source = e.ensures.source_later; image = e.ensures.image_later; notes = omega (arith, e.ensures.notes_later, c.in-Err.ensures.later) };
+      counts = record { source = e.ensures.source_later; image = e.ensures.image_later; notes = omega (arith, e.ensures.notes_later, c.in-Err.ensures.counts.later) };
       needed = λ x told. file-reads e.ensures.needed;
     }

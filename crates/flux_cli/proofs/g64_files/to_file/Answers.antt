@@ -47,7 +47,7 @@ returns-in-Ok-write_line-clause-does g c = λ disk is.
       answer = tt;
       says = image-refuse (g64_file (format_of disk)) (format_of disk) _ _ w.taken w.consumed e.read e.wanted w.says.0 w.says.1 w.says.2 w.says.3
           (rw c.image_line.ensures at c.in-Ok-write_line.ensures.ok);
-      counts = record { source = e.ensures.source_later; image = e.ensures.sink_later; notes = c.in-Ok-write_line.ensures.later };
+      counts = record { source = e.ensures.source_later; image = e.ensures.sink_later; notes = c.in-Ok-write_line.ensures.counts.later };
       needed = λ x told. image-reads (format_of disk) (rw is at e.ensures.needed);
     }
 
@@ -59,8 +59,8 @@ returns-in-Err-clause-does g c = λ disk is.
       says = (
         image-cut-notes (g64_file (format_of disk)) (format_of disk) _ _ w.taken w.consumed e.read e.wanted w.says.0 w.says.1 w.says.2 w.says.3
             (rw c.image_line.ensures at c.in-Err.ensures.err),
-        c.in-Err.ensures.cause,
+        c.in-Err.ensures.counts.cause,
       );
-      counts = record { source = e.ensures.source_later; image = e.ensures.sink_later; notes = c.in-Err.ensures.later };
+      counts = record { source = e.ensures.source_later; image = e.ensures.sink_later; notes = c.in-Err.ensures.counts.later };
       needed = λ x told. image-reads (format_of disk) (rw is at e.ensures.needed);
     }

@@ -17,7 +17,7 @@ returns-in-Ok-write_line g c =
     let says = rw r.field-0-is at r.ensures.says in
     record {
       says = identity-refused c.args.dump.now _ _ says.0 says.1 (rw c.no_files_line.ensures at c.in-Ok-write_line.ensures.ok);
-      counts = record { shelf = r.ensures.shelf_later; image = r.ensures.lines_later; notes = c.in-Ok-write_line.ensures.later };
+      counts = record { shelf = r.ensures.shelf_later; image = r.ensures.lines_later; notes = c.in-Ok-write_line.ensures.counts.later };
     }
 
 pub returns-in-Err : goal.returns-in-Err
@@ -25,8 +25,8 @@ returns-in-Err g c =
     let r = c.in-Err-NoFiles in
     let says = rw r.field-0-is at r.ensures.says in
     record {
-      says = ((says.0, says.1, rw c.no_files_line.ensures at c.in-Err.ensures.err), c.in-Err.ensures.cause);
-      counts = record { shelf = r.ensures.shelf_later; image = r.ensures.lines_later; notes = c.in-Err.ensures.later };
+      says = ((says.0, says.1, rw c.no_files_line.ensures at c.in-Err.ensures.err), c.in-Err.ensures.counts.cause);
+      counts = record { shelf = r.ensures.shelf_later; image = r.ensures.lines_later; notes = c.in-Err.ensures.counts.later };
     }
 
 pub returns-in-Err-ShelfFault : goal.returns-in-Err-ShelfFault

@@ -46,7 +46,7 @@ returns-in-Ok-write_line-clause-does g c =
       answer = tt;
       says = image-refuse (streams_of c.args.room.now) c.args.room.now _ _ w.taken w.consumed e.read e.wanted w.says.0 w.says.1 w.says.2 w.says.3
           (rw c.image_line.ensures at c.in-Ok-write_line.ensures.ok);
-      counts = record { source = e.ensures.source_later; image = e.ensures.sink_later; notes = c.in-Ok-write_line.ensures.later };
+      counts = record { source = e.ensures.source_later; image = e.ensures.sink_later; notes = c.in-Ok-write_line.ensures.counts.later };
       needed = λ x told. image-reads c.args.room.now e.ensures.needed;
     }
 
@@ -58,8 +58,8 @@ returns-in-Err-clause-does g c =
       says = (
         image-cut-notes (streams_of c.args.room.now) c.args.room.now _ _ w.taken w.consumed e.read e.wanted w.says.0 w.says.1 w.says.2 w.says.3
             (rw c.image_line.ensures at c.in-Err.ensures.err),
-        c.in-Err.ensures.cause,
+        c.in-Err.ensures.counts.cause,
       );
-      counts = record { source = e.ensures.source_later; image = e.ensures.sink_later; notes = c.in-Err.ensures.later };
+      counts = record { source = e.ensures.source_later; image = e.ensures.sink_later; notes = c.in-Err.ensures.counts.later };
       needed = λ x told. image-reads c.args.room.now e.ensures.needed;
     }

@@ -26,7 +26,7 @@ returns-in-Ok-write_line-clause-does g c =
     let r = c.in-Err-Refused in
     let e = r.ensures in
     map-refused c.args.room.now.format _ _ r.track _ r.block r.fault (rw r.field-0-is at e.mapped)
-    (record { source = e.source_later; image = e.picture_later; notes = c.in-Ok-write_line.ensures.later }) e.needed
+    (record { source = e.source_later; image = e.picture_later; notes = c.in-Ok-write_line.ensures.counts.later }) e.needed
     (rw c.refused_line.ensures at c.in-Ok-write_line.ensures.ok)
 
 pub returns-in-Err-clause-does : goal.returns-in-Err-clause-does
@@ -34,5 +34,5 @@ returns-in-Err-clause-does g c =
     let r = c.in-Err-Refused in
     let e = r.ensures in
     map-cut-refusal c.args.room.now.format _ _ r.track _ r.block r.fault (rw r.field-0-is at e.mapped)
-    (record { source = e.source_later; image = e.picture_later; notes = c.in-Err.ensures.later }) e.needed
-    (rw c.refused_line.ensures at c.in-Err.ensures.err) c.in-Err.ensures.cause
+    (record { source = e.source_later; image = e.picture_later; notes = c.in-Err.ensures.counts.later }) e.needed
+    (rw c.refused_line.ensures at c.in-Err.ensures.err) c.in-Err.ensures.counts.cause

@@ -9,14 +9,14 @@ pub returns-in-Ok : goal.returns-in-Ok
 returns-in-Ok g c = record {
   answer = tt;
   says = page-finish c.args.page _ _ (Consumes-nil _) c.in-Ok.ensures.ok (Appends-nil _);
-  counts = record { source = omega arith; image = c.in-Ok.ensures.later; notes = omega arith };
+  counts = record { source = omega arith; image = c.in-Ok.ensures.counts.later; notes = omega arith };
   needed = λ x told. not_read (page_work c.args.page).untold _;
 }
 
 pub returns-in-Err : goal.returns-in-Err
 returns-in-Err g c = record {
   answer = tt;
-  says = (page-cut c.args.page _ _ (Consumes-nil _) c.in-Err.ensures.err (Keeps-refl _), c.in-Err.ensures.cause);
-  counts = record { source = omega arith; image = c.in-Err.ensures.later; notes = omega arith };
+  says = (page-cut c.args.page _ _ (Consumes-nil _) c.in-Err.ensures.err (Keeps-refl _), c.in-Err.ensures.counts.cause);
+  counts = record { source = omega arith; image = c.in-Err.ensures.counts.later; notes = omega arith };
   needed = λ x told. not_read (page_work c.args.page).untold _;
 }

@@ -29,14 +29,14 @@ pub returns-in-Ok-write_line-clause-does : goal.returns-in-Ok-write_line-clause-
 returns-in-Ok-write_line-clause-does g c command by_plan =
     let r = c.in-Err-Refused in
     let e = r.ensures in
-    planned-refused c.args.plan c.args.room.now.format command by_plan _ _ (moment g.N.Sink.written g.N.Sink.faults c.decode_planned.new.notes) r.track r.capture r.block r.fault
-    (rw r.field-0-is at e.decoded) (record { source = e.source_later; image = e.image_later; notes = e.notes_later }) e.needed c.in-Ok-write_line.ensures.later
+    planned-refused c.args.plan c.args.room.now.format command by_plan _ _ (moment g.N.Sink.written g.N.Sink.faults g.N.Sink.failed c.decode_planned.new.notes) r.track r.capture r.block r.fault
+    (rw r.field-0-is at e.decoded) (record { source = e.source_later; image = e.image_later; notes = e.notes_later }) e.needed c.in-Ok-write_line.ensures.counts.later
     (rw c.stop_line.ensures at c.in-Ok-write_line.ensures.ok)
 
 pub returns-in-Err-clause-does : goal.returns-in-Err-clause-does
 returns-in-Err-clause-does g c command by_plan =
     let r = c.in-Err-Refused in
     let e = r.ensures in
-    planned-cut-refusal c.args.plan c.args.room.now.format command by_plan _ _ (moment g.N.Sink.written g.N.Sink.faults c.decode_planned.new.notes) r.track r.capture r.block r.fault
-    (rw r.field-0-is at e.decoded) (record { source = e.source_later; image = e.image_later; notes = e.notes_later }) e.needed c.in-Err.ensures.later
-    (rw c.stop_line.ensures at c.in-Err.ensures.err) c.in-Err.ensures.cause
+    planned-cut-refusal c.args.plan c.args.room.now.format command by_plan _ _ (moment g.N.Sink.written g.N.Sink.faults g.N.Sink.failed c.decode_planned.new.notes) r.track r.capture r.block r.fault
+    (rw r.field-0-is at e.decoded) (record { source = e.source_later; image = e.image_later; notes = e.notes_later }) e.needed c.in-Err.ensures.counts.later
+    (rw c.stop_line.ensures at c.in-Err.ensures.err) c.in-Err.ensures.counts.cause

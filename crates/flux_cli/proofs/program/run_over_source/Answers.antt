@@ -12,7 +12,7 @@ returns-in-Ok g c = record {
   does = record {
     answer = tt;
     says = usage-finish _ _ (Consumes-nil _) (wrong_text c.args.words.now) (Appends-nil _) c.in-Ok.ensures.ok;
-    counts = record { source = omega arith; image = omega arith; notes = c.in-Ok.ensures.later };
+    counts = record { source = omega arith; image = omega arith; notes = c.in-Ok.ensures.counts.later };
     needed = λ x told. not_read (usage_work (wrong_text c.args.words.now)).untold _;
   };
 }
@@ -25,9 +25,9 @@ returns-in-Err g c = record {
     answer = tt;
     says = (
       usage-cut _ _ (Consumes-nil _) (wrong_text c.args.words.now) (Keeps-refl _) c.in-Err.ensures.err,
-      c.in-Err.ensures.cause,
+      c.in-Err.ensures.counts.cause,
     );
-    counts = record { source = omega arith; image = omega arith; notes = c.in-Err.ensures.later };
+    counts = record { source = omega arith; image = omega arith; notes = c.in-Err.ensures.counts.later };
     needed = λ x told. not_read (usage_work (wrong_text c.args.words.now)).untold _;
   };
 }

@@ -8,7 +8,7 @@ returns-in-Ok-write_turns-clause-does g c = record {
   answer = tt;
   says = turns-finish _ _ c.read.new.self.held c.read.new.self.flux c.in-Ok.field-0
       (rw (c.requires.held, c.requires.unused) at c.in-Ok.ensures.read) c.in-Ok.ensures.bound (rw c.flux.ensures at c.in-Ok-write_turns.ensures.ok) (Appends-nil _);
-  counts = record { source = c.in-Ok.ensures.later; image = c.in-Ok-write_turns.ensures.later; notes = omega arith };
+  counts = record { source = c.in-Ok.ensures.later; image = c.in-Ok-write_turns.ensures.counts.later; notes = omega arith };
   needed = λ x told. turns-reads (rw (c.requires.held, c.requires.unused) at c.in-Ok.ensures.needed);
 }
 
@@ -18,9 +18,9 @@ returns-in-Err-clause-does g c = record {
   says = (
     turns-cut-image _ _ c.read.new.self.held c.read.new.self.flux c.in-Ok.field-0
         (rw (c.requires.held, c.requires.unused) at c.in-Ok.ensures.read) (rw c.flux.ensures at c.in-Err.ensures.err) (Appends-nil _),
-    c.in-Err.ensures.cause,
+    c.in-Err.ensures.counts.cause,
   );
-  counts = record { source = c.in-Ok.ensures.later; image = c.in-Err.ensures.later; notes = omega arith };
+  counts = record { source = c.in-Ok.ensures.later; image = c.in-Err.ensures.counts.later; notes = omega arith };
   needed = λ x told. turns-reads (rw (c.requires.held, c.requires.unused) at c.in-Ok.ensures.needed);
 }
 
@@ -42,7 +42,7 @@ returns-in-Ok-write_line-clause-does g c = record {
   says = turns-refuse _ _ c.read.new.self.held c.read.new.self.flux c.in-Err-Refused.block c.in-Err-Refused.fault
       (rw (c.in-Err-Refused.field-0-is, c.requires.held, c.requires.unused) at c.in-Err-Refused.ensures.read) (Appends-nil _)
       (rw c.refused_line.ensures at c.in-Ok-write_line.ensures.ok);
-  counts = record { source = c.in-Err-Refused.ensures.later; image = omega arith; notes = c.in-Ok-write_line.ensures.later };
+  counts = record { source = c.in-Err-Refused.ensures.later; image = omega arith; notes = c.in-Ok-write_line.ensures.counts.later };
   needed = λ x told. turns-reads (rw (c.requires.held, c.requires.unused) at c.in-Err-Refused.ensures.needed);
 }
 
@@ -53,8 +53,8 @@ returns-in-Err-write_line-clause-does g c = record {
     turns-cut-notes _ _ c.read.new.self.held c.read.new.self.flux c.in-Err-Refused.block c.in-Err-Refused.fault
         (rw (c.in-Err-Refused.field-0-is, c.requires.held, c.requires.unused) at c.in-Err-Refused.ensures.read) (Appends-nil _)
         (rw c.refused_line.ensures at c.in-Err-write_line.ensures.err),
-    c.in-Err-write_line.ensures.cause,
+    c.in-Err-write_line.ensures.counts.cause,
   );
-  counts = record { source = c.in-Err-Refused.ensures.later; image = omega arith; notes = c.in-Err-write_line.ensures.later };
+  counts = record { source = c.in-Err-Refused.ensures.later; image = omega arith; notes = c.in-Err-write_line.ensures.counts.later };
   needed = λ x told. turns-reads (rw (c.requires.held, c.requires.unused) at c.in-Err-Refused.ensures.needed);
 }

@@ -18,7 +18,7 @@ returns-in-Ok-write_line g c =
     let says = rw r.field-0-is at r.ensures.says in
     record {
       says = read-empty Image (disk_of c.args.dumps.now c.args.room.now.format) _ _ r.dump says.0 says.1 says.2 _ says.3 (rw c.no_files_line.ensures at c.in-Ok-write_line.ensures.ok);
-      counts = record { shelf = r.ensures.shelf_later; image = r.ensures.image_later; notes = omega (arith, r.ensures.notes_later, c.in-Ok-write_line.ensures.later) };
+      counts = record { shelf = r.ensures.shelf_later; image = r.ensures.image_later; notes = omega (arith, r.ensures.notes_later, c.in-Ok-write_line.ensures.counts.later) };
     }
 
 pub returns-in-Err : goal.returns-in-Err
@@ -28,9 +28,9 @@ returns-in-Err g c =
     record {
       says = (
         inr (read-cut-empty Image (disk_of c.args.dumps.now c.args.room.now.format) _ _ r.dump says.0 says.1 says.2 _ says.3 (rw c.no_files_line.ensures at c.in-Err.ensures.err)),
-        omega (arith, r.ensures.notes_later, c.in-Err.ensures.cause),
+        omega (arith, r.ensures.notes_later, c.in-Err.ensures.counts.cause),
       );
-      counts = record { shelf = r.ensures.shelf_later; image = r.ensures.image_later; notes = omega (arith, r.ensures.notes_later, c.in-Err.ensures.later) };
+      counts = record { shelf = r.ensures.shelf_later; image = r.ensures.image_later; notes = omega (arith, r.ensures.notes_later, c.in-Err.ensures.counts.later) };
     }
 
 pub returns-in-Err-ShelfFault : goal.returns-in-Err-ShelfFault

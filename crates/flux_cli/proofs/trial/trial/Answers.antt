@@ -10,7 +10,7 @@ returns-in-Ok-clause-does g c =
     let e = c.in-Ok.ensures in record {
       answer = tt;
       says = trial-finish c.args.room.now.format c.args.seed _ _ (Consumes-nil _) e.0 e.1 e.2.ok (Appends-nil _);
-      counts = record { source = omega arith; image = e.2.later; notes = omega arith };
+      counts = record { source = omega arith; image = e.2.counts.later; notes = omega arith };
       needed = λ x told. not_read (trial_work c.args.room.now.format c.args.seed).untold _;
     }
 
@@ -18,7 +18,7 @@ pub returns-in-Err-clause-does : goal.returns-in-Err-clause-does
 returns-in-Err-clause-does g c =
     let e = c.in-Err.ensures in record {
       answer = tt;
-      says = (trial-cut c.args.room.now.format c.args.seed _ _ (Consumes-nil _) e.0 e.1 e.2.err (Keeps-refl _), e.2.cause);
-      counts = record { source = omega arith; image = e.2.later; notes = omega arith };
+      says = (trial-cut c.args.room.now.format c.args.seed _ _ (Consumes-nil _) e.0 e.1 e.2.err (Keeps-refl _), e.2.counts.cause);
+      counts = record { source = omega arith; image = e.2.counts.later; notes = omega arith };
       needed = λ x told. not_read (trial_work c.args.room.now.format c.args.seed).untold _;
     }

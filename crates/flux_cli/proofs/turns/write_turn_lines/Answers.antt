@@ -1,6 +1,7 @@
 use Rattle.std.proofs.Common.{◌≡◌, ◌-◌, length, arith, subst, ap, ◌∙◌}
 use Rattle.std.specs.Io.KnownBytes.{Appends}
 use Rattle.flux_base.specs.Outside.{AppendsPart}
+use Rattle.flux_base.specs.lemmas.Counting.{Counts-then}
 use Rattle.sector_report.specs.Lines.{turn_text}
 use Rattle.flux_cli.specs.Turns.{turn_line_of, turn_lines}
 use Rattle.flux_cli.proofs.TurnLemmas.{wrote-turn, wrote-part}
@@ -17,8 +18,7 @@ returns-in-Err g c =
       err = wrote-part (g.W.Sink.written c.args.sink.now) (g.W.Sink.written c.loop-turn.sink) (g.W.Sink.written c.write_line.new.sink) indexes turn (length indexes - 1)
           (omega arith) (omega (arith, same)) c.loop-turn.invariant.0
           (subst (AppendsPart (g.W.Sink.written c.loop-turn.sink) (g.W.Sink.written c.write_line.new.sink)) line c.in-Err.ensures.err);
-      later = omega (arith, c.loop-turn.invariant.2, c.in-Err.ensures.later);
-      cause = omega (arith, c.loop-turn.invariant.2, c.in-Err.ensures.cause);
+      counts = Counts-then _ c.loop-turn.invariant.2 c.in-Err.ensures.counts;
     }
 
 pub loop-turn-preserved : goal.loop-turn-preserved
@@ -31,7 +31,7 @@ loop-turn-preserved g c =
           (omega arith) c.loop-turn.invariant.0
           (subst (Appends (g.W.Sink.written c.loop-turn.sink) (g.W.Sink.written c.write_line.new.sink)) line c.in-Ok.ensures.ok),
       omega (arith, same),
-      omega (arith, c.loop-turn.invariant.2, c.write_line.ensures.later),
+      Counts-then _ c.loop-turn.invariant.2 c.in-Ok.ensures.counts,
     )
 
 pub returns : goal.returns
@@ -41,6 +41,5 @@ returns g c =
     record {
       ok = subst (λ n. Appends (g.W.Sink.written c.args.sink.now) (g.W.Sink.written c.loop-turn.sink) (turn_lines c.args.flux.now.indexes n)) all c.loop-turn.invariant.0;
       err = tt;
-      later = c.loop-turn.invariant.2;
-      cause = tt;
+      counts = c.loop-turn.invariant.2;
     }

@@ -1,6 +1,7 @@
 use Rattle.std.proofs.Common.{◌≡◌, ℕ, arith, subst, length}
 use Rattle.std.specs.List.{flat_map, range_with_len}
 use Rattle.std.specs.Io.KnownBytes.{Appends}
+use Rattle.flux_base.specs.lemmas.Counting.{Counts-then}
 use Rattle.flux_engine.specs.Recordings.{track_at}
 use Rattle.flux_engine.specs.Rings.{streams_of, track_stream}
 use Rattle.sector_images.specs.Places.{tracks}
@@ -28,8 +29,7 @@ returns-in-Err-write_track-clause-puts g c = record {
       (is_stream c.args.format c.args.image.now c.loop-number.number c.track_id.result c.track_ring.new.cells.cells c.nominal-cell.result
       c.track_id.ensures.at c.in-Ok.ensures.ok c.nominal-cell.ensures)
       c.loop-number.invariant.grew c.in-Err-write_track.ensures.err;
-  later = omega (arith, c.loop-number.invariant.later, c.in-Err-write_track.ensures.later);
-  cause = omega (arith, c.loop-number.invariant.later, c.in-Err-write_track.ensures.cause);
+  counts = Counts-then _ c.loop-number.invariant.counts c.in-Err-write_track.ensures.counts;
 }
 
 pub loop-number-preserved : goal.loop-number-preserved
@@ -39,7 +39,7 @@ loop-number-preserved g c = record {
       c.track_id.ensures.at c.in-Ok.ensures.ok c.nominal-cell.ensures)
       c.loop-number.invariant.grew c.in-Ok-write_track.ensures.ok;
   room = omega (arith, c.loop-number.invariant.room, c.in-Ok.ensures.room);
-  later = omega (arith, c.loop-number.invariant.later, c.in-Ok-write_track.ensures.later);
+  counts = Counts-then _ c.loop-number.invariant.counts c.in-Ok-write_track.ensures.counts;
 }
 
 pub returns-clause-puts : goal.returns-clause-puts
@@ -49,6 +49,5 @@ returns-clause-puts g c =
       ok = subst (λ (n : ℕ). Appends (g.W.Sink.written c.args.sink.now) (g.W.Sink.written c.loop-number.sink)
           (flat_map (track_stream c.args.format c.args.image.now) (range_with_len 0 n))) all c.loop-number.invariant.grew;
       err = tt;
-      later = c.loop-number.invariant.later;
-      cause = tt;
+      counts = c.loop-number.invariant.counts;
     }

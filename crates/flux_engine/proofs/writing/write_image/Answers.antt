@@ -25,7 +25,7 @@ loop-number-preserved g c = record {
       (is_piece c.args.format c.args.track readings c.sectors_of-sectors.result c.image_sector-sector.result c.loop-number.number c.image_bytes-bytes.result.now
       c.sectors_of-sectors.ensures c.image_sector-sector.ensures.first (c.image_bytes-bytes.ensures readings stands))
       (c.loop-number.invariant.grew readings stands) c.in-Ok.ensures.ok;
-  later = omega (arith, c.loop-number.invariant.later, c.write_whole.ensures.later);
+  later = omega (arith, c.loop-number.invariant.later, c.write_whole.ensures.counts.later);
 }
 
 pub returns-clause-ok : goal.returns-clause-ok

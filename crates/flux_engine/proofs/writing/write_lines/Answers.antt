@@ -34,7 +34,7 @@ loop-index-preserved g c = record {
       ∙ ap totals_of (sym (map-range_with_len_more (verdict readings) c.args.sectors.first c.loop-index.index sector (omega arith)));
   sum = c.count_verdict.ensures.sum;
   number = c.count_verdict.ensures.one ∙ ap (λ (n : ℕ). n + 1) c.loop-index.invariant.number;
-  later = omega (arith, c.loop-index.invariant.later, c.write_line.ensures.later);
+  later = omega (arith, c.loop-index.invariant.later, c.write_line.ensures.counts.later);
 }
 
 pub returns-clause-ok : goal.returns-clause-ok

@@ -51,7 +51,7 @@ unreachable-requires-in-Err-write_times c =
     (is_known_at c.args.format c.args.number c.track_id.result c.track_id.ensures.at c.track_id.ensures.track) c.in-Ok.ensures.ring in
     let size = short d c.track_ring.new.cells.cells usual ring c.trial_flux.new.flux.times c.trial_flux.new.flux.indexes c.in-Ok-trial_flux.ensures.times
     c.in-Ok-trial_flux.ensures.indexes c.written_law.ensures.size in
-    never_full c.clear.new.self _ c.write_times.new.sink c.clear.ensures size c.in-Err-write_times.ensures.err c.in-Err-write_times.ensures.cause
+    never_full c.clear.new.self _ c.write_times.new.sink c.clear.ensures size c.in-Err-write_times.ensures.err c.in-Err-write_times.ensures.counts.cause
 
 pub returns-clause-stream : goal.returns-clause-stream
 returns-clause-stream c =

@@ -1,4 +1,5 @@
 use Rattle.std.proofs.Common.{◌≡◌, ◌+◌, ap, ◌∙◌, arith, length}
+use Rattle.flux_base.specs.lemmas.Counting.{Counts-then}
 use Rattle.flux_engine.specs.lemmas.Pieces.{pieces_next, pieces_stop}
 use Rattle.sector_images.specs.Places.{tracks}
 use Rattle.g64_image.specs.Layout.{image_record, track_record}
@@ -24,8 +25,7 @@ returns-in-Err-write_whole-clause-puts g c =
           (omega (arith, c.track_count-number-end.ensures))
           (c.as_slice.ensures.value ∙ c.track_record-track.ensures ∙ ap track_record c.in-Ok.ensures.ok ∙ ap (image_record c.args.format c.args.image.now) at)
           c.loop-number.invariant.grew c.in-Err-write_whole.ensures.err;
-      later = omega (arith, c.loop-number.invariant.later, c.in-Err-write_whole.ensures.later);
-      cause = omega (arith, c.loop-number.invariant.later, c.in-Err-write_whole.ensures.cause);
+      counts = Counts-then _ c.loop-number.invariant.counts c.in-Err-write_whole.ensures.counts;
     }
 
 pub loop-number-preserved : goal.loop-number-preserved
@@ -35,5 +35,5 @@ loop-number-preserved g c =
           (c.as_slice.ensures.value ∙ c.track_record-track.ensures ∙ ap track_record c.in-Ok.ensures.ok ∙ ap (image_record c.args.format c.args.image.now) at)
           c.loop-number.invariant.grew c.in-Ok-write_whole.ensures.ok;
       room = omega (arith, c.loop-number.invariant.room, c.in-Ok.ensures.room);
-      later = omega (arith, c.loop-number.invariant.later, c.in-Ok-write_whole.ensures.later);
+      counts = Counts-then _ c.loop-number.invariant.counts c.in-Ok-write_whole.ensures.counts;
     }
