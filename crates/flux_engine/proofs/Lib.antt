@@ -9,6 +9,7 @@ pub mod ImagePieces
 pub mod RecoveredCells
 pub mod Streams
 pub mod Decoding
+pub mod BlamedSteps
 pub mod Noting
 pub mod Counting
 pub mod PlanParts

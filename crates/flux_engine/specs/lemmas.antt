@@ -16,3 +16,4 @@ pub mod LineNumbers
 pub mod VerdictBounds
 pub mod ReportLines
 pub mod JoinedReadings
+pub mod Blamed

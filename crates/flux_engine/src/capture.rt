@@ -2,7 +2,10 @@
 
 ghost use Rattle.std.specs.Prelude.{◌≡◌, ◌+◌, ◌*◌, ◌≤◌, ◌<◌, [], List, length, IfOk, OnOk, OnErr, true, false};
 ghost use Rattle.std.specs.Option.{option_copied};
+ghost use Rattle.flux_base.specs.Blames.{CountsBy, no_counts, three_counts};
+ghost use Rattle.flux_base.specs.Counts.{Counts, counts_of};
 ghost use Rattle.flux_engine.specs.Answers.{CaptureCause, ReadsCapture, ReadsStream};
+ghost use Rattle.flux_engine.specs.Blamed.{is_unread, part_blame};
 ghost use Rattle.flux_engine.specs.Captured.{count_of_clocks};
 ghost use Rattle.cell_bits.specs.State.{room};
 ghost use Rattle.flux_engine.specs.Gathering.{AreCellsOf, HasNoted, HasNotedBy, IsBookFor};
@@ -86,6 +89,7 @@ pub fn read_capture<S: Source>(
 
     ensures cause { CaptureCause (S.faults source.old) (S.faults source.new) result }
     ensures later { S.faults source.old ≤ S.faults source.new }
+    ensures counts { Counts (is_unread result) (counts_of S.faults S.failed source.old) (counts_of S.faults S.failed source.new) }
 {
     read_by_clocks(
         Rule::Strict,
@@ -130,6 +134,7 @@ pub fn read_by_clocks<S: Source>(
 
     ensures cause { CaptureCause (S.faults source.old) (S.faults source.new) result }
     ensures later { S.faults source.old ≤ S.faults source.new }
+    ensures counts { Counts (is_unread result) (counts_of S.faults S.failed source.old) (counts_of S.faults S.failed source.new) }
 {
     tracks_keep_bounds();
     let track = track_id(room.format, number);
@@ -197,6 +202,9 @@ pub fn write_started_part<W: Sink, N: Sink>(
     ensures sum { IfOk result IsSum }
     ensures few { IfOk result (λ totals. totals.sectors ≤ 100) }
     ensures cause { PartCause (W.faults image.old) (W.faults image.new) (N.faults notes.old) (N.faults notes.new) result }
+    ensures blames { CountsBy (part_blame result)
+        (three_counts no_counts (counts_of W.faults W.failed image.old) (counts_of N.faults N.failed notes.old))
+        (three_counts no_counts (counts_of W.faults W.failed image.new) (counts_of N.faults N.failed notes.new)) }
     ensures image_later { W.faults image.old ≤ W.faults image.new }
     ensures notes_later { N.faults notes.old ≤ N.faults notes.new }
 {
@@ -224,6 +232,9 @@ pub(crate) fn write_started<O: TrackWriter, W: Sink, N: Sink>(
     ensures sum { IfOk result IsSum }
     ensures few { IfOk result (λ totals. totals.sectors ≤ 100) }
     ensures cause { PartCause (W.faults image.old) (W.faults image.new) (N.faults notes.old) (N.faults notes.new) result }
+    ensures blames { CountsBy (part_blame result)
+        (three_counts no_counts (counts_of W.faults W.failed image.old) (counts_of N.faults N.failed notes.old))
+        (three_counts no_counts (counts_of W.faults W.failed image.new) (counts_of N.faults N.failed notes.new)) }
     ensures image_later { W.faults image.old ≤ W.faults image.new }
     ensures notes_later { N.faults notes.old ≤ N.faults notes.new }
 {
@@ -241,6 +252,7 @@ pub fn read_stream<S: Source>(source: &mut S, stream: &mut StreamRoom) -> Result
     ensures used { stream.new.used ≡ true }
     ensures cause { CaptureCause (S.faults source.old) (S.faults source.new) result }
     ensures later { S.faults source.old ≤ S.faults source.new }
+    ensures counts { Counts (is_unread result) (counts_of S.faults S.failed source.old) (counts_of S.faults S.failed source.new) }
 {
     match stream.read(source) {
         Ok(()) => Ok(()),

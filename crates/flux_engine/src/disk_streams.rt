@@ -1,13 +1,15 @@
 //! The streams of a disk's tracks, written from an image.
 
-ghost use Rattle.std.specs.Prelude.{◌≡◌, ℕ, ◌≤◌, ◌<◌, List, Some, length, take, IfOk, OnErr};
+ghost use Rattle.std.specs.Prelude.{◌≡◌, ℕ, ◌≤◌, ◌<◌, List, Some, length, take, is_err, IfOk, OnErr};
 ghost use Rattle.std.specs.Io.KnownBytes.{Consumes, IsAtEnd};
+ghost use Rattle.flux_base.specs.Blames.{CountsBy, no_counts, three_counts};
+ghost use Rattle.flux_base.specs.Counts.{Counts, counts_of};
 ghost use Rattle.flux_base.specs.Moments.{Puts, moment};
-ghost use Rattle.flux_base.specs.Outside.{Rose};
 ghost use Rattle.cell_bits.specs.State.{room};
 ghost use Rattle.kryo_stream.specs.Reads.{source_at};
 ghost use Rattle.sector_images.specs.Formats.{row};
 ghost use Rattle.flux_engine.specs.Answers.{Stayed};
+ghost use Rattle.flux_engine.specs.Blamed.{write_blame};
 ghost use Rattle.flux_engine.specs.Needed.{ReadsUpTo};
 ghost use Rattle.flux_engine.specs.Rings.{HasRoomForRings, streams_of};
 ghost use Rattle.flux_engine.specs.Writes.{IsWrittenOrWrongSize, SaysOfBytes, WriteCause, WritesDisk, TakesFewer, most_read};
@@ -38,6 +40,9 @@ pub fn write_disk<S: Source, W: Sink>(
 
     ensures format { room.new ≡ room.old }
     ensures cause { WriteCause (S.faults source.old) (S.faults source.new) (W.faults sink.old) (W.faults sink.new) result }
+    ensures blames { CountsBy (write_blame result)
+        (three_counts (counts_of S.faults S.failed source.old) (counts_of W.faults W.failed sink.old) no_counts)
+        (three_counts (counts_of S.faults S.failed source.new) (counts_of W.faults W.failed sink.new) no_counts) }
 
     // Over a source and a sink that do not fail there is no other answer.
     ensures complete { Stayed (S.faults source.old) (S.faults source.new) → Stayed (W.faults sink.old) (W.faults sink.new) → IsWrittenOrWrongSize result }
@@ -71,8 +76,7 @@ pub fn fill<S: Source>(buffer: &mut [u8], source: &mut S) -> Result<usize, Faile
     ensures ended { IfOk result (λ count. count < length buffer.new → IsAtEnd (S.left source.new)) }
     ensures err { OnErr result (TakesFewer (S.left source.old) (S.left source.new) (length buffer.old)) }
     ensures needed { ReadsUpTo (length buffer.old) (source_at S.left S.given S.faults source.old) (source_at S.left S.given S.faults source.new) }
-    ensures later { S.faults source.old ≤ S.faults source.new }
-    ensures cause { OnErr result (Rose (S.faults source.old) (S.faults source.new)) }
+    ensures counts { Counts (is_err result) (counts_of S.faults S.failed source.old) (counts_of S.faults S.failed source.new) }
 {
     let mut filled = 0;
     while filled < buffer.len() {

@@ -1,5 +1,8 @@
 ghost use Rattle.std.specs.Prelude.{◌≡◌, ◌+◌, ◌≤◌, ◌<◌, length, OnOk, OnErr, true, false};
+ghost use Rattle.flux_base.specs.Blames.{CountsBy, three_counts};
+ghost use Rattle.flux_base.specs.Counts.{counts_of};
 ghost use Rattle.flux_engine.specs.Answers.{DecodesTrack, EngineCause, of_capture, of_sink};
+ghost use Rattle.flux_engine.specs.Blamed.{engine_blame};
 ghost use Rattle.flux_engine.specs.Recordings.{track_at};
 ghost use Rattle.kryo_stream.specs.Outcome.{IsReadWhereNeeded};
 ghost use Rattle.kryo_stream.specs.Reads.{source_at};
@@ -44,6 +47,9 @@ pub fn decode_track<S: Source, W: Sink, N: Sink>(
     ensures failed { OnErr result (room.new.failed ≡ true) }
 
     ensures cause { EngineCause (S.faults source.old) (S.faults source.new) (W.faults image.old) (W.faults image.new) (N.faults notes.old) (N.faults notes.new) result }
+    ensures blames { CountsBy (engine_blame result)
+        (three_counts (counts_of S.faults S.failed source.old) (counts_of W.faults W.failed image.old) (counts_of N.faults N.failed notes.old))
+        (three_counts (counts_of S.faults S.failed source.new) (counts_of W.faults W.failed image.new) (counts_of N.faults N.failed notes.new)) }
     ensures source_later { S.faults source.old ≤ S.faults source.new }
     ensures image_later { W.faults image.old ≤ W.faults image.new }
     ensures notes_later { N.faults notes.old ≤ N.faults notes.new }

@@ -1,7 +1,10 @@
 //! The captures of a track, wherever they come from.
 
 ghost use Rattle.std.specs.Prelude.{◌≡◌, ◌+◌, ◌*◌, ◌≤◌, ◌<◌, List, length, IfOk, OnErr, OnOk, false, true};
+ghost use Rattle.flux_base.specs.Blames.{CountsBy, no_counts, three_counts};
+ghost use Rattle.flux_base.specs.Counts.{Counts, counts_of};
 ghost use Rattle.flux_engine.specs.Answers.{CaptureCause};
+ghost use Rattle.flux_engine.specs.Blamed.{is_unread, plan_blame};
 ghost use Rattle.flux_engine.specs.Captured.{count_of_clocks};
 ghost use Rattle.flux_engine.specs.Counts.{AreCountsBelow, CountsTrack};
 ghost use Rattle.flux_engine.specs.LoopProgress.{AreWhole, GathersTrack, HasNotedNext, IsBoundedNext, TakesNext};
@@ -50,6 +53,9 @@ pub(crate) fn read_captures<T: TrackStreams<S>, S>(
     ensures few { OnOk result (AreCountsBelow room.new (number + 1)) }
 
     ensures cause { PlanCause (T.faults source.old) (T.faults source.new) 0 0 0 0 result }
+    ensures blames { CountsBy (plan_blame result)
+        (three_counts (counts_of T.faults T.failed source.old) no_counts no_counts)
+        (three_counts (counts_of T.faults T.failed source.new) no_counts no_counts) }
     ensures later { T.faults source.old ≤ T.faults source.new }
 {
     tracks_keep_bounds();
@@ -105,6 +111,7 @@ fn take_next<T: TrackStreams<S>, S>(
 
     ensures cause { CaptureCause (T.faults source.old) (T.faults source.new) result }
     ensures later { T.faults source.old ≤ T.faults source.new }
+    ensures counts { Counts (is_unread result) (counts_of T.faults T.failed source.old) (counts_of T.faults T.failed source.new) }
 {
     tracks_keep_bounds();
     let track = track_id(room.format, number);

@@ -1,7 +1,9 @@
 //! Where the streams of a disk's tracks come from.
 
-ghost use Rattle.std.specs.Prelude.{◌≡◌, ◌+◌, ◌*◌, ◌≤◌, ◌<◌, ℕ, Bool, false, List, [], length, IfOk};
+ghost use Rattle.std.specs.Prelude.{◌≡◌, ◌+◌, ◌*◌, ◌≤◌, ◌<◌, ℕ, Bool, false, List, [], length, None, Option, IfOk};
+ghost use Rattle.flux_base.specs.Counts.{Counts, counts_of};
 ghost use Rattle.flux_engine.specs.Answers.{CaptureCause};
+ghost use Rattle.flux_engine.specs.Blamed.{is_unread};
 ghost use Rattle.flux_engine.specs.LoopProgress.{GivesNext, IsBoundedNext};
 ghost use Rattle.flux_engine.specs.Plans.{Seen};
 ghost use Rattle.flux_engine.specs.SourceStreams.{HaveCome, HaveEnded};
@@ -35,6 +37,9 @@ pub trait TrackStreams<S> {
     /// How often the object has failed.
     ghost faults: { S → ℕ };
 
+    /// How many calls have failed, where the object tells it.
+    ghost failed: { S → Option ℕ } = { λ _. None };
+
     /// From one moment to another these streams came, in the order of a plan, of a disk of this format, and none ended the disk.
     /// The stream room holds these bytes that were taken and not used, and whether a stream was read in it.
     ghost came: { Self → Plan → Format → S → S → List ℕ → Bool → List Seen → Type 0 };
@@ -58,7 +63,8 @@ pub trait TrackStreams<S> {
             → GivesNext (came self.now plan format start source.new stream.new.held stream.new.used) (ended self.now plan format start source.new) before stream.new.flux result }
         ensures bounded { IfOk result (λ next. IsBoundedNext next stream.new.flux) }
         ensures cause { CaptureCause (faults source.old) (faults source.new) result }
-        ensures later { faults source.old ≤ faults source.new };
+        ensures later { faults source.old ≤ faults source.new }
+        ensures counts { Counts (is_unread result) (counts_of faults failed source.old) (counts_of faults failed source.new) };
 
     /// At first none came.
     ghost begins: { (streams : Self) (plan : Plan) (format : Format) (now : S) → came streams plan format now now [] false [] };
@@ -71,6 +77,8 @@ pub struct OneAfterAnother;
 
 impl<S: Source> TrackStreams<S> for OneAfterAnother {
     ghost faults = { S.faults };
+
+    ghost failed = { S.failed };
 
     ghost came = { λ streams plan format start now held used before. HaveCome plan format (source_at S.left S.given S.faults start) (source_at S.left S.given S.faults now) held used before };
 

@@ -1,12 +1,16 @@
 //! A file as an image and a report.
 
 ghost use Rattle.std.specs.Prelude.{◌≡◌, ◌≤◌, ◌<◌, ℕ, List, None, Some, Option, length, IfOk};
+ghost use Rattle.flux_base.specs.Blames.{CountsBy, no_counts, three_counts};
+ghost use Rattle.flux_base.specs.Counts.{counts_of};
 ghost use Rattle.flux_engine.specs.Answers.{Stayed};
+ghost use Rattle.flux_engine.specs.Blamed.{part_blame};
 ghost use Rattle.flux_engine.specs.Needed.{ReadsUpTo};
 ghost use Rattle.kryo_stream.specs.Reads.{source_at};
 ghost use Rattle.sector_images.specs.Places.{tracks};
 ghost use Rattle.flux_engine.specs.TrackParts.{PartCause};
 ghost use Rattle.g64_image.specs.Answers.{FromCause, IsReadOrRefused, IsTakenFile, ReadsFile, SaysOfFile, SaysOfFileBytes};
+ghost use Rattle.g64_image.specs.Blamed.{from_blame};
 ghost use Rattle.g64_image.specs.Faults.{HasTables, first_fault as first_fault_of};
 ghost use Rattle.g64_image.specs.Layout.{IsCommodore};
 ghost use Rattle.g64_image.specs.Progress.{HasRead, WasStopped};
@@ -41,6 +45,9 @@ pub fn from_g64<S: Source, W: Sink, N: Sink>(
 
     ensures format { room.new ≡ room.old }
     ensures cause { FromCause (S.faults source.old) (S.faults source.new) (W.faults image.old) (W.faults image.new) (N.faults notes.old) (N.faults notes.new) result }
+    ensures blames { CountsBy (from_blame result)
+        (three_counts (counts_of S.faults S.failed source.old) (counts_of W.faults W.failed image.old) (counts_of N.faults N.failed notes.old))
+        (three_counts (counts_of S.faults S.failed source.new) (counts_of W.faults W.failed image.new) (counts_of N.faults N.failed notes.new)) }
 
     // Over a source and sinks that do not fail there is no other answer.
     ensures complete { Stayed (S.faults source.old) (S.faults source.new) → Stayed (W.faults image.old) (W.faults image.new) → Stayed (N.faults notes.old) (N.faults notes.new) → IsReadOrRefused result }
@@ -75,6 +82,9 @@ fn read_file<W: Sink, N: Sink>(
     ensures says { (left : Option (List ℕ)) → IsTakenFile file.now left
         → SaysOfFile format file.now left (W.written image.old) (W.written image.new) (N.written notes.old) (N.written notes.new) result }
     ensures cause { FromCause 0 0 (W.faults image.old) (W.faults image.new) (N.faults notes.old) (N.faults notes.new) result }
+    ensures blames { CountsBy (from_blame result)
+        (three_counts no_counts (counts_of W.faults W.failed image.old) (counts_of N.faults N.failed notes.old))
+        (three_counts no_counts (counts_of W.faults W.failed image.new) (counts_of N.faults N.failed notes.new)) }
     ensures roomy { IsRoomy format tools.new.cells tools.new.book }
     ensures image_later { W.faults image.old ≤ W.faults image.new }
     ensures notes_later { N.faults notes.old ≤ N.faults notes.new }
@@ -109,6 +119,9 @@ fn write_tracks<W: Sink, N: Sink>(
     ensures ok { IfOk result (λ totals. HasRead format file.now (W.written image.old) (W.written image.new) (N.written notes.old) (N.written notes.new) (length (tracks format)) totals) }
     ensures err { WasStopped format file.now (W.written image.old) (W.written image.new) (N.written notes.old) (N.written notes.new) result }
     ensures cause { PartCause (W.faults image.old) (W.faults image.new) (N.faults notes.old) (N.faults notes.new) result }
+    ensures blames { CountsBy (part_blame result)
+        (three_counts no_counts (counts_of W.faults W.failed image.old) (counts_of N.faults N.failed notes.old))
+        (three_counts no_counts (counts_of W.faults W.failed image.new) (counts_of N.faults N.failed notes.new)) }
     ensures roomy { IsRoomy format tools.new.cells tools.new.book }
     ensures image_later { W.faults image.old ≤ W.faults image.new }
     ensures notes_later { N.faults notes.old ≤ N.faults notes.new }

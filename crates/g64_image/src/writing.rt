@@ -2,6 +2,8 @@
 
 ghost use Rattle.std.specs.Prelude.{◌≡◌, ℕ, ◌≤◌, List, Some, length};
 ghost use Rattle.cell_bits.specs.State.{room};
+ghost use Rattle.flux_base.specs.Blames.{CountsBy, no_counts, three_counts};
+ghost use Rattle.flux_base.specs.Counts.{counts_of};
 ghost use Rattle.flux_base.specs.Moments.{Puts, moment};
 ghost use Rattle.flux_engine.specs.Answers.{Stayed};
 ghost use Rattle.flux_engine.specs.Needed.{ReadsUpTo};
@@ -9,6 +11,7 @@ ghost use Rattle.flux_engine.specs.Writes.{most_read};
 ghost use Rattle.kryo_stream.specs.Reads.{source_at};
 ghost use Rattle.sector_images.specs.Formats.{row};
 ghost use Rattle.g64_image.specs.Answers.{IsWrittenOrWrongSize, SaysOfBytes, ToCause, WritesFile};
+ghost use Rattle.g64_image.specs.Blamed.{to_blame};
 ghost use Rattle.g64_image.specs.Layout.{IsCommodore, g64_file, records};
 
 use crate::fault::ToStop;
@@ -38,6 +41,9 @@ pub fn to_g64<S: Source, W: Sink>(
 
     ensures format { room.new ≡ room.old }
     ensures cause { ToCause (S.faults source.old) (S.faults source.new) (W.faults sink.old) (W.faults sink.new) result }
+    ensures blames { CountsBy (to_blame result)
+        (three_counts (counts_of S.faults S.failed source.old) (counts_of W.faults W.failed sink.old) no_counts)
+        (three_counts (counts_of S.faults S.failed source.new) (counts_of W.faults W.failed sink.new) no_counts) }
 
     // Over a source and a sink that do not fail there is no other answer.
     ensures complete { Stayed (S.faults source.old) (S.faults source.new) → Stayed (W.faults sink.old) (W.faults sink.new) → IsWrittenOrWrongSize result }

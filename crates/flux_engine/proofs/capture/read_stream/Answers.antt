@@ -15,3 +15,9 @@ returns-in-Ok-clause-read g c = read_whole _ _ _ _ _ _ _ c.in-Ok.ensures.read
 pub returns-in-Ok-clause-bounded : goal.returns-in-Ok-clause-bounded
 returns-in-Ok-clause-bounded g c =
     read_bounded _ _ _ _ _ _ _ c.in-Ok.ensures.read c.in-Ok.ensures.small.few_times c.in-Ok.ensures.small.few_indexes c.in-Ok.ensures.small.times_within c.in-Ok.ensures.small.indexes_within
+
+pub returns-in-Err-ReadFault-clause-counts : goal.returns-in-Err-ReadFault-clause-counts
+returns-in-Err-ReadFault-clause-counts g c = rw c.in-Err-ReadFault.field-0-is at c.in-Err-ReadFault.ensures.counts
+
+pub returns-in-Err-Refused-clause-counts : goal.returns-in-Err-Refused-clause-counts
+returns-in-Err-Refused-clause-counts g c = rw c.in-Err-Refused.field-0-is at c.in-Err-Refused.ensures.counts

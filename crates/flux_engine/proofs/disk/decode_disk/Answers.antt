@@ -2,6 +2,7 @@ use Rattle.kryo_stream.specs.Reads.{source_at}
 use Rattle.flux_engine.specs.Needed.{EndsInStreams}
 use Rattle.flux_engine.specs.Plans.{EndsInPlan, decoding}
 use Rattle.flux_engine.specs.lemmas.OneStream.{ends_in_streams, reads_weaken}
+use Rattle.flux_engine.proofs.BlamedSteps.{engine_blames}
 use Rattle.flux_engine.proofs.DecodedPlans.{decodes_disk, engine_cause}
 use Rattle.flux_engine.proofs.Telling.{says_of_input, whole_or_refused}
 use Rattle.flux_engine.proofs.disk.decode_disk.Goals as goal
@@ -31,3 +32,7 @@ returns-clause-cause g c =
 
 pub returns-clause-complete : goal.returns-clause-complete
 returns-clause-complete g c = whole_or_refused _ _ _ _ _ _ c.engine_answer.result (returns-clause-cause g c)
+
+pub returns-clause-blames : goal.returns-clause-blames
+returns-clause-blames g c =
+    rw c.engine_answer.ensures (engine_blames c.decode_planned-answer.result c.decode_planned-answer.ensures.blames)

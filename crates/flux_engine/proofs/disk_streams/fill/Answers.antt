@@ -2,6 +2,7 @@ use Rattle.std.proofs.Common.{◌≡◌, ◌≤◌, ◌-◌, arith, length, take
 use Rattle.std.proofs.KnownBytes.{Consumes-nil}
 use Rattle.std.proofs.lemmas.Grind.{common_steps}
 use borrow.Rule.Slice.PartMut.{put_mid}
+use Rattle.flux_base.specs.lemmas.Counting.{Counts-none, Counts-then}
 use Rattle.flux_engine.proofs.Filling.{took_more}
 use Rattle.flux_engine.proofs.Needed.{filled_failed, filled_more, filled_none, filled_read}
 use Rattle.flux_engine.proofs.disk_streams.fill.Goals as goal
@@ -12,7 +13,7 @@ loop-filled-init g c = record {
   len = refl;
   took = Consumes-nil _;
   reads = filled_none _ _;
-  later = omega arith;
+  counts = Counts-none _;
 }
 
 pub returns-in-Ok-eq0-clause-needed : goal.returns-in-Ok-eq0-clause-needed
@@ -36,5 +37,13 @@ loop-filled-preserved g c =
           c.loop-filled.invariant.within few c.loop-filled.invariant.took c.in-Ok.ensures.bytes.0;
       reads = filled_more _ _ _ _ c.loop-filled.filled c.loop-filled.invariant.reads (omega (arith, c.loop-filled.invariant.len, c.loop-filled-test.true))
           c.in-Ok.count c.read.new.buffer few c.in-Ok.ensures.piece c.in-Ok.ensures.bytes.0;
-      later = omega (arith, c.loop-filled.invariant.later, c.in-Ok.ensures.later);
+      counts = Counts-then _ c.loop-filled.invariant.counts (record { later = c.in-Ok.ensures.later; cause = tt; counted = c.in-Ok.ensures.counted });
     }
+
+pub returns-in-Ok-eq0-clause-counts : goal.returns-in-Ok-eq0-clause-counts
+returns-in-Ok-eq0-clause-counts g c =
+    Counts-then _ c.loop-filled.invariant.counts (record { later = c.in-Ok-eq0.ensures.later; cause = tt; counted = c.in-Ok-eq0.ensures.counted })
+
+pub returns-in-Err-clause-counts : goal.returns-in-Err-clause-counts
+returns-in-Err-clause-counts g c =
+    Counts-then _ c.loop-filled.invariant.counts (record { later = c.in-Err.ensures.later; cause = c.in-Err.ensures.cause; counted = c.in-Err.ensures.counted })

@@ -1,6 +1,7 @@
-use Rattle.std.proofs.Common.{Ok, Err, subst}
+use Rattle.std.proofs.Common.{true, false, Ok, Err, subst}
 use Rattle.std.specs.Io.KnownBytes.{Appends}
 use Rattle.flux_base.specs.Outside.{AppendsPart}
+use Rattle.flux_base.specs.lemmas.Blaming.{CountsBy-notes, CountsBy-then}
 use Rattle.flux_engine.specs.declared.fault.PlanFault.TheVariants.{NotesFault}
 use Rattle.flux_engine.specs.Tracks.{part_by}
 use Rattle.flux_engine.proofs.PlanDecoding.{planned_all, planned_ends, planned_no_total}
@@ -41,3 +42,9 @@ pub returns-in-Err-write_line-clause-told : goal.returns-in-Err-write_line-claus
 returns-in-Err-write_line-clause-told g c = λ bytes told.
     says_of_planned c.args.plan (part_by c.args.plan.naming) c.args.room.now.format bytes (g.S.Source.left c.args.source.now) _ _ _ _ _ told (Err NotesFault)
     (returns-in-Err-write_line-clause-decoded g c)
+
+pub returns-in-Ok-write_line-clause-blames : goal.returns-in-Ok-write_line-clause-blames
+returns-in-Ok-write_line-clause-blames g c = CountsBy-then _ c.in-Ok.ensures.blames (CountsBy-notes _ _ false c.in-Ok-write_line.ensures.counts)
+
+pub returns-in-Err-write_line-clause-blames : goal.returns-in-Err-write_line-clause-blames
+returns-in-Err-write_line-clause-blames g c = CountsBy-then _ c.in-Ok.ensures.blames (CountsBy-notes _ _ true c.in-Err-write_line.ensures.counts)

@@ -1,13 +1,16 @@
 use Rattle.std.proofs.Common.{◌≡◌, ◌<◌, ◌+◌, ℕ, length, Ok, Err, ap, inl, inr, refl, subst, sym, ◌∙◌, arith}
+use Rattle.flux_base.specs.lemmas.Blaming.{CountsBy-none, CountsBy-sinks, CountsBy-then}
 use Rattle.sector_images.specs.Places.{tracks}
 use Rattle.sector_images.specs.declared.format.Format.{Format}
 use Rattle.sector_report.specs.declared.totals.Totals.{Totals}
+use Rattle.flux_engine.specs.lemmas.Blamed.{CountsBy-streams}
 use Rattle.flux_engine.specs.LoopProgress.{EndedInTrack, HasGathered}
 use Rattle.flux_engine.specs.Plans.{joined}
 use Rattle.flux_engine.specs.Recordings.{track_at}
 use Rattle.flux_engine.specs.Room.{RoomState}
 use Rattle.flux_engine.specs.TrackParts.{WritesPart}
 use Rattle.flux_engine.specs.Tracks.{track_notes}
+use Rattle.flux_engine.proofs.BlamedSteps.{sink_blames}
 use Rattle.flux_engine.proofs.LoopSteps.{counts_start, ended_by_sink, written_more, written_start}
 use Rattle.flux_engine.proofs.planned.decode_tracks.Goals as goal
 
@@ -22,6 +25,7 @@ loop-number-init g c = record {
   source_later = omega arith;
   image_later = omega arith;
   notes_later = omega arith;
+  blames = CountsBy-none _;
 }
 
 pub returns-in-Err-clause-err : goal.returns-in-Err-clause-err
@@ -110,4 +114,14 @@ loop-number-preserved g c =
       source_later = omega (arith, i.source_later, c.in-Ok.ensures.later);
       image_later = omega (arith, i.image_later, e.image_later);
       notes_later = omega (arith, i.notes_later, e.notes_later);
+      blames = CountsBy-then _ (CountsBy-then _ i.blames (CountsBy-streams _ _ _ c.in-Ok.ensures.blames)) (CountsBy-sinks _ _ e.blames);
     }
+
+pub returns-in-Err-clause-blames : goal.returns-in-Err-clause-blames
+returns-in-Err-clause-blames g c = CountsBy-then _ c.loop-number.invariant.blames (CountsBy-streams _ _ _ c.in-Err.ensures.blames)
+
+pub returns-in-Err-write_started-clause-blames : goal.returns-in-Err-write_started-clause-blames
+returns-in-Err-write_started-clause-blames g c =
+    rw c.of_part.ensures
+    (CountsBy-then _ (CountsBy-then _ c.loop-number.invariant.blames (CountsBy-streams _ _ _ c.in-Ok.ensures.blames))
+    (sink_blames Totals (Unit {0}) c.in-Err-write_started.fault (CountsBy-sinks _ _ c.in-Err-write_started.ensures.blames)))

@@ -1,13 +1,16 @@
-use Rattle.std.proofs.Common.{◌≡◌, List, Option, Ok, Err, ap, sym, subst, unwrap_or}
+use Rattle.std.proofs.Common.{◌≡◌, false, List, Option, Ok, Err, ap, sym, subst, unwrap_or}
+use Rattle.flux_base.specs.lemmas.Blaming.{CountsBy-sinks, CountsBy-source, CountsBy-then}
 use Rattle.flux_base.specs.declared.track.TrackId.{TrackId}
 use Rattle.turn_merge.specs.Book.{StandsFor}
 use Rattle.turn_merge.specs.Readings.{NotedReading}
+use Rattle.sector_report.specs.declared.totals.Totals.{Totals}
 use Rattle.flux_engine.specs.Answers.{DecodesTrack}
 use Rattle.flux_engine.specs.Recordings.{track_at}
 use Rattle.flux_engine.specs.Room.{RoomState}
 use Rattle.flux_engine.specs.TrackParts.{WritesPart}
 use Rattle.flux_engine.specs.Tracks.{part_of}
 use Rattle.flux_engine.specs.declared.fault.EngineFault.{EngineFault}
+use Rattle.flux_engine.proofs.BlamedSteps.{track_blames, track_sink_blames}
 use Rattle.flux_engine.proofs.Decoding.{decodes_fault, decodes_started, from_start, of_part}
 use Rattle.flux_engine.proofs.track.decode_track.Goals as goal
 
@@ -70,3 +73,16 @@ returns-in-Err-write_part-clause-decoded g c =
     rw c.of_part.ensures
     (subst (λ (r : RoomState). DecodesTrack c.args.room.now.format (track_at c.args.room.now.format n) n left left' c.args.room.now.used c.args.room.now.held r.held image image' notes notes' (of_part (Err c.in-Err-write_part.fault)))
     (sym c.room.view_is) whole)
+
+pub returns-in-Err-clause-blames : goal.returns-in-Err-clause-blames
+returns-in-Err-clause-blames g c = rw c.of_track.ensures (track_blames (Unit {0}) Totals _ _ c.args.number c.in-Err.fault c.in-Err.ensures.counts)
+
+pub returns-in-Ok-write_part-clause-blames : goal.returns-in-Ok-write_part-clause-blames
+returns-in-Ok-write_part-clause-blames g c =
+    CountsBy-then _ (CountsBy-source _ _ false c.in-Ok.ensures.counts) (CountsBy-sinks _ _ c.in-Ok-write_part.ensures.blames)
+
+pub returns-in-Err-write_part-clause-blames : goal.returns-in-Err-write_part-clause-blames
+returns-in-Err-write_part-clause-blames g c =
+    rw c.of_part.ensures
+    (CountsBy-then _ (CountsBy-source _ _ false c.in-Ok.ensures.counts)
+    (track_sink_blames Totals Totals c.in-Err-write_part.fault (CountsBy-sinks _ _ c.in-Err-write_part.ensures.blames)))

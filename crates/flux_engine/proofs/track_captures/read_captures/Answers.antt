@@ -1,11 +1,15 @@
-use Rattle.std.proofs.Common.{◌≡◌, ◌<◌, ◌+◌, ◌++◌, ℕ, length, ap, refl, subst, sym, ◌∙◌, arith}
+use Rattle.std.proofs.Common.{◌≡◌, ◌<◌, ◌+◌, ◌++◌, ℕ, false, length, ap, refl, subst, sym, ◌∙◌, arith}
 use Rattle.std.proofs.Math.Nat.{zero-mul}
+use Rattle.flux_base.specs.Blames.{no_counts}
+use Rattle.flux_base.specs.lemmas.Blaming.{CountsBy-source}
+use Rattle.flux_base.specs.lemmas.Counting.{Counts-none, Counts-then}
 use Rattle.sector_images.specs.declared.format.Format.{Format}
 use Rattle.flux_engine.specs.Captured.{count_of_clocks}
 use Rattle.flux_engine.specs.LoopProgress.{HasGathered, HasTakenNext}
 use Rattle.flux_engine.specs.PlanAnswers.{of_stream}
 use Rattle.flux_engine.specs.Recordings.{track_at}
 use Rattle.flux_engine.specs.Room.{RoomState}
+use Rattle.flux_engine.proofs.BlamedSteps.{stream_blames}
 use Rattle.flux_engine.proofs.LoopSteps.{came-size, counts_below, counts_track, ended_here, gathered_counted, gathered_more, gathered_none}
 use Rattle.flux_engine.proofs.PlanParts.{few_sources, one_more_source}
 use Rattle.flux_engine.proofs.PlanTelling.{captures_cause, stream_cause}
@@ -29,6 +33,7 @@ loop-capture-init g c =
       whole_others = refl;
       sound = ap (λ (r : RoomState). r.failed) started ∙ c.requires.sound;
       later = omega arith;
+      counts = Counts-none _;
     }
 
 pub take_next-requires-clause-few : goal.take_next-requires-clause-few
@@ -67,6 +72,11 @@ returns-in-Err-clause-cause g c =
     (stream_cause (g.T.TrackStreams.faults c.loop-capture.source) (g.T.TrackStreams.faults c.take_next.new.source) c.args.number c.from.result c.in-Err.fault c.in-Err.ensures.cause)
     (g.T.TrackStreams.faults c.args.source.now) c.loop-capture.invariant.later)
 
+pub returns-in-Err-clause-blames : goal.returns-in-Err-clause-blames
+returns-in-Err-clause-blames g c =
+    rw c.of_stream.ensures
+    (stream_blames (Unit {0}) (Unit {0}) no_counts no_counts c.args.number c.from.result c.in-Err.fault (Counts-then _ c.loop-capture.invariant.counts c.in-Err.ensures.counts))
+
 pub loop-capture-preserved : goal.loop-capture-preserved
 loop-capture-preserved g c =
     let i = c.loop-capture.invariant in
@@ -97,6 +107,7 @@ loop-capture-preserved g c =
       whole_others = e.whole_others ∙ i.whole_others;
       sound = e.sound;
       later = omega (arith, i.later, e.later);
+      counts = Counts-then _ i.counts e.counts;
     }
 
 -- the room before the track was counted has as many as at the begin
@@ -150,3 +161,6 @@ returns-clause-read g c = λ start before size whole came.
     (subst (λ (q : ℕ). HasGathered plan c.args.room.now.format c.args.number (g.T.TrackStreams.came c.args.streams.now plan c.args.room.now.format start c.loop-capture.source) before room q) all
     (subst (λ (f : Format). HasGathered plan f c.args.number (g.T.TrackStreams.came c.args.streams.now plan f start c.loop-capture.source) before room c.loop-capture.capture)
     (ap (λ (r : RoomState). r.format) started) (i.read start before size whole came')))
+
+pub returns-clause-blames : goal.returns-clause-blames
+returns-clause-blames g c = CountsBy-source no_counts no_counts false c.loop-capture.invariant.counts

@@ -1,4 +1,5 @@
 use Rattle.std.proofs.Common.{◌≡◌, ◌≤◌, ◌*◌, false, length, List}
+use Rattle.flux_base.specs.Counts.{Counts, counts_of}
 use Rattle.flux_engine.specs.Captured.{count_of_clocks}
 use Rattle.flux_engine.specs.LoopProgress.{AreWhole, HasGathered}
 use Rattle.flux_engine.specs.Plans.{Seen}
@@ -18,4 +19,5 @@ invariant-loop-capture g l = record {
   whole_others : l.room.whole_others ≡ l.initial.room.whole_others;
   sound : l.room.failed ≡ false;
   later : g.T.TrackStreams.faults l.initial.source ≤ g.T.TrackStreams.faults l.source;
+  counts : Counts false (counts_of g.T.TrackStreams.faults g.T.TrackStreams.failed l.initial.source) (counts_of g.T.TrackStreams.faults g.T.TrackStreams.failed l.source);
 }

@@ -1,6 +1,7 @@
-use Rattle.std.proofs.Common.{◌≤◌, List}
+use Rattle.std.proofs.Common.{false, List}
 use Rattle.std.specs.List.{flat_map, range_with_len}
 use Rattle.std.specs.Io.KnownBytes.{Appends}
+use Rattle.flux_base.specs.Counts.{Counts, counts_of}
 use Rattle.turn_merge.specs.Book.{StandsFor}
 use Rattle.turn_merge.specs.Readings.{NotedReading}
 use Rattle.flux_engine.specs.Tracks.{image_piece}
@@ -10,5 +11,5 @@ abbrev pub invariant-loop-number : goal.invariant-loop-number
 invariant-loop-number g l = record {
   grew : (readings : List NotedReading) → StandsFor l.book readings
       → Appends (g.W.Sink.written l.initial.image) (g.W.Sink.written l.image) (flat_map (image_piece l.format l.track readings) (range_with_len 0 l.number));
-  later : g.W.Sink.faults l.initial.image ≤ g.W.Sink.faults l.image;
+  counts : Counts false (counts_of g.W.Sink.faults g.W.Sink.failed l.initial.image) (counts_of g.W.Sink.faults g.W.Sink.failed l.image);
 }

@@ -2,6 +2,7 @@ use Rattle.std.proofs.Common.{◌≡◌, ◌+◌, ℕ, List, arith, subst, ap, s
 use Rattle.std.proofs.lemmas.List.FromFn.{map-range_with_len_more}
 use Rattle.std.specs.List.{flat_map, range_with_len}
 use Rattle.std.specs.Io.KnownBytes.{Appends}
+use Rattle.flux_base.specs.lemmas.Counting.{Counts-then}
 use Rattle.sector_report.specs.Lines.{named_text}
 use Rattle.turn_merge.specs.Readings.{verdict}
 use Rattle.turn_merge.specs.declared.verdict.Verdict.{Verdict}
@@ -34,7 +35,7 @@ loop-index-preserved g c = record {
       ∙ ap totals_of (sym (map-range_with_len_more (verdict readings) c.args.sectors.first c.loop-index.index sector (omega arith)));
   sum = c.count_verdict.ensures.sum;
   number = c.count_verdict.ensures.one ∙ ap (λ (n : ℕ). n + 1) c.loop-index.invariant.number;
-  later = omega (arith, c.loop-index.invariant.later, c.write_line.ensures.counts.later);
+  counts = Counts-then _ c.loop-index.invariant.counts c.in-Ok.ensures.counts;
 }
 
 pub returns-clause-ok : goal.returns-clause-ok
@@ -43,3 +44,6 @@ returns-clause-ok g c = λ readings stands.
     let all : c.loop-index.index ≡ c.args.sectors.count = omega arith in
     subst (λ (n : ℕ). Appends (g.N.Sink.written c.args.notes.now) (g.N.Sink.written c.loop-index.notes)
     (flat_map (line_by c.args.naming c.args.track readings) (range_with_len c.args.sectors.first n))) all (c.loop-index.invariant.grew readings stands)
+
+pub returns-in-Err-clause-counts : goal.returns-in-Err-clause-counts
+returns-in-Err-clause-counts g c = Counts-then _ c.loop-index.invariant.counts c.in-Err.ensures.counts

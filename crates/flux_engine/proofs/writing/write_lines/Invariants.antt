@@ -1,7 +1,8 @@
-use Rattle.std.proofs.Common.{◌≡◌, ◌≤◌, List}
+use Rattle.std.proofs.Common.{false, ◌≡◌, List}
 use Rattle.std.specs.Prelude.{map}
 use Rattle.std.specs.List.{flat_map, range_with_len}
 use Rattle.std.specs.Io.KnownBytes.{Appends}
+use Rattle.flux_base.specs.Counts.{Counts, counts_of}
 use Rattle.turn_merge.specs.Book.{StandsFor}
 use Rattle.turn_merge.specs.Readings.{NotedReading, verdict}
 use Rattle.flux_engine.specs.Tracks.{line_by, totals_of}
@@ -16,5 +17,5 @@ invariant-loop-index g l = record {
       → l.totals ≡ totals_of (map (verdict readings) (range_with_len l.sectors.first l.index));
   sum : IsSum l.totals;
   number : l.totals.sectors ≡ l.index;
-  later : g.N.Sink.faults l.initial.notes ≤ g.N.Sink.faults l.notes;
+  counts : Counts false (counts_of g.N.Sink.faults g.N.Sink.failed l.initial.notes) (counts_of g.N.Sink.faults g.N.Sink.failed l.notes);
 }

@@ -1,4 +1,5 @@
-use Rattle.std.proofs.Common.{◌≡◌, ◌∙◌, List, ℕ, Option, arith, length, subst, take}
+use Rattle.std.proofs.Common.{◌≡◌, false, ◌∙◌, List, ℕ, Option, arith, length, subst, take}
+use Rattle.flux_base.specs.lemmas.Blaming.{CountsBy-sinks, CountsBy-source, CountsBy-then}
 use Rattle.sector_images.specs.declared.format.Format.{Format}
 use Rattle.g64_image.specs.Answers.{IsTakenFile, ReadsFile, SaysOfFile}
 use Rattle.g64_image.proofs.Causes.{cause_of_sinks, read_or_refused}
@@ -41,3 +42,6 @@ returns-clause-cause g c = cause_of_sinks _ _ _ _ _ _ c.read_file.result c.read_
 
 pub returns-clause-complete : goal.returns-clause-complete
 returns-clause-complete g c = read_or_refused _ _ _ _ _ _ c.read_file.result (cause_of_sinks _ _ _ _ _ _ c.read_file.result c.read_file.ensures.cause)
+
+pub returns-clause-blames : goal.returns-clause-blames
+returns-clause-blames g c = CountsBy-then _ (CountsBy-source _ _ false c.in-Ok.ensures.counts) (CountsBy-sinks _ _ c.read_file.ensures.blames)

@@ -1,4 +1,5 @@
 use Rattle.std.proofs.Common.{◌≡◌, ◌+◌, Bool, List, Option, Ok, Err, ap, arith, subst, sym, unwrap_or}
+use Rattle.flux_base.specs.lemmas.Blaming.{CountsBy-then}
 use Rattle.flux_base.specs.declared.track.TrackId.{TrackId}
 use Rattle.flux_engine.specs.Recordings.{track_at}
 use Rattle.flux_engine.specs.TrackParts.{WritesPart}
@@ -59,4 +60,8 @@ loop-number-preserved g c =
       few = omega (arith, c.in-Ok.ensures.few, sum, c.loop-number.invariant.few);
       image_later = omega (arith, c.loop-number.invariant.image_later, c.in-Ok.ensures.image_later);
       notes_later = omega (arith, c.loop-number.invariant.notes_later, c.in-Ok.ensures.notes_later);
+      blames = CountsBy-then _ c.loop-number.invariant.blames c.in-Ok.ensures.blames;
     }
+
+pub returns-in-Err-clause-blames : goal.returns-in-Err-clause-blames
+returns-in-Err-clause-blames g c = CountsBy-then _ c.loop-number.invariant.blames c.in-Err.ensures.blames

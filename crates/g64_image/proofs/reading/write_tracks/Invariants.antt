@@ -1,4 +1,6 @@
 use Rattle.std.proofs.Common.{◌≤◌, ◌*◌}
+use Rattle.flux_base.specs.Blames.{CountsBy, no_counts, no_one, three_counts}
+use Rattle.flux_base.specs.Counts.{counts_of}
 use Rattle.flux_engine.specs.Writing.{IsSum}
 use Rattle.g64_image.specs.Progress.{HasRead}
 use Rattle.g64_image.specs.Room.{IsRoomy}
@@ -13,4 +15,6 @@ invariant-loop-number g l = record {
   few : l.totals.sectors ≤ 100 * l.number;
   image_later : g.W.Sink.faults l.initial.image ≤ g.W.Sink.faults l.image;
   notes_later : g.N.Sink.faults l.initial.notes ≤ g.N.Sink.faults l.notes;
+  blames : CountsBy no_one (three_counts no_counts (counts_of g.W.Sink.faults g.W.Sink.failed l.initial.image) (counts_of g.N.Sink.faults g.N.Sink.failed l.initial.notes))
+      (three_counts no_counts (counts_of g.W.Sink.faults g.W.Sink.failed l.image) (counts_of g.N.Sink.faults g.N.Sink.failed l.notes));
 }

@@ -1,0 +1,47 @@
+-- The counts of the outside over the steps of a disk.
+use Rattle.std.specs.Prelude.{Bool, true, false, ℕ, Result, Ok, Err}
+use Rattle.flux_base.specs.Blames.{CountsBy, OutsideCounts, three_counts}
+use Rattle.flux_base.specs.Counts.{Counts, FaultCounts}
+use Rattle.flux_base.specs.lemmas.Counting.{Counts-none}
+use Rattle.flux_engine.specs.Answers.{of_capture, of_sink}
+use Rattle.flux_engine.specs.Blamed.{engine_blame, is_unread, part_blame, plan_blame}
+use Rattle.flux_engine.specs.PlanAnswers.{PlanAnswer, engine_answer, of_part, of_stream}
+use Rattle.flux_engine.specs.declared.fault.CaptureFault.{CaptureFault}
+use Rattle.flux_engine.specs.declared.fault.CaptureFault.TheVariants.{ReadFault as UnreadCapture, Refused as RefusedCapture}
+use Rattle.flux_engine.specs.declared.fault.PlanFault.TheVariants.{ReadFault, ImageFault, NotesFault, Refused}
+use Rattle.flux_engine.specs.declared.track_part.PartFault.{PartFault}
+use Rattle.flux_engine.specs.declared.track_part.PartFault.TheVariants.{ImageFault as PartImageFault, NotesFault as PartNotesFault}
+
+-- a stream of a plan was not read
+pub stream_blames : (A B : Type 0) {source source' : FaultCounts} (image notes : FaultCounts) (number capture : ℕ) (fault : CaptureFault)
+    → Counts (is_unread {A = A} (Err fault)) source source'
+    → CountsBy (plan_blame {A = B} (Err (of_stream number capture fault))) (three_counts source image notes) (three_counts source' image notes)
+stream_blames A B image notes number capture UnreadCapture counts = record { source = counts; image = Counts-none image; notes = Counts-none notes }
+stream_blames A B image notes number capture (RefusedCapture block fault) counts = record { source = counts; image = Counts-none image; notes = Counts-none notes }
+
+-- the one stream of a track was not read
+pub track_blames : (A B : Type 0) {source source' : FaultCounts} (image notes : FaultCounts) (number : ℕ) (fault : CaptureFault)
+    → Counts (is_unread {A = A} (Err fault)) source source'
+    → CountsBy (engine_blame {A = B} (Err (of_capture number fault))) (three_counts source image notes) (three_counts source' image notes)
+track_blames A B image notes number UnreadCapture counts = record { source = counts; image = Counts-none image; notes = Counts-none notes }
+track_blames A B image notes number (RefusedCapture block fault) counts = record { source = counts; image = Counts-none image; notes = Counts-none notes }
+
+-- a sink failed as a track was written
+pub sink_blames : (A B : Type 0) {before after : OutsideCounts} (fault : PartFault) → CountsBy (part_blame {A = A} (Err fault)) before after
+    → CountsBy (plan_blame {A = B} (Err (of_part fault))) before after
+sink_blames A B PartImageFault counts = counts
+sink_blames A B PartNotesFault counts = counts
+
+pub track_sink_blames : (A B : Type 0) {before after : OutsideCounts} (fault : PartFault) → CountsBy (part_blame {A = A} (Err fault)) before after
+    → CountsBy (engine_blame {A = B} (Err (of_sink fault))) before after
+track_sink_blames A B PartImageFault counts = counts
+track_sink_blames A B PartNotesFault counts = counts
+
+-- the answer for a disk of which each track has one stream
+pub engine_blames : {before after : OutsideCounts} (answer : PlanAnswer) → CountsBy (plan_blame answer) before after
+    → CountsBy (engine_blame (engine_answer answer)) before after
+engine_blames (Ok _) counts = counts
+engine_blames (Err ReadFault) counts = counts
+engine_blames (Err ImageFault) counts = counts
+engine_blames (Err NotesFault) counts = counts
+engine_blames (Err (Refused track capture block fault)) counts = counts

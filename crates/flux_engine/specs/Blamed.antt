@@ -1,0 +1,41 @@
+-- Whom an answer blames: of which object of the outside it tells a fault.
+use Rattle.std.specs.Prelude.{Bool, true, false, Result, Ok, Err}
+use Rattle.flux_base.specs.Blames.{Blame, no_one, the_source, the_image, the_notes}
+use Rattle.flux_engine.specs.declared.fault.CaptureFault.{CaptureFault}
+use Rattle.flux_engine.specs.declared.fault.CaptureFault.TheVariants.{ReadFault as UnreadCapture}
+use Rattle.flux_engine.specs.declared.fault.EngineFault.{EngineFault}
+use Rattle.flux_engine.specs.declared.fault.EngineFault.TheVariants.{ReadFault as EngineReadFault, ImageFault as EngineImageFault, NotesFault as EngineNotesFault}
+use Rattle.flux_engine.specs.declared.fault.PlanFault.{PlanFault}
+use Rattle.flux_engine.specs.declared.fault.PlanFault.TheVariants.{ReadFault, ImageFault, NotesFault}
+use Rattle.flux_engine.specs.declared.track_part.PartFault.{PartFault}
+use Rattle.flux_engine.specs.declared.track_part.PartFault.TheVariants.{ImageFault as PartImageFault, NotesFault as PartNotesFault}
+use Rattle.flux_engine.specs.declared.write_fault.WriteFault.{WriteFault}
+use Rattle.flux_engine.specs.declared.write_fault.WriteFault.TheVariants.{ReadFault as UnreadImage, ImageFault as UnwrittenStreams}
+
+-- a stream was not read for its source's sake
+abbrev pub is_unread : {A : Type 0} → Result A CaptureFault → Bool
+is_unread (Err UnreadCapture) = true
+is_unread _ = false
+
+abbrev pub part_blame : {A : Type 0} → Result A PartFault → Blame
+part_blame (Ok _) = no_one
+part_blame (Err PartImageFault) = the_image
+part_blame (Err PartNotesFault) = the_notes
+
+abbrev pub plan_blame : {A : Type 0} → Result A PlanFault → Blame
+plan_blame (Err ReadFault) = the_source
+plan_blame (Err ImageFault) = the_image
+plan_blame (Err NotesFault) = the_notes
+plan_blame _ = no_one
+
+abbrev pub engine_blame : {A : Type 0} → Result A EngineFault → Blame
+engine_blame (Err EngineReadFault) = the_source
+engine_blame (Err EngineImageFault) = the_image
+engine_blame (Err EngineNotesFault) = the_notes
+engine_blame _ = no_one
+
+-- streams are written to the sink of an image
+abbrev pub write_blame : {A : Type 0} → Result A WriteFault → Blame
+write_blame (Err UnreadImage) = the_source
+write_blame (Err UnwrittenStreams) = the_image
+write_blame _ = no_one
