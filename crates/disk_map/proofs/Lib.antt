@@ -7,3 +7,4 @@ pub mod Outcomes
 pub mod Fields
 pub mod DrawnDumps
 pub mod DumpReports
+pub mod Ended

@@ -1,7 +1,10 @@
 ghost use Rattle.std.specs.Prelude.{◌≡◌, ◌+◌, ◌≤◌, ℕ, List, Some, flat_map, length};
 ghost use Rattle.std.specs.List.{range_with_len};
+ghost use Rattle.flux_base.specs.Blames.{CountsBy, no_counts, three_counts};
+ghost use Rattle.flux_base.specs.Counts.{counts_of};
 ghost use Rattle.flux_base.specs.Moments.{Puts, moment};
 ghost use Rattle.flux_engine.specs.Answers.{Stayed};
+ghost use Rattle.flux_engine.specs.Blamed.{plan_blame};
 ghost use Rattle.flux_engine.specs.Needed.{EndsInStreams, ReadsWhereOpen};
 ghost use Rattle.flux_engine.specs.Room.{fresh};
 ghost use Rattle.kryo_stream.specs.Reads.{source_at};
@@ -40,6 +43,9 @@ pub fn map_disk<S: Source, P: Sink>(
     ensures needed { (bytes : List ℕ) → S.left source.old ≡ Some bytes → ReadsWhereOpen (EndsInStreams room.old.format) (source_at S.left S.given S.faults source.old) (source_at S.left S.given S.faults source.new) }
 
     ensures cause { MapCause (S.faults source.old) (S.faults source.new) (P.faults picture.old) (P.faults picture.new) result }
+    ensures blames { CountsBy (plan_blame result)
+        (three_counts (counts_of S.faults S.failed source.old) (counts_of P.faults P.failed picture.old) no_counts)
+        (three_counts (counts_of S.faults S.failed source.new) (counts_of P.faults P.failed picture.new) no_counts) }
 
     // Over a source and a sink that do not fail there is no other answer.
     ensures complete { Stayed (S.faults source.old) (S.faults source.new) → Stayed (P.faults picture.old) (P.faults picture.new) → IsWholeOrRefused result }

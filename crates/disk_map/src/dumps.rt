@@ -1,8 +1,11 @@
 //! A picture of a disk that is read of its dumps.
 
 ghost use Rattle.std.specs.Prelude.{◌≡◌, ◌≤◌, length};
+ghost use Rattle.flux_base.specs.Blames.{CountsBy, no_counts, three_counts};
+ghost use Rattle.flux_base.specs.Counts.{counts_of};
 ghost use Rattle.flux_base.specs.Moments.{Puts, moment};
 ghost use Rattle.flux_engine.specs.Room.{fresh};
+ghost use Rattle.dump_reading.specs.Blamed.{dumps_blame};
 ghost use Rattle.dump_reading.specs.Outcomes.{DumpsCause, disk_of};
 ghost use Rattle.disk_map.specs.Dumps.{SaysOfDrawing, dumps_foot};
 
@@ -34,6 +37,9 @@ pub fn map_dumps<H: Shelf, P: Sink>(
     ensures says { SaysOfDrawing (disk_of dumps.now room.old.format) (H.files shelf.old) (P.written picture.old) (P.written picture.new) result }
     ensures files { H.files shelf.new ≡ H.files shelf.old }
     ensures cause { DumpsCause (H.faults shelf.old) (H.faults shelf.new) (P.faults picture.old) (P.faults picture.new) 0 0 result }
+    ensures blames { CountsBy (dumps_blame result)
+        (three_counts (counts_of H.faults H.failed shelf.old) (counts_of P.faults P.failed picture.old) no_counts)
+        (three_counts (counts_of H.faults H.failed shelf.new) (counts_of P.faults P.failed picture.new) no_counts) }
     ensures shelf_later { H.faults shelf.old ≤ H.faults shelf.new }
     ensures picture_later { P.faults picture.old ≤ P.faults picture.new }
 {

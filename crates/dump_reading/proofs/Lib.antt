@@ -3,3 +3,4 @@ pub mod Lists
 pub mod Ends
 pub mod Looks
 pub mod FileStreams
+pub mod Closing

@@ -1,3 +1,5 @@
+pub mod Files
+pub mod Blamed
 pub mod Totals
 pub mod DumpStreams
 pub mod Reports

@@ -1,8 +1,11 @@
 //! The dumps of a disk, and where the streams of its tracks lie in them.
 
 ghost use Rattle.std.specs.Prelude.{◌≡◌, ◌≤◌, List, ℕ, Some, IfErr, IfOk};
+ghost use Rattle.flux_base.specs.Counts.{Counts, counts_of};
 ghost use Rattle.dump_reading.specs.DumpStreams.{HaveComeOf, none_came, seen_file, seen_of};
+ghost use Rattle.dump_reading.specs.Files.{IsFresh};
 ghost use Rattle.flux_engine.specs.Answers.{CaptureCause};
+ghost use Rattle.flux_engine.specs.Blamed.{is_unread};
 ghost use Rattle.flux_engine.specs.LoopProgress.{IsBoundedNext, seen_next};
 ghost use Rattle.flux_engine.specs.declared.fault.CaptureFault.TheVariants.{ReadFault};
 ghost use Rattle.track_shelf.specs.Files.{File, file_at};
@@ -26,6 +29,8 @@ pub struct Dumps<'a> {
 
 impl<'a, H: Shelf> TrackStreams<H> for Dumps<'a> {
     ghost faults = { H.faults };
+
+    ghost failed = { H.failed };
 
     ghost came = { λ dumps plan format start now held used before. HaveComeOf dumps.stepping dumps.names.now plan format (H.files start) (H.files now) before };
 
@@ -64,6 +69,7 @@ fn read_dump<H: Shelf>(
     ensures bounded { IfOk result (λ next. IsBoundedNext next stream.new.flux) }
     ensures cause { CaptureCause (H.faults shelf.old) (H.faults shelf.new) result }
     ensures later { H.faults shelf.old ≤ H.faults shelf.new }
+    ensures counts { Counts (is_unread result) (counts_of H.faults H.failed shelf.old) (counts_of H.faults H.failed shelf.new) }
 {
     match shelf.open_file(dump, track) {
         Ok(Some(file)) => read_file(file, shelf, stream),
@@ -84,6 +90,8 @@ fn read_file<H: Shelf>(
     ensures bounded { IfOk result (λ next. IsBoundedNext next stream.new.flux) }
     ensures cause { CaptureCause (H.faults shelf.old) (H.faults shelf.new) result }
     ensures later { H.faults shelf.old ≤ H.faults shelf.new }
+    ensures counts { IsFresh (counts_of H.File.faults H.File.failed file) (counts_of H.faults H.failed shelf.old)
+        → Counts (is_unread result) (counts_of H.faults H.failed shelf.old) (counts_of H.faults H.failed shelf.new) }
 {
     let mut file = file;
     stream.restart();

@@ -1,8 +1,8 @@
 //! Whether the dumps of a disk have files at all.
 
-ghost use Rattle.std.specs.Prelude.{◌≡◌, ◌≤◌, ◌<◌, List, Some, length, IfOk, IfSome, OnErr};
+ghost use Rattle.std.specs.Prelude.{◌≡◌, ◌≤◌, ◌<◌, List, Some, length, is_err, IfOk, IfSome};
 ghost use Rattle.std.specs.Option.{is_some};
-ghost use Rattle.flux_base.specs.Outside.{Rose};
+ghost use Rattle.flux_base.specs.Counts.{Counts, counts_of};
 ghost use Rattle.track_shelf.specs.Files.{File, file_at};
 ghost use Rattle.track_shelf.specs.Names.{path_text};
 ghost use Rattle.dump_reading.specs.Outcomes.{IsFirstEmpty, disk_of, has_any};
@@ -22,8 +22,7 @@ pub fn find_empty<H: Shelf>(
     ensures told { (files : List File) → H.files shelf.old ≡ Some files → IfOk result (IsFirstEmpty (disk_of dumps.now format) files) }
     ensures bound { IfOk result (λ dump. IfSome dump (λ number. number < length dumps.now.names.now)) }
     ensures kept { H.files shelf.new ≡ H.files shelf.old }
-    ensures cause { OnErr result (Rose (H.faults shelf.old) (H.faults shelf.new)) }
-    ensures later { H.faults shelf.old ≤ H.faults shelf.new }
+    ensures counts { Counts (is_err result) (counts_of H.faults H.failed shelf.old) (counts_of H.faults H.failed shelf.new) }
 {
     for number in 0..dumps.names.len() {
         match has_any(dumps.names[number].bytes(), dumps.stepping, format, shelf) {
@@ -44,8 +43,7 @@ fn has_any<H: Shelf>(
 ) -> Result<bool, Failed>
     ensures told { (files : List File) → H.files shelf.old ≡ Some files → IfOk result (λ there. there ≡ has_any stepping files format dump.now) }
     ensures kept { H.files shelf.new ≡ H.files shelf.old }
-    ensures cause { OnErr result (Rose (H.faults shelf.old) (H.faults shelf.new)) }
-    ensures later { H.faults shelf.old ≤ H.faults shelf.new }
+    ensures counts { Counts (is_err result) (counts_of H.faults H.failed shelf.old) (counts_of H.faults H.failed shelf.new) }
 {
     tracks_keep_bounds();
     for number in 0..track_count(format) {
@@ -63,8 +61,7 @@ fn has_any<H: Shelf>(
 fn has_file<H: Shelf>(dump: &[u8], track: TrackId, shelf: &mut H) -> Result<bool, Failed>
     ensures told { (files : List File) → H.files shelf.old ≡ Some files → IfOk result (λ there. there ≡ is_some (file_at files (path_text dump.now track))) }
     ensures kept { H.files shelf.new ≡ H.files shelf.old }
-    ensures cause { OnErr result (Rose (H.faults shelf.old) (H.faults shelf.new)) }
-    ensures later { H.faults shelf.old ≤ H.faults shelf.new }
+    ensures counts { Counts (is_err result) (counts_of H.faults H.failed shelf.old) (counts_of H.faults H.failed shelf.new) }
 {
     match shelf.open_file(dump, track) {
         Ok(Some(file)) => {

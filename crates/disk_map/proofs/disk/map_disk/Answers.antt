@@ -1,16 +1,20 @@
-use Rattle.std.proofs.Common.{Ok, Err, subst}
+use Rattle.std.proofs.Common.{true, false, refl, Ok, Err, subst}
 use Rattle.std.specs.Io.KnownBytes.{Appends}
+use Rattle.flux_base.specs.lemmas.Blaming.{CountsBy-image, CountsBy-then}
 use Rattle.flux_base.specs.Moments.{moment}
 use Rattle.flux_base.specs.Outside.{AppendsPart}
 use Rattle.kryo_stream.specs.Reads.{source_at}
 use Rattle.sector_images.specs.declared.format.Format.{Format}
+use Rattle.flux_engine.specs.lemmas.Blamed.{CountsBy-unnoted}
 use Rattle.flux_engine.specs.Needed.{EndsInStreams}
 use Rattle.flux_engine.specs.Plans.{EndsInPlan, decoding}
 use Rattle.flux_engine.specs.declared.fault.PlanFault.TheVariants.{ImageFault}
 use Rattle.flux_engine.specs.lemmas.OneStream.{ends_in_streams, reads_weaken}
+use Rattle.sector_report.specs.declared.totals.Totals.{Totals}
 use Rattle.disk_map.specs.Progress.{EndsEarly}
 use Rattle.disk_map.specs.Texts.{top_text}
 use Rattle.disk_map.proofs.Drawing.{mapped_all, mapped_fault, mapped_no_foot, mapped_no_top}
+use Rattle.disk_map.proofs.Ended.{ended_blames}
 use Rattle.disk_map.proofs.Telling.{no_notes_fault, says_of_input}
 use Rattle.disk_map.proofs.disk.map_disk.Goals as goal
 
@@ -76,3 +80,22 @@ returns-in-Err-write_text-clause-needed g c = λ bytes told.
     reads_weaken (EndsInPlan decoding c.args.room.now.format) (EndsInStreams c.args.room.now.format)
     (source_at g.S.Source.left g.S.Source.given g.S.Source.faults c.args.source.now) (source_at g.S.Source.left g.S.Source.given g.S.Source.faults c.decode_planned_tracks.new.source)
     (ends_in_streams c.args.room.now.format) (c.decode_planned_tracks.ensures.needed bytes told)
+
+pub returns-in-Err-clause-blames : goal.returns-in-Err-clause-blames
+returns-in-Err-clause-blames g c = CountsBy-image _ _ true c.in-Err.ensures.counts
+
+pub returns-in-Err-decode_planned_tracks-clause-blames : goal.returns-in-Err-decode_planned_tracks-clause-blames
+returns-in-Err-decode_planned_tracks-clause-blames g c =
+    ended_blames (Unit {0}) Totals c.room_format-format.result c.decode_planned_tracks.new.totals _ _ _ (moment g.P.Sink.written g.P.Sink.faults g.P.Sink.failed c.decode_planned_tracks.new.image)
+    (moment g.P.Sink.written g.P.Sink.faults g.P.Sink.failed c.end_early.new.picture) c.in-Err-decode_planned_tracks.fault c.end_early.result c.end_early.ensures
+    (CountsBy-then _ (CountsBy-image _ _ false c.in-Ok.ensures.counts) (CountsBy-unnoted _ refl c.in-Err-decode_planned_tracks.ensures.blames))
+
+pub returns-in-Ok-write_text-clause-blames : goal.returns-in-Ok-write_text-clause-blames
+returns-in-Ok-write_text-clause-blames g c =
+    CountsBy-then _ (CountsBy-then _ (CountsBy-image _ _ false c.in-Ok.ensures.counts) (CountsBy-unnoted _ refl c.in-Ok-decode_planned_tracks.ensures.blames))
+    (CountsBy-image _ _ false c.in-Ok-write_text.ensures.counts)
+
+pub returns-in-Err-write_text-clause-blames : goal.returns-in-Err-write_text-clause-blames
+returns-in-Err-write_text-clause-blames g c =
+    CountsBy-then _ (CountsBy-then _ (CountsBy-image _ _ false c.in-Ok.ensures.counts) (CountsBy-unnoted _ refl c.in-Ok-decode_planned_tracks.ensures.blames))
+    (CountsBy-image _ _ true c.in-Err-write_text.ensures.counts)

@@ -1,4 +1,6 @@
-use Rattle.std.proofs.Common.{inl, refl}
+use Rattle.std.proofs.Common.{true, false, inl, refl}
+use Rattle.flux_base.specs.lemmas.Blaming.{CountsBy-image, CountsBy-source, CountsBy-then}
+use Rattle.flux_engine.specs.lemmas.Blamed.{CountsBy-unnoted}
 use Rattle.dump_reading.specs.Outcomes.{disk_of}
 use Rattle.disk_map.proofs.DrawnDumps.{cause-since, drawn-all, drawn-stopped, no-foot, no-top}
 use Rattle.disk_map.proofs.dumps.map_dumps.Goals as goal
@@ -19,7 +21,7 @@ returns-in-Err-read_dump_tracks-clause-says g c =
 
 pub returns-in-Err-read_dump_tracks-clause-cause : goal.returns-in-Err-read_dump_tracks-clause-cause
 returns-in-Err-read_dump_tracks-clause-cause g c =
-    cause-since c.in-Err-read_dump_tracks.fault _ _ _ _ _ _ c.in-Ok-None.ensures.later c.in-Ok.ensures.counts.later c.in-Err-read_dump_tracks.ensures.cause
+    cause-since c.in-Err-read_dump_tracks.fault _ _ _ _ _ _ c.in-Ok-None.ensures.counts.later c.in-Ok.ensures.counts.later c.in-Err-read_dump_tracks.ensures.cause
 
 pub returns-in-Ok-write_foot-clause-says : goal.returns-in-Ok-write_foot-clause-says
 returns-in-Ok-write_foot-clause-says g c = (
@@ -34,3 +36,28 @@ returns-in-Err-write_foot-clause-says g c =
     no-foot (disk_of c.args.dumps.now c.args.room.now.format) (g.H.Shelf.files c.args.shelf.now) (g.P.Sink.written c.args.picture.now) (g.P.Sink.written c.write_top.new.picture)
     (rw c.room_format-format.ensures at c.in-Ok.ensures.ok) (g.P.Sink.written c.read_dump_tracks.new.image) _ _ (g.P.Sink.written c.write_foot.new.picture) c.in-Ok-read_dump_tracks.totals
     (rw c.in-Ok-None.ensures.kept at c.in-Ok-read_dump_tracks.ensures.ok) (rw (c.of_format.ensures, c.room_format-format.ensures) at c.in-Err-write_foot.ensures.err)
+
+pub returns-in-Err-clause-blames : goal.returns-in-Err-clause-blames
+returns-in-Err-clause-blames g c = CountsBy-source _ _ true c.in-Err.ensures.counts
+
+pub returns-in-Ok-Some-clause-blames : goal.returns-in-Ok-Some-clause-blames
+returns-in-Ok-Some-clause-blames g c = CountsBy-source _ _ false c.in-Ok-Some.ensures.counts
+
+pub returns-in-Err-write_top-clause-blames : goal.returns-in-Err-write_top-clause-blames
+returns-in-Err-write_top-clause-blames g c =
+    CountsBy-then _ (CountsBy-source _ _ false c.in-Ok-None.ensures.counts) (CountsBy-image _ _ true c.in-Err-write_top.ensures.counts)
+
+pub returns-in-Err-read_dump_tracks-clause-blames : goal.returns-in-Err-read_dump_tracks-clause-blames
+returns-in-Err-read_dump_tracks-clause-blames g c =
+    CountsBy-then _ (CountsBy-then _ (CountsBy-source _ _ false c.in-Ok-None.ensures.counts) (CountsBy-image _ _ false c.in-Ok.ensures.counts))
+    (CountsBy-unnoted _ refl c.in-Err-read_dump_tracks.ensures.blames)
+
+pub returns-in-Ok-write_foot-clause-blames : goal.returns-in-Ok-write_foot-clause-blames
+returns-in-Ok-write_foot-clause-blames g c =
+    CountsBy-then _ (CountsBy-then _ (CountsBy-then _ (CountsBy-source _ _ false c.in-Ok-None.ensures.counts) (CountsBy-image _ _ false c.in-Ok.ensures.counts))
+    (CountsBy-unnoted _ refl c.in-Ok-read_dump_tracks.ensures.blames)) (CountsBy-image _ _ false c.in-Ok-write_foot.ensures.counts)
+
+pub returns-in-Err-write_foot-clause-blames : goal.returns-in-Err-write_foot-clause-blames
+returns-in-Err-write_foot-clause-blames g c =
+    CountsBy-then _ (CountsBy-then _ (CountsBy-then _ (CountsBy-source _ _ false c.in-Ok-None.ensures.counts) (CountsBy-image _ _ false c.in-Ok.ensures.counts))
+    (CountsBy-unnoted _ refl c.in-Ok-read_dump_tracks.ensures.blames)) (CountsBy-image _ _ true c.in-Err-write_foot.ensures.counts)

@@ -2,6 +2,7 @@ use Rattle.std.proofs.Common.{◌≡◌, ◌+◌, ℕ, List, arith, subst, ap, s
 use Rattle.std.proofs.lemmas.List.FromFn.{map-range_with_len_more}
 use Rattle.std.specs.List.{flat_map, range_with_len}
 use Rattle.std.specs.Io.KnownBytes.{Appends}
+use Rattle.flux_base.specs.lemmas.Counting.{Counts-then}
 use Rattle.flux_base.specs.Outside.{AppendsPart}
 use Rattle.turn_merge.specs.Readings.{verdict}
 use Rattle.turn_merge.specs.declared.verdict.Verdict.{Verdict}
@@ -32,7 +33,7 @@ loop-index-preserved g c = record {
       ∙ ap totals_of (sym (map-range_with_len_more (verdict readings) c.sectors_of-sectors.result.first c.loop-index.index sector (omega arith)));
   sum = c.count_verdict.ensures.sum;
   number = c.count_verdict.ensures.one ∙ ap (λ (n : ℕ). n + 1) c.loop-index.invariant.number;
-  later = omega (arith, c.loop-index.invariant.later, c.write_text.ensures.counts.later);
+  counts = Counts-then _ c.loop-index.invariant.counts c.in-Ok.ensures.counts;
 }
 
 pub returns-in-Err-clause-err : goal.returns-in-Err-clause-err
@@ -63,3 +64,6 @@ returns-clause-ok g c = λ readings stands.
     subst (λ (v : Sectors). Appends old new (flat_map (field_of c.args.naming c.args.format t readings) (range_with_len v.first v.count))) c.sectors_of-sectors.ensures
     (subst (λ (m : Layout). Appends old new (flat_map (λ (k : ℕ). field_by c.args.naming m t k (verdict readings k)) (range_with_len s.first s.count))) c.of_format-layout.ensures
     (subst (λ (n : ℕ). Appends old new (flat_map (λ (k : ℕ). field_by c.args.naming l t k (verdict readings k)) (range_with_len s.first n))) all (c.loop-index.invariant.grew readings stands)))
+
+pub returns-in-Err-clause-counts : goal.returns-in-Err-clause-counts
+returns-in-Err-clause-counts g c = Counts-then _ c.loop-index.invariant.counts c.in-Err.ensures.counts

@@ -1,4 +1,5 @@
 use Rattle.std.proofs.Common.{◌≡◌, ◌≤◌, length, arith, sym, ◌∙◌}
+use Rattle.flux_base.specs.lemmas.Counting.{Counts-then}
 use Rattle.sector_images.specs.Places.{tracks}
 use Rattle.dump_reading.proofs.Looks.{none-found, none-more, one-found}
 use Rattle.dump_reading.proofs.looking.has_any.Goals as goal
@@ -20,10 +21,16 @@ loop-number-preserved g c = record {
       let there = rw c.file_track-track.ensures at (c.in-Ok-false.ensures.told files (c.loop-number.invariant.kept ∙ told)) in
       none-more c.args.stepping files c.args.format c.args.dump.now c.loop-number.number c.track_id.result c.track_id.ensures.at (sym there ∙ c.in-Ok-false.field-0-test)
       (c.loop-number.invariant.none files told);
-  later = omega (arith, c.loop-number.invariant.later, c.in-Ok-false.ensures.later);
+  counts = Counts-then _ c.loop-number.invariant.counts c.in-Ok-false.ensures.counts;
 }
 
 pub returns-clause-told : goal.returns-clause-told
 returns-clause-told g c = λ files told.
     let all : length (tracks c.args.format) ≤ c.loop-number.number = omega arith in
     none-found c.args.stepping files c.args.format c.args.dump.now c.loop-number.number all (c.loop-number.invariant.none files told)
+
+pub returns-in-Ok-true-clause-counts : goal.returns-in-Ok-true-clause-counts
+returns-in-Ok-true-clause-counts g c = Counts-then _ c.loop-number.invariant.counts c.in-Ok-true.ensures.counts
+
+pub returns-in-Err-clause-counts : goal.returns-in-Err-clause-counts
+returns-in-Err-clause-counts g c = Counts-then _ c.loop-number.invariant.counts c.in-Err.ensures.counts

@@ -1,5 +1,6 @@
-use Rattle.std.proofs.Common.{◌≡◌, ◌≤◌, false, List, Some, take}
+use Rattle.std.proofs.Common.{◌≡◌, false, List, Some, take}
 use Rattle.std.specs.List.{list_any}
+use Rattle.flux_base.specs.Counts.{Counts, counts_of}
 use Rattle.sector_images.specs.Places.{tracks}
 use Rattle.track_shelf.specs.Files.{File}
 use Rattle.dump_reading.specs.Outcomes.{has_file}
@@ -9,5 +10,5 @@ abbrev pub invariant-loop-number : goal.invariant-loop-number
 invariant-loop-number g l = record {
   kept : g.H.Shelf.files l.shelf ≡ g.H.Shelf.files l.initial.shelf;
   none : (files : List File) → g.H.Shelf.files l.initial.shelf ≡ Some files → list_any (has_file l.stepping files l.dump) (take l.number (tracks l.format)) ≡ false;
-  later : g.H.Source.faults l.initial.shelf ≤ g.H.Source.faults l.shelf;
+  counts : Counts false (counts_of g.H.Source.faults g.H.Source.failed l.initial.shelf) (counts_of g.H.Source.faults g.H.Source.failed l.shelf);
 }

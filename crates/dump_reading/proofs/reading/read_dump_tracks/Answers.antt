@@ -46,3 +46,12 @@ returns-in-Err-NotesFault-clause-files g c =
     files-stayed (g.O.TrackWriter.part_of c.args.writer.now) (disk_by c.args.clocks c.args.dumps.now c.args.room.now.format) (g.H.Shelf.files c.args.shelf.now) (g.H.Shelf.files c.decode_tracks.new.source)
     (g.W.Sink.written c.args.image.now) (g.W.Sink.written c.decode_tracks.new.image) (g.N.Sink.written c.args.notes.now) (g.N.Sink.written c.decode_tracks.new.notes)
     c.decode_tracks.new.room c.decode_tracks.new.totals _ c.in-Err-NotesFault.ensures.err
+
+pub returns-in-Err-ReadFault-clause-blames : goal.returns-in-Err-ReadFault-clause-blames
+returns-in-Err-ReadFault-clause-blames g c = rw c.in-Err-ReadFault.field-0-is at c.in-Err-ReadFault.ensures.blames
+
+pub returns-in-Err-ImageFault-clause-blames : goal.returns-in-Err-ImageFault-clause-blames
+returns-in-Err-ImageFault-clause-blames g c = rw c.in-Err-ImageFault.field-0-is at c.in-Err-ImageFault.ensures.blames
+
+pub returns-in-Err-NotesFault-clause-blames : goal.returns-in-Err-NotesFault-clause-blames
+returns-in-Err-NotesFault-clause-blames g c = rw c.in-Err-NotesFault.field-0-is at c.in-Err-NotesFault.ensures.blames

@@ -1,4 +1,6 @@
+use Rattle.std.proofs.Common.{true, false}
 use Rattle.std.proofs.KnownBytes.{Appends-trans}
+use Rattle.flux_base.specs.lemmas.Blaming.{CountsBy-image, CountsBy-notes, CountsBy-then}
 use Rattle.flux_base.specs.lemmas.Parts.{AppendsPart-first, AppendsPart-second}
 use Rattle.dump_reading.proofs.report.DumpReportTrackWriter.write_track.Goals as goal
 
@@ -31,3 +33,25 @@ returns-in-Err-write_lines-clause-wrote g c = λ readings others stands stand.
       AppendsPart-second (g.N.Sink.written c.args.notes.now) (g.N.Sink.written c.write_passed.new.notes) (g.N.Sink.written c.write_lines.new.notes) _ _ passed
           (AppendsPart-first (g.N.Sink.written c.write_passed.new.notes) (g.N.Sink.written c.write_lines.new.notes) _ _ (e.err readings stands)),
     )
+
+pub returns-in-Err-clause-blames : goal.returns-in-Err-clause-blames
+returns-in-Err-clause-blames g c = CountsBy-image _ _ true c.in-Err.ensures.counts
+
+pub returns-in-Err-write_passed-clause-blames : goal.returns-in-Err-write_passed-clause-blames
+returns-in-Err-write_passed-clause-blames g c =
+    CountsBy-then _ (CountsBy-image _ _ false c.in-Ok.ensures.counts) (CountsBy-notes _ _ true c.in-Err-write_passed.ensures.counts)
+
+pub returns-in-Err-write_lines-clause-blames : goal.returns-in-Err-write_lines-clause-blames
+returns-in-Err-write_lines-clause-blames g c =
+    CountsBy-then _ (CountsBy-then _ (CountsBy-image _ _ false c.in-Ok.ensures.counts) (CountsBy-notes _ _ false c.in-Ok-write_passed.ensures.counts))
+    (CountsBy-notes _ _ true c.in-Err-write_lines.ensures.counts)
+
+pub returns-in-Ok-write_others-clause-blames : goal.returns-in-Ok-write_others-clause-blames
+returns-in-Ok-write_others-clause-blames g c =
+    CountsBy-then _ (CountsBy-then _ (CountsBy-then _ (CountsBy-image _ _ false c.in-Ok.ensures.counts) (CountsBy-notes _ _ false c.in-Ok-write_passed.ensures.counts))
+    (CountsBy-notes _ _ false c.in-Ok-write_lines.ensures.counts)) (CountsBy-notes _ _ false c.in-Ok-write_others.ensures.counts)
+
+pub returns-in-Err-write_others-clause-blames : goal.returns-in-Err-write_others-clause-blames
+returns-in-Err-write_others-clause-blames g c =
+    CountsBy-then _ (CountsBy-then _ (CountsBy-then _ (CountsBy-image _ _ false c.in-Ok.ensures.counts) (CountsBy-notes _ _ false c.in-Ok-write_passed.ensures.counts))
+    (CountsBy-notes _ _ false c.in-Ok-write_lines.ensures.counts)) (CountsBy-notes _ _ true c.in-Err-write_others.ensures.counts)
