@@ -1,9 +1,12 @@
 //! Which disk a dump is of.
 
-ghost use Rattle.std.specs.Prelude.{◌≡◌, ◌≤◌, OnErr, IfErr, IfOk};
+ghost use Rattle.std.specs.Prelude.{◌≡◌, ◌≤◌, is_err, OnErr, IfErr, IfOk};
+ghost use Rattle.flux_base.specs.Blames.{CountsBy, no_counts, three_counts};
+ghost use Rattle.flux_base.specs.Counts.{Counts, counts_of};
 ghost use Rattle.flux_base.specs.Moments.{Puts, moment};
 ghost use Rattle.flux_base.specs.Outside.{Rose};
 ghost use Rattle.flux_engine.specs.Room.{empty_book, fresh};
+ghost use Rattle.dump_identity.specs.Blamed.{identity_blame};
 ghost use Rattle.dump_identity.specs.Findings.{ComesTo};
 ghost use Rattle.dump_identity.specs.Lines.{line_of};
 ghost use Rattle.dump_identity.specs.Outcomes.{CutAtOne, FoundOne, HasTried, IdentityCause, SaysOfIdentity};
@@ -38,6 +41,9 @@ pub fn identify<H: Shelf, W: Sink>(
     ensures says { SaysOfIdentity dump.now (H.files shelf.old) (W.written lines.old) (W.written lines.new) result }
     ensures files { H.files shelf.new ≡ H.files shelf.old }
     ensures cause { IdentityCause (H.faults shelf.old) (H.faults shelf.new) (W.faults lines.old) (W.faults lines.new) result }
+    ensures blames { CountsBy (identity_blame result)
+        (three_counts (counts_of H.faults H.failed shelf.old) (counts_of W.faults W.failed lines.old) no_counts)
+        (three_counts (counts_of H.faults H.failed shelf.new) (counts_of W.faults W.failed lines.new) no_counts) }
     ensures shelf_later { H.faults shelf.old ≤ H.faults shelf.new }
     ensures lines_later { W.faults lines.old ≤ W.faults lines.new }
 {
@@ -65,6 +71,9 @@ fn try_all<H: Shelf, W: Sink>(
     ensures err { IfErr result (λ fault. SaysOfIdentity dump.now (H.files shelf.old) (W.written lines.old) (W.written lines.new) (Err fault)) }
     ensures files { H.files shelf.new ≡ H.files shelf.old }
     ensures cause { IdentityCause (H.faults shelf.old) (H.faults shelf.new) (W.faults lines.old) (W.faults lines.new) result }
+    ensures blames { CountsBy (identity_blame result)
+        (three_counts (counts_of H.faults H.failed shelf.old) (counts_of W.faults W.failed lines.old) no_counts)
+        (three_counts (counts_of H.faults H.failed shelf.new) (counts_of W.faults W.failed lines.new) no_counts) }
     ensures shelf_later { H.faults shelf.old ≤ H.faults shelf.new }
     ensures lines_later { W.faults lines.old ≤ W.faults lines.new }
 {
@@ -92,6 +101,9 @@ fn try_one<H: Shelf, W: Sink>(
     ensures err { IfErr result (CutAtOne dump.now (H.files shelf.old) (W.written lines.old) (W.written lines.new) trial.candidate) }
     ensures files { H.files shelf.new ≡ H.files shelf.old }
     ensures cause { IdentityCause (H.faults shelf.old) (H.faults shelf.new) (W.faults lines.old) (W.faults lines.new) result }
+    ensures blames { CountsBy (identity_blame result)
+        (three_counts (counts_of H.faults H.failed shelf.old) (counts_of W.faults W.failed lines.old) no_counts)
+        (three_counts (counts_of H.faults H.failed shelf.new) (counts_of W.faults W.failed lines.new) no_counts) }
     ensures shelf_later { H.faults shelf.old ≤ H.faults shelf.new }
     ensures lines_later { W.faults lines.old ≤ W.faults lines.new }
 {
@@ -119,6 +131,7 @@ fn read_as<H: Shelf>(
     ensures ok { IfOk result (ComesTo dump.now (H.files shelf.old) candidate) }
     ensures files { H.files shelf.new ≡ H.files shelf.old }
     ensures cause { OnErr result (Rose (H.faults shelf.old) (H.faults shelf.new)) }
+    ensures counts { Counts (is_err result) (counts_of H.faults H.failed shelf.old) (counts_of H.faults H.failed shelf.new) }
     ensures later { H.faults shelf.old ≤ H.faults shelf.new }
 {
     let dumps = Dumps {

@@ -1,4 +1,5 @@
-use Rattle.std.proofs.Common.{inr}
+use Rattle.std.proofs.Common.{true, false, inr}
+use Rattle.flux_base.specs.lemmas.Blaming.{CountsBy-image, CountsBy-then}
 use Rattle.dump_identity.proofs.Tries.{tried-cut, tried-none, tried-wrote}
 use Rattle.dump_identity.proofs.identifying.identify.Goals as goal
 
@@ -16,3 +17,9 @@ pub returns-in-Err-write_line-clause-says : goal.returns-in-Err-write_line-claus
 returns-in-Err-write_line-clause-says g c =
     inr (tried-cut c.args.dump.now (g.H.Shelf.files c.args.shelf.now) (g.W.Sink.written c.args.lines.now) (g.W.Sink.written c.try_all.new.lines) c.in-Ok.tried c.in-Ok.ensures.ok
     (g.W.Sink.written c.write_line.new.sink) (rw c.best_line.ensures at c.in-Err-write_line.ensures.err))
+
+pub returns-in-Ok-write_line-clause-blames : goal.returns-in-Ok-write_line-clause-blames
+returns-in-Ok-write_line-clause-blames g c = CountsBy-then _ c.in-Ok.ensures.blames (CountsBy-image _ _ false c.in-Ok-write_line.ensures.counts)
+
+pub returns-in-Err-write_line-clause-blames : goal.returns-in-Err-write_line-clause-blames
+returns-in-Err-write_line-clause-blames g c = CountsBy-then _ c.in-Ok.ensures.blames (CountsBy-image _ _ true c.in-Err-write_line.ensures.counts)

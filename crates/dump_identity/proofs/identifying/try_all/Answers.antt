@@ -1,6 +1,7 @@
 use Rattle.std.proofs.Common.{◌≡◌, ◌≤◌, ◌+◌, [], ◌∷◌, ◌++◌, List, Option, length, map, Ok, Err, refl, sym, ap, subst, ◌∙◌, append_assoc, append-nil, arith}
 use Rattle.std.proofs.lemmas.Grind.{common_steps}
 use Rattle.std.specs.Vec.Iter.{into_iter_items}
+use Rattle.flux_base.specs.lemmas.Blaming.{CountsBy-none, CountsBy-then}
 use Rattle.track_shelf.specs.Files.{File}
 use Rattle.dump_identity.specs.Candidates.{candidates}
 use Rattle.dump_identity.specs.Outcomes.{CutAtOne, FoundOne}
@@ -21,6 +22,7 @@ loop-trial-init g c = record {
   left = grind (arith, common_steps, c.into_iter-trial-iterator.ensures.into_iter_gives.0, c.into_iter-trial-iterator.ensures.into_iter_gives.1);
   made = made-none c.args.dump.now (g.H.Shelf.files c.args.shelf.now) (g.W.Sink.written c.args.lines.now) c.none-tried.result c.none-tried.ensures;
   kept = refl;
+  blames = CountsBy-none _;
   shelf_later = omega arith;
   lines_later = omega arith;
 }
@@ -48,6 +50,7 @@ loop-trial-preserved g c =
           (subst (λ (o : Option (List File)). FoundOne c.args.dump.now o (g.W.Sink.written at.lines) (g.W.Sink.written c.try_one.new.lines) trial.candidate c.in-Ok.finding) at.invariant.kept c.in-Ok.ensures.ok)
           c.note.ensures;
       kept = c.try_one.ensures.files ∙ at.invariant.kept;
+      blames = CountsBy-then _ at.invariant.blames c.in-Ok.ensures.blames;
       shelf_later = omega (arith, at.invariant.shelf_later, c.try_one.ensures.shelf_later);
       lines_later = omega (arith, at.invariant.lines_later, c.try_one.ensures.lines_later);
     }
@@ -72,3 +75,9 @@ returns-in-Err-clause-err g c =
 
 pub returns-in-Err-clause-cause : goal.returns-in-Err-clause-cause
 returns-in-Err-clause-cause g c = cause-since Finding Tried _ _ _ _ _ _ c.in-Err.fault c.loop-trial.invariant.shelf_later c.loop-trial.invariant.lines_later c.in-Err.ensures.cause
+
+pub returns-clause-blames : goal.returns-clause-blames
+returns-clause-blames g c = c.loop-trial.invariant.blames
+
+pub returns-in-Err-clause-blames : goal.returns-in-Err-clause-blames
+returns-in-Err-clause-blames g c = CountsBy-then _ c.loop-trial.invariant.blames c.in-Err.ensures.blames
