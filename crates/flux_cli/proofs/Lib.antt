@@ -18,3 +18,4 @@ pub mod ReadRun
 pub mod IdentityRun
 pub mod DumpWords
 pub mod ReadHeadline
+pub mod Blaming

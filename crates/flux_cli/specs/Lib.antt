@@ -19,6 +19,7 @@ pub mod PlanWork
 pub mod MapWork
 pub mod Works
 pub mod Runs
+pub mod Blamed
 pub mod PlanRuns
 pub mod DisksRuns
 pub mod FolderRuns

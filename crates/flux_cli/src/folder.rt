@@ -2,6 +2,9 @@
 
 ghost use Rattle.std.specs.Prelude.{◌≡◌, ◌≢◌, [], ◌∷◌, codes};
 ghost use Rattle.std.specs.Option.{option_map};
+ghost use Rattle.flux_base.specs.Blames.{CountsBy, three_counts};
+ghost use Rattle.flux_base.specs.Counts.{counts_of};
+ghost use Rattle.flux_cli.specs.Blamed.{shelf_blame};
 ghost use Rattle.flux_base.specs.Moments.{moment};
 ghost use Rattle.flux_base.specs.declared.status.Status.{Status};
 ghost use Rattle.flux_cli.specs.FolderRuns.{DidFolder, on, shelf_moment};
@@ -55,6 +58,10 @@ pub fn decode_folder<H: Shelf, W: Sink, N: Sink>(
     ensures did { DidFolder format folder.now result
         (on (shelf_moment (moment H.left H.faults H.failed shelf.old) (H.given shelf.old) (H.files shelf.old)) (moment W.written W.faults W.failed image.old) (moment N.written N.faults N.failed notes.old))
         (on (shelf_moment (moment H.left H.faults H.failed shelf.new) (H.given shelf.new) (H.files shelf.new)) (moment W.written W.faults W.failed image.new) (moment N.written N.faults N.failed notes.new)) }
+    ensures blames { CountsBy (shelf_blame result)
+        (three_counts (counts_of H.faults H.failed shelf.old) (counts_of W.faults W.failed image.old) (counts_of N.faults N.failed notes.old))
+        (three_counts (counts_of H.faults H.failed shelf.new) (counts_of W.faults W.failed image.new) (counts_of N.faults N.failed notes.new)) }
+    ensures no_source { result ≢ Status.ReadFault }
     ensures memory { result ≢ Status.Memory }
 {
     match shelf.begin(folder, format) {

@@ -1,7 +1,11 @@
 //! Which disk a dump is of.
 
-ghost use Rattle.std.specs.Prelude.{◌≡◌, [], ◌∷◌};
+ghost use Rattle.std.specs.Prelude.{◌≢◌, ◌≡◌, [], ◌∷◌};
 ghost use Rattle.std.specs.Option.{option_map};
+ghost use Rattle.flux_base.specs.declared.status.Status.{Status};
+ghost use Rattle.flux_base.specs.Blames.{CountsBy, three_counts};
+ghost use Rattle.flux_base.specs.Counts.{counts_of};
+ghost use Rattle.flux_cli.specs.Blamed.{shelf_blame};
 ghost use Rattle.flux_base.specs.Moments.{moment};
 ghost use Rattle.flux_cli.specs.FolderRuns.{on, shelf_moment};
 ghost use Rattle.flux_cli.specs.IdentityRuns.{DidIdentify, identity_status};
@@ -43,9 +47,13 @@ pub fn identify_dump<H: Shelf, W: Sink, N: Sink>(
     image: &mut W,
     notes: &mut N,
 ) -> Status
-    ensures { DidIdentify dump.now result
+    ensures did { DidIdentify dump.now result
         (on (shelf_moment (moment H.left H.faults H.failed shelf.old) (H.given shelf.old) (H.files shelf.old)) (moment W.written W.faults W.failed image.old) (moment N.written N.faults N.failed notes.old))
         (on (shelf_moment (moment H.left H.faults H.failed shelf.new) (H.given shelf.new) (H.files shelf.new)) (moment W.written W.faults W.failed image.new) (moment N.written N.faults N.failed notes.new)) }
+    ensures blames { CountsBy (shelf_blame result)
+        (three_counts (counts_of H.faults H.failed shelf.old) (counts_of W.faults W.failed image.old) (counts_of N.faults N.failed notes.old))
+        (three_counts (counts_of H.faults H.failed shelf.new) (counts_of W.faults W.failed image.new) (counts_of N.faults N.failed notes.new)) }
+    ensures no_source { result ≢ Status.ReadFault }
 {
     match identify(dump, room, shelf, image) {
         Ok(best) => status_of(&best),

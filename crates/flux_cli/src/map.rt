@@ -1,6 +1,9 @@
 //! A picture of a disk.
 
 ghost use Rattle.std.specs.Prelude.{◌≡◌, ◌≢◌};
+ghost use Rattle.flux_base.specs.Blames.{CountsBy, three_counts};
+ghost use Rattle.flux_base.specs.Counts.{counts_of};
+ghost use Rattle.flux_cli.specs.Blamed.{source_blame};
 ghost use Rattle.flux_base.specs.Moments.{moment};
 ghost use Rattle.flux_base.specs.declared.status.Status.{Status};
 ghost use Rattle.flux_cli.specs.Runs.{Does, outside};
@@ -24,6 +27,9 @@ pub fn draw<S: Source, W: Sink, N: Sink>(
     ensures does { Does (Map room.old.format) result
         (outside (moment S.left S.faults S.failed source.old) (S.given source.old) (moment W.written W.faults W.failed image.old) (moment N.written N.faults N.failed notes.old))
         (outside (moment S.left S.faults S.failed source.new) (S.given source.new) (moment W.written W.faults W.failed image.new) (moment N.written N.faults N.failed notes.new)) }
+    ensures blames { CountsBy (source_blame result)
+        (three_counts (counts_of S.faults S.failed source.old) (counts_of W.faults W.failed image.old) (counts_of N.faults N.failed notes.old))
+        (three_counts (counts_of S.faults S.failed source.new) (counts_of W.faults W.failed image.new) (counts_of N.faults N.failed notes.new)) }
     ensures memory { result ≢ Status.Memory }
 {
     match map_disk(room, source, image) {

@@ -1,4 +1,7 @@
 ghost use Rattle.std.specs.Prelude.{◌≢◌, ◌≤◌, Some, length};
+ghost use Rattle.flux_base.specs.Blames.{CountsBy, three_counts};
+ghost use Rattle.flux_base.specs.Counts.{counts_of};
+ghost use Rattle.flux_cli.specs.Blamed.{CountsOfRun, all_counts, shelf_blame, source_blame};
 ghost use Rattle.flux_base.specs.Moments.{moment};
 ghost use Rattle.flux_base.specs.declared.status.Status.{Status};
 ghost use Rattle.flux_cli.specs.Captured.{FolderCaptured, FolderErased, RunsCaptured, RunsErased};
@@ -69,6 +72,12 @@ pub fn run<S: Source, W: Sink, N: Sink, H: Shelf>(
         (surroundings (outside (moment S.left S.faults S.failed source.new) (S.given source.new) (moment W.written W.faults W.failed image.new) (moment N.written N.faults N.failed notes.new))
         (shelf_moment (moment H.left H.faults H.failed shelf.new) (H.given shelf.new) (H.files shelf.new))) }
 
+    // A fault of one object is told where that object failed once, in the last call of all that could, and no other one failed; and a run that finished
+    // had no fault.
+    ensures counts { CountsOfRun result
+        (all_counts (counts_of S.faults S.failed source.old) (counts_of H.faults H.failed shelf.old) (counts_of W.faults W.failed image.old) (counts_of N.faults N.failed notes.old))
+        (all_counts (counts_of S.faults S.failed source.new) (counts_of H.faults H.failed shelf.new) (counts_of W.faults W.failed image.new) (counts_of N.faults N.failed notes.new)) }
+
     // From any streams that carry an image's written tracks, disturbed within the bounds, `decode` writes exactly that
     // image, every sector good; or a counted fault cut it, or there was no memory to begin.
     ensures captured { RunsCaptured words.now result
@@ -134,11 +143,14 @@ fn run_words<S: Source, W: Sink, N: Sink, H: Shelf>(
     notes: &mut N,
     shelf: &mut H,
 ) -> Status
-    ensures { Ran words.now result
+    ensures ran { Ran words.now result
         (surroundings (outside (moment S.left S.faults S.failed source.old) (S.given source.old) (moment W.written W.faults W.failed image.old) (moment N.written N.faults N.failed notes.old))
         (shelf_moment (moment H.left H.faults H.failed shelf.old) (H.given shelf.old) (H.files shelf.old)))
         (surroundings (outside (moment S.left S.faults S.failed source.new) (S.given source.new) (moment W.written W.faults W.failed image.new) (moment N.written N.faults N.failed notes.new))
         (shelf_moment (moment H.left H.faults H.failed shelf.new) (H.given shelf.new) (H.files shelf.new))) }
+    ensures counts { CountsOfRun result
+        (all_counts (counts_of S.faults S.failed source.old) (counts_of H.faults H.failed shelf.old) (counts_of W.faults W.failed image.old) (counts_of N.faults N.failed notes.old))
+        (all_counts (counts_of S.faults S.failed source.new) (counts_of H.faults H.failed shelf.new) (counts_of W.faults W.failed image.new) (counts_of N.faults N.failed notes.new)) }
 {
     match folder_of(words) {
         None => match dumps_of(words) {
@@ -164,9 +176,13 @@ fn run_read<W: Sink, N: Sink, H: Shelf>(
     notes: &mut N,
 ) -> Status
     requires { length asked.dumps.now ≤ 8 }
-    ensures { DidRead (shown_of asked.entry.options) (asked_disk (asked_of asked.entry)) result
+    ensures did { DidRead (shown_of asked.entry.options) (asked_disk (asked_of asked.entry)) result
         (on (shelf_moment (moment H.left H.faults H.failed shelf.old) (H.given shelf.old) (H.files shelf.old)) (moment W.written W.faults W.failed image.old) (moment N.written N.faults N.failed notes.old))
         (on (shelf_moment (moment H.left H.faults H.failed shelf.new) (H.given shelf.new) (H.files shelf.new)) (moment W.written W.faults W.failed image.new) (moment N.written N.faults N.failed notes.new)) }
+    ensures blames { CountsBy (shelf_blame result)
+        (three_counts (counts_of H.faults H.failed shelf.old) (counts_of W.faults W.failed image.old) (counts_of N.faults N.failed notes.old))
+        (three_counts (counts_of H.faults H.failed shelf.new) (counts_of W.faults W.failed image.new) (counts_of N.faults N.failed notes.new)) }
+    ensures no_source { result ≢ Status.ReadFault }
 {
     let dumps = Dumps {
         names: asked.dumps,
@@ -193,9 +209,13 @@ fn run_identity<W: Sink, N: Sink, H: Shelf>(
     image: &mut W,
     notes: &mut N,
 ) -> Status
-    ensures { DidIdentify dump.now result
+    ensures did { DidIdentify dump.now result
         (on (shelf_moment (moment H.left H.faults H.failed shelf.old) (H.given shelf.old) (H.files shelf.old)) (moment W.written W.faults W.failed image.old) (moment N.written N.faults N.failed notes.old))
         (on (shelf_moment (moment H.left H.faults H.failed shelf.new) (H.given shelf.new) (H.files shelf.new)) (moment W.written W.faults W.failed image.new) (moment N.written N.faults N.failed notes.new)) }
+    ensures blames { CountsBy (shelf_blame result)
+        (three_counts (counts_of H.faults H.failed shelf.old) (counts_of W.faults W.failed image.old) (counts_of N.faults N.failed notes.old))
+        (three_counts (counts_of H.faults H.failed shelf.new) (counts_of W.faults W.failed image.new) (counts_of N.faults N.failed notes.new)) }
+    ensures no_source { result ≢ Status.ReadFault }
 {
     match IdentityRoom::reserve(alloc) {
         Ok(room) => identify_dump(dump, room, shelf, image, notes),
@@ -211,9 +231,12 @@ fn run_over_source<S: Source, W: Sink, N: Sink>(
     image: &mut W,
     notes: &mut N,
 ) -> Status
-    ensures { RanOverSource words.now result
+    ensures ran { RanOverSource words.now result
         (outside (moment S.left S.faults S.failed source.old) (S.given source.old) (moment W.written W.faults W.failed image.old) (moment N.written N.faults N.failed notes.old))
         (outside (moment S.left S.faults S.failed source.new) (S.given source.new) (moment W.written W.faults W.failed image.new) (moment N.written N.faults N.failed notes.new)) }
+    ensures blames { CountsBy (source_blame result)
+        (three_counts (counts_of S.faults S.failed source.old) (counts_of W.faults W.failed image.old) (counts_of N.faults N.failed notes.old))
+        (three_counts (counts_of S.faults S.failed source.new) (counts_of W.faults W.failed image.new) (counts_of N.faults N.failed notes.new)) }
 {
     match command_of(words) {
         None => match write_wrong_words(words, notes) {
@@ -247,9 +270,12 @@ fn run_turns<S: Source, W: Sink, N: Sink>(
     image: &mut W,
     notes: &mut N,
 ) -> Status
-    ensures { Does Turns result
+    ensures does { Does Turns result
         (outside (moment S.left S.faults S.failed source.old) (S.given source.old) (moment W.written W.faults W.failed image.old) (moment N.written N.faults N.failed notes.old))
         (outside (moment S.left S.faults S.failed source.new) (S.given source.new) (moment W.written W.faults W.failed image.new) (moment N.written N.faults N.failed notes.new)) }
+    ensures blames { CountsBy (source_blame result)
+        (three_counts (counts_of S.faults S.failed source.old) (counts_of W.faults W.failed image.old) (counts_of N.faults N.failed notes.old))
+        (three_counts (counts_of S.faults S.failed source.new) (counts_of W.faults W.failed image.new) (counts_of N.faults N.failed notes.new)) }
 {
     match StreamRoom::reserve(alloc) {
         Ok(mut room) => turns(&mut room, source, image, notes),
@@ -266,9 +292,12 @@ fn run_decode<S: Source, W: Sink, N: Sink>(
     image: &mut W,
     notes: &mut N,
 ) -> Status
-    ensures { Does (command_for output format) result
+    ensures does { Does (command_for output format) result
         (outside (moment S.left S.faults S.failed source.old) (S.given source.old) (moment W.written W.faults W.failed image.old) (moment N.written N.faults N.failed notes.old))
         (outside (moment S.left S.faults S.failed source.new) (S.given source.new) (moment W.written W.faults W.failed image.new) (moment N.written N.faults N.failed notes.new)) }
+    ensures blames { CountsBy (source_blame result)
+        (three_counts (counts_of S.faults S.failed source.old) (counts_of W.faults W.failed image.old) (counts_of N.faults N.failed notes.old))
+        (three_counts (counts_of S.faults S.failed source.new) (counts_of W.faults W.failed image.new) (counts_of N.faults N.failed notes.new)) }
 {
     match DiskRoom::reserve(alloc, format) {
         Ok(mut room) => decode(&mut room, output, source, image, notes),
@@ -284,9 +313,12 @@ fn run_map<S: Source, W: Sink, N: Sink>(
     image: &mut W,
     notes: &mut N,
 ) -> Status
-    ensures { Does (Map format) result
+    ensures does { Does (Map format) result
         (outside (moment S.left S.faults S.failed source.old) (S.given source.old) (moment W.written W.faults W.failed image.old) (moment N.written N.faults N.failed notes.old))
         (outside (moment S.left S.faults S.failed source.new) (S.given source.new) (moment W.written W.faults W.failed image.new) (moment N.written N.faults N.failed notes.new)) }
+    ensures blames { CountsBy (source_blame result)
+        (three_counts (counts_of S.faults S.failed source.old) (counts_of W.faults W.failed image.old) (counts_of N.faults N.failed notes.old))
+        (three_counts (counts_of S.faults S.failed source.new) (counts_of W.faults W.failed image.new) (counts_of N.faults N.failed notes.new)) }
 {
     match DiskRoom::reserve(alloc, format) {
         Ok(mut room) => draw(&mut room, source, image, notes),
@@ -302,9 +334,12 @@ fn run_write<S: Source, W: Sink, N: Sink>(
     image: &mut W,
     notes: &mut N,
 ) -> Status
-    ensures { Does (Write format) result
+    ensures does { Does (Write format) result
         (outside (moment S.left S.faults S.failed source.old) (S.given source.old) (moment W.written W.faults W.failed image.old) (moment N.written N.faults N.failed notes.old))
         (outside (moment S.left S.faults S.failed source.new) (S.given source.new) (moment W.written W.faults W.failed image.new) (moment N.written N.faults N.failed notes.new)) }
+    ensures blames { CountsBy (source_blame result)
+        (three_counts (counts_of S.faults S.failed source.old) (counts_of W.faults W.failed image.old) (counts_of N.faults N.failed notes.old))
+        (three_counts (counts_of S.faults S.failed source.new) (counts_of W.faults W.failed image.new) (counts_of N.faults N.failed notes.new)) }
 {
     match WriteRoom::reserve(alloc, format) {
         Ok(mut room) => write(&mut room, source, image, notes),
@@ -321,9 +356,12 @@ fn run_trial<S: Source, W: Sink, N: Sink>(
     image: &mut W,
     notes: &mut N,
 ) -> Status
-    ensures { Does (Trial format seed) result
+    ensures does { Does (Trial format seed) result
         (outside (moment S.left S.faults S.failed source.old) (S.given source.old) (moment W.written W.faults W.failed image.old) (moment N.written N.faults N.failed notes.old))
         (outside (moment S.left S.faults S.failed source.new) (S.given source.new) (moment W.written W.faults W.failed image.new) (moment N.written N.faults N.failed notes.new)) }
+    ensures blames { CountsBy (source_blame result)
+        (three_counts (counts_of S.faults S.failed source.old) (counts_of W.faults W.failed image.old) (counts_of N.faults N.failed notes.old))
+        (three_counts (counts_of S.faults S.failed source.new) (counts_of W.faults W.failed image.new) (counts_of N.faults N.failed notes.new)) }
 {
     match TrialRoom::reserve(alloc, format) {
         Ok(mut room) => trial(&mut room, seed, source, image, notes),
@@ -339,9 +377,12 @@ fn run_to_file<S: Source, W: Sink, N: Sink>(
     image: &mut W,
     notes: &mut N,
 ) -> Status
-    ensures { Does (ToG64 disk) result
+    ensures does { Does (ToG64 disk) result
         (outside (moment S.left S.faults S.failed source.old) (S.given source.old) (moment W.written W.faults W.failed image.old) (moment N.written N.faults N.failed notes.old))
         (outside (moment S.left S.faults S.failed source.new) (S.given source.new) (moment W.written W.faults W.failed image.new) (moment N.written N.faults N.failed notes.new)) }
+    ensures blames { CountsBy (source_blame result)
+        (three_counts (counts_of S.faults S.failed source.old) (counts_of W.faults W.failed image.old) (counts_of N.faults N.failed notes.old))
+        (three_counts (counts_of S.faults S.failed source.new) (counts_of W.faults W.failed image.new) (counts_of N.faults N.failed notes.new)) }
 {
     match G64Room::reserve(alloc, disk.format()) {
         Ok(mut room) => to_file(&mut room, source, image, notes),
@@ -357,9 +398,12 @@ fn run_from_file<S: Source, W: Sink, N: Sink>(
     image: &mut W,
     notes: &mut N,
 ) -> Status
-    ensures { Does (FromG64 disk) result
+    ensures does { Does (FromG64 disk) result
         (outside (moment S.left S.faults S.failed source.old) (S.given source.old) (moment W.written W.faults W.failed image.old) (moment N.written N.faults N.failed notes.old))
         (outside (moment S.left S.faults S.failed source.new) (S.given source.new) (moment W.written W.faults W.failed image.new) (moment N.written N.faults N.failed notes.new)) }
+    ensures blames { CountsBy (source_blame result)
+        (three_counts (counts_of S.faults S.failed source.old) (counts_of W.faults W.failed image.old) (counts_of N.faults N.failed notes.old))
+        (three_counts (counts_of S.faults S.failed source.new) (counts_of W.faults W.failed image.new) (counts_of N.faults N.failed notes.new)) }
 {
     match G64Room::reserve(alloc, disk.format()) {
         Ok(mut room) => from_file(&mut room, source, image, notes),
@@ -378,9 +422,12 @@ fn run_set<S: Source, W: Sink, N: Sink>(
 ) -> Status
     requires some { 1 ≤ count }
     requires few { count ≤ 16 }
-    ensures { Does (DecodeSet format count) result
+    ensures does { Does (DecodeSet format count) result
         (outside (moment S.left S.faults S.failed source.old) (S.given source.old) (moment W.written W.faults W.failed image.old) (moment N.written N.faults N.failed notes.old))
         (outside (moment S.left S.faults S.failed source.new) (S.given source.new) (moment W.written W.faults W.failed image.new) (moment N.written N.faults N.failed notes.new)) }
+    ensures blames { CountsBy (source_blame result)
+        (three_counts (counts_of S.faults S.failed source.old) (counts_of W.faults W.failed image.old) (counts_of N.faults N.failed notes.old))
+        (three_counts (counts_of S.faults S.failed source.new) (counts_of W.faults W.failed image.new) (counts_of N.faults N.failed notes.new)) }
 {
     match DiskRoom::reserve(alloc, format) {
         Ok(mut room) => decode_captures(&mut room, count, source, image, notes),
@@ -396,9 +443,12 @@ fn run_rescue<S: Source, W: Sink, N: Sink>(
     image: &mut W,
     notes: &mut N,
 ) -> Status
-    ensures { Does (Rescue format) result
+    ensures does { Does (Rescue format) result
         (outside (moment S.left S.faults S.failed source.old) (S.given source.old) (moment W.written W.faults W.failed image.old) (moment N.written N.faults N.failed notes.old))
         (outside (moment S.left S.faults S.failed source.new) (S.given source.new) (moment W.written W.faults W.failed image.new) (moment N.written N.faults N.failed notes.new)) }
+    ensures blames { CountsBy (source_blame result)
+        (three_counts (counts_of S.faults S.failed source.old) (counts_of W.faults W.failed image.old) (counts_of N.faults N.failed notes.old))
+        (three_counts (counts_of S.faults S.failed source.new) (counts_of W.faults W.failed image.new) (counts_of N.faults N.failed notes.new)) }
 {
     match DiskRoom::reserve(alloc, format) {
         Ok(mut room) => rescue(&mut room, source, image, notes),
@@ -417,6 +467,9 @@ fn turns<S: Source, W: Sink, N: Sink>(
     ensures does { Does Turns result
         (outside (moment S.left S.faults S.failed source.old) (S.given source.old) (moment W.written W.faults W.failed image.old) (moment N.written N.faults N.failed notes.old))
         (outside (moment S.left S.faults S.failed source.new) (S.given source.new) (moment W.written W.faults W.failed image.new) (moment N.written N.faults N.failed notes.new)) }
+    ensures blames { CountsBy (source_blame result)
+        (three_counts (counts_of S.faults S.failed source.old) (counts_of W.faults W.failed image.old) (counts_of N.faults N.failed notes.old))
+        (three_counts (counts_of S.faults S.failed source.new) (counts_of W.faults W.failed image.new) (counts_of N.faults N.failed notes.new)) }
     ensures memory { result ≢ Status.Memory }
 {
     match room.read(source) {

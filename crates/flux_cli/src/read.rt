@@ -1,6 +1,10 @@
 //! A disk that is read of its dumps.
 
-ghost use Rattle.std.specs.Prelude.{◌≡◌, ◌≤◌, length};
+ghost use Rattle.std.specs.Prelude.{◌≢◌, ◌≡◌, ◌≤◌, length};
+ghost use Rattle.flux_base.specs.declared.status.Status.{Status};
+ghost use Rattle.flux_base.specs.Blames.{CountsBy, three_counts};
+ghost use Rattle.flux_base.specs.Counts.{counts_of};
+ghost use Rattle.flux_cli.specs.Blamed.{shelf_blame};
 ghost use Rattle.dump_reading.specs.Outcomes.{disk_of};
 ghost use Rattle.flux_base.specs.Moments.{moment};
 ghost use Rattle.flux_cli.specs.FolderRuns.{on, shelf_moment};
@@ -24,9 +28,13 @@ pub fn read<H: Shelf, W: Sink, N: Sink>(
 ) -> Status
     requires fresh { room.old ≡ fresh room.old.format }
     requires few { length dumps.now.names.now ≤ 16 }
-    ensures { DidRead Image (disk_of dumps.now room.old.format) result
+    ensures did { DidRead Image (disk_of dumps.now room.old.format) result
         (on (shelf_moment (moment H.left H.faults H.failed shelf.old) (H.given shelf.old) (H.files shelf.old)) (moment W.written W.faults W.failed image.old) (moment N.written N.faults N.failed notes.old))
         (on (shelf_moment (moment H.left H.faults H.failed shelf.new) (H.given shelf.new) (H.files shelf.new)) (moment W.written W.faults W.failed image.new) (moment N.written N.faults N.failed notes.new)) }
+    ensures blames { CountsBy (shelf_blame result)
+        (three_counts (counts_of H.faults H.failed shelf.old) (counts_of W.faults W.failed image.old) (counts_of N.faults N.failed notes.old))
+        (three_counts (counts_of H.faults H.failed shelf.new) (counts_of W.faults W.failed image.new) (counts_of N.faults N.failed notes.new)) }
+    ensures no_source { result ≢ Status.ReadFault }
 {
     match read_dumps(dumps, room, shelf, image, notes) {
         Ok(totals) => status_of(&totals),

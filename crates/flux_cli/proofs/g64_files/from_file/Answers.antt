@@ -1,4 +1,6 @@
-use Rattle.std.proofs.Common.{◌==◌, arith}
+use Rattle.std.proofs.Common.{true, false, ◌==◌, arith}
+use Rattle.flux_base.specs.lemmas.Blaming.{CountsBy-notes, CountsBy-then}
+use Rattle.flux_cli.proofs.Blaming.{good_blames}
 use Rattle.flux_cli.specs.G64Disks.{format_of}
 use Rattle.flux_cli.proofs.G64Run.{file-does, file-finish, file-refuse, file-cut-read, file-cut-image, file-cut-notes, file-cut-refusal, file-reads}
 use Rattle.flux_cli.proofs.g64_files.from_file.Goals as goal
@@ -60,3 +62,21 @@ returns-in-Err-clause-does g c = λ disk is.
       counts = record { source = e.ensures.source_later; image = e.ensures.image_later; notes = omega (arith, e.ensures.notes_later, c.in-Err.ensures.counts.later) };
       needed = λ x told. file-reads e.ensures.needed;
     }
+
+pub returns-in-Ok-clause-blames : goal.returns-in-Ok-clause-blames
+returns-in-Ok-clause-blames g c = rw c.status_of.ensures (good_blames (c.in-Ok.totals.good == c.in-Ok.totals.sectors) (c.in-Ok.ensures.blames))
+
+pub returns-in-Err-ReadFault-clause-blames : goal.returns-in-Err-ReadFault-clause-blames
+returns-in-Err-ReadFault-clause-blames g c = rw c.in-Err-ReadFault.field-0-is at c.in-Err-ReadFault.ensures.blames
+
+pub returns-in-Err-ImageFault-clause-blames : goal.returns-in-Err-ImageFault-clause-blames
+returns-in-Err-ImageFault-clause-blames g c = rw c.in-Err-ImageFault.field-0-is at c.in-Err-ImageFault.ensures.blames
+
+pub returns-in-Err-NotesFault-clause-blames : goal.returns-in-Err-NotesFault-clause-blames
+returns-in-Err-NotesFault-clause-blames g c = rw c.in-Err-NotesFault.field-0-is at c.in-Err-NotesFault.ensures.blames
+
+pub returns-in-Ok-write_line-clause-blames : goal.returns-in-Ok-write_line-clause-blames
+returns-in-Ok-write_line-clause-blames g c = CountsBy-then _ (rw c.in-Err-Refused.field-0-is at c.in-Err-Refused.ensures.blames) (CountsBy-notes _ _ false c.in-Ok-write_line.ensures.counts)
+
+pub returns-in-Err-clause-blames : goal.returns-in-Err-clause-blames
+returns-in-Err-clause-blames g c = CountsBy-then _ (rw c.in-Err-Refused.field-0-is at c.in-Err-Refused.ensures.blames) (CountsBy-notes _ _ true c.in-Err.ensures.counts)

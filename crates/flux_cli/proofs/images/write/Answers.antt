@@ -1,6 +1,8 @@
-use Rattle.std.proofs.Common.{arith}
+use Rattle.std.proofs.Common.{true, false, arith}
 use Rattle.std.proofs.KnownBytes.{Appends-nil, Keeps-refl}
 use Rattle.flux_engine.specs.Rings.{streams_of}
+use Rattle.flux_base.specs.lemmas.Blaming.{CountsBy-notes, CountsBy-then}
+use Rattle.flux_cli.proofs.Blaming.{CountsBy-noteless}
 use Rattle.flux_cli.proofs.ImagesRun.{image-finish, image-refuse, image-cut-read, image-cut-image, image-cut-notes, image-reads}
 use Rattle.flux_cli.proofs.images.write.Goals as goal
 
@@ -63,3 +65,18 @@ returns-in-Err-clause-does g c =
       counts = record { source = e.ensures.source_later; image = e.ensures.sink_later; notes = c.in-Err.ensures.counts.later };
       needed = λ x told. image-reads c.args.room.now e.ensures.needed;
     }
+
+pub returns-in-Ok-clause-blames : goal.returns-in-Ok-clause-blames
+returns-in-Ok-clause-blames g c = CountsBy-noteless _ _ (c.in-Ok.ensures.blames)
+
+pub returns-in-Err-ReadFault-clause-blames : goal.returns-in-Err-ReadFault-clause-blames
+returns-in-Err-ReadFault-clause-blames g c = CountsBy-noteless _ _ (rw c.in-Err-ReadFault.field-0-is at c.in-Err-ReadFault.ensures.blames)
+
+pub returns-in-Err-ImageFault-clause-blames : goal.returns-in-Err-ImageFault-clause-blames
+returns-in-Err-ImageFault-clause-blames g c = CountsBy-noteless _ _ (rw c.in-Err-ImageFault.field-0-is at c.in-Err-ImageFault.ensures.blames)
+
+pub returns-in-Ok-write_line-clause-blames : goal.returns-in-Ok-write_line-clause-blames
+returns-in-Ok-write_line-clause-blames g c = CountsBy-then _ (CountsBy-noteless _ _ (rw c.in-Err-WrongSize.field-0-is at c.in-Err-WrongSize.ensures.blames)) (CountsBy-notes _ _ false c.in-Ok-write_line.ensures.counts)
+
+pub returns-in-Err-clause-blames : goal.returns-in-Err-clause-blames
+returns-in-Err-clause-blames g c = CountsBy-then _ (CountsBy-noteless _ _ (rw c.in-Err-WrongSize.field-0-is at c.in-Err-WrongSize.ensures.blames)) (CountsBy-notes _ _ true c.in-Err.ensures.counts)

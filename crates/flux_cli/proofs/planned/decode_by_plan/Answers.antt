@@ -1,4 +1,8 @@
+use Rattle.std.proofs.Common.{true, false}
 use Rattle.flux_base.specs.Moments.{moment}
+use Rattle.std.specs.Prelude.{◌==◌}
+use Rattle.flux_base.specs.lemmas.Blaming.{CountsBy-notes, CountsBy-then}
+use Rattle.flux_cli.proofs.Blaming.{good_blames}
 use Rattle.flux_cli.proofs.PlanRun.{planned-done, planned-unread, planned-image-fault, planned-notes-fault, planned-refused, planned-cut-refusal}
 use Rattle.flux_cli.proofs.planned.decode_by_plan.Goals as goal
 
@@ -40,3 +44,21 @@ returns-in-Err-clause-does g c command by_plan =
     planned-cut-refusal c.args.plan c.args.room.now.format command by_plan _ _ (moment g.N.Sink.written g.N.Sink.faults g.N.Sink.failed c.decode_planned.new.notes) r.track r.capture r.block r.fault
     (rw r.field-0-is at e.decoded) (record { source = e.source_later; image = e.image_later; notes = e.notes_later }) e.needed c.in-Err.ensures.counts.later
     (rw c.stop_line.ensures at c.in-Err.ensures.err) c.in-Err.ensures.counts.cause
+
+pub returns-in-Ok-clause-blames : goal.returns-in-Ok-clause-blames
+returns-in-Ok-clause-blames g c = rw c.status_of.ensures (good_blames (c.in-Ok.totals.good == c.in-Ok.totals.sectors) (c.in-Ok.ensures.blames))
+
+pub returns-in-Err-ReadFault-clause-blames : goal.returns-in-Err-ReadFault-clause-blames
+returns-in-Err-ReadFault-clause-blames g c = rw c.in-Err-ReadFault.field-0-is at c.in-Err-ReadFault.ensures.blames
+
+pub returns-in-Err-ImageFault-clause-blames : goal.returns-in-Err-ImageFault-clause-blames
+returns-in-Err-ImageFault-clause-blames g c = rw c.in-Err-ImageFault.field-0-is at c.in-Err-ImageFault.ensures.blames
+
+pub returns-in-Err-NotesFault-clause-blames : goal.returns-in-Err-NotesFault-clause-blames
+returns-in-Err-NotesFault-clause-blames g c = rw c.in-Err-NotesFault.field-0-is at c.in-Err-NotesFault.ensures.blames
+
+pub returns-in-Ok-write_line-clause-blames : goal.returns-in-Ok-write_line-clause-blames
+returns-in-Ok-write_line-clause-blames g c = CountsBy-then _ (rw c.in-Err-Refused.field-0-is at c.in-Err-Refused.ensures.blames) (CountsBy-notes _ _ false c.in-Ok-write_line.ensures.counts)
+
+pub returns-in-Err-clause-blames : goal.returns-in-Err-clause-blames
+returns-in-Err-clause-blames g c = CountsBy-then _ (rw c.in-Err-Refused.field-0-is at c.in-Err-Refused.ensures.blames) (CountsBy-notes _ _ true c.in-Err.ensures.counts)

@@ -25,22 +25,22 @@ laws g c = record {
 }
 
 pub returns-clause-captured : goal.returns-clause-captured
-returns-clause-captured g c = runs_captured (laws g c) _ _ _ _ c.run_words.ensures
+returns-clause-captured g c = runs_captured (laws g c) _ _ _ _ c.run_words.ensures.ran
 
 pub returns-clause-erased : goal.returns-clause-erased
-returns-clause-erased g c = runs_erased (laws g c) _ _ _ _ c.run_words.ensures
+returns-clause-erased g c = runs_erased (laws g c) _ _ _ _ c.run_words.ensures.ran
 
 pub returns-clause-expected : goal.returns-clause-expected
-returns-clause-expected g c = runs_as_expected (laws g c) _ _ _ _ c.run_words.ensures
+returns-clause-expected g c = runs_as_expected (laws g c) _ _ _ _ c.run_words.ensures.ran
 
 pub returns-clause-folder_captured : goal.returns-clause-folder_captured
-returns-clause-folder_captured g c = folder_captured (laws g c) _ _ _ _ c.run_words.ensures
+returns-clause-folder_captured g c = folder_captured (laws g c) _ _ _ _ c.run_words.ensures.ran
 
 pub returns-clause-folder_erased : goal.returns-clause-folder_erased
-returns-clause-folder_erased g c = folder_erased (laws g c) _ _ _ _ c.run_words.ensures
+returns-clause-folder_erased g c = folder_erased (laws g c) _ _ _ _ c.run_words.ensures.ran
 
 pub returns-clause-dumps : goal.returns-clause-dumps
 returns-clause-dumps g c =
     let said = c.dumps_say_each_sector.ensures in
     let read = c.captured_dumps_are_read.ensures in
-    reads_as_expected (record { said = said.said; right = said.right; whole = read.never_wrong; steady = read.well; pictures = c.dumps_are_drawn_as_reported.ensures }) c.words_name_formats.ensures.letters c.words_name_formats.ensures.one _ _ _ _ c.run_words.ensures
+    reads_as_expected (record { said = said.said; right = said.right; whole = read.never_wrong; steady = read.well; pictures = c.dumps_are_drawn_as_reported.ensures }) c.words_name_formats.ensures.letters c.words_name_formats.ensures.one _ _ _ _ c.run_words.ensures.ran

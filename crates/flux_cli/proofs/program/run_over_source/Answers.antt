@@ -1,12 +1,13 @@
-use Rattle.std.proofs.Common.{None, arith}
+use Rattle.std.proofs.Common.{true, false, None, arith}
 use Rattle.std.proofs.KnownBytes.{Appends-nil, Consumes-nil, Keeps-refl}
 use Rattle.flux_help.specs.WrongWords.{wrong_text}
+use Rattle.flux_base.specs.lemmas.Blaming.{CountsBy-notes}
 use Rattle.flux_cli.specs.Works.{usage_work}
 use Rattle.flux_cli.proofs.Runs.{not_read, usage-cut, usage-finish}
 use Rattle.flux_cli.proofs.program.run_over_source.Goals as goal
 
-pub returns-in-Ok : goal.returns-in-Ok
-returns-in-Ok g c = record {
+pub returns-in-Ok-clause-ran : goal.returns-in-Ok-clause-ran
+returns-in-Ok-clause-ran g c = record {
   asked = None;
   asks = c.in-None.ensures;
   does = record {
@@ -17,8 +18,8 @@ returns-in-Ok g c = record {
   };
 }
 
-pub returns-in-Err : goal.returns-in-Err
-returns-in-Err g c = record {
+pub returns-in-Err-clause-ran : goal.returns-in-Err-clause-ran
+returns-in-Err-clause-ran g c = record {
   asked = None;
   asks = c.in-None.ensures;
   does = record {
@@ -31,3 +32,9 @@ returns-in-Err g c = record {
     needed = λ x told. not_read (usage_work (wrong_text c.args.words.now)).untold _;
   };
 }
+
+pub returns-in-Ok-clause-blames : goal.returns-in-Ok-clause-blames
+returns-in-Ok-clause-blames g c = CountsBy-notes _ _ false c.in-Ok.ensures.counts
+
+pub returns-in-Err-clause-blames : goal.returns-in-Err-clause-blames
+returns-in-Err-clause-blames g c = CountsBy-notes _ _ true c.in-Err.ensures.counts

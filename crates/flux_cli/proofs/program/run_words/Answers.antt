@@ -1,43 +1,44 @@
 use Rattle.std.proofs.Common.{Some, None, inl, inr, refl}
+use Rattle.flux_cli.proofs.Blaming.{no-shelf, run-of-shelf, run-of-source}
 use Rattle.flux_cli.specs.DumpWords.{asked_of}
 use Rattle.flux_cli.proofs.Outcomes.{dumps_no_identity, folder_no_dumps, folder_no_identity}
 use Rattle.flux_cli.proofs.program.run_words.Goals as goal
 
-pub returns-in-None-identity_of : goal.returns-in-None-identity_of
-returns-in-None-identity_of g c = record {
+pub returns-in-None-identity_of-clause-ran : goal.returns-in-None-identity_of-clause-ran
+returns-in-None-identity_of-clause-ran g c = record {
   folder = None;
   names = c.in-None.ensures;
   dumps = None;
   names_dumps = c.in-None-dumps_of.ensures;
   identity = None;
   names_identity = c.in-None-identity_of.ensures;
-  did = (c.run_over_source.ensures, refl);
+  did = (c.run_over_source.ensures.ran, refl);
 }
 
-pub returns-in-Some-identity_of : goal.returns-in-Some-identity_of
-returns-in-Some-identity_of g c = record {
+pub returns-in-Some-identity_of-clause-ran : goal.returns-in-Some-identity_of-clause-ran
+returns-in-Some-identity_of-clause-ran g c = record {
   folder = None;
   names = c.in-None.ensures;
   dumps = None;
   names_dumps = c.in-None-dumps_of.ensures;
   identity = Some c.in-Some-identity_of.dump.now;
   names_identity = c.in-Some-identity_of.ensures;
-  did = (c.run_identity.ensures, refl, refl);
+  did = (c.run_identity.ensures.did, refl, refl);
 }
 
-pub returns-in-Some-dumps_of : goal.returns-in-Some-dumps_of
-returns-in-Some-dumps_of g c = record {
+pub returns-in-Some-dumps_of-clause-ran : goal.returns-in-Some-dumps_of-clause-ran
+returns-in-Some-dumps_of-clause-ran g c = record {
   folder = None;
   names = c.in-None.ensures;
   dumps = Some (asked_of c.in-Some-dumps_of.asked);
   names_dumps = c.in-Some-dumps_of.ensures;
   identity = None;
   names_identity = dumps_no_identity c.args.words.now (asked_of c.in-Some-dumps_of.asked) c.in-Some-dumps_of.ensures.0;
-  did = (c.run_read.ensures, refl, refl);
+  did = (c.run_read.ensures.did, refl, refl);
 }
 
-pub returns-in-Ok : goal.returns-in-Ok
-returns-in-Ok g c =
+pub returns-in-Ok-clause-ran : goal.returns-in-Ok-clause-ran
+returns-in-Ok-clause-ran g c =
     let named = c.in-Some in
     record {
       folder = Some (named.format, named.folder.now);
@@ -49,8 +50,8 @@ returns-in-Ok g c =
       did = (inr c.decode_folder.ensures.did, refl, refl);
     }
 
-pub returns-in-Err : goal.returns-in-Err
-returns-in-Err g c =
+pub returns-in-Err-clause-ran : goal.returns-in-Err-clause-ran
+returns-in-Err-clause-ran g c =
     let named = c.in-Some in
     record {
       folder = Some (named.format, named.folder.now);
@@ -61,3 +62,15 @@ returns-in-Err g c =
       names_identity = folder_no_identity c.args.words.now named.format named.folder.now named.ensures.0;
       did = (inl (refl, refl), refl, refl);
     }
+
+pub returns-in-None-identity_of-clause-counts : goal.returns-in-None-identity_of-clause-counts
+returns-in-None-identity_of-clause-counts g c = run-of-source c.run_over_source.result (no-shelf c.args.words.now _ _ _ c.run_over_source.ensures.ran) c.run_over_source.ensures.blames
+
+pub returns-in-Some-identity_of-clause-counts : goal.returns-in-Some-identity_of-clause-counts
+returns-in-Some-identity_of-clause-counts g c = run-of-shelf c.run_identity.result c.run_identity.ensures.no_source c.run_identity.ensures.blames
+
+pub returns-in-Some-dumps_of-clause-counts : goal.returns-in-Some-dumps_of-clause-counts
+returns-in-Some-dumps_of-clause-counts g c = run-of-shelf c.run_read.result c.run_read.ensures.no_source c.run_read.ensures.blames
+
+pub returns-in-Ok-clause-counts : goal.returns-in-Ok-clause-counts
+returns-in-Ok-clause-counts g c = run-of-shelf c.decode_folder.result c.decode_folder.ensures.no_source c.decode_folder.ensures.blames

@@ -1,5 +1,6 @@
-use Rattle.std.proofs.Common.{arith}
+use Rattle.std.proofs.Common.{true, false, arith}
 use Rattle.std.proofs.KnownBytes.{Appends-nil, Keeps-refl}
+use Rattle.flux_base.specs.lemmas.Blaming.{CountsBy-image, CountsBy-notes, CountsBy-source, CountsBy-then}
 use Rattle.flux_cli.proofs.TurnsRun.{turns-finish, turns-refuse, turns-cut-read, turns-cut-image, turns-cut-notes, turns-reads}
 use Rattle.flux_cli.proofs.program.turns.Goals as goal
 
@@ -58,3 +59,18 @@ returns-in-Err-write_line-clause-does g c = record {
   counts = record { source = c.in-Err-Refused.ensures.later; image = omega arith; notes = c.in-Err-write_line.ensures.counts.later };
   needed = λ x told. turns-reads (rw (c.requires.held, c.requires.unused) at c.in-Err-Refused.ensures.needed);
 }
+
+pub returns-in-Ok-write_turns-clause-blames : goal.returns-in-Ok-write_turns-clause-blames
+returns-in-Ok-write_turns-clause-blames g c = CountsBy-then _ (CountsBy-source _ _ false c.in-Ok.ensures.counts) (CountsBy-image _ _ false c.in-Ok-write_turns.ensures.counts)
+
+pub returns-in-Err-clause-blames : goal.returns-in-Err-clause-blames
+returns-in-Err-clause-blames g c = CountsBy-then _ (CountsBy-source _ _ false c.in-Ok.ensures.counts) (CountsBy-image _ _ true c.in-Err.ensures.counts)
+
+pub returns-in-Err-ReadFault-clause-blames : goal.returns-in-Err-ReadFault-clause-blames
+returns-in-Err-ReadFault-clause-blames g c = CountsBy-source _ _ true (rw c.in-Err-ReadFault.field-0-is at c.in-Err-ReadFault.ensures.counts)
+
+pub returns-in-Ok-write_line-clause-blames : goal.returns-in-Ok-write_line-clause-blames
+returns-in-Ok-write_line-clause-blames g c = CountsBy-then _ (CountsBy-source _ _ false (rw c.in-Err-Refused.field-0-is at c.in-Err-Refused.ensures.counts)) (CountsBy-notes _ _ false c.in-Ok-write_line.ensures.counts)
+
+pub returns-in-Err-write_line-clause-blames : goal.returns-in-Err-write_line-clause-blames
+returns-in-Err-write_line-clause-blames g c = CountsBy-then _ (CountsBy-source _ _ false (rw c.in-Err-Refused.field-0-is at c.in-Err-Refused.ensures.counts)) (CountsBy-notes _ _ true c.in-Err-write_line.ensures.counts)

@@ -1,19 +1,21 @@
-use Rattle.std.proofs.Common.{arith, inl, inr}
+use Rattle.std.proofs.Common.{true, false, arith, inl, inr}
 use Rattle.dump_reading.specs.Outcomes.{DumpDisk, disk_of}
+use Rattle.flux_base.specs.lemmas.Blaming.{CountsBy-notes, CountsBy-then}
+use Rattle.flux_cli.proofs.Blaming.{good_blames_of_shelf}
 use Rattle.flux_cli.specs.declared.dump_words.Shown.TheVariants.{Image}
 use Rattle.flux_cli.proofs.ReadRun.{read-cut-empty, read-done, read-empty}
 use Rattle.flux_cli.proofs.read.read.Goals as goal
 
-pub returns-in-Ok : goal.returns-in-Ok
-returns-in-Ok g c =
+pub returns-in-Ok-clause-did : goal.returns-in-Ok-clause-did
+returns-in-Ok-clause-did g c =
     let e = c.in-Ok.ensures in
     record {
       says = rw c.status_of.ensures (read-done (disk_of c.args.dumps.now c.args.room.now.format) _ _ c.in-Ok.totals e.says.0 e.says.1);
       counts = record { shelf = e.shelf_later; image = e.image_later; notes = e.notes_later };
     }
 
-pub returns-in-Ok-write_line : goal.returns-in-Ok-write_line
-returns-in-Ok-write_line g c =
+pub returns-in-Ok-write_line-clause-did : goal.returns-in-Ok-write_line-clause-did
+returns-in-Ok-write_line-clause-did g c =
     let r = c.in-Err-NoFiles in
     let says = rw r.field-0-is at r.ensures.says in
     record {
@@ -21,8 +23,8 @@ returns-in-Ok-write_line g c =
       counts = record { shelf = r.ensures.shelf_later; image = r.ensures.image_later; notes = omega (arith, r.ensures.notes_later, c.in-Ok-write_line.ensures.counts.later) };
     }
 
-pub returns-in-Err : goal.returns-in-Err
-returns-in-Err g c =
+pub returns-in-Err-clause-did : goal.returns-in-Err-clause-did
+returns-in-Err-clause-did g c =
     let r = c.in-Err-NoFiles in
     let says = rw r.field-0-is at r.ensures.says in
     record {
@@ -33,26 +35,44 @@ returns-in-Err g c =
       counts = record { shelf = r.ensures.shelf_later; image = r.ensures.image_later; notes = omega (arith, r.ensures.notes_later, c.in-Err.ensures.counts.later) };
     }
 
-pub returns-in-Err-ShelfFault : goal.returns-in-Err-ShelfFault
-returns-in-Err-ShelfFault g c =
+pub returns-in-Err-ShelfFault-clause-did : goal.returns-in-Err-ShelfFault-clause-did
+returns-in-Err-ShelfFault-clause-did g c =
     let e = c.in-Err-ShelfFault.ensures in
     record {
       says = (rw c.in-Err-ShelfFault.field-0-is at e.says, rw c.in-Err-ShelfFault.field-0-is at e.cause);
       counts = record { shelf = e.shelf_later; image = e.image_later; notes = e.notes_later };
     }
 
-pub returns-in-Err-ImageFault : goal.returns-in-Err-ImageFault
-returns-in-Err-ImageFault g c =
+pub returns-in-Err-ImageFault-clause-did : goal.returns-in-Err-ImageFault-clause-did
+returns-in-Err-ImageFault-clause-did g c =
     let e = c.in-Err-ImageFault.ensures in
     record {
       says = (rw c.in-Err-ImageFault.field-0-is at e.says, rw c.in-Err-ImageFault.field-0-is at e.cause);
       counts = record { shelf = e.shelf_later; image = e.image_later; notes = e.notes_later };
     }
 
-pub returns-in-Err-NotesFault : goal.returns-in-Err-NotesFault
-returns-in-Err-NotesFault g c =
+pub returns-in-Err-NotesFault-clause-did : goal.returns-in-Err-NotesFault-clause-did
+returns-in-Err-NotesFault-clause-did g c =
     let e = c.in-Err-NotesFault.ensures in
     record {
       says = (inl (rw c.in-Err-NotesFault.field-0-is at e.says), rw c.in-Err-NotesFault.field-0-is at e.cause);
       counts = record { shelf = e.shelf_later; image = e.image_later; notes = e.notes_later };
     }
+
+pub returns-in-Ok-clause-blames : goal.returns-in-Ok-clause-blames
+returns-in-Ok-clause-blames g c = rw c.status_of.ensures (good_blames_of_shelf _ (c.in-Ok.ensures.blames))
+
+pub returns-in-Err-ShelfFault-clause-blames : goal.returns-in-Err-ShelfFault-clause-blames
+returns-in-Err-ShelfFault-clause-blames g c = rw c.in-Err-ShelfFault.field-0-is at c.in-Err-ShelfFault.ensures.blames
+
+pub returns-in-Err-ImageFault-clause-blames : goal.returns-in-Err-ImageFault-clause-blames
+returns-in-Err-ImageFault-clause-blames g c = rw c.in-Err-ImageFault.field-0-is at c.in-Err-ImageFault.ensures.blames
+
+pub returns-in-Err-NotesFault-clause-blames : goal.returns-in-Err-NotesFault-clause-blames
+returns-in-Err-NotesFault-clause-blames g c = rw c.in-Err-NotesFault.field-0-is at c.in-Err-NotesFault.ensures.blames
+
+pub returns-in-Ok-write_line-clause-blames : goal.returns-in-Ok-write_line-clause-blames
+returns-in-Ok-write_line-clause-blames g c = CountsBy-then _ (rw c.in-Err-NoFiles.field-0-is at c.in-Err-NoFiles.ensures.blames) (CountsBy-notes _ _ false c.in-Ok-write_line.ensures.counts)
+
+pub returns-in-Err-clause-blames : goal.returns-in-Err-clause-blames
+returns-in-Err-clause-blames g c = CountsBy-then _ (rw c.in-Err-NoFiles.field-0-is at c.in-Err-NoFiles.ensures.blames) (CountsBy-notes _ _ true c.in-Err.ensures.counts)
