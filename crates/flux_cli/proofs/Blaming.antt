@@ -43,7 +43,7 @@ other_blames NotesFault unread other counts = counts
 other_blames Memory unread other counts = counts
 other_blames ShelfFault unread other counts = absurd (other refl)
 
-module _ {source source' shelf shelf' image image' notes notes' : FaultCounts} where
+module _ {source source' shelf image image' notes notes' : FaultCounts} where
   -- a run over the source, which does not touch the shelf
   pub run-of-source : (status : Status) → (status ≡ ShelfFault → ⊥) → CountsBy (source_blame status) (three_counts source image notes) (three_counts source' image' notes')
       → CountsOfRun status (all_counts source shelf image notes) (all_counts source' shelf image' notes')
@@ -57,6 +57,7 @@ module _ {source source' shelf shelf' image image' notes notes' : FaultCounts} w
   run-of-source Memory other c = record { source = c.source; shelf = Counts-none shelf; image = c.image; notes = c.notes }
   run-of-source ShelfFault other c = absurd (other refl)
 
+module _ {source shelf shelf' image image' notes notes' : FaultCounts} where
   -- one over the shelf, which does not touch the source
   pub run-of-shelf : (status : Status) → (status ≡ ReadFault → ⊥) → CountsBy (shelf_blame status) (three_counts shelf image notes) (three_counts shelf' image' notes')
       → CountsOfRun status (all_counts source shelf image notes) (all_counts source shelf' image' notes')

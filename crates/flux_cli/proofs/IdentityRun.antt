@@ -6,10 +6,13 @@ use Rattle.dump_identity.specs.Findings.{is_complete}
 use Rattle.dump_identity.specs.Laws.{IdentitiesAreOne, NoFilesAreNoIdentity}
 use Rattle.dump_identity.specs.Outcomes.{HasNoFiles, Identified, IsIdentified, WroteIdentity}
 use Rattle.dump_identity.specs.declared.finding.Finding.{Finding}
+use Rattle.flux_base.specs.Blames.{CountsBy, OutsideCounts, no_one}
 use Rattle.flux_base.specs.declared.status.Status.{Status}
-use Rattle.flux_base.specs.declared.status.Status.TheVariants.{AllGood, NotAllGood, Refused}
+use Rattle.flux_base.specs.declared.status.Status.TheVariants.{AllGood, NotAllGood, Refused, ReadFault}
 use Rattle.sector_report.specs.DumpLines.{no_files_text}
 use Rattle.track_shelf.specs.Files.{File}
+use Rattle.flux_cli.proofs.Blaming.{good_blames_of_shelf}
+use Rattle.flux_cli.specs.Blamed.{shelf_blame}
 use Rattle.flux_cli.specs.FolderRuns.{OnShelf}
 use Rattle.flux_cli.specs.IdentityRuns.{FinishedIdentity, IsOutcomeOfDump, SaysOfIdentify, identity_outcome, identity_status, no_files_outcome}
 use Rattle.flux_cli.specs.Work.{Outcome}
@@ -53,6 +56,19 @@ module _ {H W N : Type 0} (dump : List ℕ) (before after : OnShelf H W N) where
     image_got = kept-none before.image.bytes after.image.bytes kept;
     notes_got = got;
   }
+
+-- a status that tells whether one disk explains all tells no fault
+pub identity-blames : {old new : OutsideCounts} (best : Option Finding) → CountsBy no_one old new → CountsBy (shelf_blame (identity_status best)) old new
+identity-blames None counts = counts
+identity-blames (Some f) counts = good_blames_of_shelf (is_complete f) counts
+
+pub identity-read : (best : Option Finding) → identity_status best ≡ ReadFault → ⊥
+identity-read None same = cc
+identity-read (Some f) same = by (is_complete f) same
+  where
+    by : (all : Bool) → (if all then AllGood else NotAllGood) ≡ ReadFault → ⊥
+    by true e = cc
+    by false e = cc
 
 -- the files decide the outcome of `identify`
 pub one_outcome_of_dump : IdentitiesAreOne → NoFilesAreNoIdentity → (dump : List ℕ) (files : List File) (a b : Outcome)

@@ -17,9 +17,9 @@ pub returns-in_default-clause-did : goal.returns-in_default-clause-did
 returns-in_default-clause-did g c =
     let e = c.begin.ensures in
     folder-decodes c.args.format c.args.folder.now _ _ _ c.begin.result _
-      (record { bound = e.bound; missing = e.missing; left = e.left; kept = e.kept; unread = e.unread; later = e.later; cause = e.cause })
-      (c.in-Ok-None.is ∙ ap Ok c.in-Ok-None.field-0-is)
-      (record { inner = c.decode.result; status_is = other_status c.decode.result c.in_default.not-ReadFault; enough = c.decode.ensures.memory; does = rw c.requires at c.decode.ensures.does })
+    (record { bound = e.bound; missing = e.missing; left = e.left; kept = e.kept; unread = e.unread; later = e.later; cause = e.cause })
+    (c.in-Ok-None.is ∙ ap Ok c.in-Ok-None.field-0-is)
+    (record { inner = c.decode.result; status_is = other_status c.decode.result c.in_default.not-ReadFault; enough = c.decode.ensures.memory; does = rw c.requires at c.decode.ensures.does })
 
 pub returns-in_default-clause-memory : goal.returns-in_default-clause-memory
 returns-in_default-clause-memory g c = c.decode.ensures.memory

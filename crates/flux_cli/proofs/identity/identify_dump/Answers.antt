@@ -1,8 +1,8 @@
 use Rattle.std.proofs.Common.{true, false, arith}
 use Rattle.std.proofs.KnownBytes.{Appends-nil, Keeps-refl}
 use Rattle.flux_base.specs.lemmas.Blaming.{CountsBy-notes, CountsBy-then}
-use Rattle.flux_cli.proofs.Blaming.{CountsBy-noteless, good_blames_of_shelf}
-use Rattle.flux_cli.proofs.IdentityRun.{identity-done, identity-refused}
+use Rattle.flux_cli.proofs.Blaming.{CountsBy-noteless}
+use Rattle.flux_cli.proofs.IdentityRun.{identity-blames, identity-done, identity-read, identity-refused}
 use Rattle.flux_cli.proofs.identity.identify_dump.Goals as goal
 
 pub returns-in-Ok-clause-did : goal.returns-in-Ok-clause-did
@@ -48,7 +48,7 @@ returns-in-Err-LinesFault-clause-did g c =
     }
 
 pub returns-in-Ok-clause-blames : goal.returns-in-Ok-clause-blames
-returns-in-Ok-clause-blames g c = rw c.status_of.ensures (good_blames_of_shelf _ (CountsBy-noteless _ _ (c.in-Ok.ensures.blames)))
+returns-in-Ok-clause-blames g c = rw c.status_of.ensures (identity-blames c.in-Ok.best (CountsBy-noteless _ _ c.in-Ok.ensures.blames))
 
 pub returns-in-Err-ShelfFault-clause-blames : goal.returns-in-Err-ShelfFault-clause-blames
 returns-in-Err-ShelfFault-clause-blames g c = CountsBy-noteless _ _ (rw c.in-Err-ShelfFault.field-0-is at c.in-Err-ShelfFault.ensures.blames)
@@ -61,3 +61,6 @@ returns-in-Ok-write_line-clause-blames g c = CountsBy-then _ (CountsBy-noteless 
 
 pub returns-in-Err-clause-blames : goal.returns-in-Err-clause-blames
 returns-in-Err-clause-blames g c = CountsBy-then _ (CountsBy-noteless _ _ (rw c.in-Err-NoFiles.field-0-is at c.in-Err-NoFiles.ensures.blames)) (CountsBy-notes _ _ true c.in-Err.ensures.counts)
+
+pub returns-in-Ok-clause-no_source : goal.returns-in-Ok-clause-no_source
+returns-in-Ok-clause-no_source g c = λ same. identity-read c.in-Ok.best (rw c.status_of.ensures at same)
