@@ -4,7 +4,7 @@
 scratch/check.py DIR CRATE MODULE[::FUNCTION]..
 
 In a copy of the crates in DIR each function's proof is a hole, save those of the named modules and functions, which are checked. They stand where no
-complaint follows that is about them; that a proof of another function has holes is no matter. One job: 2 to 4 GB, and 1 to 10 minutes alone on the machine.
+complaint is printed and each is said to be proved, or to depend on a hole: that of another function. One job: 2 to 4 GB, and 1 to 10 minutes alone on the machine.
 Kept in DIR is what was checked of the crates below, so use one DIR again for one crate. With KEEP=1 the copy stays as it is, for edits in it.
 A function that functions.txt does not know is no hole: add it there, or it is proved anew wherever it is called.
 """
@@ -78,10 +78,11 @@ def main():
     run = subprocess.run(command, cwd=folder, stdout=subprocess.PIPE, stderr=subprocess.STDOUT, text=True)
     with open(f"{folder}/{crate}.out", "w") as out:
         out.write(run.stdout)
-    ours = re.compile(rf"crates/{crate}/(proofs|specs|src)/|only=\d+ holes=|^fn {crate}::.*(no proof|not proved)")
+    ours = re.compile(rf"crates/{crate}/(proofs|specs|src)/|^fn {crate}::.*(no proof|not proved)")
     for line in run.stdout.splitlines():
-        if ours.search(line) and "Proof.antt" not in line:
-            print(line[:400])
+        told = re.match(rf"fn {crate}::(\S+?): ", line)
+        if told and is_named(told[1], names) or ours.search(line) and "Proof.antt" not in line:
+            print(line[:200])
     print(f"all of it: {folder}/{crate}.out")
 
 
