@@ -14,4 +14,5 @@ pub use dumps::Dumps;
 pub use fault::DumpsFault;
 pub use looking::find_empty;
 pub use reading::{read_dump_tracks, read_dumps, read_dumps_by};
+pub use report::write_passed;
 pub use totals::DumpTotals;

@@ -58,7 +58,7 @@ impl TrackWriter for DumpReport {
 }
 
 /// Writes a line for each stream of a track that was passed over, each in one piece.
-fn write_passed<N: Sink>(
+pub fn write_passed<N: Sink>(
     track: TrackId,
     passed: &[PassedStream],
     notes: &mut N,

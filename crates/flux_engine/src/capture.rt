@@ -339,7 +339,7 @@ fn note_readings(
 }
 
 /// Recovers the cells of a capture of a track by a clock.
-fn recover_cells(
+pub fn recover_cells(
     clock: Clock,
     format: Format,
     track: TrackId,

@@ -188,7 +188,7 @@ fn note_data<R: Recording>(
 
 /// The place of a cell that the clock recovered of the capture. So many ones stand at the places up to it: the last of them is
 /// the transition whose time says in which turn the cell lies.
-fn place_of(flux: &TrackFlux, ones_to: usize, cell: usize, capture: u8, clock: Clock) -> Place
+pub fn place_of(flux: &TrackFlux, ones_to: usize, cell: usize, capture: u8, clock: Clock) -> Place
     requires some { 1 ≤ ones_to }
     requires within { ones_to ≤ length flux.now.times }
     requires indexes { length flux.now.indexes ≤ 262144 }

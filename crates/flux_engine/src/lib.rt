@@ -35,14 +35,14 @@ mod write_room;
 mod writing;
 
 pub use capture::{
-    bytes, read_by_clocks, read_capture, read_stream, room_format, start_track, verdict,
-    write_started_part,
+    bytes, read_by_clocks, read_capture, read_stream, recover_cells, room_format, start_track,
+    verdict, write_started_part,
 };
 pub use disk::{add_totals, decode_disk};
 pub use disk_streams::{fill, write_disk};
 pub use fault::{CaptureFault, EngineFault, PlanFault};
 pub use gathered_track::{Gathered, PassedStream, PassedStreams};
-pub use gathering::note_reading;
+pub use gathering::{note_reading, place_of};
 pub use laws::{
     good_is_right, good_is_right_on_disks, lines_tell_verdicts, outcomes_are_one,
     parts_fill_images, parts_stay, plans_are_right, rules_are_read,

@@ -14,10 +14,10 @@ mod usage;
 
 pub use dump_lines::{Passed, no_files_line, other_line, passed_line, unread_line};
 pub use laws::{dumps_have_lines, sector_lines_tell, sectors_have_one_line, totals_have_one_line};
-pub use line::{Line, put, put_named, put_u32, write_line};
+pub use line::{Line, put, put_named, put_u32, put_u64, write_line};
 pub use naming::Naming;
 pub use refused::{image_line, put_fault, refused_capture_line, refused_line};
-pub use sector_lines::{named_line, put_two_digits, sector_line, total_line};
+pub use sector_lines::{named_line, put_place, put_two_digits, sector_line, total_line};
 pub use stream_lines::{transitions_line, turn_line};
 pub use totals::Totals;
 pub use trial_lines::trial_line;

@@ -118,7 +118,7 @@ fn put_counts(line: &mut Line, name: &str, good: u64, bad: u64)
 
 /// Appends what is named of a place's source, and its turn and cell.
 #[tactic(auto, unfolding(crate::specs::Lines::place_text))]
-pub(crate) fn put_place(line: &mut Line, naming: Naming, place: Place)
+pub fn put_place(line: &mut Line, naming: Naming, place: Place)
     requires { array_string_len line.old + 40 ≤ 192 }
     ensures bytes { line.new.bytes ≡ line.old.bytes ++ place_text naming place }
     ensures len { array_string_len line.new ≤ array_string_len line.old + 40 }

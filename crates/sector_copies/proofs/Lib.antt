@@ -1,0 +1,13 @@
+mod Items
+mod Contents
+mod Noting
+mod Searches
+mod Walks
+mod AsControllers
+mod Streams
+mod Showing
+mod Somewhere
+mod Named
+mod Contained
+mod Rows
+pub mod RowBytes

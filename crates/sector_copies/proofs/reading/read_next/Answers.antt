@@ -1,0 +1,69 @@
+use Rattle.std.specs.Prelude.{◌≡◌, ◌++◌, List, Option, length, unwrap_or}
+use Rattle.std.proofs.Common.{ap, subst, sym, ◌∙◌}
+use Rattle.flux_base.specs.declared.track.TrackId.{TrackId}
+use Rattle.index_turns.specs.Track.{TrackState}
+use Rattle.turn_merge.specs.Readings.{NotedReading}
+use Rattle.flux_engine.specs.Captured.{AreReadingsOf}
+use Rattle.flux_engine.specs.LoopProgress.{seen_next}
+use Rattle.flux_engine.specs.Plans.{passed_one}
+use Rattle.flux_engine.specs.Recordings.{track_at}
+use Rattle.flux_engine.specs.declared.plan.Clocks.TheVariants.{Both}
+use Rattle.flux_engine.specs.declared.plan.Rule.TheVariants.{Controller}
+use Rattle.dump_reading.specs.Outcomes.{disk_of}
+use Rattle.dump_reading.specs.Reports.{dump_plan}
+use Rattle.sector_copies.specs.Notes.{AppendsNotes, of_sector}
+use Rattle.sector_copies.specs.TrackReadings.{HasReadNext, SectorRoomState}
+use Rattle.sector_copies.proofs.Streams.{earlier, earlier_came, earlier_many, ended_kept, ended_rose, next_kept, next_read}
+use Rattle.sector_copies.proofs.reading.read_next.Goals as goal
+
+pub returns-clause-read : goal.returns-clause-read
+returns-clause-read g c =
+    let inside = c.room.inside in
+    let disk = disk_of c.args.dumps.now inside.format in
+    let told = g.H.Shelf.files c.args.shelf.now in
+    let before = earlier disk told inside.number c.args.capture c.requires.low in
+    let next = c.in-Ok.next in
+    let flux = c.next_stream.new.stream.flux in
+    let tools = c.note_next.new.tools in
+    let old : SectorRoomState = record { format = inside.format; number = inside.number; known = inside.tools.notes; passed = inside.tools.passed.items } in
+    let new : SectorRoomState = record { format = inside.format; number = inside.number; known = tools.notes; passed = tools.passed.items } in
+    let is : c.track_id-track.result ≡ track_at inside.format inside.number =
+    sym (ap (λ (o : Option TrackId). unwrap_or o (record { cylinder = 0; head = 0 })) c.track_id-track.ensures.at) in
+    let came = c.in-Ok.ensures.next (dump_plan (length disk.dumps)) c.args.shelf.now before c.requires.low (earlier_many disk told inside.number c.args.capture c.requires.low)
+    (earlier_came disk told inside.number c.args.capture c.requires.low) in
+    let noted = subst (λ (t : TrackId). (readings : List NotedReading) → AreReadingsOf Controller Both inside.format t (seen_next next flux).times (seen_next next flux).indexes c.args.capture readings
+    → AppendsNotes inside.tools.notes tools.notes (of_sector inside.tools.notes.sector readings)) is
+    (subst (λ (f : TrackState). (readings : List NotedReading) → AreReadingsOf Controller Both inside.format c.track_id-track.result (seen_next next f).times (seen_next next f).indexes c.args.capture readings
+    → AppendsNotes inside.tools.notes tools.notes (of_sector inside.tools.notes.sector readings)) c.flux.ensures c.note_next.ensures.noted) in
+    let passed = subst (λ (f : TrackState). tools.passed.items ≡ inside.tools.passed.items ++ passed_one c.args.capture (seen_next next f).passed) c.flux.ensures c.note_next.ensures.passed in
+    subst (λ (r : SectorRoomState). HasReadNext (disk_of c.args.dumps.now r.format) told r.number c.args.capture r new) c.room.view_is
+    (next_read disk told inside.number c.args.capture c.requires.low (g.H.Shelf.files c.next_stream.new.source) flux next old new came noted passed)
+
+pub returns-clause-kept : goal.returns-clause-kept
+returns-clause-kept g c =
+    let inside = c.room.inside in
+    let disk = disk_of c.args.dumps.now inside.format in
+    let told = g.H.Shelf.files c.args.shelf.now in
+    next_kept disk told inside.number c.args.capture c.requires.low (g.H.Shelf.files c.next_stream.new.source) c.next_stream.new.stream.flux c.in-Ok.next
+    (c.in-Ok.ensures.next (dump_plan (length disk.dumps)) c.args.shelf.now (earlier disk told inside.number c.args.capture c.requires.low) c.requires.low
+    (earlier_many disk told inside.number c.args.capture c.requires.low) (earlier_came disk told inside.number c.args.capture c.requires.low))
+
+pub returns-in-Err-clause-kept : goal.returns-in-Err-clause-kept
+returns-in-Err-clause-kept g c =
+    let inside = c.room.inside in
+    let disk = disk_of c.args.dumps.now inside.format in
+    let told = g.H.Shelf.files c.args.shelf.now in
+    ended_kept disk told inside.number c.args.capture c.requires.low (g.H.Shelf.files c.next_stream.new.source) c.next_stream.new.stream.flux c.in-Err._fault
+    (c.in-Err.ensures.next (dump_plan (length disk.dumps)) c.args.shelf.now (earlier disk told inside.number c.args.capture c.requires.low) c.requires.low
+    (earlier_many disk told inside.number c.args.capture c.requires.low) (earlier_came disk told inside.number c.args.capture c.requires.low))
+
+pub returns-in-Err-clause-cause : goal.returns-in-Err-clause-cause
+returns-in-Err-clause-cause g c =
+    let inside = c.room.inside in
+    let disk = disk_of c.args.dumps.now inside.format in
+    let told = g.H.Shelf.files c.args.shelf.now in
+    ended_rose disk told inside.number c.args.capture c.requires.low (g.H.Shelf.files c.next_stream.new.source) c.next_stream.new.stream.flux c.in-Err._fault
+    (g.H.Source.faults c.args.shelf.now) (g.H.Source.faults c.next_stream.new.source)
+    (c.in-Err.ensures.next (dump_plan (length disk.dumps)) c.args.shelf.now (earlier disk told inside.number c.args.capture c.requires.low) c.requires.low
+    (earlier_many disk told inside.number c.args.capture c.requires.low) (earlier_came disk told inside.number c.args.capture c.requires.low))
+    c.in-Err.ensures.cause

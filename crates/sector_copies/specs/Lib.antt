@@ -1,0 +1,6 @@
+pub mod Copies
+pub mod Notes
+pub mod TrackReadings
+pub mod Texts
+pub mod Shown
+pub mod Laws

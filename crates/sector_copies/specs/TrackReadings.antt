@@ -1,0 +1,76 @@
+-- What the dumps of a disk say of one sector.
+use Rattle.std.specs.Prelude.{◌≡◌, ◌≤◌, ◌<◌, ℕ, ◌+◌, ◌*◌, List, [], ◌++◌, length, Option, Some}
+use Rattle.cell_bits.specs.State.{CellsState, room}
+use Rattle.sector_images.specs.Formats.{row}
+use Rattle.sector_images.specs.Places.{IsSector, tracks}
+use Rattle.sector_images.specs.declared.format.Format.{Format}
+use Rattle.track_shelf.specs.Files.{File}
+use Rattle.turn_merge.specs.Readings.{NotedReading, good_ones, verdict}
+use Rattle.turn_merge.specs.declared.verdict.Verdict.{Verdict}
+use Rattle.flux_engine.specs.Captured.{AreReadingsOf}
+use Rattle.flux_engine.specs.Plans.{AreCaptures, Seen, Streams, joined, passed_one, passed_to}
+use Rattle.flux_engine.specs.Recordings.{track_at}
+use Rattle.flux_engine.specs.Room.{MOST_CELLS, MOST_READINGS}
+use Rattle.flux_engine.specs.declared.gathered_track.PassedStream.{PassedStream}
+use Rattle.flux_engine.specs.declared.plan.Clocks.TheVariants.{Both}
+use Rattle.flux_engine.specs.declared.plan.Rule.TheVariants.{Controller}
+use Rattle.dump_reading.specs.DumpStreams.{dump_streams}
+use Rattle.dump_reading.specs.Outcomes.{DumpDisk}
+use Rattle.dump_reading.specs.Reports.{dump_plan}
+use Rattle.sector_copies.specs.Copies.{Copy, copies_over}
+use Rattle.sector_copies.specs.Notes.{AppendsNotes, SectorKnown, SectorStandsFor, of_sector}
+
+-- the format, the track's number, what is known of the sector, and which of the track's streams were passed over
+pub record SectorRoomState : Type 0 where
+  pub format : Format
+  pub number : ℕ
+  pub known : SectorKnown
+  pub passed : List PassedStream
+
+-- nothing was read in the room yet
+pub record IsEmptyRoom (format : Format) (number sector : ℕ) (room : SectorRoomState) : Type 0 where
+  pub format_is : room.format ≡ format
+  pub number_is : room.number ≡ number
+  pub sector_is : room.known.sector ≡ sector
+  pub none : SectorStandsFor room.known []
+  pub no_passed : room.passed ≡ []
+
+-- the room is for one of the format's sectors, and has room for the most cells that a stream can make
+pub record IsRoomFor (format : Format) (number : ℕ) (known : SectorKnown) (cells : CellsState) : Type 0 where
+  pub low : number < length (tracks format)
+  pub sector : IsSector format (track_at format number) known.sector
+  pub size : known.book.size ≡ (row format).sector_size
+  pub cells_fit : MOST_CELLS ≤ room cells
+
+-- the room stays one for the same sector
+pub record IsSameRoom (old new : SectorRoomState) : Type 0 where
+  pub format : new.format ≡ old.format
+  pub number : new.number ≡ old.number
+  pub sector : new.known.sector ≡ old.known.sector
+
+-- a stream of the disk, by the files of its dumps where they are told
+abbrev pub IsStreamOf : DumpDisk → Option (List File) → (n q : ℕ) → Seen → Type 0
+IsStreamOf disk told n q seen = (files : List File) → told ≡ Some files → seen ≡ dump_streams disk.stepping disk.dumps files disk.format n q
+
+-- The next stream of a track was read or passed over: of whatever list has all its readings, those of the sector were noted.
+pub record HasReadNext (disk : DumpDisk) (told : Option (List File)) (n q : ℕ) (old new : SectorRoomState) : Type 0 where
+  pub here : Seen
+  pub is : IsStreamOf disk told n q here
+  pub noted : (readings : List NotedReading) → AreReadingsOf Controller Both disk.format (track_at disk.format n) here.times here.indexes q readings
+      → AppendsNotes old.known new.known (of_sector old.known.sector readings)
+  pub passed_are : new.passed ≡ old.passed ++ passed_one q here.passed
+
+-- The first q streams of a track, by the files of the dumps where they are told: what is known stands for all readings of the sector in
+-- them, whatever lists have all readings of each, and these were passed over.
+pub record HasReadTo (disk : DumpDisk) (told : Option (List File)) (n sector q : ℕ) (known : SectorKnown) (passed : List PassedStream) : Type 0 where
+  pub streams : Streams
+  pub are : (k : ℕ) → k < q → IsStreamOf disk told n k (streams n k)
+  pub stands : (captures : List (List NotedReading)) → length captures ≡ q → AreCaptures (dump_plan (length disk.dumps)) disk.format streams n captures
+      → SectorStandsFor known (of_sector sector (joined captures))
+  pub passed_are : passed ≡ passed_to streams n q
+
+-- What is told of a sector of a track that has these readings: the verdict over those of the sector, and the distinct contents of its good
+-- ones.
+pub record TellsOf (sector : ℕ) (readings : List NotedReading) (outcome : Verdict) (copies : List Copy) : Type 0 where
+  pub verdict_is : outcome ≡ verdict readings sector
+  pub copies_are : copies ≡ copies_over (good_ones readings sector)
