@@ -1,6 +1,6 @@
 -- From what a run did over dumps to what is known of it.
 use Rattle.std.specs.Prelude.{if◌then◌else◌}
-use Rattle.std.proofs.Common.{◌≡◌, ℕ, Bool, true, false, List, ◌∷◌, ◌++◌, drop, length, Option, Some, None, inl, inr, refl, sym, ap, ◌∙◌, subst}
+use Rattle.std.proofs.Common.{◌≡◌, ℕ, Bool, true, false, List, ◌∷◌, ◌++◌, drop, length, Option, Some, None, inl, inr, sym, ap, ◌∙◌, subst}
 use Rattle.disk_map.specs.Dumps.{IsDumpsDrawn, PicturesOfDumpsShowReports, ShowsReport}
 use Rattle.dump_reading.specs.Outcomes.{DumpDisk, DumpsRead, IsDumpsRead}
 use Rattle.dump_reading.specs.Totals.{is_complete}
@@ -12,7 +12,7 @@ use Rattle.sector_images.specs.Formats.{IsWordOfFormat, WordsBeginWithLetters, W
 use Rattle.sector_images.specs.declared.format.Format.{Format}
 use Rattle.track_shelf.specs.Files.{File}
 use Rattle.flux_cli.specs.DumpParts.{options_in}
-use Rattle.flux_cli.specs.DumpWords.{AreReadWords, Asked, CanBeRead, NamesDumps, asked_disk, option_words, shown_of}
+use Rattle.flux_cli.specs.DumpWords.{AreReadWords, Asked, NamesDumps, asked_disk, option_words, shown_of}
 use Rattle.flux_cli.specs.FolderRuns.{OnShelf}
 use Rattle.flux_cli.specs.FolderWords.{NamesFolder}
 use Rattle.flux_cli.specs.IdentityWords.{NamesIdentity}
