@@ -13,8 +13,8 @@ use Rattle.index_turns.specs.Track.{TrackState}
 use Rattle.sector_report.specs.declared.dump_lines.Passed.TheVariants.{Absent}
 use Rattle.track_shelf.specs.Files.{File}
 use Rattle.turn_merge.specs.Readings.{NotedReading}
-use Rattle.flux_base.specs.Outside.{Rose}
-use Rattle.flux_engine.specs.Answers.{CaptureCause}
+use Rattle.flux_base.specs.Counts.{Counts, FaultCounts}
+use Rattle.flux_engine.specs.Blamed.{is_unread}
 use Rattle.flux_engine.specs.Captured.{AreReadingsOf}
 use Rattle.flux_engine.specs.LoopProgress.{GivesNext, seen_at, seen_next}
 use Rattle.flux_engine.specs.Plans.{AreCaptures, Seen, Streams, joined, passed_one, passed_to}
@@ -100,9 +100,10 @@ module _ (disk : DumpDisk) where
       pub ended_kept : (fault : CaptureFault) → GivesNext Came Ended earlier flux (Err fault) → told' ≡ told
       ended_kept fault ended = ended.1.kept
 
-      pub ended_rose : (fault : CaptureFault) (before after : ℕ) → GivesNext Came Ended earlier flux (Err fault) → CaptureCause {A = NextStream} before after (Err fault) → Rose before after
-      ended_rose fault before after ended cause =
-          subst (λ (f : CaptureFault). CaptureCause {A = NextStream} before after (Err f)) ended.0 cause
+      pub ended_counts : (fault : CaptureFault) (before after : FaultCounts) → GivesNext Came Ended earlier flux (Err fault)
+          → Counts (is_unread {A = NextStream} (Err fault)) before after → Counts true before after
+      ended_counts fault before after ended counts =
+          subst (λ (f : CaptureFault). Counts (is_unread {A = NextStream} (Err f)) before after) ended.0 counts
 
 -- a list that is longer by one than a number has that many items and a last one
 split_last : {X : Type 0} (q : ℕ) (xs : List X) → length xs ≡ suc q → (front : List X) × (last : X) × (xs ≡ front ++ last ∷ []) × (length front ≡ q)

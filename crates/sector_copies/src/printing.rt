@@ -12,7 +12,7 @@ use sector_report::write_line;
 
 /// Writes each content with its number, as `copy_text` says.
 pub(crate) fn write_copies<W: Sink>(copies: &[SectorCopy], sink: &mut W) -> Result<(), Failed>
-    ensures { Puts (moment W.written W.faults sink.old) (moment W.written W.faults sink.new) (copies_text copies.now) result }
+    ensures { Puts (moment W.written W.faults W.failed sink.old) (moment W.written W.faults W.failed sink.new) (copies_text copies.now) result }
 {
     for number in 0..copies.len() {
         match write_copy_at(copies, number, sink) {
@@ -26,7 +26,7 @@ pub(crate) fn write_copies<W: Sink>(copies: &[SectorCopy], sink: &mut W) -> Resu
 /// Writes the content of this number.
 fn write_copy_at<W: Sink>(copies: &[SectorCopy], number: usize, sink: &mut W) -> Result<(), Failed>
     requires { number < length copies.now }
-    ensures { Puts (moment W.written W.faults sink.old) (moment W.written W.faults sink.new) (copy_text copies.now number) result }
+    ensures { Puts (moment W.written W.faults W.failed sink.old) (moment W.written W.faults W.failed sink.new) (copy_text copies.now number) result }
 {
     write_copy(&copies[0], number, &copies[number], sink)
 }
@@ -38,7 +38,7 @@ fn write_copy<W: Sink>(
     copy: &SectorCopy,
     sink: &mut W,
 ) -> Result<(), Failed>
-    ensures { Puts (moment W.written W.faults sink.old) (moment W.written W.faults sink.new) (head_text number copy.now.readings copy.now.first ++ rows_text first.now.bytes copy.now.bytes) result }
+    ensures { Puts (moment W.written W.faults W.failed sink.old) (moment W.written W.faults W.failed sink.new) (head_text number copy.now.readings copy.now.first ++ rows_text first.now.bytes copy.now.bytes) result }
 {
     match write_line(sink, &head_line(number, copy.readings(), copy.first())) {
         Ok(()) => write_rows(first.bytes(), copy.bytes(), sink),
@@ -49,7 +49,7 @@ fn write_copy<W: Sink>(
 /// Writes the rows of a content against those of the first.
 fn write_rows<W: Sink>(first: &[u8], bytes: &[u8], sink: &mut W) -> Result<(), Failed>
     requires { length bytes.now ≤ MOST_SECTOR_BYTES }
-    ensures { Puts (moment W.written W.faults sink.old) (moment W.written W.faults sink.new) (rows_text first.now bytes.now) result }
+    ensures { Puts (moment W.written W.faults W.failed sink.old) (moment W.written W.faults W.failed sink.new) (rows_text first.now bytes.now) result }
 {
     for number in 0..(bytes.len() + 15) / 16 {
         match write_whole(sink, row_line(first, bytes, number).as_slice()) {

@@ -1,8 +1,8 @@
 //! One sector of a disk that is read of its dumps.
 
-ghost use Rattle.std.specs.Prelude.{◌≡◌, ◌≤◌, ◌<◌, ◌+◌, ◌*◌, List, [], length, IfOk, OnErr, OnOk};
+ghost use Rattle.std.specs.Prelude.{◌≡◌, ◌≤◌, ◌<◌, ◌+◌, ◌*◌, List, [], length, is_err, IfOk, OnOk};
 ghost use Rattle.dump_reading.specs.Outcomes.{disk_of};
-ghost use Rattle.flux_base.specs.Outside.{Rose};
+ghost use Rattle.flux_base.specs.Counts.{Counts, counts_of};
 ghost use Rattle.flux_engine.specs.Recordings.{track_at};
 ghost use Rattle.flux_engine.specs.Room.{MOST_READINGS};
 ghost use Rattle.sector_copies.specs.Notes.{SectorStandsFor};
@@ -164,8 +164,7 @@ pub fn read_sector<H: Shelf>(
     ensures read { OnOk result (HasReadTo (disk_of dumps.now room.old.format) (H.files shelf.old) room.old.number room.old.known.sector (length dumps.now.names.now) room.new.known room.new.passed) }
     ensures same { IsSameRoom room.old room.new }
     ensures kept { H.files shelf.new ≡ H.files shelf.old }
-    ensures cause { OnErr result (Rose (H.faults shelf.old) (H.faults shelf.new)) }
-    ensures later { H.faults shelf.old ≤ H.faults shelf.new }
+    ensures counts { Counts (is_err result) (counts_of H.faults H.failed shelf.old) (counts_of H.faults H.failed shelf.new) }
 {
     for capture in 0..dumps.names.len() {
         match read_next(dumps, capture as u8, room, shelf) {
@@ -191,8 +190,7 @@ fn read_next<H: Shelf>(
     ensures few { room.new.known.book.notes ≤ room.old.known.book.notes + 2 * MOST_READINGS }
     ensures passed { length room.new.passed ≤ length room.old.passed + 1 }
     ensures kept { H.files shelf.new ≡ H.files shelf.old }
-    ensures cause { OnErr result (Rose (H.faults shelf.old) (H.faults shelf.new)) }
-    ensures later { H.faults shelf.old ≤ H.faults shelf.new }
+    ensures counts { Counts (is_err result) (counts_of H.faults H.failed shelf.old) (counts_of H.faults H.failed shelf.new) }
 {
     tracks_keep_bounds();
     let track = track_id(room.format, room.number);

@@ -1,8 +1,11 @@
 //! A sector of a disk that is shown as its dumps have it.
 
 ghost use Rattle.std.specs.Prelude.{◌≡◌, ◌≤◌, ◌++◌, [], length};
-ghost use Rattle.dump_reading.specs.Outcomes.{DumpsCause, disk_of};
+ghost use Rattle.dump_reading.specs.Blamed.{dumps_blame};
+ghost use Rattle.dump_reading.specs.Outcomes.{disk_of};
 ghost use Rattle.dump_reading.specs.Reports.{passed_lines};
+ghost use Rattle.flux_base.specs.Blames.{CountsBy, three_counts};
+ghost use Rattle.flux_base.specs.Counts.{counts_of};
 ghost use Rattle.flux_base.specs.Moments.{Puts, moment};
 ghost use Rattle.flux_engine.specs.Recordings.{track_at};
 ghost use Rattle.sector_copies.specs.Notes.{SectorStandsFor};
@@ -37,10 +40,9 @@ pub fn show_sector<H: Shelf, W: Sink, N: Sink>(
     requires few { length dumps.now.names.now ≤ 16 }
     ensures says { SaysOfSector (record { disk = disk_of dumps.now room.old.format; number = room.old.number; sector = room.old.known.sector; alone = alone }) (H.files shelf.old) (W.written image.old) (W.written image.new) (N.written notes.old) (N.written notes.new) result }
     ensures files { H.files shelf.new ≡ H.files shelf.old }
-    ensures cause { DumpsCause (H.faults shelf.old) (H.faults shelf.new) (W.faults image.old) (W.faults image.new) (N.faults notes.old) (N.faults notes.new) result }
-    ensures shelf_later { H.faults shelf.old ≤ H.faults shelf.new }
-    ensures image_later { W.faults image.old ≤ W.faults image.new }
-    ensures notes_later { N.faults notes.old ≤ N.faults notes.new }
+    ensures blames { CountsBy (dumps_blame result)
+        (three_counts (counts_of H.faults H.failed shelf.old) (counts_of W.faults W.failed image.old) (counts_of N.faults N.failed notes.old))
+        (three_counts (counts_of H.faults H.failed shelf.new) (counts_of W.faults W.failed image.new) (counts_of N.faults N.failed notes.new)) }
 {
     match find_empty(dumps, room.format(), shelf) {
         Ok(None) => {}
@@ -69,7 +71,7 @@ fn write_notes<N: Sink>(
     outcome: &Verdict,
     notes: &mut N,
 ) -> Result<(), Failed>
-    ensures { Puts (moment N.written N.faults notes.old) (moment N.written N.faults notes.new)
+    ensures { Puts (moment N.written N.faults N.failed notes.old) (moment N.written N.faults N.failed notes.new)
         (passed_lines (track_at room.now.format room.now.number) room.now.passed ++ notes_shown alone room.now.format room.now.number room.now.known.sector outcome.now) result }
 {
     match write_passed(room.track(), room.passed(), notes) {
@@ -85,7 +87,7 @@ fn write_line_alone<N: Sink>(
     outcome: &Verdict,
     notes: &mut N,
 ) -> Result<(), Failed>
-    ensures { Puts (moment N.written N.faults notes.old) (moment N.written N.faults notes.new) (notes_shown alone room.now.format room.now.number room.now.known.sector outcome.now) result }
+    ensures { Puts (moment N.written N.faults N.failed notes.old) (moment N.written N.faults N.failed notes.new) (notes_shown alone room.now.format room.now.number room.now.known.sector outcome.now) result }
 {
     match alone {
         None => write_whole(notes, &[]),
@@ -100,7 +102,7 @@ fn write_image<W: Sink>(
     outcome: &Verdict,
     image: &mut W,
 ) -> Result<(), Failed>
-    ensures { Puts (moment W.written W.faults image.old) (moment W.written W.faults image.new) (image_shown alone room.now.format room.now.number room.now.known.sector outcome.now room.now.known.copies) result }
+    ensures { Puts (moment W.written W.faults W.failed image.old) (moment W.written W.faults W.failed image.new) (image_shown alone room.now.format room.now.number room.now.known.sector outcome.now room.now.known.copies) result }
 {
     match alone {
         None => write_all(room, outcome, image),
@@ -110,7 +112,7 @@ fn write_image<W: Sink>(
 
 /// Writes where the sector's bytes stand in the image, all contents, and the sector's line.
 fn write_all<W: Sink>(room: &SectorRoom, outcome: &Verdict, image: &mut W) -> Result<(), Failed>
-    ensures { Puts (moment W.written W.faults image.old) (moment W.written W.faults image.new) (sector_text room.now.format room.now.number room.now.known.sector outcome.now room.now.known.copies) result }
+    ensures { Puts (moment W.written W.faults W.failed image.old) (moment W.written W.faults W.failed image.new) (sector_text room.now.format room.now.number room.now.known.sector outcome.now room.now.known.copies) result }
 {
     match write_line(image, &offset_line(room.image_place(), room.size())) {
         Ok(()) => write_copies_and_line(room, outcome, image),
@@ -124,7 +126,7 @@ fn write_copies_and_line<W: Sink>(
     outcome: &Verdict,
     image: &mut W,
 ) -> Result<(), Failed>
-    ensures { Puts (moment W.written W.faults image.old) (moment W.written W.faults image.new)
+    ensures { Puts (moment W.written W.faults W.failed image.old) (moment W.written W.faults W.failed image.new)
         (copies_text room.now.known.copies ++ line_text room.now.format room.now.number room.now.known.sector outcome.now) result }
 {
     match write_copies(room.copies(), image) {
@@ -135,7 +137,7 @@ fn write_copies_and_line<W: Sink>(
 
 /// Writes the bytes of one content, if there is such a one.
 fn write_one<W: Sink>(copies: &[SectorCopy], number: u32, image: &mut W) -> Result<(), Failed>
-    ensures { Puts (moment W.written W.faults image.old) (moment W.written W.faults image.new) (copy_at copies.now number).bytes result }
+    ensures { Puts (moment W.written W.faults W.failed image.old) (moment W.written W.faults W.failed image.new) (copy_at copies.now number).bytes result }
 {
     match copies.get(number as usize) {
         Some(copy) => write_whole(image, copy.bytes()),
@@ -149,7 +151,7 @@ fn write_sector_line<W: Sink>(
     outcome: &Verdict,
     sink: &mut W,
 ) -> Result<(), Failed>
-    ensures { Puts (moment W.written W.faults sink.old) (moment W.written W.faults sink.new) (line_text room.now.format room.now.number room.now.known.sector outcome.now) result }
+    ensures { Puts (moment W.written W.faults W.failed sink.old) (moment W.written W.faults W.failed sink.new) (line_text room.now.format room.now.number room.now.known.sector outcome.now) result }
 {
     let line = named_line(
         Naming::ByCaptureAndClock,

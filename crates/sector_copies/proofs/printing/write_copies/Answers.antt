@@ -1,6 +1,7 @@
 use Rattle.std.proofs.Common.{◌≡◌, ◌+◌, ℕ, ap, arith, length, subst, sym, ◌∙◌}
 use Rattle.std.specs.List.{flat_map, range_with_len}
 use Rattle.std.specs.Io.KnownBytes.{Appends}
+use Rattle.flux_base.specs.lemmas.Counting.{Counts-then}
 use Rattle.flux_engine.specs.lemmas.Pieces.{pieces_next, pieces_stop}
 use Rattle.sector_copies.specs.Texts.{copy_text}
 use Rattle.sector_copies.proofs.printing.write_copies.Goals as goal
@@ -11,7 +12,7 @@ loop-number-preserved g c = record {
       let same : 0 + c.loop-number.number ≡ c.loop-number.number = omega arith in
       pieces_next (copy_text c.args.copies.now) (g.W.Sink.written c.args.sink.now) (g.W.Sink.written c.loop-number.sink) (g.W.Sink.written c.write_copy_at.new.sink)
       0 c.loop-number.number (copy_text c.args.copies.now c.loop-number.number) (ap (copy_text c.args.copies.now) (sym same)) c.loop-number.invariant.grew c.in-Ok.ensures.ok;
-  later = omega (arith, c.loop-number.invariant.later, c.write_copy_at.ensures.later);
+  counts = Counts-then _ c.loop-number.invariant.counts c.in-Ok.ensures.counts;
 }
 
 pub returns-in-Err : goal.returns-in-Err
@@ -22,8 +23,7 @@ returns-in-Err g c =
       err = pieces_stop (copy_text c.args.copies.now) (g.W.Sink.written c.args.sink.now) (g.W.Sink.written c.loop-number.sink) (g.W.Sink.written c.write_copy_at.new.sink)
           0 c.loop-number.number (length c.args.copies.now) (copy_text c.args.copies.now c.loop-number.number) (omega arith)
           (ap (copy_text c.args.copies.now) (sym same)) c.loop-number.invariant.grew c.in-Err.ensures.err;
-      later = omega (arith, c.loop-number.invariant.later, c.write_copy_at.ensures.later);
-      cause = omega (arith, c.loop-number.invariant.later, c.in-Err.ensures.cause);
+      counts = Counts-then _ c.loop-number.invariant.counts c.in-Err.ensures.counts;
     }
 
 pub returns : goal.returns
@@ -32,6 +32,5 @@ returns g c =
     record {
       ok = subst (λ (n : ℕ). Appends (g.W.Sink.written c.args.sink.now) (g.W.Sink.written c.loop-number.sink) (flat_map (copy_text c.args.copies.now) (range_with_len 0 n))) all c.loop-number.invariant.grew;
       err = tt;
-      later = c.loop-number.invariant.later;
-      cause = tt;
+      counts = c.loop-number.invariant.counts;
     }

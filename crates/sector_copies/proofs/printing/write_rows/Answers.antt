@@ -1,6 +1,7 @@
 use Rattle.std.proofs.Common.{◌≡◌, ◌+◌, ℕ, ap, arith, length, subst, sym, ◌∙◌}
 use Rattle.std.specs.List.{flat_map, range_with_len}
 use Rattle.std.specs.Io.KnownBytes.{Appends}
+use Rattle.flux_base.specs.lemmas.Counting.{Counts-then}
 use Rattle.flux_engine.specs.lemmas.Pieces.{pieces_next, pieces_stop}
 use Rattle.sector_copies.specs.Texts.{row_count, row_text}
 use Rattle.sector_copies.proofs.printing.write_rows.Goals as goal
@@ -12,7 +13,7 @@ loop-number-preserved g c = record {
       pieces_next (row_text c.args.first.now c.args.bytes.now) (g.W.Sink.written c.args.sink.now) (g.W.Sink.written c.loop-number.sink) (g.W.Sink.written c.write_whole.new.sink)
       0 c.loop-number.number c.as_slice.result.now (c.as_slice.ensures.value ∙ c.row_line.ensures ∙ ap (row_text c.args.first.now c.args.bytes.now) (sym same))
       c.loop-number.invariant.grew c.in-Ok.ensures.ok;
-  later = omega (arith, c.loop-number.invariant.later, c.write_whole.ensures.later);
+  counts = Counts-then _ c.loop-number.invariant.counts c.in-Ok.ensures.counts;
 }
 
 pub returns-in-Err : goal.returns-in-Err
@@ -23,8 +24,7 @@ returns-in-Err g c =
       err = pieces_stop (row_text c.args.first.now c.args.bytes.now) (g.W.Sink.written c.args.sink.now) (g.W.Sink.written c.loop-number.sink) (g.W.Sink.written c.write_whole.new.sink)
           0 c.loop-number.number (row_count (length c.args.bytes.now)) c.as_slice.result.now (omega arith)
           (c.as_slice.ensures.value ∙ c.row_line.ensures ∙ ap (row_text c.args.first.now c.args.bytes.now) (sym same)) c.loop-number.invariant.grew c.in-Err.ensures.err;
-      later = omega (arith, c.loop-number.invariant.later, c.write_whole.ensures.later);
-      cause = omega (arith, c.loop-number.invariant.later, c.in-Err.ensures.cause);
+      counts = Counts-then _ c.loop-number.invariant.counts c.in-Err.ensures.counts;
     }
 
 pub returns : goal.returns
@@ -33,6 +33,5 @@ returns g c =
     record {
       ok = subst (λ (n : ℕ). Appends (g.W.Sink.written c.args.sink.now) (g.W.Sink.written c.loop-number.sink) (flat_map (row_text c.args.first.now c.args.bytes.now) (range_with_len 0 n))) all c.loop-number.invariant.grew;
       err = tt;
-      later = c.loop-number.invariant.later;
-      cause = tt;
+      counts = c.loop-number.invariant.counts;
     }

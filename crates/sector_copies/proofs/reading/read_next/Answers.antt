@@ -1,5 +1,6 @@
 use Rattle.std.specs.Prelude.{◌≡◌, ◌++◌, List, Option, length, unwrap_or}
 use Rattle.std.proofs.Common.{ap, subst, sym, ◌∙◌}
+use Rattle.flux_base.specs.Counts.{counts_of}
 use Rattle.flux_base.specs.declared.track.TrackId.{TrackId}
 use Rattle.index_turns.specs.Track.{TrackState}
 use Rattle.turn_merge.specs.Readings.{NotedReading}
@@ -13,7 +14,7 @@ use Rattle.dump_reading.specs.Outcomes.{disk_of}
 use Rattle.dump_reading.specs.Reports.{dump_plan}
 use Rattle.sector_copies.specs.Notes.{AppendsNotes, of_sector}
 use Rattle.sector_copies.specs.TrackReadings.{HasReadNext, SectorRoomState}
-use Rattle.sector_copies.proofs.Streams.{earlier, earlier_came, earlier_many, ended_kept, ended_rose, next_kept, next_read}
+use Rattle.sector_copies.proofs.Streams.{earlier, earlier_came, earlier_many, ended_counts, ended_kept, next_kept, next_read}
 use Rattle.sector_copies.proofs.reading.read_next.Goals as goal
 
 pub returns-clause-read : goal.returns-clause-read
@@ -57,13 +58,16 @@ returns-in-Err-clause-kept g c =
     (c.in-Err.ensures.next (dump_plan (length disk.dumps)) c.args.shelf.now (earlier disk told inside.number c.args.capture c.requires.low) c.requires.low
     (earlier_many disk told inside.number c.args.capture c.requires.low) (earlier_came disk told inside.number c.args.capture c.requires.low))
 
-pub returns-in-Err-clause-cause : goal.returns-in-Err-clause-cause
-returns-in-Err-clause-cause g c =
+pub returns-clause-counts : goal.returns-clause-counts
+returns-clause-counts g c = c.in-Ok.ensures.counts
+
+pub returns-in-Err-clause-counts : goal.returns-in-Err-clause-counts
+returns-in-Err-clause-counts g c =
     let inside = c.room.inside in
     let disk = disk_of c.args.dumps.now inside.format in
     let told = g.H.Shelf.files c.args.shelf.now in
-    ended_rose disk told inside.number c.args.capture c.requires.low (g.H.Shelf.files c.next_stream.new.source) c.next_stream.new.stream.flux c.in-Err._fault
-    (g.H.Source.faults c.args.shelf.now) (g.H.Source.faults c.next_stream.new.source)
+    ended_counts disk told inside.number c.args.capture c.requires.low (g.H.Shelf.files c.next_stream.new.source) c.next_stream.new.stream.flux c.in-Err._fault
+    (counts_of g.H.Source.faults g.H.Source.failed c.args.shelf.now) (counts_of g.H.Source.faults g.H.Source.failed c.next_stream.new.source)
     (c.in-Err.ensures.next (dump_plan (length disk.dumps)) c.args.shelf.now (earlier disk told inside.number c.args.capture c.requires.low) c.requires.low
     (earlier_many disk told inside.number c.args.capture c.requires.low) (earlier_came disk told inside.number c.args.capture c.requires.low))
-    c.in-Err.ensures.cause
+    c.in-Err.ensures.counts

@@ -1,6 +1,7 @@
 use Rattle.std.proofs.Common.{ap, arith, length, refl, subst, sym, ◌∙◌}
 use Rattle.sector_images.specs.declared.format.Format.{Format}
 use Rattle.dump_reading.specs.Outcomes.{disk_of}
+use Rattle.flux_base.specs.lemmas.Counting.{Counts-none, Counts-then}
 use Rattle.sector_copies.specs.TrackReadings.{HasReadNext}
 use Rattle.sector_copies.proofs.Streams.{read_none, reads_on, same_room_on}
 use Rattle.sector_copies.proofs.reading.read_sector.Goals as goal
@@ -13,7 +14,7 @@ loop-capture-init g c = record {
   few = (let none = c.requires.none.book.notes in omega (arith, none));
   passed = (let none = ap length c.requires.no_passed in omega (arith, none));
   kept = refl;
-  later = omega arith;
+  counts = Counts-none _;
 }
 
 pub loop-capture-preserved : goal.loop-capture-preserved
@@ -29,5 +30,8 @@ loop-capture-preserved g c =
       few = (let before = inv.few in let more = c.read_next.ensures.few in omega (arith, before, more));
       passed = (let before = inv.passed in let more = c.read_next.ensures.passed in omega (arith, before, more));
       kept = c.read_next.ensures.kept ∙ inv.kept;
-      later = (let before = inv.later in let more = c.read_next.ensures.later in omega (arith, before, more));
+      counts = Counts-then _ inv.counts c.in-Ok.ensures.counts;
     }
+
+pub returns-in-Err-clause-counts : goal.returns-in-Err-clause-counts
+returns-in-Err-clause-counts g c = Counts-then _ c.loop-capture.invariant.counts c.in-Err.ensures.counts

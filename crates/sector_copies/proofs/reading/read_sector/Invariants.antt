@@ -1,5 +1,6 @@
-use Rattle.std.proofs.Common.{◌≡◌, ◌≤◌, ◌*◌, length}
+use Rattle.std.proofs.Common.{◌≡◌, ◌≤◌, ◌*◌, false, length}
 use Rattle.dump_reading.specs.Outcomes.{disk_of}
+use Rattle.flux_base.specs.Counts.{Counts, counts_of}
 use Rattle.flux_engine.specs.Room.{MOST_READINGS}
 use Rattle.sector_copies.specs.TrackReadings.{HasReadTo, IsSameRoom}
 use Rattle.sector_copies.proofs.reading.read_sector.Given as goal
@@ -11,5 +12,5 @@ invariant-loop-capture g l = record {
   few : l.room.known.book.notes ≤ 2 * MOST_READINGS * l.capture;
   passed : length l.room.passed ≤ l.capture;
   kept : g.H.Shelf.files l.shelf ≡ g.H.Shelf.files l.initial.shelf;
-  later : g.H.Source.faults l.initial.shelf ≤ g.H.Source.faults l.shelf;
+  counts : Counts false (counts_of g.H.Source.faults g.H.Source.failed l.initial.shelf) (counts_of g.H.Source.faults g.H.Source.failed l.shelf);
 }

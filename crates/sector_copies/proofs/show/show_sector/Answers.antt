@@ -1,6 +1,8 @@
 use Rattle.std.specs.Prelude.{length, refl}
-use Rattle.std.proofs.Common.{ap}
+use Rattle.std.proofs.Common.{ap, false, true}
 use Rattle.dump_reading.specs.Outcomes.{disk_of}
+use Rattle.flux_base.specs.lemmas.Counting.{Counts-then}
+use Rattle.flux_base.specs.lemmas.Blaming.{CountsBy-image, CountsBy-notes, CountsBy-source, CountsBy-then}
 use Rattle.sector_copies.proofs.Showing.{says_cut_image, says_cut_notes, says_shown}
 use Rattle.sector_copies.proofs.show.show_sector.Goals as goal
 
@@ -27,3 +29,26 @@ returns-in-Err-write_notes-clause-says g c =
     (rw (c.format.ensures, c.in-Ok-None.field-0-is) at c.in-Ok-None.ensures.told)
     (g.W.Sink.written c.args.image.now) (g.W.Sink.written c.args.image.now) (g.N.Sink.written c.args.notes.now) (g.N.Sink.written c.write_notes.new.notes)
     refl c.in-Err-write_notes.ensures.err
+
+pub returns-in-Err-clause-blames : goal.returns-in-Err-clause-blames
+returns-in-Err-clause-blames g c = CountsBy-source _ _ true c.in-Err.ensures.counts
+
+pub returns-in-Ok-Some-clause-blames : goal.returns-in-Ok-Some-clause-blames
+returns-in-Ok-Some-clause-blames g c = CountsBy-source _ _ false c.in-Ok-Some.ensures.counts
+
+pub returns-in-Err-read_sector-clause-blames : goal.returns-in-Err-read_sector-clause-blames
+returns-in-Err-read_sector-clause-blames g c = CountsBy-source _ _ true (Counts-then _ c.in-Ok-None.ensures.counts c.in-Err-read_sector.ensures.counts)
+
+pub returns-in-Err-write_notes-clause-blames : goal.returns-in-Err-write_notes-clause-blames
+returns-in-Err-write_notes-clause-blames g c =
+    CountsBy-then _ (CountsBy-source _ _ false (Counts-then _ c.in-Ok-None.ensures.counts c.in-Ok.ensures.counts)) (CountsBy-notes _ _ true c.in-Err-write_notes.ensures.counts)
+
+pub returns-in-Ok-write_image-clause-blames : goal.returns-in-Ok-write_image-clause-blames
+returns-in-Ok-write_image-clause-blames g c =
+    CountsBy-then _ (CountsBy-then _ (CountsBy-source _ _ false (Counts-then _ c.in-Ok-None.ensures.counts c.in-Ok.ensures.counts)) (CountsBy-notes _ _ false c.in-Ok-write_notes.ensures.counts))
+    (CountsBy-image _ _ false c.in-Ok-write_image.ensures.counts)
+
+pub returns-in-Err-write_image-clause-blames : goal.returns-in-Err-write_image-clause-blames
+returns-in-Err-write_image-clause-blames g c =
+    CountsBy-then _ (CountsBy-then _ (CountsBy-source _ _ false (Counts-then _ c.in-Ok-None.ensures.counts c.in-Ok.ensures.counts)) (CountsBy-notes _ _ false c.in-Ok-write_notes.ensures.counts))
+    (CountsBy-image _ _ true c.in-Err-write_image.ensures.counts)
