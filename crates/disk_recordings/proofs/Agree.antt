@@ -1,5 +1,5 @@
 -- The recording of each format is one for the format.
-use Rattle.std.specs.Prelude.{◌≡◌, refl}
+use Rattle.std.specs.Prelude.{◌≡◌, ◌<◌, refl}
 use Rattle.std.proofs.Common.{arith, rules}
 use Rattle.flux_base.specs.declared.track.TrackId.{TrackId}
 use Rattle.ibm_disks.specs.Disks.{rate_of, track_of_disk}
@@ -26,31 +26,25 @@ record Fits (disk : IbmDisk) (recording : DiskRecording) : Type 0 where
   sectors : (track : TrackId) → IsTrack (Numbered disk) track → ghosts.sectors recording track ≡ (zone (Numbered disk) track.cylinder).sectors
   ring_cells : (track : TrackId) → IsTrack (Numbered disk) track → ghosts.ring_cells recording track ≡ (zone (Numbered disk) track.cylinder).ring_cells
 
+-- its cylinders and heads are few
+few_of : (disk : IbmDisk) (track : TrackId) → IsTrack (Numbered disk) track → (track.cylinder < 100) × (track.head < 2)
+few_of disk track known = let has = all_have_disks disk in (omega (arith, has.few_cylinders, known.0), omega (arith, has.few_heads, known.1))
+
 fits_by : (disk : IbmDisk) (density : Density) → FillAt density (track_of_disk disk) → Fits disk (numbered_by density (track_of_disk disk))
-fits_by disk SingleDensity fills =
-    let has = all_have_disks disk in record {
-      track = λ track known. record {
-        fills = fills;
-        cylinder = omega (arith, has.few_cylinders, known.0);
-        head = omega (arith, has.few_heads, known.1);
-      };
-      first = refl;
-      size = refl;
-      sectors = λ track known. refl;
-      ring_cells = λ track known. refl;
-    }
-fits_by disk DoubleDensity fills =
-    let has = all_have_disks disk in record {
-      track = λ track known. record {
-        fills = fills;
-        cylinder = omega (arith, has.few_cylinders, known.0);
-        head = omega (arith, has.few_heads, known.1);
-      };
-      first = refl;
-      size = refl;
-      sectors = λ track known. refl;
-      ring_cells = λ track known. refl;
-    }
+fits_by disk SingleDensity fills = record {
+  track = λ track known. let few = few_of disk track known in record { fills = fills; cylinder = few.0; head = few.1 };
+  first = refl;
+  size = refl;
+  sectors = λ track known. refl;
+  ring_cells = λ track known. refl;
+}
+fits_by disk DoubleDensity fills = record {
+  track = λ track known. let few = few_of disk track known in record { fills = fills; cylinder = few.0; head = few.1 };
+  first = refl;
+  size = refl;
+  sectors = λ track known. refl;
+  ring_cells = λ track known. refl;
+}
 
 pub agrees : (format : Format) (id : DiskId) → Agrees format (recording_of format id)
 agrees Ibm3740 id = search (rules, arith)

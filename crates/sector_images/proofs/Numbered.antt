@@ -4,8 +4,10 @@ use Rattle.std.proofs.Common.{ap, sym, ◌∙◌, arith, lit≤}
 use Rattle.std.proofs.Math.Nat.{mul-le-mul_left, suc-mul, zero-mul}
 use Rattle.ibm_disks.specs.Disks.{cylinders_of, heads_of, rate_of, track_of_disk}
 use Rattle.ibm_disks.specs.Numbers.{FillFmTrack, FillMfmTrack, fm_before, mfm_around, mfm_before, size_of}
-use Rattle.ibm_disks.specs.Plans.{FillsTrackOf}
+use Rattle.ibm_disks.specs.Plans.{FillAt, FillsTrackOf, density_of, track_bytes}
 use Rattle.ibm_disks.specs.declared.disk.IbmDisk.{IbmDisk}
+use Rattle.ibm_disks.specs.declared.rate.Density.{Density}
+use Rattle.ibm_disks.specs.declared.rate.Density.TheVariants.{Single as SingleDensity, Double as DoubleDensity}
 use Rattle.ibm_disks.specs.declared.rate.Rate.{Rate}
 use Rattle.ibm_disks.specs.declared.rate.Rate.TheVariants.{Double, High, HighAt360, Single, SingleAt360}
 use Rattle.ibm_disks.specs.declared.sector_size.SectorSize.{SectorSize}
@@ -14,7 +16,6 @@ use Rattle.ibm_disks.specs.declared.track_numbers.LeadIn.{LeadIn}
 use Rattle.ibm_disks.specs.declared.track_numbers.LeadIn.TheVariants.{Indexed, Bare}
 use Rattle.ibm_disks.specs.declared.track_numbers.TrackNumbers.{TrackNumbers}
 use Rattle.ibm_disks.specs.lemmas.DiskLaws.{all_have_disks}
-use Rattle.ibm_disks.specs.lemmas.NumberLaws.{size-least, size-most}
 use Rattle.sector_images.specs.Formats.{cell_of}
 use Rattle.sector_images.specs.Places.{sectors_before}
 use Rattle.sector_images.specs.declared.format.Format.TheVariants.{Numbered}
@@ -69,52 +70,36 @@ pub record TrackBounds (rate : Rate) (track : TrackNumbers) : Type 0 where
   pub shortest_cell : 24604 ≤ cell_of rate
   pub longest_cell : cell_of rate ≤ 98416
 
+-- the most bytes of a track of each density, and the bounds of each rate
+abbrev most_bytes : Density → ℕ
+most_bytes DoubleDensity = 12500
+most_bytes SingleDensity = 5208
+
+rate_bounds : (rate : Rate)
+    → (3125 ≤ track_bytes rate) × (track_bytes rate ≤ most_bytes (density_of rate)) × (track_bytes rate ≤ 12500) × (24604 ≤ cell_of rate) × (cell_of rate ≤ 98416)
+rate_bounds Double = (lit≤ tt, lit≤ tt, lit≤ tt, lit≤ tt, lit≤ tt)
+rate_bounds High = (lit≤ tt, lit≤ tt, lit≤ tt, lit≤ tt, lit≤ tt)
+rate_bounds HighAt360 = (lit≤ tt, lit≤ tt, lit≤ tt, lit≤ tt, lit≤ tt)
+rate_bounds Single = (lit≤ tt, lit≤ tt, lit≤ tt, lit≤ tt, lit≤ tt)
+rate_bounds SingleAt360 = (lit≤ tt, lit≤ tt, lit≤ tt, lit≤ tt, lit≤ tt)
+
+sectors_of : (density : Density) (track : TrackNumbers) → FillAt density track → track.bytes ≤ most_bytes density
+    → Few track.sectors track.size × (1 ≤ track.sectors) × (track.first_sector + track.sectors ≤ 256)
+sectors_of DoubleDensity track fills most = (mfm_few track fills most, fills.some, fills.few)
+sectors_of SingleDensity track fills most = (fm_few track fills most, fills.some, fills.few)
+
 track_bounds : (rate : Rate) (track : TrackNumbers) → FillsTrackOf rate track → TrackBounds rate track
-track_bounds Double track fills = record {
-  few = mfm_few track fills.0 (omega (arith, fills.1));
-  some = fills.0.some;
-  numbers = fills.0.few;
-  shortest = omega (arith, fills.1);
-  longest = omega (arith, fills.1);
-  shortest_cell = lit≤ tt;
-  longest_cell = lit≤ tt;
-}
-track_bounds High track fills = record {
-  few = mfm_few track fills.0 (omega (arith, fills.1));
-  some = fills.0.some;
-  numbers = fills.0.few;
-  shortest = omega (arith, fills.1);
-  longest = omega (arith, fills.1);
-  shortest_cell = lit≤ tt;
-  longest_cell = lit≤ tt;
-}
-track_bounds HighAt360 track fills = record {
-  few = mfm_few track fills.0 (omega (arith, fills.1));
-  some = fills.0.some;
-  numbers = fills.0.few;
-  shortest = omega (arith, fills.1);
-  longest = omega (arith, fills.1);
-  shortest_cell = lit≤ tt;
-  longest_cell = lit≤ tt;
-}
-track_bounds Single track fills = record {
-  few = fm_few track fills.0 (omega (arith, fills.1));
-  some = fills.0.some;
-  numbers = fills.0.few;
-  shortest = omega (arith, fills.1);
-  longest = omega (arith, fills.1);
-  shortest_cell = lit≤ tt;
-  longest_cell = lit≤ tt;
-}
-track_bounds SingleAt360 track fills = record {
-  few = fm_few track fills.0 (omega (arith, fills.1));
-  some = fills.0.some;
-  numbers = fills.0.few;
-  shortest = omega (arith, fills.1);
-  longest = omega (arith, fills.1);
-  shortest_cell = lit≤ tt;
-  longest_cell = lit≤ tt;
-}
+track_bounds rate track fills =
+    let bounds = rate_bounds rate in
+    let sectors = sectors_of (density_of rate) track fills.0 (omega (arith, fills.1, bounds.1)) in record {
+      few = sectors.0;
+      some = sectors.1;
+      numbers = sectors.2;
+      shortest = omega (arith, fills.1, bounds.0);
+      longest = omega (arith, fills.1, bounds.2);
+      shortest_cell = bounds.3;
+      longest_cell = bounds.4;
+    }
 
 pub bounds_of : (disk : IbmDisk) → TrackBounds (rate_of disk) (track_of_disk disk)
 bounds_of disk = track_bounds (rate_of disk) (track_of_disk disk) (all_have_disks disk).fills
