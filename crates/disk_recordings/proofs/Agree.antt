@@ -11,7 +11,7 @@ use Rattle.ibm_disks.specs.lemmas.DiskLaws.{all_have_disks}
 use Rattle.sector_images.specs.Formats.{row, zone}
 use Rattle.sector_images.specs.Places.{IsTrack}
 use Rattle.sector_images.specs.declared.format.Format.{Format}
-use Rattle.sector_images.specs.declared.format.Format.TheVariants.{Ibm3740, Ibm360, Ibm720, Ibm1440, Amiga, C1541, C1541Forty, AppleDo, ApplePo, Ibm160, Ibm180, Ibm320, Ibm1200, AtariSt800, CpcData, CpcSystem, AcornDfs40, AcornDfs80, AppleDos33, AppleProdos, Mac400, Mac800, C1571, AmigaHd, Numbered}
+use Rattle.sector_images.specs.declared.format.Format.TheVariants.{Ibm3740, Ibm360, Ibm720, Ibm1440, Amiga, C1541, C1541Forty, AppleDo, ApplePo, AppleDos33, AppleProdos, Mac400, Mac800, C1571, AmigaHd, Numbered}
 use Rattle.disk_recordings.specs.Agreement.{Agrees}
 use Rattle.disk_recordings.specs.Recordings.{DiskRecording, numbered_by, recording_of}
 use Rattle.disk_recordings.specs.contracts.meaning.DiskRecordingMeaning.TheImpl.{ghosts}
@@ -56,15 +56,6 @@ agrees C1541 id = search (rules, arith, commodore_cells, commodore_sectors)
 agrees C1541Forty id = search (rules, arith, commodore_cells, commodore_sectors)
 agrees AppleDo id = search (rules, arith)
 agrees ApplePo id = search (rules, arith)
-agrees Ibm160 id = search (rules, arith)
-agrees Ibm180 id = search (rules, arith)
-agrees Ibm320 id = search (rules, arith)
-agrees Ibm1200 id = search (rules, arith)
-agrees AtariSt800 id = search (rules, arith)
-agrees CpcData id = search (rules, arith)
-agrees CpcSystem id = search (rules, arith)
-agrees AcornDfs40 id = search (rules, arith)
-agrees AcornDfs80 id = search (rules, arith)
 agrees AppleDos33 id = search (rules, arith)
 agrees AppleProdos id = search (rules, arith)
 agrees Mac400 id = search (rules, arith, macintosh_cells, macintosh_sectors)

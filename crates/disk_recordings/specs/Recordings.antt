@@ -12,13 +12,13 @@ use Rattle.ibm_disks.specs.declared.rate.Density.{Density}
 use Rattle.ibm_disks.specs.declared.rate.Density.TheVariants.{Single as SingleDensity, Double as DoubleDensity}
 use Rattle.ibm_disks.specs.declared.track_numbers.TrackNumbers.{TrackNumbers}
 use Rattle.ibm_fm.specs.declared.recording.IbmFm.{IbmFm}
-use Rattle.ibm_fm.specs.Disks.{acorn, ibm_3740}
+use Rattle.ibm_fm.specs.Disks.{ibm_3740}
 use Rattle.ibm_mfm.specs.declared.recording.IbmMfm.{IbmMfm}
-use Rattle.ibm_mfm.specs.Disks.{atari_10, cpc_data, cpc_system, pc_15, pc_18, pc_8, pc_9}
+use Rattle.ibm_mfm.specs.Disks.{pc_18, pc_9}
 use Rattle.macintosh_gcr.specs.declared.recording.MacintoshGcr.{MacintoshGcr}
 use Rattle.macintosh_gcr.specs.declared.recording.MacintoshGcr.TheVariants.{SingleSided, DoubleSided}
 use Rattle.sector_images.specs.declared.format.Format.{Format}
-use Rattle.sector_images.specs.declared.format.Format.TheVariants.{Ibm3740, Ibm360, Ibm720, Ibm1440, Amiga, C1541, C1541Forty, AppleDo, ApplePo, Ibm160, Ibm180, Ibm320, Ibm1200, AtariSt800, CpcData, CpcSystem, AcornDfs40, AcornDfs80, AppleDos33, AppleProdos, Mac400, Mac800, C1571, AmigaHd, Numbered}
+use Rattle.sector_images.specs.declared.format.Format.TheVariants.{Ibm3740, Ibm360, Ibm720, Ibm1440, Amiga, C1541, C1541Forty, AppleDo, ApplePo, AppleDos33, AppleProdos, Mac400, Mac800, C1571, AmigaHd, Numbered}
 use Rattle.disk_recordings.specs.declared.disk_id.DiskId.{DiskId}
 
 -- one of the recordings
@@ -41,15 +41,6 @@ recording_of C1541 id = Right (Right (Right (Left (record { id1 = id.first; id2 
 recording_of C1541Forty id = Right (Right (Right (Left (record { id1 = id.first; id2 = id.second }))))
 recording_of AppleDo id = Right (Right (Right (Right (Left (record { rule = Strict })))))
 recording_of ApplePo id = Right (Right (Right (Right (Left (record { rule = Strict })))))
-recording_of Ibm160 id = Right (Left pc_8)
-recording_of Ibm180 id = Right (Left pc_9)
-recording_of Ibm320 id = Right (Left pc_8)
-recording_of Ibm1200 id = Right (Left pc_15)
-recording_of AtariSt800 id = Right (Left atari_10)
-recording_of CpcData id = Right (Left cpc_data)
-recording_of CpcSystem id = Right (Left cpc_system)
-recording_of AcornDfs40 id = Left acorn
-recording_of AcornDfs80 id = Left acorn
 recording_of AppleDos33 id = Right (Right (Right (Right (Left (record { rule = Controller })))))
 recording_of AppleProdos id = Right (Right (Right (Right (Left (record { rule = Controller })))))
 recording_of Mac400 id = Right (Right (Right (Right (Right SingleSided))))

@@ -32,14 +32,8 @@ pub fn recording_of(format: Format, id: DiskId) -> DiskRecording
 {
     match format {
         Format::Ibm3740 => Left(IbmFm::IBM_3740),
-        Format::Ibm160 | Format::Ibm320 => Right(Left(IbmMfm::PC_8)),
-        Format::Ibm180 | Format::Ibm360 | Format::Ibm720 => Right(Left(IbmMfm::PC_9)),
-        Format::Ibm1200 => Right(Left(IbmMfm::PC_15)),
+        Format::Ibm360 | Format::Ibm720 => Right(Left(IbmMfm::PC_9)),
         Format::Ibm1440 => Right(Left(IbmMfm::PC_18)),
-        Format::AtariSt800 => Right(Left(IbmMfm::ATARI_10)),
-        Format::CpcData => Right(Left(IbmMfm::CPC_DATA)),
-        Format::CpcSystem => Right(Left(IbmMfm::CPC_SYSTEM)),
-        Format::AcornDfs40 | Format::AcornDfs80 => Left(IbmFm::ACORN),
         Format::Amiga => Right(Right(Left(AmigaMfm::DoubleDensity))),
         Format::AmigaHd => Right(Right(Left(AmigaMfm::HighDensity))),
         Format::C1541 | Format::C1541Forty | Format::C1571 => {

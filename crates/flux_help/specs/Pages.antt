@@ -1,8 +1,9 @@
 -- What the program says of itself.
 use Rattle.std.specs.Prelude.{ℕ, List, ◌++◌, codes, decimal, flat_map}
+use Rattle.ibm_disks.specs.Disks.{disk_label}
 use Rattle.sector_images.specs.Formats.{formats, row}
 use Rattle.sector_images.specs.declared.format.Format.{Format}
-use Rattle.sector_images.specs.declared.format.Format.TheVariants.{Ibm3740, Ibm360, Ibm720, Ibm1440, Amiga, AmigaHd, C1541, C1541Forty, C1571, AppleDo, ApplePo, Ibm160, Ibm180, Ibm320, Ibm1200, AtariSt800, CpcData, CpcSystem, AcornDfs40, AcornDfs80, AppleDos33, AppleProdos, Mac400, Mac800, Numbered}
+use Rattle.sector_images.specs.declared.format.Format.TheVariants.{Ibm3740, Ibm360, Ibm720, Ibm1440, Amiga, AmigaHd, C1541, C1541Forty, C1571, AppleDo, ApplePo, AppleDos33, AppleProdos, Mac400, Mac800, Numbered}
 use Rattle.flux_help.specs.Verbs.{verb_row, verbs}
 use Rattle.flux_help.specs.declared.page.Page.{Page}
 use Rattle.flux_help.specs.declared.page.Page.TheVariants.{Help, Version, About}
@@ -43,20 +44,11 @@ disk_name C1541Forty = codes "Commodore 1541, 40 cylinders, 21 to 17 sectors"
 disk_name C1571 = codes "Commodore 1571, 35 cylinders, 2 heads, 21 to 17 sectors"
 disk_name AppleDo = codes "Apple II, exact to the cell, in the order of DOS 3.3, 35 cylinders, 16 sectors"
 disk_name ApplePo = codes "Apple II, exact to the cell, in the order of ProDOS, 35 cylinders, 16 sectors"
-disk_name Ibm160 = codes "PC, 5.25-inch, 40 cylinders, 8 sectors"
-disk_name Ibm180 = codes "PC, 5.25-inch, 40 cylinders, 9 sectors"
-disk_name Ibm320 = codes "PC, 5.25-inch, 40 cylinders, 2 heads, 8 sectors"
-disk_name Ibm1200 = codes "PC, 5.25-inch, high density, 80 cylinders, 2 heads, 15 sectors"
-disk_name AtariSt800 = codes "Atari ST, 3.5-inch, 80 cylinders, 2 heads, 10 sectors"
-disk_name CpcData = codes "Amstrad CPC, 40 cylinders, 9 sectors from C1"
-disk_name CpcSystem = codes "Amstrad CPC, 40 cylinders, 9 sectors from 41"
-disk_name AcornDfs40 = codes "Acorn DFS, 40 cylinders, 10 sectors"
-disk_name AcornDfs80 = codes "Acorn DFS, 80 cylinders, 10 sectors"
 disk_name AppleDos33 = codes "Apple II, as DOS 3.3 wrote it, 35 cylinders, 16 sectors"
 disk_name AppleProdos = codes "Apple II, as ProDOS wrote it, 35 cylinders, 16 sectors"
 disk_name Mac400 = codes "Macintosh, 3.5-inch, 80 cylinders, 12 to 8 sectors"
 disk_name Mac800 = codes "Macintosh, 3.5-inch, 80 cylinders, 2 heads, 12 to 8 sectors"
-disk_name (Numbered disk) = codes "a disk by its numbers"
+disk_name (Numbered disk) = disk_label disk
 
 -- a word, a disk's name and a number of bytes in one line
 unfoldable pub disk_text : (word name : List ℕ) → (bytes : ℕ) → List ℕ

@@ -119,19 +119,10 @@ fn disk_name(format: Format) -> &'static str
             "Apple II, exact to the cell, in the order of DOS 3.3, 35 cylinders, 16 sectors",
         Format::ApplePo =>
             "Apple II, exact to the cell, in the order of ProDOS, 35 cylinders, 16 sectors",
-        Format::Ibm160 => "PC, 5.25-inch, 40 cylinders, 8 sectors",
-        Format::Ibm180 => "PC, 5.25-inch, 40 cylinders, 9 sectors",
-        Format::Ibm320 => "PC, 5.25-inch, 40 cylinders, 2 heads, 8 sectors",
-        Format::Ibm1200 => "PC, 5.25-inch, high density, 80 cylinders, 2 heads, 15 sectors",
-        Format::AtariSt800 => "Atari ST, 3.5-inch, 80 cylinders, 2 heads, 10 sectors",
-        Format::CpcData => "Amstrad CPC, 40 cylinders, 9 sectors from C1",
-        Format::CpcSystem => "Amstrad CPC, 40 cylinders, 9 sectors from 41",
-        Format::AcornDfs40 => "Acorn DFS, 40 cylinders, 10 sectors",
-        Format::AcornDfs80 => "Acorn DFS, 80 cylinders, 10 sectors",
         Format::AppleDos33 => "Apple II, as DOS 3.3 wrote it, 35 cylinders, 16 sectors",
         Format::AppleProdos => "Apple II, as ProDOS wrote it, 35 cylinders, 16 sectors",
         Format::Mac400 => "Macintosh, 3.5-inch, 80 cylinders, 12 to 8 sectors",
         Format::Mac800 => "Macintosh, 3.5-inch, 80 cylinders, 2 heads, 12 to 8 sectors",
-        Format::Numbered(_) => "a disk by its numbers",
+        Format::Numbered(disk) => disk.label(),
     }
 }

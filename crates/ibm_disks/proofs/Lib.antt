@@ -2,3 +2,4 @@ mod Digits
 mod Splits
 mod Tracks
 mod Printed
+mod Names

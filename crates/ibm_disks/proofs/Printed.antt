@@ -1,4 +1,4 @@
--- The word that is printed of a disk writes its numbers.
+-- A word names one disk, and the word that is printed of a disk names it.
 use Rattle.std.specs.Prelude.{◌≡◌, ◌⊎◌, ℕ, ◌+◌, List, [], ◌∷◌, ◌++◌, Bool, true, false, nat_eq, nat_le, if◌then◌else◌, decimal, Option, Some, None, refl}
 use Rattle.std.proofs.Common.{ap, append-nil, inl, inr, sym, subst, ◌∙◌}
 use Rattle.std.proofs.lemmas.Bool.{eqb-true}
@@ -11,11 +11,14 @@ use Rattle.ibm_disks.specs.declared.sector_size.SectorSize.{SectorSize}
 use Rattle.ibm_disks.specs.declared.track_numbers.LeadIn.TheVariants.{Indexed}
 use Rattle.ibm_disks.specs.declared.track_numbers.TrackNumbers.{TrackNumbers}
 use Rattle.ibm_disks.specs.declared.word.DiskNumbers.{DiskNumbers}
-use Rattle.ibm_disks.specs.Disks.{IsDiskOf, PrintedWordsNameDisks, cylinders_of, disk_word, heads_of, rate_of, track_of_disk}
+use Rattle.ibm_disks.specs.Disks.{IsDiskOf, IsWordOfDisk, PrintedWordsNameDisks, WordsNameDisks, WritesDisk, cylinders_of, disk_word, heads_of, rate_of, sound, track_of_disk, word_by}
+use Rattle.ibm_disks.specs.Named.{NamedDisk, named_as, named_disks, same_disk}
 use Rattle.ibm_disks.specs.Numbers.{FM_AROUND, fm_before, mfm_around, mfm_before, size_of}
 use Rattle.ibm_disks.specs.Plans.{bare_track, density_of, if_wide, indexed_track, track_at, track_of}
 use Rattle.ibm_disks.specs.Words.{EndsWith, IsWordOf, first_word}
-use Rattle.ibm_disks.proofs.Tracks.{chosen-is, same-numbers, some-one}
+use Rattle.ibm_disks.specs.lemmas.WordLaws.{writes-begins}
+use Rattle.ibm_disks.proofs.Names.{Finds, finds, named-found, named-made, no-numbers, one-name, same-is}
+use Rattle.ibm_disks.proofs.Tracks.{chosen-is, one-written, same-numbers, some-one}
 
 -- a track that was made has the sectors that were asked for
 abbrev AreAsked : Plan → TrackNumbers → Type 0
@@ -81,8 +84,7 @@ behind_heads n = decimal n.sectors ++ 120 ∷ behind_sectors n
 abbrev behind_cylinders : DiskNumbers → List ℕ
 behind_cylinders n = decimal n.heads ++ 120 ∷ behind_heads n
 
-written : (disk : IbmDisk) → IsWordOf (disk_word disk) (own disk)
-unfolding disk_word
+written : (disk : IbmDisk) → IsWordOf (word_by None disk) (own disk)
 written disk = record {
   rest = decimal (own disk).cylinders ++ 120 ∷ behind_cylinders (own disk);
   is = refl;
@@ -103,9 +105,37 @@ are_own n disk is =
     let parts = asked_of n.rate n.sectors n.first_sector is.track.size (track_of_disk disk) is.track.is in
     same-numbers n (own disk) (sym is.rate) (sym is.cylinders) (sym is.heads) (sym parts.0) (sym is.track.bytes ∙ ap size_of (sym parts.2)) (sym parts.1)
 
-pub printed_words_name_disks : PrintedWordsNameDisks
-printed_words_name_disks word disk is = record {
+-- a word is a name or writes numbers, not both
+pub words_name_disks : WordsNameDisks
+words_name_disks word a b (inl is) (inl is') = one-name word a b is is'
+words_name_disks word a b (inl is) (inr is') = absurd (no-numbers word a is (writes-begins word b is'))
+words_name_disks word a b (inr is) (inl is') = absurd (no-numbers word b is' (writes-begins word a is))
+words_name_disks word a b (inr is) (inr is') = one-written word a b is is'
+
+writes_own : (word : List ℕ) (disk : IbmDisk) → WritesDisk word disk → WritesDisk (word_by None disk) disk
+writes_own word disk is = record {
   numbers = own disk;
   written = written disk;
   is = subst (λ (m : DiskNumbers). IsDiskOf m disk) (are_own is.numbers disk is.is) is.is;
 }
+
+means_itself : (word : List ℕ) (disk : IbmDisk) → IsWordOfDisk word disk → sound disk ≡ disk
+means_itself word disk (inl is) = named-made word disk is
+means_itself word disk (inr is) = is.is.made
+
+module _ (word : List ℕ) (disk : IbmDisk) where
+  -- by whether it has a name
+  printed : (o : Option NamedDisk) → Finds (λ row. same_disk row.disk (sound disk)) named_disks o → IsWordOfDisk word disk → IsWordOfDisk (word_by o disk) disk
+  printed None none (inl is) = absurd (named-found word disk is none)
+  printed None none (inr is) = inr (writes_own word disk is)
+  printed (Some row) found is = inl (record {
+    row = row;
+    listed = found.1;
+    word_is = refl;
+    disk_is = same-is row.disk (sound disk) found.0 ∙ means_itself word disk is;
+  })
+
+pub printed_words_name_disks : PrintedWordsNameDisks
+unfolding disk_word
+printed_words_name_disks word disk is =
+    printed word disk (named_as (sound disk)) (finds (λ row. same_disk row.disk (sound disk)) named_disks) is

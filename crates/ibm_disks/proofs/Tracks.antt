@@ -12,7 +12,7 @@ use Rattle.ibm_disks.specs.declared.track_numbers.TrackNumbers.{TrackNumbers}
 use Rattle.ibm_disks.specs.declared.word.DiskNumbers.{DiskNumbers}
 use Rattle.ibm_disks.specs.lemmas.DiskLaws.{is-sound}
 use Rattle.ibm_disks.specs.lemmas.NumberLaws.{size-most}
-use Rattle.ibm_disks.specs.Disks.{HasTrack, IsDiskOf, IsWordOfDisk, WordsNameDisks, sound, track_of_disk}
+use Rattle.ibm_disks.specs.Disks.{HasTrack, IsDiskOf, WritesDisk, sound, track_of_disk}
 use Rattle.ibm_disks.specs.Numbers.{size_of}
 use Rattle.ibm_disks.specs.Plans.{FillsTrackOf, density_of, track_at, track_of}
 use Rattle.ibm_disks.specs.Words.{AreBehindRate, AreShort, EndsWith, HasNo, IsWordOf, density_word, rate_word}
@@ -165,7 +165,7 @@ module _ (m n : DiskNumbers) (short : AreShort m) (short' : AreShort n) where
 
 -- so where its numbers are no disk's, it names none
 pub no-disk : (word : List ℕ) (n : DiskNumbers) (o : Option IbmDisk) → IsWordOf word n → AreShort n → IfNone o ((disk : IbmDisk) → ¬ IsDiskOf n disk)
-    → IfNone o ((disk : IbmDisk) → ¬ IsWordOfDisk word disk)
+    → IfNone o ((disk : IbmDisk) → ¬ WritesDisk word disk)
 no-disk word n None written short none = λ disk is.
     let same = one-word is.numbers n (are-short is.numbers disk is.is) short word is.written written in
     none disk (subst (λ (m : DiskNumbers). IsDiskOf m disk) same is.is)
@@ -180,7 +180,7 @@ one-track n a b has has' =
     let size = one-size has.size has'.size (has.bytes ∙ sym has'.bytes) in
     some-one a b (sym has.is ∙ ap (track_of n.rate n.sectors n.first_sector) size ∙ has'.is)
 
-same-disk : (a b : IbmDisk) → a.cylinders ≡ b.cylinders → a.heads ≡ b.heads → a.rate ≡ b.rate → a.track ≡ b.track → a ≡ b
+pub same-disk : (a b : IbmDisk) → a.cylinders ≡ b.cylinders → a.heads ≡ b.heads → a.rate ≡ b.rate → a.track ≡ b.track → a ≡ b
 same-disk a b cylinders heads rate track =
     ap (λ (k : ℕ). disk k a.heads a.rate a.track) cylinders
     ∙ ap (λ (k : ℕ). disk b.cylinders k a.rate a.track) heads
@@ -198,8 +198,8 @@ one-disk n a b is is' =
     (one-track n (track_of_disk a) (track_of_disk b) is.track is'.track) in
     sym is.made ∙ same ∙ is'.made
 
--- and a word is
-pub words_name_disks : WordsNameDisks
-words_name_disks word a b is is' =
+-- and a word writes those of one
+pub one-written : (word : List ℕ) (a b : IbmDisk) → WritesDisk word a → WritesDisk word b → a ≡ b
+one-written word a b is is' =
     let same = one-word is'.numbers is.numbers (are-short is'.numbers b is'.is) (are-short is.numbers a is.is) word is'.written is.written in
     one-disk is.numbers a b is.is (subst (λ (m : DiskNumbers). IsDiskOf m b) same is'.is)

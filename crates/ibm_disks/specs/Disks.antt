@@ -1,5 +1,5 @@
 -- The disks that numbers make, and the words that name them.
-use Rattle.std.specs.Prelude.{◌≡◌, ℕ, ◌+◌, ◌≤◌, Bool, ◌&&◌, nat_eq, nat_le, nat_lt, if◌then◌else◌, List, Some}
+use Rattle.std.specs.Prelude.{◌≡◌, ◌⊎◌, ℕ, ◌+◌, ◌≤◌, Bool, ◌&&◌, nat_eq, nat_le, nat_lt, if◌then◌else◌, codes, Contains, List, Option, Some, None}
 use Rattle.ibm_disks.specs.declared.disk.IbmDisk.{IbmDisk}
 use Rattle.ibm_disks.specs.declared.rate.Density.{Density}
 use Rattle.ibm_disks.specs.declared.rate.Density.TheVariants.{Single as SingleDensity, Double as DoubleDensity}
@@ -8,6 +8,7 @@ use Rattle.ibm_disks.specs.declared.rate.Rate.TheVariants.{Double}
 use Rattle.ibm_disks.specs.declared.sector_size.SectorSize.{SectorSize}
 use Rattle.ibm_disks.specs.declared.track_numbers.TrackNumbers.{TrackNumbers}
 use Rattle.ibm_disks.specs.declared.word.DiskNumbers.{DiskNumbers}
+use Rattle.ibm_disks.specs.Named.{NamedDisk, named_as, named_disks}
 use Rattle.ibm_disks.specs.Numbers.{FM_AROUND, fm_before, mfm_around, mfm_before, size_of, used}
 use Rattle.ibm_disks.specs.Plans.{FillsTrackOf, density_of, track_bytes, track_of}
 use Rattle.ibm_disks.specs.Tracks.{pc_9}
@@ -51,9 +52,20 @@ rate_of disk = (sound disk).rate
 abbrev pub track_of_disk : IbmDisk → TrackNumbers
 track_of_disk disk = (sound disk).track
 
--- the word that is printed of a disk
+-- The word that is printed of a disk: its name, where it has one, or else the word of its numbers. What people call it is said likewise.
+abbrev pub word_by : Option NamedDisk → IbmDisk → List ℕ
+word_by (Some named) disk = named.word
+word_by None disk = numbers_word (rate_of disk) (cylinders_of disk) (heads_of disk) (track_of_disk disk)
+
 unfoldable pub disk_word : IbmDisk → List ℕ
-disk_word disk = numbers_word (rate_of disk) (cylinders_of disk) (heads_of disk) (track_of_disk disk)
+disk_word disk = word_by (named_as (sound disk)) disk
+
+abbrev pub label_by : Option NamedDisk → List ℕ
+label_by (Some named) = named.label
+label_by None = codes "a disk by its numbers"
+
+unfoldable pub disk_label : IbmDisk → List ℕ
+disk_label disk = label_by (named_as (sound disk))
 
 -- what holds of every disk
 pub record HasDisk (disk : IbmDisk) : Type 0 where
@@ -82,10 +94,21 @@ pub record IsDiskOf (n : DiskNumbers) (disk : IbmDisk) : Type 0 where
   pub track : HasTrack n (track_of_disk disk)
 
 -- the word writes the numbers of this disk
-pub record IsWordOfDisk (word : List ℕ) (disk : IbmDisk) : Type 0 where
+pub record WritesDisk (word : List ℕ) (disk : IbmDisk) : Type 0 where
   pub numbers : DiskNumbers
   pub written : IsWordOf word numbers
   pub is : IsDiskOf numbers disk
+
+-- the word is the name of this disk
+pub record IsNameOf (word : List ℕ) (disk : IbmDisk) : Type 0 where
+  pub row : NamedDisk
+  pub listed : Contains named_disks row
+  pub word_is : row.word ≡ word
+  pub disk_is : row.disk ≡ disk
+
+-- the word names this disk, by its name or by its numbers
+abbrev pub IsWordOfDisk : List ℕ → IbmDisk → Type 0
+IsWordOfDisk word disk = IsNameOf word disk ⊎ WritesDisk word disk
 
 -- a word names one disk
 abbrev pub WordsNameDisks : Type 0

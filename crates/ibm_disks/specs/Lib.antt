@@ -2,5 +2,6 @@ pub mod Numbers
 pub mod Tracks
 pub mod Plans
 pub mod Words
+pub mod Named
 pub mod Disks
 pub mod lemmas

@@ -2,3 +2,4 @@
 pub mod NumberLaws
 pub mod PlanLaws
 pub mod DiskLaws
+pub mod WordLaws

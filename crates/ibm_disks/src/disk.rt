@@ -1,10 +1,12 @@
-ghost use Rattle.std.specs.Prelude.{◌≡◌, IfNone, IfSome};
-ghost use Rattle.ibm_disks.specs.Disks.{AllHaveDisks, HasTrack, IsDiskOf, IsWordOfDisk, PrintedWordsNameDisks, WordsNameDisks, are_few, cylinders_of, disk_word, fill_at, heads_of, is_disk, rate_of, sound, track_of_disk};
+ghost use Rattle.std.specs.Prelude.{◌≡◌, ◌≤◌, IfNone, IfSome, length};
+ghost use Rattle.ibm_disks.specs.Disks.{AllHaveDisks, HasTrack, IsDiskOf, IsWordOfDisk, PrintedWordsNameDisks, WordsNameDisks, WritesDisk, are_few, cylinders_of, disk_label, disk_word, fill_at, heads_of, is_disk, rate_of, sound, track_of_disk};
+ghost use Rattle.ibm_disks.specs.Named.{same_disk};
 ghost use Rattle.ibm_disks.specs.Plans.{FillsTrackOf, density_of};
 
+use crate::named::{disk_named, named_as};
 use crate::rate::{Density, Rate};
 use crate::sector_size::SectorSize;
-use crate::text::{DiskWord, disk_word};
+use crate::text::{DiskWord, disk_word, name_word};
 use crate::track_numbers::TrackNumbers;
 use crate::word::DiskNumbers;
 
@@ -20,10 +22,10 @@ const GREATEST_SECTOR: u16 = 255;
 /// A disk by its numbers, of which there is such a track.
 #[derive(Clone, Copy, Debug, PartialEq, Eq)]
 pub struct IbmDisk {
-    cylinders: u8,
-    heads: u8,
-    rate: Rate,
-    track: TrackNumbers,
+    pub(crate) cylinders: u8,
+    pub(crate) heads: u8,
+    pub(crate) rate: Rate,
+    pub(crate) track: TrackNumbers,
 }
 
 impl IbmDisk {
@@ -35,10 +37,21 @@ impl IbmDisk {
         track: TrackNumbers::PC_9,
     };
 
-    /// The disk that a word names by its numbers, if there is one.
+    /// The disk that a word names, by a name of its own or by its numbers, if there is one.
     pub fn of_word(word: &[u8]) -> Option<IbmDisk>
         ensures some { IfSome result (IsWordOfDisk word.now) }
         ensures none { IfNone result ((disk : IbmDisk) → ¬ IsWordOfDisk word.now disk) }
+    {
+        match disk_named(word) {
+            Some(disk) => Some(disk),
+            None => IbmDisk::written(word),
+        }
+    }
+
+    /// The disk whose numbers a word writes, if there is one.
+    fn written(word: &[u8]) -> Option<IbmDisk>
+        ensures some { IfSome result (WritesDisk word.now) }
+        ensures none { IfNone result ((disk : IbmDisk) → ¬ WritesDisk word.now disk) }
     {
         match DiskNumbers::of_word(word) {
             Some(numbers) => IbmDisk::of_numbers(numbers),
@@ -103,12 +116,37 @@ impl IbmDisk {
         self.sound().track
     }
 
-    /// The word that writes it, where one does.
+    /// Its name, where it has one, and else the word that writes its numbers, where one does.
     #[tactic(auto, unfolding(crate::specs::Disks::disk_word))]
     pub fn word(self) -> DiskWord
         ensures { result.bytes ≡ disk_word self }
     {
-        disk_word(self.rate(), self.cylinders(), self.heads(), self.track())
+        match named_as(self.sound()) {
+            Some(named) => name_word(named.word),
+            None => disk_word(self.rate(), self.cylinders(), self.heads(), self.track()),
+        }
+    }
+
+    /// What people call it, its cylinders, its heads where there are two, and the sectors of a track, where it has a name.
+    #[tactic(auto, unfolding(crate::specs::Disks::disk_label))]
+    pub fn label(self) -> &'static str
+        ensures text { result.now ≡ disk_label self }
+        ensures short { length result.now ≤ 100 }
+    {
+        match named_as(self.sound()) {
+            Some(named) => named.label,
+            None => "a disk by its numbers",
+        }
+    }
+
+    /// Whether these are its numbers.
+    pub(crate) fn is(self, other: IbmDisk) -> bool
+        ensures { result ≡ same_disk self other }
+    {
+        let cylinders = self.cylinders == other.cylinders;
+        let heads = self.heads == other.heads;
+        let rate = self.rate.track_bytes() == other.rate.track_bytes();
+        cylinders && heads && rate && self.track.is(other.track)
     }
 
     /// The disk that the value means: itself, wherever one was made.
@@ -180,7 +218,7 @@ fn track_of(numbers: DiskNumbers) -> Option<TrackNumbers>
     TrackNumbers::of_disk(numbers.rate, sectors, first_sector, size)
 }
 
-/// A word names one disk, and where one does, so does the word that is printed of it.
+/// A word names one disk, and where one does, so does the word that is printed of it: its name, if it has one.
 pub fn words_name_disks()
     ensures one { WordsNameDisks }
     ensures printed { PrintedWordsNameDisks }

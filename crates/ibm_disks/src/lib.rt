@@ -3,6 +3,7 @@
 #![tactic(auto)]
 
 mod disk;
+mod named;
 mod plan;
 mod rate;
 mod sector_size;
@@ -13,6 +14,6 @@ mod word;
 pub use disk::{IbmDisk, disks_have_tracks, words_name_disks};
 pub use rate::{Density, Rate};
 pub use sector_size::SectorSize;
-pub use text::DiskWord;
+pub use text::{DiskWord, name_word};
 pub use track_numbers::{LeadIn, TrackNumbers};
 pub use word::DiskNumbers;

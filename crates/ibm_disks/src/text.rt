@@ -1,4 +1,4 @@
-//! The word that writes a disk by its numbers.
+//! The words of disks.
 
 ghost use Rattle.std.specs.Prelude.{◌≡◌, ◌+◌, ◌≤◌, ◌++◌, decimal, length};
 ghost use Rattle.arrayvec.specs.ArrayString.{array_string_len};
@@ -29,6 +29,16 @@ pub(crate) fn disk_word(rate: Rate, cylinders: u8, heads: u8, track: TrackNumber
     put(&mut word, "x");
     put_bytes(&mut word, track.size.bytes());
     put_first(&mut word, track.first_sector);
+    word
+}
+
+/// A name as a word.
+pub fn name_word(name: &str) -> DiskWord
+    requires { length name.now ≤ 32 }
+    ensures { result.bytes ≡ name.now }
+{
+    let mut word = DiskWord::new();
+    word.push_str(name);
     word
 }
 

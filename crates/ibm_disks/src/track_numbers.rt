@@ -1,5 +1,6 @@
 ghost use Rattle.std.specs.Prelude.{◌≡◌, ◌*◌, ◌-◌, IsFalse, IsTrue};
 ghost use Rattle.ibm_disks.specs.Numbers.{FillTrack, fm_before as fm_bytes_before, mfm_before as mfm_bytes_before, mfm_zeros as mfm_zeros_of, used as used_by};
+ghost use Rattle.ibm_disks.specs.Named.{same_track};
 
 use crate::sector_size::SectorSize;
 
@@ -151,6 +152,17 @@ impl TrackNumbers {
         sector_gap: 21,
         bytes: 3125,
     };
+
+    /// Whether these are the same numbers.
+    pub(crate) fn is(self, other: TrackNumbers) -> bool
+        ensures { result ≡ same_track self other }
+    {
+        let sectors = self.sectors == other.sectors && self.first_sector == other.first_sector;
+        let size = self.size.bytes() == other.size.bytes();
+        let lead_in = self.lead_in.mfm_before() == other.lead_in.mfm_before();
+        let gap = self.sector_gap == other.sector_gap;
+        sectors && size && lead_in && gap && self.bytes == other.bytes
+    }
 
     /// Whether the numbers fill a track, where so many bytes stand before the first sector, and each sector has so many
     /// beside its own bytes and the gap after it.

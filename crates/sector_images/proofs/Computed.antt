@@ -17,9 +17,9 @@ use Rattle.sector_images.specs.declared.format.Format.{Format}
 use Rattle.sector_images.specs.declared.format.Format.TheVariants.{Numbered}
 use Rattle.sector_images.specs.declared.format.TrackOrder.{TrackOrder}
 use Rattle.sector_images.specs.declared.format.TrackOrder.TheVariants.{ByCylinder, ByHead}
-use Rattle.sector_images.specs.Formats.{formats, row, track_order, zone}
+use Rattle.sector_images.specs.Formats.{row, track_order, zone}
 use Rattle.sector_images.specs.Places.{FormatsHaveTracks, ImagesAreSmall, IsTrack, TracksAreFew, TracksKeepBounds, tracks, bytes_of, place_of, sectors_before, sectors_before_track}
-use Rattle.sector_images.proofs.EachFormat.{each_below, each_format, each_named}
+use Rattle.sector_images.proofs.EachFormat.{each_below, each_format, each_row, rows}
 use Rattle.sector_images.proofs.Grids.{weigh-within}
 use Rattle.sector_images.proofs.Numbered.{before_few, before_numbered, bounds_of, image_few, tracks_few}
 use Rattle.sector_images.proofs.Orders.{before_track, bytes_before, bytes_of_all, length_tracks, number_within, numbered, track_of}
@@ -35,13 +35,13 @@ abbrev pub counted : Format → ℕ → TrackId
 counted f n = numbered (track_order f) (row f).cylinders (row f).heads n
 
 -- what holds of each format
-some_cylinders_test : list_all (λ f. nat_lt 0 (row f).cylinders) formats ≡ true
+some_cylinders_test : list_all (λ f. nat_lt 0 (row f).cylinders) rows ≡ true
 some_cylinders_test = refl
 
-some_test : list_all (λ f. nat_lt 0 (row f).heads) formats ≡ true
+some_test : list_all (λ f. nat_lt 0 (row f).heads) rows ≡ true
 some_test = refl
 
-two_test : list_all (λ f. nat_lt (row f).heads 3) formats ≡ true
+two_test : list_all (λ f. nat_lt (row f).heads 3) rows ≡ true
 two_test = refl
 
 -- there is a cylinder at least
@@ -57,7 +57,7 @@ some_heads f =
     let two : (row f).heads < 3 = ltb-true _ _ (each_format (λ g. nat_lt (row g).heads 3) two_test (λ d. lt-ltb _ _ (let has = all_have_disks d in omega (arith, has.few_heads))) f) in
     (omega (arith, some), omega (arith, two))
 
-sum_test : list_all (λ f. nat_eq (row f).image_size (sectors_before f (row f).cylinders * (row f).heads * (row f).sector_size)) formats ≡ true
+sum_test : list_all (λ f. nat_eq (row f).image_size (sectors_before f (row f).cylinders * (row f).heads * (row f).sector_size)) rows ≡ true
 unfolding sectors_before
 sum_test = refl
 
@@ -71,7 +71,7 @@ size_is_sum f =
 pub track_number : (f : Format) → (row f).cylinders * (row f).heads ≡ length (tracks f)
 track_number f = sym (length_tracks (row f).cylinders (row f).heads (track_order f))
 
-small_test : list_all (λ f. nat_lt (row f).image_size (2 ^ 32)) formats ≡ true
+small_test : list_all (λ f. nat_lt (row f).image_size (2 ^ 32)) rows ≡ true
 small_test = refl
 
 pub image_small : (f : Format) → (row f).image_size < 2 ^ 32
@@ -83,7 +83,7 @@ have_tracks f =
     let some : (row f).cylinders * 1 ≤ (row f).cylinders * (row f).heads = mul-le-mul_left (row f).cylinders (some_heads f).0 in
     omega (arith, some, some_cylinders f, track_number f)
 
-few_test : list_all (λ f. nat_lt ((row f).cylinders * (row f).heads) 1001) formats ≡ true
+few_test : list_all (λ f. nat_lt ((row f).cylinders * (row f).heads) 1001) rows ≡ true
 few_test = refl
 
 pub few_tracks : TracksAreFew
@@ -91,7 +91,7 @@ few_tracks f =
     let few : (row f).cylinders * (row f).heads < 1001 = ltb-true _ _ (each_format (λ g. nat_lt ((row g).cylinders * (row g).heads) 1001) few_test (λ d. lt-ltb _ _ (omega (arith, tracks_few d))) f) in
     omega (arith, few, track_number f)
 
-before_small_test : list_all (λ f. list_all (λ b. b) (map (λ c. nat_lt (sectors_before f c) 65536) (range_with_len 0 (suc (row f).cylinders)))) formats ≡ true
+before_small_test : list_all (λ f. list_all (λ b. b) (map (λ c. nat_lt (sectors_before f c) 65536) (range_with_len 0 (suc (row f).cylinders)))) rows ≡ true
 unfolding sectors_before
 before_small_test = refl
 
@@ -101,7 +101,7 @@ few_before (Numbered disk) c below = before_few disk c below
 few_before f c below =
     ltb-true _ _
     (each_below (λ n. nat_lt (sectors_before f n) 65536) (suc (row f).cylinders)
-    (each_named (λ g. list_all (λ b. b) (map (λ n. nat_lt (sectors_before g n) 65536) (range_with_len 0 (suc (row g).cylinders)))) before_small_test f refl) c
+    (each_row (λ g. list_all (λ b. b) (map (λ n. nat_lt (sectors_before g n) 65536) (range_with_len 0 (suc (row g).cylinders)))) before_small_test f refl) c
     (omega (arith, below)))
 
 track_made : (t : TrackId) (c h : ℕ) → t.cylinder ≡ c → t.head ≡ h → t ≡ record { cylinder = c; head = h }
@@ -191,10 +191,10 @@ first_cylinder cylinders heads ByHead = zero-mod cylinders
 abbrev cylinders_pass : (Format → ℕ → Bool) → Format → Bool
 cylinders_pass test f = list_all (λ b. b) (map (test f) (range_with_len 0 (row f).cylinders))
 
-bounds : (test : Format → ℕ → Bool) → list_all (cylinders_pass test) formats ≡ true
+bounds : (test : Format → ℕ → Bool) → list_all (cylinders_pass test) rows ≡ true
     → ((disk : IbmDisk) (c : ℕ) → c < cylinders_of disk → test (Numbered disk) c ≡ true) → (f : Format) (t : TrackId) → IsTrack f t → test f t.cylinder ≡ true
 bounds test all numbered (Numbered disk) t known = numbered disk t.cylinder known.0
-bounds test all numbered f t known = each_below (test f) (row f).cylinders (each_named (cylinders_pass test) all f refl) t.cylinder known.0
+bounds test all numbered f t known = each_below (test f) (row f).cylinders (each_row (cylinders_pass test) all f refl) t.cylinder known.0
 
 pub keep_bounds : TracksKeepBounds
 keep_bounds f t known = record {

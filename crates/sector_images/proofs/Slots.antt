@@ -5,8 +5,8 @@ use Rattle.std.proofs.Common.{ap, sym, subst, ◌∙◌, arith}
 use Rattle.std.proofs.lemmas.Bool.{eq-eqb, eqb-true, ltb-true, ne_eqb}
 use Rattle.flux_base.specs.declared.track.TrackId.{TrackId}
 use Rattle.sector_images.specs.declared.format.Format.{Format}
-use Rattle.sector_images.specs.Formats.{formats, row, slot, slot_by, zone}
-use Rattle.sector_images.proofs.EachFormat.{each_below, each_format}
+use Rattle.sector_images.specs.Formats.{row, slot, slot_by, zone}
+use Rattle.sector_images.proofs.EachFormat.{each_below, each_format, rows}
 use Rattle.sector_images.specs.Places.{IsSector, NumbersHoldSectors, SectorsFillTracks, sector_in}
 
 -- the first number of a range that passes a test
@@ -41,7 +41,7 @@ in_order order number = unwrap_or (find (λ s. nat_eq (get_or order s 0) number)
 abbrev orders_pass : (List ℕ → ℕ → Bool) → Format → Bool
 orders_pass test f = unwrap_or (option_map (λ order. list_all (λ b. b) (map (test order) (range_with_len 0 16))) (row f).order) true
 
-each_order : (test : List ℕ → ℕ → Bool) → list_all (orders_pass test) formats ≡ true
+each_order : (test : List ℕ → ℕ → Bool) → list_all (orders_pass test) rows ≡ true
     → (f : Format) (order : List ℕ) → (row f).order ≡ Some order → (n : ℕ) → n < 16 → test order n ≡ true
 each_order test all f order is n below =
     let passes : list_all (λ b. b) (map (test order) (range_with_len 0 16)) ≡ true =
@@ -49,23 +49,23 @@ each_order test all f order is n below =
     ∙ each_format (orders_pass test) all (λ d. refl) f in
     each_below (test order) 16 passes n below
 
-below_test : list_all (orders_pass (λ order s. nat_lt (get_or order s 0) 16)) formats ≡ true
+below_test : list_all (orders_pass (λ order s. nat_lt (get_or order s 0) 16)) rows ≡ true
 below_test = refl
 
-found_test : list_all (orders_pass (λ order s. nat_eq (in_order order (get_or order s 0)) s)) formats ≡ true
+found_test : list_all (orders_pass (λ order s. nat_eq (in_order order (get_or order s 0)) s)) rows ≡ true
 found_test = refl
 
-holder_test : list_all (orders_pass (λ order n. nat_lt (in_order order n) 16)) formats ≡ true
+holder_test : list_all (orders_pass (λ order n. nat_lt (in_order order n) 16)) rows ≡ true
 holder_test = refl
 
-holds_test : list_all (orders_pass (λ order n. nat_eq (get_or order (in_order order n) 0) n)) formats ≡ true
+holds_test : list_all (orders_pass (λ order n. nat_eq (get_or order (in_order order n) 0) n)) rows ≡ true
 holds_test = refl
 
 -- a format with an order has sixteen sectors from 0 on
 abbrev sixteen : ℕ → Format → Bool
 sixteen cylinder f = unwrap_or (option_map (λ order. nat_eq (row f).first_sector 0 && nat_eq (zone f cylinder).sectors 16) (row f).order) true
 
-sixteen_test : (cylinder : ℕ) → list_all (sixteen cylinder) formats ≡ true
+sixteen_test : (cylinder : ℕ) → list_all (sixteen cylinder) rows ≡ true
 sixteen_test cylinder = refl
 
 and_both : (a b : Bool) → (a && b) ≡ true → (a ≡ true) × (b ≡ true)

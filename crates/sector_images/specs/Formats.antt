@@ -1,84 +1,33 @@
 -- The formats of sector images, a row for each.
-use Rattle.std.specs.Prelude.{◌≡◌, ◌≤◌, ℕ, ◌-◌, ◌*◌, Bool, true, false, List, [], ◌∷◌, codes, Contains, get_or, refl, Option, Some, None}
-use Rattle.std.proofs.Common.{arith}
+use Rattle.std.specs.Prelude.{◌≡◌, ◌≤◌, ℕ, ◌-◌, ◌*◌, Bool, true, false, List, [], ◌∷◌, ◌++◌, codes, get_or, map, Option, Some, None}
 use Rattle.disk_zones.specs.Units.{fine_units}
 use Rattle.disk_zones.specs.Zones.{commodore_inner, commodore_outer, macintosh_inner, macintosh_outer, zone_in}
 use Rattle.disk_zones.specs.declared.zones.Zone.{Zone}
 use Rattle.ibm_disks.specs.Disks.{IsWordOfDisk, cylinders_of, disk_word, heads_of, rate_of, track_of_disk}
+use Rattle.ibm_disks.specs.Named.{named_disks}
 use Rattle.ibm_disks.specs.Numbers.{size_of}
 use Rattle.ibm_disks.specs.declared.rate.Rate.{Rate}
 use Rattle.ibm_disks.specs.declared.rate.Rate.TheVariants.{Double, High, HighAt360, Single, SingleAt360}
 use Rattle.sector_images.specs.declared.format.Format.{Format}
 use Rattle.sector_images.specs.declared.format.TrackOrder.{TrackOrder}
 use Rattle.sector_images.specs.declared.format.TrackOrder.TheVariants.{ByCylinder, ByHead}
-use Rattle.sector_images.specs.declared.format.Format.TheVariants.{Ibm3740, Ibm360, Ibm720, Ibm1440, Amiga, C1541, C1541Forty, AppleDo, ApplePo, Ibm160, Ibm180, Ibm320, Ibm1200, AtariSt800, CpcData, CpcSystem, AcornDfs40, AcornDfs80, AppleDos33, AppleProdos, Mac400, Mac800, C1571, AmigaHd, Numbered}
+use Rattle.sector_images.specs.declared.format.Format.TheVariants.{Ibm3740, Ibm360, Ibm720, Ibm1440, Amiga, C1541, C1541Forty, AppleDo, ApplePo, AppleDos33, AppleProdos, Mac400, Mac800, C1571, AmigaHd, Numbered}
 
--- all formats that have a name
+-- the specified formats, and those of our own that are no disks of one of IBM's two recordings
+abbrev pub specified : List Format
+specified = Ibm3740 ∷ Ibm360 ∷ Ibm720 ∷ Ibm1440 ∷ Amiga ∷ C1541 ∷ C1541Forty ∷ AppleDo ∷ ApplePo ∷ []
+
+abbrev pub further : List Format
+further = AppleDos33 ∷ AppleProdos ∷ Mac400 ∷ Mac800 ∷ C1571 ∷ AmigaHd ∷ []
+
+-- all formats that have a name, in the order of their table
 abbrev pub formats : List Format
-formats =
-    Ibm3740 ∷ Ibm360 ∷ Ibm720 ∷ Ibm1440 ∷ Amiga ∷ C1541 ∷ C1541Forty ∷ AppleDo ∷ ApplePo
-    ∷ Ibm160 ∷ Ibm180 ∷ Ibm320 ∷ Ibm1200 ∷ AtariSt800 ∷ CpcData ∷ CpcSystem ∷ AcornDfs40 ∷ AcornDfs80
-    ∷ AppleDos33 ∷ AppleProdos ∷ Mac400 ∷ Mac800 ∷ C1571 ∷ AmigaHd ∷ []
+formats = specified ++ (map (λ named. Numbered named.disk) named_disks ++ further)
 
--- every other is a disk by its numbers
-abbrev pub has_name : Format → Bool
-has_name (Numbered disk) = false
-has_name format = true
-
--- where each that has a name stands among them
-abbrev pub number_of : Format → ℕ
-number_of Ibm3740 = 0
-number_of Ibm360 = 1
-number_of Ibm720 = 2
-number_of Ibm1440 = 3
-number_of Amiga = 4
-number_of C1541 = 5
-number_of C1541Forty = 6
-number_of AppleDo = 7
-number_of ApplePo = 8
-number_of Ibm160 = 9
-number_of Ibm180 = 10
-number_of Ibm320 = 11
-number_of Ibm1200 = 12
-number_of AtariSt800 = 13
-number_of CpcData = 14
-number_of CpcSystem = 15
-number_of AcornDfs40 = 16
-number_of AcornDfs80 = 17
-number_of AppleDos33 = 18
-number_of AppleProdos = 19
-number_of Mac400 = 20
-number_of Mac800 = 21
-number_of C1571 = 22
-number_of AmigaHd = 23
-number_of (Numbered disk) = 24
-
-unfoldable pub is_listed : (f : Format) → has_name f ≡ true → Contains formats f
-is_listed Ibm3740 named = (0, omega arith, refl)
-is_listed Ibm360 named = (1, omega arith, refl)
-is_listed Ibm720 named = (2, omega arith, refl)
-is_listed Ibm1440 named = (3, omega arith, refl)
-is_listed Amiga named = (4, omega arith, refl)
-is_listed C1541 named = (5, omega arith, refl)
-is_listed C1541Forty named = (6, omega arith, refl)
-is_listed AppleDo named = (7, omega arith, refl)
-is_listed ApplePo named = (8, omega arith, refl)
-is_listed Ibm160 named = (9, omega arith, refl)
-is_listed Ibm180 named = (10, omega arith, refl)
-is_listed Ibm320 named = (11, omega arith, refl)
-is_listed Ibm1200 named = (12, omega arith, refl)
-is_listed AtariSt800 named = (13, omega arith, refl)
-is_listed CpcData named = (14, omega arith, refl)
-is_listed CpcSystem named = (15, omega arith, refl)
-is_listed AcornDfs40 named = (16, omega arith, refl)
-is_listed AcornDfs80 named = (17, omega arith, refl)
-is_listed AppleDos33 named = (18, omega arith, refl)
-is_listed AppleProdos named = (19, omega arith, refl)
-is_listed Mac400 named = (20, omega arith, refl)
-is_listed Mac800 named = (21, omega arith, refl)
-is_listed C1571 named = (22, omega arith, refl)
-is_listed AmigaHd named = (23, omega arith, refl)
-is_listed (Numbered disk) named = absurd (cc)
+-- the format is none of IBM's disks by their numbers, so that it has a row of its own
+abbrev pub has_row : Format → Bool
+has_row (Numbered disk) = false
+has_row format = true
 
 -- what each physical sector of an Apple track holds, from sector 0 on: in DOS 3.3 a logical sector, in ProDOS a half block
 abbrev pub dos_order : List ℕ
@@ -183,87 +132,6 @@ row ApplePo = record {
   image_size = 143360;
   order = Some prodos_order;
 }
-row Ibm160 = record {
-  word = codes "ibm-160";
-  cylinders = 40;
-  heads = 1;
-  first_sector = 1;
-  sector_size = 512;
-  image_size = 163840;
-  order = None;
-}
-row Ibm180 = record {
-  word = codes "ibm-180";
-  cylinders = 40;
-  heads = 1;
-  first_sector = 1;
-  sector_size = 512;
-  image_size = 184320;
-  order = None;
-}
-row Ibm320 = record {
-  word = codes "ibm-320";
-  cylinders = 40;
-  heads = 2;
-  first_sector = 1;
-  sector_size = 512;
-  image_size = 327680;
-  order = None;
-}
-row Ibm1200 = record {
-  word = codes "ibm-1200";
-  cylinders = 80;
-  heads = 2;
-  first_sector = 1;
-  sector_size = 512;
-  image_size = 1228800;
-  order = None;
-}
-row AtariSt800 = record {
-  word = codes "atari-st-800";
-  cylinders = 80;
-  heads = 2;
-  first_sector = 1;
-  sector_size = 512;
-  image_size = 819200;
-  order = None;
-}
-row CpcData = record {
-  word = codes "cpc-data";
-  cylinders = 40;
-  heads = 1;
-  first_sector = 0xC1;
-  sector_size = 512;
-  image_size = 184320;
-  order = None;
-}
-row CpcSystem = record {
-  word = codes "cpc-system";
-  cylinders = 40;
-  heads = 1;
-  first_sector = 0x41;
-  sector_size = 512;
-  image_size = 184320;
-  order = None;
-}
-row AcornDfs40 = record {
-  word = codes "acorn-dfs-40";
-  cylinders = 40;
-  heads = 1;
-  first_sector = 0;
-  sector_size = 256;
-  image_size = 102400;
-  order = None;
-}
-row AcornDfs80 = record {
-  word = codes "acorn-dfs-80";
-  cylinders = 80;
-  heads = 1;
-  first_sector = 0;
-  sector_size = 256;
-  image_size = 204800;
-  order = None;
-}
 row AppleDos33 = record {
   word = codes "apple-dos33";
   cylinders = 35;
@@ -360,15 +228,6 @@ zone C1541 cylinder = commodore_zone cylinder
 zone C1541Forty cylinder = commodore_zone cylinder
 zone AppleDo cylinder = record { sectors = 16; nominal = fine_units 16; ring_cells = 49994 }
 zone ApplePo cylinder = record { sectors = 16; nominal = fine_units 16; ring_cells = 49994 }
-zone Ibm160 cylinder = record { sectors = 8; nominal = fine_units 8; ring_cells = 100000 }
-zone Ibm180 cylinder = record { sectors = 9; nominal = fine_units 8; ring_cells = 100000 }
-zone Ibm320 cylinder = record { sectors = 8; nominal = fine_units 8; ring_cells = 100000 }
-zone Ibm1200 cylinder = record { sectors = 15; nominal = fine_units 4; ring_cells = 166656 }
-zone AtariSt800 cylinder = record { sectors = 10; nominal = fine_units 8; ring_cells = 100000 }
-zone CpcData cylinder = record { sectors = 9; nominal = fine_units 8; ring_cells = 100000 }
-zone CpcSystem cylinder = record { sectors = 9; nominal = fine_units 8; ring_cells = 100000 }
-zone AcornDfs40 cylinder = record { sectors = 10; nominal = fine_units 16; ring_cells = 50000 }
-zone AcornDfs80 cylinder = record { sectors = 10; nominal = fine_units 16; ring_cells = 50000 }
 zone AppleDos33 cylinder = record { sectors = 16; nominal = fine_units 16; ring_cells = 49994 }
 zone AppleProdos cylinder = record { sectors = 16; nominal = fine_units 16; ring_cells = 49994 }
 zone Mac400 cylinder = macintosh_zone cylinder
@@ -390,7 +249,7 @@ slot_by (Some order) first sector = get_or order sector 0
 abbrev pub slot : Format → ℕ → ℕ
 slot format sector = slot_by (row format).order (row format).first_sector sector
 
--- the word names the format: it is the one that it is printed by, or writes its numbers
+-- the word names the format: it is the one that it is printed by, or for a disk by its numbers its name or one that writes them
 abbrev pub IsWordOfFormat : List ℕ → Format → Type 0
 IsWordOfFormat word (Numbered disk) = IsWordOfDisk word disk
 IsWordOfFormat word format = (row format).word ≡ word

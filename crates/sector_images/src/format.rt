@@ -1,11 +1,11 @@
-ghost use Rattle.std.specs.Prelude.{◌≡◌, ◌≤◌, MatchOption, find, length, option_map};
+ghost use Rattle.std.specs.Prelude.{◌≡◌, ◌&&◌, MatchOption, find, option_map};
 ghost use Rattle.std.specs.Str.{bytes_eq};
 ghost use Rattle.ibm_disks.specs.Disks.{IsWordOfDisk};
-ghost use Rattle.sector_images.specs.Formats.{IsWordOfFormat, formats, row, track_order, zone};
+ghost use Rattle.sector_images.specs.Formats.{IsWordOfFormat, formats, has_row, row, track_order, zone};
 
 use crate::numbered_disks::{cell_of, geometry_of};
 use disk_zones::{Zone, commodore_zone, macintosh_zone};
-use ibm_disks::{DiskWord, IbmDisk};
+use ibm_disks::{DiskWord, IbmDisk, name_word};
 
 /// A format of sector images.
 #[derive(Clone, Copy, Debug, PartialEq, Eq)]
@@ -28,24 +28,6 @@ pub enum Format {
     AppleDo,
     /// The same disk in the order of ProDOS.
     ApplePo,
-    /// The PC's first disk: 40 cylinders of one head, 8 sectors of 512 bytes, double density (MFM).
-    Ibm160,
-    /// The PC's 180 KB disk: 40 cylinders of one head, 9 sectors of 512 bytes, double density (MFM).
-    Ibm180,
-    /// The PC's 320 KB disk: 40 cylinders of two heads, 8 sectors of 512 bytes, double density (MFM).
-    Ibm320,
-    /// The PC's 1200 KB disk: 80 cylinders of two heads, 15 sectors of 512 bytes, high density (MFM).
-    Ibm1200,
-    /// The Atari ST's 800 KB disk: 80 cylinders of two heads, 10 sectors of 512 bytes (MFM).
-    AtariSt800,
-    /// The Amstrad CPC's disk for data: 40 cylinders of one head, 9 sectors of 512 bytes from number 193 (MFM).
-    CpcData,
-    /// The Amstrad CPC's disk with a system: the same from number 65.
-    CpcSystem,
-    /// Acorn's DFS disk: 40 cylinders of one head, 10 sectors of 256 bytes, single density (FM).
-    AcornDfs40,
-    /// The same with 80 cylinders.
-    AcornDfs80,
     /// Apple's disk as DOS 3.3 itself wrote it, read as Apple's controller reads, in the order of DOS 3.3.
     AppleDos33,
     /// Apple's disk as ProDOS itself wrote it, read so, in the order of ProDOS.
@@ -58,7 +40,7 @@ pub enum Format {
     C1571,
     /// The Amiga's disk of high density: 80 cylinders of two heads, 22 sectors of 512 bytes (MFM).
     AmigaHd,
-    /// A disk of one of IBM's two recordings that has no name, by its numbers.
+    /// A disk of one of IBM's two recordings by its numbers, which may have a name too.
     Numbered(IbmDisk),
 }
 
@@ -73,15 +55,15 @@ const FORMATS: [Format; 24] = [
     Format::C1541Forty,
     Format::AppleDo,
     Format::ApplePo,
-    Format::Ibm160,
-    Format::Ibm180,
-    Format::Ibm320,
-    Format::Ibm1200,
-    Format::AtariSt800,
-    Format::CpcData,
-    Format::CpcSystem,
-    Format::AcornDfs40,
-    Format::AcornDfs80,
+    Format::Numbered(IbmDisk::IBM_160),
+    Format::Numbered(IbmDisk::IBM_180),
+    Format::Numbered(IbmDisk::IBM_320),
+    Format::Numbered(IbmDisk::IBM_1200),
+    Format::Numbered(IbmDisk::ATARI_ST_800),
+    Format::Numbered(IbmDisk::CPC_DATA),
+    Format::Numbered(IbmDisk::CPC_SYSTEM),
+    Format::Numbered(IbmDisk::ACORN_DFS_40),
+    Format::Numbered(IbmDisk::ACORN_DFS_80),
     Format::AppleDos33,
     Format::AppleProdos,
     Format::Mac400,
@@ -108,10 +90,14 @@ impl Format {
         }
     }
 
+    /// Whether it has a row of its own, and this word.
     fn has_word(self, word: &[u8]) -> bool
-        ensures { result ≡ bytes_eq (row self).word word.now }
+        ensures { result ≡ (has_row self && bytes_eq (row self).word word.now) }
     {
-        self.word().as_str().as_bytes() == word
+        match self {
+            Format::Numbered(_) => false,
+            format => format.word().as_str().as_bytes() == word,
+        }
     }
 
     /// The format's word, as it is printed.
@@ -119,46 +105,27 @@ impl Format {
         ensures { result.bytes ≡ (row self).word }
     {
         match self {
-            Format::Ibm3740 => name("ibm-3740"),
-            Format::Ibm360 => name("ibm-360"),
-            Format::Ibm720 => name("ibm-720"),
-            Format::Ibm1440 => name("ibm-1440"),
-            Format::Ibm160 => name("ibm-160"),
-            Format::Ibm180 => name("ibm-180"),
-            Format::Ibm320 => name("ibm-320"),
-            Format::Ibm1200 => name("ibm-1200"),
-            Format::AtariSt800 => name("atari-st-800"),
-            Format::CpcData => name("cpc-data"),
-            Format::CpcSystem => name("cpc-system"),
-            Format::AcornDfs40 => name("acorn-dfs-40"),
-            Format::AcornDfs80 => name("acorn-dfs-80"),
-            Format::Amiga => name("amiga"),
-            Format::C1541 => name("c1541"),
-            Format::C1541Forty => name("c1541-40"),
-            Format::AppleDo => name("apple-do"),
-            Format::ApplePo => name("apple-po"),
-            Format::AppleDos33 => name("apple-dos33"),
-            Format::AppleProdos => name("apple-prodos"),
-            Format::Mac400 => name("mac-400"),
-            Format::Mac800 => name("mac-800"),
-            Format::C1571 => name("c1571"),
-            Format::AmigaHd => name("amiga-hd"),
+            Format::Ibm3740 => name_word("ibm-3740"),
+            Format::Ibm360 => name_word("ibm-360"),
+            Format::Ibm720 => name_word("ibm-720"),
+            Format::Ibm1440 => name_word("ibm-1440"),
+            Format::Amiga => name_word("amiga"),
+            Format::C1541 => name_word("c1541"),
+            Format::C1541Forty => name_word("c1541-40"),
+            Format::AppleDo => name_word("apple-do"),
+            Format::ApplePo => name_word("apple-po"),
+            Format::AppleDos33 => name_word("apple-dos33"),
+            Format::AppleProdos => name_word("apple-prodos"),
+            Format::Mac400 => name_word("mac-400"),
+            Format::Mac800 => name_word("mac-800"),
+            Format::C1571 => name_word("c1571"),
+            Format::AmigaHd => name_word("amiga-hd"),
             Format::Numbered(disk) => disk.word(),
         }
     }
 }
 
-/// A name as a word.
-fn name(text: &str) -> DiskWord
-    requires { length text.now ≤ 32 }
-    ensures { result.bytes ≡ text.now }
-{
-    let mut word = DiskWord::new();
-    word.push_str(text);
-    word
-}
-
-/// The disk whose numbers this word writes.
+/// The disk that this word names, or whose numbers it writes.
 fn by_numbers(word: &[u8]) -> Option<Format>
     ensures { MatchOption result ((disk : IbmDisk) → ¬ IsWordOfDisk word.now disk) (IsWordOfFormat word.now) }
 {
@@ -168,9 +135,9 @@ fn by_numbers(word: &[u8]) -> Option<Format>
     }
 }
 
-/// The first of these formats that has this word.
+/// The first of these formats that has a row of its own, and this word.
 fn first_named(formats: &[Format], word: &[u8]) -> Option<Format>
-    ensures { result ≡ find (λ f. bytes_eq (row f).word word.now) formats.now }
+    ensures { result ≡ find (λ f. has_row f && bytes_eq (row f).word word.now) formats.now }
 {
     for format in formats {
         if format.has_word(word) {
@@ -296,78 +263,6 @@ impl Format {
                 image_size: 143360,
                 order: Some(&PRODOS_ORDER),
             },
-            Format::Ibm160 => Geometry {
-                cylinders: 40,
-                heads: 1,
-                first_sector: 1,
-                sector_size: 512,
-                image_size: 163840,
-                order: None,
-            },
-            Format::Ibm180 => Geometry {
-                cylinders: 40,
-                heads: 1,
-                first_sector: 1,
-                sector_size: 512,
-                image_size: 184320,
-                order: None,
-            },
-            Format::Ibm320 => Geometry {
-                cylinders: 40,
-                heads: 2,
-                first_sector: 1,
-                sector_size: 512,
-                image_size: 327680,
-                order: None,
-            },
-            Format::Ibm1200 => Geometry {
-                cylinders: 80,
-                heads: 2,
-                first_sector: 1,
-                sector_size: 512,
-                image_size: 1228800,
-                order: None,
-            },
-            Format::AtariSt800 => Geometry {
-                cylinders: 80,
-                heads: 2,
-                first_sector: 1,
-                sector_size: 512,
-                image_size: 819200,
-                order: None,
-            },
-            Format::CpcData => Geometry {
-                cylinders: 40,
-                heads: 1,
-                first_sector: 0xC1,
-                sector_size: 512,
-                image_size: 184320,
-                order: None,
-            },
-            Format::CpcSystem => Geometry {
-                cylinders: 40,
-                heads: 1,
-                first_sector: 0x41,
-                sector_size: 512,
-                image_size: 184320,
-                order: None,
-            },
-            Format::AcornDfs40 => Geometry {
-                cylinders: 40,
-                heads: 1,
-                first_sector: 0,
-                sector_size: 256,
-                image_size: 102400,
-                order: None,
-            },
-            Format::AcornDfs80 => Geometry {
-                cylinders: 80,
-                heads: 1,
-                first_sector: 0,
-                sector_size: 256,
-                image_size: 204800,
-                order: None,
-            },
             Format::Mac400 => Geometry {
                 cylinders: 80,
                 heads: 1,
@@ -427,11 +322,7 @@ impl Format {
                 nominal: 49208,
                 ring_cells: 83328,
             },
-            Format::Ibm360
-            | Format::Ibm720
-            | Format::Ibm180
-            | Format::CpcData
-            | Format::CpcSystem => Zone {
+            Format::Ibm360 | Format::Ibm720 => Zone {
                 sectors: 9,
                 nominal: 49208,
                 ring_cells: 100000,
@@ -457,26 +348,6 @@ impl Format {
                 sectors: 16,
                 nominal: 98416,
                 ring_cells: 49994,
-            },
-            Format::Ibm160 | Format::Ibm320 => Zone {
-                sectors: 8,
-                nominal: 49208,
-                ring_cells: 100000,
-            },
-            Format::Ibm1200 => Zone {
-                sectors: 15,
-                nominal: 24604,
-                ring_cells: 166656,
-            },
-            Format::AtariSt800 => Zone {
-                sectors: 10,
-                nominal: 49208,
-                ring_cells: 100000,
-            },
-            Format::AcornDfs40 | Format::AcornDfs80 => Zone {
-                sectors: 10,
-                nominal: 98416,
-                ring_cells: 50000,
             },
             Format::Numbered(disk) => {
                 let track = disk.track();

@@ -2,6 +2,7 @@
 ghost use Rattle.std.specs.Prelude.{◌≡◌, ◌<◌};
 
 use flux_base::TrackId;
+use ibm_disks::IbmDisk;
 use sector_images::{
     Format, image_place, image_sector, image_size, nominal, ring_cells, track_bytes, track_count,
     track_id, track_place,
@@ -10,18 +11,63 @@ use sector_images::{
 /// The word of a format, the bytes of its image, and its tracks.
 const FORMATS: [(&str, Format, u32, u32); 24] = [
     ("ibm-3740", Format::Ibm3740, 77 * 26 * 128, 77),
-    ("ibm-160", Format::Ibm160, 40 * 8 * 512, 40),
-    ("ibm-180", Format::Ibm180, 40 * 9 * 512, 40),
-    ("ibm-320", Format::Ibm320, 40 * 2 * 8 * 512, 80),
+    (
+        "ibm-160",
+        Format::Numbered(IbmDisk::IBM_160),
+        40 * 8 * 512,
+        40,
+    ),
+    (
+        "ibm-180",
+        Format::Numbered(IbmDisk::IBM_180),
+        40 * 9 * 512,
+        40,
+    ),
+    (
+        "ibm-320",
+        Format::Numbered(IbmDisk::IBM_320),
+        40 * 2 * 8 * 512,
+        80,
+    ),
     ("ibm-360", Format::Ibm360, 40 * 2 * 9 * 512, 80),
     ("ibm-720", Format::Ibm720, 80 * 2 * 9 * 512, 160),
-    ("ibm-1200", Format::Ibm1200, 80 * 2 * 15 * 512, 160),
+    (
+        "ibm-1200",
+        Format::Numbered(IbmDisk::IBM_1200),
+        80 * 2 * 15 * 512,
+        160,
+    ),
     ("ibm-1440", Format::Ibm1440, 80 * 2 * 18 * 512, 160),
-    ("atari-st-800", Format::AtariSt800, 80 * 2 * 10 * 512, 160),
-    ("cpc-data", Format::CpcData, 40 * 9 * 512, 40),
-    ("cpc-system", Format::CpcSystem, 40 * 9 * 512, 40),
-    ("acorn-dfs-40", Format::AcornDfs40, 40 * 10 * 256, 40),
-    ("acorn-dfs-80", Format::AcornDfs80, 80 * 10 * 256, 80),
+    (
+        "atari-st-800",
+        Format::Numbered(IbmDisk::ATARI_ST_800),
+        80 * 2 * 10 * 512,
+        160,
+    ),
+    (
+        "cpc-data",
+        Format::Numbered(IbmDisk::CPC_DATA),
+        40 * 9 * 512,
+        40,
+    ),
+    (
+        "cpc-system",
+        Format::Numbered(IbmDisk::CPC_SYSTEM),
+        40 * 9 * 512,
+        40,
+    ),
+    (
+        "acorn-dfs-40",
+        Format::Numbered(IbmDisk::ACORN_DFS_40),
+        40 * 10 * 256,
+        40,
+    ),
+    (
+        "acorn-dfs-80",
+        Format::Numbered(IbmDisk::ACORN_DFS_80),
+        80 * 10 * 256,
+        80,
+    ),
     ("amiga", Format::Amiga, 80 * 2 * 11 * 512, 160),
     ("c1541", Format::C1541, 174848, 35),
     ("c1541-40", Format::C1541Forty, 196608, 40),
@@ -71,6 +117,33 @@ fn numbers_are_formats(rt: HostRuntime) {
     assert_eq!(rt; Format::of_word(b"mfm-dd-82x2x13x512"), None);
 }
 
+/// Words of numbers, and the word that is printed of the format. Three disks of the PC have a name too; all other names are of disks with
+/// gaps of their own, which no word of numbers writes.
+const PRINTED: [(&str, &str); 9] = [
+    ("mfm-dd-40x1x8x512", "ibm-160"),
+    ("mfm-dd-40x1x9x512", "ibm-180"),
+    ("mfm-dd-40x2x8x512", "ibm-320"),
+    ("mfm-hd360-80x2x15x512", "mfm-hd360-80x2x15x512"),
+    ("mfm-dd-80x2x10x512", "mfm-dd-80x2x10x512"),
+    ("mfm-dd-40x1x9x512@193", "mfm-dd-40x1x9x512@193"),
+    ("mfm-dd-40x1x9x512@65", "mfm-dd-40x1x9x512@65"),
+    ("fm-sd-40x1x10x256@0", "fm-sd-40x1x10x256@0"),
+    ("mfm-dd-80x2x9x512", "mfm-dd-80x2x9x512"),
+];
+
+#[test]
+fn names_are_printed(rt: HostRuntime) {
+    for (written, printed) in PRINTED {
+        let Some(format) = Format::of_word(written.as_bytes()) else {
+            assert!(rt; false);
+            return;
+        };
+        let word = format.word();
+        assert!(rt; word.as_str().as_bytes() == printed.as_bytes());
+        assert_eq!(rt; Format::of_word(word.as_str().as_bytes()), Some(format));
+    }
+}
+
 /// A track of a format by its number, its cylinder and head, its place in the image and its bytes, and its nominal cell in
 /// fine units and the cells of its ring.
 const TRACKS: [(Format, u32, (u8, u8), (u32, u32), (u32, u32)); 38] = [
@@ -93,10 +166,28 @@ const TRACKS: [(Format, u32, (u8, u8), (u32, u32), (u32, u32)); 38] = [
     (Format::Ibm360, 79, (39, 1), (364032, 4608), (49208, 100000)),
     (Format::Ibm720, 1, (0, 1), (4608, 4608), (49208, 100000)),
     (Format::Ibm720, 2, (1, 0), (9216, 4608), (49208, 100000)),
-    (Format::Ibm1200, 0, (0, 0), (0, 7680), (24604, 166656)),
+    (
+        Format::Numbered(IbmDisk::IBM_1200),
+        0,
+        (0, 0),
+        (0, 7680),
+        (24604, 166656),
+    ),
     (Format::Ibm1440, 1, (0, 1), (9216, 9216), (24604, 200000)),
-    (Format::AcornDfs40, 0, (0, 0), (0, 2560), (98416, 50000)),
-    (Format::AcornDfs80, 0, (0, 0), (0, 2560), (98416, 50000)),
+    (
+        Format::Numbered(IbmDisk::ACORN_DFS_40),
+        0,
+        (0, 0),
+        (0, 2560),
+        (98416, 50000),
+    ),
+    (
+        Format::Numbered(IbmDisk::ACORN_DFS_80),
+        0,
+        (0, 0),
+        (0, 2560),
+        (98416, 50000),
+    ),
     (Format::Amiga, 0, (0, 0), (0, 5632), (49208, 100000)),
     (Format::Amiga, 159, (79, 1), (895488, 5632), (49208, 100000)),
     (Format::Mac400, 15, (15, 0), (92160, 6144), (63951, 76946)),
@@ -190,11 +281,26 @@ fn sectors_have_their_places(rt: HostRuntime) {
     assert_eq!(rt; image_place(Format::Ibm3740, track(76, 0), 26), 256128);
     assert_eq!(rt; image_sector(Format::Ibm3740, track(76, 0), 25), 26);
     assert_eq!(rt; image_place(Format::Ibm1440, track(79, 1), 18), 1474048);
-    assert_eq!(rt; image_place(Format::Ibm1200, track(79, 1), 15), 1228288);
-    assert_eq!(rt; image_place(Format::CpcData, first, 0xC2), 512);
-    assert_eq!(rt; image_sector(Format::CpcData, first, 8), 0xC9);
-    assert_eq!(rt; image_place(Format::CpcSystem, track(39, 0), 0x49), 183808);
-    assert_eq!(rt; image_place(Format::AcornDfs80, track(79, 0), 9), 204544);
+    assert_eq!(rt;
+        image_place(Format::Numbered(IbmDisk::IBM_1200), track(79, 1), 15),
+        1228288
+    );
+    assert_eq!(rt;
+        image_place(Format::Numbered(IbmDisk::CPC_DATA), first, 0xC2),
+        512
+    );
+    assert_eq!(rt;
+        image_sector(Format::Numbered(IbmDisk::CPC_DATA), first, 8),
+        0xC9
+    );
+    assert_eq!(rt;
+        image_place(Format::Numbered(IbmDisk::CPC_SYSTEM), track(39, 0), 0x49),
+        183808
+    );
+    assert_eq!(rt;
+        image_place(Format::Numbered(IbmDisk::ACORN_DFS_80), track(79, 0), 9),
+        204544
+    );
     assert_eq!(rt; image_place(Format::Amiga, track(1, 0), 0), 11264);
     assert_eq!(rt; image_place(Format::Amiga, track(79, 1), 10), 900608);
     assert_eq!(rt; image_place(Format::C1541, track(17, 0), 0), 91392);

@@ -3,6 +3,7 @@ use dump_identity::{Candidate, Finding, IdentityFault, IdentityRoom, identify};
 use dump_reading::DumpTotals;
 use flux_base::{Memory, MemorySink, MemorySource, TrackId, Word};
 use flux_engine::{WriteRoom, write_disk};
+use ibm_disks::IbmDisk;
 use sector_images::Format;
 use sector_report::Totals;
 use std::alloc::Global;
@@ -20,7 +21,7 @@ fn acorn_track(alloc: Global) -> Result<Vec<u8>, Memory> {
     let image = vec![in alloc; 0u8; 102_400]?;
     let mut source = MemorySource::new(image, 4096, Vec::new(alloc));
     let mut sink = MemorySink::new(alloc, 1 << 18, Vec::new(alloc))?;
-    let mut room = WriteRoom::reserve(alloc, Format::AcornDfs40)?;
+    let mut room = WriteRoom::reserve(alloc, Format::Numbered(IbmDisk::ACORN_DFS_40))?;
     let _ = write_disk(&mut room, &mut source, &mut sink);
     Ok(sink.bytes().to_vec(alloc)?)
 }
@@ -66,7 +67,7 @@ best acorn-dfs-40
 const BEST: Finding = Finding {
     candidate: Candidate {
         stepping: Stepping::Single,
-        format: Format::AcornDfs40,
+        format: Format::Numbered(IbmDisk::ACORN_DFS_40),
     },
     totals: Some(DumpTotals {
         sectors: Totals {

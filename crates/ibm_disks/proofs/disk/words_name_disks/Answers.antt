@@ -1,5 +1,4 @@
-use Rattle.ibm_disks.proofs.Printed.{printed_words_name_disks}
-use Rattle.ibm_disks.proofs.Tracks.{words_name_disks}
+use Rattle.ibm_disks.proofs.Printed.{printed_words_name_disks, words_name_disks}
 use Rattle.ibm_disks.proofs.disk.words_name_disks.Goals as goal
 
 pub returns-clause-one : goal.returns-clause-one
