@@ -1,7 +1,7 @@
 # Completion of flux for bash. The words come from `flux help`, so that they are those of the program that is installed.
 _flux()
 {
-    local word=${COMP_WORDS[COMP_CWORD]} verb=${COMP_WORDS[1]} at=2 part options="" before
+    local word=${COMP_WORDS[COMP_CWORD]} verb=${COMP_WORDS[1]} at=2 part options="" before numbers=""
     # The words of options, where the command's page has some: they may stand before the format, each once.
     if [ "$COMP_CWORD" -ge 2 ] && [ "$verb" != help ]; then
         options=$(flux help "$verb" 2> /dev/null | sed -n '1p' | grep -o -e '\[--[a-z-]*\]' | tr -d '[]' | tr '\n' ' ')
@@ -16,12 +16,16 @@ _flux()
     case $((COMP_CWORD - at)),$verb in
         -1,*) part='/^Commands:/,/^$/' ;;
         0,help) part='/^Commands:/,/^$/' ;;
-        0,*) part='/^Formats:/,/^$/' ;;
+        # Of a disk by its numbers the word's beginning: what follows are the numbers.
+        0,*) part='/^Formats:/,/^$/' numbers="mfm-dd- mfm-hd- mfm-hd360- fm-sd- fm-sd8-" ;;
         *) return ;;
     esac
     if [ "$COMP_CWORD" -ge 2 ] && [ "$verb" != help ] && ! flux help 2> /dev/null | grep -q "^   $verb FORMAT"; then
         return
     fi
-    mapfile -t COMPREPLY < <(compgen -W "$options $(flux help 2> /dev/null | sed -n "$part"'s/^   \([^ \t,]*\).*/\1/p')" -- "$word")
+    mapfile -t COMPREPLY < <(compgen -W "$options $numbers $(flux help 2> /dev/null | sed -n "$part"'s/^   \([^ \t,]*\).*/\1/p')" -- "$word")
+    case ${#COMPREPLY[@]},${COMPREPLY[0]} in
+        1,mfm-*- | 1,fm-*-) compopt -o nospace 2> /dev/null ;;
+    esac
 }
 complete -o default -F _flux flux

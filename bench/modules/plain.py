@@ -64,6 +64,8 @@ RATES = {
 }
 NUMBER = "(0|[1-9][0-9]{0,3})"
 NUMBERED = re.compile(f"({'|'.join(RATES)})-{NUMBER}x{NUMBER}x{NUMBER}x{NUMBER}(?:@{NUMBER})?")
+# those that are a disk's with a name, which is printed
+NAMED = {"mfm-dd-40x1x8x512": "ibm-160", "mfm-dd-40x1x9x512": "ibm-180", "mfm-dd-40x2x8x512": "ibm-320"}
 
 
 def numbered(name):
@@ -75,9 +77,12 @@ def numbered(name):
     cylinders, heads, count, size, first = (1 if number is None else int(number) for number in numbers)
     if not (1 <= cylinders <= 99 and 1 <= heads <= 2 and 1 <= count <= 32 and size in (128, 256, 512, 1024) and first + count <= 256):
         return None
+    printed = name.removesuffix("@1")
+    if printed in NAMED:
+        return FORMATS[NAMED[printed]]
     nominal, cells = RATES[rate]
     recording = made_track(rate.startswith("mfm"), cells // 16, count, first, size)
-    return recording and Format(name, recording, cylinders, heads, always(nominal), always(cells))
+    return recording and Format(printed, recording, cylinders, heads, always(nominal), always(cells))
 
 
 def made_track(double, total, count, first, size):
