@@ -1,5 +1,5 @@
 -- A stretch whose counts are certain before any place is followed.
-use Rattle.std.proofs.Common.{◌≡◌, ℕ, zero, suc, ◌+◌, ◌-◌, ◌*◌, ◌/◌, ◌<◌, ◌≤◌, min, max, All, Bool, List, [], ◌∷◌, ◌++◌, flat_map, length, take, drop, get_or, set, arith, refl, sym, ◌∙◌, ap, subst, inl, inr, slice_index, length-append, append-nil}
+use Rattle.std.proofs.Common.{◌≡◌, ℕ, zero, suc, ◌+◌, ◌-◌, ◌*◌, ◌/◌, ◌%◌, ◌^◌, ◌<◌, ◌≤◌, min, max, All, Bool, List, [], ◌∷◌, ◌++◌, flat_map, length, take, drop, get_or, set, arith, refl, sym, ◌∙◌, ap, subst, inl, inr, slice_index, length-append, append-nil}
 use Rattle.std.specs.List.{sum_by}
 use Rattle.std.specs.List.Sorted.{IsNonDecreasing}
 use Rattle.std.proofs.lemmas.Bool.{cases_lt}
@@ -13,7 +13,7 @@ use Rattle.phase_loop.specs.Start.{LONGEST_PERIOD, in_band}
 use Rattle.phase_loop.specs.Window.{WIDEST, IsShort, IsWindow, fine_total, count_total}
 use Rattle.phase_loop.specs.State.{LoopState}
 use Rattle.phase_loop.specs.Stretch.{interval_at, intervals_with, counts_of, stand_next, with_runs, AreBetween, AreGuessed, IsStretch, TakesRuns}
-use Rattle.phase_loop.specs.Certain.{fine_at, stand_of, stand_after, stand_at, cells_in, AreEnds, AreSums, AreTicks, IsRemainder, IsCertain, AreCertain, IsReach, IsEarliest}
+use Rattle.phase_loop.specs.Certain.{fine_at, stand_of, stand_after, stand_at, cells_in, low_difference, row_sum, AreEnds, AreSums, AreTicks, IsAbout, IsDrift, IsRemainder, IsCertain, AreCertain, IsReach, IsEarliest}
 use Rattle.phase_loop.specs.declared.start.Band.{Band}
 use Rattle.phase_loop.specs.declared.window.Interval.{Interval}
 use Rattle.phase_loop.specs.declared.window.Totals.{Totals}
@@ -133,28 +133,85 @@ remainders_of times first many counts period ticks remainders rising inside few 
     let up : slice_index times (first + place) ≤ slice_index times (first + place + 1) = rising (first + place) (first + place + 1) 0 (omega arith) (omega (arith, inside, early)) in
     omega (arith, up, are place early, (few_ticks times first many place ticks rising inside few ticks_are early).0)
 
+-- a row with one number more
+pub row_sum-more : (numbers : List ℕ) (from many : ℕ) → from + many < length numbers
+    → row_sum numbers from (many + 1) ≡ row_sum numbers from many + slice_index numbers (from + many)
+row_sum-more numbers from many inside =
+    sum_by_more (λ (n : ℕ). n) (drop from numbers) many 0 (omega (arith, length-drop from numbers, inside))
+    ∙ ap (λ (n : ℕ). row_sum numbers from many + n) (get_or-drop from numbers many 0)
+
 -- the remainders of intervals in a row, added up
-pub sum_of_remainders : (times : List ℕ) (first : ℕ) (counts : List ℕ) (period : ℕ) (remainders sums : List ℕ) (span k : ℕ)
+pub sum_of_remainders : (times : List ℕ) (first : ℕ) (counts : List ℕ) (period : ℕ) (remainders : List ℕ) (span k : ℕ)
     → AreRemainders times first span counts period remainders
-    → AreSums remainders sums span → span ≤ length counts → (i : ℕ) → k + i ≤ span
-    → slice_index sums (k + i) + fine_at times (first + k) + cells_in (take i (drop k counts)) * period
-    ≡ slice_index sums k + fine_at times (first + (k + i)) + i * (32 * period)
-sum_of_remainders times first counts period remainders sums span k are sums_are many zero within =
+    → span ≤ length remainders → span ≤ length counts → (i : ℕ) → k + i ≤ span
+    → row_sum remainders k i + fine_at times (first + k) + row_sum counts k i * period
+    ≡ fine_at times (first + (k + i)) + i * (32 * period)
+sum_of_remainders times first counts period remainders span k are long many zero within =
     let here : k + 0 ≡ k = omega arith in
     rw here (omega arith)
-sum_of_remainders times first counts period remainders sums span k are sums_are many (suc i) within =
-    let before = sum_of_remainders times first counts period remainders sums span k are sums_are many i (omega (arith, within)) in
-    let place : k + suc i ≡ k + i + 1 = omega arith in
+sum_of_remainders times first counts period remainders span k are long many (suc i) within =
+    let before = sum_of_remainders times first counts period remainders span k are long many i (omega (arith, within)) in
     let number : first + (k + i) + 1 ≡ first + (k + suc i) = omega arith in
     let one = are (k + i) (omega (arith, within)) in
-    let more = sums_are.more (k + i) (omega (arith, within)) in
-    let inside : i < length (drop k counts) = omega (arith, length-drop k counts, within, many) in
-    let cells : cells_in (take (i + 1) (drop k counts)) ≡ cells_in (take i (drop k counts)) + slice_index counts (k + i) =
-    sum_by_more (λ (n : ℕ). n) (drop k counts) i 0 inside ∙ ap (λ (n : ℕ). cells_in (take i (drop k counts)) + n) (get_or-drop k counts i 0) in
     let later : i + 1 ≡ suc i = omega arith in
-    let product : cells_in (take (suc i) (drop k counts)) * period ≡ (cells_in (take i (drop k counts)) + slice_index counts (k + i)) * period =
-    ap (λ (n : ℕ). cells_in (take n (drop k counts)) * period) (sym later) ∙ ap (λ (n : ℕ). n * period) cells in
-    omega (arith, before, one, more, product, ap (λ (n : ℕ). slice_index sums n) place, ap (λ (n : ℕ). fine_at times n) number)
+    let more : row_sum remainders k (suc i) ≡ row_sum remainders k i + slice_index remainders (k + i) =
+    ap (λ (n : ℕ). row_sum remainders k n) (sym later) ∙ row_sum-more remainders k i (omega (arith, within, long)) in
+    let cells : row_sum counts k (suc i) ≡ row_sum counts k i + slice_index counts (k + i) =
+    ap (λ (n : ℕ). row_sum counts k n) (sym later) ∙ row_sum-more counts k i (omega (arith, within, many)) in
+    let product : row_sum counts k (suc i) * period ≡ (row_sum counts k i + slice_index counts (k + i)) * period = ap (λ (n : ℕ). n * period) cells in
+    omega (arith, before, one, more, product, ap (λ (n : ℕ). fine_at times n) number)
+
+-- numbers in a row are together no further off than each is
+pub row_about : (numbers : List ℕ) (middle off span k : ℕ) → ((place : ℕ) → place < span → IsAbout (slice_index numbers place) middle off)
+    → span ≤ length numbers → (i : ℕ) → k + i ≤ span → IsAbout (row_sum numbers k i) (i * middle) (i * off)
+row_about numbers middle off span k near long zero within = (omega arith, omega arith)
+row_about numbers middle off span k near long (suc i) within =
+    let before = row_about numbers middle off span k near long i (omega (arith, within)) in
+    let one = near (k + i) (omega (arith, within)) in
+    let later : i + 1 ≡ suc i = omega arith in
+    let more : row_sum numbers k (suc i) ≡ row_sum numbers k i + slice_index numbers (k + i) =
+    ap (λ (n : ℕ). row_sum numbers k n) (sym later) ∙ row_sum-more numbers k i (omega (arith, within, long)) in
+    (omega (arith, more, before.0, one.0), omega (arith, more, before.1, one.1))
+
+-- numbers in a row, each at most so large
+pub row_most : (numbers : List ℕ) (largest span k : ℕ) → ((place : ℕ) → place < span → slice_index numbers place ≤ largest)
+    → span ≤ length numbers → (i : ℕ) → k + i ≤ span → row_sum numbers k i ≤ i * largest
+row_most numbers largest span k small long zero within = omega arith
+row_most numbers largest span k small long (suc i) within =
+    let before = row_most numbers largest span k small long i (omega (arith, within)) in
+    let one = small (k + i) (omega (arith, within)) in
+    let later : i + 1 ≡ suc i = omega arith in
+    let more : row_sum numbers k (suc i) ≡ row_sum numbers k i + slice_index numbers (k + i) =
+    ap (λ (n : ℕ). row_sum numbers k n) (sym later) ∙ row_sum-more numbers k i (omega (arith, within, long)) in
+    omega (arith, more, before, one)
+
+-- the sums are kept as far as 32 bits hold them
+sums_low : (numbers sums : List ℕ) (many : ℕ) → AreSums numbers sums many → (k : ℕ) → k ≤ many → slice_index sums k < 2 ^ 32
+sums_low numbers sums many are zero within = omega (arith, are.none)
+sums_low numbers sums many are (suc k) within =
+    let one : k + 1 ≡ suc k = omega arith in
+    omega (arith, are.more k (omega (arith, within)), ap (λ (n : ℕ). slice_index sums n) one)
+
+-- a later sum is an earlier one and the numbers between, as far as 32 bits hold them
+sum_later : (numbers sums : List ℕ) (many k : ℕ) → AreSums numbers sums many → many ≤ length numbers → (i : ℕ) → k + i ≤ many
+    → slice_index sums (k + i) ≡ (slice_index sums k + row_sum numbers k i) % 2 ^ 32
+sum_later numbers sums many k are long zero within =
+    let here : k + 0 ≡ k = omega arith in
+    rw here (omega (arith, sums_low numbers sums many are k (omega (arith, within))))
+sum_later numbers sums many k are long (suc i) within =
+    let before = sum_later numbers sums many k are long i (omega (arith, within)) in
+    let next = are.more (k + i) (omega (arith, within)) in
+    let place : k + suc i ≡ k + i + 1 = omega arith in
+    let later : i + 1 ≡ suc i = omega arith in
+    let more : row_sum numbers k (suc i) ≡ row_sum numbers k i + slice_index numbers (k + i) =
+    ap (λ (n : ℕ). row_sum numbers k n) (sym later) ∙ row_sum-more numbers k i (omega (arith, within, long)) in
+    omega (arith, before, next, more, ap (λ (n : ℕ). slice_index sums n) place)
+
+-- so their difference is the numbers between, where these are few enough
+pub difference_is : (numbers sums : List ℕ) (many k : ℕ) → AreSums numbers sums many → many ≤ length numbers → k + 64 ≤ many
+    → row_sum numbers k 64 < 2 ^ 32 → low_difference (slice_index sums (k + 64)) (slice_index sums k) ≡ row_sum numbers k 64
+difference_is numbers sums many k are long within few =
+    omega (arith, sum_later numbers sums many k are long 64 within, sums_low numbers sums many are k (omega (arith, within)), few)
 
 -- what is known of the intervals of a stretch and of the windows in it
 pub record Evidence (times : List ℕ) (last most : ℕ) (counts : List ℕ) (reference off drift : ℕ) : Type 0 where
@@ -190,7 +247,7 @@ abbrev drift_in : Band → (reference drift : ℕ) → ℕ
 drift_in band reference drift = min drift (max (reference - band.lowest) (band.highest - reference))
 
 follow_more : (times : List ℕ) (last most : ℕ) (state : LoopState) (stand : Stand) (counts : List ℕ) (off drift reach k : ℕ)
-    → IsNonDecreasing times → last + most < length times → most ≤ 512 → length counts ≡ 576 → AreGuessed most counts → IsBand state.band
+    → IsNonDecreasing times → last + most < length times → most ≤ 2048 → length counts ≡ 2112 → AreGuessed most counts → IsBand state.band
     → Evidence times last most counts state.period off drift
     → IsReach state.band state.period state.place (fine_at times last) off drift reach
     → k < most → IsFollowed times last k state stand counts (drift_in state.band state.period drift) reach
@@ -236,7 +293,7 @@ follow_more times last most state stand counts off drift reach k rising inside f
 
 -- the stretch up to each of its transitions
 follow : (times : List ℕ) (last most : ℕ) (state : LoopState) (counts : List ℕ) (off drift reach : ℕ)
-    → IsNonDecreasing times → last + most < length times → most ≤ 512 → length counts ≡ 576 → AreGuessed most counts → IsBand state.band
+    → IsNonDecreasing times → last + most < length times → most ≤ 2048 → length counts ≡ 2112 → AreGuessed most counts → IsBand state.band
     → TakesRuns times last 0 state (stand_of state) counts
     → Evidence times last most counts state.period off drift
     → IsReach state.band state.period state.place (fine_at times last) off drift reach
@@ -258,7 +315,7 @@ follow times last most state counts off drift reach rising inside few whole gues
 
 -- the guesses are certain
 pub certain : (times : List ℕ) (last most : ℕ) (state : LoopState) (counts : List ℕ) (off drift reach : ℕ)
-    → IsNonDecreasing times → last + most < length times → most ≤ 512 → length counts ≡ 576 → AreGuessed most counts → IsBand state.band
+    → IsNonDecreasing times → last + most < length times → most ≤ 2048 → length counts ≡ 2112 → AreGuessed most counts → IsBand state.band
     → TakesRuns times last 0 state (stand_of state) counts
     → Evidence times last most counts state.period off drift
     → IsReach state.band state.period state.place (fine_at times last) off drift reach
@@ -267,31 +324,21 @@ certain times last most state counts off drift reach rising inside few whole gue
     let so_far = follow times last most state counts off drift reach rising inside few whole guessed band begins evidence is_reach taken within in
     record { runs = so_far.runs; ahead = so_far.held.ahead; behind = so_far.held.behind }
 
--- sums of numbers never fall
-pub sums_rise : (numbers sums : List ℕ) (many k : ℕ) → AreSums numbers sums many → (i : ℕ) → k + i ≤ many → slice_index sums k ≤ slice_index sums (k + i)
-sums_rise numbers sums many k are zero within =
-    let here : k + 0 ≡ k = omega arith in
-    omega (arith, ap (λ (n : ℕ). slice_index sums n) here)
-sums_rise numbers sums many k are (suc i) within =
-    let place : k + suc i ≡ k + i + 1 = omega arith in
-    omega (arith, sums_rise numbers sums many k are i (omega (arith, within)), are.more (k + i) (omega (arith, within)), ap (λ (n : ℕ). slice_index sums n) place)
-
--- the evidence, from the remainders of all intervals and the sums of them
-pub evidence_of : (times : List ℕ) (last most : ℕ) (counts : List ℕ) (period off drift : ℕ) (remainders sums : List ℕ)
-    → 64 ≤ last → 64 + most ≤ length counts
+-- the evidence, from the remainders of all intervals and their drift
+pub evidence_of : (times : List ℕ) (last most : ℕ) (counts : List ℕ) (period off drift : ℕ) (remainders : List ℕ)
+    → 64 ≤ last → 64 + most ≤ length remainders → 64 + most ≤ length counts
     → AreRemainders times (last - 64) (64 + most) counts period remainders
-    → ((place : ℕ) → place < 64 + most → (slice_index remainders place ≤ 32 * period + off) × (32 * period ≤ slice_index remainders place + off))
-    → AreSums remainders sums (64 + most)
-    → ((place : ℕ) → place ≤ most → (slice_index sums (place + 64) - slice_index sums place ≤ 2048 * period + 64 * drift) × (2048 * period ≤ slice_index sums (place + 64) - slice_index sums place + 64 * drift))
+    → ((place : ℕ) → place < 64 + most → IsAbout (slice_index remainders place) (32 * period) off)
+    → IsDrift remainders most period drift
     → Evidence times last most counts period off drift
-evidence_of times last most counts period off drift remainders sums enough many are near sums_are windows =
+evidence_of times last most counts period off drift remainders enough long many are near drifts =
     let first : ℕ = last - 64 in
     let number : (k : ℕ) → first + (64 + k) ≡ last + k = λ k. omega (arith, enough) in
     let later : (k : ℕ) → first + (64 + k) + 1 ≡ last + k + 1 = λ k. omega (arith, enough) in
     let begin : (k : ℕ) → first + k ≡ last + k - 64 = λ k. omega (arith, enough) in
     let end : (k : ℕ) → first + (k + 64) ≡ last + k = λ k. omega (arith, enough) in
-    let total : (k : ℕ) → k ≤ most → slice_index sums (k + 64) + fine_at times (first + k) + cells_in (take 64 (drop k counts)) * period ≡ slice_index sums k + fine_at times (first + (k + 64)) + 64 * (32 * period) =
-    λ k within. sum_of_remainders times first counts period remainders sums (64 + most) k are sums_are many 64 (omega (arith, within)) in
+    let total : (k : ℕ) → k ≤ most → row_sum remainders k 64 + fine_at times (first + k) + row_sum counts k 64 * period ≡ fine_at times (first + (k + 64)) + 64 * (32 * period) =
+    λ k within. sum_of_remainders times first counts period remainders (64 + most) k are long many 64 (omega (arith, within)) in
     record {
       offs = λ k early.
           let one = are (64 + k) (omega (arith, early)) in
@@ -300,8 +347,8 @@ evidence_of times last most counts period off drift remainders sums enough many 
             long = omega (arith, one, by.0, by.1, ap (λ (n : ℕ). fine_at times n) (number k), ap (λ (n : ℕ). fine_at times n) (later k));
             short = omega (arith, one, by.0, by.1, ap (λ (n : ℕ). fine_at times n) (number k), ap (λ (n : ℕ). fine_at times n) (later k));
           };
-      long = λ k within. omega (arith, total k within, (windows k within).0, (windows k within).1, sums_rise remainders sums (64 + most) k sums_are 64 (omega (arith, within)), ap (λ (n : ℕ). fine_at times n) (begin k), ap (λ (n : ℕ). fine_at times n) (end k));
-      short = λ k within. omega (arith, total k within, (windows k within).0, (windows k within).1, sums_rise remainders sums (64 + most) k sums_are 64 (omega (arith, within)), ap (λ (n : ℕ). fine_at times n) (begin k), ap (λ (n : ℕ). fine_at times n) (end k));
+      long = λ k within. omega (arith, total k within, (drifts k within).0, (drifts k within).1, ap (λ (n : ℕ). fine_at times n) (begin k), ap (λ (n : ℕ). fine_at times n) (end k));
+      short = λ k within. omega (arith, total k within, (drifts k within).0, (drifts k within).1, ap (λ (n : ℕ). fine_at times n) (begin k), ap (λ (n : ℕ). fine_at times n) (end k));
     }
 
 -- what is known of the numbers at a transition of a stretch

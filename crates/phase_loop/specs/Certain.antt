@@ -1,6 +1,6 @@
 -- Stretches whose counts are certain before any place is followed.
-use Rattle.std.specs.List.{sum_by}
-use Rattle.std.specs.Prelude.{min, max, ◌≡◌, ℕ, zero, suc, ◌+◌, ◌-◌, ◌*◌, ◌/◌, ◌%◌, ◌^◌, ◌<◌, ◌≤◌, List, slice_index}
+use Rattle.std.specs.List.{sum, sum_by}
+use Rattle.std.specs.Prelude.{min, max, ◌≡◌, ℕ, zero, suc, ◌+◌, ◌-◌, ◌*◌, ◌/◌, ◌%◌, ◌^◌, ◌<◌, ◌≤◌, List, drop, slice_index, take}
 use Rattle.phase_loop.specs.Start.{FINE_PER_TICK, INTERVALS, LONGEST, SHORTEST_PERIOD, LONGEST_PERIOD}
 use Rattle.phase_loop.specs.Window.{count_total}
 use Rattle.phase_loop.specs.State.{LoopState}
@@ -62,10 +62,28 @@ pub record AreEnds (early late stand : Stand) : Type 0 where
 abbrev pub IsIn : Extent → ℕ → Type 0
 IsIn extent n = (extent.least ≤ n) × (n ≤ extent.most)
 
--- the first of the sums is none, and each of so many later ones is the one before it and a number more
+-- the number is so much off this one at most
+abbrev pub IsAbout : (number middle off : ℕ) → Type 0
+IsAbout number middle off = (number ≤ middle + off) × (middle ≤ number + off)
+
+-- so many numbers in a row, from a place on, added up
+abbrev pub row_sum : List ℕ → (from many : ℕ) → ℕ
+row_sum numbers from many = sum (take many (drop from numbers))
+
+-- The intervals of each window have this period as their mean cell, but for so much: each has at least 64 cells, and the remainders are
+-- what its intervals are beyond them, and 32 periods for each interval.
+abbrev pub IsDrift : List ℕ → (most period drift : ℕ) → Type 0
+IsDrift remainders most period drift = (place : ℕ) → place ≤ most
+    → IsAbout (row_sum remainders place INTERVALS) (INTERVALS * (LONGEST * period)) (INTERVALS * drift)
+
+-- the first of the sums is none, and each of so many later ones is the one before it and a number more, as far as 32 bits hold them
 pub record AreSums (numbers sums : List ℕ) (many : ℕ) : Type 0 where
   pub none : slice_index sums 0 ≡ 0
-  pub more : (place : ℕ) → place < many → slice_index sums (place + 1) ≡ slice_index sums place + slice_index numbers place
+  pub more : (place : ℕ) → place < many → slice_index sums (place + 1) ≡ (slice_index sums place + slice_index numbers place) % 2 ^ 32
+
+-- how much a later sum is above an earlier one, where both are kept as far as 32 bits hold them
+abbrev pub low_difference : (later earlier : ℕ) → ℕ
+low_difference later earlier = (later + 2 ^ 32 - earlier) % 2 ^ 32
 
 -- After so many transitions of the stretch the counts are those of the rule, and the place is no further than this from the last of them.
 pub record IsCertain (times : List ℕ) (last taken : ℕ) (state : LoopState) (counts : List ℕ) (reach : ℕ) : Type 0 where

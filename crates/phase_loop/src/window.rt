@@ -13,7 +13,7 @@ use std::marker::Model;
 pub(crate) const INTERVALS: usize = 64;
 
 /// The most transitions of a stretch.
-pub(crate) const STRETCH: usize = 512;
+pub(crate) const STRETCH: usize = 2048;
 
 /// From one transition to the next.
 #[derive(Clone, Copy, Debug, PartialEq, Eq)]

@@ -8,7 +8,7 @@ ghost use Rattle.std.specs.Prelude.{◌≡◌, ℕ, ◌+◌, ◌-◌, ◌*◌, �
 ghost use Rattle.std.specs.List.Sorted.{IsNonDecreasing};
 ghost use Rattle.std.specs.List.{All};
 ghost use Rattle.phase_loop.specs.Stretch.{counts_of, AreBetween, AreGuessed, TakesRuns};
-ghost use Rattle.phase_loop.specs.Certain.{AreCertain, AreSums, IsCertain, IsEarliest, IsIn, IsReach, IsRemainder, AreTicks, cells_in, stand_at};
+ghost use Rattle.phase_loop.specs.Certain.{AreCertain, AreSums, IsAbout, IsCertain, IsDrift, IsEarliest, IsIn, IsReach, IsRemainder, AreTicks, cells_in, low_difference, stand_at};
 
 use super::stretch::Stand;
 use super::{LONGEST, Loop};
@@ -57,7 +57,7 @@ impl Loop {
         requires rising { IsNonDecreasing times.now }
         requires within { All (λ time. time ≤ 2 ^ 39) times.now }
         requires inside { last + most < length times.now }
-        requires most { most ≤ 512 }
+        requires most { most ≤ 2048 }
         requires here { self.now.fine ≡ 1024 * slice_index times.now last }
         requires full { length self.now.recent ≡ 64 }
         requires window { AreBetween times.now last self.now.recent }
@@ -85,7 +85,7 @@ impl Loop {
         requires rising { IsNonDecreasing times.now }
         requires within { All (λ time. time ≤ 2 ^ 39) times.now }
         requires inside { last + most < length times.now }
-        requires most { most ≤ 512 }
+        requires most { most ≤ 2048 }
         requires here { self.now.fine ≡ 1024 * slice_index times.now last }
         requires full { length self.now.recent ≡ 64 }
         requires window { AreBetween times.now last self.now.recent }
@@ -107,11 +107,26 @@ impl Loop {
         if off > period / 4 {
             return None;
         }
-        let mut sums = [0; SUMS];
-        put_sums(ticks, span, &mut sums);
-        let windows = windows_extent(&sums, most);
-        let drift = windows.spread(WHOLE_WINDOW * period) / 64 + 1;
-        self.reach_by(stand, FINE_PER_TICK * times[last], off, drift)
+        let fine = FINE_PER_TICK * times[last];
+        let drift = self.drift(stand, fine, off, ticks, most);
+        self.reach_by(stand, fine, off, drift)
+    }
+
+    /// How far the mean cell of each window of a stretch is at most from the period of its begin, by the remainders of the
+    /// intervals. No mean is further off than the intervals are. Where that is near enough no sums are looked at.
+    fn drift(&self, stand: Stand, fine: u64, off: u32, remainders: &[u32; SPAN], most: usize) -> u32
+        requires fine { fine ≤ 2 ^ 49 }
+        requires place { stand.place ≤ 2 ^ 50 }
+        requires period { stand.period ≤ 163840 }
+        requires off { 4 * off ≤ stand.period }
+        requires most { most ≤ 2048 }
+        requires near { (place : ℕ) → place < 64 + most → IsAbout (slice_index remainders.now place) (32 * stand.period) off }
+        ensures { IsDrift remainders.now most stand.period result }
+    {
+        if self.reach_by(stand, fine, off, off).is_some() {
+            return off;
+        }
+        drift_by_sums(remainders, most, stand.period as u32)
     }
 
     /// How far the place is from the times at most, where each interval is off by so much at most and each mean by so much, if no
@@ -149,7 +164,7 @@ impl Loop {
         requires within { All (λ time. time ≤ 2 ^ 39) times.now }
         requires inside { last + most < length times.now }
         requires least { 128 ≤ most }
-        requires most { most ≤ 512 }
+        requires most { most ≤ 2048 }
         requires guesses { AreGuessed most counts.now }
         requires certain { AreCertain times.now last most self.now counts.now reach }
         requires near { reach ≤ 163840 }
@@ -193,7 +208,7 @@ impl Loop {
         requires within { All (λ time. time ≤ 2 ^ 39) times.now }
         requires inside { last + taken < length times.now }
         requires some { 1 ≤ taken }
-        requires most { taken ≤ 512 }
+        requires most { taken ≤ 2048 }
         requires certain { IsCertain times.now last taken self.now counts.now reach }
         requires near { reach ≤ 163840 }
         ensures { IsEarliest (stand_at times.now last self.now counts.now taken) reach result }
@@ -242,7 +257,7 @@ const NONE: Extent = Extent {
 pub(super) fn put_ticks(times: &[u64], first: usize, many: usize, ticks: &mut [u32; SPAN])
     requires rising { IsNonDecreasing times.now }
     requires inside { first + many < length times.now }
-    requires many { many ≤ 576 }
+    requires many { many ≤ 2112 }
     ensures { AreTicks times.now first many ticks.new }
 {
     for place in 0..many {
@@ -253,7 +268,7 @@ pub(super) fn put_ticks(times: &[u64], first: usize, many: usize, ticks: &mut [u
 
 /// Makes the lengths of so many intervals, in ticks, their remainders, and gives the extent of these.
 fn make_remainders(ticks: &mut [u32; SPAN], counts: &[u8; SPAN], period: u32, many: usize) -> Extent
-    requires many { many ≤ 576 }
+    requires many { many ≤ 2112 }
     requires ticks { (place : ℕ) → place < many → slice_index ticks.old place < 2 ^ 21 }
     requires counts { (place : ℕ) → place < many → slice_index counts.now place ≤ 32 }
     requires period { period ≤ 163840 }
@@ -270,29 +285,40 @@ fn make_remainders(ticks: &mut [u32; SPAN], counts: &[u8; SPAN], period: u32, ma
     extent
 }
 
-/// Puts the sums of the first so many numbers, the sum of none first.
+/// How far the mean cell of each window of a stretch is from the period at most, by the sums of the remainders.
+fn drift_by_sums(remainders: &[u32; SPAN], most: usize, period: u32) -> u32
+    requires most { most ≤ 2048 }
+    requires period { period ≤ 163840 }
+    requires small { (place : ℕ) → place < 64 + most → slice_index remainders.now place ≤ 5406720 }
+    ensures { IsDrift remainders.now most period result }
+{
+    let mut sums = [0; SUMS];
+    put_sums(remainders, INTERVALS + most, &mut sums);
+    let windows = windows_extent(&sums, most);
+    windows.spread(WHOLE_WINDOW * period) / 64 + 1
+}
+
+/// Puts the sums of the first so many numbers, the sum of none first, of each the low 32 bits.
 fn put_sums(numbers: &[u32; SPAN], many: usize, sums: &mut [u32; SUMS])
-    requires many { many ≤ 576 }
-    requires small { (place : ℕ) → place < many → slice_index numbers.now place ≤ 5406720 }
+    requires many { many ≤ 2112 }
     requires none { slice_index sums.old 0 ≡ 0 }
     ensures { AreSums numbers.now sums.new many }
 {
-    let mut sum = 0;
+    let mut sum: u32 = 0;
     for place in 0..many {
-        sum += numbers[place];
+        sum = sum.wrapping_add(numbers[place]);
         sums[place + 1] = sum;
     }
 }
 
 /// The extent of the sums of 64 numbers in a row, from each of the first places up to this one on.
 fn windows_extent(sums: &[u32; SUMS], most: usize) -> Extent
-    requires most { most ≤ 512 }
-    requires rising { (place : ℕ) → place ≤ most → slice_index sums.now place ≤ slice_index sums.now (place + 64) }
-    ensures { (place : ℕ) → place ≤ most → IsIn result (slice_index sums.now (place + 64) - slice_index sums.now place) }
+    requires most { most ≤ 2048 }
+    ensures { (place : ℕ) → place ≤ most → IsIn result (low_difference (slice_index sums.now (place + 64)) (slice_index sums.now place)) }
 {
     let mut extent = NONE;
     for place in 0..most + 1 {
-        extent = extent.with(sums[place + INTERVALS] - sums[place]);
+        extent = extent.with(sums[place + INTERVALS].wrapping_sub(sums[place]));
     }
     extent
 }

@@ -1,5 +1,10 @@
 //! When it is tried whether a stretch is certain.
+ghost use Rattle.std.specs.Prelude.{◌≤◌};
+
 use crate::window::STRETCH;
+
+/// The most transitions of a stretch where the one before was not certain, and for how many it is not tried after the first such.
+const SHORTER: usize = 512;
 
 /// For how many transitions at most it is not tried.
 const LONGEST: usize = 8192;
@@ -22,6 +27,16 @@ impl Doubt {
         number < self.end
     }
 
+    /// The most transitions of the next stretch: what is done for those behind noise is done in vain.
+    pub(crate) fn longest_stretch(self) -> usize
+        ensures { result ≤ 2048 }
+    {
+        if self.length > 0 {
+            return SHORTER;
+        }
+        STRETCH
+    }
+
     /// The doubt after a stretch from one transition to another, which was certain or not.
     pub(crate) fn after(self, last: usize, next: usize, certain: bool) -> Doubt {
         if certain {
@@ -30,7 +45,7 @@ impl Doubt {
         if self.lasts(last) {
             return self;
         }
-        let longer = self.length.saturating_mul(2).saturating_add(STRETCH);
+        let longer = self.length.saturating_mul(2).saturating_add(SHORTER);
         let length = longer.min(LONGEST);
         Doubt {
             length,

@@ -129,12 +129,12 @@ impl Loop {
         requires window { AreBetween times.now last self.now.recent }
         requires counts { take 64 counts.old ≡ counts_of self.now.recent }
         requires short { length cells.old.cells ≤ 32 * last + 1 }
-        ensures most { IfOk result (λ r. r.1 ≤ last + 512) }
+        ensures most { IfOk result (λ r. r.1 ≤ last + 2048) }
         ensures stretch { IfOk result (λ r. IsStretch times.now last r.1 self.now r.0 (drop (r.1 - last) (take (64 + (r.1 - last)) counts.new)) cells.old cells.new) }
         ensures room { room cells.old ≤ room cells.new }
         ensures succeeds { 32 * length times.now ≤ room cells.old → IsOk result }
     {
-        let most = STRETCH.min(times.len() - 1 - last);
+        let most = self.doubt.longest_stretch().min(times.len() - 1 - last);
         let mut ticks = [0; INTERVALS + STRETCH];
         put_ticks(times, last - INTERVALS, INTERVALS + most, &mut ticks);
         Guess::by(self.period).put_counts(
@@ -159,7 +159,7 @@ impl Loop {
         requires rising { IsNonDecreasing times.now }
         requires within { All (λ time. time ≤ 2 ^ 39) times.now }
         requires inside { last + most < length times.now }
-        requires most { most ≤ 512 }
+        requires most { most ≤ 2048 }
         requires here { self.now.fine ≡ 1024 * slice_index times.now last }
         requires full { length self.now.recent ≡ 64 }
         requires window { AreBetween times.now last self.now.recent }
@@ -190,7 +190,7 @@ impl Loop {
         requires rising { IsNonDecreasing times.now }
         requires within { All (λ time. time ≤ 2 ^ 39) times.now }
         requires inside { last + most < length times.now }
-        requires most { most ≤ 512 }
+        requires most { most ≤ 2048 }
         requires here { self.now.fine ≡ 1024 * slice_index times.now last }
         requires full { length self.now.recent ≡ 64 }
         requires window { AreBetween times.now last self.now.recent }

@@ -6,7 +6,7 @@ use Rattle.cell_bits.specs.Run.{IsShortRun}
 use Rattle.phase_loop.specs.State.{LoopState}
 use Rattle.phase_loop.specs.Certain.{IsReach, fine_at}
 use Rattle.phase_loop.proofs.Stretches.{IsBand, guess_short}
-use Rattle.phase_loop.proofs.Certain.{Evidence, begins, certain, counts_few, evidence_of, few_ticks, remainders_of, sums_rise}
+use Rattle.phase_loop.proofs.Certain.{Evidence, begins, certain, counts_few, evidence_of, few_ticks, remainders_of}
 use Rattle.phase_loop.proofs.phase.Loop.reach.Goals as goal
 
 pub make_remainders-extent-requires-clause-counts : goal.make_remainders-extent-requires-clause-counts
@@ -22,14 +22,8 @@ make_remainders-extent-requires-clause-counts c = λ place early.
           omega (arith, short.1, ap (λ (n : ℕ). slice_index counts n) number)
     ]
 
-pub put_sums-requires-clause-small : goal.put_sums-requires-clause-small
-put_sums-requires-clause-small c = λ place early.
-    let near = c.spread-off.ensures _ (c.make_remainders-extent.ensures.extent place early) in
-    omega (arith, near.0, c.if-off-period.false, c.stand-stand.ensures.bounds)
-
-pub windows_extent-windows-requires-clause-rising : goal.windows_extent-windows-requires-clause-rising
-windows_extent-windows-requires-clause-rising c = λ place within.
-    sums_rise _ _ _ place c.put_sums.ensures 64 (omega (arith, within))
+pub drift-drift-requires-clause-near : goal.drift-drift-requires-clause-near
+drift-drift-requires-clause-near c = λ place early. c.spread-off.ensures _ (c.make_remainders-extent.ensures.extent place early)
 
 pub returns-clause-certain : goal.returns-clause-certain
 returns-clause-certain c = IfSome_then c.reach_by.result c.reach_by.ensures.reach (λ reach is.
@@ -37,7 +31,7 @@ returns-clause-certain c = IfSome_then c.reach_by.result c.reach_by.ensures.reac
     let state : LoopState = c.args.self.now in
     let counts : List ℕ = c.args.counts.now in
     let off : ℕ = c.spread-off.result in
-    let drift : ℕ = c.spread.result / 64 + 1 in
+    let drift : ℕ = c.drift-drift.result in
     let P : ℕ → Type 0 = λ p. IsReach state.band p c.stand-stand.result.place (fine_at times c.args.last) off drift reach in
     let Q : ℕ → Type 0 = λ p. IsReach state.band state.period p (fine_at times c.args.last) off drift reach in
     let is_reach = subst Q c.stand-stand.ensures.place.0 (subst P c.stand-stand.ensures.place.1 is) in
@@ -46,15 +40,12 @@ returns-clause-certain c = IfSome_then c.reach_by.result c.reach_by.ensures.reac
     let end : c.args.last - 64 + (64 + c.args.most) ≡ c.args.last + c.args.most = omega (arith, c.requires.window.enough) in
     let few : slice_index times (c.args.last - 64 + (64 + c.args.most)) - slice_index times (c.args.last - 64) < 2097152 =
     omega (arith, c.if-times-last-ge-MOST_TICKS.false, ap (λ (n : ℕ). slice_index times n) end) in
-    let evidence = evidence_of times c.args.last c.args.most counts c.stand-stand.result.period off drift c.make_remainders-extent.new.ticks c.put_sums.new.sums
-    c.requires.window.enough (omega (arith, c.told-counts, c.requires.most))
+    let evidence = evidence_of times c.args.last c.args.most counts c.stand-stand.result.period off drift c.make_remainders-extent.new.ticks
+    c.requires.window.enough (omega (arith, c.told-ticks, c.requires.most)) (omega (arith, c.told-counts, c.requires.most))
     (remainders_of times (c.args.last - 64) (64 + c.args.most) counts c.stand-stand.result.period c.args.ticks.now c.make_remainders-extent.new.ticks c.requires.rising
     (omega (arith, c.requires.inside, c.requires.window.enough)) few c.requires.ticks c.make_remainders-extent.ensures.remainders)
     (λ place early. c.spread-off.ensures _ (c.make_remainders-extent.ensures.extent place early))
-    c.put_sums.ensures
-    (λ place within.
-    let near = c.spread.ensures _ (c.windows_extent-windows.ensures place within) in
-    (omega (arith, near.0), omega (arith, near.1))) in
+    c.drift-drift.ensures in
     certain times c.args.last c.args.most state counts off drift reach c.requires.rising c.requires.inside c.requires.most (omega (arith, c.told-counts)) c.requires.guesses band
     (begins times c.args.last state counts c.stand-stand.result.count c.requires.rising (omega (arith, c.requires.inside)) c.requires.here c.requires.full c.requires.window c.requires.counts
     c.stand-stand.ensures.window (omega (arith, c.stand-stand.ensures.place, c.stand-stand.ensures.bounds)) (omega (arith, c.stand-stand.ensures.place, c.stand-stand.ensures.bounds)) (omega (arith, c.stand-stand.ensures.place, c.stand-stand.ensures.bounds)))

@@ -4,8 +4,7 @@ use Rattle.phase_loop.proofs.phase.certain.put_sums.Given as goal
 
 abbrev pub invariant-loop-place : goal.invariant-loop-place
 invariant-loop-place l = record {
-  whole : length l.sums ≡ 577;
-  small : l.sum ≤ 5406720 * l.place;
+  whole : length l.sums ≡ 2113;
   last : slice_index l.sums l.place ≡ l.sum;
   are : AreSums l.numbers l.sums l.place;
 }

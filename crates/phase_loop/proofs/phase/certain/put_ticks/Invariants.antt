@@ -4,6 +4,6 @@ use Rattle.phase_loop.proofs.phase.certain.put_ticks.Given as goal
 
 abbrev pub invariant-loop-place : goal.invariant-loop-place
 invariant-loop-place l = record {
-  whole : length l.ticks ≡ 576;
+  whole : length l.ticks ≡ 2112;
   are : AreTicks l.times l.first l.place l.ticks;
 }
