@@ -31,38 +31,41 @@ fn next_data<L: Layout>(
 {
     buffer.clear();
     let header_end = layout.header_end(frame)?;
-    let stop = next_header_behind(layout, frame, header_end);
+    let end = header_end + DATA_REACH;
     let mut start = from.max(header_end);
-    while start < stop {
-        let sync = layout.next_sync(frame, start, stop)?;
+    // No header stands from the header's end up to here: where no sync for data is found, no more is looked at.
+    let mut seen = header_end;
+    while start < end {
+        let sync = layout.next_sync(frame, start, end)?;
+        if has_header(layout, frame, seen, sync) {
+            return None;
+        }
         if read_at_sync(layout, size, frame, sync, buffer) {
             return Some(sync);
         }
+        seen = sync;
         start = sync + 1;
     }
     None
 }
 
-/// Where syncs need no longer be tried: after the first place within reach of the header's end at which another header
-/// stands, or where the reach ends.
-fn next_header_behind<L: Layout>(layout: &L, frame: &CellsFrom, header_end: usize) -> usize
-    requires near { header_end < 2 ^ 30 }
-    ensures reach { result ≤ header_end + DATA_REACH }
-    ensures none { (place : ℕ) (name : HeaderName) → header_end ≤ place → place + 1 < result
+/// Whether a header of any name stands at a place from `from` to below `to`.
+fn has_header<L: Layout>(layout: &L, frame: &CellsFrom, from: usize, to: usize) -> bool
+    requires order { from ≤ to }
+    requires near { to < 2 ^ 31 }
+    ensures some { IsTrue result → (place : ℕ) × (name : HeaderName) × (from ≤ place) × (place < to)
+        × NamedHeaderStands L.SYNC L.SYNC_CELLS (L.header_end layout.now) (L.names layout.now) (drop place frame.now) name }
+    ensures none { result ≡ false → (place : ℕ) (name : HeaderName) → from ≤ place → place < to
         → ¬ NamedHeaderStands L.SYNC L.SYNC_CELLS (L.header_end layout.now) (L.names layout.now) (drop place frame.now) name }
-    ensures first { (place : ℕ) → result ≤ place → place < header_end + DATA_REACH
-        → (other : ℕ) × (name : HeaderName) × (header_end ≤ other) × (other < place)
-        × NamedHeaderStands L.SYNC L.SYNC_CELLS (L.header_end layout.now) (L.names layout.now) (drop other frame.now) name }
 {
-    let end = header_end + DATA_REACH;
-    let mut start = header_end;
-    while let Some(place) = frame.find_word(start, end, L::SYNC, L::SYNC_CELLS) {
-        start = place + 1;
+    let mut start = from;
+    while let Some(place) = frame.find_word(start, to, L::SYNC, L::SYNC_CELLS) {
         if standing_name(layout, &frame.behind(place)).is_some() {
-            return start;
+            return true;
         }
+        start = place + 1;
     }
-    end
+    false
 }
 
 /// The name of the header at the front of the cells, where the sync stands. None where no header stands.
