@@ -15,13 +15,14 @@ use Rattle.flux_engine.specs.Tracks.{Found}
 use Rattle.flux_engine.specs.declared.plan.Rule.{Rule}
 use Rattle.flux_engine.specs.declared.plan.Rule.TheVariants.{Strict, Controller}
 use Rattle.flux_engine.proofs.AsControllers.{same_size}
-use Rattle.flux_engine.proofs.Rising.{either_has, first_has, later_has, same_members}
+use Rattle.frame_law.specs.lemmas.Members.{contains_cases, contains_first, contains_later}
+use Rattle.flux_engine.proofs.Rising.{same_members}
 
 module _ {X Y : Type 0} (g : X → List Y) where
   joined_has : (x : X) (y : Y) (xs : List X) → Contains xs x → Contains (g x) y → Contains (flat_map g xs) y
   joined_has x y [] has one = absurd (omega (arith, has.1))
   joined_has x y (z ∷ xs) has one =
-      elim (either_has z x xs has) [
+      elim (contains_cases z x xs has) [
         | inl same ↦ Contains-append_left (g z) (flat_map g xs) y (subst (λ (w : X). Contains (g w) y) (sym same) one)
         | inr later ↦ Contains-append_right (g z) (flat_map g xs) y (joined_has x y xs later one)
       ]
@@ -30,8 +31,8 @@ module _ {X Y : Type 0} (g : X → List Y) where
   has_joined y [] has = absurd (omega (arith, has.1))
   has_joined y (z ∷ xs) has =
       elim (Contains-append_cases (g z) (flat_map g xs) y has) [
-        | inl here ↦ (z, first_has z xs, here)
-        | inr later ↦ (let rest = has_joined y xs later in (rest.0, later_has z rest.0 xs rest.1, rest.2))
+        | inl here ↦ (z, contains_first z xs, here)
+        | inr later ↦ (let rest = has_joined y xs later in (rest.0, contains_later z rest.0 xs rest.1, rest.2))
       ]
 
 -- the good readings of a header, and its data
@@ -43,9 +44,9 @@ good_has place sector d (first ∷ more) has = mapped (first ∷ more) has
     mapped [] has = absurd (omega (arith, has.1))
     mapped (e ∷ es) has =
         let of : ℕ × List ℕ → Found = λ (e : ℕ × List ℕ). (place, GoodFrame sector, e.1) in
-        elim (either_has e d es has) [
-          | inl same ↦ subst (Contains (of e ∷ map of es)) (ap of same) (first_has (of e) (map of es))
-          | inr later ↦ later_has (of e) (of d) (map of es) (mapped es later)
+        elim (contains_cases e d es has) [
+          | inl same ↦ subst (Contains (of e ∷ map of es)) (ap of same) (contains_first (of e) (map of es))
+          | inr later ↦ contains_later (of e) (of d) (map of es) (mapped es later)
         ]
 
 -- what a good reading of a header comes from
@@ -57,7 +58,7 @@ record ComesFrom (place sector : ℕ) (h : ℕ × HeaderData) (bytes : List ℕ)
 
 comes_from : (place sector : ℕ) (bytes : List ℕ) (h : ℕ × HeaderData) → Contains (readings_of h) (place, GoodFrame sector, bytes) → ComesFrom place sector h bytes
 comes_from place sector bytes (cell, (s, [])) has =
-    elim (either_has (let f : Found = (cell, BadFrame s, []) in f) (place, GoodFrame sector, bytes) [] has) [
+    elim (contains_cases (let f : Found = (cell, BadFrame s, []) in f) (place, GoodFrame sector, bytes) [] has) [
       | inl same ↦ (let frame : BadFrame s ≡ GoodFrame sector = ap (λ (f : Found). f.1) same in absurd (cc))
       | inr later ↦ absurd (omega (arith, later.1))
     ]
@@ -68,18 +69,18 @@ comes_from place sector bytes (cell, (s, first ∷ more)) has = mapped (first �
     mapped [] has = absurd (omega (arith, has.1))
     mapped (e ∷ es) has =
         let of : ℕ × List ℕ → Found = λ (e : ℕ × List ℕ). (cell, GoodFrame s, e.1) in
-        elim (either_has (of e) (let f : Found = (place, GoodFrame sector, bytes) in f) (map of es) has) [
+        elim (contains_cases (of e) (let f : Found = (place, GoodFrame sector, bytes) in f) (map of es) has) [
           | inl same ↦
               let content : e.1 ≡ bytes = ap (λ (f : Found). f.2) same in
               record {
                 at = ap (λ (f : Found). f.0) same;
                 of = (let frame : GoodFrame s ≡ GoodFrame sector = ap (λ (f : Found). f.1) same in cc);
                 begin = e.0;
-                has = subst (λ (xs : List ℕ). Contains (e ∷ es) (e.0, xs)) content (first_has e es);
+                has = subst (λ (xs : List ℕ). Contains (e ∷ es) (e.0, xs)) content (contains_first e es);
               }
           | inr later ↦
               let rest = mapped es later in
-              record { at = rest.at; of = rest.of; begin = rest.begin; has = later_has e (rest.begin, bytes) es rest.has }
+              record { at = rest.at; of = rest.of; begin = rest.begin; has = contains_later e (rest.begin, bytes) es rest.has }
         ]
 
 module _ (header : List Bool → ℕ → Type 0) (data_stand : List Bool → ℕ → List ℕ → Type 0) (cells : List Bool) (found : List Found) (all : AreReadByControllers header data_stand cells found)

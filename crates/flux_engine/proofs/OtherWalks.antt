@@ -21,7 +21,8 @@ use Rattle.flux_engine.specs.Room.{MOST_CELLS}
 use Rattle.flux_engine.specs.Rules.{AreReadByControllers, IsOtherAt, OtherFound}
 use Rattle.flux_engine.specs.Tracks.{Found, place_in}
 use Rattle.flux_engine.proofs.HeaderWalks.{header_step, headers_end, headers_start}
-use Rattle.flux_engine.proofs.Rising.{Places, either_has, place_has, rise_push}
+use Rattle.frame_law.specs.lemmas.Members.{contains_cases}
+use Rattle.flux_engine.proofs.Rising.{Places, place_has, rise_push}
 use Rattle.flux_engine.proofs.Walks.{append_others, is_met, met_at, same_shape, walk_step}
 
 same_true : (a b : Bool) → (a ≡ true → b ≡ true) → (b ≡ true → a ≡ true) → a ≡ b
@@ -90,7 +91,7 @@ module _ (named : List Bool → HeaderName → Type 0) (header : List Bool → �
         each = λ place y. (
           λ has. elim (Contains-append_cases others (this ∷ []) (let f : ℕ × OtherFound = (place, y) in f) has) [
             | inl left ↦ (let at = (b.each place y).0 left in (omega (arith, at.0, least), at.1))
-            | inr right ↦ elim (either_has this (let f : ℕ × OtherFound = (place, y) in f) [] right) [
+            | inr right ↦ elim (contains_cases this (let f : ℕ × OtherFound = (place, y) in f) [] right) [
               | inl same ↦ subst (λ (f : ℕ × OtherFound). (f.0 < cell + 1) × At f.0 f.1) same (omega arith, here)
               | inr later ↦ absurd (omega (arith, later.1))
             ]

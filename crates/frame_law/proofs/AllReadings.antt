@@ -1,23 +1,14 @@
 -- A list is that of the readings exactly where it is all that stands in the cells.
-use Rattle.std.specs.Prelude.{◌≡◌, ◌≢◌, ℕ, zero, suc, ◌+◌, ◌<◌, ◌≤◌, Bool, List, [], ◌∷◌, length, drop, Contains, refl, slice_index, Some, None}
+use Rattle.std.specs.Prelude.{◌≡◌, ◌≢◌, ℕ, zero, suc, ◌+◌, ◌<◌, ◌≤◌, Bool, List, [], ◌∷◌, length, drop, Contains, refl, Some, None}
 use Rattle.std.specs.List.Sorted.{IsStrictlyIncreasing}
-use Rattle.std.proofs.Common.{ap, sym, subst, ◌∙◌, arith, length-drop, inl, inr, ◌⊎◌}
+use Rattle.std.proofs.Common.{ap, sym, subst, ◌∙◌, arith, length-drop, inl, inr}
 use Rattle.std.proofs.lemmas.Bool.{cases_lt}
 use Rattle.std.proofs.lemmas.List.Elements.{All-contains, All-weaker, All-contains_itself}
+use Rattle.frame_law.specs.lemmas.Members.{contains_cases, contains_first, contains_later, rise_above, rise_behind}
 use Rattle.frame_law.specs.declared.reading.Reading.{Reading}
 use Rattle.frame_law.specs.declared.reading.Reading.TheVariants.{Nothing, Bad, Good}
 use Rattle.frame_law.specs.Laws.{Found, places, HasHeader, AreAllFrom, ReadingsAreOne}
 use Rattle.frame_law.specs.Readings.{Reads, AreReadings, FirstReading}
-
-pub contains_first : {X : Type 0} (x : X) (xs : List X) → Contains (x ∷ xs) x
-contains_first x xs = (0, omega arith, refl)
-
-pub contains_later : {X : Type 0} (y x : X) (xs : List X) → Contains xs x → Contains (y ∷ xs) x
-contains_later y x xs has = (suc has.0, omega (arith, has.1), has.2)
-
-pub contains_cases : {X : Type 0} (y x : X) (xs : List X) → Contains (y ∷ xs) x → (y ≡ x) ⊎ Contains xs x
-contains_cases y x xs (zero, within, same) = inl same
-contains_cases y x xs (suc k, within, same) = inr (k, omega arith, same)
 
 contains_place : (f : Found) (found : List Found) → Contains found f → Contains (places found) f.0
 contains_place f [] has = absurd (omega (arith, has.1))
@@ -49,21 +40,6 @@ behind_first f g rest above has =
     elim (contains_cases f g rest has) [
       | inl same ↦ absurd (let e = ap (λ (h : Found). h.0) same in omega (arith, above, e))
       | inr later ↦ later
-    ]
-
-pub rise_behind : (x : ℕ) (xs : List ℕ) → IsStrictlyIncreasing (x ∷ xs) → IsStrictlyIncreasing xs
-rise_behind x xs rise k within =
-    let e : suc k + 1 ≡ suc (k + 1) = omega arith in
-    let step : slice_index xs k < slice_index (x ∷ xs) (suc k + 1) = rise (suc k) (omega (arith, within)) in
-    subst (λ (n : ℕ). slice_index xs k < slice_index (x ∷ xs) n) e step
-
-pub rise_above : (x : ℕ) (xs : List ℕ) → IsStrictlyIncreasing (x ∷ xs) → (y : ℕ) → Contains xs y → x < y
-rise_above x [] rise y has = absurd (omega (arith, has.1))
-rise_above x (z ∷ zs) rise y has =
-    let next : x < z = rise 0 (omega arith) in
-    elim (contains_cases z y zs has) [
-      | inl same ↦ subst (λ (n : ℕ). x < n) same next
-      | inr later ↦ (let more = rise_above z zs (rise_behind x (z ∷ zs) rise) y later in omega (arith, next, more))
     ]
 
 module _ (header : List Bool → ℕ → Type 0) (sector : List Bool → ℕ → List ℕ → Type 0)

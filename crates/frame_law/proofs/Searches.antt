@@ -4,7 +4,7 @@ use Rattle.std.specs.List.Sorted.{IsStrictlyIncreasing}
 use Rattle.std.proofs.Common.{ap, sym, subst, ◌∙◌, arith, inl, inr, ◌⊎◌}
 use Rattle.std.proofs.lemmas.Bool.{cases_lt}
 use Rattle.frame_law.specs.Controller.{AreAllAt, AreFound}
-use Rattle.frame_law.proofs.AllReadings.{contains_cases, contains_first, contains_later, rise_above, rise_behind}
+use Rattle.frame_law.specs.lemmas.Members.{contains_cases, contains_first, contains_later, rise_above, rise_behind}
 
 module _ {X : Type 0} (At : ℕ → X → Type 0) (one : (place : ℕ) (x y : X) → At place x → At place y → x ≡ y) where
   abbrev Places : List (ℕ × X) → List ℕ

@@ -6,5 +6,6 @@ pub mod FrameLaws
 pub mod ControllerLaws
 pub mod OwnData
 pub mod OwnFrames
+pub mod Members
 pub mod Named
 pub mod Spacing

@@ -1,27 +1,15 @@
 -- From what stands in the cells to the verdicts over all readings.
-use Rattle.std.specs.Prelude.{◌≡◌, ℕ, zero, suc, ◌+◌, Bool, true, false, not, ◌&&◌, Contains, List, [], ◌∷◌, length, filter, find, cond, nat_eq, is_some, is_none, unwrap_or, Option, Some, None, if◌then◌else◌, refl}
+use Rattle.std.specs.Prelude.{◌≡◌, ℕ, ◌+◌, Bool, true, false, not, ◌&&◌, Contains, List, [], ◌∷◌, length, filter, find, cond, nat_eq, is_some, is_none, unwrap_or, Option, Some, None, if◌then◌else◌, refl}
 use Rattle.std.specs.Str.{bytes_eq}
-use Rattle.std.proofs.Common.{ap, sym, subst, ◌∙◌, arith, inl, inr, ◌⊎◌}
+use Rattle.std.proofs.Common.{ap, sym, subst, ◌∙◌, inl, inr, ◌⊎◌}
 use Rattle.std.proofs.lemmas.Bool.{eqb-true, eq-eqb}
 use Rattle.std.proofs.lemmas.Slice.Eq.{bytes_eq-Decides}
+use Rattle.frame_law.specs.lemmas.Members.{contains_cases, contains_first, contains_later, contains_none}
 use Rattle.turn_merge.specs.Readings.{NotedReading, agreed, agreed_of, bad_ones, bytes_of, first_other, good_ones, verdict, verdict_of, verdict_with}
 use Rattle.turn_merge.specs.declared.verdict.Place.{Place}
 use Rattle.law_decoded_rings.specs.Pieces.{RingPiece, begin_of_piece, cells_of_ring_pieces}
 use Rattle.law_decoded_rings.specs.Verdicts.{AreReadingsOf, IsGoodWith, IsGoodWithOrLost, LiesInOnePiece, StandsAsWrittenWithin, VerdictsAreRight}
 use Rattle.law_decoded_rings.specs.Written.{HasSector, WrittenTrack}
-
-contains_first : {X : Type 0} (x : X) (xs : List X) → Contains (x ∷ xs) x
-contains_first x xs = (0, omega arith, refl)
-
-contains_later : {X : Type 0} (y x : X) (xs : List X) → Contains xs x → Contains (y ∷ xs) x
-contains_later y x xs has = (suc has.0, omega (arith, has.1), has.2)
-
-contains_cases : {X : Type 0} (y x : X) (xs : List X) → Contains (y ∷ xs) x → (y ≡ x) ⊎ Contains xs x
-contains_cases y x xs (zero, within, same) = inl same
-contains_cases y x xs (suc k, within, same) = inr (k, omega arith, same)
-
-contains_none : {X : Type 0} (x : X) → Contains [] x → ⊥
-contains_none x has = omega (arith, has.1)
 
 module _ {X : Type 0} (test : X → Bool) where
   kept_step : (y x : X) (ys : List X) (b : Bool) → test y ≡ b → Contains (cond b (y ∷ filter test ys) (filter test ys)) x

@@ -6,6 +6,7 @@ use Rattle.std.proofs.Common.{ap, sym, subst, ◌∙◌, arith, length-append, l
 use Rattle.std.proofs.lemmas.List.{length-map, length-replicate}
 use Rattle.std.proofs.lemmas.Simd.{length-zip2}
 use Rattle.flux_base.specs.declared.track.TrackId.{TrackId}
+use Rattle.frame_law.specs.lemmas.OwnFrames.{AreSizes-fit}
 use Rattle.frame_law.specs.Frames.{AreSizes}
 use Rattle.mfm_coding.specs.declared.symbol.Symbol.TheVariants.{Data}
 use Rattle.amiga_mfm.specs.declared.half.Half.TheVariants.{Odd, Even}
@@ -53,7 +54,7 @@ symbols_sized disk track sector bytes Content =
 
 -- the numbers of the recording
 pub sizes : AreSizes 2 4 32 480 2
-sizes = record { some_cells = lit≤ tt; word = lit≤ tt; apart = lit≤ tt; order = lit≤ tt; near = lit≤ tt; header = lit≤ tt; last = lit≤ tt }
+sizes = AreSizes-fit (lit≤ tt) (lit≤ tt) (lit≤ tt) (lit≤ tt) (lit≤ tt) (lit≤ tt) (lit≤ tt)
 
 pub one_name : (cells : List Bool) (n m : HeaderName) → Names cells n → Names cells m → n ≡ m
 one_name cells (TrackSector track s) (TrackSector other t) first second =

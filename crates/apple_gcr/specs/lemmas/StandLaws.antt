@@ -14,7 +14,7 @@ use Rattle.apple_gcr.specs.Sectors.{Hold, IsAddress, IsAddressOf, Names, NamesSe
 use Rattle.apple_gcr.specs.SixAndTwo.{AreCoded}
 use Rattle.apple_gcr.specs.lemmas.ValueLaws.{one_carried, one_list}
 use Rattle.track_rings.specs.lemmas.Fronts.{AgreeTo, agree-stands}
-use Rattle.frame_law.specs.lemmas.OwnFrames.{TellsEarly, TellsEnds}
+use Rattle.frame_law.specs.lemmas.OwnFrames.{AreSizes-fit, TellsEarly, TellsEnds}
 use Rattle.frame_law.specs.Others.{NamesSectors}
 use Rattle.flux_base.specs.declared.header_name.HeaderName.{HeaderName}
 use Rattle.flux_base.specs.declared.header_name.HeaderName.TheVariants.{Address, TrackSector, TrackSectorSide}
@@ -23,15 +23,7 @@ use Rattle.apple_nibbles.specs.Nibbles.{disk_byte}
 use Rattle.apple_nibbles.specs.lemmas.FieldBytes.{same_byte}
 
 pub sizes : AreSizes 1 3 24 88 2
-sizes = record {
-  some_cells = lit≤ tt;
-  word = lit≤ tt;
-  apart = lit≤ tt;
-  order = lit≤ tt;
-  near = lit≤ tt;
-  header = lit≤ tt;
-  last = lit≤ tt;
-}
+sizes = AreSizes-fit (lit≤ tt) (lit≤ tt) (lit≤ tt) (lit≤ tt) (lit≤ tt) (lit≤ tt) (lit≤ tt)
 
 pub within_reach : IsWithinReach 88 172 2768
 within_reach = record { after = lit≤ tt; near = lit< tt; few = lit≤ tt }

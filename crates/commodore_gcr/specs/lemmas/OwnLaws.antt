@@ -6,7 +6,7 @@ use Rattle.flux_base.specs.declared.track.TrackId.{TrackId}
 use Rattle.check_values.specs.Sums.{xor}
 use Rattle.track_rings.specs.lemmas.Fronts.{AgreeTo, agree-stands}
 use Rattle.frame_law.specs.Frames.{AreSizes, IsWithinReach}
-use Rattle.frame_law.specs.lemmas.OwnFrames.{TellsEarly}
+use Rattle.frame_law.specs.lemmas.OwnFrames.{AreSizes-fit, TellsEarly}
 use Rattle.frame_law.specs.Others.{NamesSectors}
 use Rattle.commodore_gcr.specs.lemmas.CodingLaws.{ByteAt-agree, BytesAt-agree, one_byte_at, one_list_at}
 use Rattle.commodore_gcr.specs.Sectors.{Hold, IsSync, Names, NamesSector, numbered_bytes}
@@ -15,15 +15,7 @@ use Rattle.flux_base.specs.declared.header_name.HeaderName.{HeaderName}
 use Rattle.flux_base.specs.declared.header_name.HeaderName.TheVariants.{Address, TrackSector, TrackSectorSide}
 
 pub sizes : AreSizes 1 3 11 70 1
-sizes = record {
-  some_cells = lit≤ tt;
-  word = lit≤ tt;
-  apart = lit≤ tt;
-  order = lit≤ tt;
-  near = lit≤ tt;
-  header = lit≤ tt;
-  last = lit≤ tt;
-}
+sizes = AreSizes-fit (lit≤ tt) (lit≤ tt) (lit≤ tt) (lit≤ tt) (lit≤ tt) (lit≤ tt) (lit≤ tt)
 
 pub within_reach : IsWithinReach 70 192 2590
 within_reach = record { after = lit≤ tt; near = lit< tt; few = lit≤ tt }

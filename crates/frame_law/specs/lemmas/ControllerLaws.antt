@@ -17,7 +17,7 @@ use Rattle.frame_law.specs.Controller.{DataStandAt, NamedHeaderStands, START_ZER
 use Rattle.flux_base.specs.declared.header_name.HeaderName.{HeaderName}
 use Rattle.frame_law.specs.Frames.{DataStand}
 use Rattle.frame_law.specs.lemmas.OwnData.{AreSyncsOrNone, BeginAtOnce, HasOwnDataSyncs, IsDataOffset}
-use Rattle.frame_law.specs.lemmas.OwnFrames.{AgreesWithFrame, TellsEarly, TellsEnds}
+use Rattle.frame_law.specs.lemmas.OwnFrames.{AgreesWithFrame, TellsEarly, TellsEnds, told-alone}
 
 -- cells without so many zeros in a row have no more either
 pub fewer_zeros : (few many : ℕ) (cells : List Bool) (from to : ℕ) → few ≤ many → NoZeros few cells from to → NoZeros many cells from to
@@ -78,13 +78,8 @@ module _ (header_cells data_cells : ℕ) (header_end : List Bool → ℕ) (data_
     pub named_alone : (cells : List Bool) (name : HeaderName) → 0 < header_cells → Header cells name → IsAlone (λ others. Header others name) cells
     named_alone cells name some header =
         let end = header_end cells in
-        record {
-          end = end;
-          some = omega (arith, some, ends.header_least cells);
-          within = header.whole;
-          unbroken = header.unbroken;
-          alone = λ more. agree_header end cells (take end cells ++ more) name (agree-front end cells more header.whole) (omega arith) header;
-        }
+        told-alone (λ others. Header others name) cells end (omega (arith, some, ends.header_least cells)) header.whole header.unbroken
+        (λ others same. agree_header end cells others name same (omega arith) header)
 
     -- so do data
     pub agree_data : (total : ℕ) (cells others : List Bool) (place : ℕ) (bytes : List ℕ) → AgreeTo total cells others → data_end cells place ≤ total

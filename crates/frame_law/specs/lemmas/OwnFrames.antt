@@ -111,6 +111,30 @@ pub record AgreesWithFrame (header_end : List Bool → ℕ) (data_end : List Boo
       → AgreeTo (end - 7) cells (stretch ring (place_of s) size)
   pub stands : (size : ℕ) → frame_cells ≤ size → DataStand header_end data_end is_sync hold (stretch ring (place_of s) size) content
 
+-- what cells up to an end tell, which are unbroken, depends on these alone
+pub told-alone : (Said : List Bool → Type 0) (cells : List Bool) (end : ℕ) → 0 < end → end ≤ length cells → Unbroken cells 0 end
+    → ((others : List Bool) → AgreeTo end cells others → Said others) → IsAlone Said cells
+told-alone Said cells end some within unbroken told = record {
+  end = end;
+  some = some;
+  within = within;
+  unbroken = unbroken;
+  alone = λ more. told (take end cells ++ more) (agree-front end cells more within);
+}
+
+-- the numbers of a recording, each compared with its bound
+pub AreSizes-fit : {shortest longest sync_cells header_cells zeros : ℕ} → 1 ≤ sync_cells → sync_cells ≤ 32 → 1 ≤ shortest → shortest ≤ longest
+    → longest ≤ 4 → 4 ≤ header_cells → 1 ≤ zeros → AreSizes shortest longest sync_cells header_cells zeros
+AreSizes-fit some_cells word apart order near header last = record {
+  some_cells = some_cells;
+  word = word;
+  apart = apart;
+  order = order;
+  near = near;
+  header = header;
+  last = last;
+}
+
 pub some_header : {shortest longest sync_cells header_cells zeros : ℕ} → AreSizes shortest longest sync_cells header_cells zeros → 0 < header_cells
 some_header sizes = omega (arith, sizes.header)
 
@@ -168,13 +192,8 @@ module _ (header_cells data_cells : ℕ) (header_end : List Bool → ℕ) (data_
   pub header_alone : (cells : List Bool) (s : ℕ) → 0 < header_cells → Header cells s → IsAlone (λ others. Header others s) cells
   header_alone cells s some header =
       let end = header_end cells in
-      record {
-        end = end;
-        some = omega (arith, some, ends.header_least cells);
-        within = header.whole;
-        unbroken = header.unbroken;
-        alone = λ more. agree-header end cells (take end cells ++ more) s (agree-front end cells more header.whole) (omega arith) header;
-      }
+      told-alone (λ others. Header others s) cells end (omega (arith, some, ends.header_least cells)) header.whole header.unbroken
+      (λ others same. agree-header end cells others s same (omega arith) header)
 
   pub sector_alone : (cells : List Bool) (s : ℕ) (bytes : List ℕ) → 0 < header_cells → Sector cells s bytes
       → IsAlone (λ others. Sector others s bytes) cells

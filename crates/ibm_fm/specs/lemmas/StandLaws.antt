@@ -2,6 +2,7 @@
 use Rattle.std.specs.Prelude.{◌≡◌, ℕ, ◌+◌, Bool, List, drop, length, refl}
 use Rattle.std.proofs.Common.{ap, sym, subst, ◌∙◌, inl, inr, lit≤}
 use Rattle.flux_base.specs.declared.track.TrackId.{TrackId}
+use Rattle.frame_law.specs.lemmas.OwnFrames.{AreSizes-fit}
 use Rattle.frame_law.specs.Frames.{AreSizes}
 use Rattle.cell_bits.specs.Word.{Stands}
 use Rattle.flux_base.specs.declared.header_name.HeaderName.{HeaderName}
@@ -11,15 +12,7 @@ use Rattle.ibm_fields.specs.lemmas.FieldLaws.{length-bytes_at, one_address, one_
 use Rattle.ibm_fm.specs.Sectors.{Hold, IsSync, Names, NamesSector}
 
 pub sizes : AreSizes 1 2 16 112 1
-sizes = record {
-  some_cells = lit≤ tt;
-  word = lit≤ tt;
-  apart = lit≤ tt;
-  order = lit≤ tt;
-  near = lit≤ tt;
-  header = lit≤ tt;
-  last = lit≤ tt;
-}
+sizes = AreSizes-fit (lit≤ tt) (lit≤ tt) (lit≤ tt) (lit≤ tt) (lit≤ tt) (lit≤ tt) (lit≤ tt)
 
 pub one_name : (cells : List Bool) (n m : HeaderName) → Names cells n → Names cells m → n ≡ m
 one_name cells n m first second = one_address (bytes_at cells 16 4) n m (length-bytes_at cells 16 4) first.address second.address

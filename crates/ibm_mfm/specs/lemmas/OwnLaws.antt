@@ -5,7 +5,7 @@ use Rattle.std.proofs.Common.{ap, sym, subst, ◌∙◌, arith, lit≤}
 use Rattle.flux_base.specs.declared.track.TrackId.{TrackId}
 use Rattle.track_rings.specs.lemmas.Fronts.{AgreeTo, agree-data_byte, agree-stands}
 use Rattle.frame_law.specs.Frames.{AreSizes}
-use Rattle.frame_law.specs.lemmas.OwnFrames.{TellsEarly}
+use Rattle.frame_law.specs.lemmas.OwnFrames.{AreSizes-fit, TellsEarly}
 use Rattle.frame_law.specs.Others.{NamesSectors}
 use Rattle.ibm_fields.specs.lemmas.FieldFronts.{agree-bytes_at, agree-number_at}
 use Rattle.ibm_fields.specs.lemmas.FieldLaws.{length-bytes_at, one_address, one_sector}
@@ -17,15 +17,7 @@ use Rattle.flux_base.specs.declared.header_name.HeaderName.{HeaderName}
 use Rattle.ibm_fields.specs.Fields.{bytes_at, sector_name}
 
 pub sizes : AreSizes 2 4 32 160 2
-sizes = record {
-  some_cells = lit≤ tt;
-  word = lit≤ tt;
-  apart = lit≤ tt;
-  order = lit≤ tt;
-  near = lit≤ tt;
-  header = lit≤ tt;
-  last = lit≤ tt;
-}
+sizes = AreSizes-fit (lit≤ tt) (lit≤ tt) (lit≤ tt) (lit≤ tt) (lit≤ tt) (lit≤ tt) (lit≤ tt)
 
 pub one_name : (cells : List Bool) (n m : HeaderName) → Names cells n → Names cells m → n ≡ m
 one_name cells n m first second = one_address (bytes_at cells 64 4) n m (length-bytes_at cells 64 4) first.address second.address

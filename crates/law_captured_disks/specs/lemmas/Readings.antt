@@ -1,8 +1,9 @@
 -- The readings of a track's cells are those of the sectors that stand there.
-use Rattle.std.specs.Prelude.{◌≡◌, ◌↔◌, ℕ, zero, suc, Bool, Contains, List, [], ◌∷◌, drop, flat_map, Some, None, refl}
-use Rattle.std.proofs.Common.{ap, sym, subst, ◌∙◌, arith, inl, inr, ◌⊎◌}
+use Rattle.std.specs.Prelude.{◌≡◌, ◌↔◌, ℕ, Bool, Contains, List, [], ◌∷◌, drop, flat_map, Some, None, refl}
+use Rattle.std.proofs.Common.{ap, sym, subst, ◌∙◌, arith, inl, inr}
 use Rattle.std.proofs.lemmas.List.Elements.{Contains-append_cases, Contains-append_left, Contains-append_right}
 use Rattle.frame_law.specs.Laws.{ReadingsAreAll}
+use Rattle.frame_law.specs.lemmas.Members.{contains_cases, contains_first, contains_later, contains_none}
 use Rattle.frame_law.specs.Readings.{AreReadings}
 use Rattle.frame_law.specs.declared.reading.Reading.TheVariants.{Nothing, Bad as BadFrame, Good as GoodFrame}
 use Rattle.frame_law.specs.declared.reading.Reading.{Reading as Frame}
@@ -11,19 +12,6 @@ use Rattle.turn_merge.specs.declared.clock.Clock.{Clock}
 use Rattle.turn_merge.specs.declared.verdict.Place.{Place}
 use Rattle.law_decoded_rings.specs.Verdicts.{AreReadingsOf}
 use Rattle.flux_engine.specs.Tracks.{Found, place_in, readings_at, readings_in}
-
-contains_first : {X : Type 0} (x : X) (xs : List X) → Contains (x ∷ xs) x
-contains_first x xs = (0, omega arith, refl)
-
-contains_later : {X : Type 0} (y x : X) (xs : List X) → Contains xs x → Contains (y ∷ xs) x
-contains_later y x xs has = (suc has.0, omega (arith, has.1), has.2)
-
-contains_cases : {X : Type 0} (y x : X) (xs : List X) → Contains (y ∷ xs) x → (y ≡ x) ⊎ Contains xs x
-contains_cases y x xs (zero, within, same) = inl same
-contains_cases y x xs (suc k, within, same) = inr (k, omega arith, same)
-
-contains_none : {X : Type 0} (x : X) → Contains [] x → ⊥
-contains_none x has = omega (arith, has.1)
 
 module _ {X Y : Type 0} (g : X → List Y) where
   from_flat : (xs : List X) (y : Y) → Contains (flat_map g xs) y → (x : X) × Contains xs x × Contains (g x) y

@@ -6,7 +6,7 @@ use Rattle.std.proofs.Math.Seq.{drop-append_seam}
 use Rattle.flux_base.specs.declared.track.TrackId.{TrackId}
 use Rattle.track_rings.specs.lemmas.Fronts.{AgreeTo, agree-stands}
 use Rattle.frame_law.specs.Frames.{AreSizes, IsWithinReach}
-use Rattle.frame_law.specs.lemmas.OwnFrames.{TellsEarly}
+use Rattle.frame_law.specs.lemmas.OwnFrames.{AreSizes-fit, TellsEarly}
 use Rattle.frame_law.specs.Others.{NamesSectors}
 use Rattle.apple_nibbles.specs.Marks.{IsSync}
 use Rattle.apple_nibbles.specs.Nibbles.{disk_byte}
@@ -20,15 +20,7 @@ use Rattle.macintosh_gcr.specs.lemmas.CodingLaws.{AreSums, FirstSame, data-fit, 
 use Rattle.macintosh_gcr.specs.lemmas.Values.{nibbles-agree, one_nibble}
 
 pub sizes : AreSizes 1 3 24 64 2
-sizes = record {
-  some_cells = lit≤ tt;
-  word = lit≤ tt;
-  apart = lit≤ tt;
-  order = lit≤ tt;
-  near = lit≤ tt;
-  header = lit≤ tt;
-  last = lit≤ tt;
-}
+sizes = AreSizes-fit (lit≤ tt) (lit≤ tt) (lit≤ tt) (lit≤ tt) (lit≤ tt) (lit≤ tt) (lit≤ tt)
 
 pub within_reach : IsWithinReach 64 148 5656
 within_reach = record { after = lit≤ tt; near = lit< tt; few = lit≤ tt }
