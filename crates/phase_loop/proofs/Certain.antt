@@ -1,19 +1,18 @@
 -- A stretch whose counts are certain before any place is followed.
-use Rattle.std.proofs.Common.{◌≡◌, ℕ, zero, suc, ◌+◌, ◌-◌, ◌*◌, ◌/◌, ◌%◌, ◌^◌, ◌<◌, ◌≤◌, min, max, All, Bool, List, [], ◌∷◌, ◌++◌, flat_map, length, take, drop, get_or, set, arith, refl, sym, ◌∙◌, ap, subst, inl, inr, slice_index, length-append, append-nil}
-use Rattle.std.specs.List.{sum_by}
+use Rattle.std.proofs.Common.{◌≡◌, ℕ, zero, suc, ◌+◌, ◌-◌, ◌*◌, ◌/◌, ◌%◌, ◌^◌, ◌<◌, ◌≤◌, min, max, All, List, [], ◌∷◌, length, take, drop, get_or, set, arith, refl, sym, ◌∙◌, ap, subst, inl, inr, slice_index, length-append, append-nil}
 use Rattle.std.specs.List.Sorted.{IsNonDecreasing}
 use Rattle.std.proofs.lemmas.Bool.{cases_lt}
 use Rattle.std.proofs.lemmas.List.{set-get_or, length-drop, get_or-drop}
 use Rattle.std.proofs.lemmas.List.Sums.{sum_by-cons, sum_by_more}
-use Rattle.std.proofs.Math.Nat.{div-eq_of_lt-le, div-le_of_le-mul, le-div_iff_mul-le, mul-le-mul_left, mul-le-mul_right}
+use Rattle.std.proofs.Math.Nat.{div-le_of_le-mul, le-div_iff_mul-le, mul-le-mul_right}
 use Rattle.circular_buffer.specs.Buffer.{buffer}
-use Rattle.cell_bits.specs.State.{CellsState, room}
+use Rattle.cell_bits.specs.State.{CellsState}
 use Rattle.cell_bits.specs.Run.{run_cells, IsShortRun}
-use Rattle.phase_loop.specs.Start.{LONGEST_PERIOD, in_band}
+use Rattle.phase_loop.specs.Start.{in_band}
 use Rattle.phase_loop.specs.Window.{WIDEST, IsShort, IsWindow, fine_total, count_total}
 use Rattle.phase_loop.specs.State.{LoopState}
 use Rattle.phase_loop.specs.Stretch.{interval_at, intervals_with, counts_of, stand_next, with_runs, AreBetween, AreGuessed, IsStretch, TakesRuns}
-use Rattle.phase_loop.specs.Certain.{fine_at, stand_of, stand_after, stand_at, cells_in, low_difference, row_sum, AreEnds, AreSums, AreTicks, IsAbout, IsDrift, IsRemainder, IsCertain, AreCertain, IsReach, IsEarliest}
+use Rattle.phase_loop.specs.Certain.{fine_at, stand_of, stand_after, stand_at, cells_in, low_difference, row_sum, AreEnds, AreSums, AreTicks, IsAbout, IsDrift, IsRemainder, IsCertain, AreCertain, IsReach}
 use Rattle.phase_loop.specs.declared.start.Band.{Band}
 use Rattle.phase_loop.specs.declared.window.Interval.{Interval}
 use Rattle.phase_loop.specs.declared.window.Totals.{Totals}

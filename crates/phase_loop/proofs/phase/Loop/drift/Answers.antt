@@ -1,5 +1,4 @@
-use Rattle.std.proofs.Common.{ℕ, ◌+◌, ◌*◌, ◌≤◌, ◌<◌, slice_index, arith}
-use Rattle.phase_loop.specs.Certain.{IsAbout}
+use Rattle.std.proofs.Common.{◌+◌, ◌*◌, arith}
 use Rattle.phase_loop.proofs.Certain.{row_about}
 use Rattle.phase_loop.proofs.phase.Loop.drift.Goals as goal
 

@@ -1,5 +1,4 @@
-use Rattle.std.proofs.Common.{◌≡◌, ℕ, ◌+◌, ◌*◌, ◌/◌, ◌≤◌, ◌<◌, List, slice_index, arith}
-use Rattle.phase_loop.specs.Certain.{IsAbout, row_sum}
+use Rattle.std.proofs.Common.{◌*◌, arith}
 use Rattle.phase_loop.proofs.Certain.{drift_of_blocks}
 use Rattle.phase_loop.proofs.phase.certain.drift_by_sums.Goals as goal
 

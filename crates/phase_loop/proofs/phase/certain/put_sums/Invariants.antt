@@ -1,4 +1,4 @@
-use Rattle.std.proofs.Common.{◌≡◌, ◌≤◌, ◌<◌, ◌+◌, ◌*◌, ℕ, length, slice_index}
+use Rattle.std.proofs.Common.{◌≡◌, length, slice_index}
 use Rattle.phase_loop.specs.Certain.{AreSums}
 use Rattle.phase_loop.proofs.phase.certain.put_sums.Given as goal
 
