@@ -1,18 +1,19 @@
 -- A stretch whose counts are certain before any place is followed.
-use Rattle.std.proofs.Common.{◌≡◌, ℕ, zero, suc, ◌+◌, ◌-◌, ◌*◌, ◌/◌, ◌%◌, ◌^◌, ◌<◌, ◌≤◌, min, max, All, List, [], ◌∷◌, length, take, drop, get_or, set, arith, refl, sym, ◌∙◌, ap, subst, inl, inr, slice_index, length-append, append-nil}
+use Rattle.std.proofs.Common.{◌≡◌, ℕ, zero, suc, ◌+◌, ◌-◌, ◌*◌, ◌/◌, ◌%◌, ◌^◌, ◌<◌, ◌≤◌, min, max, All, Bool, List, [], ◌∷◌, ◌++◌, flat_map, length, take, drop, get_or, set, arith, refl, sym, ◌∙◌, ap, subst, inl, inr, slice_index, length-append, append-nil}
+use Rattle.std.specs.List.{sum_by}
 use Rattle.std.specs.List.Sorted.{IsNonDecreasing}
 use Rattle.std.proofs.lemmas.Bool.{cases_lt}
 use Rattle.std.proofs.lemmas.List.{set-get_or, length-drop, get_or-drop}
 use Rattle.std.proofs.lemmas.List.Sums.{sum_by-cons, sum_by_more}
-use Rattle.std.proofs.Math.Nat.{div-le_of_le-mul, le-div_iff_mul-le, mul-le-mul_right}
+use Rattle.std.proofs.Math.Nat.{div-eq_of_lt-le, div-le_of_le-mul, le-div_iff_mul-le, mul-le-mul_left, mul-le-mul_right}
 use Rattle.circular_buffer.specs.Buffer.{buffer}
-use Rattle.cell_bits.specs.State.{CellsState}
+use Rattle.cell_bits.specs.State.{CellsState, room}
 use Rattle.cell_bits.specs.Run.{run_cells, IsShortRun}
-use Rattle.phase_loop.specs.Start.{in_band}
+use Rattle.phase_loop.specs.Start.{LONGEST_PERIOD, in_band}
 use Rattle.phase_loop.specs.Window.{WIDEST, IsShort, IsWindow, fine_total, count_total}
 use Rattle.phase_loop.specs.State.{LoopState}
 use Rattle.phase_loop.specs.Stretch.{interval_at, intervals_with, counts_of, stand_next, with_runs, AreBetween, AreGuessed, IsStretch, TakesRuns}
-use Rattle.phase_loop.specs.Certain.{fine_at, stand_of, stand_after, stand_at, cells_in, low_difference, row_sum, AreEnds, AreSums, AreTicks, IsAbout, IsDrift, IsRemainder, IsCertain, AreCertain, IsReach}
+use Rattle.phase_loop.specs.Certain.{fine_at, stand_of, stand_after, stand_at, cells_in, low_difference, row_sum, AreEnds, AreSums, AreTicks, IsAbout, IsDrift, IsRemainder, IsCertain, AreCertain, IsReach, IsEarliest}
 use Rattle.phase_loop.specs.declared.start.Band.{Band}
 use Rattle.phase_loop.specs.declared.window.Interval.{Interval}
 use Rattle.phase_loop.specs.declared.window.Totals.{Totals}
@@ -172,78 +173,45 @@ row_about numbers middle off span k near long (suc i) within =
     ap (λ (n : ℕ). row_sum numbers k n) (sym later) ∙ row_sum-more numbers k i (omega (arith, within, long)) in
     (omega (arith, more, before.0, one.0), omega (arith, more, before.1, one.1))
 
--- two rows, one behind the other
-pub row_both : (numbers : List ℕ) (from many : ℕ) (more : ℕ) → from + many + more ≤ length numbers
-    → row_sum numbers from (many + more) ≡ row_sum numbers from many + row_sum numbers (from + many) more
-row_both numbers from many zero inside =
-    let same : many + 0 ≡ many = omega arith in
-    rw same (omega arith)
-row_both numbers from many (suc more) inside =
-    let before = row_both numbers from many more (omega (arith, inside)) in
-    let whole : many + suc more ≡ many + more + 1 = omega arith in
-    let one : suc more ≡ more + 1 = omega arith in
-    let place : from + (many + more) ≡ from + many + more = omega arith in
-    let left : row_sum numbers from (many + suc more) ≡ row_sum numbers from (many + more) + slice_index numbers (from + (many + more)) =
-    ap (λ (n : ℕ). row_sum numbers from n) whole ∙ row_sum-more numbers from (many + more) (omega (arith, inside)) in
-    let right : row_sum numbers (from + many) (suc more) ≡ row_sum numbers (from + many) more + slice_index numbers (from + many + more) =
-    ap (λ (n : ℕ). row_sum numbers (from + many) n) one ∙ row_sum-more numbers (from + many) more (omega (arith, inside)) in
-    omega (arith, before, left, right, ap (λ (n : ℕ). slice_index numbers n) place)
+-- numbers in a row, each at most so large
+pub row_most : (numbers : List ℕ) (largest span k : ℕ) → ((place : ℕ) → place < span → slice_index numbers place ≤ largest)
+    → span ≤ length numbers → (i : ℕ) → k + i ≤ span → row_sum numbers k i ≤ i * largest
+row_most numbers largest span k small long zero within = omega arith
+row_most numbers largest span k small long (suc i) within =
+    let before = row_most numbers largest span k small long i (omega (arith, within)) in
+    let one = small (k + i) (omega (arith, within)) in
+    let later : i + 1 ≡ suc i = omega arith in
+    let more : row_sum numbers k (suc i) ≡ row_sum numbers k i + slice_index numbers (k + i) =
+    ap (λ (n : ℕ). row_sum numbers k n) (sym later) ∙ row_sum-more numbers k i (omega (arith, within, long)) in
+    omega (arith, more, before, one)
 
 -- the sums are kept as far as 32 bits hold them
-sums_low : (numbers sums : List ℕ) (blocks : ℕ) → AreSums numbers sums blocks → (k : ℕ) → k ≤ blocks → slice_index sums k < 2 ^ 32
-sums_low numbers sums blocks are zero within = omega (arith, are.none)
-sums_low numbers sums blocks are (suc k) within =
+sums_low : (numbers sums : List ℕ) (many : ℕ) → AreSums numbers sums many → (k : ℕ) → k ≤ many → slice_index sums k < 2 ^ 32
+sums_low numbers sums many are zero within = omega (arith, are.none)
+sums_low numbers sums many are (suc k) within =
     let one : k + 1 ≡ suc k = omega arith in
     omega (arith, are.more k (omega (arith, within)), ap (λ (n : ℕ). slice_index sums n) one)
 
 -- a later sum is an earlier one and the numbers between, as far as 32 bits hold them
-sum_later : (numbers sums : List ℕ) (blocks k : ℕ) → AreSums numbers sums blocks → 4 * blocks ≤ length numbers → (i : ℕ) → k + i ≤ blocks
-    → slice_index sums (k + i) ≡ (slice_index sums k + row_sum numbers (4 * k) (4 * i)) % 2 ^ 32
-sum_later numbers sums blocks k are long zero within =
+sum_later : (numbers sums : List ℕ) (many k : ℕ) → AreSums numbers sums many → many ≤ length numbers → (i : ℕ) → k + i ≤ many
+    → slice_index sums (k + i) ≡ (slice_index sums k + row_sum numbers k i) % 2 ^ 32
+sum_later numbers sums many k are long zero within =
     let here : k + 0 ≡ k = omega arith in
-    rw here (omega (arith, sums_low numbers sums blocks are k (omega (arith, within))))
-sum_later numbers sums blocks k are long (suc i) within =
-    let before = sum_later numbers sums blocks k are long i (omega (arith, within)) in
+    rw here (omega (arith, sums_low numbers sums many are k (omega (arith, within))))
+sum_later numbers sums many k are long (suc i) within =
+    let before = sum_later numbers sums many k are long i (omega (arith, within)) in
     let next = are.more (k + i) (omega (arith, within)) in
     let place : k + suc i ≡ k + i + 1 = omega arith in
-    let later : 4 * suc i ≡ 4 * i + 4 = omega arith in
-    let begin : 4 * k + 4 * i ≡ 4 * (k + i) = omega arith in
-    let more : row_sum numbers (4 * k) (4 * suc i) ≡ row_sum numbers (4 * k) (4 * i) + row_sum numbers (4 * (k + i)) 4 =
-    ap (λ (n : ℕ). row_sum numbers (4 * k) n) later ∙ row_both numbers (4 * k) (4 * i) 4 (omega (arith, within, long))
-    ∙ ap (λ (n : ℕ). row_sum numbers (4 * k) (4 * i) + row_sum numbers n 4) begin in
+    let later : i + 1 ≡ suc i = omega arith in
+    let more : row_sum numbers k (suc i) ≡ row_sum numbers k i + slice_index numbers (k + i) =
+    ap (λ (n : ℕ). row_sum numbers k n) (sym later) ∙ row_sum-more numbers k i (omega (arith, within, long)) in
     omega (arith, before, next, more, ap (λ (n : ℕ). slice_index sums n) place)
 
 -- so their difference is the numbers between, where these are few enough
-difference_is : (numbers sums : List ℕ) (blocks k : ℕ) → AreSums numbers sums blocks → 4 * blocks ≤ length numbers → k + 16 ≤ blocks
-    → row_sum numbers (4 * k) 64 < 2 ^ 32 → low_difference (slice_index sums (k + 16)) (slice_index sums k) ≡ row_sum numbers (4 * k) 64
-difference_is numbers sums blocks k are long within few =
-    omega (arith, sum_later numbers sums blocks k are long 16 within, sums_low numbers sums blocks are k (omega (arith, within)), few)
-
--- what is known of the windows at the begins of blocks tells of all: a window that begins in a block has some of its intervals less, and as
--- many behind it
-pub drift_of_blocks : (numbers sums : List ℕ) (most middle off spread : ℕ) → 64 + most ≤ length numbers → 64 * (middle + off) < 2 ^ 32
-    → ((place : ℕ) → place < 64 + most → IsAbout (slice_index numbers place) middle off)
-    → AreSums numbers sums ((64 + most) / 4)
-    → ((block : ℕ) → block ≤ most / 4 → IsAbout (low_difference (slice_index sums (block + 16)) (slice_index sums block)) (64 * middle) spread)
-    → (place : ℕ) → place ≤ most → IsAbout (row_sum numbers place 64) (64 * middle) (spread + 6 * off)
-drift_of_blocks numbers sums most middle off spread long few near sums_are windows place within =
-    let k : ℕ = place / 4 in
-    let r : ℕ = place % 4 in
-    let is : 4 * k + r ≡ place = omega arith in
-    let small : r ≤ 3 = omega arith in
-    let behind : 4 * k + 64 + r ≤ 64 + most = omega (arith, within, is) in
-    let window = row_about numbers middle off (64 + most) (4 * k) near long 64 (omega (arith, behind)) in
-    let head = row_about numbers middle off (64 + most) (4 * k) near long r (omega (arith, behind)) in
-    let tail = row_about numbers middle off (64 + most) (4 * k + 64) near long r behind in
-    let product : r * off ≤ 3 * off = mul-le-mul_right off small in
-    let same = difference_is numbers sums ((64 + most) / 4) k sums_are (omega (arith, long)) (omega (arith, within)) (omega (arith, window.0, few)) in
-    let by = windows k (omega (arith, within)) in
-    let first : row_sum numbers (4 * k) (r + 64) ≡ row_sum numbers (4 * k) r + row_sum numbers place 64 =
-    row_both numbers (4 * k) r 64 (omega (arith, behind, long)) ∙ ap (λ (n : ℕ). row_sum numbers (4 * k) r + row_sum numbers n 64) is in
-    let second : row_sum numbers (4 * k) (r + 64) ≡ row_sum numbers (4 * k) 64 + row_sum numbers (4 * k + 64) r =
-    let turned : r + 64 ≡ 64 + r = omega arith in
-    ap (λ (n : ℕ). row_sum numbers (4 * k) n) turned ∙ row_both numbers (4 * k) 64 r (omega (arith, behind, long)) in
-    (omega (arith, first, second, same, by.0, by.1, head.0, head.1, tail.0, tail.1, product), omega (arith, first, second, same, by.0, by.1, head.0, head.1, tail.0, tail.1, product))
+pub difference_is : (numbers sums : List ℕ) (many k : ℕ) → AreSums numbers sums many → many ≤ length numbers → k + 64 ≤ many
+    → row_sum numbers k 64 < 2 ^ 32 → low_difference (slice_index sums (k + 64)) (slice_index sums k) ≡ row_sum numbers k 64
+difference_is numbers sums many k are long within few =
+    omega (arith, sum_later numbers sums many k are long 64 within, sums_low numbers sums many are k (omega (arith, within)), few)
 
 -- what is known of the intervals of a stretch and of the windows in it
 pub record Evidence (times : List ℕ) (last most : ℕ) (counts : List ℕ) (reference off drift : ℕ) : Type 0 where

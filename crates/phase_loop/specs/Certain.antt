@@ -76,10 +76,10 @@ abbrev pub IsDrift : List ℕ → (most period drift : ℕ) → Type 0
 IsDrift remainders most period drift = (place : ℕ) → place ≤ most
     → IsAbout (row_sum remainders place INTERVALS) (INTERVALS * (LONGEST * period)) (INTERVALS * drift)
 
--- the first of the sums is none, and each of so many later ones is the one before it and four numbers more, as far as 32 bits hold them
-pub record AreSums (numbers sums : List ℕ) (blocks : ℕ) : Type 0 where
+-- the first of the sums is none, and each of so many later ones is the one before it and a number more, as far as 32 bits hold them
+pub record AreSums (numbers sums : List ℕ) (many : ℕ) : Type 0 where
   pub none : slice_index sums 0 ≡ 0
-  pub more : (block : ℕ) → block < blocks → slice_index sums (block + 1) ≡ (slice_index sums block + row_sum numbers (4 * block) 4) % 2 ^ 32
+  pub more : (place : ℕ) → place < many → slice_index sums (place + 1) ≡ (slice_index sums place + slice_index numbers place) % 2 ^ 32
 
 -- how much a later sum is above an earlier one, where both are kept as far as 32 bits hold them
 abbrev pub low_difference : (later earlier : ℕ) → ℕ

@@ -8,7 +8,7 @@ ghost use Rattle.std.specs.Prelude.{◌≡◌, ℕ, ◌+◌, ◌-◌, ◌*◌, �
 ghost use Rattle.std.specs.List.Sorted.{IsNonDecreasing};
 ghost use Rattle.std.specs.List.{All};
 ghost use Rattle.phase_loop.specs.Stretch.{counts_of, AreBetween, AreGuessed, TakesRuns};
-ghost use Rattle.phase_loop.specs.Certain.{AreCertain, AreSums, IsAbout, IsCertain, IsDrift, IsEarliest, IsIn, IsReach, IsRemainder, AreTicks, cells_in, low_difference, row_sum, stand_at};
+ghost use Rattle.phase_loop.specs.Certain.{AreCertain, AreSums, IsAbout, IsCertain, IsDrift, IsEarliest, IsIn, IsReach, IsRemainder, AreTicks, cells_in, low_difference, stand_at};
 
 use super::stretch::Stand;
 use super::{LONGEST, Loop};
@@ -18,11 +18,8 @@ use crate::window::{INTERVALS, STRETCH};
 /// The intervals of the window and those of a stretch.
 const SPAN: usize = INTERVALS + STRETCH;
 
-/// How many numbers are added up before a sum is kept.
-const BLOCK: usize = 4;
-
-/// The sums of none, of the first block, of the first two, and so on.
-const SUMS: usize = SPAN / BLOCK + 1;
+/// The sums of none, of the first, and so on.
+const SUMS: usize = SPAN + 1;
 
 /// A stretch with fewer transitions is followed from one to the next.
 const LEAST: usize = 128;
@@ -129,7 +126,7 @@ impl Loop {
         if self.reach_by(stand, fine, off, off).is_some() {
             return off;
         }
-        drift_by_sums(remainders, most, stand.period as u32, off)
+        drift_by_sums(remainders, most, stand.period as u32)
     }
 
     /// How far the place is from the times at most, where each interval is off by so much at most and each mean by so much, if no
@@ -264,9 +261,8 @@ pub(super) fn put_ticks(times: &[u64], first: usize, many: usize, ticks: &mut [u
     ensures { AreTicks times.now first many ticks.new }
 {
     for place in 0..many {
-        let begin = (times[first + place] % (1 << 32)) as u32;
-        let end = (times[first + place + 1] % (1 << 32)) as u32;
-        ticks[place] = end.wrapping_sub(begin);
+        let length = times[first + place + 1] - times[first + place];
+        ticks[place] = (length % (1 << 32)) as u32;
     }
 }
 
@@ -289,53 +285,40 @@ fn make_remainders(ticks: &mut [u32; SPAN], counts: &[u8; SPAN], period: u32, ma
     extent
 }
 
-/// How far the mean cell of each window of a stretch is from the period at most, by sums of the remainders, each of which is off by so
-/// much at most. Windows that begin within a block are off by no more than three intervals that go and three that come.
-fn drift_by_sums(remainders: &[u32; SPAN], most: usize, period: u32, off: u32) -> u32
+/// How far the mean cell of each window of a stretch is from the period at most, by the sums of the remainders.
+fn drift_by_sums(remainders: &[u32; SPAN], most: usize, period: u32) -> u32
     requires most { most ≤ 2048 }
     requires period { period ≤ 163840 }
-    requires off { 4 * off ≤ period }
-    requires near { (place : ℕ) → place < 64 + most → IsAbout (slice_index remainders.now place) (32 * period) off }
+    requires small { (place : ℕ) → place < 64 + most → slice_index remainders.now place ≤ 5406720 }
     ensures { IsDrift remainders.now most period result }
 {
     let mut sums = [0; SUMS];
-    put_sums(remainders, (INTERVALS + most) / BLOCK, &mut sums);
-    let windows = windows_extent(&sums, most / BLOCK);
-    // Six of 64 intervals are less than a tenth.
-    windows.spread(WHOLE_WINDOW * period) / 64 + off / 10 + 2
+    put_sums(remainders, INTERVALS + most, &mut sums);
+    let windows = windows_extent(&sums, most);
+    windows.spread(WHOLE_WINDOW * period) / 64 + 1
 }
 
-/// Puts the sums of the first so many blocks of numbers, the sum of none first, of each the low 32 bits.
-fn put_sums(numbers: &[u32; SPAN], blocks: usize, sums: &mut [u32; SUMS])
-    requires blocks { blocks ≤ 528 }
-    requires small { (place : ℕ) → place < 4 * blocks → slice_index numbers.now place ≤ 5406720 }
+/// Puts the sums of the first so many numbers, the sum of none first, of each the low 32 bits.
+fn put_sums(numbers: &[u32; SPAN], many: usize, sums: &mut [u32; SUMS])
+    requires many { many ≤ 2112 }
     requires none { slice_index sums.old 0 ≡ 0 }
-    ensures { AreSums numbers.now sums.new blocks }
+    ensures { AreSums numbers.now sums.new many }
 {
     let mut sum: u32 = 0;
-    for block in 0..blocks {
-        sum = sum.wrapping_add(block_sum(numbers, BLOCK * block));
-        sums[block + 1] = sum;
+    for place in 0..many {
+        sum = sum.wrapping_add(numbers[place]);
+        sums[place + 1] = sum;
     }
 }
 
-/// The sum of the numbers of a block.
-fn block_sum(numbers: &[u32; SPAN], from: usize) -> u32
-    requires inside { from + 4 ≤ 2112 }
-    requires small { (place : ℕ) → place < from + 4 → slice_index numbers.now place ≤ 5406720 }
-    ensures { result ≡ row_sum numbers.now from 4 }
-{
-    numbers[from] + numbers[from + 1] + (numbers[from + 2] + numbers[from + 3])
-}
-
-/// The extent of the sums of 64 numbers in a row, from each of the first blocks up to this one on.
-fn windows_extent(sums: &[u32; SUMS], blocks: usize) -> Extent
-    requires blocks { blocks ≤ 512 }
-    ensures { (block : ℕ) → block ≤ blocks → IsIn result (low_difference (slice_index sums.now (block + 16)) (slice_index sums.now block)) }
+/// The extent of the sums of 64 numbers in a row, from each of the first places up to this one on.
+fn windows_extent(sums: &[u32; SUMS], most: usize) -> Extent
+    requires most { most ≤ 2048 }
+    ensures { (place : ℕ) → place ≤ most → IsIn result (low_difference (slice_index sums.now (place + 64)) (slice_index sums.now place)) }
 {
     let mut extent = NONE;
-    for block in 0..blocks + 1 {
-        extent = extent.with(sums[block + INTERVALS / BLOCK].wrapping_sub(sums[block]));
+    for place in 0..most + 1 {
+        extent = extent.with(sums[place + INTERVALS].wrapping_sub(sums[place]));
     }
     extent
 }

@@ -1,15 +1,13 @@
-use Rattle.std.proofs.Common.{◌*◌, arith}
-use Rattle.phase_loop.proofs.Certain.{drift_of_blocks}
+use Rattle.std.proofs.Common.{◌≡◌, ℕ, ◌+◌, ◌*◌, ◌≤◌, ◌<◌, List, slice_index, arith, subst}
+use Rattle.phase_loop.specs.Certain.{IsIn, row_sum}
+use Rattle.phase_loop.proofs.Certain.{difference_is, row_most}
 use Rattle.phase_loop.proofs.phase.certain.drift_by_sums.Goals as goal
-
-pub put_sums-requires-clause-small : goal.put_sums-requires-clause-small
-put_sums-requires-clause-small c = λ place early. omega (arith, early, (c.requires.near place (omega (arith, early))).0, c.requires.off, c.requires.period)
 
 pub returns : goal.returns
 returns c = λ place within.
-    let by = drift_of_blocks c.args.remainders.now c.put_sums.new.sums c.args.most (32 * c.args.period) c.args.off c.spread.result
-    (omega (arith, c.told-remainders, c.requires.most)) (omega (arith, c.requires.off, c.requires.period)) c.requires.near c.put_sums.ensures
-    (λ block early.
-    let near = c.spread.ensures _ (c.windows_extent-windows.ensures block early) in
-    (omega (arith, near.0), omega (arith, near.1))) place within in
-    (omega (arith, by.0), omega (arith, by.1))
+    let numbers : List ℕ = c.args.remainders.now in
+    let long : 64 + c.args.most ≤ 2112 = omega (arith, c.requires.most) in
+    let few : row_sum numbers place 64 ≤ 64 * 5406720 = row_most numbers 5406720 (64 + c.args.most) place c.requires.small (omega (arith, c.told-remainders, long)) 64 (omega (arith, within)) in
+    let is = difference_is numbers c.put_sums.new.sums (64 + c.args.most) place c.put_sums.ensures (omega (arith, c.told-remainders, long)) (omega (arith, within)) (omega (arith, few)) in
+    let near = c.spread.ensures _ (subst (λ (n : ℕ). IsIn c.windows_extent-windows.result n) is (c.windows_extent-windows.ensures place within)) in
+    (omega (arith, near.0), omega (arith, near.1))
