@@ -3,7 +3,7 @@ ghost use Rattle.apple_gcr.specs.DiskBytes.{byte_read, bytes_end, zeros_passed};
 ghost use Rattle.apple_gcr.specs.Sectors.{Hold, data_end};
 ghost use Rattle.apple_gcr.specs.SixAndTwo.{AreCoded};
 
-use crate::disk_bytes::{ByteRule, byte_place, bytes_end};
+use crate::disk_bytes::{ByteRule, byte_from, byte_place, bytes_end};
 use crate::layout::NIBBLES;
 use crate::six_and_two::{VALUES, Values, take_bytes};
 use apple_nibbles::{BYTE_CELLS, DATA_BYTE, DATA_BYTE_PLACE, disk_byte_at, value_of};
@@ -55,8 +55,8 @@ fn values_from(rule: ByteRule, frame: &CellsFrom, from: usize) -> Option<Values>
     let mut value = 0;
     let mut place = from;
     for _ in 0..VALUES {
-        let begin = byte_place(rule, frame, place);
-        value ^= value_of(disk_byte_at(frame, begin))?;
+        let (begin, byte) = byte_from(rule, frame, place);
+        value ^= value_of(byte)?;
         values.push(value);
         place = begin + BYTE_CELLS;
     }

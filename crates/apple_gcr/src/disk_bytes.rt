@@ -3,6 +3,7 @@
 ghost use Rattle.std.specs.Prelude.{◌≡◌, ℕ, ◌+◌, ◌^◌, ◌<◌, ◌≤◌, length, take, IfNone, IfSome};
 ghost use Rattle.cell_bits.specs.Word.{word_cells};
 ghost use Rattle.apple_gcr.specs.DiskBytes.{byte_place, bytes_end, zeros_first, zeros_passed};
+ghost use Rattle.apple_nibbles.specs.Nibbles.{disk_byte};
 
 use apple_nibbles::{BYTE_CELLS, disk_byte_at};
 use frame_law::CellsFrom;
@@ -28,6 +29,23 @@ pub(crate) fn byte_place(rule: ByteRule, frame: &CellsFrom, from: usize) -> usiz
         ByteRule::Strict => from,
         ByteRule::Controller => from + zeros_before_one(disk_byte_at(frame, from)),
     }
+}
+
+/// The byte that is read from the offset on, and where it begins. Nearly always it begins there, and is read once.
+pub(crate) fn byte_from(rule: ByteRule, frame: &CellsFrom, from: usize) -> (usize, u8)
+    requires near { from < 2 ^ 40 }
+    requires whole { byte_place (zeros_passed rule) frame.now from + 8 ≤ length frame.now }
+    requires within { from + 8 ≤ length frame.now }
+    ensures place { result.0 ≡ byte_place (zeros_passed rule) frame.now from }
+    ensures near { result.0 ≤ from + 7 }
+    ensures byte { result.1 ≡ disk_byte frame.now result.0 }
+{
+    let first = disk_byte_at(frame, from);
+    if zeros_before_one(first) == 0 {
+        return (from, first);
+    }
+    let begin = byte_place(rule, frame, from);
+    (begin, disk_byte_at(frame, begin))
 }
 
 /// How many zeros stand before the first one of a byte's first seven cells.
