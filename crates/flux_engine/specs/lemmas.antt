@@ -16,4 +16,5 @@ pub mod LineNumbers
 pub mod VerdictBounds
 pub mod ReportLines
 pub mod JoinedReadings
+pub mod OneParts
 pub mod Blamed

@@ -1,13 +1,12 @@
 -- Captured disks decode.
-use Rattle.std.specs.Prelude.{◌≡◌, ◌≤◌, ◌<◌, ℕ, ◌+◌, ◌-◌, ◌*◌, Bool, true, List, [], ◌∷◌, length, map, slice_index, unwrap_or, Option, None, refl}
+use Rattle.std.specs.Prelude.{◌≡◌, ◌≤◌, ◌<◌, ℕ, ◌+◌, ◌-◌, ◌*◌, Bool, true, List, [], ◌∷◌, length, map, slice_index, Option, None, refl}
 use Rattle.std.proofs.Common.{ap, sym, subst, ◌∙◌, arith}
-use Rattle.flux_base.specs.declared.track.TrackId.{TrackId}
 use Rattle.disk_recordings.specs.Laws.{RingsHaveCells, TracksAreRead}
 use Rattle.disk_recordings.specs.Members.{header_at, sector_at}
 use Rattle.kryo_stream.specs.Growth.{StreamsStay}
 use Rattle.kryo_stream.specs.Joined.{PaddingIsPassed}
 use Rattle.kryo_stream.specs.Stream.{indexes, times}
-use Rattle.sector_images.specs.Places.{IsSector, IsTrack, NumbersHoldSectors, NumbersNameTracks, SectorsLieInImages, TracksFillImages, TracksJoin, tracks}
+use Rattle.sector_images.specs.Places.{IsSector, NumbersHoldSectors, NumbersNameTracks, SectorsLieInImages, TracksFillImages, TracksJoin, tracks}
 use Rattle.sector_images.specs.declared.format.Format.{Format}
 use Rattle.track_rings.specs.Rings.{last_in}
 use Rattle.turn_merge.specs.Readings.{NotedReading, agreed, verdict}
@@ -21,7 +20,7 @@ use Rattle.flux_engine.specs.Captures.{Capture, CapturesAreErasedCaptures, Erase
 use Rattle.flux_engine.specs.DiskLaws.{WholeDisksFillImages, cells_at}
 use Rattle.flux_engine.specs.Disks.{Decoded, IsDecoded, IsPartAt, decoded_count, part_at}
 use Rattle.flux_engine.specs.Recordings.{sectors_of, track_at}
-use Rattle.flux_engine.specs.Rings.{IsImage, IsRing, nominal_of, ring_cells_of, ring_of, sector_bytes}
+use Rattle.flux_engine.specs.Rings.{IsImage, nominal_of, ring_of, sector_bytes}
 use Rattle.flux_engine.specs.Streams.{stream_at}
 use Rattle.flux_engine.specs.Tracks.{TrackPart, is_good, readings_of}
 use Rattle.law_captured_disks.specs.Frames.{ring_piece, written_track}
@@ -34,7 +33,7 @@ use Rattle.law_captured_disks.proofs.Sectors.{DisksAreRight, either, kept, of_on
 use Rattle.law_captured_disks.specs.lemmas.Stops.{no_stop}
 use Rattle.law_captured_disks.specs.lemmas.Streams.{IsStreamNumber, is_stream_number}
 use Rattle.law_captured_disks.specs.lemmas.Totals.{all_counted, totals_good}
-use Rattle.law_captured_disks.specs.lemmas.TrackBytes.{are_sectors, own_bytes}
+use Rattle.law_captured_disks.specs.lemmas.WrittenTracks.{AreWritten, are_written}
 
 -- what the crates below promise
 pub record Laws : Type 0 where
@@ -63,20 +62,12 @@ good_with (Bad b place) held bytes is = absurd is
 good_with Missing held bytes is = absurd is
 
 module _ (laws : Laws) (format : Format) (image x : List ℕ) (o : Decoded) (is : IsImage format image) (decoded : IsDecoded format x o) where
-  known_track : (n : ℕ) → n < length (tracks format) → IsTrack format (track_at format n)
-  known_track n known =
-      let one = laws.names format n known in
-      subst (IsTrack format) (sym (ap (λ (t : Option TrackId). unwrap_or t (record { cylinder = 0; head = 0 })) one.1)) one.2
-
-  is_ring : (n : ℕ) → n < length (tracks format) → IsRing (ring_cells_of format n) (ring_of format image n)
-  is_ring n known =
-      let track = known_track n known in
-      let ring = laws.rings format _ (track_at format n) _ track (are_sectors laws.lie format (track_at format n) image is track) in
-      record { cells_are = ring.0; spaced = ring.1 }
+  abbrev written : AreWritten format image
+  written = are_written laws.names laws.rings laws.lie format image is
 
   content : (n : ℕ) → n < length (tracks format) → (sector : ℕ) → IsSector format (track_at format n) sector
       → (written_track format image n).bytes_of sector ≡ sector_bytes format (track_at format n) image sector
-  content n known sector one = own_bytes laws.lie format (track_at format n) image is (known_track n known) sector one
+  content n known sector one = written.content n sector (record { track = known; known = one })
 
   module _ (erased : IsErasedDisk format image x) where
     stream : (n : ℕ) → n < length (tracks format) → IsStreamNumber x n (erased.stream n)
@@ -90,7 +81,7 @@ module _ (laws : Laws) (format : Format) (image x : List ℕ) (o : Decoded) (is 
     cells : (n : ℕ) (known : n < length (tracks format))
         → cells_at format x n
         ≡ cells_of_ring_pieces (ring_of format image n) (ring_piece (erased.captured n known).first) (map ring_piece (erased.captured n known).later)
-    cells n known = cells_are laws.recovered format image x n (erased.stream n) (known_track n known) (is_ring n known) (stream n known) (erased.captured n known)
+    cells n known = cells_are laws.recovered format image x n (erased.stream n) (written.known n known) (written.ring n known) (stream n known) (erased.captured n known)
 
     module _ (n : ℕ) (known : n < length (tracks format)) where
       abbrev first : RingPiece
@@ -124,7 +115,7 @@ module _ (laws : Laws) (format : Format) (image x : List ℕ) (o : Decoded) (is 
       -- it is of one piece
       one_piece : (whole : ErasedCapture (captured.stream n) (ring_of format image n) (nominal_of format n))
           × (whole.later ≡ []) × (whole.first.places ≡ capture.places)
-      one_piece = laws.alike (captured.stream n) (ring_of format image n) (nominal_of format n) (is_ring n known).spaced capture
+      one_piece = laws.alike (captured.stream n) (ring_of format image n) (nominal_of format n) (written.ring n known).spaced capture
 
     abbrev erased : IsErasedDisk format image x
     erased = record { stream = captured.stream; joined = captured.joined; captured = λ k known. (one_piece k known).0 }

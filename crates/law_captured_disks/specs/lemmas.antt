@@ -6,3 +6,5 @@ pub mod Streams
 pub mod Owning
 pub mod Cells
 pub mod Images
+pub mod WrittenTracks
+pub mod NoneGood

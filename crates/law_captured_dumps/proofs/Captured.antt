@@ -1,5 +1,5 @@
 -- From what stands in the streams of dumps to what they come to.
-use Rattle.std.specs.Prelude.{◌≡◌, ◌<◌, ◌⊎◌, ℕ, Bool, true, false, ◌&&◌, List, [], ◌∷◌, if◌then◌else◌, is_none, length, replicate, unwrap_or, Option, None, Some, refl}
+use Rattle.std.specs.Prelude.{◌≡◌, ◌<◌, ◌⊎◌, ℕ, Bool, true, ◌&&◌, List, [], if◌then◌else◌, length, replicate, unwrap_or, Option, refl}
 use Rattle.std.proofs.Common.{ap, sym, subst, ◌∙◌, arith, inl, inr}
 use Rattle.std.proofs.lemmas.Bool.{eq-eqb}
 use Rattle.dump_reading.specs.Outcomes.{DumpDisk, DumpsRead, plan_of}
@@ -10,7 +10,7 @@ use Rattle.flux_engine.specs.Plans.{AreCaptures, Streams, joined}
 use Rattle.flux_engine.specs.Recordings.{sectors_of, track_at}
 use Rattle.flux_engine.specs.Rings.{IsImage, sector_bytes}
 use Rattle.flux_engine.specs.Rules.{RulesAreRead, StandsBy}
-use Rattle.flux_engine.specs.Tracks.{Found, is_good, place_in}
+use Rattle.flux_engine.specs.Tracks.{Found, place_in}
 use Rattle.flux_engine.specs.declared.plan.Clocks.{Clocks}
 use Rattle.flux_engine.specs.declared.plan.Clocks.TheVariants.{Both, FollowingAlone}
 use Rattle.flux_engine.specs.declared.plan.Plan.{Plan}
@@ -20,12 +20,13 @@ use Rattle.flux_engine.specs.lemmas.GoodSectors.{is_good_of, of_found}
 use Rattle.flux_engine.specs.lemmas.JoinedReadings.{each_capture, each_clock}
 use Rattle.frame_law.specs.declared.reading.Reading.TheVariants.{Good as GoodFrame}
 use Rattle.law_captured_disks.specs.Headline.{IsBadOrMissing, IsSectorOf}
+use Rattle.law_captured_disks.specs.lemmas.NoneGood.{no_goods, none_agreed}
 use Rattle.law_captured_plans.specs.Headline.{IsOwnOrContradictory}
 use Rattle.sector_images.specs.Formats.{row}
 use Rattle.sector_images.specs.Places.{tracks}
 use Rattle.sector_images.specs.declared.format.Format.{Format}
 use Rattle.track_shelf.specs.Files.{File}
-use Rattle.turn_merge.specs.Readings.{NotedReading, agreed, agreed_of, bad_ones, bytes_of, first_other, good_ones, good_reading, verdict, verdict_of, verdict_with}
+use Rattle.turn_merge.specs.Readings.{NotedReading, bad_ones, good_ones, good_reading, verdict}
 use Rattle.turn_merge.specs.declared.clock.Clock.{Clock}
 use Rattle.turn_merge.specs.declared.clock.Clock.TheVariants.{Following}
 use Rattle.turn_merge.specs.declared.verdict.Place.{Place}
@@ -34,7 +35,7 @@ use Rattle.turn_merge.specs.declared.verdict.Verdict.TheVariants.{Bad, Contradic
 use Rattle.law_captured_dumps.specs.Headline.{CapturedDumpsAreNeverWrong, IsReadRightly, IsReadWell, SteadyDumpsAreReadWell}
 use Rattle.law_captured_dumps.specs.Inputs.{HasWhole, IsSteadyOrPassed}
 use Rattle.law_captured_dumps.specs.Said.{EachIsSaid, IsRightlyGood, IsSaid, IsSaidRightly, SaidIsRight, streams_on}
-use Rattle.law_captured_dumps.proofs.Owning.{HoldsOwn, Laws as OwnLaws, content, holds, mine, stands}
+use Rattle.law_captured_dumps.proofs.Owning.{HoldsOwn, Laws as OwnLaws, holds, mine, stands, tracks_written}
 
 -- what the crates below promise, and the laws before
 pub record Laws : Type 0 where
@@ -46,29 +47,6 @@ pub record Laws : Type 0 where
 following_used : (clocks : Clocks) → IsUsed clocks Following
 following_used FollowingAlone = tt
 following_used Both = tt
-
--- where it is bad or missing, there is no good reading
-no_first : (good bad : ℕ) (place : Place) (other : Option NotedReading) → IsBadOrMissing (verdict_with good bad place other) → ⊥
-no_first good bad place None is = is
-no_first good bad place (Some r) is = is
-
-no_goods : (goods bads : List NotedReading) → IsBadOrMissing (verdict_of goods bads) → goods ≡ []
-no_goods [] bads is = refl
-no_goods (r ∷ rs) bads is = absurd (no_first (length (r ∷ rs)) (length bads) r.place (first_other (bytes_of r) rs) is)
-
--- where it is not good, no bytes are agreed on
-none_with : (good bad : ℕ) (place : Place) (other : Option NotedReading) (own : List ℕ) → is_good (verdict_with good bad place other) ≡ false
-    → (if is_none other then Some own else None) ≡ None
-none_with good bad place None own is = absurd (cc)
-none_with good bad place (Some r) own is = refl
-
-none_of : (goods bads : List NotedReading) → is_good (verdict_of goods bads) ≡ false → agreed_of goods ≡ None
-none_of [] bads is = refl
-none_of (r ∷ rs) bads is = none_with (length (r ∷ rs)) (length bads) r.place (first_other (bytes_of r) rs) (bytes_of r) is
-
-none_agreed : (readings : List NotedReading) (sector : ℕ) (v : Verdict) → verdict readings sector ≡ v → is_good v ≡ false → agreed readings sector ≡ None
-unfolding verdict agreed
-none_agreed readings sector v same is = none_of (good_ones readings sector) (bad_ones readings sector) (ap is_good same ∙ is)
 
 module _ (laws : Laws) (disk : DumpDisk) (files : List File) (image : List ℕ) (o : DumpsRead) (is : IsImage disk.format image) where
   abbrev format : Format
@@ -132,7 +110,7 @@ module _ (laws : Laws) (disk : DumpDisk) (files : List File) (image : List ℕ) 
     good_is_own : (first : Place) → IsRightlyGood disk files o n sector first → held n sector ≡ own n sector
     good_is_own first right =
         right.in_image ∙ sym (right.agreed dump Following there.0 (mine laws.own disk files image is n sector) low used there.1)
-        ∙ content laws.own disk files image is n sector one
+        ∙ (tracks_written laws.own disk files image is).content n sector one
 
     rightly_by : (v : Verdict) → verdict (joined said.captures) sector ≡ v → IsSaidRightly disk files o n sector v → IsOwnOrContradictory format (own n sector) (held n sector) v
     rightly_by (Good g b first) same right = good_is_own first right

@@ -1,6 +1,6 @@
 -- What stands in the cells of a dump's stream: of one that captures its track each sector with its own bytes, and nothing else; of one
 -- that is passed over nothing.
-use Rattle.std.specs.Prelude.{◌≡◌, ◌≤◌, ◌<◌, ℕ, ◌+◌, ◌-◌, ◌*◌, ◌++◌, Bool, true, List, [], ◌∷◌, drop, length, map, slice_index, unwrap_or, is_some, option_and_then, Option, None, Some, refl}
+use Rattle.std.specs.Prelude.{◌≡◌, ◌≤◌, ◌<◌, ℕ, ◌+◌, ◌-◌, ◌*◌, ◌++◌, Bool, true, List, [], ◌∷◌, drop, length, map, slice_index, is_some, option_and_then, Option, None, Some, refl}
 use Rattle.std.specs.List.{slice_get}
 use Rattle.std.proofs.Common.{ap, sym, subst, ◌∙◌, arith, append-nil, inl, inr, length-drop}
 use Rattle.disk_recordings.specs.Laws.{RingsHaveCells}
@@ -11,7 +11,7 @@ use Rattle.flux_engine.specs.Captures.{CapturesAreRecovered, ErasedCapturesAreRe
 use Rattle.flux_engine.specs.PlanLaws.{StandsIn, cells_in}
 use Rattle.flux_engine.specs.Plans.{Seen, Streams}
 use Rattle.flux_engine.specs.Recordings.{cells_by, start_by, start_of, track_at}
-use Rattle.flux_engine.specs.Rings.{IsImage, IsRing, nominal_of, ring_cells_of, ring_of, sector_bytes}
+use Rattle.flux_engine.specs.Rings.{IsImage, nominal_of, ring_of}
 use Rattle.flux_engine.specs.Rules.{StandsBy}
 use Rattle.flux_engine.specs.declared.plan.Rule.TheVariants.{Controller}
 use Rattle.frame_law.specs.Controller.{START_ZEROS}
@@ -19,16 +19,15 @@ use Rattle.kryo_stream.specs.Growth.{StreamsStay}
 use Rattle.kryo_stream.specs.Stream.{first_fault, indexes, indexes_of, times, times_of}
 use Rattle.kryo_stream.specs.declared.block.SpelledBlock.{SpelledBlock}
 use Rattle.kryo_stream.specs.declared.fault.StreamFault.{StreamFault}
+use Rattle.law_captured_disks.specs.lemmas.WrittenTracks.{AreWritten, are_written}
 use Rattle.law_captured_disks.specs.Frames.{RewrittenTracksAreOwn, ring_piece, written_track}
 use Rattle.law_captured_disks.specs.Headline.{IsSectorOf}
 use Rattle.law_captured_disks.specs.lemmas.Cells.{cells-same}
-use Rattle.law_captured_disks.specs.lemmas.TrackBytes.{are_sectors, own_bytes}
 use Rattle.law_decoded_rings.specs.Pieces.{RingPiece, begin_of_piece, cells_of_ring_pieces}
 use Rattle.law_decoded_rings.specs.Verdicts.{LiesInOnePiece, PiecesAreRightWithin, StandsAsWrittenWithin, TwoRingsHaveSectors}
-use Rattle.law_decoded_rings.specs.Written.{HasSector}
 use Rattle.phase_loop.specs.Rows.{recovered}
 use Rattle.sector_images.specs.Formats.{row}
-use Rattle.sector_images.specs.Places.{IsTrack, NumbersNameTracks, SectorsLieInImages, tracks}
+use Rattle.sector_images.specs.Places.{NumbersNameTracks, SectorsLieInImages, tracks}
 use Rattle.sector_images.specs.declared.format.Format.{Format}
 use Rattle.track_rings.specs.Rings.{last_in, stretch}
 use Rattle.track_shelf.specs.Files.{File, file_at}
@@ -104,22 +103,8 @@ module _ (laws : Laws) (disk : DumpDisk) (files : List File) (image : List ℕ) 
   abbrev pub mine : (n sector : ℕ) → List ℕ
   mine n sector = (written_track format image n).bytes_of sector
 
-  known_track : (n : ℕ) → n < length (tracks format) → IsTrack format (track_at format n)
-  known_track n known =
-      let one = laws.names format n known in
-      subst (IsTrack format) (sym (ap (λ (t : Option TrackId). unwrap_or t (record { cylinder = 0; head = 0 })) one.1)) one.2
-
-  is_ring : (n : ℕ) → n < length (tracks format) → IsRing (ring_cells_of format n) (ring_of format image n)
-  is_ring n known =
-      let track = known_track n known in
-      let ring = laws.rings format _ (track_at format n) _ track (are_sectors laws.lie format (track_at format n) image is track) in
-      record { cells_are = ring.0; spaced = ring.1 }
-
-  pub content : (n sector : ℕ) → IsSectorOf format n sector → mine n sector ≡ sector_bytes format (track_at format n) image sector
-  content n sector one = own_bytes laws.lie format (track_at format n) image is (known_track n one.track) sector one.known
-
-  has_sector : (n sector : ℕ) → IsSectorOf format n sector → HasSector (written_track format image n) sector
-  has_sector n sector one = record { least = one.known.0; most = one.known.1 }
+  abbrev pub tracks_written : AreWritten format image
+  tracks_written = are_written laws.names laws.rings laws.lie format image is
 
   -- in the stream of a dump, by a clock, each sector that stands has its own bytes
   abbrev pub HoldsOwn : (n q : ℕ) → Clock → Type 0
@@ -168,7 +153,7 @@ module _ (laws : Laws) (disk : DumpDisk) (files : List File) (image : List ℕ) 
         let place : ℕ = begin_of_piece (first ∷ later) lies.0 + lies.1 in (
           place,
           subst (λ (cs : List Bool). StandsBy Controller format track (drop place cs) sector (mine n sector)) (sym cells)
-              ((written first later).whole_stands sector lies.0 lies.1 (has_sector n sector one) lies.2),
+              ((written first later).whole_stands sector lies.0 lies.1 (tracks_written.has n sector one) lies.2),
         )
 
     stream_is : (stream : List ℕ) → Begins disk files n q stream → first_fault stream ≡ None
@@ -194,13 +179,13 @@ module _ (laws : Laws) (disk : DumpDisk) (files : List File) (image : List ℕ) 
       whole_holds : IsSteady c.stream ring (nominal_of format n) c.capture → (clock : Clock) → HoldsOwn n q clock
       whole_holds steady clock =
           holds_own clock piece []
-          (of_piece clock (laws.steady clock format track c.stream ring (known_track n known) (is_ring n known) c.capture steady))
+          (of_piece clock (laws.steady clock format track c.stream ring (tracks_written.known n known) (tracks_written.ring n known) c.capture steady))
 
       whole_stands : (sector : ℕ) → IsSectorOf format n sector → Stands sector
       whole_stands sector one =
           let long : 2 * length ring ≤ piece.count = omega (arith, c.capture.two_turns) in
-          stands_whole piece [] (of_piece Following (laws.recovered format track c.stream ring (known_track n known) (is_ring n known) c.capture)) sector one
-          (laws.two_rings format image n is known piece sector long (has_sector n sector one))
+          stands_whole piece [] (of_piece Following (laws.recovered format track c.stream ring (tracks_written.known n known) (tracks_written.ring n known) c.capture)) sector one
+          (laws.two_rings format image n is known piece sector long (tracks_written.has n sector one))
 
     -- of one that is erased in parts
     module _ (c : CapturesInPart disk files image n q) where
@@ -214,14 +199,14 @@ module _ (laws : Laws) (disk : DumpDisk) (files : List File) (image : List ℕ) 
       part_holds steady clock =
           holds_own clock head rest
           (cells_are clock c.stream c.begins c.capture.no_fault
-          ∙ laws.steady_erased clock format track c.stream ring (known_track n known) (is_ring n known) c.capture steady
+          ∙ laws.steady_erased clock format track c.stream ring (tracks_written.known n known) (tracks_written.ring n known) c.capture steady
           ∙ cells-same ring c.capture.first c.capture.later)
 
       part_stands : (sector : ℕ) → IsSectorOf format n sector → LiesInOnePiece (written_track format image n) (head ∷ rest) sector → Stands sector
       part_stands sector one lies =
           stands_whole head rest
           (cells_are Following c.stream c.begins c.capture.no_fault
-          ∙ laws.recovered_erased format track c.stream ring (known_track n known) (is_ring n known) c.capture
+          ∙ laws.recovered_erased format track c.stream ring (tracks_written.known n known) (tracks_written.ring n known) c.capture
           ∙ cells-same ring c.capture.first c.capture.later)
           sector one lies
 

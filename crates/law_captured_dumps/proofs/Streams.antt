@@ -1,32 +1,27 @@
 -- The streams that came of dumps are those of their files, and the files decide what they come to.
-use Rattle.std.specs.Prelude.{◌≡◌, ◌≤◌, ◌<◌, ℕ, zero, suc, ◌+◌, ◌*◌, ◌/◌, ◌%◌, map, List, [], ◌∷◌, ◌++◌, get_or, length, Option, None, Some, refl}
+use Rattle.std.specs.Prelude.{◌≡◌, ◌≤◌, ◌<◌, ℕ, zero, suc, ◌+◌, ◌*◌, ◌/◌, ◌%◌, List, [], ◌∷◌, get_or, length, Option, None, Some, refl}
 use Rattle.std.proofs.Common.{ap, sym, subst, ◌∙◌, arith}
 use Rattle.std.proofs.Math.Nat.{div-lt_iff_lt-mul, mod-lt, mul_comm}
 use Rattle.std.proofs.lemmas.List.{ext_get_or}
 use Rattle.std.proofs.lemmas.Nat.{div-add-mod', mul-add-lt}
 use Rattle.dump_reading.specs.Outcomes.{AreTracksBy, DumpDisk, DumpsRead, IsReadBy, numbers_of, plan_of}
 use Rattle.dump_reading.specs.declared.totals.DumpTotals.{DumpTotals}
-use Rattle.flux_base.specs.declared.track.TrackId.{TrackId}
-use Rattle.flux_engine.specs.Captured.{AreOthersOf, AreReadingsOf, IsUsed, joined_by, noted_other}
+use Rattle.flux_engine.specs.Captured.{AreReadingsOf}
 use Rattle.flux_engine.specs.Counts.{AreOthersOver}
-use Rattle.flux_engine.specs.Disks.{no_totals, part_at}
+use Rattle.flux_engine.specs.Disks.{no_totals}
 use Rattle.flux_engine.specs.LoopProgress.{seen_at, streams_over}
 use Rattle.flux_engine.specs.PlanLaws.{ReadingsInPlansAreOne}
-use Rattle.flux_engine.specs.Plans.{AreCaptures, AreOthersTo, ArePlannedParts, IsPlannedPart, PartOf, Seen, Streams, joined, passed_to}
-use Rattle.flux_engine.specs.Recordings.{cells_by, track_at}
+use Rattle.flux_engine.specs.Plans.{AreCaptures, ArePlannedParts, PartOf, Seen, Streams}
+use Rattle.flux_engine.specs.Recordings.{track_at}
 use Rattle.flux_engine.specs.Rules.{RulesAreRead}
-use Rattle.flux_engine.specs.Tracks.{TrackPart, track_notes}
-use Rattle.flux_engine.specs.declared.plan.Clocks.{Clocks}
-use Rattle.flux_engine.specs.declared.plan.Clocks.TheVariants.{Both, FollowingAlone}
+use Rattle.flux_engine.specs.lemmas.OneParts.{one_others_to, one_parts}
+use Rattle.flux_engine.specs.Tracks.{TrackPart}
 use Rattle.flux_engine.specs.declared.plan.Plan.{Plan}
-use Rattle.flux_engine.specs.declared.plan.Rule.{Rule}
 use Rattle.sector_images.specs.Places.{tracks}
 use Rattle.sector_images.specs.declared.format.Format.{Format}
 use Rattle.track_shelf.specs.Files.{File}
 use Rattle.turn_merge.specs.Others.{NotedOther}
 use Rattle.turn_merge.specs.Readings.{NotedReading}
-use Rattle.turn_merge.specs.declared.clock.Clock.{Clock}
-use Rattle.turn_merge.specs.declared.clock.Clock.TheVariants.{Following, Held}
 use Rattle.law_captured_dumps.specs.Said.{AllOfDumpsIsOne, streams_on}
 
 abbrev none_seen : Seen
@@ -68,45 +63,10 @@ module _ (of : PartOf) (disk : DumpDisk) (files : List File) (streams : List See
 
 -- the others of a track are decided by its streams
 module _ (read : RulesAreRead) where
-  joined_same : {X : Type 0} (clocks : Clocks) (f g : Clock → List X) → ((clock : Clock) → IsUsed clocks clock → f clock ≡ g clock) → joined_by clocks f ≡ joined_by clocks g
-  joined_same FollowingAlone f g same = same Following tt
-  joined_same Both f g same = ap (λ rs. rs ++ f Held) (same Following tt) ∙ ap (λ rs. g Following ++ rs) (same Held tt)
-
-  others_of : (rule : Rule) (clocks : Clocks) (format : Format) (track : TrackId) (times indexes : List ℕ) (capture : ℕ) (a b : List NotedOther)
-      → AreOthersOf rule clocks format track times indexes capture a → AreOthersOf rule clocks format track times indexes capture b → a ≡ b
-  others_of rule clocks format track times indexes capture a b p q =
-      p.are ∙ joined_same clocks p.by_clock q.by_clock (λ clock used.
-      let x = p.each clock used in
-      let y = q.each clock used in
-      let cells = cells_by clock format track times indexes in
-      x.are ∙ ap (map (noted_other capture clock times indexes cells)) (read.one_others rule format track cells x.found y.found x.all y.all) ∙ sym y.are)
-      ∙ sym q.are
-
-  others_to : (plan : Plan) (format : Format) (streams : Streams) (n q : ℕ) (a b : List NotedOther)
-      → AreOthersTo plan format streams n q a → AreOthersTo plan format streams n q b → a ≡ b
-  others_to plan format streams n zero a b p r = p ∙ sym r
-  others_to plan format streams n (suc q) a b (before, now, earlier, here, is) (before', now', earlier', here', is') =
-      is ∙ ap (λ (os : List NotedOther). os ++ now) (others_to plan format streams n q before before' earlier earlier')
-      ∙ ap (λ (os : List NotedOther). before' ++ os)
-      (others_of plan.rule plan.clocks format (track_at format n) (streams n q).times (streams n q).indexes q now now' here here')
-      ∙ sym is'
-
   others_over_one : (plan : Plan) (format : Format) (streams : Streams) (a b : List (List NotedOther)) → length a ≡ length b
       → AreOthersOver plan format streams a → AreOthersOver plan format streams b → a ≡ b
   others_over_one plan format streams a b same p q =
-      ext_get_or [] a b same (λ n low. others_to plan format streams n plan.captures (get_or a n []) (get_or b n []) (p n low) (q n (omega (arith, low, same))))
-
-  module _ (one : ReadingsInPlansAreOne) (of : PartOf) (plan : Plan) (format : Format) (streams : Streams) where
-    one_part : (n : ℕ) (a b : TrackPart) → IsPlannedPart plan of format streams n a → IsPlannedPart plan of format streams n b → a ≡ b
-    one_part n a b p q =
-        p.is ∙ ap (λ (captures : List (List NotedReading)). of format (track_at format n) (track_notes (joined captures) (passed_to streams n plan.captures) p.others))
-        (one plan format streams n p.captures q.captures p.each q.each (p.many ∙ sym q.many))
-        ∙ ap (λ (others : List NotedOther). of format (track_at format n) (track_notes (joined q.captures) (passed_to streams n plan.captures) others))
-        (others_to plan format streams n plan.captures p.others q.others p.others_are q.others_are) ∙ sym q.is
-
-    one_parts : (ps qs : List TrackPart) → ArePlannedParts plan of format streams ps → ArePlannedParts plan of format streams qs → length ps ≡ length qs → ps ≡ qs
-    one_parts ps qs are others same =
-        ext_get_or no_part ps qs same (λ k low. one_part k (part_at ps k) (part_at qs k) (are k low) (others k (omega (arith, low, same))))
+      ext_get_or [] a b same (λ n low. one_others_to read plan format streams n plan.captures (get_or a n []) (get_or b n []) (p n low) (q n (omega (arith, low, same))))
 
   module _ (one : ReadingsInPlansAreOne) (of : PartOf) (whole : List TrackPart → DumpTotals → DumpsRead) (disk : DumpDisk) (files : List File) (a b : DumpsRead)
       (p : IsReadBy of whole disk (Some files) a) (q : IsReadBy of whole disk (Some files) b) where
@@ -127,7 +87,7 @@ module _ (read : RulesAreRead) where
 
     parts_same : p.parts ≡ q.parts
     parts_same =
-        one_parts one of (plan_of disk) disk.format (over q.streams) p.parts q.parts
+        one_parts read one (plan_of disk) of disk.format (over q.streams) p.parts q.parts
         (subst (λ (ss : List Seen). ArePlannedParts (plan_of disk) of disk.format (over ss) p.parts) streams_same p.all.read.each) q.all.read.each parts_many
 
     others_same : p.others ≡ q.others

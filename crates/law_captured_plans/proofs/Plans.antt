@@ -1,14 +1,13 @@
 -- Captured disks are read by a plan.
 use Rattle.std.specs.Prelude.{◌≡◌, ◌≤◌, ◌<◌, ◌⊎◌, ℕ, ◌+◌, ◌-◌, ◌*◌, Bool, true, List, [], ◌∷◌, length, map, replicate, slice_index, unwrap_or, Option, None, refl}
 use Rattle.std.proofs.Common.{ap, sym, subst, ◌∙◌, arith, append-nil, inl, inr}
-use Rattle.flux_base.specs.declared.track.TrackId.{TrackId}
 use Rattle.disk_recordings.specs.Laws.{RingsHaveCells}
 use Rattle.frame_law.specs.Controller.{START_ZEROS}
 use Rattle.kryo_stream.specs.Growth.{StreamsStay}
 use Rattle.kryo_stream.specs.Joined.{PaddingIsPassed}
 use Rattle.kryo_stream.specs.Stream.{indexes, times}
 use Rattle.sector_images.specs.Formats.{row}
-use Rattle.sector_images.specs.Places.{IsTrack, NumbersHoldSectors, NumbersNameTracks, SectorsLieInImages, TracksFillImages, TracksJoin, bytes_of, tracks}
+use Rattle.sector_images.specs.Places.{NumbersHoldSectors, NumbersNameTracks, SectorsLieInImages, TracksFillImages, TracksJoin, bytes_of, tracks}
 use Rattle.sector_images.specs.declared.format.Format.{Format}
 use Rattle.track_rings.specs.Rings.{last_in, stretch}
 use Rattle.turn_merge.specs.Readings.{NotedReading, agreed, verdict}
@@ -19,7 +18,6 @@ use Rattle.turn_merge.specs.declared.clock.Clock.{Clock}
 use Rattle.turn_merge.specs.declared.clock.Clock.TheVariants.{Following, Held}
 use Rattle.law_decoded_rings.specs.Pieces.{RingPiece, cells_of_ring_pieces}
 use Rattle.law_decoded_rings.specs.Verdicts.{AreReadingsOf, IsGoodWith, IsGoodWithOrLost, LiesInOnePiece, PiecesAreRightWithin, TwoRingsHaveSectors, VerdictsAreRight}
-use Rattle.law_decoded_rings.specs.Written.{HasSector}
 use Rattle.flux_engine.specs.Captures.{Capture, CapturesAreRecovered, ErasedCapture, ErasedCapturesAreRecovered, SteadyCapturesAreRecovered, SteadyErasedCapturesAreRecovered}
 use Rattle.flux_engine.specs.Captured.{AreReadingsBy, IsUsed}
 use Rattle.flux_engine.specs.declared.plan.Clocks.{Clocks}
@@ -32,7 +30,7 @@ use Rattle.flux_engine.specs.Disks.{part_at}
 use Rattle.flux_engine.specs.PlanLaws.{FirstSourceStaysGood, StaysGoodOrIsContradicted, cells_in, first_readings}
 use Rattle.flux_engine.specs.Plans.{AreCaptures, IsPlanned, Planned, Streams, joined, planned_count, streams_in}
 use Rattle.flux_engine.specs.Recordings.{cells_by, sectors_of, track_at}
-use Rattle.flux_engine.specs.Rings.{IsImage, IsRing, nominal_of, ring_cells_of, ring_of, sector_bytes}
+use Rattle.flux_engine.specs.Rings.{IsImage, nominal_of, ring_of, sector_bytes}
 use Rattle.flux_engine.specs.Streams.{stream_at}
 use Rattle.flux_engine.specs.Tracks.{TrackPart, image_bytes, is_good, part_by, readings_in}
 use Rattle.flux_engine.specs.lemmas.Each.{Each}
@@ -44,14 +42,15 @@ use Rattle.law_captured_disks.specs.lemmas.Images.{images-same}
 use Rattle.law_captured_disks.specs.lemmas.Readings.{are_readings_by}
 use Rattle.law_captured_disks.specs.lemmas.Streams.{IsStreamNumber}
 use Rattle.law_captured_disks.specs.lemmas.Totals.{all_counted, totals_good}
-use Rattle.law_captured_disks.specs.lemmas.TrackBytes.{are_sectors, own_bytes}
 use Rattle.law_captured_plans.specs.Headline.{CapturedPlansAreNeverWrong, CapturedPlansAreRead, ErasedPlansAreRead, IsKeptBy, IsLostBy, IsNeverWrong, IsOwnOrContradictory, IsReadInPart, IsReadRightly, IsReadWhole}
 use Rattle.law_captured_plans.specs.Inputs.{IsCapturedSet, IsErasedSet, IsSteadyErasedSet, IsSteadySet, LiesInACapture}
 use Rattle.law_captured_plans.specs.Said.{IsSaid, SaysBy, SectorsAreSaid}
 use Rattle.law_captured_plans.proofs.Places.{images_size}
 use Rattle.law_captured_plans.proofs.Sectors.{part_size, Laws as SectorLaws}
 use Rattle.law_captured_plans.proofs.Streams.{no_stop, stream_is}
-use Rattle.law_captured_plans.proofs.Verdicts.{Holds, IsNone, IsWith, all_hold, none_agreed, some_good, with_all, with_or_lost}
+use Rattle.law_captured_disks.specs.lemmas.NoneGood.{none_agreed}
+use Rattle.law_captured_disks.specs.lemmas.WrittenTracks.{AreWritten, are_written}
+use Rattle.law_captured_plans.proofs.Verdicts.{Holds, IsNone, IsWith, all_hold, some_good, with_all, with_or_lost}
 
 -- the zeros that a sector has not in a row: eight by the strict rule, and as controllers read those that a clock leaves
 abbrev pub zeros_of : Rule → ℕ
@@ -92,22 +91,8 @@ module _ (laws : Laws) (plan : Plan) (format : Format) (image x : List ℕ) (is 
   abbrev mine : (n sector : ℕ) → List ℕ
   mine n sector = (written_track format image n).bytes_of sector
 
-  known_track : (n : ℕ) → n < length (tracks format) → IsTrack format (track_at format n)
-  known_track n known =
-      let one = laws.names format n known in
-      subst (IsTrack format) (sym (ap (λ (t : Option TrackId). unwrap_or t (record { cylinder = 0; head = 0 })) one.1)) one.2
-
-  is_ring : (n : ℕ) → n < length (tracks format) → IsRing (ring_cells_of format n) (ring_of format image n)
-  is_ring n known =
-      let track = known_track n known in
-      let ring = laws.rings format _ (track_at format n) _ track (are_sectors laws.lie format (track_at format n) image is track) in
-      record { cells_are = ring.0; spaced = ring.1 }
-
-  content : (n sector : ℕ) → IsSectorOf format n sector → mine n sector ≡ sector_bytes format (track_at format n) image sector
-  content n sector one = own_bytes laws.lie format (track_at format n) image is (known_track n one.track) sector one.known
-
-  has_sector : (n sector : ℕ) → IsSectorOf format n sector → HasSector (written_track format image n) sector
-  has_sector n sector one = record { least = one.known.0; most = one.known.1 }
+  abbrev written : AreWritten format image
+  written = are_written laws.names laws.rings laws.lie format image is
 
   -- a clock's cells of a capture are those of pieces of the track's ring
   abbrev AreOfPieces : (n q : ℕ) → Clock → RingPiece → List RingPiece → Type 0
@@ -133,8 +118,8 @@ module _ (laws : Laws) (plan : Plan) (format : Format) (image x : List ℕ) (is 
       → (noted : List NotedReading) → AreReadingsBy plan.rule clock format (track_at format n) (streams n q).times (streams n q).indexes q noted
       → (sector : ℕ) → IsSectorOf format n sector → IsWith sector (mine n sector) noted
   whole_by n q clock piece long cells noted by sector one =
-      (right_by n q clock piece [] one.track cells noted by).whole sector (has_sector n sector one)
-      (laws.two_rings plan.rule format image n is one.track piece sector long (has_sector n sector one))
+      (right_by n q clock piece [] one.track cells noted by).whole sector (written.has n sector one)
+      (laws.two_rings plan.rule format image n is one.track piece sector long (written.has n sector one))
 
   -- All readings of a track, each clock's of each capture as of pieces of the ring.
   module _ (n : ℕ) (known : n < length (tracks format)) (first : (q : ℕ) → q < plan.captures → RingPiece) (later : (q : ℕ) → q < plan.captures → List RingPiece)
@@ -159,7 +144,7 @@ module _ (laws : Laws) (plan : Plan) (format : Format) (image x : List ℕ) (is 
           subst (Each HoldsMine) (sym (each q within).are)
           (each_by_clocks HoldsMine plan.clocks (each q within).by_clock
           (λ clock used.
-          all_hold sector (mine n sector) ((each q within).by_clock clock) ((right q within (omega (arith, within, many)) clock used).each sector (has_sector n sector one)))))
+          all_hold sector (mine n sector) ((each q within).by_clock clock) ((right q within (omega (arith, within, many)) clock used).each sector (written.has n sector one)))))
 
       pub or_lost : IsGoodWithOrLost (verdict (joined captures) sector) (agreed (joined captures) sector) (mine n sector)
       or_lost = with_or_lost sector (mine n sector) (joined captures) hold
@@ -170,7 +155,7 @@ module _ (laws : Laws) (plan : Plan) (format : Format) (image x : List ℕ) (is 
           let within : q < length captures = omega (arith, below, many) in
           with_all sector (mine n sector) (joined captures) hold
           (λ none.
-          some_good sector (mine n sector) ((each q within).by_clock clock) ((right q within below clock used).whole sector (has_sector n sector one) lies)
+          some_good sector (mine n sector) ((each q within).by_clock clock) ((right q within below clock used).whole sector (written.has n sector one) lies)
           (each_clock IsNoneHere plan.clocks (each q within).by_clock clock used
           (subst (Each IsNoneHere) (each q within).are (each_capture IsNoneHere captures q within none))))
 
@@ -194,7 +179,7 @@ module _ (laws : Laws) (plan : Plan) (format : Format) (image x : List ℕ) (is 
       kept_by : (v : Verdict) → SaysBy plan.naming format o n sector v → IsGoodWith v (agreed readings sector) (mine n sector)
           → IsKeptBy plan.naming format image o n sector
       kept_by (Good g b first) line data_is =
-          (record { good = g; bad = b; first = first; line = line }, here.held ∙ ap held_of data_is ∙ content n sector one)
+          (record { good = g; bad = b; first = first; line = line }, here.held ∙ ap held_of data_is ∙ written.content n sector one)
       kept_by (Contradictory g b first other) line data_is = absurd data_is
       kept_by (Bad b first) line data_is = absurd data_is
       kept_by Missing line data_is = absurd data_is
@@ -292,14 +277,14 @@ module _ (laws : Laws) (plan : Plan) (format : Format) (image x : List ℕ) (is 
           cells_are n q (set.stream (n * plan.captures + q)) clock (stream n q known low) ∙ recovered ∙ sym (append-nil (stretch ring piece.from piece.count))
 
       following : AreOfPieces n q Following piece []
-      following = of_piece Following (laws.recovered format (track_at format n) (set.stream (n * plan.captures + q)) ring (known_track n known) (is_ring n known) capture)
+      following = of_piece Following (laws.recovered format (track_at format n) (set.stream (n * plan.captures + q)) ring (written.known n known) (written.ring n known) capture)
 
       module _ (steady : IsUsed plan.clocks Held → IsSteadySet format plan.captures image x set) where
         by_clock : (clock : Clock) → IsUsed plan.clocks clock → AreOfPieces n q clock piece []
         by_clock Following used = following
         by_clock Held used =
             of_piece Held
-            (laws.steady Held format (track_at format n) (set.stream (n * plan.captures + q)) ring (known_track n known) (is_ring n known) capture (steady used n q known low))
+            (laws.steady Held format (track_at format n) (set.stream (n * plan.captures + q)) ring (written.known n known) (written.ring n known) capture (steady used n q known low))
 
     -- each sector lies whole in each of its captures
     set_good : (steady : IsUsed plan.clocks Held → IsSteadySet format plan.captures image x set) → 1 ≤ plan.captures → (n sector : ℕ)
@@ -308,7 +293,7 @@ module _ (laws : Laws) (plan : Plan) (format : Format) (image x : List ℕ) (is 
     set_good steady some n sector one captures many each =
         good n one.track (λ q low. piece n q one.track low) (λ q low. []) (λ q low clock used. by_clock n q one.track low steady clock used)
         captures many each sector one 0 (omega (arith, some)) Following (following_used plan.clocks)
-        (laws.two_rings plan.rule format image n is one.track (piece n 0 one.track (omega (arith, some))) sector (long n 0 one.track (omega (arith, some))) (has_sector n sector one))
+        (laws.two_rings plan.rule format image n is one.track (piece n 0 one.track (omega (arith, some))) sector (long n 0 one.track (omega (arith, some))) (written.has n sector one))
 
     -- what the first capture makes good by the clock that follows the drive, all readings make good or contradictory
     module _ (n sector : ℕ) (one : IsSectorOf format n sector) (readings own : List NotedReading)
@@ -325,7 +310,7 @@ module _ (laws : Laws) (plan : Plan) (format : Format) (image x : List ℕ) (is 
           elim (stays g b first same) [
             | inl still ↦
                 subst (IsOwnOrContradictory format own_bytes_of held_by) (sym still.2)
-                (ap (λ (held : Option (List ℕ)). unwrap_or held (replicate (row format).sector_size 0)) (still.3 ∙ data_is) ∙ content n sector one)
+                (ap (λ (held : Option (List ℕ)). unwrap_or held (replicate (row format).sector_size 0)) (still.3 ∙ data_is) ∙ written.content n sector one)
             | inr other ↦
                 subst (IsOwnOrContradictory format own_bytes_of held_by) (sym other.3)
                 (ap (λ (held : Option (List ℕ)). unwrap_or held (replicate (row format).sector_size 0))
@@ -382,12 +367,12 @@ module _ (laws : Laws) (plan : Plan) (format : Format) (image x : List ℕ) (is 
     erased_cells n q known low Following used =
         let here = capture_of n q known low in
         cells_are n q (set.stream (n * plan.captures + q)) Following (erased_stream n q known low)
-        ∙ laws.recovered_erased format (track_at format n) (set.stream (n * plan.captures + q)) (ring_of format image n) (known_track n known) (is_ring n known) here
+        ∙ laws.recovered_erased format (track_at format n) (set.stream (n * plan.captures + q)) (ring_of format image n) (written.known n known) (written.ring n known) here
         ∙ cells-same (ring_of format image n) here.first here.later
     erased_cells n q known low Held used =
         let here = capture_of n q known low in
         cells_are n q (set.stream (n * plan.captures + q)) Held (erased_stream n q known low)
-        ∙ laws.steady_erased Held format (track_at format n) (set.stream (n * plan.captures + q)) (ring_of format image n) (known_track n known) (is_ring n known) here
+        ∙ laws.steady_erased Held format (track_at format n) (set.stream (n * plan.captures + q)) (ring_of format image n) (written.known n known) (written.ring n known) here
         (steady used n q known low)
         ∙ cells-same (ring_of format image n) here.first here.later
 

@@ -8,39 +8,16 @@ use Rattle.turn_merge.specs.declared.verdict.Place.{Place}
 use Rattle.turn_merge.specs.declared.verdict.Verdict.{Verdict}
 use Rattle.turn_merge.specs.declared.verdict.Verdict.TheVariants.{Good, Contradictory, Bad, Missing}
 use Rattle.law_captured_disks.specs.Headline.{IsBadOrMissing}
+use Rattle.law_captured_disks.specs.lemmas.NoneGood.{no_goods}
 use Rattle.law_decoded_rings.specs.Verdicts.{IsGoodWith, IsGoodWithOrLost}
 use Rattle.flux_engine.specs.lemmas.Each.{Each, each-append, each-filter, each-left, each-map, each-right, each-unfilter}
 use Rattle.flux_engine.specs.lemmas.GoodSectors.{Head, agreed_head, head_of, is_good_of, same_bytes}
 use Rattle.flux_engine.specs.Plans.{joined}
 use Rattle.flux_engine.specs.Captured.{IsUsed, joined_by}
-use Rattle.flux_engine.specs.Tracks.{is_good}
 use Rattle.flux_engine.specs.declared.plan.Clocks.{Clocks}
 use Rattle.flux_engine.specs.declared.plan.Clocks.TheVariants.{Both, FollowingAlone}
 use Rattle.turn_merge.specs.declared.clock.Clock.{Clock}
 use Rattle.turn_merge.specs.declared.clock.Clock.TheVariants.{Following, Held}
-
--- where the verdict is not good, no bytes are agreed on
-none_with : (good bad : ℕ) (place : Place) (other : Option NotedReading) (own : List ℕ) → is_good (verdict_with good bad place other) ≡ false
-    → (if is_none other then Some own else None) ≡ None
-none_with good bad place None own is = absurd (cc)
-none_with good bad place (Some r) own is = refl
-
-none_of : (goods bads : List NotedReading) → is_good (verdict_of goods bads) ≡ false → agreed_of goods ≡ None
-none_of [] bads is = refl
-none_of (r ∷ rs) bads is = none_with (length (r ∷ rs)) (length bads) r.place (first_other (bytes_of r) rs) (bytes_of r) is
-
-pub none_agreed : (readings : List NotedReading) (sector : ℕ) (v : Verdict) → verdict readings sector ≡ v → is_good v ≡ false → agreed readings sector ≡ None
-unfolding verdict agreed
-none_agreed readings sector v same is = none_of (good_ones readings sector) (bad_ones readings sector) (ap is_good same ∙ is)
-
--- where it is bad or missing, there is no good reading
-no_first : (good bad : ℕ) (place : Place) (other : Option NotedReading) → IsBadOrMissing (verdict_with good bad place other) → ⊥
-no_first good bad place None is = is
-no_first good bad place (Some r) is = is
-
-no_goods : (goods bads : List NotedReading) → IsBadOrMissing (verdict_of goods bads) → goods ≡ []
-no_goods [] bads is = refl
-no_goods (r ∷ rs) bads is = absurd (no_first (length (r ∷ rs)) (length bads) r.place (first_other (bytes_of r) rs) is)
 
 or_lost_of : (v : Verdict) (held : Option (List ℕ)) (bytes : List ℕ) → IsGoodWith v held bytes → IsGoodWithOrLost v held bytes
 or_lost_of (Good g b first) held bytes is = is
