@@ -1,5 +1,5 @@
 -- What `decode` and `report` do by what the decoding of the disk says.
-use Rattle.std.proofs.Common.{◌==◌, ◌≤◌, ℕ, ◌++◌, Bool, true, false, if◌then◌else◌, inl, inr, List, [], take, None, Ok, Err, refl, sym, ap, ◌∙◌, subst, append-nil, arith}
+use Rattle.std.proofs.Common.{◌==◌, ◌≤◌, ℕ, ◌++◌, Bool, true, false, if◌then◌else◌, inl, inr, List, [], take, None, Some, Ok, Err, refl, sym, ap, ◌∙◌, subst, append-nil, arith}
 use Rattle.std.proofs.KnownBytes.{Appends-trans}
 use Rattle.flux_base.specs.Moments.{Moment}
 use Rattle.flux_base.specs.Outside.{Rose}
@@ -15,12 +15,13 @@ use Rattle.sector_report.specs.declared.totals.Totals.{Totals}
 use Rattle.flux_cli.specs.Commands.{command_for}
 use Rattle.flux_cli.specs.DisksRuns.{DecodesTo, SaysOfOutput}
 use Rattle.flux_cli.specs.DisksWork.{CutInReading, GotAll, disk_leaves, disk_outcome, disk_work, nowhere, refusal_of, status_of, to_notes}
-use Rattle.flux_cli.specs.Runs.{Does, Finished, IsCut, NoCountFell, Outside, WasReadWhereNeeded, growth}
+use Rattle.flux_cli.specs.Runs.{Does, Finished, IsAnswer, IsCut, NoCountFell, Outside, SaysBy, WasReadWhereNeeded, growth}
 use Rattle.flux_cli.specs.Work.{Got, GotNothing, GotPart, Growth}
 use Rattle.flux_cli.specs.Works.{work_of}
 use Rattle.flux_cli.specs.declared.command.Output.{Output}
 use Rattle.flux_cli.specs.declared.command.Output.TheVariants.{ImageAndReport, ReportAlone}
 use Rattle.flux_cli.proofs.Inputs.{Rest, rest}
+use Rattle.flux_cli.proofs.Runs.{done-by}
 
 -- the source failed: what was taken is all that it gave
 cut-reading : (output : Output) (format : Format) (taken : List ℕ) (image notes i n : Growth)
@@ -200,41 +201,30 @@ module _ {S W N : Type 0} (format : Format) (before after : Outside S W N) where
   as-needed ImageAndReport needed = needed
   as-needed ReportAlone needed = needed
 
+  did : (output : Output) (answer : Answer) (status : Status) → DecodesTo output format before after answer → IsAnswer (Some (command_for output format)) status
+      → SaysBy (work_of (command_for output format)) (Some (command_for output format)) status before after → Does (command_for output format) status before after
+  did output answer status t = done-by (work_of (command_for output format)) (Some (command_for output format)) status before after t.counts (as-needed output t.needed)
+
   pub does-decode : (output : Output) (totals : Totals) → DecodesTo output format before after (Ok totals)
       → Does (command_for output format) (status_of totals None) before after
   does-decode output totals t = by (totals.good == totals.sectors) (decoded output format before after totals t)
     where
       by : (b : Bool) → Finished (disk_work output format) (if b then AllGood else NotAllGood) before after
           → Does (command_for output format) (if b then AllGood else NotAllGood) before after
-      by true done = record { answer = tt; says = finished output AllGood done; counts = t.counts; needed = as-needed output t.needed }
-      by false done = record { answer = tt; says = finished output NotAllGood done; counts = t.counts; needed = as-needed output t.needed }
+      by true done = did output (Ok totals) AllGood t tt (finished output AllGood done)
+      by false done = did output (Ok totals) NotAllGood t tt (finished output NotAllGood done)
 
-  pub does-read-fault : (output : Output) → DecodesTo output format before after (Err ReadFault)
-      → Does (command_for output format) ReadFaultStatus before after
-  does-read-fault output t = record {
-    answer = tt;
-    says = (cut output ReadFaultStatus (record { taken = t.taken; later = t.later; input = t.input; place = t.says }), t.cause);
-    counts = t.counts;
-    needed = as-needed output t.needed;
-  }
+  pub does-read-fault : (output : Output) → DecodesTo output format before after (Err ReadFault) → Does (command_for output format) ReadFaultStatus before after
+  does-read-fault output t =
+      did output (Err ReadFault) ReadFaultStatus t tt (cut output ReadFaultStatus (record { taken = t.taken; later = t.later; input = t.input; place = t.says }), t.cause)
 
-  pub does-image-fault : (output : Output) → DecodesTo output format before after (Err ImageFault)
-      → Does (command_for output format) ImageFaultStatus before after
-  does-image-fault output t = record {
-    answer = tt;
-    says = (cut output ImageFaultStatus (record { taken = t.taken; later = t.later; input = t.input; place = t.says }), t.cause);
-    counts = t.counts;
-    needed = as-needed output t.needed;
-  }
+  pub does-image-fault : (output : Output) → DecodesTo output format before after (Err ImageFault) → Does (command_for output format) ImageFaultStatus before after
+  does-image-fault output t =
+      did output (Err ImageFault) ImageFaultStatus t tt (cut output ImageFaultStatus (record { taken = t.taken; later = t.later; input = t.input; place = t.says }), t.cause)
 
-  pub does-notes-fault : (output : Output) → DecodesTo output format before after (Err NotesFault)
-      → Does (command_for output format) NotesFaultStatus before after
-  does-notes-fault output t = record {
-    answer = tt;
-    says = (cut output NotesFaultStatus (record { taken = t.taken; later = t.later; input = t.input; place = inl t.says }), t.cause);
-    counts = t.counts;
-    needed = as-needed output t.needed;
-  }
+  pub does-notes-fault : (output : Output) → DecodesTo output format before after (Err NotesFault) → Does (command_for output format) NotesFaultStatus before after
+  does-notes-fault output t =
+      did output (Err NotesFault) NotesFaultStatus t tt (cut output NotesFaultStatus (record { taken = t.taken; later = t.later; input = t.input; place = inl t.says }), t.cause)
 
   module _ (output : Output) (mid : Moment N) (track block : ℕ) (fault : StreamFault)
       (t : DecodesTo output format before (record after { notes = mid }) (Err (Refused track block fault))) where

@@ -19,3 +19,5 @@ pub mod IdentityRun
 pub mod DumpWords
 pub mod ReadHeadline
 pub mod Blaming
+pub mod EndingLaws
+pub mod Ended

@@ -1,5 +1,5 @@
 -- What a command does that reads a disk by a plan, by what the reading says.
-use Rattle.std.proofs.Common.{◌≡◌, ◌==◌, ◌≤◌, ℕ, ◌+◌, ◌*◌, ◌++◌, Bool, true, false, if◌then◌else◌, inl, inr, List, [], take, length, None, Ok, Err, refl, sym, ap, ◌∙◌, subst, append-nil, arith}
+use Rattle.std.proofs.Common.{◌≡◌, ◌==◌, ◌≤◌, ℕ, ◌+◌, ◌*◌, ◌++◌, Bool, true, false, if◌then◌else◌, inl, inr, List, [], take, length, None, Some, Ok, Err, refl, sym, ap, ◌∙◌, subst, append-nil, arith}
 use Rattle.std.proofs.KnownBytes.{Appends-trans}
 use Rattle.flux_base.specs.Moments.{Moment}
 use Rattle.flux_base.specs.Outside.{Rose}
@@ -17,13 +17,14 @@ use Rattle.sector_images.specs.declared.format.Format.{Format}
 use Rattle.sector_report.specs.declared.totals.Totals.{Totals}
 use Rattle.flux_cli.specs.DisksWork.{status_of}
 use Rattle.flux_cli.specs.PlanRuns.{IsByPlan}
-use Rattle.flux_cli.specs.PlanWork.{IsRead, planned_leaves, planned_outcome, planned_refusal, planned_status, planned_work, stop_text}
-use Rattle.flux_cli.specs.Runs.{Does, Finished, IsCut, NoCountFell, Outside, WasReadWhereNeeded, growth}
+use Rattle.flux_cli.specs.PlanWork.{CutInPlannedReading, IsRead, planned_leaves, planned_outcome, planned_refusal, planned_status, planned_work, stop_text}
+use Rattle.flux_cli.specs.Runs.{Does, Finished, IsAnswer, IsCut, NoCountFell, Outside, SaysBy, WasReadWhereNeeded, growth}
 use Rattle.flux_cli.specs.Work.{Got, GotPart, Work}
 use Rattle.flux_cli.specs.Works.{work_of}
 use Rattle.flux_cli.specs.declared.command.Command.{Command}
 use Rattle.flux_cli.specs.declared.command.Command.TheVariants.{DecodeSet, Rescue}
 use Rattle.flux_cli.proofs.Inputs.{rest}
+use Rattle.flux_cli.proofs.Runs.{done-by}
 
 -- what holds of the work of the plan holds of the command's
 carried : (command : Command) (plan : Plan) (format : Format) → IsByPlan command plan format → (P : Work → Type 0) → P (planned_work plan format) → P (work_of command)
@@ -63,59 +64,48 @@ module _ {S W N : Type 0} (plan : Plan) (format : Format) (command : Command) (b
         leaves = leaves-if plan format (d.taken ++ r.later) r.later (totals.good == totals.sectors) s.4;
       }
 
+  did : (status : Status) → IsAnswer (Some command) status → SaysBy (work_of command) (Some command) status before after → Does command status before after
+  did status =
+      done-by (work_of command) (Some command) status before after counts (carried command plan format by_plan (λ (w : Work). WasReadWhereNeeded w before after) needed)
+
+  finished : (status : Status) → Finished (planned_work plan format) status before after → Finished (work_of command) status before after
+  finished status = carried command plan format by_plan (λ (w : Work). Finished w status before after)
+
+  cut : (status : Status) → IsCut (planned_work plan format) status before after → IsCut (work_of command) status before after
+  cut status = carried command plan format by_plan (λ (w : Work). IsCut w status before after)
+
   pub planned-done : (totals : Totals) → Decodes (Ok totals) → Does command (status_of totals None) before after
   planned-done totals d = by (totals.good == totals.sectors) (decoded totals d)
     where
       by : (b : Bool) → Finished (planned_work plan format) (if b then AllGood else NotAllGood) before after
           → Does command (if b then AllGood else NotAllGood) before after
-      by true done = record { answer = tt; says = carried command plan format by_plan (λ (w : Work). Finished w AllGood before after) done; counts = counts; needed = carried command plan format by_plan (λ (w : Work). WasReadWhereNeeded w before after) needed }
-      by false done = record { answer = tt; says = carried command plan format by_plan (λ (w : Work). Finished w NotAllGood before after) done; counts = counts; needed = carried command plan format by_plan (λ (w : Work). WasReadWhereNeeded w before after) needed }
+      by true done = did AllGood tt (finished AllGood done)
+      by false done = did NotAllGood tt (finished NotAllGood done)
 
   pub planned-unread : Decodes (Err ReadFault) → Caused (Err ReadFault) → Does command ReadFaultStatus before after
   planned-unread d cause =
       let r = rest before.source after.source d.taken d.consumed in
       let s = d.says [] (λ _. refl) in
-      let cut : IsCut (planned_work plan format) ReadFaultStatus before after = record {
-        taken = d.taken;
-        later = r.later;
-        input = r.input;
-        place = record {
-          decoded = s.0;
-          is = subst (λ x. IsRead plan format x s.0) (append-nil d.taken) s.2.decoded;
-          image_got = s.2.image_grew;
-          notes_got = s.2.notes_grew;
-          stop = s.1;
-          stops = s.3;
-          cut_short = s.4;
-        };
-      } in record {
-        answer = tt;
-        says = (carried command plan format by_plan (λ (w : Work). IsCut w ReadFaultStatus before after) cut, cause);
-        counts = counts;
-        needed = carried command plan format by_plan (λ (w : Work). WasReadWhereNeeded w before after) needed;
-      }
+      let place : CutInPlannedReading plan format d.taken (growth before.image after.image) (growth before.notes after.notes) = record {
+        decoded = s.0;
+        is = subst (λ x. IsRead plan format x s.0) (append-nil d.taken) s.2.decoded;
+        image_got = s.2.image_grew;
+        notes_got = s.2.notes_grew;
+        stop = s.1;
+        stops = s.3;
+        cut_short = s.4;
+      } in
+      did ReadFaultStatus tt (cut ReadFaultStatus (record { taken = d.taken; later = r.later; input = r.input; place = place }), cause)
 
   pub planned-image-fault : Decodes (Err ImageFault) → Caused (Err ImageFault) → Does command ImageFaultStatus before after
   planned-image-fault d cause =
       let r = rest before.source after.source d.taken d.consumed in
-      let cut : IsCut (planned_work plan format) ImageFaultStatus before after =
-      record { taken = d.taken; later = r.later; input = r.input; place = d.says r.later (λ never. absurd never) } in record {
-        answer = tt;
-        says = (carried command plan format by_plan (λ (w : Work). IsCut w ImageFaultStatus before after) cut, cause);
-        counts = counts;
-        needed = carried command plan format by_plan (λ (w : Work). WasReadWhereNeeded w before after) needed;
-      }
+      did ImageFaultStatus tt (cut ImageFaultStatus (record { taken = d.taken; later = r.later; input = r.input; place = d.says r.later (λ never. absurd never) }), cause)
 
   pub planned-notes-fault : Decodes (Err NotesFault) → Caused (Err NotesFault) → Does command NotesFaultStatus before after
   planned-notes-fault d cause =
       let r = rest before.source after.source d.taken d.consumed in
-      let cut : IsCut (planned_work plan format) NotesFaultStatus before after =
-      record { taken = d.taken; later = r.later; input = r.input; place = inl (d.says r.later (λ never. absurd never)) } in record {
-        answer = tt;
-        says = (carried command plan format by_plan (λ (w : Work). IsCut w NotesFaultStatus before after) cut, cause);
-        counts = counts;
-        needed = carried command plan format by_plan (λ (w : Work). WasReadWhereNeeded w before after) needed;
-      }
+      did NotesFaultStatus tt (cut NotesFaultStatus (record { taken = d.taken; later = r.later; input = r.input; place = inl (d.says r.later (λ never. absurd never)) }), cause)
 
 -- the line of the refusal stands after all that was written
 module _ {S W N : Type 0} (plan : Plan) (format : Format) (command : Command) (by_plan : IsByPlan command plan format) (before after : Outside S W N) (mid : Moment N) (track capture block : ℕ) (fault : StreamFault)

@@ -1,32 +1,20 @@
--- What a run does that reads nothing.
-use Rattle.std.proofs.Common.{◌≡◌, ℕ, List, [], Option, None, Some, refl, sym, subst, arith, append-nil}
-use Rattle.std.proofs.KnownBytes.{Consumes-nil}
+-- What a run does, by what its status says, and where it reads nothing.
+use Rattle.std.proofs.Common.{◌≡◌, ℕ, List, [], Option, refl, subst, arith}
 use Rattle.std.specs.Io.KnownBytes.{Consumes}
-use Rattle.flux_base.specs.Outside.{Gives}
 use Rattle.flux_base.specs.declared.status.Status.{Status}
 use Rattle.flux_base.specs.declared.status.Status.TheVariants.{Usage, NotesFault, Memory}
-use Rattle.flux_engine.specs.Needed.{ReadsWhereOpen}
-use Rattle.kryo_stream.specs.Reads.{SourceMoment}
+use Rattle.flux_engine.specs.lemmas.ReadLaws.{no_reads}
 use Rattle.sector_images.specs.declared.format.Format.{Format}
-use Rattle.flux_cli.specs.Runs.{Does, Finished, IsCut, Outside, growth, reads_of}
-use Rattle.flux_cli.specs.Work.{Got, GotNothing, GotPart}
+use Rattle.flux_cli.specs.Runs.{Does, DoesBy, Finished, IsAnswer, IsCut, NoCountFell, Outside, SaysBy, WasReadWhereNeeded, growth, reads_of}
+use Rattle.flux_cli.specs.Work.{Got, GotNothing, GotPart, Work}
 use Rattle.flux_cli.specs.Works.{usage_work, work_of}
 use Rattle.flux_cli.specs.declared.command.Command.{Command}
 use Rattle.flux_cli.proofs.Inputs.{rest}
 
-Gives-nil : (given : Option (List (List ℕ))) → Gives given given []
-Gives-nil None = tt
-Gives-nil (Some pieces) = sym (append-nil pieces)
-
--- a source that was not read
-pub not_read : (IsOpen : List ℕ → Type 0) (m : SourceMoment) → ReadsWhereOpen IsOpen m m
-not_read IsOpen m = record {
-  pieces = [];
-  gave = Gives-nil m.given;
-  consumed = Consumes-nil m.left;
-  needed = λ k below. absurd (omega (arith, below));
-  still = λ _. refl;
-}
+-- what was done that was asked, by what the status says of it
+pub done-by : {S W N : Type 0} (work : Work) (asked : Option Command) (status : Status) (before after : Outside S W N) → NoCountFell before after
+    → WasReadWhereNeeded work before after → IsAnswer asked status → SaysBy work asked status before after → DoesBy work asked status before after
+done-by work asked status before after counts needed answers says = record { answer = answers; says = says; counts = counts; needed = needed }
 
 -- a command for which there was no memory
 pub out_of_memory : {S W N : Type 0} (command : Command) (now : Outside S W N) → Does command Memory now now
@@ -34,7 +22,7 @@ out_of_memory command now = record {
   answer = tt;
   says = (refl, refl);
   counts = record { source = omega arith; image = omega arith; notes = omega arith };
-  needed = λ x told. not_read (work_of command).untold (reads_of now);
+  needed = λ x told. no_reads (work_of command).untold (reads_of now);
 }
 
 -- what was done in a room that was made for a format was done for the format

@@ -25,6 +25,7 @@ pub mod DisksRuns
 pub mod FolderRuns
 pub mod ReadRuns
 pub mod IdentityRuns
+pub mod Endings
 pub mod ShelfRuns
 pub mod ReadHeadline
 pub mod Captured

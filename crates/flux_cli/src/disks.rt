@@ -13,9 +13,10 @@ ghost use Rattle.flux_cli.specs.declared.command.Output.TheVariants.{ReportAlone
 ghost use Rattle.flux_engine.specs.Room.{fresh};
 
 use crate::command::Output;
+use crate::endings::end_of_disk;
 use flux_base::{CountingSink, Sink, Source, Status};
 use flux_engine::{DiskRoom, EngineFault, decode_disk};
-use sector_report::{Totals, refused_line, write_line};
+use sector_report::Totals;
 
 /// Decodes a disk, and gives its image with its report, or the report alone. Notes say why it is refused.
 pub fn decode<S: Source, W: Sink, N: Sink>(
@@ -35,22 +36,8 @@ pub fn decode<S: Source, W: Sink, N: Sink>(
     ensures no_shelf { result ≢ Status.ShelfFault }
     ensures memory { result ≢ Status.Memory }
 {
-    match decode_to(room, output, source, image, notes) {
-        Ok(totals) => status_of(&totals),
-        Err(EngineFault::ReadFault) => Status::ReadFault,
-        Err(EngineFault::ImageFault) => Status::ImageFault,
-        Err(EngineFault::NotesFault) => Status::NotesFault,
-        Err(
-            EngineFault::Refused {
-                track,
-                block,
-                fault,
-            },
-        ) => match write_line(notes, &refused_line(track, block, &fault)) {
-            Ok(()) => Status::Refused,
-            Err(_) => Status::NotesFault,
-        },
-    }
+    let answer = decode_to(room, output, source, image, notes);
+    end_of_disk(answer, notes)
 }
 
 /// Decodes a disk to where its output goes. A fault is named by the sink that had it.

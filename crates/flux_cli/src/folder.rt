@@ -13,10 +13,10 @@ ghost use Rattle.flux_engine.specs.Room.{fresh};
 
 use crate::command::Output;
 use crate::disks::decode;
+use crate::endings::refuse;
 use flux_base::{Failed, Sink, Status, Word};
 use flux_engine::DiskRoom;
 use sector_images::{Format, track_id, tracks_keep_bounds};
-use sector_report::write_line;
 use track_shelf::{Shelf, missing_line};
 
 /// The format and the folder that the words name, if they ask to decode a folder.
@@ -71,10 +71,7 @@ pub fn decode_folder<H: Shelf, W: Sink, N: Sink>(
         },
         Ok(Some(number)) => {
             tracks_keep_bounds();
-            match write_line(notes, &missing_line(number, track_id(format, number))) {
-                Ok(()) => Status::Refused,
-                Err(_) => Status::NotesFault,
-            }
+            refuse(&missing_line(number, track_id(format, number)), notes)
         }
         Err(Failed) => Status::ShelfFault,
     }

@@ -11,9 +11,9 @@ ghost use Rattle.flux_cli.specs.FolderRuns.{on, shelf_moment};
 ghost use Rattle.flux_cli.specs.IdentityRuns.{DidIdentify, identity_status};
 ghost use Rattle.flux_cli.specs.IdentityWords.{NamesIdentity};
 
-use dump_identity::{Finding, IdentityFault, IdentityRoom, identify};
+use crate::endings::end_of_identity;
+use dump_identity::{Finding, IdentityRoom, identify};
 use flux_base::{Sink, Status, Word};
-use sector_report::{no_files_line, write_line};
 use track_shelf::Shelf;
 
 /// The dump that the words name, if they ask which disk it is of: `identify DUMP`.
@@ -55,19 +55,11 @@ pub fn identify_dump<H: Shelf, W: Sink, N: Sink>(
         (three_counts (counts_of H.faults H.failed shelf.new) (counts_of W.faults W.failed image.new) (counts_of N.faults N.failed notes.new)) }
     ensures no_source { result ≢ Status.ReadFault }
 {
-    match identify(dump, room, shelf, image) {
-        Ok(best) => status_of(&best),
-        Err(IdentityFault::NoFiles) => match write_line(notes, &no_files_line(0)) {
-            Ok(()) => Status::Refused,
-            Err(_) => Status::NotesFault,
-        },
-        Err(IdentityFault::ShelfFault) => Status::ShelfFault,
-        Err(IdentityFault::LinesFault) => Status::ImageFault,
-    }
+    end_of_identity(identify(dump, room, shelf, image), notes)
 }
 
 /// Whether one disk explains all of the dump.
-fn status_of(best: &Option<Finding>) -> Status
+pub(crate) fn status_of(best: &Option<Finding>) -> Status
     ensures { result ≡ identity_status best.now }
 {
     match best {

@@ -4,23 +4,19 @@
 mod command;
 mod count;
 mod disks;
-mod dump_picture;
 mod dump_words;
+mod endings;
 mod folder;
 mod g64_disk;
-mod g64_files;
 mod identity;
-mod images;
 mod laws;
-mod map;
-mod pages;
 mod planned;
 mod program;
 mod read;
 mod seed;
 mod standard;
 mod std_shelf;
-mod trial;
+mod task;
 mod turns;
 
 pub use laws::{identity_outcomes_are_one, outcomes_are_one, read_outcomes_are_one};

@@ -5,48 +5,37 @@ ghost use Rattle.flux_cli.specs.Blamed.{CountsOfRun, all_counts, shelf_blame, so
 ghost use Rattle.flux_base.specs.Moments.{moment};
 ghost use Rattle.flux_base.specs.declared.status.Status.{Status};
 ghost use Rattle.flux_cli.specs.Captured.{FolderCaptured, FolderErased, RunsCaptured, RunsErased};
-ghost use Rattle.flux_cli.specs.Commands.{command_for};
 ghost use Rattle.flux_cli.specs.DumpWords.{asked_disk, asked_of, shown_of};
 ghost use Rattle.flux_cli.specs.FolderRuns.{on, shelf_moment};
 ghost use Rattle.flux_cli.specs.Headlines.{RunsAsExpected};
 ghost use Rattle.flux_cli.specs.IdentityRuns.{DidIdentify};
 ghost use Rattle.flux_cli.specs.ReadHeadline.{ReadsAsExpected};
 ghost use Rattle.flux_cli.specs.ReadRuns.{DidRead};
-ghost use Rattle.flux_cli.specs.Runs.{Does, RanOverSource, outside};
+ghost use Rattle.flux_cli.specs.Runs.{RanOverSource, outside};
 ghost use Rattle.flux_cli.specs.ShelfRuns.{Ran, surroundings};
-ghost use Rattle.flux_cli.specs.declared.command.Command.TheVariants.{DecodeSet, FromG64, Map, Rescue, ToG64, Trial, Turns, Write};
-ghost use Rattle.kryo_stream.specs.Room.{IsFresh};
 
 use crate::command::{Command, Output, command_of};
-use crate::disks::decode;
-use crate::dump_picture::show;
 use crate::dump_words::{DumpsAsked, dumps_of};
 use crate::folder::{decode_folder, folder_of};
-use crate::g64_disk::G64Disk;
-use crate::g64_files::{from_file, to_file};
 use crate::identity::{identify_dump, identity_of};
-use crate::images::write;
-use crate::map::draw;
-use crate::pages::tell;
-use crate::planned::{decode_captures, rescue};
-use crate::trial::trial;
-use crate::turns::write_turns;
+use crate::read::show;
+use crate::task::{
+    DecodeSet, Decoding, FromG64, Map, Rescue, Task, Tell, ToG64, Trial, Turns, Write,
+};
 use disk_map::dumps_are_drawn_as_reported;
 use dump_identity::IdentityRoom;
 use dump_reading::Dumps;
 use flux_base::{Memory, Sink, Source, Status, Word};
-use flux_engine::{DiskRoom, WriteRoom, good_is_right_on_disks, lines_tell_verdicts};
+use flux_engine::{DiskRoom, good_is_right_on_disks, lines_tell_verdicts};
 use flux_help::write_wrong_words;
-use flux_trial::{TrialRoom, whole_trials_have_one_line};
-use g64_image::{G64Room, file_lines_tell, good_is_right_in_files, written_files_come_back};
-use kryo_stream::{RoomFault, StreamRoom};
+use flux_trial::whole_trials_have_one_line;
+use g64_image::{file_lines_tell, good_is_right_in_files, written_files_come_back};
 use law_captured_disks::captured_disks_decode;
 use law_captured_dumps::{captured_dumps_are_read, dumps_say_each_sector};
 use law_captured_plans::planned_lines_tell;
 use law_captured_rescues::{captured_disks_are_rescued, steady_disks_are_rescued};
 use law_captured_sets::captured_sets_decode;
-use sector_images::{Format, words_name_formats};
-use sector_report::{refused_line, write_line};
+use sector_images::words_name_formats;
 use std::alloc::Global;
 use track_shelf::Shelf;
 
@@ -243,246 +232,26 @@ fn run_over_source<S: Source, W: Sink, N: Sink>(
             Ok(()) => Status::Usage,
             Err(_) => Status::NotesFault,
         },
-        Some(Command::Turns) => run_turns(alloc, source, image, notes),
+        Some(Command::Turns) => Turns.run(alloc, source, image, notes),
         Some(Command::Decode(format)) => {
-            run_decode(alloc, format, Output::ImageAndReport, source, image, notes)
+            let output = Output::ImageAndReport;
+            Decoding { output, format }.run(alloc, source, image, notes)
         }
         Some(Command::Report(format)) => {
-            run_decode(alloc, format, Output::ReportAlone, source, image, notes)
+            let output = Output::ReportAlone;
+            Decoding { output, format }.run(alloc, source, image, notes)
         }
-        Some(Command::Map(format)) => run_map(alloc, format, source, image, notes),
-        Some(Command::Write(format)) => run_write(alloc, format, source, image, notes),
-        Some(Command::Trial(format, seed)) => run_trial(alloc, format, seed, source, image, notes),
-        Some(Command::ToG64(disk)) => run_to_file(alloc, disk, source, image, notes),
-        Some(Command::FromG64(disk)) => run_from_file(alloc, disk, source, image, notes),
+        Some(Command::Map(format)) => Map { format }.run(alloc, source, image, notes),
+        Some(Command::Write(format)) => Write { format }.run(alloc, source, image, notes),
+        Some(Command::Trial(format, seed)) => {
+            Trial { format, seed }.run(alloc, source, image, notes)
+        }
+        Some(Command::ToG64(disk)) => ToG64 { disk }.run(alloc, source, image, notes),
+        Some(Command::FromG64(disk)) => FromG64 { disk }.run(alloc, source, image, notes),
         Some(Command::DecodeSet(format, count)) => {
-            run_set(alloc, format, count, source, image, notes)
+            DecodeSet { format, count }.run(alloc, source, image, notes)
         }
-        Some(Command::Rescue(format)) => run_rescue(alloc, format, source, image, notes),
-        Some(Command::Tell(page)) => tell(page, source, image, notes),
-    }
-}
-
-/// Runs the command `turns` in a room of its own.
-fn run_turns<S: Source, W: Sink, N: Sink>(
-    alloc: Global,
-    source: &mut S,
-    image: &mut W,
-    notes: &mut N,
-) -> Status
-    ensures does { Does Turns result
-        (outside (moment S.left S.faults S.failed source.old) (S.given source.old) (moment W.written W.faults W.failed image.old) (moment N.written N.faults N.failed notes.old))
-        (outside (moment S.left S.faults S.failed source.new) (S.given source.new) (moment W.written W.faults W.failed image.new) (moment N.written N.faults N.failed notes.new)) }
-    ensures blames { CountsBy (source_blame result)
-        (three_counts (counts_of S.faults S.failed source.old) (counts_of W.faults W.failed image.old) (counts_of N.faults N.failed notes.old))
-        (three_counts (counts_of S.faults S.failed source.new) (counts_of W.faults W.failed image.new) (counts_of N.faults N.failed notes.new)) }
-{
-    match StreamRoom::reserve(alloc) {
-        Ok(mut room) => turns(&mut room, source, image, notes),
-        Err(Memory) => Status::Memory,
-    }
-}
-
-/// Runs the command `decode` or `report` in a room of its own.
-fn run_decode<S: Source, W: Sink, N: Sink>(
-    alloc: Global,
-    format: Format,
-    output: Output,
-    source: &mut S,
-    image: &mut W,
-    notes: &mut N,
-) -> Status
-    ensures does { Does (command_for output format) result
-        (outside (moment S.left S.faults S.failed source.old) (S.given source.old) (moment W.written W.faults W.failed image.old) (moment N.written N.faults N.failed notes.old))
-        (outside (moment S.left S.faults S.failed source.new) (S.given source.new) (moment W.written W.faults W.failed image.new) (moment N.written N.faults N.failed notes.new)) }
-    ensures blames { CountsBy (source_blame result)
-        (three_counts (counts_of S.faults S.failed source.old) (counts_of W.faults W.failed image.old) (counts_of N.faults N.failed notes.old))
-        (three_counts (counts_of S.faults S.failed source.new) (counts_of W.faults W.failed image.new) (counts_of N.faults N.failed notes.new)) }
-{
-    match DiskRoom::reserve(alloc, format) {
-        Ok(mut room) => decode(&mut room, output, source, image, notes),
-        Err(Memory) => Status::Memory,
-    }
-}
-
-/// Runs the command `map` in a room of its own.
-fn run_map<S: Source, W: Sink, N: Sink>(
-    alloc: Global,
-    format: Format,
-    source: &mut S,
-    image: &mut W,
-    notes: &mut N,
-) -> Status
-    ensures does { Does (Map format) result
-        (outside (moment S.left S.faults S.failed source.old) (S.given source.old) (moment W.written W.faults W.failed image.old) (moment N.written N.faults N.failed notes.old))
-        (outside (moment S.left S.faults S.failed source.new) (S.given source.new) (moment W.written W.faults W.failed image.new) (moment N.written N.faults N.failed notes.new)) }
-    ensures blames { CountsBy (source_blame result)
-        (three_counts (counts_of S.faults S.failed source.old) (counts_of W.faults W.failed image.old) (counts_of N.faults N.failed notes.old))
-        (three_counts (counts_of S.faults S.failed source.new) (counts_of W.faults W.failed image.new) (counts_of N.faults N.failed notes.new)) }
-{
-    match DiskRoom::reserve(alloc, format) {
-        Ok(mut room) => draw(&mut room, source, image, notes),
-        Err(Memory) => Status::Memory,
-    }
-}
-
-/// Runs the command `write` in a room of its own.
-fn run_write<S: Source, W: Sink, N: Sink>(
-    alloc: Global,
-    format: Format,
-    source: &mut S,
-    image: &mut W,
-    notes: &mut N,
-) -> Status
-    ensures does { Does (Write format) result
-        (outside (moment S.left S.faults S.failed source.old) (S.given source.old) (moment W.written W.faults W.failed image.old) (moment N.written N.faults N.failed notes.old))
-        (outside (moment S.left S.faults S.failed source.new) (S.given source.new) (moment W.written W.faults W.failed image.new) (moment N.written N.faults N.failed notes.new)) }
-    ensures blames { CountsBy (source_blame result)
-        (three_counts (counts_of S.faults S.failed source.old) (counts_of W.faults W.failed image.old) (counts_of N.faults N.failed notes.old))
-        (three_counts (counts_of S.faults S.failed source.new) (counts_of W.faults W.failed image.new) (counts_of N.faults N.failed notes.new)) }
-{
-    match WriteRoom::reserve(alloc, format) {
-        Ok(mut room) => write(&mut room, source, image, notes),
-        Err(Memory) => Status::Memory,
-    }
-}
-
-/// Runs the command `trial` in a room of its own.
-fn run_trial<S: Source, W: Sink, N: Sink>(
-    alloc: Global,
-    format: Format,
-    seed: u32,
-    source: &mut S,
-    image: &mut W,
-    notes: &mut N,
-) -> Status
-    ensures does { Does (Trial format seed) result
-        (outside (moment S.left S.faults S.failed source.old) (S.given source.old) (moment W.written W.faults W.failed image.old) (moment N.written N.faults N.failed notes.old))
-        (outside (moment S.left S.faults S.failed source.new) (S.given source.new) (moment W.written W.faults W.failed image.new) (moment N.written N.faults N.failed notes.new)) }
-    ensures blames { CountsBy (source_blame result)
-        (three_counts (counts_of S.faults S.failed source.old) (counts_of W.faults W.failed image.old) (counts_of N.faults N.failed notes.old))
-        (three_counts (counts_of S.faults S.failed source.new) (counts_of W.faults W.failed image.new) (counts_of N.faults N.failed notes.new)) }
-{
-    match TrialRoom::reserve(alloc, format) {
-        Ok(mut room) => trial(&mut room, seed, source, image, notes),
-        Err(Memory) => Status::Memory,
-    }
-}
-
-/// Runs the command `to-g64` in a room of its own.
-fn run_to_file<S: Source, W: Sink, N: Sink>(
-    alloc: Global,
-    disk: G64Disk,
-    source: &mut S,
-    image: &mut W,
-    notes: &mut N,
-) -> Status
-    ensures does { Does (ToG64 disk) result
-        (outside (moment S.left S.faults S.failed source.old) (S.given source.old) (moment W.written W.faults W.failed image.old) (moment N.written N.faults N.failed notes.old))
-        (outside (moment S.left S.faults S.failed source.new) (S.given source.new) (moment W.written W.faults W.failed image.new) (moment N.written N.faults N.failed notes.new)) }
-    ensures blames { CountsBy (source_blame result)
-        (three_counts (counts_of S.faults S.failed source.old) (counts_of W.faults W.failed image.old) (counts_of N.faults N.failed notes.old))
-        (three_counts (counts_of S.faults S.failed source.new) (counts_of W.faults W.failed image.new) (counts_of N.faults N.failed notes.new)) }
-{
-    match G64Room::reserve(alloc, disk.format()) {
-        Ok(mut room) => to_file(&mut room, source, image, notes),
-        Err(Memory) => Status::Memory,
-    }
-}
-
-/// Runs the command `from-g64` in a room of its own.
-fn run_from_file<S: Source, W: Sink, N: Sink>(
-    alloc: Global,
-    disk: G64Disk,
-    source: &mut S,
-    image: &mut W,
-    notes: &mut N,
-) -> Status
-    ensures does { Does (FromG64 disk) result
-        (outside (moment S.left S.faults S.failed source.old) (S.given source.old) (moment W.written W.faults W.failed image.old) (moment N.written N.faults N.failed notes.old))
-        (outside (moment S.left S.faults S.failed source.new) (S.given source.new) (moment W.written W.faults W.failed image.new) (moment N.written N.faults N.failed notes.new)) }
-    ensures blames { CountsBy (source_blame result)
-        (three_counts (counts_of S.faults S.failed source.old) (counts_of W.faults W.failed image.old) (counts_of N.faults N.failed notes.old))
-        (three_counts (counts_of S.faults S.failed source.new) (counts_of W.faults W.failed image.new) (counts_of N.faults N.failed notes.new)) }
-{
-    match G64Room::reserve(alloc, disk.format()) {
-        Ok(mut room) => from_file(&mut room, source, image, notes),
-        Err(Memory) => Status::Memory,
-    }
-}
-
-/// Runs the command `decode-set` in a room of its own.
-fn run_set<S: Source, W: Sink, N: Sink>(
-    alloc: Global,
-    format: Format,
-    count: u32,
-    source: &mut S,
-    image: &mut W,
-    notes: &mut N,
-) -> Status
-    requires some { 1 ≤ count }
-    requires few { count ≤ 16 }
-    ensures does { Does (DecodeSet format count) result
-        (outside (moment S.left S.faults S.failed source.old) (S.given source.old) (moment W.written W.faults W.failed image.old) (moment N.written N.faults N.failed notes.old))
-        (outside (moment S.left S.faults S.failed source.new) (S.given source.new) (moment W.written W.faults W.failed image.new) (moment N.written N.faults N.failed notes.new)) }
-    ensures blames { CountsBy (source_blame result)
-        (three_counts (counts_of S.faults S.failed source.old) (counts_of W.faults W.failed image.old) (counts_of N.faults N.failed notes.old))
-        (three_counts (counts_of S.faults S.failed source.new) (counts_of W.faults W.failed image.new) (counts_of N.faults N.failed notes.new)) }
-{
-    match DiskRoom::reserve(alloc, format) {
-        Ok(mut room) => decode_captures(&mut room, count, source, image, notes),
-        Err(Memory) => Status::Memory,
-    }
-}
-
-/// Runs the command `rescue` in a room of its own.
-fn run_rescue<S: Source, W: Sink, N: Sink>(
-    alloc: Global,
-    format: Format,
-    source: &mut S,
-    image: &mut W,
-    notes: &mut N,
-) -> Status
-    ensures does { Does (Rescue format) result
-        (outside (moment S.left S.faults S.failed source.old) (S.given source.old) (moment W.written W.faults W.failed image.old) (moment N.written N.faults N.failed notes.old))
-        (outside (moment S.left S.faults S.failed source.new) (S.given source.new) (moment W.written W.faults W.failed image.new) (moment N.written N.faults N.failed notes.new)) }
-    ensures blames { CountsBy (source_blame result)
-        (three_counts (counts_of S.faults S.failed source.old) (counts_of W.faults W.failed image.old) (counts_of N.faults N.failed notes.old))
-        (three_counts (counts_of S.faults S.failed source.new) (counts_of W.faults W.failed image.new) (counts_of N.faults N.failed notes.new)) }
-{
-    match DiskRoom::reserve(alloc, format) {
-        Ok(mut room) => rescue(&mut room, source, image, notes),
-        Err(Memory) => Status::Memory,
-    }
-}
-
-/// Reads one stream, and prints its transitions and turns.
-fn turns<S: Source, W: Sink, N: Sink>(
-    room: &mut StreamRoom,
-    source: &mut S,
-    image: &mut W,
-    notes: &mut N,
-) -> Status
-    requires { IsFresh room.old }
-    ensures does { Does Turns result
-        (outside (moment S.left S.faults S.failed source.old) (S.given source.old) (moment W.written W.faults W.failed image.old) (moment N.written N.faults N.failed notes.old))
-        (outside (moment S.left S.faults S.failed source.new) (S.given source.new) (moment W.written W.faults W.failed image.new) (moment N.written N.faults N.failed notes.new)) }
-    ensures blames { CountsBy (source_blame result)
-        (three_counts (counts_of S.faults S.failed source.old) (counts_of W.faults W.failed image.old) (counts_of N.faults N.failed notes.old))
-        (three_counts (counts_of S.faults S.failed source.new) (counts_of W.faults W.failed image.new) (counts_of N.faults N.failed notes.new)) }
-    ensures memory { result ≢ Status.Memory }
-{
-    match room.read(source) {
-        Ok(()) => match write_turns(room.flux(), image) {
-            Ok(()) => Status::AllGood,
-            Err(_) => Status::ImageFault,
-        },
-        Err(RoomFault::ReadFault) => Status::ReadFault,
-        Err(RoomFault::Refused { block, fault }) => {
-            match write_line(notes, &refused_line(0, block, &fault)) {
-                Ok(()) => Status::Refused,
-                Err(_) => Status::NotesFault,
-            }
-        }
+        Some(Command::Rescue(format)) => Rescue { format }.run(alloc, source, image, notes),
+        Some(Command::Tell(page)) => Tell { page }.run(alloc, source, image, notes),
     }
 }

@@ -1,4 +1,4 @@
-//! A disk that is read of its dumps.
+//! A disk that is read of its dumps, to its image and its report or to a picture.
 
 ghost use Rattle.std.specs.Prelude.{◌≢◌, ◌≡◌, ◌≤◌, length};
 ghost use Rattle.flux_base.specs.declared.status.Status.{Status};
@@ -9,17 +9,19 @@ ghost use Rattle.dump_reading.specs.Outcomes.{disk_of};
 ghost use Rattle.flux_base.specs.Moments.{moment};
 ghost use Rattle.flux_cli.specs.FolderRuns.{on, shelf_moment};
 ghost use Rattle.flux_cli.specs.ReadRuns.{DidRead, read_status};
-ghost use Rattle.flux_cli.specs.declared.dump_words.Shown.TheVariants.{Image};
 ghost use Rattle.flux_engine.specs.Room.{fresh};
 
-use dump_reading::{DumpTotals, Dumps, DumpsFault, read_dumps};
+use crate::dump_words::Shown;
+use crate::endings::end_of_dumps;
+use disk_map::map_dumps;
+use dump_reading::{DumpTotals, Dumps, read_dumps};
 use flux_base::{Sink, Status};
 use flux_engine::DiskRoom;
-use sector_report::{no_files_line, write_line};
 use track_shelf::Shelf;
 
-/// Reads a disk of its dumps: its image goes to `image`, and its report to `notes`. Notes say which dump has none of its files.
-pub fn read<H: Shelf, W: Sink, N: Sink>(
+/// Reads a disk of its dumps, and shows this of the verdicts. Notes say which dump has none of its files.
+pub fn show<H: Shelf, W: Sink, N: Sink>(
+    shown: Shown,
     dumps: &Dumps,
     room: &mut DiskRoom,
     shelf: &mut H,
@@ -28,7 +30,7 @@ pub fn read<H: Shelf, W: Sink, N: Sink>(
 ) -> Status
     requires fresh { room.old ≡ fresh room.old.format }
     requires few { length dumps.now.names.now ≤ 16 }
-    ensures did { DidRead Image (disk_of dumps.now room.old.format) result
+    ensures did { DidRead shown (disk_of dumps.now room.old.format) result
         (on (shelf_moment (moment H.left H.faults H.failed shelf.old) (H.given shelf.old) (H.files shelf.old)) (moment W.written W.faults W.failed image.old) (moment N.written N.faults N.failed notes.old))
         (on (shelf_moment (moment H.left H.faults H.failed shelf.new) (H.given shelf.new) (H.files shelf.new)) (moment W.written W.faults W.failed image.new) (moment N.written N.faults N.failed notes.new)) }
     ensures blames { CountsBy (shelf_blame result)
@@ -36,15 +38,12 @@ pub fn read<H: Shelf, W: Sink, N: Sink>(
         (three_counts (counts_of H.faults H.failed shelf.new) (counts_of W.faults W.failed image.new) (counts_of N.faults N.failed notes.new)) }
     ensures no_source { result ≢ Status.ReadFault }
 {
-    match read_dumps(dumps, room, shelf, image, notes) {
-        Ok(totals) => status_of(&totals),
-        Err(DumpsFault::NoFiles { dump }) => match write_line(notes, &no_files_line(dump)) {
-            Ok(()) => Status::Refused,
-            Err(_) => Status::NotesFault,
-        },
-        Err(DumpsFault::ShelfFault) => Status::ShelfFault,
-        Err(DumpsFault::ImageFault) => Status::ImageFault,
-        Err(DumpsFault::NotesFault) => Status::NotesFault,
+    match shown {
+        Shown::Image => {
+            let answer = read_dumps(dumps, room, shelf, image, notes);
+            end_of_dumps(answer, notes)
+        }
+        Shown::Picture => end_of_dumps(map_dumps(dumps, room, shelf, image), notes),
     }
 }
 

@@ -1,4 +1,4 @@
--- What the call that writes a disk may answer, and what that says of the image and of the streams.
+-- What a call that writes what is made of an image may answer, and what that says of the image and of what is written.
 use Rattle.std.specs.Prelude.{◌≡◌, ◌≢◌, ◌≤◌, ◌<◌, ℕ, ◌+◌, List, [], length, drop, min, Option, Some, Result, Ok, Err}
 use Rattle.std.specs.Io.KnownBytes.{Appends, Consumes, IsAtEnd}
 use Rattle.flux_base.specs.Outside.{Rose, AppendsPart}
@@ -36,37 +36,45 @@ pub record IsNoImage (format : Format) (taken : List ℕ) (left' : Option (List 
   pub most : length taken ≤ most_read format
   pub ended : length taken ≤ (row format).image_size → IsAtEnd left'
 
--- what the answer says of the bytes that were taken and of those that were written
-abbrev pub SaysOfImage : Format → (taken : List ℕ) → (left' written written' : Option (List ℕ)) → Answer → Type 0
-SaysOfImage format taken left' written written' (Ok _) =
-    IsWholeImage format taken left' × Appends written written' (streams_of format taken)
-SaysOfImage format taken left' written written' (Err ImageFault) =
-    IsWholeImage format taken left' × AppendsPart written written' (streams_of format taken)
-SaysOfImage format taken left' written written' (Err (WrongSize read wanted)) =
-    IsNoImage format taken left' × (read ≡ length taken) × (wanted ≡ (row format).image_size) × (written' ≡ written)
-SaysOfImage format taken left' written written' (Err ReadFault) =
-    (length taken ≤ (row format).image_size) × (written' ≡ written)
+module _ (made_of : List ℕ → List ℕ) (format : Format) where
+  -- what the answer says of the bytes that were taken and of those that were written, which are made of an image
+  abbrev pub SaysOfImage : (taken : List ℕ) → (left' written written' : Option (List ℕ)) → Answer → Type 0
+  SaysOfImage taken left' written written' (Ok _) =
+      IsWholeImage format taken left' × Appends written written' (made_of taken)
+  SaysOfImage taken left' written written' (Err ImageFault) =
+      IsWholeImage format taken left' × AppendsPart written written' (made_of taken)
+  SaysOfImage taken left' written written' (Err (WrongSize read wanted)) =
+      IsNoImage format taken left' × (read ≡ length taken) × (wanted ≡ (row format).image_size) × (written' ≡ written)
+  SaysOfImage taken left' written written' (Err ReadFault) =
+      (length taken ≤ (row format).image_size) × (written' ≡ written)
 
--- A call that writes a disk: it took these bytes.
-pub record WritesDisk (format : Format) (left left' written written' : Option (List ℕ)) (answer : Answer) : Type 0 where
-  pub taken : List ℕ
-  pub consumed : Consumes left left' taken
-  pub says : SaysOfImage format taken left' written written' answer
+  -- A call that writes what is made of an image: it took these bytes.
+  pub record WritesMade (left left' written written' : Option (List ℕ)) (answer : Answer) : Type 0 where
+    pub taken : List ℕ
+    pub consumed : Consumes left left' taken
+    pub says : SaysOfImage taken left' written written' answer
 
--- What the answer says of a source that tells its bytes x: all of an image, and of other bytes at most one more than an image
--- has, are taken.
+  -- What the answer says of a source that tells its bytes x: all of an image, and of other bytes at most one more than an image
+  -- has, are taken.
+  abbrev pub SaysOfMade : (x : List ℕ) → (left' written written' : Option (List ℕ)) → Answer → Type 0
+  SaysOfMade x left' written written' (Ok _) =
+      (length x ≡ (row format).image_size) × (left' ≡ Some []) × Appends written written' (made_of x)
+  SaysOfMade x left' written written' (Err ImageFault) =
+      (length x ≡ (row format).image_size) × (left' ≡ Some []) × AppendsPart written written' (made_of x)
+  SaysOfMade x left' written written' (Err (WrongSize read wanted)) =
+      (length x ≢ (row format).image_size) × (read ≡ min (length x) (most_read format)) × (wanted ≡ (row format).image_size)
+      × (left' ≡ Some (drop (most_read format) x)) × (written' ≡ written)
+  SaysOfMade x left' written written' (Err ReadFault) =
+      (taken : List ℕ) × Consumes (Some x) left' taken × (length taken ≤ (row format).image_size) × (written' ≡ written)
+
+-- the same of a call that writes a disk: the streams of an image's tracks
+abbrev pub WritesDisk : Format → (left left' written written' : Option (List ℕ)) → Answer → Type 0
+WritesDisk format = WritesMade (streams_of format) format
+
 abbrev pub SaysOfBytes : Format → (x : List ℕ) → (left' written written' : Option (List ℕ)) → Answer → Type 0
-SaysOfBytes format x left' written written' (Ok _) =
-    (length x ≡ (row format).image_size) × (left' ≡ Some []) × Appends written written' (streams_of format x)
-SaysOfBytes format x left' written written' (Err ImageFault) =
-    (length x ≡ (row format).image_size) × (left' ≡ Some []) × AppendsPart written written' (streams_of format x)
-SaysOfBytes format x left' written written' (Err (WrongSize read wanted)) =
-    (length x ≢ (row format).image_size) × (read ≡ min (length x) (most_read format)) × (wanted ≡ (row format).image_size)
-    × (left' ≡ Some (drop (most_read format) x)) × (written' ≡ written)
-SaysOfBytes format x left' written written' (Err ReadFault) =
-    (taken : List ℕ) × Consumes (Some x) left' taken × (length taken ≤ (row format).image_size) × (written' ≡ written)
+SaysOfBytes format = SaysOfMade (streams_of format) format
 
--- the image was written, or has another size
+-- what is made of the image was written, or it has another size
 abbrev pub IsWrittenOrWrongSize : Answer → Type 0
 IsWrittenOrWrongSize (Ok _) = Unit {0}
 IsWrittenOrWrongSize (Err (WrongSize _ _)) = Unit {0}

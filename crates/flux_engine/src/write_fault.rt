@@ -1,13 +1,13 @@
 use thiserror::Error;
 
-/// Why the streams of an image were not written, or not all.
+/// Why what is made of an image, the streams of its tracks or a file, was not written, or not all.
 #[derive(Clone, Copy, Debug, PartialEq, Eq, Error)]
 pub enum WriteFault {
     /// The source failed.
     #[error("the source failed")]
     ReadFault,
-    /// The sink of the streams failed.
-    #[error("the streams were not written")]
+    /// The sink that it goes to failed.
+    #[error("what is made of the image was not written")]
     ImageFault,
     /// An image of the format has another size: the bytes that were read, at most one more than it has, and
     /// those that it has.

@@ -1,12 +1,11 @@
 -- What the calls that write and read files may answer, and what that says of the bytes that were taken and written.
-use Rattle.std.specs.Prelude.{◌≡◌, ◌≢◌, ◌≤◌, ◌<◌, ◌⊎◌, ℕ, ◌+◌, List, [], ◌∷◌, ◌++◌, drop, length, min, Option, Some, None, Result, Ok, Err}
+use Rattle.std.specs.Prelude.{◌≡◌, ◌≤◌, ◌<◌, ◌⊎◌, ℕ, ◌+◌, List, [], ◌∷◌, ◌++◌, drop, length, Option, Some, None, Result, Ok, Err}
 use Rattle.std.specs.Io.KnownBytes.{Appends, Consumes, IsAtEnd}
-use Rattle.flux_base.specs.Outside.{AppendsPart, Rose}
+use Rattle.flux_base.specs.Outside.{Rose}
 use Rattle.flux_engine.specs.Answers.{AppendsAndPart}
 use Rattle.flux_engine.specs.Disks.{images, lines, totals_over}
 use Rattle.flux_engine.specs.Tracks.{TrackPart}
-use Rattle.flux_engine.specs.Writes.{IsNoImage, IsWholeImage, most_read}
-use Rattle.sector_images.specs.Formats.{row}
+use Rattle.flux_engine.specs.Writes.{Answer, SaysOfMade, WritesMade}
 use Rattle.sector_images.specs.Places.{tracks}
 use Rattle.sector_images.specs.declared.format.Format.{Format}
 use Rattle.sector_report.specs.Lines.{total_text}
@@ -14,58 +13,18 @@ use Rattle.sector_report.specs.declared.totals.Totals.{Totals}
 use Rattle.g64_image.specs.Faults.{MOST_BYTES, first_fault}
 use Rattle.g64_image.specs.FileDisks.{AreFileParts, FileDisk, IsFileDisk}
 use Rattle.g64_image.specs.Layout.{g64_file}
-use Rattle.g64_image.specs.declared.fault.ToStop.{ToStop}
-use Rattle.g64_image.specs.declared.fault.ToStop.TheVariants.{ReadFault as ToReadFault, ImageFault as ToImageFault, WrongSize}
 use Rattle.g64_image.specs.declared.fault.FromStop.{FromStop}
 use Rattle.g64_image.specs.declared.fault.FromStop.TheVariants.{ReadFault, ImageFault, NotesFault, Refused}
-
-abbrev pub ToAnswer : Type 0
-ToAnswer = Result (Unit {0}) ToStop
 
 abbrev pub FromAnswer : Type 0
 FromAnswer = Result Totals FromStop
 
--- a fault of an object of the outside comes only where its count rose
-abbrev pub ToCause : (source source' sink sink' : ℕ) → ToAnswer → Type 0
-ToCause source source' sink sink' (Err ToReadFault) = Rose source source'
-ToCause source source' sink sink' (Err ToImageFault) = Rose sink sink'
-ToCause source source' sink sink' _ = Unit {0}
+-- a call that writes the file of an image
+abbrev pub WritesFile : Format → (left left' written written' : Option (List ℕ)) → Answer → Type 0
+WritesFile format = WritesMade (g64_file format) format
 
--- what the answer says of the bytes that were taken as an image, and of those that were written as its file
-abbrev pub SaysOfImage : Format → (taken : List ℕ) → (left' written written' : Option (List ℕ)) → ToAnswer → Type 0
-SaysOfImage format taken left' written written' (Ok _) =
-    IsWholeImage format taken left' × Appends written written' (g64_file format taken)
-SaysOfImage format taken left' written written' (Err ToImageFault) =
-    IsWholeImage format taken left' × AppendsPart written written' (g64_file format taken)
-SaysOfImage format taken left' written written' (Err (WrongSize read wanted)) =
-    IsNoImage format taken left' × (read ≡ length taken) × (wanted ≡ (row format).image_size) × (written' ≡ written)
-SaysOfImage format taken left' written written' (Err ToReadFault) =
-    (length taken ≤ (row format).image_size) × (written' ≡ written)
-
--- A call that writes the file of an image: it took these bytes.
-pub record WritesFile (format : Format) (left left' written written' : Option (List ℕ)) (answer : ToAnswer) : Type 0 where
-  pub taken : List ℕ
-  pub consumed : Consumes left left' taken
-  pub says : SaysOfImage format taken left' written written' answer
-
--- What the answer says of a source that tells its bytes x: all of an image, and of other bytes at most one more than an image
--- has, are taken.
-abbrev pub SaysOfBytes : Format → (x : List ℕ) → (left' written written' : Option (List ℕ)) → ToAnswer → Type 0
-SaysOfBytes format x left' written written' (Ok _) =
-    (length x ≡ (row format).image_size) × (left' ≡ Some []) × Appends written written' (g64_file format x)
-SaysOfBytes format x left' written written' (Err ToImageFault) =
-    (length x ≡ (row format).image_size) × (left' ≡ Some []) × AppendsPart written written' (g64_file format x)
-SaysOfBytes format x left' written written' (Err (WrongSize read wanted)) =
-    (length x ≢ (row format).image_size) × (read ≡ min (length x) (most_read format)) × (wanted ≡ (row format).image_size)
-    × (left' ≡ Some (drop (most_read format) x)) × (written' ≡ written)
-SaysOfBytes format x left' written written' (Err ToReadFault) =
-    (taken : List ℕ) × Consumes (Some x) left' taken × (length taken ≤ (row format).image_size) × (written' ≡ written)
-
--- the file was written, or the image has another size
-abbrev pub IsWrittenOrWrongSize : ToAnswer → Type 0
-IsWrittenOrWrongSize (Ok _) = Unit {0}
-IsWrittenOrWrongSize (Err (WrongSize _ _)) = Unit {0}
-IsWrittenOrWrongSize (Err _) = ⊥
+abbrev pub SaysOfBytes : Format → (x : List ℕ) → (left' written written' : Option (List ℕ)) → Answer → Type 0
+SaysOfBytes format = SaysOfMade (g64_file format) format
 
 -- each fault of an object of the outside comes only where its count rose
 abbrev pub FromCause : (source source' image image' notes notes' : ℕ) → FromAnswer → Type 0

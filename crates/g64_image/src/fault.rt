@@ -29,21 +29,6 @@ pub enum G64Fault {
     ShortTrack { track: u8, length: u16 },
 }
 
-/// Why an image was not written as a file, or not whole.
-#[derive(Clone, Copy, Debug, PartialEq, Eq, Error)]
-pub enum ToStop {
-    /// The source failed.
-    #[error("the source failed")]
-    ReadFault,
-    /// The sink of the file failed.
-    #[error("the file was not written")]
-    ImageFault,
-    /// An image of the format has another size: the bytes that were read, at most one more than it has, and those that it
-    /// has.
-    #[error("{read} bytes were read of an image of {wanted}")]
-    WrongSize { read: u32, wanted: u32 },
-}
-
 /// Why a file was not read, or its image and report not written whole.
 #[derive(Clone, Copy, Debug, PartialEq, Eq, Error)]
 pub enum FromStop {

@@ -7,20 +7,19 @@ ghost use Rattle.flux_base.specs.Counts.{counts_of};
 ghost use Rattle.flux_base.specs.Moments.{Puts, moment};
 ghost use Rattle.flux_engine.specs.Answers.{Stayed};
 ghost use Rattle.flux_engine.specs.Needed.{ReadsUpTo};
-ghost use Rattle.flux_engine.specs.Writes.{most_read};
+ghost use Rattle.flux_engine.specs.Blamed.{write_blame};
+ghost use Rattle.flux_engine.specs.Writes.{IsWrittenOrWrongSize, WriteCause, most_read};
 ghost use Rattle.kryo_stream.specs.Reads.{source_at};
 ghost use Rattle.sector_images.specs.Formats.{row};
-ghost use Rattle.g64_image.specs.Answers.{IsWrittenOrWrongSize, SaysOfBytes, ToCause, WritesFile};
-ghost use Rattle.g64_image.specs.Blamed.{to_blame};
+ghost use Rattle.g64_image.specs.Answers.{SaysOfBytes, WritesFile};
 ghost use Rattle.g64_image.specs.Layout.{IsCommodore, g64_file, records};
 
-use crate::fault::ToStop;
 use crate::front::front;
 use crate::record::track_record;
 use crate::room::G64Room;
 use cell_bits::Cells;
 use flux_base::{Failed, Sink, Source, write_whole};
-use flux_engine::{fill, track_ring};
+use flux_engine::{WriteFault, fill, track_ring};
 use sector_images::{Format, image_size, track_count};
 
 /// Reads an image to its end, or to one byte more than an image of the format has, and writes its file. No answer is for
@@ -32,7 +31,7 @@ pub fn to_g64<S: Source, W: Sink>(
     room: &mut G64Room,
     source: &mut S,
     sink: &mut W,
-) -> Result<(), ToStop>
+) -> Result<(), WriteFault>
     ensures wrote { WritesFile room.old (S.left source.old) (S.left source.new) (W.written sink.old) (W.written sink.new) result }
     ensures told { (bytes : List ℕ) → S.left source.old ≡ Some bytes → SaysOfBytes room.old bytes (S.left source.new) (W.written sink.old) (W.written sink.new) result }
 
@@ -40,8 +39,8 @@ pub fn to_g64<S: Source, W: Sink>(
     ensures needed { ReadsUpTo (most_read room.old) (source_at S.left S.given S.faults source.old) (source_at S.left S.given S.faults source.new) }
 
     ensures format { room.new ≡ room.old }
-    ensures cause { ToCause (S.faults source.old) (S.faults source.new) (W.faults sink.old) (W.faults sink.new) result }
-    ensures blames { CountsBy (to_blame result)
+    ensures cause { WriteCause (S.faults source.old) (S.faults source.new) (W.faults sink.old) (W.faults sink.new) result }
+    ensures blames { CountsBy (write_blame result)
         (three_counts (counts_of S.faults S.failed source.old) (counts_of W.faults W.failed sink.old) no_counts)
         (three_counts (counts_of S.faults S.failed source.new) (counts_of W.faults W.failed sink.new) no_counts) }
 
@@ -53,10 +52,10 @@ pub fn to_g64<S: Source, W: Sink>(
     let wanted = image_size(room.format);
     let read = match fill(&mut room.image, source) {
         Ok(read) => read as u32,
-        Err(_) => return Err(ToStop::ReadFault),
+        Err(_) => return Err(WriteFault::ReadFault),
     };
     if read != wanted {
-        return Err(ToStop::WrongSize { read, wanted });
+        return Err(WriteFault::WrongSize { read, wanted });
     }
     match write_file(
         room.format,
@@ -65,7 +64,7 @@ pub fn to_g64<S: Source, W: Sink>(
         sink,
     ) {
         Ok(()) => Ok(()),
-        Err(_) => Err(ToStop::ImageFault),
+        Err(_) => Err(WriteFault::ImageFault),
     }
 }
 

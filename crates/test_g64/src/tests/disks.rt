@@ -1,7 +1,8 @@
 //! A disk of 35 tracks as a file and back, and what comes of a file that was changed.
 use super::{AMPLE, Came, Outside, read};
 use flux_base::{MemorySink, MemorySource};
-use g64_image::{FromStop, G64Room, ToStop, to_g64};
+use flux_engine::WriteFault;
+use g64_image::{FromStop, G64Room, to_g64};
 use sector_images::Format;
 use std::alloc::Global;
 use std::process::Abort;
@@ -140,7 +141,7 @@ fn an_image_of_another_size(rt: HostRuntime) -> Result<(), Fail> {
     let mut source = MemorySource::new(image, 4096, Vec::new(alloc));
     let mut sink = MemorySink::new(alloc, 16, Vec::new(alloc))?;
     let stop = to_g64(&mut room, &mut source, &mut sink);
-    let wrong = ToStop::WrongSize {
+    let wrong = WriteFault::WrongSize {
         read: 196609,
         wanted: 196608,
     };

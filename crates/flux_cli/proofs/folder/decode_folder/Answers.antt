@@ -1,7 +1,12 @@
-use Rattle.std.proofs.Common.{true, false, ◌≡◌, arith, Ok, Some, None, refl, ap, ◌∙◌, sym}
+use Rattle.std.proofs.Common.{true, false, ◌≡◌, arith, Ok, Some, None, refl, ap, ◌∙◌, subst}
 use Rattle.flux_base.specs.declared.status.Status.TheVariants.{ReadFault, Memory}
-use Rattle.flux_base.specs.lemmas.Blaming.{CountsBy-notes, CountsBy-source, CountsBy-then}
+use Rattle.flux_base.specs.lemmas.Blaming.{CountsBy-source, CountsBy-then}
 use Rattle.flux_cli.proofs.Blaming.{other_blames}
+use Rattle.flux_cli.proofs.Ended.{missing-refused}
+use Rattle.flux_cli.proofs.EndingLaws.{IsOverShelf, IsOverSource, ended-by-line, ends-blame}
+use Rattle.flux_base.specs.Moments.{moment}
+use Rattle.flux_cli.specs.Endings.{refuses}
+use Rattle.flux_cli.specs.Blamed.{shelf_blame}
 use Rattle.flux_cli.proofs.FolderRun.{folder-decodes, folder-fails, folder-lacks, other_status}
 use Rattle.flux_cli.proofs.folder.decode_folder.Goals as goal
 
@@ -24,27 +29,13 @@ returns-in_default-clause-did g c =
 pub returns-in_default-clause-memory : goal.returns-in_default-clause-memory
 returns-in_default-clause-memory g c = c.decode.ensures.memory
 
-pub returns-in-Ok-clause-did : goal.returns-in-Ok-clause-did
-returns-in-Ok-clause-did g c =
+pub returns-in-Ok-Some-clause-did : goal.returns-in-Ok-Some-clause-did
+returns-in-Ok-Some-clause-did g c =
     let e = c.begin.ensures in
     folder-lacks c.args.format c.args.folder.now _ _ _ c.begin.result _
     (record { bound = e.bound; missing = e.missing; left = e.left; kept = e.kept; unread = e.unread; later = e.later; cause = e.cause })
     c.in-Ok-Some.number (c.in-Ok-Some.is ∙ ap Ok c.in-Ok-Some.field-0-is)
-    (record { track = c.track_id.result; is = c.track_id.ensures.at; says = rw c.missing_line.ensures at c.in-Ok.ensures.ok; untouched = refl; later = c.in-Ok.ensures.counts.later })
-
-pub returns-in-Err-write_line-clause-did : goal.returns-in-Err-write_line-clause-did
-returns-in-Err-write_line-clause-did g c =
-    let e = c.begin.ensures in
-    folder-lacks c.args.format c.args.folder.now _ _ _ c.begin.result _
-    (record { bound = e.bound; missing = e.missing; left = e.left; kept = e.kept; unread = e.unread; later = e.later; cause = e.cause })
-    c.in-Ok-Some.number (c.in-Ok-Some.is ∙ ap Ok c.in-Ok-Some.field-0-is)
-    (record {
-      track = c.track_id.result;
-      is = c.track_id.ensures.at;
-      says = (rw c.missing_line.ensures at c.in-Err-write_line.ensures.err, c.in-Err-write_line.ensures.counts.cause);
-      untouched = refl;
-      later = c.in-Err-write_line.ensures.counts.later;
-    })
+    (missing-refused _ _ _ _ c.refuse.result c.args.format c.in-Ok-Some.number c.track_id.result c.track_id.ensures.at (rw c.missing_line.ensures at c.refuse.ensures))
 
 pub returns-in-Err-clause-did : goal.returns-in-Err-clause-did
 returns-in-Err-clause-did g c =
@@ -73,15 +64,16 @@ returns-in_default-clause-blames g c =
     CountsBy-then _ (CountsBy-source _ _ false (record { later = c.begin.ensures.later; cause = tt; counted = c.in-Ok-None.ensures.counted }))
     (other_blames c.decode.result c.in_default.not-ReadFault c.decode.ensures.no_shelf c.decode.ensures.blames)
 
-pub returns-in-Ok-clause-blames : goal.returns-in-Ok-clause-blames
-returns-in-Ok-clause-blames g c =
-    CountsBy-then _ (CountsBy-source _ _ false (record { later = c.begin.ensures.later; cause = tt; counted = c.in-Ok-Some.ensures.counted }))
-    (CountsBy-notes _ _ false c.in-Ok.ensures.counts)
+pub returns-in-Ok-Some-clause-blames : goal.returns-in-Ok-Some-clause-blames
+returns-in-Ok-Some-clause-blames g c =
+    ends-blame shelf_blame refl refl (refuses c.missing_line.result.bytes) c.refuse.result (moment g.N.Sink.written g.N.Sink.faults g.N.Sink.failed c.args.notes.now) (moment g.N.Sink.written g.N.Sink.faults g.N.Sink.failed c.refuse.new.notes)
+    (CountsBy-source _ _ false (record { later = c.begin.ensures.later; cause = tt; counted = c.in-Ok-Some.ensures.counted })) c.refuse.ensures
 
-pub returns-in-Err-write_line-clause-blames : goal.returns-in-Err-write_line-clause-blames
-returns-in-Err-write_line-clause-blames g c =
-    CountsBy-then _ (CountsBy-source _ _ false (record { later = c.begin.ensures.later; cause = tt; counted = c.in-Ok-Some.ensures.counted }))
-    (CountsBy-notes _ _ true c.in-Err-write_line.ensures.counts)
+pub returns-in-Ok-Some-clause-no_source : goal.returns-in-Ok-Some-clause-no_source
+returns-in-Ok-Some-clause-no_source g c = λ same. subst IsOverShelf same (ended-by-line _ _ c.refuse.result _ IsOverShelf tt tt c.refuse.ensures)
+
+pub returns-in-Ok-Some-clause-memory : goal.returns-in-Ok-Some-clause-memory
+returns-in-Ok-Some-clause-memory g c = λ same. subst IsOverSource same (ended-by-line _ _ c.refuse.result _ IsOverSource tt tt c.refuse.ensures)
 
 pub returns-in-Err-clause-blames : goal.returns-in-Err-clause-blames
 returns-in-Err-clause-blames g c =

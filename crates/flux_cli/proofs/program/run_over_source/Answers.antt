@@ -2,8 +2,9 @@ use Rattle.std.proofs.Common.{true, false, None, arith}
 use Rattle.std.proofs.KnownBytes.{Appends-nil, Consumes-nil, Keeps-refl}
 use Rattle.flux_help.specs.WrongWords.{wrong_text}
 use Rattle.flux_base.specs.lemmas.Blaming.{CountsBy-notes}
+use Rattle.flux_engine.specs.lemmas.ReadLaws.{no_reads}
 use Rattle.flux_cli.specs.Works.{usage_work}
-use Rattle.flux_cli.proofs.Runs.{not_read, usage-cut, usage-finish}
+use Rattle.flux_cli.proofs.Runs.{usage-cut, usage-finish}
 use Rattle.flux_cli.proofs.program.run_over_source.Goals as goal
 
 pub returns-in-Ok-clause-ran : goal.returns-in-Ok-clause-ran
@@ -14,7 +15,7 @@ returns-in-Ok-clause-ran g c = record {
     answer = tt;
     says = usage-finish _ _ (Consumes-nil _) (wrong_text c.args.words.now) (Appends-nil _) c.in-Ok.ensures.ok;
     counts = record { source = omega arith; image = omega arith; notes = c.in-Ok.ensures.counts.later };
-    needed = λ x told. not_read (usage_work (wrong_text c.args.words.now)).untold _;
+    needed = λ x told. no_reads (usage_work (wrong_text c.args.words.now)).untold _;
   };
 }
 
@@ -29,7 +30,7 @@ returns-in-Err-clause-ran g c = record {
       c.in-Err.ensures.counts.cause,
     );
     counts = record { source = omega arith; image = omega arith; notes = c.in-Err.ensures.counts.later };
-    needed = λ x told. not_read (usage_work (wrong_text c.args.words.now)).untold _;
+    needed = λ x told. no_reads (usage_work (wrong_text c.args.words.now)).untold _;
   };
 }
 

@@ -1,0 +1,22 @@
+use Rattle.std.proofs.Common.{◌∙◌, refl}
+use Rattle.flux_cli.proofs.Ended.{file-ended}
+use Rattle.flux_cli.proofs.EndingLaws.{ends-blame, file-blame}
+use Rattle.flux_cli.proofs.G64Run.{file-reads}
+use Rattle.flux_cli.proofs.Runs.{out_of_memory}
+use Rattle.flux_cli.specs.Blamed.{source_blame}
+use Rattle.flux_cli.specs.declared.command.Command.TheVariants.{FromG64}
+use Rattle.flux_cli.proofs.task.FromG64Task.run.Goals as goal
+
+pub returns-in-Ok-clause-does : goal.returns-in-Ok-clause-does
+returns-in-Ok-clause-does g c =
+    let is = c.in-Ok.ensures ∙ c.format.ensures.value in
+    let e = c.from_g64-answer.ensures in
+    file-ended _ _ _ _ c.end_of_file.result c.args.self.now.disk c.from_g64-answer.result _ _
+    (record { source = e.source_later; image = e.image_later; notes = e.notes_later }) (λ x told. file-reads e.needed)
+    (rw is at e.read) e.cause c.end_of_file.ensures
+
+pub returns-in-Err-clause-does : goal.returns-in-Err-clause-does
+returns-in-Err-clause-does g c = out_of_memory (FromG64 c.args.self.now.disk) _
+
+pub returns-in-Ok-clause-blames : goal.returns-in-Ok-clause-blames
+returns-in-Ok-clause-blames g c = ends-blame source_blame refl refl _ c.end_of_file.result _ _ (file-blame c.from_g64-answer.result c.from_g64-answer.ensures.blames) c.end_of_file.ensures

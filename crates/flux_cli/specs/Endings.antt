@@ -1,0 +1,97 @@
+-- How a command ends by what its work answered: with a status, or with a line to the notes that says why the input is refused.
+use Rattle.std.specs.Prelude.{◌≡◌, ℕ, List, Option, None, Result, Ok, Err}
+use Rattle.dump_identity.specs.declared.fault.IdentityFault.{IdentityFault}
+use Rattle.dump_identity.specs.declared.fault.IdentityFault.TheVariants.{NoFiles as NoFilesOfDump, ShelfFault as DumpUnread, LinesFault}
+use Rattle.dump_identity.specs.declared.finding.Finding.{Finding}
+use Rattle.dump_reading.specs.declared.fault.DumpsFault.{DumpsFault}
+use Rattle.dump_reading.specs.declared.fault.DumpsFault.TheVariants.{NoFiles, ShelfFault as DumpsUnread, ImageFault as DumpsUnwritten, NotesFault as DumpsUntold}
+use Rattle.dump_reading.specs.declared.totals.DumpTotals.{DumpTotals}
+use Rattle.flux_base.specs.Blames.{Blame, no_one}
+use Rattle.flux_base.specs.Moments.{Moment, Puts}
+use Rattle.flux_base.specs.declared.outside.Failed.{Failed}
+use Rattle.flux_base.specs.declared.status.Status.{Status}
+use Rattle.flux_base.specs.declared.status.Status.TheVariants.{AllGood, Refused, ReadFault, ImageFault, NotesFault, ShelfFault}
+use Rattle.flux_engine.specs.Answers.{Answer as DiskAnswer}
+use Rattle.flux_engine.specs.PlanAnswers.{PlanAnswer}
+use Rattle.flux_engine.specs.Writes.{Answer as ImageAnswer}
+use Rattle.flux_engine.specs.declared.fault.EngineFault.TheVariants.{Refused as DiskRefused, ReadFault as DiskUnread, ImageFault as DiskUnwritten, NotesFault as DiskUntold}
+use Rattle.flux_engine.specs.declared.fault.PlanFault.TheVariants.{Refused as PlanRefused, ReadFault as PlanUnread, ImageFault as PlanUnwritten, NotesFault as PlanUntold}
+use Rattle.flux_engine.specs.declared.write_fault.WriteFault.TheVariants.{WrongSize, ReadFault as ImageUnread, ImageFault as ImageUnwritten}
+use Rattle.g64_image.specs.Answers.{FromAnswer}
+use Rattle.g64_image.specs.Lines.{g64_text}
+use Rattle.g64_image.specs.declared.fault.FromStop.TheVariants.{Refused as FileRefused, ReadFault as FileUnread, ImageFault as FileUnwritten, NotesFault as FileUntold}
+use Rattle.sector_report.specs.DumpLines.{no_files_text}
+use Rattle.sector_report.specs.Lines.{image_text, refused_text}
+use Rattle.sector_report.specs.declared.naming.Naming.{Naming}
+use Rattle.flux_cli.specs.DisksWork.{status_of}
+use Rattle.flux_cli.specs.IdentityRuns.{identity_status}
+use Rattle.flux_cli.specs.PlanWork.{stop_text}
+use Rattle.flux_cli.specs.ReadRuns.{read_status}
+
+pub data Ending : Type 0 where
+  ends : Status → Ending
+  refuses : List ℕ → Ending
+
+-- the status, and what became of the notes: a line of which a fault of theirs may have left a part
+abbrev pub EndsBy : {N : Type 0} → Ending → Status → (before after : Moment N) → Type 0
+EndsBy (ends status) answer before after = (answer ≡ status) × (after ≡ before)
+EndsBy (refuses text) Refused before after = Puts {T = Unit {0}} before after text (Ok tt)
+EndsBy (refuses text) NotesFault before after = (failed : Failed) × Puts {T = Unit {0}} before after text (Err failed)
+EndsBy (refuses text) _ before after = ⊥
+
+-- whom it blames that all was done as answered, but for the line
+abbrev pub ending_blame : (Status → Blame) → Ending → Blame
+ending_blame blame (ends status) = blame status
+ending_blame blame (refuses text) = no_one
+
+-- a line or a page that goes to the image, of which no input is read
+abbrev pub written_status : Result (Unit {0}) Failed → Status
+written_status (Ok _) = AllGood
+written_status (Err _) = ImageFault
+
+-- a disk that was decoded, or its report written
+abbrev pub disk_ending : DiskAnswer → Ending
+disk_ending (Ok totals) = ends (status_of totals None)
+disk_ending (Err DiskUnread) = ends ReadFault
+disk_ending (Err DiskUnwritten) = ends ImageFault
+disk_ending (Err DiskUntold) = ends NotesFault
+disk_ending (Err (DiskRefused track block fault)) = refuses (refused_text track block fault)
+
+-- one that was read by a plan
+abbrev pub plan_ending : Naming → PlanAnswer → Ending
+plan_ending naming (Ok totals) = ends (status_of totals None)
+plan_ending naming (Err PlanUnread) = ends ReadFault
+plan_ending naming (Err PlanUnwritten) = ends ImageFault
+plan_ending naming (Err PlanUntold) = ends NotesFault
+plan_ending naming (Err (PlanRefused track capture block fault)) =
+    refuses (stop_text naming (record { track = track; capture = capture; block = block; fault = fault }))
+
+-- what is made of an image
+abbrev pub image_ending : ImageAnswer → Ending
+image_ending (Ok _) = ends AllGood
+image_ending (Err ImageUnread) = ends ReadFault
+image_ending (Err ImageUnwritten) = ends ImageFault
+image_ending (Err (WrongSize read wanted)) = refuses (image_text read wanted)
+
+-- a file that was read
+abbrev pub file_ending : FromAnswer → Ending
+file_ending (Ok totals) = ends (status_of totals None)
+file_ending (Err FileUnread) = ends ReadFault
+file_ending (Err FileUnwritten) = ends ImageFault
+file_ending (Err FileUntold) = ends NotesFault
+file_ending (Err (FileRefused fault)) = refuses (g64_text fault)
+
+-- a disk that was read of its dumps
+abbrev pub dumps_ending : Result DumpTotals DumpsFault → Ending
+dumps_ending (Ok totals) = ends (read_status totals)
+dumps_ending (Err (NoFiles dump)) = refuses (no_files_text dump)
+dumps_ending (Err DumpsUnread) = ends ShelfFault
+dumps_ending (Err DumpsUnwritten) = ends ImageFault
+dumps_ending (Err DumpsUntold) = ends NotesFault
+
+-- a dump of which is said which disk it is of
+abbrev pub identity_ending : Result (Option Finding) IdentityFault → Ending
+identity_ending (Ok best) = ends (identity_status best)
+identity_ending (Err NoFilesOfDump) = refuses (no_files_text 0)
+identity_ending (Err DumpUnread) = ends ShelfFault
+identity_ending (Err LinesFault) = ends ImageFault
