@@ -100,7 +100,7 @@ module _ (laws : Laws) {S W N H : Type 0} (words : List (List ℕ)) (status : St
       → DoesFolder format folder status (on_shelf before) (on_shelf after)
   folder_did format folder are some = by ran.folder ran.names ran.did
     where
-      by : (named : Option (Format × List ℕ)) → NamesFolder words named → RanBy named ran.dumps ran.identity words status before after
+      by : (named : Option (Format × List ℕ)) → NamesFolder words named → RanBy named ran.dumps ran.identity ran.sector words status before after
           → DoesFolder format folder status (on_shelf before) (on_shelf after)
       by None none did = absurd (none format folder some are)
       by (Some named) named_is did =

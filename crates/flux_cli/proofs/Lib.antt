@@ -17,6 +17,8 @@ pub mod FolderRun
 pub mod ReadRun
 pub mod IdentityRun
 pub mod DumpWords
+pub mod SectorWords
+pub mod SectorRun
 pub mod ReadHeadline
 pub mod Blaming
 pub mod EndingLaws

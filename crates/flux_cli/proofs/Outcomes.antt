@@ -24,6 +24,8 @@ use Rattle.flux_cli.specs.DisksWork.{disk_outcome}
 use Rattle.flux_cli.specs.DumpWords.{AreReadWords, Asked, NamesDumps}
 use Rattle.flux_cli.specs.FolderWords.{AreFolderWords}
 use Rattle.flux_cli.specs.IdentityWords.{NamesIdentity, identity_words}
+use Rattle.flux_cli.specs.SectorWords.{NamesShow, ShowParts, show_words}
+use Rattle.sector_copies.specs.Shown.{SectorAsked}
 use Rattle.flux_cli.specs.G64Disks.{format_of}
 use Rattle.flux_cli.specs.G64Work.{from_g64_outcome}
 use Rattle.flux_cli.specs.MapWork.{map_outcome}
@@ -310,6 +312,30 @@ folder_no_identity words format folder are = λ dump some same. differ 25701 269
 pub dumps_no_identity : (words : List (List ℕ)) (dumps : Asked) → AreReadWords dumps words → NamesIdentity words None
 dumps_no_identity words dumps are = λ dump some same. differ 29285 26980 refl (ap letters (sym are.is ∙ same))
 
+-- and those that ask for a sector of dumps for none
+pub no_show : (command : Command) (words : List (List ℕ)) → AreWordsOf command words → (asked : SectorAsked) (parts : ShowParts asked) → words ≡ show_words asked parts → ⊥
+no_show Turns words are asked parts same = differ 29813 29544 refl (ap letters (sym are ∙ same))
+no_show (Decode f) words are asked parts same = differ 25701 29544 refl (ap letters (sym are.is ∙ same))
+no_show (Report f) words are asked parts same = differ 29285 29544 refl (ap letters (sym are.is ∙ same))
+no_show (Map f) words are asked parts same = differ 28001 29544 refl (ap letters (sym are.is ∙ same))
+no_show (Write f) words are asked parts same = differ 30578 29544 refl (ap letters (sym are.is ∙ same))
+no_show (Trial f s) words are asked parts same = differ 29810 29544 refl (ap letters (sym are.1.is ∙ same))
+no_show (ToG64 g) words are asked parts same = differ 29807 29544 refl (ap letters (sym are.is ∙ same))
+no_show (FromG64 g) words are asked parts same = differ 26226 29544 refl (ap letters (sym are.is ∙ same))
+no_show (DecodeSet f c) words are asked parts same = differ 25701 29544 refl (ap letters (sym are.1.is ∙ same))
+no_show (Rescue f) words are asked parts same = differ 29285 29544 refl (ap letters (sym are.is ∙ same))
+no_show (Tell page) words are asked parts same = no_page page words (show_words asked parts) refl are same
+
+-- nor do those that name a folder, or dumps, or ask which disk a dump is of
+pub folder_no_show : (words : List (List ℕ)) (format : Format) (folder : List ℕ) → AreFolderWords format folder words → NamesShow words None
+folder_no_show words format folder are = λ asked fits can parts same. differ 25701 29544 refl (ap letters (sym are.is ∙ same))
+
+pub dumps_no_show : (words : List (List ℕ)) (dumps : Asked) → AreReadWords dumps words → NamesShow words None
+dumps_no_show words dumps are = λ asked fits can parts same. differ 29285 29544 refl (ap letters (sym are.is ∙ same))
+
+pub identity_no_show : (words : List (List ℕ)) (dump : List ℕ) → words ≡ identity_words dump → NamesShow words None
+identity_no_show words dump are = λ asked fits can parts same. differ 26980 29544 refl (ap letters (sym are ∙ same))
+
 -- words ask for one thing at most
 one_asked : WordsNameFormats → (words : List (List ℕ)) (a b : Option Command) → AskFor words a → AskFor words b → a ≡ b
 one_asked names words None None first second = refl
@@ -349,5 +375,5 @@ module _ (names : WordsNameFormats) (one : OneOutcome) (one_file : OneFileDisk) 
 
   pub one_outcome : (words : List (List ℕ)) (x : List ℕ) (a b : Outcome) → IsOutcome words x a → IsOutcome words x b → a ≡ b
   one_outcome words x a b first second =
-      let same = one_asked names words first.3 second.3 first.4 second.4 in
-      one_of words second.3 x a b (subst (λ asked. (work_for words asked).gives x a) same first.5) second.5
+      let same = one_asked names words first.4 second.4 first.5 second.5 in
+      one_of words second.4 x a b (subst (λ asked. (work_for words asked).gives x a) same first.6) second.6

@@ -16,6 +16,8 @@ use Rattle.flux_cli.specs.DumpWords.{AreReadWords, Asked, NamesDumps, asked_disk
 use Rattle.flux_cli.specs.FolderRuns.{OnShelf}
 use Rattle.flux_cli.specs.FolderWords.{NamesFolder}
 use Rattle.flux_cli.specs.IdentityWords.{NamesIdentity}
+use Rattle.flux_cli.specs.SectorWords.{NamesShow}
+use Rattle.sector_copies.specs.Shown.{SectorAsked}
 use Rattle.flux_cli.specs.ReadHeadline.{GaveDumps, GaveDumpsOrCut, GavePicture, GaveShown, OfDumps, ReadsAsExpected}
 use Rattle.flux_cli.specs.ReadRuns.{DidRead, FinishedDumps, IsShown, SaysOfRead, read_status}
 use Rattle.flux_cli.specs.Runs.{growth}
@@ -133,12 +135,13 @@ module _ (laws : DumpLaws) {H W N : Type 0} (disk : DumpDisk) (files : List File
 pub reads_as_expected : DumpLaws → WordsBeginWithLetters → WordsNameFormats → {S W N H : Type 0} (words : List (List ℕ)) (status : Status) (before after : Surroundings S W N H)
     → Ran words status before after → ReadsAsExpected words status (on_shelf before) (on_shelf after)
 reads_as_expected laws letters names words status before after ran asked files are can told =
-    gave_or_cut laws (asked_disk asked) files (on_shelf before) (on_shelf after) told (shown_of asked.options) status (by ran.folder ran.dumps ran.identity ran.names ran.names_dumps ran.names_identity ran.did).says
+    gave_or_cut laws (asked_disk asked) files (on_shelf before) (on_shelf after) told (shown_of asked.options) status (by ran.folder ran.dumps ran.identity ran.sector ran.names ran.names_dumps ran.names_identity ran.names_sector ran.did).says
   where
-    by : (folder : Option (Format × List ℕ)) (dumps : Option Asked) (identity : Option (List ℕ)) → NamesFolder words folder → NamesDumps words dumps
-        → NamesIdentity words identity → RanBy folder dumps identity words status before after → DidRead (shown_of asked.options) (asked_disk asked) status (on_shelf before) (on_shelf after)
-    by (Some named) dumps identity named_is names_dumps names_identity did = absurd (folder_no_dumps words named.0 named.1 named_is.0 asked can are)
-    by None None None none no_read no_name did = absurd (no_read asked can are)
-    by None None (Some dump) none no_read name_is did = absurd (no_read asked can are)
-    by None (Some other) identity none read_is names_identity did =
+    by : (folder : Option (Format × List ℕ)) (dumps : Option Asked) (identity : Option (List ℕ)) (sector : Option SectorAsked) → NamesFolder words folder → NamesDumps words dumps
+        → NamesIdentity words identity → NamesShow words sector → RanBy folder dumps identity sector words status before after → DidRead (shown_of asked.options) (asked_disk asked) status (on_shelf before) (on_shelf after)
+    by (Some named) dumps identity sector named_is names_dumps names_identity names_sector did = absurd (folder_no_dumps words named.0 named.1 named_is.0 asked can are)
+    by None None None None none no_read no_name no_sector did = absurd (no_read asked can are)
+    by None None (Some dump) sector none no_read name_is names_sector did = absurd (no_read asked can are)
+    by None None None (Some other) none no_read no_name sector_is did = absurd (no_read asked can are)
+    by None (Some other) identity sector none read_is names_identity names_sector did =
         subst (λ (a : Asked). DidRead (shown_of a.options) (asked_disk a) status (on_shelf before) (on_shelf after)) (one_asked letters names words other asked read_is.0 are) did.0

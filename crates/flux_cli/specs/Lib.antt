@@ -24,6 +24,8 @@ pub mod PlanRuns
 pub mod DisksRuns
 pub mod FolderRuns
 pub mod ReadRuns
+pub mod SectorWords
+pub mod SectorRuns
 pub mod IdentityRuns
 pub mod Endings
 pub mod ShelfRuns

@@ -1,4 +1,4 @@
--- What a run did: over the source, or over the shelf where the words name a folder or dumps, or ask which disk a dump is of.
+-- What a run did: over the source, or over the shelf where the words name a folder or dumps, ask which disk a dump is of, or for a sector of dumps.
 use Rattle.std.specs.Prelude.{◌≡◌, ℕ, List, Option, Some, None}
 use Rattle.flux_base.specs.declared.status.Status.{Status}
 use Rattle.sector_images.specs.declared.format.Format.{Format}
@@ -9,6 +9,9 @@ use Rattle.flux_cli.specs.IdentityRuns.{DidIdentify}
 use Rattle.flux_cli.specs.IdentityWords.{NamesIdentity}
 use Rattle.flux_cli.specs.ReadRuns.{DidRead}
 use Rattle.flux_cli.specs.Runs.{Outside, RanOverSource}
+use Rattle.flux_cli.specs.SectorRuns.{DidShow}
+use Rattle.flux_cli.specs.SectorWords.{NamesShow}
+use Rattle.sector_copies.specs.Shown.{SectorAsked}
 
 -- all objects at a moment
 pub record Surroundings (S W N H : Type 0) : Type 0 where
@@ -22,16 +25,19 @@ abbrev pub on_shelf : {S W N H : Type 0} → Surroundings S W N H → OnShelf H 
 on_shelf now = record { shelf = now.shelf; image = now.outside.image; notes = now.outside.notes }
 
 -- where the words name a folder or dumps, the source is not touched; else the shelf is not
-abbrev pub RanBy : {S W N H : Type 0} → Option (Format × List ℕ) → Option Asked → (identity : Option (List ℕ)) → (words : List (List ℕ)) → Status → (before after : Surroundings S W N H) → Type 0
-RanBy None None None words status before after = RanOverSource words status before.outside after.outside × (after.shelf ≡ before.shelf)
-RanBy (Some named) dumps identity words status before after =
+abbrev pub RanBy : {S W N H : Type 0} → Option (Format × List ℕ) → Option Asked → (identity : Option (List ℕ)) → (sector : Option SectorAsked) → (words : List (List ℕ)) → Status → (before after : Surroundings S W N H) → Type 0
+RanBy None None None None words status before after = RanOverSource words status before.outside after.outside × (after.shelf ≡ before.shelf)
+RanBy (Some named) dumps identity sector words status before after =
     DoesFolder named.0 named.1 status (on_shelf before) (on_shelf after)
     × (after.outside.source ≡ before.outside.source) × (after.outside.given ≡ before.outside.given)
-RanBy None (Some asked) identity words status before after =
+RanBy None (Some asked) identity sector words status before after =
     DidRead (shown_of asked.options) (asked_disk asked) status (on_shelf before) (on_shelf after)
     × (after.outside.source ≡ before.outside.source) × (after.outside.given ≡ before.outside.given)
-RanBy None None (Some dump) words status before after =
+RanBy None None (Some dump) sector words status before after =
     DidIdentify dump status (on_shelf before) (on_shelf after)
+    × (after.outside.source ≡ before.outside.source) × (after.outside.given ≡ before.outside.given)
+RanBy None None None (Some asked) words status before after =
+    DidShow asked status (on_shelf before) (on_shelf after)
     × (after.outside.source ≡ before.outside.source) × (after.outside.given ≡ before.outside.given)
 
 -- what a run with these words did
@@ -42,4 +48,6 @@ pub record Ran {S W N H : Type 0} (words : List (List ℕ)) (status : Status) (b
   pub names_dumps : NamesDumps words dumps
   pub identity : Option (List ℕ)
   pub names_identity : NamesIdentity words identity
-  pub did : RanBy folder dumps identity words status before after
+  pub sector : Option SectorAsked
+  pub names_sector : NamesShow words sector
+  pub did : RanBy folder dumps identity sector words status before after

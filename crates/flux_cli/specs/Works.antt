@@ -12,6 +12,7 @@ use Rattle.flux_cli.specs.FolderWords.{NamesFolder}
 use Rattle.flux_cli.specs.G64Disks.{format_of}
 use Rattle.flux_cli.specs.G64Work.{from_g64_work, to_g64_work}
 use Rattle.flux_cli.specs.IdentityWords.{NamesIdentity}
+use Rattle.flux_cli.specs.SectorWords.{NamesShow}
 use Rattle.flux_cli.specs.ImagesWork.{write_work}
 use Rattle.flux_cli.specs.PlanWork.{planned_work}
 use Rattle.flux_cli.specs.MapWork.{map_work}
@@ -61,4 +62,4 @@ work_for words (Some command) = work_of command
 
 -- this is the outcome of the words over the input, where they name neither a folder nor a dump
 abbrev pub IsOutcome : List (List ℕ) → List ℕ → Outcome → Type 0
-IsOutcome words x o = NamesFolder words None × NamesDumps words None × NamesIdentity words None × (asked : Option Command) × AskFor words asked × (work_for words asked).gives x o
+IsOutcome words x o = NamesFolder words None × NamesDumps words None × NamesIdentity words None × NamesShow words None × (asked : Option Command) × AskFor words asked × (work_for words asked).gives x o

@@ -89,7 +89,7 @@ pub fn dumps_of(words: &[Word]) -> Option<DumpsAsked<'_>>
 }
 
 /// The words behind the first one, where that is this.
-fn behind<'a>(words: &'a [Word], first: &[u8]) -> Option<&'a [Word]>
+pub(crate) fn behind<'a>(words: &'a [Word], first: &[u8]) -> Option<&'a [Word]>
     ensures there { IfSome result (λ rest. words.now ≡ first.now ∷ rest.now) }
     ensures none { IfNone result (IsNotFirst first.now words.now) }
 {
@@ -192,7 +192,7 @@ fn readable(asked: DumpsAsked<'_>) -> Option<DumpsAsked<'_>>
 }
 
 /// Whether a dump has no name.
-fn has_nameless(dumps: &[Word]) -> bool
+pub(crate) fn has_nameless(dumps: &[Word]) -> bool
     ensures { result ≡ list_any is_nameless dumps.now }
 {
     dumps.iter().any(|dump| dump.bytes().is_empty())

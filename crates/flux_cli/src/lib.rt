@@ -13,6 +13,8 @@ mod laws;
 mod planned;
 mod program;
 mod read;
+mod sector;
+mod sector_words;
 mod seed;
 mod standard;
 mod std_shelf;

@@ -1,4 +1,4 @@
-ghost use Rattle.std.specs.Prelude.{◌≢◌, ◌≤◌, Some, length};
+ghost use Rattle.std.specs.Prelude.{◌≢◌, ◌≤◌, ◌<◌, Some, length};
 ghost use Rattle.flux_base.specs.Blames.{CountsBy, three_counts};
 ghost use Rattle.flux_base.specs.Counts.{counts_of};
 ghost use Rattle.flux_cli.specs.Blamed.{CountsOfRun, all_counts, shelf_blame, source_blame};
@@ -12,13 +12,19 @@ ghost use Rattle.flux_cli.specs.IdentityRuns.{DidIdentify};
 ghost use Rattle.flux_cli.specs.ReadHeadline.{ReadsAsExpected};
 ghost use Rattle.flux_cli.specs.ReadRuns.{DidRead};
 ghost use Rattle.flux_cli.specs.Runs.{RanOverSource, outside};
+ghost use Rattle.flux_cli.specs.SectorRuns.{DidShow};
+ghost use Rattle.flux_cli.specs.SectorWords.{asked_sector};
 ghost use Rattle.flux_cli.specs.ShelfRuns.{Ran, surroundings};
+ghost use Rattle.flux_engine.specs.Recordings.{track_at};
+ghost use Rattle.sector_images.specs.Places.{IsSector, tracks};
 
 use crate::command::{Command, Output, command_of};
 use crate::dump_words::{DumpsAsked, dumps_of};
 use crate::folder::{decode_folder, folder_of};
 use crate::identity::{identify_dump, identity_of};
 use crate::read::show;
+use crate::sector::show_one;
+use crate::sector_words::{ShowAsked, sector_of};
 use crate::task::{
     DecodeSet, Decoding, FromG64, Map, Rescue, Task, Tell, ToG64, Trial, Turns, Write,
 };
@@ -35,6 +41,7 @@ use law_captured_dumps::{captured_dumps_are_read, dumps_say_each_sector};
 use law_captured_plans::planned_lines_tell;
 use law_captured_rescues::{captured_disks_are_rescued, steady_disks_are_rescued};
 use law_captured_sets::captured_sets_decode;
+use sector_copies::SectorRoom;
 use sector_images::words_name_formats;
 use std::alloc::Global;
 use track_shelf::Shelf;
@@ -144,7 +151,10 @@ fn run_words<S: Source, W: Sink, N: Sink, H: Shelf>(
     match folder_of(words) {
         None => match dumps_of(words) {
             None => match identity_of(words) {
-                None => run_over_source(alloc, words, source, image, notes),
+                None => match sector_of(words) {
+                    None => run_over_source(alloc, words, source, image, notes),
+                    Some(asked) => run_show(alloc, asked, shelf, image, notes),
+                },
                 Some(dump) => run_identity(alloc, dump, shelf, image, notes),
             },
             Some(asked) => run_read(alloc, asked, shelf, image, notes),
@@ -208,6 +218,35 @@ fn run_identity<W: Sink, N: Sink, H: Shelf>(
 {
     match IdentityRoom::reserve(alloc) {
         Ok(room) => identify_dump(dump, room, shelf, image, notes),
+        Err(Memory) => Status::Memory,
+    }
+}
+
+/// Runs the command `show` in a room of its own.
+fn run_show<W: Sink, N: Sink, H: Shelf>(
+    alloc: Global,
+    asked: ShowAsked<'_>,
+    shelf: &mut H,
+    image: &mut W,
+    notes: &mut N,
+) -> Status
+    requires few { length asked.dumps.now ≤ 8 }
+    requires track { asked.number < length (tracks asked.format) }
+    requires sector { IsSector asked.format (track_at asked.format asked.number) asked.sector }
+    ensures did { DidShow (asked_sector asked.entry) result
+        (on (shelf_moment (moment H.left H.faults H.failed shelf.old) (H.given shelf.old) (H.files shelf.old)) (moment W.written W.faults W.failed image.old) (moment N.written N.faults N.failed notes.old))
+        (on (shelf_moment (moment H.left H.faults H.failed shelf.new) (H.given shelf.new) (H.files shelf.new)) (moment W.written W.faults W.failed image.new) (moment N.written N.faults N.failed notes.new)) }
+    ensures blames { CountsBy (shelf_blame result)
+        (three_counts (counts_of H.faults H.failed shelf.old) (counts_of W.faults W.failed image.old) (counts_of N.faults N.failed notes.old))
+        (three_counts (counts_of H.faults H.failed shelf.new) (counts_of W.faults W.failed image.new) (counts_of N.faults N.failed notes.new)) }
+    ensures no_source { result ≢ Status.ReadFault }
+{
+    let dumps = Dumps {
+        names: asked.dumps,
+        stepping: asked.stepping,
+    };
+    match SectorRoom::reserve(alloc, asked.format, asked.number, asked.sector) {
+        Ok(mut room) => show_one(&dumps, asked.alone, &mut room, shelf, image, notes),
         Err(Memory) => Status::Memory,
     }
 }

@@ -4,11 +4,11 @@ use Rattle.std.specs.List.{position_from, slice_get}
 use Rattle.std.specs.Option.{option_and_then}
 use Rattle.std.specs.Str.{bytes_eq}
 use Rattle.flux_help.specs.declared.verb.Verb.{Verb}
-use Rattle.flux_help.specs.declared.verb.Verb.TheVariants.{Identify, Read, DecodeFolder, DecodeSet, Rescue, Decode, Report, Map, Write, Turns, ToG64, FromG64, Trial, Help}
+use Rattle.flux_help.specs.declared.verb.Verb.TheVariants.{Identify, Read, Show, DecodeFolder, DecodeSet, Rescue, Decode, Report, Map, Write, Turns, ToG64, FromG64, Trial, Help}
 
 -- all commands, in the order in which the help lists them
 abbrev pub verbs : List Verb
-verbs = Identify ∷ Read ∷ DecodeFolder ∷ DecodeSet ∷ Rescue ∷ Decode ∷ Report ∷ Map ∷ Write ∷ Turns ∷ ToG64 ∷ FromG64 ∷ Trial ∷ Help ∷ []
+verbs = Identify ∷ Read ∷ Show ∷ DecodeFolder ∷ DecodeSet ∷ Rescue ∷ Decode ∷ Report ∷ Map ∷ Write ∷ Turns ∷ ToG64 ∷ FromG64 ∷ Trial ∷ Help ∷ []
 
 -- the first word, the line in the list of commands, the line that says which words follow, and what the command does, with an example
 pub record VerbRow : Type 0 where
@@ -46,6 +46,20 @@ verb_row Read = record {
       ++ codes "\n"
       ++ codes "Example:\n"
       ++ codes "   flux read amiga dump second > disk.adf 2> report.txt\n";
+}
+verb_row Show = record {
+  word = codes "show";
+  line = codes "   show FORMAT T S DUMP...      what good readings of one sector of dumps hold, side by side\n";
+  usage = codes "usage: flux show [--double-step] [--copy N] FORMAT TRACK SECTOR DUMP...\n";
+  about =
+      codes "\n"
+      ++ codes "Reads the files of one track as read does, and prints each distinct content that good readings of the sector hold, at most 16:\n"
+      ++ codes "how many hold it, the place of the first one, and its bytes, with > before rows that differ from the first content's. TRACK and\n"
+      ++ codes "SECTOR are words of the report. With --copy N the bytes of content N alone go to standard output, and can be put into the image\n"
+      ++ codes "at the offset that the first line tells. The exit code is 0 where there is one content.\n"
+      ++ codes "\n"
+      ++ codes "Example:\n"
+      ++ codes "   flux show amiga 32.1 10 dump second\n";
 }
 verb_row DecodeFolder = record {
   word = codes "decode-folder";
@@ -199,14 +213,16 @@ verb_of word = option_and_then (slice_get verbs) (position_from (has_word word) 
 abbrev pub is_own : Verb → Bool
 is_own Identify = true
 is_own Read = true
+is_own Show = true
 is_own Rescue = true
 is_own Map = true
 is_own Help = true
 is_own _ = false
 
--- a format follows the word, behind its options
+-- a format is the first word behind it that is no option; behind `show` that may be the number of a content
 abbrev pub asks_format : Verb → Bool
 asks_format Identify = false
+asks_format Show = false
 asks_format Turns = false
 asks_format Help = false
 asks_format _ = true

@@ -10,6 +10,8 @@ pub enum Verb {
     Identify,
     /// The files of several dumps to an image.
     Read,
+    /// What dumps have of one sector.
+    Show,
     /// A folder of track files to an image.
     DecodeFolder,
     /// Several streams of each track to one image.
@@ -37,9 +39,10 @@ pub enum Verb {
 }
 
 /// All commands, in the order in which the help lists them.
-const VERBS: [Verb; 14] = [
+const VERBS: [Verb; 15] = [
     Verb::Identify,
     Verb::Read,
+    Verb::Show,
     Verb::DecodeFolder,
     Verb::DecodeSet,
     Verb::Rescue,
@@ -96,15 +99,15 @@ impl Verb {
     {
         matches!(
             self,
-            Verb::Identify | Verb::Read | Verb::Rescue | Verb::Map | Verb::Help
+            Verb::Identify | Verb::Read | Verb::Show | Verb::Rescue | Verb::Map | Verb::Help
         )
     }
 
-    /// Whether a format follows it, behind its options.
+    /// Whether a format is the first word behind it that is no option. (Behind `show` that may be the number of `--copy`.)
     pub(crate) fn asks_format(self) -> bool
         ensures { result ≡ asks_format self }
     {
-        !matches!(self, Verb::Identify | Verb::Turns | Verb::Help)
+        !matches!(self, Verb::Identify | Verb::Show | Verb::Turns | Verb::Help)
     }
 
     #[tactic(auto, unfolding(crate::specs::Verbs::verb_row))]
@@ -142,6 +145,20 @@ picture of the verdicts (SVG), as map draws it, goes to standard output, and the
 
 Example:
    flux read amiga dump second > disk.adf 2> report.txt
+",
+            },
+            Verb::Show => Texts {
+                word: "show",
+                line: "   show FORMAT T S DUMP...      what good readings of one sector of dumps hold, side by side\n",
+                usage: "usage: flux show [--double-step] [--copy N] FORMAT TRACK SECTOR DUMP...\n",
+                about: "
+Reads the files of one track as read does, and prints each distinct content that good readings of the sector hold, at most 16:
+how many hold it, the place of the first one, and its bytes, with > before rows that differ from the first content's. TRACK and
+SECTOR are words of the report. With --copy N the bytes of content N alone go to standard output, and can be put into the image
+at the offset that the first line tells. The exit code is 0 where there is one content.
+
+Example:
+   flux show amiga 32.1 10 dump second
 ",
             },
             Verb::DecodeFolder => Texts {
