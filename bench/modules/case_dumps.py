@@ -124,6 +124,28 @@ def case_read(chance, kinds, built):
     return words, files
 
 
+def case_show(chance, kinds, built):
+    """A sector of a disk's dumps, one to eight of them, with two steps for one in some, and one content alone in some."""
+    form = any_format(chance)
+    steps = 2 if reaches_all(form) and one_in(chance, 3) else 1
+    count = chance.choice([1, 2, 2, 3, 8])
+    kinds |= {f"format {form.word}", f"a sector of {count} dumps"} | ({"two steps for one"} if steps == 2 else set())
+    names, files = dumps_of(chance, kinds, form, steps, count)
+    # The track of which there is most, mostly.
+    size_of = lambda at: max(len(files.get(path_of(name, steps * form.tracks[at][0], form.tracks[at][1])) or b"") for name in names)
+    k = chance.randrange(len(form.tracks)) if one_in(chance, 4) else max(range(len(form.tracks)), key=size_of)
+    options = [b"--double-step"] * (steps - 1)
+    if one_in(chance, 3):
+        kinds.add("one content alone")
+        options += [b"--copy", b"%d" % chance.choice([0, 0, 1, 2, 15])]
+    cylinder, head = form.tracks[k]
+    words = [b"show"] + options + [form.word.encode(), b"%02d.%d" % (cylinder, head), b"%02d" % chance.choice(list(form.sector_numbers(k))), *names]
+    if one_in(chance, 20):
+        kinds.add("words of show that are wrong")
+        words = words[:-1] if one_in(chance, 2) else words[:1] + [word[1:] for word in words[1:]]
+    return words, files
+
+
 def wrong_words(chance, words):
     """Words of `read` of which one is wrong."""
     roll = chance.randrange(6)

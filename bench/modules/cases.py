@@ -3,7 +3,7 @@ import struct
 
 import plain
 import plain_commands
-from case_dumps import case_folder, case_identify, case_read, few
+from case_dumps import case_folder, case_identify, case_read, case_show, few
 from case_streams import FILLER, SHORTEST, faulty, few_blocks, one_in, spell, too_long
 from case_tracks import noisy_track, random_data, track_stream, whole_track
 from plain import FORMATS
@@ -239,6 +239,7 @@ TABLE = [
     ("G64 files", 150, case_g64, b"from-g64"),
     ("folders", 200, case_folder, b"decode-folder"),
     ("dumps", 300, case_read, b"read"),
+    ("sectors of dumps", 100, case_show, b"show"),
     ("dumps to be named", 30, case_identify, b"identify"),
     ("trials", 8, case_trial, b"trial"),
 ]

@@ -125,10 +125,38 @@ def dumps_asked(words):
     return b"--picture" in options, steps, form, names
 
 
+def sector_asked(words):
+    """What words ask of a sector of dumps, if they ask for it: the steps that the drive made for one, the content that is asked for alone, the
+    format, the number of the track, the sector and the dumps' names. Track and sector are words of reports."""
+    if words[:1] != [b"show"]:
+        return None
+    rest, steps, alone = words[1:], 1, None
+    if rest[:1] == [b"--double-step"]:
+        rest, steps = rest[1:], 2
+    if rest[:1] == [b"--copy"]:
+        if len(rest) < 2 or rest[1] not in [b"%d" % number for number in range(plain_dumps.MOST_COPIES)]:
+            return None
+        rest, alone = rest[2:], int(rest[1])
+    form = FORMATS.get(rest[0].decode()) if rest else None
+    if not form or len(rest) < 3:
+        return None
+    names, tracks = rest[3:], [b"%02d.%d" % track for track in form.tracks]
+    if rest[1] not in tracks:
+        return None
+    k = tracks.index(rest[1])
+    sectors = {b"%02d" % sector: sector for sector in form.sector_numbers(k)}
+    if rest[2] not in sectors:
+        return None
+    if not 1 <= len(names) <= plain_dumps.MOST_DUMPS or b"" in names or steps == 2 and not plain_dumps.reaches_all(form):
+        return None
+    return steps, alone, form, k, sectors[rest[2]], names
+
+
 # What is told of words that are none, by their first one; of any other it is the usage line. Where a format's word has to follow at once, another
 # word in its place is told by itself.
 OWN_USAGES = {
     b"read": b"usage: flux read [--picture] [--double-step] FORMAT DUMP...", b"identify": b"usage: flux identify DUMP",
+    b"show": b"usage: flux show [--double-step] [--copy N] FORMAT TRACK SECTOR DUMP...",
     b"rescue": b"usage: flux rescue FORMAT", b"map": b"usage: flux map FORMAT",
 }
 ASK_FORMATS = b"read", b"rescue", b"map"
@@ -167,6 +195,9 @@ def outcome(words, data, built, usage):
     if words[:1] == [b"read"] and b"read" in built and (asked := dumps_asked(words)):
         drawn, steps, form, names = asked
         return (plain_dumps.draw if drawn else plain_dumps.read)(Dumps(Shelf(files), names, steps), form)
+    if words[:1] == [b"show"] and b"show" in built and (asked := sector_asked(words)):
+        steps, alone, form, k, sector, names = asked
+        return plain_dumps.show(Dumps(Shelf(files), names, steps), form, k, sector, alone)
     if words[:1] == [b"identify"] and b"identify" in built and len(words) == 2 and words[1]:
         return plain_dumps.identify(Shelf(files), words[1])
     if words and words[0] in COMMANDS and words[0] in built:

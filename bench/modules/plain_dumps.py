@@ -1,15 +1,16 @@
-"""Disks read of their dumps, off the definitions: one verdict over the files of several dumps, and which disk a dump is of.
+"""Disks read of their dumps, off the definitions: one verdict over the files of several dumps, what they have of one sector, and which disk a dump is of.
 
 Dumps lie on a shelf, which is a folder's files by their paths. A file that is not found is passed over; any other fault ends all.
 """
 import re
 
-from plain import FORMATS, Answer, as_controllers_read, controller_readings, turn_of
+from plain import FORMATS, Answer, as_controllers_read, controller_readings, turn_of, verdict_of
 from plain_map import Picture
 from plain_streams import Refused, Stream, recovered
 
 MOST_DUMPS = 8
 MOST_TOLD = 64
+MOST_COPIES = 16
 MOST_DOUBLE_CYLINDERS = 42
 LONGEST_PATH = 4095
 
@@ -182,6 +183,49 @@ def draw(dumps, form):
     code = answer.end()
     counts, totals = answer.lines[-2:]
     return code, (out + "".join(map(picture.field, answer.sectors)) + picture.counts(counts) + picture.foot(answer.sectors, totals)).encode(), b""
+
+
+# One sector
+
+def copies_of(entries, sector):
+    """The distinct contents of a sector's good readings, in the order in which they are first met: each with how many hold it and the first
+    one's place."""
+    copies = {}
+    for place, named, content in entries:
+        if named == sector and content is not None:
+            readings, first = copies.get(content, (0, place))
+            copies[content] = readings + 1, first
+    return [(content, *told) for content, told in copies.items()][:MOST_COPIES]
+
+
+def row_text(first, content, at):
+    here = content[at : at + 16]
+    mark = "  " if here == first[at : at + 16] else "> "
+    return f"{mark}{at:04x} " + "".join(f" {byte:02x}" for byte in here) + "  " + "".join(chr(byte) if 32 <= byte < 127 else "." for byte in here) + "\n"
+
+
+def show(dumps, form, k, sector, alone=None):
+    """The outcome of `show` for a sector of track number k; with a number that content alone."""
+    cylinder, head = form.tracks[k]
+    try:
+        empty = dumps.first_empty(form)
+        if empty is not None:
+            return 2, b"", f"refused dump {empty} no track files\n".encode()
+        passed, entries, _ = dumps.gathered(form, k)
+    except Failed:
+        return 8, b"", b""
+    copies, size = copies_of(entries, sector), form.recording.size
+    verdict, _ = verdict_of([(place, content) for place, named, content in entries if named == sector])
+    line = f"{cylinder:02}.{head} {sector:02} {verdict}\n"
+    notes = "".join(f"{cylinder:02}.{head} {why}\n" for why in passed)
+    code = 0 if len(copies) == 1 else 1
+    if alone is not None:
+        return code, bytes(copies[alone][0]) if alone < len(copies) else b"", (notes + line).encode()
+    offset = sum(map(form.track_bytes, range(k))) + size * form.slot(sector)
+    out = f"image offset {offset} bytes {size}\n"
+    for number, (content, readings, first) in enumerate(copies):
+        out += f"copy {number} readings {readings} {first}\n" + "".join(row_text(copies[0][0], content, at) for at in range(0, size, 16))
+    return code, (out + line).encode(), notes.encode()
 
 
 # Which disk it is

@@ -45,7 +45,8 @@ PROBES = {b"decode": [b"ibm-3740"], b"report": [b"ibm-3740"], b"write": [b"ibm-3
           b"decode-folder": [b"apple-do", b"/nowhere"]}
 
 # The same of words that the usage line does not name.
-MORE_PROBES = {b"rescue": [b"apple-do"], b"map": [b"apple-do"], b"read": [b"apple-do", b"/nowhere"], b"identify": [b"/nowhere"]}
+MORE_PROBES = {b"rescue": [b"apple-do"], b"map": [b"apple-do"], b"read": [b"apple-do", b"/nowhere"], b"identify": [b"/nowhere"],
+               b"show": [b"apple-do", b"00.0", b"00", b"/nowhere"]}
 
 
 def commands_of(program):

@@ -78,7 +78,7 @@ fn source_of(alloc: Global, row: &Row, input: &[u8]) -> Result<MemorySource, All
 }
 
 fn sink_of(alloc: Global, failing: Option<u64>) -> Result<MemorySink, Memory> {
-    MemorySink::new(alloc, 4096, listed(alloc, failing)?)
+    MemorySink::new(alloc, 8192, listed(alloc, failing)?)
 }
 
 fn listed(alloc: Global, call: Option<u64>) -> Result<Vec<u64>, AllocError> {

@@ -4,6 +4,7 @@ mod folders;
 mod images;
 mod pc_disk;
 mod runs;
+mod sectors;
 mod sets;
 mod shelves;
 mod tracks;

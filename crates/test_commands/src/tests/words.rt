@@ -75,6 +75,9 @@ fn words_that_are_no_command(rt: HostRuntime) -> Result<(), Fail> {
 /// What is told of wrong words behind `read`.
 const READ: &str = "usage: flux read [--picture] [--double-step] FORMAT DUMP...\n";
 
+/// And behind `show`.
+const SHOW: &str = "usage: flux show [--double-step] [--copy N] FORMAT TRACK SECTOR DUMP...\n";
+
 /// After a command that the usage line does not name: the words, and what is told of them in its place.
 const TOLD: &[(&[&str], &str, u64)] = &[
     (&["map"], "usage: flux map FORMAT\n", 1),
@@ -85,6 +88,15 @@ const TOLD: &[(&[&str], &str, u64)] = &[
         "no format ibm720; nearest: ibm-720\n",
         3,
     ),
+    (&["show"], SHOW, 1),
+    (&["show", "ibm-3740", "00.0", "27", "a"], SHOW, 1),
+    (&["show", "ibm-3740", "77.0", "01", "a"], SHOW, 1),
+    (
+        &["show", "--copy", "16", "ibm-3740", "00.0", "01", "a"],
+        SHOW,
+        1,
+    ),
+    (&["show", "amigo", "00.0", "01", "a"], SHOW, 1),
     (&["identify"], "usage: flux identify DUMP\n", 1),
     (&["identify", ""], "usage: flux identify DUMP\n", 1),
     (&["identify", "a", "b"], "usage: flux identify DUMP\n", 1),
