@@ -1,10 +1,12 @@
 # Completion of flux for bash. The words come from `flux help`, so that they are those of the program that is installed.
 _flux()
 {
-    local word=${COMP_WORDS[COMP_CWORD]} verb=${COMP_WORDS[1]} at=2 part options="" before numbers=""
+    local word=${COMP_WORDS[COMP_CWORD]} verb=${COMP_WORDS[1]} at=2 part usage options="" valued="" before numbers=""
     # The words of options, where the command's page has some: they may stand before the format, each once.
     if [ "$COMP_CWORD" -ge 2 ] && [ "$verb" != help ]; then
-        options=$(flux help "$verb" 2> /dev/null | sed -n '1p' | grep -o -e '\[--[a-z-]*\]' | tr -d '[]' | tr '\n' ' ')
+        usage=$(flux help "$verb" 2> /dev/null | sed -n '1p')
+        options=$(grep -o -e '\[--[a-z-]*' <<< "$usage" | tr -d '[' | tr '\n' ' ')
+        valued=$(grep -o -e '\[--[a-z-]* [A-Z]' <<< "$usage" | tr -d '[' | sed 's/ .*//' | tr '\n' ' ')
     fi
     while [ "$COMP_CWORD" -gt "$at" ]; do
         before=${COMP_WORDS[at]}
@@ -12,6 +14,13 @@ _flux()
             *" $before "*) options=" $options" options=${options/" $before "/ } at=$((at + 1)) ;;
             *) break ;;
         esac
+        # Behind this one stands a number, and then no option.
+        case " $valued" in
+            *" $before "*) options="" at=$((at + 1)) ;;
+        esac
+        if [ "$COMP_CWORD" -lt "$at" ]; then
+            return
+        fi
     done
     case $((COMP_CWORD - at)),$verb in
         -1,*) part='/^Commands:/,/^$/' ;;
