@@ -79,11 +79,11 @@ module _ {H W N : Type 0} (disk : DumpDisk) (before after : OnShelf H W N) (tota
       shown-done Picture disk before after totals found drew.outcome drew.is drew.grew
       (rw drew.is.is (subst (λ (now : Option (List ℕ)). Appends before.notes.bytes now []) (sym same) (Appends-nil before.notes.bytes))) drew.totals_are
 
-true_false : (b : Bool) → b ≡ true → b ≡ false → ⊥
+pub true_false : (b : Bool) → b ≡ true → b ≡ false → ⊥
 true_false b is other = cc
 
 -- the first dump without files is one
-first_same : (disk : DumpDisk) (files : List File) (n m : ℕ) → IsFirstEmpty disk files (Some n) → IsFirstEmpty disk files (Some m) → n ≡ m
+pub first_same : (disk : DumpDisk) (files : List File) (n m : ℕ) → IsFirstEmpty disk files (Some n) → IsFirstEmpty disk files (Some m) → n ≡ m
 first_same disk files n m p q =
     elim (cases_lt n m) [
       | inl less ↦ absurd (true_false (has_files disk files n) (q.1 n less) p.0)

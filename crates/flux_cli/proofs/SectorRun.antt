@@ -3,17 +3,22 @@ use Rattle.std.specs.Prelude.{if◌then◌else◌, nat_eq}
 use Rattle.std.proofs.Common.{◌≡◌, ◌<◌, ℕ, Bool, true, false, List, [], length, Option, Some, None, inl, inr, refl, sym, ap, ◌∙◌, subst}
 use Rattle.std.proofs.KnownBytes.{Appends-nil, Keeps-refl}
 use Rattle.std.specs.Io.KnownBytes.{Appends, Keeps}
-use Rattle.dump_reading.specs.Outcomes.{DumpDisk, IsToldEmpty}
+use Rattle.dump_reading.specs.Outcomes.{DumpDisk, IsToldEmpty, has_files}
 use Rattle.flux_base.specs.Outside.{AppendsPart}
 use Rattle.flux_base.specs.declared.status.Status.{Status}
 use Rattle.flux_base.specs.declared.status.Status.TheVariants.{AllGood, NotAllGood, Refused}
+use Rattle.sector_copies.specs.Laws.{AreReadingsOfFiles, ShownIsOne}
 use Rattle.sector_copies.specs.Shown.{IsSectorShown, SectorAsked, SectorShown}
 use Rattle.sector_copies.specs.TrackReadings.{IsEmptyRoom, SectorRoomState}
 use Rattle.sector_images.specs.declared.format.Format.{Format}
 use Rattle.sector_report.specs.DumpLines.{no_files_text}
+use Rattle.track_shelf.specs.Files.{File}
+use Rattle.turn_merge.specs.Readings.{NotedReading}
+use Rattle.flux_cli.proofs.ReadRun.{first_same, true_false}
 use Rattle.flux_cli.specs.FolderRuns.{OnShelf}
 use Rattle.flux_cli.specs.ReadRuns.{CutInEmpty, empty_outcome}
-use Rattle.flux_cli.specs.SectorRuns.{DidShow, FinishedSector, SaysOfShow, sector_outcome, sector_status}
+use Rattle.flux_cli.specs.SectorRuns.{DidShow, FinishedSector, IsOutcomeOfSector, SaysOfShow, sector_outcome, sector_status}
+use Rattle.flux_cli.specs.Work.{Outcome}
 
 pub same-kept : (old new : Option (List ℕ)) → new ≡ old → Keeps old new
 same-kept old new same = subst (Keeps old) (sym same) (Keeps-refl old)
@@ -71,3 +76,15 @@ in_sector_room disk number sector alone format room status before after is did =
     subst (λ (s : ℕ). DidShow (record { disk = record disk { format = format }; number = number; sector = s; alone = alone }) status before after) is.sector_is
     (subst (λ (n : ℕ). DidShow (record { disk = record disk { format = format }; number = n; sector = room.known.sector; alone = alone }) status before after) is.number_is
     (subst (λ (f : Format). DidShow (record { disk = record disk { format = f }; number = room.number; sector = room.known.sector; alone = alone }) status before after) is.format_is did))
+
+-- the files decide the outcome of `show`, where their streams have lists of all readings
+pub one_outcome_of_sector : ShownIsOne → (asked : SectorAsked) (files : List File) (captures : List (List NotedReading)) → AreReadingsOfFiles asked files captures
+    → (a b : Outcome) → IsOutcomeOfSector asked (Some files) a → IsOutcomeOfSector asked (Some files) b → a ≡ b
+one_outcome_of_sector one asked files captures all a b (inl (n, low, first, is)) (inl (m, low', second, is')) =
+    is ∙ ap empty_outcome (first_same asked.disk files n m (first files refl) (second files refl)) ∙ sym is'
+one_outcome_of_sector one asked files captures all a b (inl (n, low, first, is)) (inr (s, none, shown, is')) =
+    absurd (true_false (has_files asked.disk files n) (none files refl n low) (first files refl).0)
+one_outcome_of_sector one asked files captures all a b (inr (s, none, shown, is)) (inl (m, low, second, is')) =
+    absurd (true_false (has_files asked.disk files m) (none files refl m low) (second files refl).0)
+one_outcome_of_sector one asked files captures all a b (inr (s, none, shown, is)) (inr (t, none', other, is')) =
+    is ∙ ap sector_outcome (one asked files captures all s t shown other) ∙ sym is'

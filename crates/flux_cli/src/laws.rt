@@ -4,10 +4,14 @@ ghost use Rattle.std.specs.Prelude.{◌≡◌, ℕ, List, Some};
 ghost use Rattle.dump_reading.specs.Outcomes.{DumpDisk};
 ghost use Rattle.flux_cli.specs.ReadRuns.{IsOutcomeOfDumps};
 ghost use Rattle.flux_cli.specs.IdentityRuns.{IsOutcomeOfDump};
+ghost use Rattle.flux_cli.specs.SectorRuns.{IsOutcomeOfSector};
 ghost use Rattle.flux_cli.specs.Work.{Outcome};
 ghost use Rattle.flux_cli.specs.Works.{IsOutcome};
 ghost use Rattle.flux_cli.specs.declared.dump_words.Shown.{Shown};
+ghost use Rattle.sector_copies.specs.Laws.{AreReadingsOfFiles};
+ghost use Rattle.sector_copies.specs.Shown.{SectorAsked};
 ghost use Rattle.track_shelf.specs.Files.{File};
+ghost use Rattle.turn_merge.specs.Readings.{NotedReading};
 
 use sector_images::words_name_formats;
 
@@ -35,4 +39,12 @@ pub fn identity_outcomes_are_one()
     ensures { (dump : List ℕ) (files : List File) (a b : Outcome) → IsOutcomeOfDump dump (Some files) a → IsOutcomeOfDump dump (Some files) b → a ≡ b }
 {
     dump_identity::identities_are_one()
+}
+
+/// Where the streams of a sector's track have lists of all that can be read in them, which reading them makes, what is asked and the files on the
+/// shelf decide the outcome of `show`: there is one at most.
+pub fn sector_outcomes_are_one()
+    ensures { (asked : SectorAsked) (files : List File) (captures : List (List NotedReading)) → AreReadingsOfFiles asked files captures → (a b : Outcome) → IsOutcomeOfSector asked (Some files) a → IsOutcomeOfSector asked (Some files) b → a ≡ b }
+{
+    sector_copies::shown_sectors_are_one()
 }

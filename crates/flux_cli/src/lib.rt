@@ -21,7 +21,9 @@ mod std_shelf;
 mod task;
 mod turns;
 
-pub use laws::{identity_outcomes_are_one, outcomes_are_one, read_outcomes_are_one};
+pub use laws::{
+    identity_outcomes_are_one, outcomes_are_one, read_outcomes_are_one, sector_outcomes_are_one,
+};
 pub use program::run;
 pub use standard::{StdSink, StdSource};
 pub use std_shelf::StdShelf;

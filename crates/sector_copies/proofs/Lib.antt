@@ -11,3 +11,4 @@ mod Named
 mod Contained
 mod Rows
 pub mod RowBytes
+mod OneShown

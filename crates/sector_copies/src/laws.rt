@@ -1,6 +1,6 @@
 //! What the contents of a sector come to that are kept of all its readings.
 
-ghost use Rattle.sector_copies.specs.Laws.{CopiesAreNamed, CopiesAreOne, CopiesAreTheContents};
+ghost use Rattle.sector_copies.specs.Laws.{CopiesAreNamed, CopiesAreOne, CopiesAreTheContents, ShownIsOne};
 
 use flux_engine::{plans_are_right, rules_are_read};
 
@@ -15,3 +15,9 @@ pub fn copies_are_right()
     rules_are_read();
     plans_are_right()
 }
+
+/// Where the streams of a track have lists of all that can be read in them, which reading them makes, the files on the shelf decide what is
+/// shown of a sector: it is one at most.
+pub fn shown_sectors_are_one()
+    ensures { ShownIsOne }
+{}

@@ -13,6 +13,6 @@ mod tools;
 mod walk;
 
 pub use copies::SectorCopy;
-pub use laws::copies_are_right;
+pub use laws::{copies_are_right, shown_sectors_are_one};
 pub use reading::{SectorRoom, read_sector};
 pub use show::show_sector;
