@@ -281,26 +281,6 @@ fn sectors_have_their_places(rt: HostRuntime) {
     assert_eq!(rt; image_place(Format::Ibm3740, track(76, 0), 26), 256128);
     assert_eq!(rt; image_sector(Format::Ibm3740, track(76, 0), 25), 26);
     assert_eq!(rt; image_place(Format::Ibm1440, track(79, 1), 18), 1474048);
-    assert_eq!(rt;
-        image_place(Format::Numbered(IbmDisk::IBM_1200), track(79, 1), 15),
-        1228288
-    );
-    assert_eq!(rt;
-        image_place(Format::Numbered(IbmDisk::CPC_DATA), first, 0xC2),
-        512
-    );
-    assert_eq!(rt;
-        image_sector(Format::Numbered(IbmDisk::CPC_DATA), first, 8),
-        0xC9
-    );
-    assert_eq!(rt;
-        image_place(Format::Numbered(IbmDisk::CPC_SYSTEM), track(39, 0), 0x49),
-        183808
-    );
-    assert_eq!(rt;
-        image_place(Format::Numbered(IbmDisk::ACORN_DFS_80), track(79, 0), 9),
-        204544
-    );
     assert_eq!(rt; image_place(Format::Amiga, track(1, 0), 0), 11264);
     assert_eq!(rt; image_place(Format::Amiga, track(79, 1), 10), 900608);
     assert_eq!(rt; image_place(Format::C1541, track(17, 0), 0), 91392);
@@ -309,6 +289,30 @@ fn sectors_have_their_places(rt: HostRuntime) {
     assert_eq!(rt; image_sector(Format::C1541, track(17, 0), 18), 18);
     assert_eq!(rt; image_place(Format::C1571, track(17, 0), 0), 91392);
     assert_eq!(rt; image_place(Format::C1571, track(17, 1), 0), 266240);
+}
+
+/// A disk by its numbers, the number of a track and of a sector there from 0, the sector's own number, and the place of its first byte.
+const NUMBERED_SECTORS: [(IbmDisk, u32, u8, u8, u32); 5] = [
+    (IbmDisk::IBM_1200, 159, 14, 15, 1228288),
+    (IbmDisk::CPC_DATA, 0, 1, 0xC2, 512),
+    (IbmDisk::CPC_DATA, 0, 8, 0xC9, 4096),
+    (IbmDisk::CPC_SYSTEM, 39, 8, 0x49, 183808),
+    (IbmDisk::ACORN_DFS_80, 79, 9, 9, 204544),
+];
+
+#[test]
+fn numbered_sectors_have_their_places(rt: HostRuntime) {
+    for (disk, number, index, sector, place) in NUMBERED_SECTORS {
+        let format = Format::Numbered(disk);
+        assert!(rt; number < track_count(format));
+        assert!(rt; index < disk.track().sectors);
+        let track = track_id(format, number);
+        assert_eq!(rt; image_sector(format, track, index), sector);
+        assert_eq!(rt;
+            image_place(format, track, image_sector(format, track, index)),
+            place
+        );
+    }
 }
 
 #[test]
