@@ -1,6 +1,6 @@
 """Holds disks against MAME's floptool (Debian's mame-tools), sector by sector. It is no part of the gate.
 
-usage: bench/run floptool [PROGRAM [FORMAT..]]     (PROGRAM: crates/flux/out/flux; FORMAT: each that floptool knows)
+usage: bench/run floptool [PROGRAM [FORMAT..]]     (PROGRAM: crates/flux/out/flux; FORMAT: each that stands below)
 
 There: floptool makes the disk of an image, PROGRAM decodes it, and every sector has to be good and the image the same. Back: PROGRAM
 writes the streams of an image, floptool reads the disk of their second revolutions, and the image has to be the same. floptool
@@ -20,21 +20,40 @@ from plain_streams import Stream, padding_at
 
 TOP = Path(__file__).resolve().parent.parent
 TURN, TIME = 200_000_000, 0x0FFFFFFF
-# floptool's word, how its file is named, its disk's form and size, and whether it writes the disk back
-KNOWN = {
-    "ibm-160": ("pc", "img", b"525 SSDD", True), "ibm-180": ("pc", "img", b"525 SSDD", True),
-    "ibm-320": ("pc", "img", b"525 DSDD", True), "ibm-360": ("pc", "img", b"525 DSDD", True),
-    "ibm-720": ("pc", "img", b"525 DSQD", True), "ibm-1200": ("pc", "img", b"525 DSHD", True),
-    "ibm-1440": ("pc", "img", b"35  DSHD", True), "atari-st-800": ("st", "st", b"35  DSDD", False),
-    "acorn-dfs-40": ("ssd", "ssd", b"525 SSQD", True), "acorn-dfs-80": ("ssd", "ssd", b"525 DSQD", True),
-    "cpc-data": ("dsk", "dsk", b"", False), "cpc-system": ("dsk", "dsk", b"", False),
-    "amiga-hd": ("adf", "adf", b"35  DSHD", True), "c1571": ("d71", "d71", b"525 DSSD", True),
-    "mac-400": ("apple_gcr", "dsk", b"35  SSDD", True), "mac-800": ("apple_gcr", "dsk", b"35  DSDD", True),
-}
+# a format, floptool's word, how its file is named, its disk's form and size, and whether it writes the disk back
+KNOWN = [
+    ("ibm-160", "pc", "img", b"525 SSDD", True), ("ibm-180", "pc", "img", b"525 SSDD", True), ("ibm-320", "pc", "img", b"525 DSDD", True),
+    ("ibm-360", "pc", "img", b"525 DSDD", True), ("ibm-720", "pc", "img", b"525 DSQD", True), ("ibm-1200", "pc", "img", b"525 DSHD", True),
+    ("ibm-1440", "pc", "img", b"35  DSHD", True), ("ibm-720", "msx", "dsk", b"35  DSDD", True), ("ibm-720", "ql", "dsk", b"35  DSDD", True),
+    ("atari-st-800", "st", "st", b"35  DSDD", False), ("acorn-dfs-40", "ssd", "ssd", b"525 SSQD", True), ("acorn-dfs-80", "ssd", "ssd", b"525 DSQD", True),
+    ("cpc-data", "dsk", "dsk", b"", False), ("cpc-system", "dsk", "dsk", b"", False), ("amiga-hd", "adf", "adf", b"35  DSHD", True),
+    ("c1571", "d71", "d71", b"525 DSSD", True), ("mac-400", "apple_gcr", "dsk", b"35  SSDD", True), ("mac-800", "apple_gcr", "dsk", b"35  DSDD", True),
+    # by their numbers: the PC-98, FM Towns and X68000; the Atari ST; Acorn's ADFS; Sam Coupe, TR-DOS, Opus, CoCo, Acorn's Atom, DEC's Rainbow
+    ("mfm-hd360-77x2x8x1024", "pc98", "hdm", b"525 DSHD", True), ("mfm-hd360-77x2x8x1024", "fmtowns", "bin", b"35  DSHD", True),
+    ("mfm-hd360-77x2x8x1024", "xdf", "xdf", b"525 DSHD", True), ("mfm-hd360-80x2x15x512", "pc98", "img", b"525 DSHD", True),
+    ("mfm-dd-82x2x10x512", "st", "st", b"35  DSDD", True), ("mfm-dd-80x2x11x512", "st", "st", b"35  DSDD", True),
+    ("mfm-dd-80x1x9x512", "st", "st", b"35  SSDD", True), ("mfm-dd-80x2x11x512", "msa", "msa", b"35  DSDD", True),
+    ("mfm-dd-80x2x16x256@0", "adfs_o", "adf", b"35  DSDD", True), ("mfm-dd-80x1x16x256@0", "adfs_o", "adf", b"35  SSDD", True),
+    ("mfm-dd-80x2x5x1024@0", "adfs_n", "adf", b"35  DSDD", True), ("mfm-dd-80x2x10x512", "mgt", "mgt", b"35  DSDD", True),
+    ("mfm-dd-80x2x16x256", "trd", "trd", b"525 DSQD", True), ("mfm-dd-40x1x18x256@0", "opd", "opd", b"35  SSDD", True),
+    ("mfm-dd-35x1x18x256", "jvc", "dsk", b"525 SSDD", True), ("fm-sd-40x1x10x256@0", "atom", "40t", b"525 SSSD", True),
+    ("mfm-dd-80x1x10x512", "rx50", "img", b"525 SSQD", True),
+    # the Commodore 1581, which numbers its heads the other way
+    ("mfm-dd-80x2x10x512", "d81", "d81", b"35  DSDD", True),
+]
 
 
 # how many places of MAME's own file a cylinder takes, where that is not one: the 1571's head moves by halves of one
 STEPS = {"c1571": 2}
+
+# whose drive's head 0 is the disk's head 1, while the image begins with what it reads
+EXCHANGED = {"d81"}
+
+
+def exchanged(form, image):
+    """The image with the two heads of each cylinder exchanged."""
+    size = form.image_bytes // len(form.tracks)
+    return b"".join(image[place + size : place + 2 * size] + image[place : place + size] for place in range(0, len(image), 2 * size))
 
 
 def cpc_file(image, first):
@@ -72,10 +91,10 @@ def packed_in_file(packed, kind, step):
     return out + contents
 
 
-def mame_file(form, kind, streams):
+def mame_file(form, name, kind, streams):
     """A file of MAME's own with the second revolution of each stream."""
     packed, place = {}, 0
-    for track in form.tracks:
+    for cylinder, head in form.tracks:
         place += padding_at(streams, place)
         stream = Stream(streams, place)
         place += stream.length
@@ -83,7 +102,7 @@ def mame_file(form, kind, streams):
         times = [min(TURN - 1, (time - begin) * TURN // (end - begin)) for time in stream.times if begin < time <= end]
         values = [time - before for before, time in zip([0] + times, times)]
         content = struct.pack(f"<{len(values)}I", *values)
-        packed[track] = (zlib.compress(content), len(content))
+        packed[cylinder, head ^ (name in EXCHANGED)] = (zlib.compress(content), len(content))
     return packed_in_file(packed, kind, STEPS.get(form.word, 1))
 
 
@@ -91,16 +110,16 @@ def convert(given, wanted, source, target):
     subprocess.run(["floptool", "flopconvert", given, wanted, source, target], check=True, capture_output=True)
 
 
-def there(program, word, folder, image):
-    name, ending, _, _ = KNOWN[word]
-    form, source = plain.FORMATS[word], folder / f"disk.{ending}"
-    source.write_bytes(cpc_file(image, form.recording.first) if name == "dsk" else image)
+def there(program, case, folder, image):
+    word, name, ending, _, _ = case
+    form, source = plain.FORMATS.get(word), folder / f"disk.{ending}"
+    source.write_bytes(cpc_file(image, form.recording.first) if name == "dsk" else exchanged(form, image) if name in EXCHANGED else image)
     convert(name, "mfi", source, folder / "disk.mfi")
     tracks, streams = tracks_of((folder / "disk.mfi").read_bytes()), b""
     ticks = disks.TICKS_A_MICROSECOND * form.nominal(0) / 24604 * form.ring_cells(0) / TURN
     for cylinder, head in form.tracks:
         times, time = [], 0
-        for value in tracks[STEPS.get(word, 1) * cylinder, head] * 2:
+        for value in tracks[STEPS.get(word, 1) * cylinder, head ^ (name in EXCHANGED)] * 2:
             time += value
             times.append(round(time * ticks))
         values = [time - before for before, time in zip([0] + times, times)]
@@ -112,32 +131,41 @@ def there(program, word, folder, image):
     return done.stdout == image, total
 
 
-def back(program, word, folder, image):
-    name, ending, kind, writes = KNOWN[word]
+def back(program, case, folder, image):
+    word, name, ending, kind, writes = case
     if not writes:
         return None
+    form = plain.FORMATS.get(word)
     streams = subprocess.run([program, "write", word], input=image, capture_output=True, check=True).stdout
-    (folder / "own.mfi").write_bytes(mame_file(plain.FORMATS[word], kind, streams))
+    (folder / "own.mfi").write_bytes(mame_file(form, name, kind, streams))
     convert("mfi", name, folder / "own.mfi", folder / f"own.{ending}")
-    return (folder / f"own.{ending}").read_bytes() == image
+    return (folder / f"own.{ending}").read_bytes() == (exchanged(form, image) if name in EXCHANGED else image)
 
 
-def image_of(word):
-    """Random bytes. By Acorn's catalogue floptool tells how many tracks a disk has, so there it is an empty one."""
-    image = random.Random(word).randbytes(plain.FORMATS[word].image_bytes)
-    if word.startswith("acorn"):
-        image = bytes(262) + struct.pack(">H", len(image) // 256) + bytes(248) + image[512:]
-    return image
+def image_of(word, name):
+    """Random bytes. By Acorn's catalogue, or the map of ADFS, floptool tells what disk it is, so there these are right."""
+    image = bytearray(random.Random(word).randbytes(plain.FORMATS.get(word).image_bytes))
+    sectors = len(image) // 256
+    if name == "ssd":
+        image[:512] = bytes(262) + struct.pack(">H", sectors) + bytes(248)
+    if name in ("adfs_o", "adfs_n"):
+        image[0xFC:0xFF] = sectors.to_bytes(3, "little")
+        at = 0x201 if name == "adfs_o" else 0x401
+        image[at : at + 4] = b"Hugo"
+    return bytes(image)
 
 
 def main():
     program = sys.argv[1] if len(sys.argv) > 1 else str(TOP / "crates/flux/out/flux")
-    for word in sys.argv[2:] or KNOWN:
-        image = image_of(word)
+    for case in KNOWN:
+        word, name = case[:2]
+        if sys.argv[2:] and word not in sys.argv[2:]:
+            continue
+        image = image_of(word, name)
         with tempfile.TemporaryDirectory() as folder:
-            same, total = there(program, word, Path(folder), image)
-            returned = back(program, word, Path(folder), image)
-        print(f"{word:13} there {'same' if same else 'OTHER'} ({total}) back {({None: '-', True: 'same', False: 'OTHER'})[returned]}", flush=True)
+            same, total = there(program, case, Path(folder), image)
+            returned = back(program, case, Path(folder), image)
+        print(f"{word:22} {name:9} there {'same' if same else 'OTHER'} ({total}) back {({None: '-', True: 'same', False: 'OTHER'})[returned]}", flush=True)
 
 
 if __name__ == "__main__":
