@@ -1,7 +1,5 @@
 # For a newcomer: `make demo` builds the program and reads a disk with it, `make test` runs the gate.
 PREFIX ?= /usr/local
-# How many crates are proved side by side at a first build.
-JOBS ?= $(shell nproc)
 
 PROGRAM = crates/flux/out/flux
 # What the program is made of.
@@ -39,8 +37,8 @@ $(DEMO)/disk.img: $(PROGRAM) samples/demo.py
 
 # The crates that do not stand on each other are proved side by side; then the program is linked, and run on a stream.
 $(PROGRAM): $(SOURCES)
-	.ci/first-build $(JOBS)
-	cd crates/flux && rt run -- turns < ../../samples/three-turns.raw
+	.ci/first-build
+	$@ turns < samples/three-turns.raw
 	touch $@
 
 # One crate, over what earlier checks kept: make check CRATE=ibm_fm
