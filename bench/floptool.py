@@ -4,7 +4,7 @@ usage: bench/run floptool [PROGRAM [FORMAT..]]     (PROGRAM: crates/flux/out/flu
 
 There: floptool makes the disk of an image, PROGRAM decodes it, and every sector has to be good and the image the same. Back: PROGRAM
 writes the streams of an image, floptool reads the disk of their second revolutions, and the image has to be the same. floptool
-does not write back a disk of two formats: those of Atari (it takes a sector more than there are) and files of the CPC.
+does not write back some disks: those of Atari that have fewer than 11 sectors a track (it takes one more than there are), and files of the CPC.
 """
 import random
 import struct
@@ -31,8 +31,8 @@ KNOWN = [
     # by their numbers: the PC-98, FM Towns and X68000; the Atari ST; Acorn's ADFS; Sam Coupe, TR-DOS, Opus, CoCo, Acorn's Atom, DEC's Rainbow
     ("mfm-hd360-77x2x8x1024", "pc98", "hdm", b"525 DSHD", True), ("mfm-hd360-77x2x8x1024", "fmtowns", "bin", b"35  DSHD", True),
     ("mfm-hd360-77x2x8x1024", "xdf", "xdf", b"525 DSHD", True), ("mfm-hd360-80x2x15x512", "pc98", "img", b"525 DSHD", True),
-    ("mfm-dd-82x2x10x512", "st", "st", b"35  DSDD", True), ("mfm-dd-80x2x11x512", "st", "st", b"35  DSDD", True),
-    ("mfm-dd-80x1x9x512", "st", "st", b"35  SSDD", True), ("mfm-dd-80x2x11x512", "msa", "msa", b"35  DSDD", True),
+    ("mfm-dd-82x2x10x512", "st", "st", b"35  DSDD", False), ("mfm-dd-80x2x11x512", "st", "st", b"35  DSDD", True),
+    ("mfm-dd-80x1x9x512", "st", "st", b"35  SSDD", False), ("mfm-dd-80x2x11x512", "msa", "msa", b"35  DSDD", False),
     ("mfm-dd-80x2x16x256@0", "adfs_o", "adf", b"35  DSDD", True), ("mfm-dd-80x1x16x256@0", "adfs_o", "adf", b"35  SSDD", True),
     ("mfm-dd-80x2x5x1024@0", "adfs_n", "adf", b"35  DSDD", True), ("mfm-dd-80x2x10x512", "mgt", "mgt", b"35  DSDD", True),
     ("mfm-dd-80x2x16x256", "trd", "trd", b"525 DSQD", True), ("mfm-dd-40x1x18x256@0", "opd", "opd", b"35  SSDD", True),
@@ -65,6 +65,13 @@ def cpc_file(image, first):
         track += b"".join(bytes([cylinder, 0, first + index, 2, 0, 0]) + struct.pack("<H", 512) for index in range(9))
         out += track.ljust(0x100, b"\0") + image[4608 * cylinder : 4608 * (cylinder + 1)]
     return out
+
+
+def msa_file(form, image):
+    """A disk of the Atari ST as a file of its archiver, with no track packed."""
+    size = form.image_bytes // len(form.tracks)
+    out = struct.pack(">5H", 0x0E0F, size // 512, 1, 0, len(form.tracks) // 2 - 1)
+    return out + b"".join(struct.pack(">H", size) + image[place : place + size] for place in range(0, len(image), size))
 
 
 def tracks_of(data):
@@ -110,10 +117,19 @@ def convert(given, wanted, source, target):
     subprocess.run(["floptool", "flopconvert", given, wanted, source, target], check=True, capture_output=True)
 
 
+def as_file(form, name, image):
+    """The image as floptool's files have it."""
+    if name == "dsk":
+        return cpc_file(image, form.recording.first)
+    if name == "msa":
+        return msa_file(form, image)
+    return exchanged(form, image) if name in EXCHANGED else image
+
+
 def there(program, case, folder, image):
     word, name, ending, _, _ = case
     form, source = plain.FORMATS.get(word), folder / f"disk.{ending}"
-    source.write_bytes(cpc_file(image, form.recording.first) if name == "dsk" else exchanged(form, image) if name in EXCHANGED else image)
+    source.write_bytes(as_file(form, name, image))
     convert(name, "mfi", source, folder / "disk.mfi")
     tracks, streams = tracks_of((folder / "disk.mfi").read_bytes()), b""
     ticks = disks.TICKS_A_MICROSECOND * form.nominal(0) / 24604 * form.ring_cells(0) / TURN
@@ -139,7 +155,7 @@ def back(program, case, folder, image):
     streams = subprocess.run([program, "write", word], input=image, capture_output=True, check=True).stdout
     (folder / "own.mfi").write_bytes(mame_file(form, name, kind, streams))
     convert("mfi", name, folder / "own.mfi", folder / f"own.{ending}")
-    return (folder / f"own.{ending}").read_bytes() == (exchanged(form, image) if name in EXCHANGED else image)
+    return (folder / f"own.{ending}").read_bytes() == as_file(form, name, image)
 
 
 def image_of(word, name):
