@@ -32,7 +32,7 @@ KNOWN = [
     ("mfm-hd360-77x2x8x1024", "pc98", "hdm", b"525 DSHD", True), ("mfm-hd360-77x2x8x1024", "fmtowns", "bin", b"35  DSHD", True),
     ("mfm-hd360-77x2x8x1024", "xdf", "xdf", b"525 DSHD", True), ("mfm-hd360-80x2x15x512", "pc98", "img", b"525 DSHD", True),
     ("mfm-dd-82x2x10x512", "st", "st", b"35  DSDD", False), ("mfm-dd-80x2x11x512", "st", "st", b"35  DSDD", True),
-    ("mfm-dd-80x1x9x512", "st", "st", b"35  SSDD", False), ("mfm-dd-80x2x11x512", "msa", "msa", b"35  DSDD", False),
+    ("mfm-dd-80x1x9x512", "st", "st", b"35  SSDD", False), ("mfm-dd-80x2x11x512", "msa", "msa", b"35  DSDD", True),
     ("mfm-dd-80x2x16x256@0", "adfs_o", "adf", b"35  DSDD", True), ("mfm-dd-80x1x16x256@0", "adfs_o", "adf", b"35  SSDD", True),
     ("mfm-dd-80x2x5x1024@0", "adfs_n", "adf", b"35  DSDD", True), ("mfm-dd-80x2x10x512", "mgt", "mgt", b"35  DSDD", True),
     ("mfm-dd-80x2x16x256", "trd", "trd", b"525 DSQD", True), ("mfm-dd-40x1x18x256@0", "opd", "opd", b"35  SSDD", True),
@@ -45,6 +45,9 @@ KNOWN = [
 
 # how many places of MAME's own file a cylinder takes, where that is not one: the 1571's head moves by halves of one
 STEPS = {"c1571": 2}
+
+# whose files floptool writes well, but gives each sector of a track the bytes of one when it reads them
+WRITTEN_ALONE = {"msa"}
 
 # whose drive's head 0 is the disk's head 1, while the image begins with what it reads
 EXCHANGED = {"d81"}
@@ -128,6 +131,8 @@ def as_file(form, name, image):
 
 def there(program, case, folder, image):
     word, name, ending, _, _ = case
+    if name in WRITTEN_ALONE:
+        return None, "-"
     form, source = plain.FORMATS.get(word), folder / f"disk.{ending}"
     source.write_bytes(as_file(form, name, image))
     convert(name, "mfi", source, folder / "disk.mfi")
@@ -181,7 +186,8 @@ def main():
         with tempfile.TemporaryDirectory() as folder:
             same, total = there(program, case, Path(folder), image)
             returned = back(program, case, Path(folder), image)
-        print(f"{word:22} {name:9} there {'same' if same else 'OTHER'} ({total}) back {({None: '-', True: 'same', False: 'OTHER'})[returned]}", flush=True)
+        told = {None: "-", True: "same", False: "OTHER"}
+        print(f"{word:22} {name:9} there {told[same]} ({total}) back {told[returned]}", flush=True)
 
 
 if __name__ == "__main__":
