@@ -1,31 +1,10 @@
 -- The bits in the data cells of eight cells, shown by a look at each of the 256 bytes, and the bytes of a half of a long.
-use Rattle.std.proofs.Common.{◌≡◌, ℕ, zero, suc, ◌+◌, ◌*◌, ◌/◌, ◌^◌, ◌<◌, Bool, true, false, ◌==◌, ◌&&◌, inl, inr, List, ◌++◌, length, refl, sym, ap, ◌∙◌, subst, arith, bit_and, bit_or, mod-eq_of_lt}
-use Rattle.std.proofs.lemmas.Bool.{cases_lt, eqb-true}
+use Rattle.std.proofs.Common.{◌≡◌, ℕ, ◌+◌, ◌*◌, ◌/◌, ◌^◌, ◌<◌, Bool, true, ◌==◌, List, ◌++◌, length, refl, sym, ap, ◌∙◌, arith, bit_and, bit_or, mod-eq_of_lt}
+use Rattle.std.proofs.lemmas.Bool.{eqb-true}
+use Rattle.flux_base.specs.lemmas.EachBelow.{each_below, from_each}
 use Rattle.cell_bits.specs.Bytes.{data_byte, data_cells}
 use Rattle.cell_bits.specs.Word.{number_of, word_cells}
 use Rattle.cell_bits.specs.lemmas.WordLaws.{number_of-word_cells, word_cells-append, word_cells-number_of}
-
--- the check holds of each number below n
-each_below : (ℕ → Bool) → ℕ → Bool
-each_below check zero = true
-each_below check (suc n) = check n && each_below check n
-
-first_holds : (a b : Bool) → (a && b) ≡ true → a ≡ true
-first_holds true b e = refl
-first_holds false b e = e
-
-second_holds : (a b : Bool) → (a && b) ≡ true → b ≡ true
-second_holds true b e = e
-second_holds false b e = cc
-
-from_each : (check : ℕ → Bool) (n : ℕ) → each_below check n ≡ true → (k : ℕ) → k < n → check k ≡ true
-unfolding each_below
-from_each check zero all k within = absurd (omega arith)
-from_each check (suc n) all k within =
-    elim (cases_lt k n) [
-      | inl below ↦ from_each check n (second_holds (check n) (each_below check n) all) k below
-      | inr last ↦ let e : n ≡ k = omega arith in subst (λ (m : ℕ). check m ≡ true) e (first_holds (check n) (each_below check n) all)
-    ]
 
 -- the code's way to take the second bit of each pair
 abbrev pairs : ℕ → ℕ

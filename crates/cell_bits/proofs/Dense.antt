@@ -9,7 +9,7 @@ use Rattle.cell_bits.specs.Word.{digit}
 use Rattle.cell_bits.specs.inside.Window.{FoursHaveOnes, IsWindow}
 use Rattle.cell_bits.proofs.Candidates.{from_no_digit}
 use Rattle.cell_bits.proofs.Joining.{bit_at-shr}
-use Rattle.cell_bits.proofs.Tables.{each_below, from_each}
+use Rattle.flux_base.specs.lemmas.EachBelow.{each_below, from_each}
 
 lowest-table : each_below (λ four. bit_at 1229782938247303441 (4 * four) == 1) 16 ≡ true
 unfolding each_below

@@ -9,7 +9,7 @@ use Rattle.cell_bits.specs.Run.{run_cells, IsShortRun}
 use Rattle.cell_bits.specs.declared.cells.pushes.TheConstants.{FOUR_RUNS}
 use Rattle.cell_bits.proofs.Appending.{joint-cells}
 use Rattle.cell_bits.proofs.Runs.{length-run}
-use Rattle.cell_bits.proofs.Tables.{each_below, from_each}
+use Rattle.flux_base.specs.lemmas.EachBelow.{each_below, from_each}
 
 -- the counts that stand at a place of the table
 abbrev counts_at : ℕ → List ℕ

@@ -1,36 +1,15 @@
 -- Rules for bytes that are shown by a look at each of the 256 bytes.
-use Rattle.std.proofs.Common.{◌≡◌, ℕ, zero, suc, ◌+◌, ◌-◌, ◌*◌, ◌/◌, ◌%◌, ◌<◌, ◌≤◌, Bool, true, false, ◌==◌, ◌&&◌, ◌⊎◌, inl, inr, length, refl, sym, ap, ◌∙◌, subst, arith, bit_and, bit_or, ◌^◌, ◌++◌, List, replicate, get_or}
+use Rattle.std.proofs.Common.{◌≡◌, ℕ, ◌+◌, ◌-◌, ◌*◌, ◌/◌, ◌%◌, ◌<◌, Bool, true, false, ◌==◌, length, refl, sym, ap, ◌∙◌, subst, arith, bit_and, bit_or, ◌^◌, ◌++◌, List, replicate, get_or}
 use mir.Val.{bool_byte}
+use Rattle.flux_base.specs.lemmas.EachBelow.{each_below, from_each}
 use Rattle.std.proofs.lemmas.Nat.{shr_split, or_shifted}
-use Rattle.std.proofs.lemmas.Bool.{cases_lt, eqb-true}
+use Rattle.std.proofs.lemmas.Bool.{eqb-true}
 use Rattle.cell_bits.specs.Word.{word_cells, number_of}
 use Rattle.cell_bits.specs.lemmas.WordLaws.{word_cells-number_of, number_of-word_cells, number_of-lt, word_cells-append}
 use Rattle.cell_bits.specs.Bytes.{fm, mfm, fm_cells, mfm_cells, data_cells}
 use Rattle.cell_bits.specs.Marks.{woven}
 use Rattle.cell_bits.specs.inside.Spread.{spread_of}
 use Rattle.cell_bits.specs.declared.cells.reads.TheConstants.{NIBBLES}
-
--- the check holds of each number below n
-unfoldable pub each_below : (ℕ → Bool) → ℕ → Bool
-each_below check zero = true
-each_below check (suc n) = check n && each_below check n
-
-first_holds : (a b : Bool) → (a && b) ≡ true → a ≡ true
-first_holds true b e = refl
-first_holds false b e = e
-
-second_holds : (a b : Bool) → (a && b) ≡ true → b ≡ true
-second_holds true b e = e
-second_holds false b e = cc
-
-pub from_each : (check : ℕ → Bool) (n : ℕ) → each_below check n ≡ true → (k : ℕ) → k < n → check k ≡ true
-unfolding each_below
-from_each check zero all k within = absurd (omega arith)
-from_each check (suc n) all k within = by_place (from_each check n (second_holds (check n) (each_below check n) all) k) (cases_lt k n)
-  where
-    by_place : (k < n → check k ≡ true) → (k < n) ⊎ (n ≤ k) → check k ≡ true
-    by_place rest (inl below) = rest below
-    by_place rest (inr last) = let e : n ≡ k = omega arith in subst (λ m. check m ≡ true) e (first_holds (check n) (each_below check n) all)
 
 -- the code's way to put a zero before each bit of a byte
 abbrev nibbles : ℕ → ℕ

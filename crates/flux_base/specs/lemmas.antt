@@ -2,3 +2,8 @@
 pub mod Counting
 pub mod Blaming
 pub mod Parts
+pub mod Finding
+pub mod Items
+pub mod Giving
+pub mod EachBelow
+pub mod Sizes

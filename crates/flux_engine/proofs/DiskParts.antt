@@ -21,7 +21,7 @@ use Rattle.flux_engine.specs.Recordings.{cells_of, sectors_of, track_at}
 use Rattle.flux_engine.specs.Streams.{has_fault, stream_at}
 use Rattle.flux_engine.specs.Tracks.{TrackPart, IsPart, image_of, lines_by, readings_of}
 use Rattle.flux_engine.specs.lemmas.PartLaws.{image_split, no_part}
-use Rattle.flux_engine.specs.lemmas.Finding.{find-below}
+use Rattle.flux_base.specs.lemmas.Finding.{find-below}
 use Rattle.sector_report.specs.declared.naming.Naming.TheVariants.{Unnamed}
 use Rattle.turn_merge.specs.Readings.{NotedReading}
 use Rattle.turn_merge.specs.declared.clock.Clock.TheVariants.{Following}

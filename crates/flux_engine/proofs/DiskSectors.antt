@@ -1,7 +1,6 @@
 -- The sectors of a decoded disk.
-use Rattle.std.specs.Prelude.{◌≡◌, ◌≤◌, ◌<◌, ℕ, suc, ◌+◌, ◌-◌, ◌*◌, false, List, [], ◌∷◌, length, take, drop, replicate, unwrap_or, Option, Some, None, is_none, if◌then◌else◌, refl}
+use Rattle.std.specs.Prelude.{◌≡◌, ◌<◌, ℕ, suc, ◌+◌, ◌-◌, ◌*◌, false, List, length, take, drop, replicate, unwrap_or, Option, if◌then◌else◌, refl}
 use Rattle.std.proofs.Common.{ap, sym, subst, ◌∙◌, arith}
-use Rattle.std.proofs.Math.Nat.{mul-le-mul_left}
 use Rattle.flux_base.specs.declared.track.TrackId.{TrackId}
 use Rattle.kryo_stream.specs.Stream.{times, indexes}
 use Rattle.sector_images.specs.Formats.{row, slot}
@@ -9,7 +8,7 @@ use Rattle.sector_images.specs.Places.{SectorsFillTracks, TracksJoin, place_of, 
 use Rattle.sector_images.specs.declared.format.Format.{Format}
 use Rattle.sector_report.specs.LineLaws.{SectorsHaveOneLine}
 use Rattle.sector_report.specs.Lines.{sector_text}
-use Rattle.turn_merge.specs.Readings.{NotedReading, agreed, agreed_of, bad_ones, first_other, good_ones, verdict, verdict_of, verdict_with, bytes_of as data_of}
+use Rattle.turn_merge.specs.Readings.{NotedReading, agreed, verdict}
 use Rattle.turn_merge.specs.declared.verdict.Place.{Place}
 use Rattle.turn_merge.specs.declared.verdict.Verdict.{Verdict}
 use Rattle.turn_merge.specs.declared.verdict.Verdict.TheVariants.{Good}
@@ -26,32 +25,10 @@ use Rattle.turn_merge.specs.declared.clock.Clock.TheVariants.{Following}
 use Rattle.sector_report.specs.declared.naming.Naming.TheVariants.{Unnamed}
 use Rattle.flux_engine.specs.lemmas.GoodSectors.{in_image, strict_good}
 use Rattle.flux_engine.specs.lemmas.LineNumbers.{sector-line}
+use Rattle.flux_engine.specs.lemmas.NoneAgreed.{none_agreed}
+use Rattle.flux_base.specs.lemmas.Sizes.{one_more}
 use Rattle.flux_engine.specs.lemmas.PartLaws.{image_split}
 use Rattle.flux_engine.proofs.Outcomes.{good_is_right, one_found, one_part}
-
--- a verdict that is not good leaves no data
-other_none : (good bad : ℕ) (first : Place) (mine : List ℕ) (other : Option NotedReading) → is_good (verdict_with good bad first other) ≡ false
-    → (if is_none other then Some mine else None) ≡ None
-other_none good bad first mine None is = absurd (cc)
-other_none good bad first mine (Some r) is = refl
-
-none_of : (goods bads : List NotedReading) → is_good (verdict_of goods bads) ≡ false → agreed_of goods ≡ None
-none_of [] bads is = refl
-none_of (r ∷ more) bads is = other_none (length (r ∷ more)) (length bads) r.place (data_of r) (first_other (data_of r) more) is
-
-none_agreed : (readings : List NotedReading) (sector : ℕ) (outcome : Verdict) → verdict readings sector ≡ outcome → is_good outcome ≡ false
-    → agreed readings sector ≡ None
-unfolding verdict agreed
-none_agreed readings sector outcome is other =
-    none_of (good_ones readings sector) (bad_ones readings sector) (ap is_good is ∙ other)
-
--- so many sectors, and one more, are no more than all
-one_more : (size slots sectors : ℕ) → slots < sectors → size * slots + size ≤ sectors * size
-one_more size slots sectors below =
-    let all : size * (slots + 1) ≤ size * sectors = mul-le-mul_left size (omega (arith, below)) in
-    let last : size * (slots + 1) ≡ size * slots + size = omega arith in
-    let turned : size * sectors ≡ sectors * size = omega arith in
-    omega (arith, all, last, turned)
 
 module _ (read : TracksAreRead) (format : Format) (x : List ℕ) (o : Decoded) (n sector : ℕ) (s : IsDecodedSector format x o n sector) where
   abbrev track : TrackId

@@ -2,7 +2,6 @@
 pub mod NoteLaws
 pub mod PartLaws
 pub mod Pieces
-pub mod Finding
 pub mod ReadLaws
 pub mod Coming
 pub mod OneCapture
@@ -17,4 +16,5 @@ pub mod VerdictBounds
 pub mod ReportLines
 pub mod JoinedReadings
 pub mod OneParts
+pub mod NoneAgreed
 pub mod Blamed

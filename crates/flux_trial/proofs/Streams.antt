@@ -26,7 +26,7 @@ use Rattle.flux_trial.proofs.Passing.{on_ring, reach-later}
 use Rattle.flux_trial.proofs.Sound.{Follows, IsUsual, LATEST, first-few, first-small, passed-sound, passed_all-sound, reach-all, reach-near, seen-after, seen-first, seen-in-order, started-sound, time-late}
 use Rattle.flux_trial.proofs.Turns.{index-at}
 use Rattle.flux_writer.specs.lemmas.FoundOnes.{ones_between, ones_from, Rises, ones_of-is, ones_rise, ones_within, one_among, ones_few}
-use Rattle.flux_writer.specs.lemmas.TrackParts.{cells_after, turn_cell, length-cells_after, all_parts}
+use Rattle.flux_writer.specs.lemmas.TrackParts.{cells_after, turn_cell, length-cells_after, length-track_cells}
 
 follows-from : (k : ℕ) (xs : List ℕ) → All (λ x. k < x) xs → Rises xs → All (λ x. x < MOST_CELLS) xs → Follows k xs
 follows-from k [] above rises few = tt
@@ -286,15 +286,7 @@ module _ (d : Drive) (ring : List Bool) (usual : IsUsual d) (is : IsTrialRing ri
   whole-is = (ones-rest ring 0 (omega arith)).1 ∙ ap (λ (l : List ℕ). l ++ rest1) first-one.2
 
   track-size : length (track_cells ring) ≤ 917504
-  track-size =
-      omega (
-        arith,
-        ap length (all_parts ring),
-        length-append (cells_after ring 3) (take (quarter ring) ring),
-        length-cells_after ring 3,
-        length-take-le (quarter ring) ring (omega arith),
-        is.most,
-      )
+  track-size = omega (arith, length-track_cells ring, is.most)
 
   follows : Follows k0 (rest0 ++ rest1)
   follows =

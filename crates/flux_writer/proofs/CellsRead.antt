@@ -1,7 +1,7 @@
 -- The streams of cells and of rings are read back.
-use Rattle.std.proofs.Common.{◌≡◌, ◌≤◌, ◌<◌, ◌+◌, ◌-◌, ◌*◌, ℕ, zero, suc, Bool, true, false, cond, List, [], ◌∷◌, All, length, map, take, get_or, ap, sym, ◌∙◌, refl, subst, arith, length-append}
+use Rattle.std.proofs.Common.{◌≡◌, ◌≤◌, ◌<◌, ◌+◌, ◌-◌, ◌*◌, ℕ, zero, suc, Bool, true, false, cond, List, [], ◌∷◌, All, length, map, take, get_or, ap, sym, ◌∙◌, refl, subst, arith}
 use Rattle.std.specs.List.Sorted.{IsNonDecreasing, IsStrictlyIncreasing}
-use Rattle.std.proofs.lemmas.List.{length-map, get_or-take, get_or-append_right, length-take-le}
+use Rattle.std.proofs.lemmas.List.{length-map, get_or-take, get_or-append_right}
 use Rattle.std.proofs.lemmas.List.Elements.{All-nil, All-cons, All-weaker, All-head}
 use Rattle.std.proofs.Math.Nat.{mul-le-mul}
 use Rattle.track_rings.specs.Rings.{last_in}
@@ -11,7 +11,7 @@ use Rattle.flux_writer.proofs.CellTimes.{cell_time-le, cell_time-lt}
 use Rattle.flux_writer.proofs.Sizes.{stream_takes_close}
 use Rattle.flux_writer.proofs.Rings.{rising_times, turns_rise}
 use Rattle.flux_writer.specs.lemmas.FoundOnes.{ones_from, ones_of-is, ones_within, ones_rise, one_among, ones_few, Rises}
-use Rattle.flux_writer.specs.lemmas.TrackParts.{cells_after, length-cells_after, all_parts}
+use Rattle.flux_writer.specs.lemmas.TrackParts.{cells_after, length-cells_after, length-track_cells, all_parts}
 
 map-All : (f : ℕ → ℕ) (P Q : ℕ → Type 0) → ((x : ℕ) → P x → Q (f x)) → (xs : List ℕ) → All P xs → All Q (map f xs)
 map-All f P Q step [] all = All-nil Q
@@ -86,16 +86,6 @@ last_within nominal cells =
     last_in_all : (xs : List ℕ) (bound : ℕ) → All (λ x. x ≤ bound) xs → last_in xs ≤ bound
     last_in_all [] bound all = omega arith
     last_in_all (x ∷ xs) bound all = all (length (x ∷ xs) - 1) 0 (omega arith)
-
-length-track_cells : (ring : List Bool) → length (track_cells ring) ≡ quarter ring + 3 * length ring + quarter ring
-length-track_cells ring =
-    omega (
-      arith,
-      ap length (all_parts ring),
-      length-append (cells_after ring 3) (take (quarter ring) ring),
-      length-cells_after ring 3,
-      length-take-le (quarter ring) ring (omega arith),
-    )
 
 -- two bytes a cell, and one for each 2048 ticks: a cell has at most 128, so that the longest ring takes less than a stream may have
 track_is_short : (ring : List Bool) (nominal : ℕ) → 1024 ≤ nominal → nominal ≤ 131072 → 0 < length ring → length ring ≤ MOST_RING_CELLS

@@ -1,8 +1,8 @@
 -- The blocks of a list of bytes, and how they stay as more bytes come.
-use Rattle.std.proofs.Common.{◌≡◌, ◌≢◌, ℕ, zero, suc, ◌+◌, ◌<◌, ◌≤◌, ◌++◌, Bool, true, false, List, length, drop, refl, sym, ap, ◌∙◌, arith, length-drop, Some, Ok, Err, subst, cond}
+use Rattle.std.proofs.Common.{◌≡◌, ◌≢◌, ℕ, zero, suc, ◌+◌, ◌<◌, ◌≤◌, ◌++◌, true, false, List, length, drop, refl, sym, ap, ◌∙◌, arith, length-drop, Ok, Err, subst}
 use Rattle.std.proofs.lemmas.List.{drop-append-le}
-use Rattle.std.specs.Prelude.{find, unwrap_or}
-use Rattle.std.specs.List.{range_with_len}
+use Rattle.std.specs.Prelude.{unwrap_or}
+use Rattle.flux_base.specs.lemmas.Finding.{find-first}
 use Rattle.kryo_stream.specs.declared.block.SpelledBlock.{SpelledBlock}
 use Rattle.kryo_stream.specs.declared.fault.StreamFault.TheVariants.{Truncated}
 use Rattle.kryo_stream.specs.Pieces.{BlockOrFault}
@@ -56,21 +56,9 @@ goes_on-grow x z n going k low =
     ap is_last (next-grows x z k (λ j lower. going j (omega (arith, lower, low))) (not_last (piece_behind x (pieces x k)) (going k low)))
     ∙ going k low
 
-find-range : (f : ℕ → Bool) (a n m : ℕ) → n < m → ((k : ℕ) → a ≤ k → k < a + n → f k ≡ false) → f (a + n) ≡ true
-    → find f (range_with_len a m) ≡ Some (a + n)
-find-range f a n zero low misses hit = absurd (omega arith)
-find-range f a zero (suc m) low misses hit =
-    let here : a + 0 ≡ a = omega arith in
-    ap (λ b. cond b (Some a) (find f (range_with_len (a + 1) m))) (sym (ap f here) ∙ hit) ∙ ap Some (sym here)
-find-range f a (suc n) (suc m) low misses hit =
-    let next : (a + 1) + n ≡ a + suc n = omega arith in
-    ap (λ b. cond b (Some a) (find f (range_with_len (a + 1) m))) (misses a (omega arith) (omega arith))
-    ∙ find-range f (a + 1) n m (omega arith) (λ k above below. misses k (omega (arith, above)) (omega (arith, below))) (ap f next ∙ hit)
-    ∙ ap Some next
-
 -- the last block is the first one that stops the reading
 pub last_block-is : (x : List ℕ) (n : ℕ) → n ≤ length x → ((k : ℕ) → k < n → stops_at x k ≡ false) → stops_at x n ≡ true → last_block x ≡ n
 last_block-is x n inside going stops =
     let here : 0 + n ≡ n = omega arith in
-    ap (λ o. unwrap_or o (length x)) (find-range (stops_at x) 0 n (length x + 1) (omega arith)
+    ap (λ o. unwrap_or o (length x)) (find-first (stops_at x) 0 n (length x + 1) (omega arith)
     (λ k _ below. going k (omega (arith, below))) (ap (stops_at x) here ∙ stops)) ∙ here

@@ -5,22 +5,10 @@ use Rattle.std.proofs.KnownBytes.{Consumes-trans, Consumes-nil}
 use Rattle.std.specs.List.{concat}
 use Rattle.std.specs.Io.KnownBytes.{Keeps, Consumes}
 use Rattle.flux_base.specs.Outside.{Gives}
+use Rattle.flux_base.specs.lemmas.Giving.{Gives-nil, Gives-trans}
 use Rattle.kryo_stream.specs.Held.{Took}
 use Rattle.kryo_stream.specs.Outcome.{DoNotTell, IsReadWhereNeeded}
 use Rattle.kryo_stream.specs.Reads.{SourceMoment, AreNeeded, Takes, IsNothing}
-
-Gives-nil : (given : Option (List (List ℕ))) → Gives given given []
-Gives-nil None = tt
-Gives-nil (Some pieces) = sym (append-nil pieces)
-
-Gives-trans : (old mid new : Option (List (List ℕ))) (ps qs : List (List ℕ)) → Gives old mid ps → Gives mid new qs → Gives old new (ps ++ qs)
-Gives-trans None None None ps qs first second = tt
-Gives-trans None None (Some zs) ps qs first second = absurd second
-Gives-trans None (Some ys) new ps qs first second = absurd first
-Gives-trans (Some xs) None None ps qs first second = tt
-Gives-trans (Some xs) None (Some zs) ps qs first second = absurd second
-Gives-trans (Some xs) (Some ys) None ps qs first second = tt
-Gives-trans (Some xs) (Some ys) (Some zs) ps qs first second = second ∙ ap (λ x. x ++ qs) first ∙ append_assoc xs ps qs
 
 AreNeeded-append : (IsOpen : List ℕ → Type 0) (taken : List ℕ) (ps qs : List (List ℕ)) → AreNeeded IsOpen taken ps
     → AreNeeded IsOpen (taken ++ concat ps) qs → AreNeeded IsOpen taken (ps ++ qs)

@@ -20,7 +20,8 @@ use Rattle.flux_engine.specs.lemmas.GoodSectors.{is_good_of, of_found}
 use Rattle.flux_engine.specs.lemmas.JoinedReadings.{each_capture, each_clock}
 use Rattle.frame_law.specs.declared.reading.Reading.TheVariants.{Good as GoodFrame}
 use Rattle.law_captured_disks.specs.Headline.{IsBadOrMissing, IsSectorOf}
-use Rattle.law_captured_disks.specs.lemmas.NoneGood.{no_goods, none_agreed}
+use Rattle.flux_engine.specs.lemmas.NoneAgreed.{none_agreed}
+use Rattle.law_captured_disks.specs.lemmas.NoneGood.{no_goods}
 use Rattle.law_captured_plans.specs.Headline.{IsOwnOrContradictory}
 use Rattle.sector_images.specs.Formats.{row}
 use Rattle.sector_images.specs.Places.{tracks}

@@ -48,7 +48,7 @@ use Rattle.law_captured_plans.specs.Said.{IsSaid, SaysBy, SectorsAreSaid}
 use Rattle.law_captured_plans.proofs.Places.{images_size}
 use Rattle.law_captured_plans.proofs.Sectors.{part_size, Laws as SectorLaws}
 use Rattle.law_captured_plans.proofs.Streams.{no_stop, stream_is}
-use Rattle.law_captured_disks.specs.lemmas.NoneGood.{none_agreed}
+use Rattle.flux_engine.specs.lemmas.NoneAgreed.{none_agreed}
 use Rattle.law_captured_disks.specs.lemmas.WrittenTracks.{AreWritten, are_written}
 use Rattle.law_captured_plans.proofs.Verdicts.{Holds, IsNone, IsWith, all_hold, some_good, with_all, with_or_lost}
 

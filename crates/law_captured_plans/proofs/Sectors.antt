@@ -22,7 +22,7 @@ use Rattle.flux_engine.specs.declared.plan.Plan.{Plan}
 use Rattle.flux_engine.specs.lemmas.LineNumbers.{sector-line}
 use Rattle.law_captured_plans.specs.Said.{IsSaid, SaysBy, SectorsAreSaid}
 use Rattle.law_captured_plans.proofs.Places.{one_more, piece_at, pieces_size, stands_in_part}
-use Rattle.law_captured_disks.specs.lemmas.NoneGood.{none_agreed}
+use Rattle.flux_engine.specs.lemmas.NoneAgreed.{none_agreed}
 
 -- what the crates below promise
 pub record Laws : Type 0 where

@@ -10,7 +10,7 @@ use Rattle.std.proofs.lemmas.Slice.Eq.{bytes_eq-Decides}
 use Rattle.sector_copies.specs.Copies.{AreFewer, Copy, MOST_COPIES, copies_over, copy_of, first_holders, holds, is_kept, with_reading}
 use Rattle.turn_merge.specs.Readings.{NotedReading, bytes_of}
 use Rattle.turn_merge.specs.declared.verdict.Place.{Place}
-use Rattle.sector_copies.proofs.Items.{any_next, read_next, same_bool, set_next}
+use Rattle.flux_base.specs.lemmas.Items.{any_next, read_next, same_bool, set_next}
 
 -- bytes are the same as themselves, and as no others
 itself : (bytes : List ℕ) → bytes_eq bytes bytes ≡ true

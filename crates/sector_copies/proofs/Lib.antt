@@ -1,4 +1,3 @@
-mod Items
 mod Contents
 mod Noting
 mod Searches

@@ -1,7 +1,7 @@
 -- Tracks by their numbers, and sectors inside the image.
-use Rattle.std.specs.Prelude.{◌≡◌, ◌<◌, ◌≤◌, ℕ, ◌+◌, ◌*◌}
+use Rattle.std.specs.Prelude.{◌≤◌, ◌+◌}
 use Rattle.std.proofs.Common.{arith}
-use Rattle.std.proofs.Math.Nat.{mul-le-mul_left}
+use Rattle.flux_base.specs.lemmas.Sizes.{one_more}
 use Rattle.sector_images.specs.Formats.{row, slot, zone}
 use Rattle.sector_images.specs.Places.{NumbersNameTracks, SectorsLieInImages, bytes_of, place_of, sector_place}
 use Rattle.sector_images.proofs.Computed.{counted, id_at, numbered_track, track_within}
@@ -9,14 +9,6 @@ use Rattle.sector_images.proofs.Slots.{sectors_fill_tracks}
 
 pub numbers_name_tracks : NumbersNameTracks
 numbers_name_tracks format number below = (counted format number, id_at format number below, numbered_track format number below)
-
--- so many sectors, and one more, are no more than all
-one_more : (size slots sectors : ℕ) → slots < sectors → size * slots + size ≤ sectors * size
-one_more size slots sectors below =
-    let all : size * (slots + 1) ≤ size * sectors = mul-le-mul_left size (omega (arith, below)) in
-    let last : size * (slots + 1) ≡ size * slots + size = omega arith in
-    let turned : size * sectors ≡ sectors * size = omega arith in
-    omega (arith, all, last, turned)
 
 pub sectors_lie_in_images : SectorsLieInImages
 unfolding sector_place

@@ -1,26 +1,14 @@
 -- Where the sectors of a track stand in the image.
-use Rattle.std.specs.Prelude.{◌≡◌, ◌&&◌, option_map, List, get_or, map, nat_lt, ◌≤◌, ◌<◌, ℕ, zero, suc, ◌+◌, ◌-◌, Bool, true, false, cond, find, nat_eq, Option, Some, None, unwrap_or, refl}
+use Rattle.std.specs.Prelude.{◌≡◌, ◌&&◌, option_map, List, get_or, map, nat_lt, ◌≤◌, ◌<◌, ℕ, ◌+◌, ◌-◌, Bool, true, false, find, nat_eq, Option, Some, None, unwrap_or, refl}
 use Rattle.std.specs.List.{list_all, range_with_len}
 use Rattle.std.proofs.Common.{ap, sym, subst, ◌∙◌, arith}
 use Rattle.std.proofs.lemmas.Bool.{eq-eqb, eqb-true, ltb-true, ne_eqb}
 use Rattle.flux_base.specs.declared.track.TrackId.{TrackId}
+use Rattle.flux_base.specs.lemmas.Finding.{find-first}
 use Rattle.sector_images.specs.declared.format.Format.{Format}
 use Rattle.sector_images.specs.Formats.{row, slot, slot_by, zone}
 use Rattle.sector_images.proofs.EachFormat.{each_below, each_format, rows}
 use Rattle.sector_images.specs.Places.{IsSector, NumbersHoldSectors, SectorsFillTracks, sector_in}
-
--- the first number of a range that passes a test
-find-first : (f : ℕ → Bool) (a n m : ℕ) → n < m → ((k : ℕ) → a ≤ k → k < a + n → f k ≡ false) → f (a + n) ≡ true
-    → find f (range_with_len a m) ≡ Some (a + n)
-find-first f a n zero low misses hit = absurd (omega arith)
-find-first f a zero (suc m) low misses hit =
-    let here : a + 0 ≡ a = omega arith in
-    ap (λ b. cond b (Some a) (find f (range_with_len (a + 1) m))) (sym (ap f here) ∙ hit) ∙ ap Some (sym here)
-find-first f a (suc n) (suc m) low misses hit =
-    let next : (a + 1) + n ≡ a + suc n = omega arith in
-    ap (λ b. cond b (Some a) (find f (range_with_len (a + 1) m))) (misses a (omega arith) (omega arith))
-    ∙ find-first f (a + 1) n m (omega arith) (λ k above below. misses k (omega (arith, above)) (omega (arith, below))) (ap f next ∙ hit)
-    ∙ ap Some next
 
 -- where sectors stand by their number
 by_number : (first count sector : ℕ) → first ≤ sector → sector < first + count

@@ -1,5 +1,5 @@
 -- What is told of headers of other names, as one more of them is noted.
-use Rattle.std.proofs.Common.{◌≡◌, ℕ, zero, suc, ◌+◌, ◌<◌, ◌≤◌, Bool, true, false, not, cond, ◌&&◌, ◌||◌, List, [], ◌∷◌, ◌++◌, length, take, drop, map, filter, get_or, set, nat_eq, refl, sym, subst, ap, ◌∙◌, arith, append-nil, length-append, length-drop, add-one}
+use Rattle.std.proofs.Common.{◌≡◌, ℕ, ◌+◌, ◌<◌, ◌≤◌, Bool, true, false, not, cond, ◌&&◌, ◌||◌, List, [], ◌∷◌, ◌++◌, length, take, drop, map, filter, get_or, set, nat_eq, refl, sym, subst, ap, ◌∙◌, arith, append-nil, length-append, length-drop, add-one}
 use Rattle.std.specs.List.{AllByRecursion, list_any}
 use Rattle.std.proofs.lemmas.Bool.{eqb-true, eq-eqb}
 use Rattle.std.proofs.lemmas.List.{length-map, length-take, map-append, take-append-drop, take-append-le, take_all}
@@ -7,6 +7,7 @@ use Rattle.std.proofs.lemmas.List.Elements.{All-from_recursion, filter-append, r
 use Rattle.std.proofs.lemmas.List.Folds.{list_any-append}
 use Rattle.std.proofs.lemmas.Map.Views.{any-filter_same}
 use Rattle.flux_base.specs.declared.header_name.HeaderName.{HeaderName}
+use Rattle.flux_base.specs.lemmas.Items.{any_next, read_next, same_bool, set_next}
 use Rattle.flux_base.specs.declared.header_name.HeaderName.TheVariants.{Address, TrackSector, TrackSectorSide}
 use Rattle.turn_merge.specs.Others.{AreBelow, MOST_TOLD, NotedOther, OthersKnown, OthersStandFor, first_ones, has_name, is_told, of_name, others_over, same_name, told_of, whole_ones, with_header}
 use Rattle.turn_merge.specs.declared.others.OtherTold.{OtherTold}
@@ -20,12 +21,6 @@ both false b p q = p
 sides : (a b : Bool) → (a && b) ≡ true → (a ≡ true) × (b ≡ true)
 sides true b is = (refl, is)
 sides false b is = absurd (cc)
-
-same_bool : (a b : Bool) → (a ≡ true → b ≡ true) → (b ≡ true → a ≡ true) → a ≡ b
-same_bool true true f g = refl
-same_bool true false f g = sym (f refl)
-same_bool false true f g = g refl
-same_bool false false f g = refl
 
 equal : (n : ℕ) → nat_eq n n ≡ true
 equal n = eq-eqb n n refl
@@ -240,32 +235,6 @@ told_new others o is few =
     ∙ ap (λ (xs : List NotedOther). map (told_of more) xs ++ told_of more o ∷ []) (sym all)
     ∙ ap (λ (ts : List OtherTold). ts ++ told_of more o ∷ []) (all_more others o (take MOST_TOLD firsts))
     ∙ ap (λ (t : OtherTold). map (with_header o.name o.whole) (map (told_of others) (take MOST_TOLD firsts)) ++ t ∷ []) here
-
--- One step of a loop that changes each element.
-pub set_next : {X : Type 0} (f : X → X) (xs : List X) (i : ℕ) (d v : X) → i < length xs → v ≡ f (get_or xs i d)
-    → set (map f (take i xs) ++ drop i xs) i v ≡ map f (take (suc i) xs) ++ drop (suc i) xs
-set_next f [] i d v below is = absurd (omega (arith, below))
-set_next f (x ∷ xs) zero d v below is = ap (λ y. y ∷ xs) is
-set_next f (x ∷ xs) (suc i) d v below is = ap (λ ys. f x ∷ ys) (set_next f xs i d v (omega (arith, below)) is)
-
-pub read_next : {X : Type 0} (f : X → X) (xs : List X) (i : ℕ) (d : X) → i < length xs → get_or (map f (take i xs) ++ drop i xs) i d ≡ get_or xs i d
-read_next f [] i d below = absurd (omega (arith, below))
-read_next f (x ∷ xs) zero d below = refl
-read_next f (x ∷ xs) (suc i) d below = read_next f xs i d (omega (arith, below))
-
-pub any_next : {X : Type 0} (p : X → Bool) (xs : List X) (i : ℕ) (d : X) → i < length xs
-    → list_any p (take (suc i) xs) ≡ (list_any p (take i xs) || p (get_or xs i d))
-any_next p [] i d below = absurd (omega (arith, below))
-any_next p (x ∷ xs) zero d below = turn (p x)
-  where
-    turn : (b : Bool) → (b || false) ≡ (false || b)
-    turn true = refl
-    turn false = refl
-any_next p (x ∷ xs) (suc i) d below = ap (λ (b : Bool). p x || b) (any_next p xs i d (omega (arith, below))) ∙ nest (p x) (list_any p (take i xs)) (p (get_or xs i d))
-  where
-    nest : (a b c : Bool) → (a || (b || c)) ≡ ((a || b) || c)
-    nest true b c = refl
-    nest false b c = refl
 
 -- what is told of a name that this one is, and of another
 with_yes : (name : HeaderName) (whole : Bool) (t : OtherTold) → true ≡ same_name t.name name

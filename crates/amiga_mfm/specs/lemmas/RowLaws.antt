@@ -2,10 +2,11 @@
 use Rattle.std.specs.Prelude.{◌≡◌, ℕ, ◌+◌, ◌*◌, ◌/◌, Bool, List, [], ◌∷◌, length, map, refl}
 use Rattle.std.specs.Int.{to_be_bytes, w32}
 use Rattle.std.specs.List.{flat_map}
-use Rattle.std.proofs.Common.{ap, sym, subst, ◌∙◌, arith, length-append, lit≤}
+use Rattle.std.proofs.Common.{ap, sym, ◌∙◌, arith, length-append, lit≤}
 use Rattle.std.proofs.lemmas.List.{length-map, length-replicate}
 use Rattle.std.proofs.lemmas.Simd.{length-zip2}
 use Rattle.flux_base.specs.declared.track.TrackId.{TrackId}
+use Rattle.frame_law.specs.lemmas.Named.{named-by_numbers}
 use Rattle.frame_law.specs.lemmas.OwnFrames.{AreSizes-fit}
 use Rattle.frame_law.specs.Frames.{AreSizes}
 use Rattle.mfm_coding.specs.declared.symbol.Symbol.TheVariants.{Data}
@@ -66,14 +67,7 @@ one_name cells (Address cylinder head sector size) m first second = absurd first
 one_name cells (TrackSectorSide number sector side format) m first second = absurd first
 
 pub named_sector : (track : TrackId) → NamesSectors Names (λ name s. name ≡ TrackSector (track_number track) s) (NamesSector track)
-named_sector track = record {
-  has_name = λ cells s named. (TrackSector (track_number track) s, named, refl);
-  is_named = λ cells name s named same. subst (Names cells) same named;
-  one_sector = λ name s t first second. one_sector (track_number track) s t (sym first ∙ second);
-}
-  where
-    one_sector : (number s t : ℕ) → TrackSector number s ≡ TrackSector number t → s ≡ t
-    one_sector number s t same = cc
+named_sector track = named-by_numbers Names (track_number track)
 
 length-bytes : (longs : List ℕ) → length (flat_map (to_be_bytes w32) longs) ≡ 4 * length longs
 length-bytes [] = refl

@@ -1,8 +1,9 @@
 -- What cells name and hold is one thing, and is told by their own cells and by all of these but the last seven; and the numbers of
 -- the recording.
 use Rattle.std.specs.Prelude.{◌≡◌, ℕ, suc, ◌+◌, ◌-◌, ◌*◌, ◌%◌, ◌<◌, ◌≤◌, Bool, List, bit_and, bit_or, refl}
-use Rattle.std.proofs.Common.{ap, sym, subst, ◌∙◌, arith, lit<, lit≤}
+use Rattle.std.proofs.Common.{ap, sym, ◌∙◌, arith, lit<, lit≤}
 use Rattle.flux_base.specs.declared.track.TrackId.{TrackId}
+use Rattle.frame_law.specs.lemmas.Named.{named-by_numbers}
 use Rattle.frame_law.specs.Frames.{AreSizes, IsWithinReach}
 use Rattle.track_rings.specs.Rows.{frame_size, ring_size, total}
 use Rattle.apple_gcr.specs.DiskBytes.{byte_read, bytes_end}
@@ -53,14 +54,7 @@ one_name passed cells (TrackSector track s) (TrackSector other t) first second =
     one_pair track other s t (one_byte _ _ track other first.has_track second.has_track) (one_byte _ _ s t first.has_sector second.has_sector)
 
 pub named_sector : (passed : ℕ) (track : TrackId) → NamesSectors (Names passed) (λ name s. name ≡ TrackSector track.cylinder s) (NamesSector passed track)
-named_sector passed track = record {
-  has_name = λ cells s named. (TrackSector track.cylinder s, named, refl);
-  is_named = λ cells name s named same. subst (Names passed cells) same named;
-  one_sector = λ name s t first second. one_sector track.cylinder s t (sym first ∙ second);
-}
-  where
-    one_sector : (number s t : ℕ) → TrackSector number s ≡ TrackSector number t → s ≡ t
-    one_sector number s t same = cc
+named_sector passed track = named-by_numbers (Names passed) track.cylinder
 
 pub one_content : (passed : ℕ) (cells : List Bool) (sync : ℕ) (xs ys : List ℕ) → Hold passed cells sync xs → Hold passed cells sync ys → xs ≡ ys
 one_content passed cells sync xs ys first second =

@@ -1,10 +1,11 @@
 -- The recording's numbers; what cells name and hold is one thing, and is told by their own cells, and by all of these but the last
 -- seven.
-use Rattle.std.specs.Prelude.{◌≡◌, ℕ, ◌+◌, ◌-◌, Bool, List, refl}
-use Rattle.std.proofs.Common.{sym, subst, ◌∙◌, arith, lit<, lit≤}
+use Rattle.std.specs.Prelude.{◌≡◌, ℕ, ◌+◌, ◌-◌, Bool, List}
+use Rattle.std.proofs.Common.{sym, ◌∙◌, arith, lit<, lit≤}
 use Rattle.flux_base.specs.declared.track.TrackId.{TrackId}
 use Rattle.check_values.specs.Sums.{xor}
 use Rattle.track_rings.specs.lemmas.Fronts.{AgreeTo, agree-stands}
+use Rattle.frame_law.specs.lemmas.Named.{named-by_numbers}
 use Rattle.frame_law.specs.Frames.{AreSizes, IsWithinReach}
 use Rattle.frame_law.specs.lemmas.OwnFrames.{AreSizes-fit, TellsEarly}
 use Rattle.frame_law.specs.Others.{NamesSectors}
@@ -34,14 +35,7 @@ one_name cells (TrackSector track s) (TrackSector other t) first second =
     (one_byte_at cells 30 s t (first.bytes 2 (lit< tt)) (second.bytes 2 (lit< tt)))
 
 pub named_sector : (track : TrackId) → NamesSectors Names (λ name s. name ≡ TrackSector (track_number track) s) (NamesSector track)
-named_sector track = record {
-  has_name = λ cells s named. (TrackSector (track_number track) s, named, refl);
-  is_named = λ cells name s named same. subst (Names cells) same named;
-  one_sector = λ name s t first second. one_sector (track_number track) s t (sym first ∙ second);
-}
-  where
-    one_sector : (number s t : ℕ) → TrackSector number s ≡ TrackSector number t → s ≡ t
-    one_sector number s t same = cc
+named_sector track = named-by_numbers Names (track_number track)
 
 named : (cells others : List Bool) (n : HeaderName) → AgreeTo 70 cells others → Names cells n → Names others n
 named cells others (Address cylinder head sector size) same names = absurd names

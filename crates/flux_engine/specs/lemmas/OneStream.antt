@@ -22,7 +22,7 @@ use Rattle.flux_engine.specs.Recordings.{cells_of, track_at}
 use Rattle.flux_engine.specs.Streams.{has_fault, stream_at}
 use Rattle.flux_engine.specs.Tracks.{Found, TrackPart, readings_of, track_notes}
 use Rattle.flux_engine.specs.lemmas.NoOthers.{strict_has_no_others}
-use Rattle.flux_engine.specs.lemmas.Finding.{find-first, find-none}
+use Rattle.flux_base.specs.lemmas.Finding.{find-first, find-none}
 
 -- the one stream of track number n
 pub number-is : (n : ℕ) → n * 1 + 0 ≡ n

@@ -2,28 +2,16 @@
 use Rattle.std.specs.Prelude.{◌≡◌, ◌<◌, ℕ, ◌+◌, ◌-◌, List, [], ◌∷◌, ◌++◌, length, take, Option, Some, None, refl}
 use Rattle.std.specs.List.{concat}
 use Rattle.std.specs.Io.KnownBytes.{Consumes}
-use Rattle.std.proofs.Common.{ap, sym, subst, ◌∙◌, arith, inl, inr, append_assoc, append-nil, length-append}
+use Rattle.std.proofs.Common.{ap, sym, subst, ◌∙◌, arith, inl, inr, length-append}
 use Rattle.std.proofs.KnownBytes.{Consumes-nil, Consumes-trans}
 use Rattle.std.proofs.lemmas.Bool.{cases_lt}
 use Rattle.std.proofs.lemmas.List.{take-append-le}
 use Rattle.std.proofs.lemmas.List.Folds.{concat-append}
 use Rattle.std.proofs.Math.Seq.{take-append-add}
 use Rattle.flux_base.specs.Outside.{Gives}
+use Rattle.flux_base.specs.lemmas.Giving.{Gives-nil, Gives-trans}
 use Rattle.kryo_stream.specs.Reads.{SourceMoment}
 use Rattle.flux_engine.specs.Needed.{ReadsWhereOpen}
-
-pub Gives-nil : (given : Option (List (List ℕ))) → Gives given given []
-Gives-nil None = tt
-Gives-nil (Some pieces) = sym (append-nil pieces)
-
-pub Gives-trans : (old mid new : Option (List (List ℕ))) (ps qs : List (List ℕ)) → Gives old mid ps → Gives mid new qs → Gives old new (ps ++ qs)
-Gives-trans None None None ps qs first second = tt
-Gives-trans None None (Some zs) ps qs first second = absurd second
-Gives-trans None (Some ys) new ps qs first second = absurd first
-Gives-trans (Some xs) None None ps qs first second = tt
-Gives-trans (Some xs) None (Some zs) ps qs first second = absurd second
-Gives-trans (Some xs) (Some ys) None ps qs first second = tt
-Gives-trans (Some xs) (Some ys) (Some zs) ps qs first second = second ∙ ap (λ x. x ++ qs) first ∙ append_assoc xs ps qs
 
 pub both_none : (ps qs : List (List ℕ)) → ps ++ qs ≡ [] → (ps ≡ []) × (qs ≡ [])
 both_none [] qs none = (refl, none)

@@ -1,5 +1,6 @@
 -- The cells of a ring that are written, part by part.
-use Rattle.std.proofs.Common.{◌≡◌, ◌≤◌, ◌+◌, ◌-◌, ◌*◌, ◌++◌, ℕ, zero, suc, Bool, List, length, take, drop, refl, ◌∙◌, arith, append_assoc, length-append, length-drop}
+use Rattle.std.proofs.Common.{◌≡◌, ◌≤◌, ◌+◌, ◌-◌, ◌*◌, ◌++◌, ℕ, zero, suc, Bool, List, length, take, drop, refl, ap, ◌∙◌, arith, append_assoc, length-append, length-drop}
+use Rattle.std.proofs.lemmas.List.{length-take-le}
 use Rattle.flux_writer.specs.Written.{quarter, track_cells}
 
 -- a ring's last quarter, and so many turns
@@ -24,6 +25,17 @@ all_parts ring =
     let back = take (quarter ring) ring in
     append_assoc ((front ++ ring) ++ ring) ring back ∙ append_assoc (front ++ ring) ring (ring ++ back)
     ∙ append_assoc front ring (ring ++ (ring ++ back))
+
+-- how many cells are written
+pub length-track_cells : (ring : List Bool) → length (track_cells ring) ≡ quarter ring + 3 * length ring + quarter ring
+length-track_cells ring =
+    omega (
+      arith,
+      ap length (all_parts ring),
+      length-append (cells_after ring 3) (take (quarter ring) ring),
+      length-cells_after ring 3,
+      length-take-le (quarter ring) ring (omega arith),
+    )
 
 -- what is written after some turns
 pub rest_after : (ring : List Bool) (turns : ℕ) → turns ≤ 3 → (rest : List Bool) × (cells_after ring turns ++ rest ≡ track_cells ring)

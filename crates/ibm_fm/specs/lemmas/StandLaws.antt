@@ -1,7 +1,8 @@
 -- What cells name and hold is one thing, and the numbers of the coding.
-use Rattle.std.specs.Prelude.{◌≡◌, ℕ, ◌+◌, Bool, List, drop, length, refl}
-use Rattle.std.proofs.Common.{ap, sym, subst, ◌∙◌, inl, inr, lit≤}
+use Rattle.std.specs.Prelude.{◌≡◌, ℕ, ◌+◌, Bool, List, drop, length}
+use Rattle.std.proofs.Common.{ap, sym, ◌∙◌, inl, inr, lit≤}
 use Rattle.flux_base.specs.declared.track.TrackId.{TrackId}
+use Rattle.frame_law.specs.lemmas.Named.{named-by}
 use Rattle.frame_law.specs.lemmas.OwnFrames.{AreSizes-fit}
 use Rattle.frame_law.specs.Frames.{AreSizes}
 use Rattle.cell_bits.specs.Word.{Stands}
@@ -18,11 +19,7 @@ pub one_name : (cells : List Bool) (n m : HeaderName) → Names cells n → Name
 one_name cells n m first second = one_address (bytes_at cells 16 4) n m (length-bytes_at cells 16 4) first.address second.address
 
 pub named_sector : (code : ℕ) (track : TrackId) → NamesSectors Names (λ name s. name ≡ sector_name track s code) (NamesSector code track)
-named_sector code track = record {
-  has_name = λ cells s named. (sector_name track s code, named, refl);
-  is_named = λ cells name s named same. subst (Names cells) same named;
-  one_sector = λ name s t first second. one_sector track s t code (sym first ∙ second);
-}
+named_sector code track = named-by Names (λ s. sector_name track s code) (λ s t same. one_sector track s t code same)
 
 -- a header's mark is a sync too
 pub id_mark_syncs : (cells : List Bool) (place : ℕ) → Stands (drop place cells) 0xF57E 16 0 → IsSync cells place

@@ -1,9 +1,10 @@
 -- What an MFM header names and what MFM data hold is one thing, told by their own cells, and by all of these but the last seven; and
 -- the numbers of the recording.
-use Rattle.std.specs.Prelude.{◌≡◌, ℕ, ◌+◌, ◌-◌, ◌≤◌, Bool, List, drop, length, refl}
+use Rattle.std.specs.Prelude.{◌≡◌, ℕ, ◌+◌, ◌-◌, ◌≤◌, Bool, List, drop, length}
 use Rattle.std.proofs.Common.{ap, sym, subst, ◌∙◌, arith, lit≤}
 use Rattle.flux_base.specs.declared.track.TrackId.{TrackId}
 use Rattle.track_rings.specs.lemmas.Fronts.{AgreeTo, agree-data_byte, agree-stands}
+use Rattle.frame_law.specs.lemmas.Named.{named-by}
 use Rattle.frame_law.specs.Frames.{AreSizes}
 use Rattle.frame_law.specs.lemmas.OwnFrames.{AreSizes-fit, TellsEarly}
 use Rattle.frame_law.specs.Others.{NamesSectors}
@@ -23,11 +24,7 @@ pub one_name : (cells : List Bool) (n m : HeaderName) → Names cells n → Name
 one_name cells n m first second = one_address (bytes_at cells 64 4) n m (length-bytes_at cells 64 4) first.address second.address
 
 pub named_sector : (code : ℕ) (track : TrackId) → NamesSectors Names (λ name s. name ≡ sector_name track s code) (NamesSector code track)
-named_sector code track = record {
-  has_name = λ cells s named. (sector_name track s code, named, refl);
-  is_named = λ cells name s named same. subst (Names cells) same named;
-  one_sector = λ name s t first second. one_sector track s t code (sym first ∙ second);
-}
+named_sector code track = named-by Names (λ s. sector_name track s code) (λ s t same. one_sector track s t code same)
 
 -- a header's three marks are a sync too
 pub marks_sync : (cells : List Bool) (place : ℕ) (name : HeaderName) → Stands (drop place cells) 0x44894489 32 0 → Names (drop place cells) name

@@ -1,19 +1,13 @@
 -- Where no stream has a fault, decoding does not stop.
-use Rattle.std.specs.Prelude.{◌≡◌, ◌≤◌, ◌<◌, ℕ, zero, suc, ◌+◌, Bool, false, cond, List, find, length, Some, None, is_some, refl}
-use Rattle.std.specs.List.{range_with_len}
+use Rattle.std.specs.Prelude.{◌≡◌, ◌<◌, ℕ, List, length, None, is_some}
 use Rattle.std.specs.Option.{option_and_then}
 use Rattle.std.proofs.Common.{ap, ◌∙◌, arith}
+use Rattle.flux_base.specs.lemmas.Finding.{find-none}
 use Rattle.kryo_stream.specs.Stream.{first_fault}
 use Rattle.sector_images.specs.Places.{tracks}
 use Rattle.sector_images.specs.declared.format.Format.{Format}
 use Rattle.flux_engine.specs.Disks.{Decoded, IsDecoded, stop_at, stop_of}
 use Rattle.flux_engine.specs.Streams.{has_fault, stream_at}
-
-find-none : (p : ℕ → Bool) (a n : ℕ) → ((k : ℕ) → a ≤ k → k < a + n → p k ≡ false) → find p (range_with_len a n) ≡ None
-find-none p a zero fails = refl
-find-none p a (suc n) fails =
-    ap (λ (b : Bool). cond b (Some a) (find p (range_with_len (a + 1) n))) (fails a (omega arith) (omega arith))
-    ∙ find-none p (a + 1) n (λ k above below. fails k (omega (arith, above)) (omega (arith, below)))
 
 stop-none : (format : Format) (x : List ℕ) → ((k : ℕ) → k < length (tracks format) → first_fault (stream_at x k) ≡ None) → stop_of format x ≡ None
 unfolding stop_of

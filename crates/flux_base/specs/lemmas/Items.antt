@@ -1,4 +1,4 @@
--- A list whose first items were changed by a function.
+-- A list whose first items were changed by a function, and whether one of its first items passes a test.
 use Rattle.std.specs.Prelude.{◌≡◌, ◌<◌, ℕ, zero, suc, Bool, false, true, ◌||◌, List, [], ◌∷◌, ◌++◌, drop, get_or, length, map, set, take, refl}
 use Rattle.std.specs.List.{list_any}
 use Rattle.std.proofs.Common.{ap, arith, sym, ◌∙◌}
