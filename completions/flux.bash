@@ -14,9 +14,9 @@ _flux()
             *" $before "*) options=" $options" options=${options/" $before "/ } at=$((at + 1)) ;;
             *) break ;;
         esac
-        # Behind this one stands a number, and then no option.
+        # Behind this one stands a number.
         case " $valued" in
-            *" $before "*) options="" at=$((at + 1)) ;;
+            *" $before "*) at=$((at + 1)) ;;
         esac
         if [ "$COMP_CWORD" -lt "$at" ]; then
             return

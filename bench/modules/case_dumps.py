@@ -134,10 +134,11 @@ def case_show(chance, kinds, built):
     # The track of which there is most, mostly.
     size_of = lambda at: max(len(files.get(path_of(name, steps * form.tracks[at][0], form.tracks[at][1])) or b"") for name in names)
     k = chance.randrange(len(form.tracks)) if one_in(chance, 4) else max(range(len(form.tracks)), key=size_of)
-    options = [b"--double-step"] * (steps - 1)
+    options = [[b"--double-step"]] * (steps - 1)
     if one_in(chance, 3):
         kinds.add("one content alone")
-        options += [b"--copy", b"%d" % chance.choice([0, 0, 1, 2, 15])]
+        options += [[b"--copy", b"%d" % chance.choice([0, 0, 1, 2, 15])]]
+    options = sum(chance.sample(options, len(options)), [])
     cylinder, head = form.tracks[k]
     words = [b"show"] + options + [form.word.encode(), b"%02d.%d" % (cylinder, head), b"%02d" % chance.choice(list(form.sector_numbers(k))), *names]
     if one_in(chance, 20):

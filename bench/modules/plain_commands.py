@@ -131,12 +131,14 @@ def sector_asked(words):
     if words[:1] != [b"show"]:
         return None
     rest, steps, alone = words[1:], 1, None
-    if rest[:1] == [b"--double-step"]:
-        rest, steps = rest[1:], 2
-    if rest[:1] == [b"--copy"]:
-        if len(rest) < 2 or rest[1] not in [b"%d" % number for number in range(plain_dumps.MOST_COPIES)]:
+    # The options may stand in either order, each once.
+    while rest and (rest[0] == b"--double-step" and steps == 1 or rest[0] == b"--copy" and alone is None):
+        if rest[0] == b"--double-step":
+            rest, steps = rest[1:], 2
+        elif len(rest) < 2 or rest[1] not in [b"%d" % number for number in range(plain_dumps.MOST_COPIES)]:
             return None
-        rest, alone = rest[2:], int(rest[1])
+        else:
+            rest, alone = rest[2:], int(rest[1])
     form = FORMATS.get(rest[0].decode()) if rest else None
     if not form or len(rest) < 3:
         return None

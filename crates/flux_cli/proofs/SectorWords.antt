@@ -1,7 +1,7 @@
 -- What the words of `show` ask for.
 use Rattle.std.specs.Str.{bytes_eq}
 use Rattle.std.proofs.lemmas.Slice.Eq.{bytes_eq-Decides}
-use Rattle.std.proofs.Common.{true, false, ◌≡◌, ◌≢◌, ◌<◌, ◌≤◌, ◌+◌, ◌-◌, ℕ, List, [], ◌∷◌, ◌++◌, codes, decimal, drop, get_or, length, take, Option, Some, None, arith, inl, inr, refl, sym, ap, ◌∙◌, subst}
+use Rattle.std.proofs.Common.{true, false, Bool, if◌then◌else◌, ◌≡◌, ◌≢◌, ◌<◌, ◌≤◌, ◌+◌, ◌-◌, ℕ, List, [], ◌∷◌, ◌++◌, codes, decimal, drop, get_or, length, take, Option, Some, None, arith, inl, inr, refl, sym, ap, ◌∙◌, subst}
 use Rattle.std.proofs.lemmas.Bool.{cases_lt}
 use Rattle.std.specs.Option.{option_map}
 use Rattle.flux_engine.specs.Recordings.{sectors_of, track_at}
@@ -14,7 +14,7 @@ use Rattle.track_shelf.specs.declared.stepping.Stepping.TheVariants.{Single, Dou
 use Rattle.sector_copies.specs.Shown.{SectorAsked}
 use Rattle.flux_cli.specs.DumpParts.{IsNotFirst}
 use Rattle.flux_cli.specs.DumpWords.{double_step_word}
-use Rattle.flux_cli.specs.SectorWords.{AreCopyWords, CanBeShown, HasOptions, HasSteps, IsMaybeShown, MOST_COPY_NUMBERS, NamesBehind, NamesCopy, NamesNumber, NamesPlace, NamesSector, NamesShow, NamesTrack, PlaceParts, ShowParts, behind_words, copy_words, place_words, step_words}
+use Rattle.flux_cli.specs.SectorWords.{AreCopyWords, CanBeShown, HasNumber, HasOptions, HasSteps, HasStepsBehind, IsAlone, IsMaybeShown, MOST_COPY_NUMBERS, NamesBehind, NamesBy, NamesCopy, NamesCopyFirst, NamesNumber, NamesPlace, NamesSector, NamesShow, NamesStepped, NamesTrack, PlaceParts, ShowParts, behind_words, copy_first_words, copy_words, place_words, step_words, stepped_words}
 use Rattle.flux_cli.proofs.DumpWords.{head-same, slice-rest, tail-same}
 
 abbrev copy_word : List ℕ
@@ -52,117 +52,239 @@ module _ (words : List (List ℕ)) where
   pub show-unnamed : IsNotFirst (codes "show") words → NamesShow words None
   show-unnamed other = λ asked fits can parts is. other _ is
 
-  -- that of the steps, if there is one
-  steps : (asked : SectorAsked) (parts : ShowParts asked) (stepping : Stepping) → asked.disk.stepping ≡ stepping
-      → behind_words asked parts ≡ step_words stepping ++ copy_words asked parts
-  steps asked parts stepping is = ap (λ (s : Stepping). step_words s ++ copy_words asked parts) is
+  -- the steps stand where they are asked for
+  steps : (later : List (List ℕ)) (asked : SectorAsked) (stepping : Stepping) → asked.disk.stepping ≡ stepping
+      → step_words asked.disk.stepping ++ later ≡ step_words stepping ++ later
+  steps later asked stepping is = ap (λ (s : Stepping). step_words s ++ later) is
 
-  alone_none : (asked : SectorAsked) (parts : ShowParts asked) → asked.alone ≡ None → copy_words asked parts ≡ place_words asked parts.place
-  alone_none asked parts is =
+  -- and so does the content that is asked for alone
+  alone_none : (later : List (List ℕ)) (asked : SectorAsked) (parts : ShowParts asked) → asked.alone ≡ None → parts.copy ++ later ≡ later
+  alone_none later asked parts is =
       let none : parts.copy ≡ [] = subst (λ (a : Option ℕ). AreCopyWords a parts.copy) is parts.copy_is in
-      ap (λ (c : List (List ℕ)). c ++ place_words asked parts.place) none
+      ap (λ (c : List (List ℕ)). c ++ later) none
 
-  alone_some : (asked : SectorAsked) (parts : ShowParts asked) (number : ℕ) → asked.alone ≡ Some number
-      → (word : List ℕ) × NamesNumber MOST_COPY_NUMBERS decimal word (Some number) × (copy_words asked parts ≡ copy_word ∷ word ∷ place_words asked parts.place)
-  alone_some asked parts number is =
+  alone_some : (later : List (List ℕ)) (asked : SectorAsked) (parts : ShowParts asked) (number : ℕ) → asked.alone ≡ Some number
+      → (word : List ℕ) × NamesNumber MOST_COPY_NUMBERS decimal word (Some number) × (parts.copy ++ later ≡ copy_word ∷ word ∷ later)
+  alone_some later asked parts number is =
       let some = subst (λ (a : Option ℕ). AreCopyWords a parts.copy) is parts.copy_is in
-      (some.0, some.1, ap (λ (c : List (List ℕ)). c ++ place_words asked parts.place) some.2)
+      (some.0, some.1, ap (λ (c : List (List ℕ)). c ++ later) some.2)
 
-  -- the words from the copy's on do not begin with the steps' word
+  -- words from a format's on do not begin with the steps' word
+  no_steps_at_place : WordsBeginWithLetters → (asked : SectorAsked) (place : PlaceParts asked) (rest : List (List ℕ)) → place_words asked place ≢ double_step_word ∷ rest
+  no_steps_at_place letters asked place rest same = no_option letters double_step_word place.word asked.disk.format refl place.named (sym (head-same _ _ _ _ same))
+
+  -- nor do those from the copy's on
   no_steps : WordsBeginWithLetters → (asked : SectorAsked) (parts : ShowParts asked) (rest : List (List ℕ)) → copy_words asked parts ≢ double_step_word ∷ rest
   no_steps letters asked parts rest same = by asked.alone refl
     where
       by : (alone : Option ℕ) → asked.alone ≡ alone → ⊥
-      by None is =
-          no_option letters double_step_word parts.place.word asked.disk.format refl parts.place.named (sym (head-same _ _ _ _ (sym (alone_none asked parts is) ∙ same)))
+      by None is = no_steps_at_place letters asked parts.place rest (sym (alone_none (place_words asked parts.place) asked parts is) ∙ same)
       by (Some number) is =
-          let some = alone_some asked parts number is in
+          let some = alone_some (place_words asked parts.place) asked parts number is in
           copy_is_no_step (head-same _ _ _ _ (sym some.2 ∙ same))
 
+  -- the steps' word stands first, or behind a content's number
   pub step-named : WordsBeginWithLetters → (rest : List (List ℕ)) (r : Option SectorAsked) → words ≡ double_step_word ∷ rest → NamesCopy Double rest r → NamesBehind words r
-  step-named letters rest (Some asked) at names =
-      (tt, names.1, (names.2.0, at ∙ ap (λ later. double_step_word ∷ later) names.2.1 ∙ sym (steps asked names.2.0 Double names.0)))
-  step-named letters rest None at names = λ asked fits can parts is. by asked.disk.stepping asked refl can parts is
+  step-named letters rest (Some asked) at names = (
+    tt,
+    names.1,
+    (
+      record { copy = names.2.0.copy; copy_is = names.2.0.copy_is; copy_first = false; place = names.2.0.place },
+      at ∙ ap (λ later. double_step_word ∷ later) names.2.1 ∙ sym (steps (copy_words asked names.2.0) asked Double names.0),
+    ),
+  )
+  step-named letters rest None at names = λ asked fits can parts is. by parts.copy_first parts is can refl
     where
-      by : (s : Stepping) (asked : SectorAsked) → asked.disk.stepping ≡ s → CanBeShown asked → (parts : ShowParts asked) → words ≢ behind_words asked parts
-      by Double asked same can parts is = names asked same can parts (tail-same _ _ _ _ (sym at ∙ is ∙ steps asked parts Double same))
-      by Single asked same can parts is = no_steps letters asked parts rest (sym (steps asked parts Single same) ∙ sym is ∙ at)
+      first : {asked : SectorAsked} → CanBeShown asked → (parts : ShowParts asked) → words ≢ step_words asked.disk.stepping ++ copy_words asked parts
+      first {asked = asked} can parts is = under asked.disk.stepping refl
+        where
+          under : (s : Stepping) → asked.disk.stepping ≡ s → ⊥
+          under Double same = names asked same can parts (tail-same _ _ _ _ (sym at ∙ is ∙ steps (copy_words asked parts) asked Double same))
+          under Single same = no_steps letters asked parts rest (sym (steps (copy_words asked parts) asked Single same) ∙ sym is ∙ at)
 
-  pub step-unnamed : (r : Option SectorAsked) → IsNotFirst double_step_word words → NamesCopy Single words r → NamesBehind words r
-  step-unnamed (Some asked) other names = (tt, names.1, (names.2.0, names.2.1 ∙ sym (steps asked names.2.0 Single names.0)))
-  step-unnamed None other names = λ asked fits can parts is. by asked.disk.stepping asked refl can parts is
+      behind : {asked : SectorAsked} → CanBeShown asked → (parts : ShowParts asked) → words ≢ copy_first_words asked parts
+      behind {asked = asked} can parts is = under asked.alone refl
+        where
+          under : (alone : Option ℕ) → asked.alone ≡ alone → ⊥
+          under None same =
+              first can parts (is ∙ alone_none (stepped_words asked parts.place) asked parts same
+              ∙ ap (λ (later : List (List ℕ)). step_words asked.disk.stepping ++ later) (sym (alone_none (place_words asked parts.place) asked parts same)))
+          under (Some number) same =
+              let some = alone_some (stepped_words asked parts.place) asked parts number same in
+              copy_is_no_step (head-same _ _ _ _ (sym some.2 ∙ sym is ∙ at))
+
+      by : {asked : SectorAsked} (late : Bool) (parts : ShowParts asked) → words ≡ behind_words asked parts → CanBeShown asked → parts.copy_first ≡ late → ⊥
+      by {asked = asked} true parts is can order = behind can parts (is ∙ ap (λ (b : Bool). if b then copy_first_words asked parts else step_words asked.disk.stepping ++ copy_words asked parts) order)
+      by {asked = asked} false parts is can order = first can parts (is ∙ ap (λ (b : Bool). if b then copy_first_words asked parts else step_words asked.disk.stepping ++ copy_words asked parts) order)
+
+  pub step-unnamed : (r : Option SectorAsked) → IsNotFirst double_step_word words → NamesCopyFirst words r → NamesBehind words r
+  step-unnamed (Some asked) other names =
+      (tt, names.1, (record { copy = names.2.0.copy; copy_is = names.2.0.copy_is; copy_first = true; place = names.2.0.place }, names.2.1))
+  step-unnamed None other names = λ asked fits can parts is. by parts.copy_first parts is can refl
     where
-      by : (s : Stepping) (asked : SectorAsked) → asked.disk.stepping ≡ s → CanBeShown asked → (parts : ShowParts asked) → words ≢ behind_words asked parts
-      by Double asked same can parts is = other _ (is ∙ steps asked parts Double same)
-      by Single asked same can parts is = names asked same can parts (is ∙ steps asked parts Single same)
+      first : {asked : SectorAsked} → CanBeShown asked → (parts : ShowParts asked) → words ≢ step_words asked.disk.stepping ++ copy_words asked parts
+      first {asked = asked} can parts is = under asked.disk.stepping refl
+        where
+          under : (s : Stepping) → asked.disk.stepping ≡ s → ⊥
+          under Double same = other _ (is ∙ steps (copy_words asked parts) asked Double same)
+          under Single same =
+              names asked (inl same) can parts
+              (is ∙ steps (copy_words asked parts) asked Single same
+              ∙ ap (λ (later : List (List ℕ)). parts.copy ++ later) (sym (steps (place_words asked parts.place) asked Single same)))
+
+      behind : {asked : SectorAsked} → CanBeShown asked → (parts : ShowParts asked) → words ≢ copy_first_words asked parts
+      behind {asked = asked} can parts is = under asked.alone refl
+        where
+          under : (alone : Option ℕ) → asked.alone ≡ alone → ⊥
+          under None same =
+              first can parts (is ∙ alone_none (stepped_words asked parts.place) asked parts same
+              ∙ ap (λ (later : List (List ℕ)). step_words asked.disk.stepping ++ later) (sym (alone_none (place_words asked parts.place) asked parts same)))
+          under (Some number) same = names asked (inr (λ none. (let wrong = sym same ∙ none in cc))) can parts is
+
+      by : {asked : SectorAsked} (late : Bool) (parts : ShowParts asked) → words ≡ behind_words asked parts → CanBeShown asked → parts.copy_first ≡ late → ⊥
+      by {asked = asked} true parts is can order = behind can parts (is ∙ ap (λ (b : Bool). if b then copy_first_words asked parts else step_words asked.disk.stepping ++ copy_words asked parts) order)
+      by {asked = asked} false parts is can order = first can parts (is ∙ ap (λ (b : Bool). if b then copy_first_words asked parts else step_words asked.disk.stepping ++ copy_words asked parts) order)
+
+  -- behind the number
+  module _ (number : ℕ) where
+    pub stepped-named : WordsBeginWithLetters → (rest : List (List ℕ)) (r : Option SectorAsked) → words ≡ double_step_word ∷ rest → NamesPlace Double (Some number) rest r
+        → NamesStepped (Some number) words r
+    stepped-named letters rest (Some asked) at names =
+        (names.0.1, names.1, (names.2.0, at ∙ ap (λ later. double_step_word ∷ later) names.2.1 ∙ sym (steps (place_words asked names.2.0) asked Double names.0.0)))
+    stepped-named letters rest None at names = λ asked fits can place is. by asked.disk.stepping asked refl fits can place is
+      where
+        by : (s : Stepping) (asked : SectorAsked) → asked.disk.stepping ≡ s → IsAlone (Some number) asked → CanBeShown asked → (place : PlaceParts asked) → words ≢ stepped_words asked place
+        by Double asked same fits can place is = names asked (same, fits) can place (tail-same _ _ _ _ (sym at ∙ is ∙ steps (place_words asked place) asked Double same))
+        by Single asked same fits can place is = no_steps_at_place letters asked place rest (sym (steps (place_words asked place) asked Single same) ∙ sym is ∙ at)
+
+    pub stepped-unnamed : (r : Option SectorAsked) → IsNotFirst double_step_word words → NamesPlace Single (Some number) words r → NamesStepped (Some number) words r
+    stepped-unnamed (Some asked) other names = (names.0.1, names.1, (names.2.0, names.2.1 ∙ sym (steps (place_words asked names.2.0) asked Single names.0.0)))
+    stepped-unnamed None other names = λ asked fits can place is. by asked.disk.stepping asked refl fits can place is
+      where
+        by : (s : Stepping) (asked : SectorAsked) → asked.disk.stepping ≡ s → IsAlone (Some number) asked → CanBeShown asked → (place : PlaceParts asked) → words ≢ stepped_words asked place
+        by Double asked same fits can place is = other _ (is ∙ steps (place_words asked place) asked Double same)
+        by Single asked same fits can place is = names asked (same, fits) can place (is ∙ steps (place_words asked place) asked Single same)
 
   -- the content that is asked for alone, if one is
+  module _ (later : (asked : SectorAsked) → PlaceParts asked → List (List ℕ)) where
+    -- its number follows its word
+    behind_copy : (others : List (List ℕ)) → words ≡ copy_word ∷ others → (asked : SectorAsked) (parts : ShowParts asked) (number : ℕ) → asked.alone ≡ Some number
+        → words ≡ parts.copy ++ later asked parts.place
+        → (word : List ℕ) × NamesNumber MOST_COPY_NUMBERS decimal word (Some number) × (others ≡ word ∷ later asked parts.place)
+    behind_copy others at asked parts number same is =
+        let some = alone_some (later asked parts.place) asked parts number same in
+        (some.0, some.1, tail-same _ _ _ _ (sym at ∙ is ∙ some.2))
+
+    -- where none is asked for, the words are those that come later
+    module _ (Fits : SectorAsked → Type 0)
+        (no_copy : (asked : SectorAsked) → Fits asked → asked.alone ≡ None → (place : PlaceParts asked) (rest : List (List ℕ)) → later asked place ≢ copy_word ∷ rest) where
+      no_number : (others : List (List ℕ)) → words ≡ copy_word ∷ others → HasNumber others None
+          → NamesBy (λ (asked : SectorAsked) (parts : ShowParts asked). parts.copy ++ later asked parts.place) Fits words None
+      no_number others at none = λ asked fits can parts is. by asked.alone asked refl fits parts is
+        where
+          by : (alone : Option ℕ) (asked : SectorAsked) → asked.alone ≡ alone → Fits asked → (parts : ShowParts asked) → words ≢ parts.copy ++ later asked parts.place
+          by None asked same fits parts is = no_copy asked fits same parts.place others (sym (alone_none (later asked parts.place) asked parts same) ∙ sym is ∙ at)
+          by (Some number) asked same fits parts is =
+              let some = behind_copy others at asked parts number same is in
+              none some.0 (later asked parts.place) some.2 number some.1.0 some.1.1
+
+      one_copy : (others rest : List (List ℕ)) (number : ℕ) → words ≡ copy_word ∷ others → HasNumber others (Some (number, rest))
+          → ((asked : SectorAsked) → Fits asked → CanBeShown asked → asked.alone ≡ Some number → (place : PlaceParts asked) → rest ≢ later asked place)
+          → NamesBy (λ (asked : SectorAsked) (parts : ShowParts asked). parts.copy ++ later asked parts.place) Fits words None
+      one_copy others rest number at has none = λ asked fits can parts is. by asked.alone asked refl fits can parts is
+        where
+          by : (alone : Option ℕ) (asked : SectorAsked) → asked.alone ≡ alone → Fits asked → CanBeShown asked → (parts : ShowParts asked) → words ≢ parts.copy ++ later asked parts.place
+          by None asked same fits can parts is = no_copy asked fits same parts.place others (sym (alone_none (later asked parts.place) asked parts same) ∙ sym is ∙ at)
+          by (Some other) asked same fits can parts is =
+              let some = behind_copy others at asked parts other same is in
+              let both : has.0 ∷ rest ≡ some.0 ∷ later asked parts.place = sym has.2 ∙ some.2 in
+              let one : other ≡ number =
+              one_number MOST_COPY_NUMBERS decimal has.0 other number (subst (λ (w : List ℕ). NamesNumber MOST_COPY_NUMBERS decimal w (Some other)) (sym (head-same _ _ _ _ both)) some.1) has.1 in
+              none asked fits can (same ∙ ap Some one) parts.place (tail-same _ _ _ _ both)
+
+  -- words from a format's on do not begin with the copy's word
+  no_copy_at_place : WordsBeginWithLetters → (asked : SectorAsked) (place : PlaceParts asked) (rest : List (List ℕ)) → place_words asked place ≢ copy_word ∷ rest
+  no_copy_at_place letters asked place rest same = no_option letters copy_word place.word asked.disk.format refl place.named (sym (head-same _ _ _ _ same))
+
+  -- nor do those of single steps
+  no_copy_at_steps : WordsBeginWithLetters → (asked : SectorAsked) → HasStepsBehind asked → asked.alone ≡ None → (place : PlaceParts asked) (rest : List (List ℕ))
+      → stepped_words asked place ≢ copy_word ∷ rest
+  no_copy_at_steps letters asked (inl single) none place rest same =
+      no_copy_at_place letters asked place rest (sym (steps (place_words asked place) asked Single single) ∙ same)
+  no_copy_at_steps letters asked (inr some) none place rest same = absurd (some none)
+
+  -- the words of the copy
+  the_copy : (asked : SectorAsked) (number : ℕ) → asked.alone ≡ Some number → (word : List ℕ) → NamesNumber MOST_COPY_NUMBERS decimal word (Some number)
+      → AreCopyWords asked.alone (copy_word ∷ word ∷ [])
+  the_copy asked number same word is = subst (λ (a : Option ℕ). AreCopyWords a (copy_word ∷ word ∷ [])) (sym same) (word, is, refl)
+
+  copy_at : (others rest : List (List ℕ)) (word : List ℕ) → words ≡ copy_word ∷ others → others ≡ word ∷ rest → (later : List (List ℕ)) → rest ≡ later → words ≡ copy_word ∷ word ∷ later
+  copy_at others rest word at behind later same = at ∙ ap (λ ws. copy_word ∷ ws) (behind ∙ ap (λ ws. word ∷ ws) same)
+
+  -- where the steps' word stands behind it
+  pub first-unnamed : (r : Option SectorAsked) → IsNotFirst copy_word words → NamesPlace Single None words r → NamesCopyFirst words r
+  first-unnamed (Some asked) other names = (
+    inl names.0.0,
+    names.1,
+    (
+      record { copy = []; copy_is = subst (λ (a : Option ℕ). AreCopyWords a []) (sym names.0.1) refl; copy_first = true; place = names.2.0 },
+      names.2.1 ∙ sym (steps (place_words asked names.2.0) asked Single names.0.0),
+    ),
+  )
+  first-unnamed None other names = λ asked fits can parts is. by asked.alone asked refl fits can parts is
+    where
+      by : (alone : Option ℕ) (asked : SectorAsked) → asked.alone ≡ alone → HasStepsBehind asked → CanBeShown asked → (parts : ShowParts asked) → words ≢ copy_first_words asked parts
+      by None asked same (inl single) can parts is =
+          names asked (single, same) can parts.place (is ∙ alone_none (stepped_words asked parts.place) asked parts same ∙ steps (place_words asked parts.place) asked Single single)
+      by None asked same (inr some) can parts is = absurd (some same)
+      by (Some number) asked same fits can parts is = (let some = alone_some (stepped_words asked parts.place) asked parts number same in other _ (is ∙ some.2))
+
+  pub first-bare : WordsBeginWithLetters → (others : List (List ℕ)) → words ≡ copy_word ∷ others → HasNumber others None → NamesCopyFirst words None
+  first-bare letters others at none = no_number stepped_words HasStepsBehind (no_copy_at_steps letters) others at none
+
+  pub first-named : WordsBeginWithLetters → (others rest : List (List ℕ)) (number : ℕ) (r : Option SectorAsked) → words ≡ copy_word ∷ others → HasNumber others (Some (number, rest))
+      → NamesStepped (Some number) rest r → NamesCopyFirst words r
+  first-named letters others rest number (Some asked) at has names = (
+    inr (λ none. (let wrong = sym names.0 ∙ none in cc)),
+    names.1,
+    (
+      record { copy = copy_word ∷ has.0 ∷ []; copy_is = the_copy asked number names.0 has.0 has.1; copy_first = true; place = names.2.0 },
+      copy_at others rest has.0 at has.2 (stepped_words asked names.2.0) names.2.1,
+    ),
+  )
+  first-named letters others rest number None at has names =
+      one_copy stepped_words HasStepsBehind (no_copy_at_steps letters) others rest number at has (λ asked fits can same place is. names asked same can place is)
+
+  -- where it stands before
   module _ (stepping : Stepping) where
     pub copy-unnamed : (r : Option SectorAsked) → IsNotFirst copy_word words → NamesPlace stepping None words r → NamesCopy stepping words r
     copy-unnamed (Some asked) other names = (
       names.0.0,
       names.1,
-      (record { copy = []; copy_is = subst (λ (a : Option ℕ). AreCopyWords a []) (sym names.0.1) refl; place = names.2.0 }, names.2.1),
+      (record { copy = []; copy_is = subst (λ (a : Option ℕ). AreCopyWords a []) (sym names.0.1) refl; copy_first = false; place = names.2.0 }, names.2.1),
     )
     copy-unnamed None other names = λ asked fits can parts is. by asked.alone asked refl fits can parts is
       where
         by : (alone : Option ℕ) (asked : SectorAsked) → asked.alone ≡ alone → HasSteps stepping asked → CanBeShown asked → (parts : ShowParts asked) → words ≢ copy_words asked parts
-        by None asked same fits can parts is = names asked (fits, same) can parts.place (is ∙ alone_none asked parts same)
-        by (Some number) asked same fits can parts is = (let some = alone_some asked parts number same in other _ (is ∙ some.2))
+        by None asked same fits can parts is = names asked (fits, same) can parts.place (is ∙ alone_none (place_words asked parts.place) asked parts same)
+        by (Some number) asked same fits can parts is = (let some = alone_some (place_words asked parts.place) asked parts number same in other _ (is ∙ some.2))
 
-    -- where the copy's word stands first, its number follows
-    module _ (letters : WordsBeginWithLetters) (others : List (List ℕ)) (at : words ≡ copy_word ∷ others) where
-      no_place : (asked : SectorAsked) (parts : ShowParts asked) → asked.alone ≡ None → words ≢ copy_words asked parts
-      no_place asked parts same is =
-          no_option letters copy_word parts.place.word asked.disk.format refl parts.place.named (head-same _ _ _ _ (sym at ∙ is ∙ alone_none asked parts same))
+    pub copy-bare : WordsBeginWithLetters → (others : List (List ℕ)) → words ≡ copy_word ∷ others → HasNumber others None → NamesCopy stepping words None
+    copy-bare letters others at none = no_number place_words (HasSteps stepping) (λ asked fits same place rest. no_copy_at_place letters asked place rest) others at none
 
-      behind_copy : (asked : SectorAsked) (parts : ShowParts asked) (number : ℕ) → asked.alone ≡ Some number → words ≡ copy_words asked parts
-          → (word : List ℕ) × NamesNumber MOST_COPY_NUMBERS decimal word (Some number) × (others ≡ word ∷ place_words asked parts.place)
-      behind_copy asked parts number same is =
-          let some = alone_some asked parts number same in
-          (some.0, some.1, tail-same _ _ _ _ (sym at ∙ is ∙ some.2))
-
-      pub copy-bare : others ≡ [] → NamesCopy stepping words None
-      copy-bare none = λ asked fits can parts is. by asked.alone asked refl parts is
-        where
-          by : (alone : Option ℕ) (asked : SectorAsked) → asked.alone ≡ alone → (parts : ShowParts asked) → words ≢ copy_words asked parts
-          by None asked same parts is = no_place asked parts same is
-          by (Some number) asked same parts is = (let some = behind_copy asked parts number same is in let wrong = sym none ∙ some.2 in cc)
-
-      pub copy-named : (word : List ℕ) (rest : List (List ℕ)) (number : ℕ) (r : Option SectorAsked) → others ≡ word ∷ rest
-          → NamesNumber MOST_COPY_NUMBERS decimal word (Some number) → NamesPlace stepping (Some number) rest r → NamesCopy stepping words r
-      copy-named word rest number (Some asked) behind is names = (
-        names.0.0,
-        names.1,
-        (
-          record {
-            copy = copy_word ∷ word ∷ [];
-            copy_is = subst (λ (a : Option ℕ). AreCopyWords a (copy_word ∷ word ∷ [])) (sym names.0.1) (word, is, refl);
-            place = names.2.0;
-          },
-          at ∙ ap (λ later. copy_word ∷ later) (behind ∙ ap (λ later. word ∷ later) names.2.1),
-        ),
-      )
-      copy-named word rest number None behind is names = λ asked fits can parts same. by asked.alone asked refl fits can parts same
-        where
-          by : (alone : Option ℕ) (asked : SectorAsked) → asked.alone ≡ alone → HasSteps stepping asked → CanBeShown asked → (parts : ShowParts asked) → words ≢ copy_words asked parts
-          by None asked same fits can parts all = no_place asked parts same all
-          by (Some other) asked same fits can parts all =
-              let some = behind_copy asked parts other same all in
-              let both : word ∷ rest ≡ some.0 ∷ place_words asked parts.place = sym behind ∙ some.2 in
-              let one : other ≡ number =
-              one_number MOST_COPY_NUMBERS decimal word other number (subst (λ (w : List ℕ). NamesNumber MOST_COPY_NUMBERS decimal w (Some other)) (sym (head-same _ _ _ _ both)) some.1) is in
-              names asked (fits, same ∙ ap Some one) can parts.place (tail-same _ _ _ _ both)
-
-      pub copy-unknown : (word : List ℕ) (rest : List (List ℕ)) → others ≡ word ∷ rest → NamesNumber MOST_COPY_NUMBERS decimal word None → NamesCopy stepping words None
-      copy-unknown word rest behind none = λ asked fits can parts same. by asked.alone asked refl parts same
-        where
-          by : (alone : Option ℕ) (asked : SectorAsked) → asked.alone ≡ alone → (parts : ShowParts asked) → words ≢ copy_words asked parts
-          by None asked same parts all = no_place asked parts same all
-          by (Some other) asked same parts all =
-              let some = behind_copy asked parts other same all in
-              let word_is : some.0 ≡ word = head-same _ _ _ _ (sym some.2 ∙ behind) in
-              none other some.1.0 (some.1.1 ∙ word_is)
+    pub copy-named : WordsBeginWithLetters → (others rest : List (List ℕ)) (number : ℕ) (r : Option SectorAsked) → words ≡ copy_word ∷ others → HasNumber others (Some (number, rest))
+        → NamesPlace stepping (Some number) rest r → NamesCopy stepping words r
+    copy-named letters others rest number (Some asked) at has names = (
+      names.0.0,
+      names.1,
+      (
+        record { copy = copy_word ∷ has.0 ∷ []; copy_is = the_copy asked number names.0.1 has.0 has.1; copy_first = false; place = names.2.0 },
+        copy_at others rest has.0 at has.2 (place_words asked names.2.0) names.2.1,
+      ),
+    )
+    copy-named letters others rest number None at has names =
+        one_copy place_words (HasSteps stepping) (λ asked fits same place more. no_copy_at_place letters asked place more) others rest number at has
+        (λ asked fits can same place is. names asked (fits, same) can place is)
 
     -- too few words for a format, a track and a sector
     pub place-short : (alone : Option ℕ) → length words < 3 → NamesPlace stepping alone words None

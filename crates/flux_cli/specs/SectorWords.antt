@@ -1,5 +1,5 @@
 -- The words that ask to show a sector of dumps.
-use Rattle.std.specs.Prelude.{◌≡◌, ◌≢◌, ◌<◌, ◌≤◌, ℕ, ◌+◌, false, true, List, [], ◌∷◌, ◌++◌, length, codes, decimal, Option, Some, None}
+use Rattle.std.specs.Prelude.{◌≡◌, ◌≢◌, ◌<◌, ◌≤◌, ◌⊎◌, ℕ, ◌+◌, Bool, false, true, if◌then◌else◌, List, [], ◌∷◌, ◌++◌, length, codes, decimal, Option, Some, None}
 use Rattle.std.specs.List.{list_any}
 use Rattle.flux_base.specs.declared.track.TrackId.{TrackId}
 use Rattle.flux_engine.specs.Recordings.{sectors_of, track_at}
@@ -69,19 +69,28 @@ pub record PlaceParts (asked : SectorAsked) : Type 0 where
 abbrev pub place_words : (asked : SectorAsked) → PlaceParts asked → List (List ℕ)
 place_words asked parts = parts.word ∷ parts.track ∷ parts.sector ∷ asked.disk.dumps
 
--- and the words of the content that is asked for alone
+-- and the words of the content that is asked for alone, which may stand before that of the steps
 pub record ShowParts (asked : SectorAsked) : Type 0 where
   pub copy : List (List ℕ)
   pub copy_is : AreCopyWords asked.alone copy
+  pub copy_first : Bool
   pub place : PlaceParts asked
 
--- these before those, then the steps' before them, and the command's
+-- these before those, by what stands first
 abbrev pub copy_words : (asked : SectorAsked) → ShowParts asked → List (List ℕ)
 copy_words asked parts = parts.copy ++ place_words asked parts.place
 
-abbrev pub behind_words : (asked : SectorAsked) → ShowParts asked → List (List ℕ)
-behind_words asked parts = step_words asked.disk.stepping ++ copy_words asked parts
+abbrev pub stepped_words : (asked : SectorAsked) → PlaceParts asked → List (List ℕ)
+stepped_words asked place = step_words asked.disk.stepping ++ place_words asked place
 
+abbrev pub copy_first_words : (asked : SectorAsked) → ShowParts asked → List (List ℕ)
+copy_first_words asked parts = parts.copy ++ stepped_words asked parts.place
+
+-- both options in either order
+abbrev pub behind_words : (asked : SectorAsked) → ShowParts asked → List (List ℕ)
+behind_words asked parts = if parts.copy_first then copy_first_words asked parts else step_words asked.disk.stepping ++ copy_words asked parts
+
+-- and the command's before them
 abbrev pub show_words : (asked : SectorAsked) → ShowParts asked → List (List ℕ)
 show_words asked parts = codes "show" ∷ behind_words asked parts
 
@@ -112,6 +121,25 @@ HasSteps stepping asked = asked.disk.stepping ≡ stepping
 
 abbrev pub NamesCopy : Stepping → List (List ℕ) → Option SectorAsked → Type 0
 NamesCopy stepping words asked = NamesBy copy_words (HasSteps stepping) words asked
+
+-- those of which the steps' do not stand first: they stand behind the content's, if at all
+abbrev pub HasStepsBehind : SectorAsked → Type 0
+HasStepsBehind asked = (asked.disk.stepping ≡ Single) ⊎ (asked.alone ≢ None)
+
+abbrev pub NamesCopyFirst : List (List ℕ) → Option SectorAsked → Type 0
+NamesCopyFirst words asked = NamesBy copy_first_words HasStepsBehind words asked
+
+-- those behind the content's number
+abbrev pub IsAlone : Option ℕ → SectorAsked → Type 0
+IsAlone alone asked = asked.alone ≡ alone
+
+abbrev pub NamesStepped : Option ℕ → List (List ℕ) → Option SectorAsked → Type 0
+NamesStepped alone words asked = NamesBy stepped_words (IsAlone alone) words asked
+
+-- the number of a content, and the words behind it
+abbrev pub HasNumber : List (List ℕ) → Option (ℕ × List (List ℕ)) → Type 0
+HasNumber words (Some (number, others)) = (word : List ℕ) × NamesNumber MOST_COPY_NUMBERS decimal word (Some number) × (words ≡ word ∷ others)
+HasNumber words None = (word : List ℕ) (others : List (List ℕ)) → words ≡ word ∷ others → NamesNumber MOST_COPY_NUMBERS decimal word None
 
 -- and those from the format's on
 abbrev pub HasOptions : Stepping → Option ℕ → SectorAsked → Type 0

@@ -1,9 +1,9 @@
 //! The words that ask to show a sector of dumps.
 
-ghost use Rattle.std.specs.Prelude.{◌≡◌, ◌<◌, ◌≤◌, ◌-◌, ◌∷◌, ℕ, IfSome, List, codes, decimal, length};
+ghost use Rattle.std.specs.Prelude.{◌≡◌, ◌<◌, ◌≤◌, ◌-◌, IfSome, Some, decimal, length};
 ghost use Rattle.std.specs.Option.{option_map};
 ghost use Rattle.std.specs.Str.{bytes_eq};
-ghost use Rattle.flux_cli.specs.SectorWords.{IsMaybeShown, MOST_COPY_NUMBERS, NamesBehind, NamesCopy, NamesNumber, NamesPlace, NamesSector, NamesShow, NamesTrack, asked_sector, track_word};
+ghost use Rattle.flux_cli.specs.SectorWords.{HasNumber, IsMaybeShown, MOST_COPY_NUMBERS, NamesBehind, NamesCopy, NamesCopyFirst, NamesNumber, NamesPlace, NamesSector, NamesShow, NamesStepped, NamesTrack, asked_sector, track_word};
 ghost use Rattle.flux_engine.specs.Recordings.{sectors_of as sectors_in, track_at};
 ghost use Rattle.sector_images.specs.Places.{tracks};
 ghost use Rattle.sector_report.specs.Lines.{two_digits};
@@ -35,8 +35,8 @@ pub struct ShowAsked<'a> {
     pub dumps: &'a [Word],
 }
 
-/// What the words ask of a sector, if they ask for that: `show [--double-step] [--copy N] FORMAT TRACK SECTOR DUMP...`, with the track and the
-/// sector as reports name them.
+/// What the words ask of a sector, if they ask for that: `show [--double-step] [--copy N] FORMAT TRACK SECTOR DUMP...`, with the options in
+/// either order, and the track and the sector as reports name them.
 pub fn sector_of(words: &[Word]) -> Option<ShowAsked<'_>>
     ensures { NamesShow words.now (option_map asked_sector result) }
 {
@@ -53,7 +53,7 @@ fn asked_behind(words: &[Word]) -> Option<ShowAsked<'_>>
     words_name_formats();
     match behind(words, b"--double-step") {
         Some(rest) => asked_by(Stepping::Double, rest),
-        None => asked_by(Stepping::Single, words),
+        None => asked_first(words),
     }
 }
 
@@ -61,22 +61,50 @@ fn asked_behind(words: &[Word]) -> Option<ShowAsked<'_>>
 fn asked_by(stepping: Stepping, words: &[Word]) -> Option<ShowAsked<'_>>
     ensures { NamesCopy stepping words.now (option_map asked_sector result) }
 {
+    words_name_formats();
     match behind(words, b"--copy") {
-        Some(rest) => asked_alone(stepping, rest),
+        Some(rest) => match numbered(rest) {
+            Some((number, others)) => asked_of_disk(stepping, Some(number), others),
+            None => None,
+        },
         None => asked_of_disk(stepping, None, words),
     }
 }
 
-/// What the words behind `--copy` ask for: its number follows.
-fn asked_alone(stepping: Stepping, rest: &[Word]) -> Option<ShowAsked<'_>>
-    ensures { (words : List (List ℕ)) → words ≡ codes "--copy" ∷ rest.now → NamesCopy stepping words (option_map asked_sector result) }
+/// What words ask for of which the steps' is not the first: it may stand behind the number of a content.
+fn asked_first(words: &[Word]) -> Option<ShowAsked<'_>>
+    ensures { NamesCopyFirst words.now (option_map asked_sector result) }
 {
     words_name_formats();
-    let Some((word, others)) = rest.split_first() else {
+    match behind(words, b"--copy") {
+        Some(rest) => match numbered(rest) {
+            Some((number, others)) => asked_stepped(number, others),
+            None => None,
+        },
+        None => asked_of_disk(Stepping::Single, None, words),
+    }
+}
+
+/// What the words behind the number of a content ask for.
+fn asked_stepped(number: u32, words: &[Word]) -> Option<ShowAsked<'_>>
+    ensures { NamesStepped (Some number) words.now (option_map asked_sector result) }
+{
+    words_name_formats();
+    match behind(words, b"--double-step") {
+        Some(rest) => asked_of_disk(Stepping::Double, Some(number), rest),
+        None => asked_of_disk(Stepping::Single, Some(number), words),
+    }
+}
+
+/// The number of a content that the first word is, and the words behind it.
+fn numbered(words: &[Word]) -> Option<(u32, &[Word])>
+    ensures { HasNumber words.now (option_map (λ named. (named.0, named.1.now)) result) }
+{
+    let Some((word, others)) = words.split_first() else {
         return None;
     };
     match copy_number(word.bytes()) {
-        Some(number) => asked_of_disk(stepping, Some(number), others),
+        Some(number) => Some((number, others)),
         None => None,
     }
 }

@@ -152,7 +152,18 @@ fn a_seventeenth_content_is_left_out(rt: HostRuntime) -> Result<(), Fail> {
 }
 
 /// Words that ask for no sector of the disk.
-const WRONG: [&[&str]; 6] = [
+const WRONG: [&[&str]; 7] = [
+    &[
+        "show",
+        "--double-step",
+        "--copy",
+        "0",
+        "--double-step",
+        "ibm-360",
+        "00.0",
+        "01",
+        "a",
+    ],
     &["show", "ibm-3740", "77.0", "01", "a"],
     &["show", "ibm-3740", "0.0", "01", "a"],
     &["show", "ibm-3740", "00.0", "27", "a"],

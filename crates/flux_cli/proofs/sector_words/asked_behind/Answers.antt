@@ -8,4 +8,4 @@ returns-in-Some c =
     step-named c.args.words.now c.words_name_formats.ensures.letters c.in-Some.rest.now (option_map asked_sector c.asked_by.result) c.in-Some.ensures.there c.asked_by.ensures
 
 pub returns-in-None : goal.returns-in-None
-returns-in-None c = step-unnamed c.args.words.now (option_map asked_sector c.asked_by-in-None.result) c.in-None.ensures.none c.asked_by-in-None.ensures
+returns-in-None c = step-unnamed c.args.words.now (option_map asked_sector c.asked_first.result) c.in-None.ensures.none c.asked_first.ensures
