@@ -1,13 +1,14 @@
 -- The places of a block where a word may begin, a digit each.
-use Rattle.std.proofs.Common.{◌≡◌, ℕ, suc, ◌+◌, ◌-◌, ◌*◌, ◌/◌, ◌%◌, ◌^◌, ◌<◌, ◌≤◌, min, Bool, true, false, ◌==◌, ◌⊎◌, inl, inr, ◌↔◌, sym, ap, ◌∙◌, subst, arith, bit_and, pow-suc}
+use Rattle.std.proofs.Common.{◌≡◌, ℕ, suc, ◌+◌, ◌-◌, ◌*◌, ◌/◌, ◌%◌, ◌^◌, ◌<◌, ◌≤◌, min, Bool, List, length, set, slice_index, true, false, ◌==◌, ◌⊎◌, inl, inr, ◌↔◌, sym, ap, ◌∙◌, subst, arith, bit_and, pow-suc}
 use Rattle.std.specs.Int.{bit_at, bit_not, w64}
 use Rattle.std.proofs.lemmas.Bool.{cases_lt}
 use Rattle.std.proofs.lemmas.Bool.Decides.{nat_tests}
+use Rattle.std.proofs.lemmas.List.{get_or-set_same, get_or-set_other}
 use Rattle.std.proofs.lemmas.Nat.Bits.{bit_at-lt, bit_at-zero, bit_at_and, bit_at_not, bit_at_ones, bit_at_above, shr_and_one}
 use Rattle.std.proofs.lemmas.Nat.{leading_top, shr_high}
 use Rattle.std.specs.Int.Count.{count_leading_zeros}
 use Rattle.cell_bits.specs.Word.{digit}
-use Rattle.cell_bits.specs.inside.Window.{cell_of_two, IsJoined, MeetsAt, AreCandidates}
+use Rattle.cell_bits.specs.inside.Window.{cell_of_two, IsJoined, MeetsAt, AreCandidates, AreCellsOf, StandAt}
 
 -- a test of a digit
 from_digit : (value place : ℕ) → digit value place ≡ true → bit_at value place ≡ 1
@@ -44,6 +45,53 @@ digit-and a b place =
 
 pub zero-digit : (place : ℕ) → digit 0 place ≡ false
 zero-digit place = ap (λ bit. bit == 1) (bit_at-zero place)
+
+module _ (high low : ℕ) (offsets : List ℕ) (one : Bool) where
+  -- one more of the rarer cells is looked at
+  pub rarer-more : (index places cells equal : ℕ)
+      → ((k : ℕ) → k < 64 → StandAt high low offsets index one k → digit places (63 - k) ≡ true)
+      → IsJoined high low (slice_index offsets index) cells
+      → ((k : ℕ) → k < 64 → (digit equal (63 - k) ≡ true) ↔ (digit cells (63 - k) ≡ one))
+      → (k : ℕ) → k < 64 → StandAt high low offsets (index + 1) one k → digit (bit_and places equal) (63 - k) ≡ true
+  rarer-more index places cells equal so_far joint told k within stand =
+      let early : StandAt high low offsets index one k = λ i less. stand i (omega (arith, less)) in
+      let turned : k + slice_index offsets index ≡ slice_index offsets index + k = omega arith in
+      let here : digit cells (63 - k) ≡ one = joint k within ∙ ap (cell_of_two high low) (sym turned) ∙ stand index (omega arith) in
+      (digit-and places equal (63 - k)).1 (so_far k within early, (told k within).1 here)
+
+  -- where no place is left, they stand nowhere
+  pub rarer-none : (index many places : ℕ) → index ≤ many → places ≡ 0
+      → ((k : ℕ) → k < 64 → StandAt high low offsets index one k → digit places (63 - k) ≡ true)
+      → (k : ℕ) → k < 64 → ¬ StandAt high low offsets many one k
+  rarer-none index many places few none so_far k within stand =
+      let yes : digit places (63 - k) ≡ true = so_far k within (λ i less. stand i (omega (arith, less, few))) in
+      let no : digit places (63 - k) ≡ false = ap (λ (n : ℕ). digit n (63 - k)) none ∙ zero-digit (63 - k) in
+      cc
+
+-- one more of them
+pub cells-push : (word count offset many : ℕ) (offsets : List ℕ) (one : Bool) → AreCellsOf word count offsets many one → many < length offsets
+    → offset < count → digit word (count - 1 - offset) ≡ one → AreCellsOf word count (set offsets many offset) (many + 1) one
+cells-push word count offset many offsets one cells inside within is index early =
+    let P : ℕ → Type 0 = λ n. (n < count) × (digit word (count - 1 - n) ≡ one) in
+    elim (cases_lt index many) [
+      | inl less ↦ subst P (sym (get_or-set_other offsets many index offset 0 (λ same. omega (arith, less, same)))) (cells index less)
+      | inr more ↦
+          let same : many ≡ index = omega (arith, early, more) in
+          let Q : ℕ → Type 0 = λ k. P (slice_index (set offsets many offset) k) in
+          subst Q same (subst P (sym (get_or-set_same offsets many offset 0 inside)) (within, is))
+    ]
+
+-- before one is looked at, each place may do
+pub rarer-all : (k : ℕ) → k < 64 → digit (2 ^ 64 - 1) (63 - k) ≡ true
+rarer-all k within = to_digit (2 ^ 64 - 1) (63 - k) (bit_at_ones 64 (63 - k) (omega arith))
+
+-- so the word stands nowhere
+pub word-nowhere : (high low word count : ℕ) (offsets : List ℕ) (many : ℕ) (one : Bool) → AreCellsOf word count offsets many one
+    → ((k : ℕ) → k < 64 → ¬ StandAt high low offsets many one k) → AreCandidates high low word count count 0
+word-nowhere high low word count offsets many one cells nowhere k within = (
+  λ yes. let no : digit 0 (63 - k) ≡ false = zero-digit (63 - k) in absurd cc,
+  λ meets. absurd (nowhere k within (λ index less. meets (slice_index offsets index) (cells index less).0 ∙ (cells index less).1)),
+)
 
 module _ (high low value count : ℕ) where
   -- before a cell is looked at, each place may do

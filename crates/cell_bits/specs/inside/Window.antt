@@ -1,5 +1,5 @@
 -- 64 cells in one number, high bit first: what the calls that read look at.
-use Rattle.std.specs.Prelude.{◌≡◌, ℕ, ◌+◌, ◌-◌, ◌<◌, Bool, true, false, ◌↔◌, ◌*◌, List, get_or, nat_lt, if◌then◌else◌}
+use Rattle.std.specs.Prelude.{◌≡◌, ℕ, ◌+◌, ◌-◌, ◌<◌, Bool, true, false, ◌↔◌, ◌*◌, List, get_or, nat_lt, slice_index, if◌then◌else◌}
 use Rattle.cell_bits.specs.Word.{digit}
 
 -- the 64 cells from a place on, with zeros past the list's end
@@ -21,6 +21,15 @@ MeetsAt high low value count met k = (i : ℕ) → i < met → cell_of_two high 
 -- the places of the first block from which the first cells of the word stand
 abbrev pub AreCandidates : ℕ → ℕ → ℕ → ℕ → ℕ → ℕ → Type 0
 AreCandidates high low value count met places = (k : ℕ) → k < 64 → (digit places (63 - k) ≡ true) ↔ MeetsAt high low value count met k
+
+-- these are offsets of cells of the word that are all ones, or all zeros
+abbrev pub AreCellsOf : (word count : ℕ) → List ℕ → (many : ℕ) → Bool → Type 0
+AreCellsOf word count offsets many one = (index : ℕ) → index < many
+    → (slice_index offsets index < count) × (digit word (count - 1 - slice_index offsets index) ≡ one)
+
+-- so many cells stand at these offsets behind cell k of two blocks
+abbrev pub StandAt : ℕ → ℕ → List ℕ → (many : ℕ) → Bool → ℕ → Type 0
+StandAt high low offsets many one k = (index : ℕ) → index < many → cell_of_two high low (k + slice_index offsets index) ≡ one
 
 -- the block is what is left of another behind its first cells, so many of them
 abbrev pub IsRest : (low moved block : ℕ) → Type 0

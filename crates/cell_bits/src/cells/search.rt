@@ -1,7 +1,7 @@
-ghost use Rattle.std.specs.Prelude.{◌≡◌, ℕ, ◌-◌, ◌<◌, ◌≤◌, length, ◌↔◌, true, IsTrue};
+ghost use Rattle.std.specs.Prelude.{◌≡◌, ℕ, ◌-◌, ◌<◌, ◌≤◌, length, ◌↔◌, slice_index, true, IsTrue};
 ghost use Rattle.cell_bits.specs.Search.{IsFirstWord, IsFirstOne};
 ghost use Rattle.cell_bits.specs.Word.{digit};
-ghost use Rattle.cell_bits.specs.inside.Window.{AreCandidates, FoursHaveOnes};
+ghost use Rattle.cell_bits.specs.inside.Window.{AreCandidates, AreCellsOf, FoursHaveOnes, StandAt};
 ghost use Rattle.cell_bits.specs.Broken.{Unbroken};
 
 use super::{Cells, joined};
@@ -20,11 +20,12 @@ impl Cells {
             return None;
         }
         let end = to.min(length - count as usize + 1);
+        let rarer = Rarer::of(word, count);
         let mut place = from;
         let mut here = self.window(from);
         while place < end {
             let next = self.window(place + 64);
-            let places = candidates(here, next, word, count);
+            let places = places_of(here, next, word, count, &rarer);
             if places != 0 {
                 let first = place + places.leading_zeros() as usize;
                 return if first < end { Some(first) } else { None };
@@ -95,6 +96,80 @@ fn fours_have_ones(block: u64) -> bool
     let pairs = block | block >> 1;
     let fours = pairs | pairs >> 2;
     fours & LOWEST_OF_FOUR == LOWEST_OF_FOUR
+}
+
+/// The cells of a word that it has fewer of, ones or zeros. Recorded cells have fewer of these too, as a rule, so that hardly a place is
+/// left where some of them stand.
+#[derive(Clone, Copy, Debug, PartialEq, Eq)]
+pub struct Rarer {
+    /// Whether they are ones.
+    pub one: bool,
+    /// How far they lie behind the first cell.
+    pub offsets: [u8; 32],
+    /// How many they are.
+    pub many: usize,
+}
+
+impl Rarer {
+    /// Those of the low `count` bits of a word, 1 to 32, high bit first.
+    fn of(word: u32, count: u8) -> Rarer
+        requires some { 1 ≤ count }
+        requires most { count ≤ 32 }
+        ensures many { result.many ≤ 32 }
+        ensures cells { AreCellsOf word count result.offsets result.many result.one }
+    {
+        let ones = (word << (32 - count as u32)).count_ones();
+        let one = ones == count as u32 || (ones > 0 && 2 * ones <= count as u32);
+        let mut offsets = [0; 32];
+        let mut many = 0;
+        for offset in 0..count {
+            if is_one(word, count - 1 - offset) == one {
+                offsets[many] = offset;
+                many += 1;
+            }
+        }
+        Rarer { one, offsets, many }
+    }
+
+    /// Whether they stand from no place of the first of two blocks on.
+    fn stand_nowhere(&self, high: u64, low: u64) -> bool
+        requires many { self.now.many ≤ 32 }
+        requires near { (index : ℕ) → index < self.now.many → slice_index self.now.offsets index < 64 }
+        ensures { IsTrue result → (k : ℕ) → k < 64 → ¬ StandAt high low self.now.offsets self.now.many self.now.one k }
+    {
+        let mut places = u64::MAX;
+        for index in 0..self.many {
+            let cells = joined(high, low, self.offsets[index] as u32);
+            places &= equal_cells(cells, self.one);
+            if places == 0 {
+                return true;
+            }
+        }
+        false
+    }
+}
+
+/// Whether the bit is one that is worth 2^`place`.
+fn is_one(word: u32, place: u8) -> bool
+    requires { place < 32 }
+    ensures { result ≡ digit word place }
+{
+    (word >> place as u32) & 1 == 1
+}
+
+/// The places of the first of two blocks from which the low `count` bits of the word stand, 1 to 32, high bit first: a bit each,
+/// high bit first. The rarer cells of the word tell nearly always that there are none.
+fn places_of(high: u64, low: u64, word: u32, count: u8, rarer: &Rarer) -> u64
+    requires some { 1 ≤ count }
+    requires most { count ≤ 32 }
+    requires many { rarer.now.many ≤ 32 }
+    requires cells { AreCellsOf word count rarer.now.offsets rarer.now.many rarer.now.one }
+    ensures { AreCandidates high low word count count result }
+{
+    if rarer.stand_nowhere(high, low) {
+        return 0;
+    }
+    candidates(high, low, word, count)
 }
 
 /// The places of the first of two blocks from which the low `count` bits of the word stand, 1 to 32, high bit

@@ -1,0 +1,7 @@
+use Rattle.std.proofs.Common.{ℕ, refl}
+use Rattle.cell_bits.proofs.Candidates.{word-nowhere}
+use Rattle.cell_bits.proofs.cells.search.places_of.Goals as goal
+
+pub returns-then-stand_nowhere : goal.returns-then-stand_nowhere
+returns-then-stand_nowhere c =
+    word-nowhere c.args.high c.args.low c.args.word c.args.count c.args.rarer.now.offsets c.args.rarer.now.many c.args.rarer.now.one c.requires.cells (c.stand_nowhere.ensures c.if-stand_nowhere.true)
