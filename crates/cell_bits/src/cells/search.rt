@@ -20,7 +20,7 @@ impl Cells {
             return None;
         }
         let end = to.min(length - count as usize + 1);
-        let rarer = Rarer::of(word, count);
+        let rarer = Rarer::of(word, count, end.saturating_sub(from));
         let mut place = from;
         let mut here = self.window(from);
         while place < end {
@@ -98,6 +98,12 @@ fn fours_have_ones(block: u64) -> bool
     fours & LOWEST_OF_FOUR == LOWEST_OF_FOUR
 }
 
+/// Fewer rare cells of a word than these leave some place nearly always, so that a look at them does not pay.
+const FEW: u32 = 3;
+
+/// Nor does it where fewer places are looked at, since the cells have to be gathered first.
+const SHORT: usize = 128;
+
 /// The cells of a word that it has fewer of, ones or zeros. Recorded cells have fewer of these too, as a rule, so that hardly a place is
 /// left where some of them stand.
 #[derive(Clone, Copy, Debug, PartialEq, Eq)]
@@ -111,17 +117,23 @@ pub struct Rarer {
 }
 
 impl Rarer {
-    /// Those of the low `count` bits of a word, 1 to 32, high bit first.
-    fn of(word: u32, count: u8) -> Rarer
+    /// Those of the low `count` bits of a word, 1 to 32, high bit first, for a search at so many places. None of them where they
+    /// do not pay.
+    fn of(word: u32, count: u8, places: usize) -> Rarer
         requires some { 1 ≤ count }
         requires most { count ≤ 32 }
         ensures many { result.many ≤ 32 }
         ensures cells { AreCellsOf word count result.offsets result.many result.one }
     {
-        let ones = (word << (32 - count as u32)).count_ones();
-        let one = ones == count as u32 || (ones > 0 && 2 * ones <= count as u32);
+        let above = 32 - count as u32;
+        let ones = (word << above).count_ones();
+        let zeros = (!word << above).count_ones();
+        let one = ones <= zeros;
         let mut offsets = [0; 32];
         let mut many = 0;
+        if ones < FEW || zeros < FEW || places < SHORT {
+            return Rarer { one, offsets, many };
+        }
         for offset in 0..count {
             if is_one(word, count - 1 - offset) == one {
                 offsets[many] = offset;
