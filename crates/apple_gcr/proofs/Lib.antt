@@ -1,6 +1,7 @@
 pub mod Bytes
 pub mod Content
 pub mod DiskZeros
+pub mod FourBytes
 pub mod NextOnes
 pub mod Values
 pub mod Walk

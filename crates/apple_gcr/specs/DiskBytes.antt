@@ -1,6 +1,6 @@
 -- How disk bytes are read from the cells, one after another: each from the cell after the one before. By the strict rule a byte
 -- begins there; Apple's controller waits for the one with which it begins, and the zeros before it are passed over.
-use Rattle.std.specs.Prelude.{ℕ, zero, suc, ◌+◌, Bool, true, false, List, [], ◌∷◌, take, drop}
+use Rattle.std.specs.Prelude.{◌≡◌, ℕ, zero, suc, ◌+◌, ◌*◌, ◌<◌, Bool, true, false, List, [], ◌∷◌, get_or, take, drop}
 use Rattle.apple_gcr.specs.declared.disk_bytes.ByteRule.{ByteRule}
 use Rattle.apple_gcr.specs.declared.disk_bytes.ByteRule.TheVariants.{Strict, Controller}
 use Rattle.apple_nibbles.specs.Nibbles.{BYTE_CELLS, disk_byte}
@@ -29,3 +29,7 @@ bytes_end passed cells from (suc count) = byte_place passed cells (bytes_end pas
 -- byte number k, from 0, of those that are read from a place on
 unfoldable pub byte_read : ℕ → List Bool → ℕ → ℕ → ℕ
 byte_read passed cells from k = disk_byte cells (byte_place passed cells (bytes_end passed cells from k))
+
+-- so many bytes of eight cells each begin with a one, from a place on
+abbrev pub BeginAt : List Bool → ℕ → ℕ → Type 0
+BeginAt cells from count = (k : ℕ) → k < count → get_or cells (from + BYTE_CELLS * k) false ≡ true

@@ -1,8 +1,8 @@
 //! Disk bytes, read from the cells one after another.
 
-ghost use Rattle.std.specs.Prelude.{◌≡◌, ℕ, ◌+◌, ◌^◌, ◌<◌, ◌≤◌, length, take, IfNone, IfSome};
+ghost use Rattle.std.specs.Prelude.{◌≡◌, ℕ, ◌+◌, ◌^◌, ◌<◌, ◌≤◌, length, take, IfNone, IfSome, IsTrue};
 ghost use Rattle.cell_bits.specs.Word.{word_cells};
-ghost use Rattle.apple_gcr.specs.DiskBytes.{byte_place, bytes_end, zeros_first, zeros_passed};
+ghost use Rattle.apple_gcr.specs.DiskBytes.{BeginAt, byte_place, bytes_end, zeros_first, zeros_passed};
 ghost use Rattle.apple_nibbles.specs.Nibbles.{disk_byte};
 
 use apple_nibbles::{BYTE_CELLS, disk_byte_at};
@@ -74,7 +74,7 @@ pub(crate) fn bytes_end(
     }
 }
 
-/// The same by the controller's rule, byte by byte.
+/// The same by the controller's rule. Nearly always each byte begins right behind the one before, so four of them are looked at at once.
 fn controller_end(frame: &CellsFrom, from: usize, count: usize) -> Option<usize>
     requires near { from < 2 ^ 32 }
     requires few { count < 2 ^ 32 }
@@ -82,14 +82,38 @@ fn controller_end(frame: &CellsFrom, from: usize, count: usize) -> Option<usize>
     ensures none { IfNone result (length frame.now < bytes_end 7 frame.now from count) }
 {
     let mut end = from;
-    for _ in 0..count {
-        if frame.len() < end + BYTE_CELLS {
-            return None;
+    let mut left = count;
+    while left > 0 {
+        if left >= FOUR && four_begin(frame, end) {
+            end += FOUR * BYTE_CELLS;
+            left -= FOUR;
+        } else {
+            if frame.len() < end + BYTE_CELLS {
+                return None;
+            }
+            end = byte_place(ByteRule::Controller, frame, end) + BYTE_CELLS;
+            left -= 1;
         }
-        end = byte_place(ByteRule::Controller, frame, end) + BYTE_CELLS;
     }
     frame.end_within(end)
 }
+
+/// How many bytes have their cells in one word.
+const FOUR: usize = 4;
+
+/// Whether four bytes, each of eight cells, lie in the cells from the offset on that begin with a one.
+fn four_begin(frame: &CellsFrom, from: usize) -> bool
+    requires near { from < 2 ^ 40 }
+    ensures { IsTrue result → (from + 32 ≤ length frame.now) × BeginAt frame.now from 4 }
+{
+    if frame.len() < from + FOUR * BYTE_CELLS {
+        return false;
+    }
+    frame.word_at(from, 32) & FIRST_CELLS == FIRST_CELLS
+}
+
+/// The first cell of each of four bytes.
+const FIRST_CELLS: u32 = 0x8080_8080;
 
 /// The most zeros that an unbroken frame has in a row.
 const MOST_ZEROS: u32 = 7;
