@@ -1,4 +1,3 @@
-use Rattle.std.proofs.Common.{ℕ, refl}
 use Rattle.cell_bits.proofs.Candidates.{word-nowhere}
 use Rattle.cell_bits.proofs.cells.search.places_of.Goals as goal
 

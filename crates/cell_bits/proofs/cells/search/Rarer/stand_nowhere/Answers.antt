@@ -1,4 +1,4 @@
-use Rattle.std.proofs.Common.{◌≡◌, ℕ, ◌+◌, arith, subst}
+use Rattle.std.proofs.Common.{◌+◌, arith}
 use Rattle.cell_bits.proofs.Candidates.{rarer-all, rarer-more, rarer-none}
 use Rattle.cell_bits.proofs.cells.search.Rarer.stand_nowhere.Goals as goal
 
