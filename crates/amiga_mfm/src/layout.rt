@@ -2,7 +2,6 @@ ghost use Rattle.std.specs.Prelude.{◌≡◌};
 ghost use Rattle.amiga_mfm.specs.Disks.{disk_of as numbers_of};
 
 use crate::recording::AmigaMfm;
-use cell_bits::MFM_A1_MARK;
 use mfm_coding::Symbol;
 
 /// What the tracks of a disk have of their own.
@@ -71,11 +70,6 @@ pub(crate) const SECTOR_LONGS: usize = 128;
 
 /// The longs of a header's label, which are zeros.
 pub(crate) const LABEL: [u32; 4] = [0; 4];
-
-/// The sync, two marks A1 as one word, and its cells.
-pub(crate) const SYNC: u32 = MFM_A1_MARK << 16 | MFM_A1_MARK;
-
-pub(crate) const SYNC_CELLS: u8 = 32;
 
 /// The first byte of the info long.
 pub(crate) const FORMAT_BYTE: u8 = 0xFF;

@@ -16,13 +16,13 @@ ghost use Rattle.amiga_mfm.specs.lemmas.Syncs.{own_syncs};
 use crate::data_field::read_content;
 use crate::header::{header_name, track_number};
 use crate::layout::{
-    CONTENT_CELLS, FIRST_SECTOR, HEADER_CELLS, LEAD_OUT, Row, SECTOR, SECTOR_SIZE, SYNC,
-    SYNC_CELLS, disk_of,
+    CONTENT_CELLS, FIRST_SECTOR, HEADER_CELLS, LEAD_OUT, Row, SECTOR, SECTOR_SIZE, disk_of,
 };
 use crate::rows::push_row;
 use cell_bits::Cells;
 use flux_base::{HeaderName, Memory, TrackId};
-use frame_law::{CellsFrom, Layout, SectorBuffer};
+use frame_law::{CellsFrom, Coding, Layout, SectorBuffer, SectorBytes};
+use mfm_coding::CODING;
 
 /// The recording of Amiga disks (Amiga trackdisk). Its tracks are the cylinders 0 to 79 with the heads 0 and 1; sectors are
 /// numbered from 0.
@@ -37,23 +37,9 @@ pub enum AmigaMfm {
 impl Layout for AmigaMfm {
     type Row = Row;
 
-    const SHORTEST: u8 = 2;
+    const CODING: Coding = CODING;
 
-    const LONGEST: u8 = 4;
-
-    const SYNC: u32 = SYNC;
-
-    const SYNC_CELLS: u8 = SYNC_CELLS;
-
-    ghost SHORTEST = { 2 };
-
-    ghost LONGEST = { 4 };
-
-    ghost SYNC = { 0x44894489 };
-
-    ghost SYNC_CELLS = { 32 };
-
-    ghost header_cells = { 480 };
+    ghost CODING = { record { shortest = 2; longest = 4; sync = 0x44894489; sync_cells = 32 } };
 
     ghost has_track = { λ r track. IsAmigaTrack track };
 
@@ -78,6 +64,8 @@ impl Layout for AmigaMfm {
     ghost hold = { λ r size cells place bytes. Hold cells place bytes };
 
     ghost data_cells = { λ r. 8192 };
+
+    ghost header_cells = { 480 };
 
     ghost header_end = { λ r cells. 480 };
 
@@ -127,15 +115,8 @@ impl Layout for AmigaMfm {
         &LEAD_OUT
     }
 
-    fn append_row(
-        &self,
-        track: TrackId,
-        sector: u8,
-        bytes: &[u8],
-        row: Row,
-        cells: &mut Cells,
-    ) -> Result<(), Memory> {
-        push_row(cells, row, disk_of(*self), track, sector, bytes)
+    fn append_row(&self, of: &SectorBytes, row: Row, cells: &mut Cells) -> Result<(), Memory> {
+        push_row(cells, row, disk_of(*self), of.track, of.sector, of.bytes)
     }
 
     fn header_end(&self, frame: &CellsFrom) -> Option<usize> {

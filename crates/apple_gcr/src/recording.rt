@@ -20,10 +20,10 @@ use crate::layout::{
     FIRST_SECTOR, LEAD_IN, LEAD_OUT, RING_CELLS, Row, SECTOR, SECTOR_SIZE, SECTORS,
 };
 use crate::rows::push_row;
-use apple_nibbles::{ADDRESS_MARK, MARK_CELLS, next_sync};
+use apple_nibbles::{CODING, next_sync};
 use cell_bits::Cells;
 use flux_base::{HeaderName, Memory, TrackId};
-use frame_law::{CellsFrom, Layout, SectorBuffer};
+use frame_law::{CellsFrom, Coding, Layout, SectorBuffer, SectorBytes};
 
 /// The recording of Apple DOS 3.3 and ProDOS disks. Its tracks are the cylinders 0 to 34 with head 0. Its sectors
 /// are numbered 0 to 15 as their headers name them, which is the order in which they pass.
@@ -47,23 +47,9 @@ impl AppleGcr {
 impl Layout for AppleGcr {
     type Row = Row;
 
-    const SHORTEST: u8 = 1;
+    const CODING: Coding = CODING;
 
-    const LONGEST: u8 = 3;
-
-    const SYNC: u32 = ADDRESS_MARK;
-
-    const SYNC_CELLS: u8 = MARK_CELLS;
-
-    ghost SHORTEST = { 1 };
-
-    ghost LONGEST = { 3 };
-
-    ghost SYNC = { 0xD5AA96 };
-
-    ghost SYNC_CELLS = { 24 };
-
-    ghost header_cells = { 88 };
+    ghost CODING = { record { shortest = 1; longest = 3; sync = 0xD5AA96; sync_cells = 24 } };
 
     ghost has_track = { λ r track. IsAppleTrack track };
 
@@ -88,6 +74,8 @@ impl Layout for AppleGcr {
     ghost hold = { λ r size cells sync bytes. Hold (zeros_passed r.rule) cells sync bytes };
 
     ghost data_cells = { λ r. 2768 };
+
+    ghost header_cells = { 88 };
 
     ghost header_end = { λ r cells. header_end (zeros_passed r.rule) cells };
 
@@ -137,15 +125,8 @@ impl Layout for AppleGcr {
         &LEAD_OUT
     }
 
-    fn append_row(
-        &self,
-        track: TrackId,
-        sector: u8,
-        bytes: &[u8],
-        row: Row,
-        cells: &mut Cells,
-    ) -> Result<(), Memory> {
-        push_row(cells, row, track, sector, bytes)
+    fn append_row(&self, of: &SectorBytes, row: Row, cells: &mut Cells) -> Result<(), Memory> {
+        push_row(cells, row, of.track, of.sector, of.bytes)
     }
 
     fn header_end(&self, frame: &CellsFrom) -> Option<usize> {

@@ -7,7 +7,7 @@ mod nibbles;
 mod writing;
 
 pub use marks::{
-    ADDRESS_MARK, BYTE_CELLS, DATA_BYTE, DATA_BYTE_PLACE, DATA_MARK, MARK_CELLS, next_sync,
+    ADDRESS_MARK, BYTE_CELLS, CODING, DATA_BYTE, DATA_BYTE_PLACE, DATA_MARK, MARK_CELLS, next_sync,
 };
 pub use nibbles::{disk_byte_at, nibble_of, value_of};
 pub use writing::{push_byte, push_mark, push_self_syncs};

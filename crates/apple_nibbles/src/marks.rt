@@ -2,7 +2,7 @@ ghost use Rattle.std.specs.Prelude.{ℕ, ◌^◌, ◌<◌, ◌≤◌, IfNone, If
 ghost use Rattle.frame_law.specs.Frames.{IsFirstSync, NoSync};
 ghost use Rattle.apple_nibbles.specs.Marks.{IsSync};
 
-use frame_law::CellsFrom;
+use frame_law::{CellsFrom, Coding};
 
 /// The cells of a byte.
 pub const BYTE_CELLS: usize = 8;
@@ -15,6 +15,14 @@ pub const DATA_MARK: u32 = 0xD5_AAAD;
 
 /// A mark is a word of so many cells.
 pub const MARK_CELLS: u8 = 24;
+
+/// Bytes of which each has its high bit and no two zeros after one another; headers begin with their mark.
+pub const CODING: Coding = Coding {
+    shortest: 1,
+    longest: 3,
+    sync: ADDRESS_MARK,
+    sync_cells: MARK_CELLS,
+};
 
 /// The third byte of the mark of a data field.
 pub const DATA_BYTE: u8 = 0xAD;

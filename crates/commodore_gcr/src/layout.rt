@@ -1,3 +1,5 @@
+use frame_law::Coding;
+
 /// A row of a track.
 #[derive(Clone, Copy)]
 pub enum Row {
@@ -52,6 +54,14 @@ pub(crate) const GAP_BYTE: u8 = 0x55;
 pub(crate) const SYNC: u32 = 0b111_1111_1110;
 
 pub(crate) const SYNC_CELLS: u8 = 11;
+
+/// Group code has at most two zeros after one another; headers begin with the end of a sync mark.
+pub(crate) const CODING: Coding = Coding {
+    shortest: 1,
+    longest: 3,
+    sync: SYNC,
+    sync_cells: SYNC_CELLS,
+};
 
 /// The ones of it: the block begins so many cells after its place.
 pub(crate) const SYNC_ONES: usize = 10;

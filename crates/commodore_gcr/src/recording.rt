@@ -15,14 +15,14 @@ ghost use Rattle.commodore_gcr.specs.Zones.{IsCommodoreTrack, sectors_of, track_
 use crate::data_block::{next_sync, read_block};
 use crate::header_block::header_name;
 use crate::layout::{
-    DATA_CELLS, HEADER_CELLS, LEAD_IN, LEAD_OUT, Row, SECTOR, SECTOR_SIZE, SYNC, SYNC_CELLS,
+    CODING, DATA_CELLS, HEADER_CELLS, LEAD_IN, LEAD_OUT, Row, SECTOR, SECTOR_SIZE,
 };
 use crate::rows::push_row;
 use crate::zones::track_number;
 use cell_bits::Cells;
 use disk_zones::commodore_zone;
 use flux_base::{HeaderName, Memory, TrackId};
-use frame_law::{CellsFrom, Layout, SectorBuffer};
+use frame_law::{CellsFrom, Coding, Layout, SectorBuffer, SectorBytes};
 
 /// The recording of the Commodore 1541's and 1571's disks. Its tracks are the cylinders 0 to 39 with the heads 0 and 1, of
 /// which a 1541's disk has 35 or 40 with head 0, and a 1571's 35 with both; headers number them from 1, and those of head 1
@@ -41,23 +41,9 @@ pub struct CommodoreGcr {
 impl Layout for CommodoreGcr {
     type Row = Row;
 
-    const SHORTEST: u8 = 1;
+    const CODING: Coding = CODING;
 
-    const LONGEST: u8 = 3;
-
-    const SYNC: u32 = SYNC;
-
-    const SYNC_CELLS: u8 = SYNC_CELLS;
-
-    ghost SHORTEST = { 1 };
-
-    ghost LONGEST = { 3 };
-
-    ghost SYNC = { 0x7FE };
-
-    ghost SYNC_CELLS = { 11 };
-
-    ghost header_cells = { 70 };
+    ghost CODING = { record { shortest = 1; longest = 3; sync = 0x7FE; sync_cells = 11 } };
 
     ghost has_track = { λ r track. IsCommodoreTrack track };
 
@@ -82,6 +68,8 @@ impl Layout for CommodoreGcr {
     ghost hold = { λ r size cells sync bytes. Hold cells sync bytes };
 
     ghost data_cells = { λ r. 2590 };
+
+    ghost header_cells = { 70 };
 
     ghost header_end = { λ r cells. 70 };
 
@@ -131,15 +119,8 @@ impl Layout for CommodoreGcr {
         &LEAD_OUT
     }
 
-    fn append_row(
-        &self,
-        track: TrackId,
-        sector: u8,
-        bytes: &[u8],
-        row: Row,
-        cells: &mut Cells,
-    ) -> Result<(), Memory> {
-        push_row(cells, row, *self, track, sector, bytes)
+    fn append_row(&self, of: &SectorBytes, row: Row, cells: &mut Cells) -> Result<(), Memory> {
+        push_row(cells, row, *self, of.track, of.sector, of.bytes)
     }
 
     fn header_end(&self, frame: &CellsFrom) -> Option<usize> {

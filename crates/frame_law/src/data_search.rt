@@ -25,7 +25,7 @@ fn next_data<L: Layout>(
     buffer: &mut SectorBuffer,
 ) -> Option<usize>
     requires most { size ≤ MOST_SECTOR_BYTES }
-    ensures { let header = NamedHeaderStands L.SYNC L.SYNC_CELLS (L.header_end layout.now) (L.names layout.now) in
+    ensures { let header = NamedHeaderStands L.CODING.sync L.CODING.sync_cells (L.header_end layout.now) (L.names layout.now) in
         FirstData (DataStandAt (L.header_end layout.now) (L.data_end layout.now size) (L.is_sync layout.now) (L.hold layout.now size) header frame.now)
         from result buffer.new.items }
 {
@@ -54,12 +54,12 @@ fn has_header<L: Layout>(layout: &L, frame: &CellsFrom, from: usize, to: usize) 
     requires order { from ≤ to }
     requires near { to < 2 ^ 31 }
     ensures some { IsTrue result → (place : ℕ) × (name : HeaderName) × (from ≤ place) × (place < to)
-        × NamedHeaderStands L.SYNC L.SYNC_CELLS (L.header_end layout.now) (L.names layout.now) (drop place frame.now) name }
+        × NamedHeaderStands L.CODING.sync L.CODING.sync_cells (L.header_end layout.now) (L.names layout.now) (drop place frame.now) name }
     ensures none { result ≡ false → (place : ℕ) (name : HeaderName) → from ≤ place → place < to
-        → ¬ NamedHeaderStands L.SYNC L.SYNC_CELLS (L.header_end layout.now) (L.names layout.now) (drop place frame.now) name }
+        → ¬ NamedHeaderStands L.CODING.sync L.CODING.sync_cells (L.header_end layout.now) (L.names layout.now) (drop place frame.now) name }
 {
     let mut start = from;
-    while let Some(place) = frame.find_word(start, to, L::SYNC, L::SYNC_CELLS) {
+    while let Some(place) = frame.find_word(start, to, L::CODING.sync, L::CODING.sync_cells) {
         if standing_name(layout, &frame.behind(place)).is_some() {
             return true;
         }
@@ -70,9 +70,9 @@ fn has_header<L: Layout>(layout: &L, frame: &CellsFrom, from: usize, to: usize) 
 
 /// The name of the header at the front of the cells, where the sync stands. None where no header stands.
 pub(crate) fn standing_name<L: Layout>(layout: &L, frame: &CellsFrom) -> Option<HeaderName>
-    requires sync { Stands frame.now L.SYNC L.SYNC_CELLS 0 }
-    ensures stands { IfSome result (λ name. NamedHeaderStands L.SYNC L.SYNC_CELLS (L.header_end layout.now) (L.names layout.now) frame.now name) }
-    ensures none { IfNone result ((name : HeaderName) → ¬ NamedHeaderStands L.SYNC L.SYNC_CELLS (L.header_end layout.now) (L.names layout.now) frame.now name) }
+    requires sync { Stands frame.now L.CODING.sync L.CODING.sync_cells 0 }
+    ensures stands { IfSome result (λ name. NamedHeaderStands L.CODING.sync L.CODING.sync_cells (L.header_end layout.now) (L.names layout.now) frame.now name) }
+    ensures none { IfNone result ((name : HeaderName) → ¬ NamedHeaderStands L.CODING.sync L.CODING.sync_cells (L.header_end layout.now) (L.names layout.now) frame.now name) }
 {
     let Some(header_end) = layout.header_end(frame) else {
         return None;
@@ -94,7 +94,7 @@ pub(crate) fn own_data<L: Layout>(
     from: usize,
     buffer: &mut SectorBuffer,
 ) -> Option<usize>
-    ensures { let header = NamedHeaderStands L.SYNC L.SYNC_CELLS (L.header_end layout.now) (L.names layout.now) in
+    ensures { let header = NamedHeaderStands L.CODING.sync L.CODING.sync_cells (L.header_end layout.now) (L.names layout.now) in
         let size = L.sector_bytes layout.now in
         FirstData (DataStandAt (L.header_end layout.now) (L.data_end layout.now size) (L.is_sync layout.now) (L.hold layout.now size) header frame.now)
         from result buffer.new.items }
@@ -109,7 +109,7 @@ pub(crate) fn has_named_data<L: Layout>(
     name: HeaderName,
     buffer: &mut SectorBuffer,
 ) -> bool
-    ensures { let header = NamedHeaderStands L.SYNC L.SYNC_CELLS (L.header_end layout.now) (L.names layout.now) in
+    ensures { let header = NamedHeaderStands L.CODING.sync L.CODING.sync_cells (L.header_end layout.now) (L.names layout.now) in
         IsTrue result ↔ HasNamedData (L.size_named layout.now name)
         (λ size place bytes. DataStandAt (L.header_end layout.now) (L.data_end layout.now size) (L.is_sync layout.now) (L.hold layout.now size) header frame.now place bytes) }
 {

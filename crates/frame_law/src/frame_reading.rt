@@ -22,8 +22,8 @@ pub(crate) fn read_frame<L: Layout>(
     buffer: &mut SectorBuffer,
 ) -> Reading
     requires track { L.has_track layout.now track }
-    requires sync { Stands frame.now L.SYNC L.SYNC_CELLS 0 }
-    ensures { let header : (s : ℕ) → Type 0 = λ s. HeaderStands L.SYNC L.SYNC_CELLS (L.header_end layout.now) (L.lowest_sector layout.now) (L.sector_count layout.now track) (L.names_sector layout.now track) frame.now s in
+    requires sync { Stands frame.now L.CODING.sync L.CODING.sync_cells 0 }
+    ensures { let header : (s : ℕ) → Type 0 = λ s. HeaderStands L.CODING.sync L.CODING.sync_cells (L.header_end layout.now) (L.lowest_sector layout.now) (L.sector_count layout.now track) (L.names_sector layout.now track) frame.now s in
         let content : List ℕ → Type 0 = λ bytes. DataStand (L.header_end layout.now) (L.data_end layout.now (L.sector_bytes layout.now)) (L.is_sync layout.now) (L.hold layout.now (L.sector_bytes layout.now)) frame.now bytes in
         Reads header (λ s bytes. SectorStands (header s) (content bytes)) result buffer.new.items }
 {
@@ -52,9 +52,9 @@ pub(crate) fn header_sector<L: Layout>(
     requires track { L.has_track layout.now track }
     requires end { header_end ≡ L.header_end layout.now frame.now }
     requires whole { header_end ≤ length frame.now }
-    requires sync { Stands frame.now L.SYNC L.SYNC_CELLS 0 }
-    ensures stands { IfSome result (λ s. HeaderStands L.SYNC L.SYNC_CELLS (L.header_end layout.now) (L.lowest_sector layout.now) (L.sector_count layout.now track) (L.names_sector layout.now track) frame.now s) }
-    ensures none { IfNone result ((s : ℕ) → ¬ HeaderStands L.SYNC L.SYNC_CELLS (L.header_end layout.now) (L.lowest_sector layout.now) (L.sector_count layout.now track) (L.names_sector layout.now track) frame.now s) }
+    requires sync { Stands frame.now L.CODING.sync L.CODING.sync_cells 0 }
+    ensures stands { IfSome result (λ s. HeaderStands L.CODING.sync L.CODING.sync_cells (L.header_end layout.now) (L.lowest_sector layout.now) (L.sector_count layout.now track) (L.names_sector layout.now track) frame.now s) }
+    ensures none { IfNone result ((s : ℕ) → ¬ HeaderStands L.CODING.sync L.CODING.sync_cells (L.header_end layout.now) (L.lowest_sector layout.now) (L.sector_count layout.now track) (L.names_sector layout.now track) frame.now s) }
 {
     let sector = named_sector(layout, frame, track)?;
     if !frame.unbroken_to(header_end) {

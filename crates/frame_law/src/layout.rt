@@ -2,6 +2,7 @@ ghost use Rattle.std.specs.Prelude.{◌≡◌, ℕ, ◌+◌, ◌*◌, ◌^◌, �
 ghost use Rattle.cell_bits.specs.Bytes.{last_cell};
 ghost use Rattle.flux_base.specs.Bounds.{LONGEST_RING, MOST_SECTOR_BYTES};
 ghost use Rattle.flux_base.specs.declared.track.TrackId.{TrackId};
+ghost use Rattle.frame_law.specs.declared.coding.Coding.{Coding};
 ghost use Rattle.frame_law.specs.Frames.{AreSizes, EndsAt, FrameStands, IsFirstSync, IsSyncInReach, IsWithinReach, NoSync};
 ghost use Rattle.flux_base.specs.declared.header_name.HeaderName.{HeaderName};
 ghost use Rattle.frame_law.specs.lemmas.OwnData.{AreSyncsOrNone, BeginAtOnce, HasOwnDataSyncs};
@@ -12,7 +13,7 @@ ghost use Rattle.track_rings.specs.Rings.{AreSectors, IsSectorNumber, AreBytes};
 ghost use Rattle.track_rings.specs.Rows.{IsContent, Rows, frame_size, last_of, place_of, ring_of, ring_size, rows_cells, sector_rows};
 ghost use Rattle.track_rings.specs.Spaced.{MayFollow};
 
-use crate::{CellsFrom, SectorBuffer};
+use crate::{CellsFrom, Coding, SectorBuffer, SectorBytes};
 use cell_bits::Cells;
 use flux_base::{HeaderName, Memory, TrackId};
 
@@ -27,25 +28,10 @@ pub trait Layout {
     /// A row of a track, such as a gap, a mark, a sector's address or its bytes.
     type Row: Copy;
 
-    /// The least distance of neighbouring ones of a ring, in cells.
-    const SHORTEST: u8;
-    /// The greatest distance of neighbouring ones of a ring, in cells, at most 4.
-    const LONGEST: u8;
-    /// The cells with which each header begins, as a number, high bit first.
-    const SYNC: u32;
-    /// How many cells these are, 1 to 32.
-    const SYNC_CELLS: u8;
+    /// How its cells are coded.
+    const CODING: Coding;
 
-    ghost SHORTEST: { ℕ };
-
-    ghost LONGEST: { ℕ };
-
-    ghost SYNC: { ℕ };
-
-    ghost SYNC_CELLS: { ℕ };
-
-    /// How many cells a header has that is written, from the begin of its sync to its end. None that is read has fewer.
-    ghost header_cells: { ℕ };
+    ghost CODING: { Coding };
 
     /// The track is one of the recording's.
     ghost has_track: { Self → TrackId → Type 0 };
@@ -57,6 +43,9 @@ pub trait Layout {
     ghost sector_bytes: { Self → ℕ };
 
     ghost track_cells: { Self → TrackId → ℕ };
+
+    /// How many cells a header has that is written, from the begin of its sync to its end. None that is read has fewer.
+    ghost header_cells: { ℕ };
 
     /// Where the header at the front of the cells ends.
     ghost header_end: { Self → List Bool → ℕ };
@@ -147,19 +136,12 @@ pub trait Layout {
 
     /// Appends a row for this sector with these bytes. Rows outside of sectors get the first sector's number and
     /// no bytes, of which they have no use.
-    fn append_row(
-        &self,
-        track: TrackId,
-        sector: u8,
-        bytes: &[u8],
-        row: Self::Row,
-        cells: &mut Cells,
-    ) -> Result<(), Memory>
-        requires track { has_track self.now track }
-        requires sector { IsSectorNumber (lowest_sector self.now) (sector_count self.now track) sector }
-        requires bytes { (length bytes.now ≡ 0) ⊎ (length bytes.now ≡ sector_bytes self.now) }
+    fn append_row(&self, of: &SectorBytes, row: Self::Row, cells: &mut Cells) -> Result<(), Memory>
+        requires track { has_track self.now of.now.track }
+        requires sector { IsSectorNumber (lowest_sector self.now) (sector_count self.now of.now.track) of.now.sector }
+        requires bytes { (length of.now.bytes.now ≡ 0) ⊎ (length of.now.bytes.now ≡ sector_bytes self.now) }
         ensures { let before = asks && last_cell cells.old.cells in
-            AppendsCells cells.old cells.new (row_cells self.now track before sector bytes.now row) result };
+            AppendsCells cells.old cells.new (row_cells self.now of.now.track before of.now.sector of.now.bytes.now row) result };
 
     /// Where the header at the front of the cells ends. None where it is not whole.
     fn header_end(&self, frame: &CellsFrom) -> Option<usize>
@@ -209,7 +191,7 @@ pub trait Layout {
         ensures bad { result ≡ false → (bytes : List ℕ) → ¬ hold self.now size frame.now sync bytes };
 
     /// The distances of ones are 1 to 4 cells, a sync has 1 to 32, and a header has four at least.
-    ghost sizes: { AreSizes SHORTEST LONGEST SYNC_CELLS header_cells last_zeros };
+    ghost sizes: { AreSizes CODING.shortest CODING.longest CODING.sync_cells header_cells last_zeros };
 
     /// A sector's number has 8 bits, and its bytes fit the buffer.
     ghost counts: { (r : Self) (track : TrackId) → has_track r track →
@@ -231,7 +213,7 @@ pub trait Layout {
     /// Any row may follow any other: its ones are spaced, and few zeros stand last.
     ghost row_follows: { (r : Self) (track : TrackId) (s : ℕ) (bytes : List ℕ) (row : Self.Row) →
         has_track r track → IsContent (lowest_sector r) (sector_count r track) (sector_bytes r) s bytes →
-        MayFollow SHORTEST LONGEST last_zeros asks (λ before. row_cells r track before s bytes row) };
+        MayFollow CODING.shortest CODING.longest last_zeros asks (λ before. row_cells r track before s bytes row) };
 
     /// A track ends as it begins: where the coding asks for the cell before the ring's first one, a zero stands last.
     ghost ends: { (r : Self) (track : TrackId) (before : Bool) → has_track r track →
@@ -263,7 +245,7 @@ pub trait Layout {
     ghost frame_stands: { (r : Self) (track : TrackId) (s : ℕ) (bytes : List ℕ) (before : Bool) (rest : List Bool) →
         has_track r track → IsSectorNumber (lowest_sector r) (sector_count r track) s →
         AreBytes bytes → length bytes ≡ sector_bytes r →
-        FrameStands SYNC SYNC_CELLS header_cells (data_place r) (names_sector r track) (is_sync r) (hold r (sector_bytes r))
+        FrameStands CODING.sync CODING.sync_cells header_cells (data_place r) (names_sector r track) (is_sync r) (hold r (sector_bytes r))
         (rows_cells asks (row_cells r track) before s bytes (rows r track).frame ++ rest) s bytes };
 
     /// A frame that is written ends after the cells of its header and of its data.
@@ -278,18 +260,18 @@ pub trait Layout {
 
     /// What a header names, and what data hold, is told by their own cells, and by all of these but the last seven.
     ghost tells: { (r : Self) →
-        TellsEarly SYNC_CELLS header_cells (data_cells r) (header_end r) (data_end r (sector_bytes r))
+        TellsEarly CODING.sync_cells header_cells (data_cells r) (header_end r) (data_end r (sector_bytes r))
         (names r) (is_sync r) (hold r (sector_bytes r)) };
 
     /// The first cells of a header stand in a ring only where a header begins.
     ghost own_syncs: { (r : Self) (track : TrackId) → has_track r track →
-        HasOwnSyncs SYNC SYNC_CELLS header_cells (lowest_sector r) (sector_count r track) (names r)
+        HasOwnSyncs CODING.sync CODING.sync_cells header_cells (lowest_sector r) (sector_count r track) (names r)
         (place_of (row_size r track) (lowest_sector r) (sector_bytes r) (rows r track))
         (AreSectors (sector_count r track) (sector_bytes r))
         (λ bytes. ring_of asks (row_cells r track) (lowest_sector r) (sector_count r track) (sector_bytes r) bytes (rows r track)) };
 
     /// A header after another is a data sync, or data begin where their header ends.
-    ghost header_syncs: { (r : Self) → AreSyncsOrNone SYNC SYNC_CELLS (header_end r) (names r) (is_sync r) };
+    ghost header_syncs: { (r : Self) → AreSyncsOrNone CODING.sync CODING.sync_cells (header_end r) (names r) (is_sync r) };
 
     /// Data begin where their header ends, or their first cells stand in a ring only where data do, and within headers.
     ghost own_data: { (r : Self) (track : TrackId) → has_track r track →

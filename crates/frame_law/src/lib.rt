@@ -4,6 +4,7 @@
 #![tactic(auto)]
 
 mod cells_from;
+mod coding;
 mod data_search;
 mod frame_reading;
 mod laws;
@@ -13,9 +14,11 @@ mod reading;
 mod recording;
 mod ring_writing;
 mod search;
+mod sector_bytes;
 mod table_recording;
 
 pub use cells_from::CellsFrom;
+pub use coding::Coding;
 pub use laws::{
     data_are_read, headers_are_told, no_others, only_own, only_own_data, readings_are_all,
     rings_hold_sectors, sectors_are_told,
@@ -24,3 +27,4 @@ pub use layout::Layout;
 pub use reading::{FoundHeader, Reading, SectorBuffer};
 pub use recording::Recording;
 pub use search::{next_found, next_header, next_reading};
+pub use sector_bytes::SectorBytes;

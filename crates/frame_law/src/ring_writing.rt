@@ -6,7 +6,7 @@ ghost use Rattle.frame_law.specs.RowWriting.{AppendsParts};
 ghost use Rattle.track_rings.specs.Rings.{IsSectorNumber};
 ghost use Rattle.track_rings.specs.Rows.{parts_of, sector_parts, track_parts};
 
-use crate::Layout;
+use crate::{Layout, SectorBytes};
 use cell_bits::Cells;
 use flux_base::{Memory, TrackId};
 
@@ -66,8 +66,13 @@ fn append_rows<L: Layout>(
     requires bytes { (length bytes.now ≡ 0) ⊎ (length bytes.now ≡ L.sector_bytes layout.now) }
     ensures { AppendsParts L.asks (L.row_cells layout.now track) cells.old cells.new (parts_of sector bytes.now rows.now) result }
 {
+    let content = SectorBytes {
+        track,
+        sector,
+        bytes,
+    };
     for row in rows {
-        layout.append_row(track, sector, bytes, *row, cells)?;
+        layout.append_row(&content, *row, cells)?;
     }
     Ok(())
 }

@@ -21,33 +21,33 @@ use cell_bits::Cells;
 use flux_base::{HeaderName, Memory, TrackId};
 
 impl<L: Layout> Recording for L {
-    const SHORTEST: u8 = L::SHORTEST;
+    const SHORTEST: u8 = L::CODING.shortest;
 
-    const LONGEST: u8 = L::LONGEST;
+    const LONGEST: u8 = L::CODING.longest;
 
-    ghost SHORTEST = { L.SHORTEST };
+    ghost SHORTEST = { L.CODING.shortest };
 
-    ghost LONGEST = { L.LONGEST };
+    ghost LONGEST = { L.CODING.longest };
 
-    ghost sync = { λ r. L.SYNC };
+    ghost sync = { λ r. L.CODING.sync };
 
-    ghost sync_cells = { λ r. L.SYNC_CELLS };
+    ghost sync_cells = { λ r. L.CODING.sync_cells };
 
     ghost has_track = { λ r track. L.has_track r track };
 
     ghost header_at = { λ r track cells s.
-        HeaderStands L.SYNC L.SYNC_CELLS (L.header_end r) (L.lowest_sector r) (L.sector_count r track) (L.names_sector r track) cells s };
+        HeaderStands L.CODING.sync L.CODING.sync_cells (L.header_end r) (L.lowest_sector r) (L.sector_count r track) (L.names_sector r track) cells s };
 
     ghost sector_at = { λ r track cells s bytes.
         SectorStands
-        (HeaderStands L.SYNC L.SYNC_CELLS (L.header_end r) (L.lowest_sector r) (L.sector_count r track) (L.names_sector r track) cells s)
+        (HeaderStands L.CODING.sync L.CODING.sync_cells (L.header_end r) (L.lowest_sector r) (L.sector_count r track) (L.names_sector r track) cells s)
         (DataStand (L.header_end r) (L.data_end r (L.sector_bytes r)) (L.is_sync r) (L.hold r (L.sector_bytes r)) cells bytes) };
 
     ghost data_at = { λ r cells place bytes.
         DataStandAt (L.header_end r) (L.data_end r (L.sector_bytes r)) (L.is_sync r) (L.hold r (L.sector_bytes r))
-        (NamedHeaderStands L.SYNC L.SYNC_CELLS (L.header_end r) (L.names r)) cells place bytes };
+        (NamedHeaderStands L.CODING.sync L.CODING.sync_cells (L.header_end r) (L.names r)) cells place bytes };
 
-    ghost named_at = { λ r cells name. NamedHeaderStands L.SYNC L.SYNC_CELLS (L.header_end r) (L.names r) cells name };
+    ghost named_at = { λ r cells name. NamedHeaderStands L.CODING.sync L.CODING.sync_cells (L.header_end r) (L.names r) cells name };
 
     ghost is_name_of = { λ r track name s.
         IsSectorName (L.is_name_of r track) (L.lowest_sector r) (L.sector_count r track) name s };
@@ -56,7 +56,7 @@ impl<L: Layout> Recording for L {
         HasNamedData (L.size_named r name)
         (λ size place bytes.
         DataStandAt (L.header_end r) (L.data_end r size) (L.is_sync r) (L.hold r size)
-        (NamedHeaderStands L.SYNC L.SYNC_CELLS (L.header_end r) (L.names r)) cells place bytes) };
+        (NamedHeaderStands L.CODING.sync L.CODING.sync_cells (L.header_end r) (L.names r)) cells place bytes) };
 
     ghost ring = { λ r track bytes.
         ring_of L.asks (L.row_cells r track) (L.lowest_sector r) (L.sector_count r track) (L.sector_bytes r) bytes (L.rows r track) };
@@ -75,11 +75,11 @@ impl<L: Layout> Recording for L {
     ghost ring_cells = { λ r track. L.track_cells r track };
 
     fn sync(&self) -> u32 {
-        L::SYNC
+        L::CODING.sync
     }
 
     fn sync_cells(&self) -> u8 {
-        L::SYNC_CELLS
+        L::CODING.sync_cells
     }
 
     fn first_sector(&self) -> u8 {
@@ -115,7 +115,7 @@ impl<L: Layout> Recording for L {
         buffer: &mut SectorBuffer,
     ) -> Reading {
         let frame = CellsFrom::new(cells, place);
-        if frame.stands_at(0, L::SYNC, L::SYNC_CELLS) {
+        if frame.stands_at(0, L::CODING.sync, L::CODING.sync_cells) {
             return read_frame(self, &frame, track, buffer);
         }
         buffer.clear();
@@ -198,7 +198,7 @@ impl<L: Layout> Recording for L {
     ghost ring_spaced = { λ r track bytes known given.
         ring_spaced L.asks (L.row_cells r track) (L.row_size r track) (L.row_length r track)
         (L.lowest_sector r) (L.sector_count r track) (L.sector_bytes r) (L.rows r track)
-        L.SHORTEST L.LONGEST L.last_zeros L.SYNC_CELLS L.header_cells L.sizes
+        L.CODING.shortest L.CODING.longest L.last_zeros L.CODING.sync_cells L.header_cells L.sizes
         (λ s content row. L.row_follows r track s content row known)
         bytes (L.data_place r) (L.data_cells r) (L.counts r track known).0 (L.reach r) given (L.sums r track known).0
         (λ before. L.ends r track before known) };
@@ -206,9 +206,9 @@ impl<L: Layout> Recording for L {
     ghost sector_stands = { λ r track bytes s from count place known given number lies.
         sector_stands L.asks (L.row_cells r track) (L.row_size r track) (L.row_length r track)
         (L.lowest_sector r) (L.sector_count r track) (L.sector_bytes r) (L.rows r track)
-        L.SHORTEST L.LONGEST L.last_zeros L.SYNC_CELLS L.header_cells L.sizes
+        L.CODING.shortest L.CODING.longest L.last_zeros L.CODING.sync_cells L.header_cells L.sizes
         (λ n content row. L.row_follows r track n content row known)
-        (L.data_cells r) L.SYNC (L.data_place r) (L.header_end r) (L.data_end r (L.sector_bytes r)) (L.is_sync r) (L.hold r (L.sector_bytes r))
+        (L.data_cells r) L.CODING.sync (L.data_place r) (L.header_end r) (L.data_end r (L.sector_bytes r)) (L.is_sync r) (L.hold r (L.sector_bytes r))
         (L.names_sector r track)
         bytes s from count place (L.track_cells r track) given number
         (λ content before rest fit long. (
@@ -220,7 +220,7 @@ impl<L: Layout> Recording for L {
     ghost frame_whole = { λ r track bytes s known given number.
         frame_within L.asks (L.row_cells r track) (L.row_size r track) (L.row_length r track)
         (L.lowest_sector r) (L.sector_count r track) (L.sector_bytes r) (L.rows r track)
-        L.SHORTEST L.LONGEST L.last_zeros L.SYNC_CELLS L.header_cells L.sizes
+        L.CODING.shortest L.CODING.longest L.last_zeros L.CODING.sync_cells L.header_cells L.sizes
         (λ n content row. L.row_follows r track n content row known)
         bytes s (L.track_cells r track) (L.data_place r + L.data_cells r) (L.counts r track known).0 given number
         (L.sums r track known).0 (L.sums r track known).1 };
@@ -229,34 +229,34 @@ impl<L: Layout> Recording for L {
 
     ghost header_alone = { λ r track cells s header.
         header_alone L.header_cells (L.data_cells r) (L.header_end r) (L.data_end r (L.sector_bytes r)) (L.is_sync r)
-        (L.hold r (L.sector_bytes r)) L.SYNC L.SYNC_CELLS (L.data_place r)
+        (L.hold r (L.sector_bytes r)) L.CODING.sync L.CODING.sync_cells (L.data_place r)
         (L.lowest_sector r) (L.sector_count r track) (L.names_sector r track) (L.tells_ends r)
         (tells_sector (L.names r) (L.is_name_of r track) (L.names_sector r track) (L.named_sector r track)
-        L.SYNC_CELLS L.header_cells (L.data_cells r) (L.header_end r) (L.data_end r (L.sector_bytes r)) (L.is_sync r) (L.hold r (L.sector_bytes r))
+        L.CODING.sync_cells L.header_cells (L.data_cells r) (L.header_end r) (L.data_end r (L.sector_bytes r)) (L.is_sync r) (L.hold r (L.sector_bytes r))
         (L.tells r))
         cells s (some_header L.sizes) header };
 
     ghost sector_alone = { λ r track cells s xs sector.
         sector_alone L.header_cells (L.data_cells r) (L.header_end r) (L.data_end r (L.sector_bytes r)) (L.is_sync r)
-        (L.hold r (L.sector_bytes r)) L.SYNC L.SYNC_CELLS (L.data_place r)
+        (L.hold r (L.sector_bytes r)) L.CODING.sync L.CODING.sync_cells (L.data_place r)
         (L.lowest_sector r) (L.sector_count r track) (L.names_sector r track) (L.tells_ends r)
         (tells_sector (L.names r) (L.is_name_of r track) (L.names_sector r track) (L.named_sector r track)
-        L.SYNC_CELLS L.header_cells (L.data_cells r) (L.header_end r) (L.data_end r (L.sector_bytes r)) (L.is_sync r) (L.hold r (L.sector_bytes r))
+        L.CODING.sync_cells L.header_cells (L.data_cells r) (L.header_end r) (L.data_end r (L.sector_bytes r)) (L.is_sync r) (L.hold r (L.sector_bytes r))
         (L.tells r))
         cells s xs (some_header L.sizes) sector };
 
     ghost header_own = { λ r track bytes s zeros from count behind place known given header.
         header_own L.header_cells (L.data_cells r) (L.header_end r) (L.data_end r (L.sector_bytes r)) (L.is_sync r)
-        (L.hold r (L.sector_bytes r)) L.SYNC L.SYNC_CELLS (L.data_place r)
+        (L.hold r (L.sector_bytes r)) L.CODING.sync L.CODING.sync_cells (L.data_place r)
         (L.lowest_sector r) (L.sector_count r track) (L.names_sector r track) (L.tells_ends r)
         (tells_sector (L.names r) (L.is_name_of r track) (L.names_sector r track) (L.named_sector r track)
-        L.SYNC_CELLS L.header_cells (L.data_cells r) (L.header_end r) (L.data_end r (L.sector_bytes r)) (L.is_sync r) (L.hold r (L.sector_bytes r))
+        L.CODING.sync_cells L.header_cells (L.data_cells r) (L.header_end r) (L.data_end r (L.sector_bytes r)) (L.is_sync r) (L.hold r (L.sector_bytes r))
         (L.tells r))
         (place_of (L.row_size r track) (L.lowest_sector r) (L.sector_bytes r) (L.rows r track))
         (AreSectors (L.sector_count r track) (L.sector_bytes r))
         (λ content. ring_of L.asks (L.row_cells r track) (L.lowest_sector r) (L.sector_count r track) (L.sector_bytes r) content (L.rows r track))
         (sector_syncs (L.names r) (L.is_name_of r track) (L.names_sector r track) (L.named_sector r track)
-        L.SYNC L.SYNC_CELLS L.header_cells (L.lowest_sector r) (L.sector_count r track)
+        L.CODING.sync L.CODING.sync_cells L.header_cells (L.lowest_sector r) (L.sector_count r track)
         (place_of (L.row_size r track) (L.lowest_sector r) (L.sector_bytes r) (L.rows r track))
         (AreSectors (L.sector_count r track) (L.sector_bytes r))
         (λ content. ring_of L.asks (L.row_cells r track) (L.lowest_sector r) (L.sector_count r track) (L.sector_bytes r) content (L.rows r track))
@@ -269,7 +269,7 @@ impl<L: Layout> Recording for L {
         (λ n number.
         (frame_within L.asks (L.row_cells r track) (L.row_size r track) (L.row_length r track)
         (L.lowest_sector r) (L.sector_count r track) (L.sector_bytes r) (L.rows r track)
-        L.SHORTEST L.LONGEST L.last_zeros L.SYNC_CELLS L.header_cells L.sizes
+        L.CODING.shortest L.CODING.longest L.last_zeros L.CODING.sync_cells L.header_cells L.sizes
         (λ m content row. L.row_follows r track m content row known)
         bytes n (L.track_cells r track) (L.data_place r + L.data_cells r) (L.counts r track known).0 given number
         (L.sums r track known).0 (L.sums r track known).1).0)
@@ -279,9 +279,9 @@ impl<L: Layout> Recording for L {
         (λ n n_from n_count n_place number lies.
         sector_stands L.asks (L.row_cells r track) (L.row_size r track) (L.row_length r track)
         (L.lowest_sector r) (L.sector_count r track) (L.sector_bytes r) (L.rows r track)
-        L.SHORTEST L.LONGEST L.last_zeros L.SYNC_CELLS L.header_cells L.sizes
+        L.CODING.shortest L.CODING.longest L.last_zeros L.CODING.sync_cells L.header_cells L.sizes
         (λ m content row. L.row_follows r track m content row known)
-        (L.data_cells r) L.SYNC (L.data_place r) (L.header_end r) (L.data_end r (L.sector_bytes r)) (L.is_sync r) (L.hold r (L.sector_bytes r))
+        (L.data_cells r) L.CODING.sync (L.data_place r) (L.header_end r) (L.data_end r (L.sector_bytes r)) (L.is_sync r) (L.hold r (L.sector_bytes r))
         (L.names_sector r track)
         bytes n n_from n_count n_place (L.track_cells r track) given number
         (λ content before rest fit long. (
@@ -293,16 +293,16 @@ impl<L: Layout> Recording for L {
 
     ghost sector_own = { λ r track bytes s zeros from count behind place xs known given sector.
         sector_own L.header_cells (L.data_cells r) (L.header_end r) (L.data_end r (L.sector_bytes r)) (L.is_sync r)
-        (L.hold r (L.sector_bytes r)) L.SYNC L.SYNC_CELLS (L.data_place r)
+        (L.hold r (L.sector_bytes r)) L.CODING.sync L.CODING.sync_cells (L.data_place r)
         (L.lowest_sector r) (L.sector_count r track) (L.names_sector r track) (L.tells_ends r)
         (tells_sector (L.names r) (L.is_name_of r track) (L.names_sector r track) (L.named_sector r track)
-        L.SYNC_CELLS L.header_cells (L.data_cells r) (L.header_end r) (L.data_end r (L.sector_bytes r)) (L.is_sync r) (L.hold r (L.sector_bytes r))
+        L.CODING.sync_cells L.header_cells (L.data_cells r) (L.header_end r) (L.data_end r (L.sector_bytes r)) (L.is_sync r) (L.hold r (L.sector_bytes r))
         (L.tells r))
         (place_of (L.row_size r track) (L.lowest_sector r) (L.sector_bytes r) (L.rows r track))
         (AreSectors (L.sector_count r track) (L.sector_bytes r))
         (λ content. ring_of L.asks (L.row_cells r track) (L.lowest_sector r) (L.sector_count r track) (L.sector_bytes r) content (L.rows r track))
         (sector_syncs (L.names r) (L.is_name_of r track) (L.names_sector r track) (L.named_sector r track)
-        L.SYNC L.SYNC_CELLS L.header_cells (L.lowest_sector r) (L.sector_count r track)
+        L.CODING.sync L.CODING.sync_cells L.header_cells (L.lowest_sector r) (L.sector_count r track)
         (place_of (L.row_size r track) (L.lowest_sector r) (L.sector_bytes r) (L.rows r track))
         (AreSectors (L.sector_count r track) (L.sector_bytes r))
         (λ content. ring_of L.asks (L.row_cells r track) (L.lowest_sector r) (L.sector_count r track) (L.sector_bytes r) content (L.rows r track))
@@ -315,7 +315,7 @@ impl<L: Layout> Recording for L {
         (λ n number.
         (frame_within L.asks (L.row_cells r track) (L.row_size r track) (L.row_length r track)
         (L.lowest_sector r) (L.sector_count r track) (L.sector_bytes r) (L.rows r track)
-        L.SHORTEST L.LONGEST L.last_zeros L.SYNC_CELLS L.header_cells L.sizes
+        L.CODING.shortest L.CODING.longest L.last_zeros L.CODING.sync_cells L.header_cells L.sizes
         (λ m content row. L.row_follows r track m content row known)
         bytes n (L.track_cells r track) (L.data_place r + L.data_cells r) (L.counts r track known).0 given number
         (L.sums r track known).0 (L.sums r track known).1).0)
@@ -325,9 +325,9 @@ impl<L: Layout> Recording for L {
         (λ n n_from n_count n_place number lies.
         sector_stands L.asks (L.row_cells r track) (L.row_size r track) (L.row_length r track)
         (L.lowest_sector r) (L.sector_count r track) (L.sector_bytes r) (L.rows r track)
-        L.SHORTEST L.LONGEST L.last_zeros L.SYNC_CELLS L.header_cells L.sizes
+        L.CODING.shortest L.CODING.longest L.last_zeros L.CODING.sync_cells L.header_cells L.sizes
         (λ m content row. L.row_follows r track m content row known)
-        (L.data_cells r) L.SYNC (L.data_place r) (L.header_end r) (L.data_end r (L.sector_bytes r)) (L.is_sync r) (L.hold r (L.sector_bytes r))
+        (L.data_cells r) L.CODING.sync (L.data_place r) (L.header_end r) (L.data_end r (L.sector_bytes r)) (L.is_sync r) (L.hold r (L.sector_bytes r))
         (L.names_sector r track)
         bytes n n_from n_count n_place (L.track_cells r track) given number
         (λ content before rest fit long. (
@@ -339,16 +339,16 @@ impl<L: Layout> Recording for L {
 
     ghost no_other = { λ r track bytes zeros from count behind place name known given header.
         named_own L.header_cells (L.data_cells r) (L.header_end r) (L.data_end r (L.sector_bytes r)) (L.is_sync r)
-        (L.hold r (L.sector_bytes r)) L.SYNC L.SYNC_CELLS (L.data_place r)
+        (L.hold r (L.sector_bytes r)) L.CODING.sync L.CODING.sync_cells (L.data_place r)
         (L.lowest_sector r) (L.sector_count r track) (L.names_sector r track) (L.tells_ends r)
         (tells_sector (L.names r) (L.is_name_of r track) (L.names_sector r track) (L.named_sector r track)
-        L.SYNC_CELLS L.header_cells (L.data_cells r) (L.header_end r) (L.data_end r (L.sector_bytes r)) (L.is_sync r) (L.hold r (L.sector_bytes r))
+        L.CODING.sync_cells L.header_cells (L.data_cells r) (L.header_end r) (L.data_end r (L.sector_bytes r)) (L.is_sync r) (L.hold r (L.sector_bytes r))
         (L.tells r))
         (place_of (L.row_size r track) (L.lowest_sector r) (L.sector_bytes r) (L.rows r track))
         (AreSectors (L.sector_count r track) (L.sector_bytes r))
         (λ content. ring_of L.asks (L.row_cells r track) (L.lowest_sector r) (L.sector_count r track) (L.sector_bytes r) content (L.rows r track))
         (sector_syncs (L.names r) (L.is_name_of r track) (L.names_sector r track) (L.named_sector r track)
-        L.SYNC L.SYNC_CELLS L.header_cells (L.lowest_sector r) (L.sector_count r track)
+        L.CODING.sync L.CODING.sync_cells L.header_cells (L.lowest_sector r) (L.sector_count r track)
         (place_of (L.row_size r track) (L.lowest_sector r) (L.sector_bytes r) (L.rows r track))
         (AreSectors (L.sector_count r track) (L.sector_bytes r))
         (λ content. ring_of L.asks (L.row_cells r track) (L.lowest_sector r) (L.sector_count r track) (L.sector_bytes r) content (L.rows r track))
@@ -361,7 +361,7 @@ impl<L: Layout> Recording for L {
         (λ n number.
         (frame_within L.asks (L.row_cells r track) (L.row_size r track) (L.row_length r track)
         (L.lowest_sector r) (L.sector_count r track) (L.sector_bytes r) (L.rows r track)
-        L.SHORTEST L.LONGEST L.last_zeros L.SYNC_CELLS L.header_cells L.sizes
+        L.CODING.shortest L.CODING.longest L.last_zeros L.CODING.sync_cells L.header_cells L.sizes
         (λ m content row. L.row_follows r track m content row known)
         bytes n (L.track_cells r track) (L.data_place r + L.data_cells r) (L.counts r track known).0 given number
         (L.sums r track known).0 (L.sums r track known).1).0)
@@ -371,9 +371,9 @@ impl<L: Layout> Recording for L {
         (λ n n_from n_count n_place number lies.
         sector_stands L.asks (L.row_cells r track) (L.row_size r track) (L.row_length r track)
         (L.lowest_sector r) (L.sector_count r track) (L.sector_bytes r) (L.rows r track)
-        L.SHORTEST L.LONGEST L.last_zeros L.SYNC_CELLS L.header_cells L.sizes
+        L.CODING.shortest L.CODING.longest L.last_zeros L.CODING.sync_cells L.header_cells L.sizes
         (λ m content row. L.row_follows r track m content row known)
-        (L.data_cells r) L.SYNC (L.data_place r) (L.header_end r) (L.data_end r (L.sector_bytes r)) (L.is_sync r) (L.hold r (L.sector_bytes r))
+        (L.data_cells r) L.CODING.sync (L.data_place r) (L.header_end r) (L.data_end r (L.sector_bytes r)) (L.is_sync r) (L.hold r (L.sector_bytes r))
         (L.names_sector r track)
         bytes n n_from n_count n_place (L.track_cells r track) given number
         (λ content before rest fit long. (
@@ -386,16 +386,16 @@ impl<L: Layout> Recording for L {
 
     ghost no_header = { λ r track count s known header.
         no_header L.header_cells (L.data_cells r) (L.header_end r) (L.data_end r (L.sector_bytes r)) (L.is_sync r)
-        (L.hold r (L.sector_bytes r)) L.SYNC L.SYNC_CELLS (L.data_place r)
+        (L.hold r (L.sector_bytes r)) L.CODING.sync L.CODING.sync_cells (L.data_place r)
         (L.lowest_sector r) (L.sector_count r track) (L.names_sector r track) (L.tells_ends r)
         (tells_sector (L.names r) (L.is_name_of r track) (L.names_sector r track) (L.named_sector r track)
-        L.SYNC_CELLS L.header_cells (L.data_cells r) (L.header_end r) (L.data_end r (L.sector_bytes r)) (L.is_sync r) (L.hold r (L.sector_bytes r))
+        L.CODING.sync_cells L.header_cells (L.data_cells r) (L.header_end r) (L.data_end r (L.sector_bytes r)) (L.is_sync r) (L.hold r (L.sector_bytes r))
         (L.tells r))
         (place_of (L.row_size r track) (L.lowest_sector r) (L.sector_bytes r) (L.rows r track))
         (AreSectors (L.sector_count r track) (L.sector_bytes r))
         (λ content. ring_of L.asks (L.row_cells r track) (L.lowest_sector r) (L.sector_count r track) (L.sector_bytes r) content (L.rows r track))
         (sector_syncs (L.names r) (L.is_name_of r track) (L.names_sector r track) (L.named_sector r track)
-        L.SYNC L.SYNC_CELLS L.header_cells (L.lowest_sector r) (L.sector_count r track)
+        L.CODING.sync L.CODING.sync_cells L.header_cells (L.lowest_sector r) (L.sector_count r track)
         (place_of (L.row_size r track) (L.lowest_sector r) (L.sector_bytes r) (L.rows r track))
         (AreSectors (L.sector_count r track) (L.sector_bytes r))
         (λ content. ring_of L.asks (L.row_cells r track) (L.lowest_sector r) (L.sector_count r track) (L.sector_bytes r) content (L.rows r track))
@@ -407,7 +407,7 @@ impl<L: Layout> Recording for L {
     ghost one_name = { λ r cells n m first second. L.one_name r cells n m first.named second.named };
 
     ghost header_named = { λ r track.
-        named_header L.SYNC L.SYNC_CELLS (L.header_end r) (L.lowest_sector r) (L.sector_count r track) (L.names r) (L.is_name_of r track)
+        named_header L.CODING.sync L.CODING.sync_cells (L.header_end r) (L.lowest_sector r) (L.sector_count r track) (L.names r) (L.is_name_of r track)
         (L.names_sector r track)
         (L.named_sector r track) };
 
@@ -416,7 +416,7 @@ impl<L: Layout> Recording for L {
 
     ghost named_alone = { λ r cells name header.
         named_alone L.header_cells (L.data_cells r) (L.header_end r) (L.data_end r (L.sector_bytes r)) (L.is_sync r)
-        (L.hold r (L.sector_bytes r)) L.SYNC L.SYNC_CELLS (L.names r)
+        (L.hold r (L.sector_bytes r)) L.CODING.sync L.CODING.sync_cells (L.names r)
         (L.tells_ends r) (L.tells r) cells name (some_header L.sizes) header };
 
     ghost data_is_one = { λ r cells place xs ys first second. L.one_content r cells place xs ys first.rest.held second.rest.held };
@@ -425,22 +425,22 @@ impl<L: Layout> Recording for L {
 
     ghost data_inside = { λ r cells place xs content.
         data_within L.header_cells (L.data_cells r) (L.header_end r) (L.data_end r (L.sector_bytes r)) (L.is_sync r)
-        (L.hold r (L.sector_bytes r)) L.SYNC L.SYNC_CELLS (L.names r)
+        (L.hold r (L.sector_bytes r)) L.CODING.sync L.CODING.sync_cells (L.names r)
         (L.tells_ends r) (L.tells r) cells place xs content };
 
     ghost data_of_sector = { λ r track cells s xs sector.
         strict_has_data L.header_cells (L.data_cells r) (L.header_end r) (L.data_end r (L.sector_bytes r)) (L.is_sync r)
-        (L.hold r (L.sector_bytes r)) L.SYNC L.SYNC_CELLS (L.names r)
+        (L.hold r (L.sector_bytes r)) L.CODING.sync L.CODING.sync_cells (L.names r)
         (L.header_syncs r) cells xs sector.content };
 
     ghost data_alone = { λ r cells place xs content.
         data_alone L.header_cells (L.data_cells r) (L.header_end r) (L.data_end r (L.sector_bytes r)) (L.is_sync r)
-        (L.hold r (L.sector_bytes r)) L.SYNC L.SYNC_CELLS (L.names r)
+        (L.hold r (L.sector_bytes r)) L.CODING.sync L.CODING.sync_cells (L.names r)
         (L.tells_ends r) (L.tells r) cells place xs content };
 
     ghost data_own = { λ r track bytes s zeros from count behind place at xs known given header content.
         own_content L.header_cells (L.data_cells r) (L.header_end r) (L.data_end r (L.sector_bytes r)) (L.is_sync r)
-        (L.hold r (L.sector_bytes r)) L.SYNC L.SYNC_CELLS (L.names r)
+        (L.hold r (L.sector_bytes r)) L.CODING.sync L.CODING.sync_cells (L.names r)
         (L.tells_ends r) (L.tells r) (L.data_place r) (L.data_place r + L.data_cells r) (L.lowest_sector r) (L.sector_count r track)
         (place_of (L.row_size r track) (L.lowest_sector r) (L.sector_bytes r) (L.rows r track))
         (AreSectors (L.sector_count r track) (L.sector_bytes r))
@@ -453,16 +453,16 @@ impl<L: Layout> Recording for L {
         (drop place (between_zeros (ring_of L.asks (L.row_cells r track) (L.lowest_sector r) (L.sector_count r track) (L.sector_bytes r) bytes
         (L.rows r track)) zeros from count behind))
         (header_agrees L.header_cells (L.data_cells r) (L.header_end r) (L.data_end r (L.sector_bytes r)) (L.is_sync r)
-        (L.hold r (L.sector_bytes r)) L.SYNC L.SYNC_CELLS (L.data_place r)
+        (L.hold r (L.sector_bytes r)) L.CODING.sync L.CODING.sync_cells (L.data_place r)
         (L.lowest_sector r) (L.sector_count r track) (L.names_sector r track) (L.tells_ends r)
         (tells_sector (L.names r) (L.is_name_of r track) (L.names_sector r track) (L.named_sector r track)
-        L.SYNC_CELLS L.header_cells (L.data_cells r) (L.header_end r) (L.data_end r (L.sector_bytes r)) (L.is_sync r) (L.hold r (L.sector_bytes r))
+        L.CODING.sync_cells L.header_cells (L.data_cells r) (L.header_end r) (L.data_end r (L.sector_bytes r)) (L.is_sync r) (L.hold r (L.sector_bytes r))
         (L.tells r))
         (place_of (L.row_size r track) (L.lowest_sector r) (L.sector_bytes r) (L.rows r track))
         (AreSectors (L.sector_count r track) (L.sector_bytes r))
         (λ content. ring_of L.asks (L.row_cells r track) (L.lowest_sector r) (L.sector_count r track) (L.sector_bytes r) content (L.rows r track))
         (sector_syncs (L.names r) (L.is_name_of r track) (L.names_sector r track) (L.named_sector r track)
-        L.SYNC L.SYNC_CELLS L.header_cells (L.lowest_sector r) (L.sector_count r track)
+        L.CODING.sync L.CODING.sync_cells L.header_cells (L.lowest_sector r) (L.sector_count r track)
         (place_of (L.row_size r track) (L.lowest_sector r) (L.sector_bytes r) (L.rows r track))
         (AreSectors (L.sector_count r track) (L.sector_bytes r))
         (λ content. ring_of L.asks (L.row_cells r track) (L.lowest_sector r) (L.sector_count r track) (L.sector_bytes r) content (L.rows r track))
@@ -475,7 +475,7 @@ impl<L: Layout> Recording for L {
         (λ n number.
         (frame_within L.asks (L.row_cells r track) (L.row_size r track) (L.row_length r track)
         (L.lowest_sector r) (L.sector_count r track) (L.sector_bytes r) (L.rows r track)
-        L.SHORTEST L.LONGEST L.last_zeros L.SYNC_CELLS L.header_cells L.sizes
+        L.CODING.shortest L.CODING.longest L.last_zeros L.CODING.sync_cells L.header_cells L.sizes
         (λ m content row. L.row_follows r track m content row known)
         bytes n (L.track_cells r track) (L.data_place r + L.data_cells r) (L.counts r track known).0 given number
         (L.sums r track known).0 (L.sums r track known).1).0)
@@ -485,9 +485,9 @@ impl<L: Layout> Recording for L {
         (λ n n_from n_count n_place number lies.
         sector_stands L.asks (L.row_cells r track) (L.row_size r track) (L.row_length r track)
         (L.lowest_sector r) (L.sector_count r track) (L.sector_bytes r) (L.rows r track)
-        L.SHORTEST L.LONGEST L.last_zeros L.SYNC_CELLS L.header_cells L.sizes
+        L.CODING.shortest L.CODING.longest L.last_zeros L.CODING.sync_cells L.header_cells L.sizes
         (λ m content row. L.row_follows r track m content row known)
-        (L.data_cells r) L.SYNC (L.data_place r) (L.header_end r) (L.data_end r (L.sector_bytes r)) (L.is_sync r) (L.hold r (L.sector_bytes r))
+        (L.data_cells r) L.CODING.sync (L.data_place r) (L.header_end r) (L.data_end r (L.sector_bytes r)) (L.is_sync r) (L.hold r (L.sector_bytes r))
         (L.names_sector r track)
         bytes n n_from n_count n_place (L.track_cells r track) given number
         (λ content before rest fit long. (

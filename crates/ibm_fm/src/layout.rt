@@ -3,6 +3,7 @@ ghost use Rattle.ibm_disks.specs.Numbers.{FillFmTrack};
 ghost use Rattle.ibm_fm.specs.Layout.{lead_in_rows, track_gap_of, word_of};
 
 use cell_bits::{FM_DATA_MARK, FM_ID_MARK, FM_INDEX_MARK};
+use frame_law::Coding;
 use ibm_disks::{LeadIn, TrackNumbers};
 
 /// A row of a track.
@@ -95,6 +96,14 @@ pub(crate) const LEAD_OUT: [Row; 1] = [Row::TrackGap];
 
 /// A mark is a word of so many cells.
 pub(crate) const MARK_CELLS: u8 = 16;
+
+/// Headers begin with their mark.
+pub(crate) const CODING: Coding = Coding {
+    shortest: 1,
+    longest: 2,
+    sync: FM_ID_MARK,
+    sync_cells: MARK_CELLS,
+};
 
 /// The ID mark, four bytes of address and the check value, 16 cells a byte.
 pub(crate) const HEADER_CELLS: usize = 112;

@@ -16,11 +16,11 @@ ghost use Rattle.ibm_fm.specs.lemmas.Syncs.{own_syncs};
 
 use crate::data_field::{next_sync, read_field};
 use crate::header::header_name;
-use crate::layout::{AROUND, HEADER_CELLS, LEAD_OUT, MARK_CELLS, Row, SECTOR, data_cells, lead_in};
+use crate::layout::{AROUND, CODING, HEADER_CELLS, LEAD_OUT, Row, SECTOR, data_cells, lead_in};
 use crate::rows::push_row;
-use cell_bits::{Cells, FM_ID_MARK};
+use cell_bits::Cells;
 use flux_base::{HeaderName, Memory, TrackId};
-use frame_law::{CellsFrom, Layout, SectorBuffer};
+use frame_law::{CellsFrom, Coding, Layout, SectorBuffer, SectorBytes};
 use ibm_disks::TrackNumbers;
 use ibm_fields::size_named;
 
@@ -56,23 +56,9 @@ impl IbmFm {
 impl Layout for IbmFm {
     type Row = Row;
 
-    const SHORTEST: u8 = 1;
+    const CODING: Coding = CODING;
 
-    const LONGEST: u8 = 2;
-
-    const SYNC: u32 = FM_ID_MARK;
-
-    const SYNC_CELLS: u8 = MARK_CELLS;
-
-    ghost SHORTEST = { 1 };
-
-    ghost LONGEST = { 2 };
-
-    ghost SYNC = { 0xF57E };
-
-    ghost SYNC_CELLS = { 16 };
-
-    ghost header_cells = { 112 };
+    ghost CODING = { record { shortest = 1; longest = 2; sync = 0xF57E; sync_cells = 16 } };
 
     ghost has_track = { λ r track. IsFmTrack r track };
 
@@ -97,6 +83,8 @@ impl Layout for IbmFm {
     ghost hold = { λ r size cells sync bytes. Hold size cells sync bytes };
 
     ghost data_cells = { λ r. DATA_CELLS (size_of r.numbers.size) };
+
+    ghost header_cells = { 112 };
 
     ghost header_end = { λ r cells. 112 };
 
@@ -146,15 +134,8 @@ impl Layout for IbmFm {
         &LEAD_OUT
     }
 
-    fn append_row(
-        &self,
-        track: TrackId,
-        sector: u8,
-        bytes: &[u8],
-        row: Row,
-        cells: &mut Cells,
-    ) -> Result<(), Memory> {
-        push_row(cells, row, self.numbers, track, sector, bytes)
+    fn append_row(&self, of: &SectorBytes, row: Row, cells: &mut Cells) -> Result<(), Memory> {
+        push_row(cells, row, self.numbers, of.track, of.sector, of.bytes)
     }
 
     fn header_end(&self, frame: &CellsFrom) -> Option<usize> {

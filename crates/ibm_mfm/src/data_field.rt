@@ -5,13 +5,13 @@ ghost use Rattle.ibm_mfm.specs.Sectors.{DATA_CELLS, Hold};
 ghost use Rattle.ibm_mfm.specs.Syncs.{SyncAt};
 
 use crate::layout::{
-    CONTENT_PLACE, FIRST_BYTE_PLACE, MARK_CELLS, THIRD_MARK_PLACE, TWO_MARKS, TWO_MARKS_CELLS,
-    content_check_place,
+    CONTENT_PLACE, FIRST_BYTE_PLACE, MARK_CELLS, THIRD_MARK_PLACE, content_check_place,
 };
 use crate::rows::field_check;
 use cell_bits::MFM_A1_MARK;
 use frame_law::{CellsFrom, SectorBuffer};
 use ibm_fields::{DATA_BYTE, DELETED_DATA_BYTE, number_at, take_bytes};
+use mfm_coding::{TWO_MARKS, TWO_MARKS_CELLS};
 
 /// The first three marks at a place from `from` to below `to`.
 pub(crate) fn next_sync(frame: &CellsFrom, from: usize, to: usize) -> Option<usize>

@@ -87,11 +87,6 @@ pub(crate) const LEAD_OUT: [Row; 1] = [Row::TrackGap];
 /// A mark A1, by its cells.
 pub(crate) const MARK_CELLS: u8 = 16;
 
-/// Two marks A1 as one word, and its cells: a sync is sought by them.
-pub(crate) const TWO_MARKS: u32 = 0x4489_4489;
-
-pub(crate) const TWO_MARKS_CELLS: u8 = 32;
-
 /// Where the third mark stands, in cells from the first one's begin.
 pub(crate) const THIRD_MARK_PLACE: usize = 32;
 

@@ -16,15 +16,14 @@ ghost use Rattle.ibm_mfm.specs.Syncs.{SyncAt};
 
 use crate::data_field::{next_sync, read_field};
 use crate::header::header_name;
-use crate::layout::{
-    HEADER_CELLS, LEAD_OUT, Row, SECTOR, TWO_MARKS, TWO_MARKS_CELLS, around, data_cells, lead_in,
-};
+use crate::layout::{HEADER_CELLS, LEAD_OUT, Row, SECTOR, around, data_cells, lead_in};
 use crate::rows::push_row;
 use cell_bits::Cells;
 use flux_base::{HeaderName, Memory, TrackId};
-use frame_law::{CellsFrom, Layout, SectorBuffer};
+use frame_law::{CellsFrom, Coding, Layout, SectorBuffer, SectorBytes};
 use ibm_disks::TrackNumbers;
 use ibm_fields::size_named;
+use mfm_coding::CODING;
 
 /// The double density recording of the PC's disks, in the form of the IBM System 34, with the numbers of a track of
 /// the PC's or of another disk that has it. The tracks are the cylinders 0 to 99 with the heads 0 and 1.
@@ -83,23 +82,9 @@ impl IbmMfm {
 impl Layout for IbmMfm {
     type Row = Row;
 
-    const SHORTEST: u8 = 2;
+    const CODING: Coding = CODING;
 
-    const LONGEST: u8 = 4;
-
-    const SYNC: u32 = TWO_MARKS;
-
-    const SYNC_CELLS: u8 = TWO_MARKS_CELLS;
-
-    ghost SHORTEST = { 2 };
-
-    ghost LONGEST = { 4 };
-
-    ghost SYNC = { 0x44894489 };
-
-    ghost SYNC_CELLS = { 32 };
-
-    ghost header_cells = { 160 };
+    ghost CODING = { record { shortest = 2; longest = 4; sync = 0x44894489; sync_cells = 32 } };
 
     ghost has_track = { λ r track. IsMfmTrack r track };
 
@@ -124,6 +109,8 @@ impl Layout for IbmMfm {
     ghost hold = { λ r size cells sync bytes. Hold size cells sync bytes };
 
     ghost data_cells = { λ r. DATA_CELLS (size_of r.numbers.size) };
+
+    ghost header_cells = { 160 };
 
     ghost header_end = { λ r cells. 160 };
 
@@ -173,15 +160,8 @@ impl Layout for IbmMfm {
         &LEAD_OUT
     }
 
-    fn append_row(
-        &self,
-        track: TrackId,
-        sector: u8,
-        bytes: &[u8],
-        row: Row,
-        cells: &mut Cells,
-    ) -> Result<(), Memory> {
-        push_row(cells, row, self.numbers, track, sector, bytes)
+    fn append_row(&self, of: &SectorBytes, row: Row, cells: &mut Cells) -> Result<(), Memory> {
+        push_row(cells, row, self.numbers, of.track, of.sector, of.bytes)
     }
 
     fn header_end(&self, frame: &CellsFrom) -> Option<usize> {

@@ -17,11 +17,11 @@ use crate::layout::{
     DATA_CELLS, FIRST_SECTOR, HEADER_CELLS, LEAD_IN, LEAD_OUT, Row, SECTOR, SECTOR_SIZE,
 };
 use crate::rows::push_row;
-use apple_nibbles::{ADDRESS_MARK, MARK_CELLS, next_sync};
+use apple_nibbles::{CODING, next_sync};
 use cell_bits::Cells;
 use disk_zones::macintosh_zone;
 use flux_base::{HeaderName, Memory, TrackId};
-use frame_law::{CellsFrom, Layout, SectorBuffer};
+use frame_law::{CellsFrom, Coding, Layout, SectorBuffer, SectorBytes};
 
 /// The recording of the Macintosh's disks of 400 and 800 KB. Its tracks are the cylinders 0 to 79. Its sectors are
 /// numbered from 0, as their headers name them, and are written in this order.
@@ -48,23 +48,9 @@ impl MacintoshGcr {
 impl Layout for MacintoshGcr {
     type Row = Row;
 
-    const SHORTEST: u8 = 1;
+    const CODING: Coding = CODING;
 
-    const LONGEST: u8 = 3;
-
-    const SYNC: u32 = ADDRESS_MARK;
-
-    const SYNC_CELLS: u8 = MARK_CELLS;
-
-    ghost SHORTEST = { 1 };
-
-    ghost LONGEST = { 3 };
-
-    ghost SYNC = { 0xD5AA96 };
-
-    ghost SYNC_CELLS = { 24 };
-
-    ghost header_cells = { 64 };
+    ghost CODING = { record { shortest = 1; longest = 3; sync = 0xD5AA96; sync_cells = 24 } };
 
     ghost has_track = { λ r track. IsMacintoshTrack r track };
 
@@ -89,6 +75,8 @@ impl Layout for MacintoshGcr {
     ghost hold = { λ r size cells sync bytes. Hold cells sync bytes };
 
     ghost data_cells = { λ r. 5656 };
+
+    ghost header_cells = { 64 };
 
     ghost header_end = { λ r cells. 64 };
 
@@ -138,15 +126,8 @@ impl Layout for MacintoshGcr {
         &LEAD_OUT
     }
 
-    fn append_row(
-        &self,
-        track: TrackId,
-        sector: u8,
-        bytes: &[u8],
-        row: Row,
-        cells: &mut Cells,
-    ) -> Result<(), Memory> {
-        push_row(cells, row, *self, track, sector, bytes)
+    fn append_row(&self, of: &SectorBytes, row: Row, cells: &mut Cells) -> Result<(), Memory> {
+        push_row(cells, row, *self, of.track, of.sector, of.bytes)
     }
 
     fn header_end(&self, frame: &CellsFrom) -> Option<usize> {

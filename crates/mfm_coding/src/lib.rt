@@ -2,8 +2,10 @@
 //! cells. All recordings that are made of bytes and such marks are written by it.
 #![tactic(auto)]
 
+mod coding;
 mod pushes;
 mod symbol;
 
+pub use coding::{CODING, TWO_MARKS, TWO_MARKS_CELLS};
 pub use pushes::{push_bytes, push_run, push_symbol};
 pub use symbol::Symbol;

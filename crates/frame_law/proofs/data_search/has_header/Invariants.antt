@@ -6,7 +6,7 @@ abbrev pub invariant-loop-place : goal.invariant-loop-place
 invariant-loop-place g l = record {
   low : l.fn.from ≤ l.start;
   high : l.start ≤ l.to;
-  none : NoNamed (g.L.Layout.SYNC) (g.L.Layout.SYNC_CELLS) (g.L.Layout.header_end l.layout) (g.L.Layout.names l.layout) l.frame l.fn.from l.start;
+  none : NoNamed (g.L.Layout.CODING.sync) (g.L.Layout.CODING.sync_cells) (g.L.Layout.header_end l.layout) (g.L.Layout.names l.layout) l.frame l.fn.from l.start;
 }
 
 abbrev pub decreases-loop-place : goal.decreases-loop-place

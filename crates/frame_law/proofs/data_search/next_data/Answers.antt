@@ -55,7 +55,7 @@ returns-in_err-header_end g c =
     let layout = c.args.layout.now in
     rw c.from_residual.ensures (
       c.clear.ensures,
-      λ place bytes above. no_data-cut g.L.Layout.SYNC g.L.Layout.SYNC_CELLS (g.L.Layout.header_end layout)
+      λ place bytes above. no_data-cut g.L.Layout.CODING.sync g.L.Layout.CODING.sync_cells (g.L.Layout.header_end layout)
           (g.L.Layout.data_end layout c.args.size) (g.L.Layout.is_sync layout) (g.L.Layout.hold layout c.args.size) (g.L.Layout.names layout)
           c.args.frame.now (g.met.L.Layout.data_some layout c.args.size c.args.frame.now) c.in_err-header_end.ensures.none place bytes,
     )

@@ -5,4 +5,4 @@ use Rattle.frame_law.proofs.ring_writing.append_rows.Given as goal
 
 abbrev pub invariant-loop-row : goal.invariant-loop-row
 invariant-loop-row g l =
-    AppendsParts g.L.Layout.asks (g.L.Layout.row_cells l.layout l.track) l.initial.cells l.cells (parts_of l.sector l.bytes (take l.row-index l.rows)) (Ok tt)
+    AppendsParts g.L.Layout.asks (g.L.Layout.row_cells l.layout l.fn.track) l.initial.cells l.cells (parts_of l.sector l.bytes (take l.row-index l.rows)) (Ok tt)
