@@ -1,4 +1,5 @@
 pub mod Recordings
+pub mod TrackSectors
 pub mod Members
 pub mod Agreement
 pub mod Laws

@@ -6,6 +6,7 @@ mod disk_id;
 mod laws;
 mod meaning;
 mod recordings;
+mod sectors;
 
 pub use disk_id::DiskId;
 pub use laws::{
@@ -14,3 +15,4 @@ pub use laws::{
     tracks_have_rings,
 };
 pub use recordings::{DiskRecording, controller_format, has_id, recording_of};
+pub use sectors::{Sectors, sectors_of};

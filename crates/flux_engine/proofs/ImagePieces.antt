@@ -7,7 +7,7 @@ use Rattle.sector_images.specs.declared.format.Format.{Format}
 use Rattle.turn_merge.specs.Readings.{NotedReading, agreed}
 use Rattle.flux_engine.specs.Recordings.{sectors_of}
 use Rattle.flux_engine.specs.Tracks.{image_bytes, image_piece}
-use Rattle.flux_engine.specs.declared.sectors.Sectors.{Sectors}
+use Rattle.disk_recordings.specs.declared.sectors.Sectors.{Sectors}
 
 pub is_piece : (format : Format) (track : TrackId) (readings : List NotedReading) (sectors : Sectors) (sector number : ℕ) (bytes : List ℕ)
     → sectors ≡ sectors_of format track → sector ≡ sector_in format track number

@@ -22,7 +22,7 @@ use Rattle.sector_images.specs.declared.format.Format.{Format}
 use Rattle.flux_engine.specs.Captures.{ImagesHaveRings, WritesCaptures, WritesSteadyCaptures}
 use Rattle.flux_engine.specs.Recordings.{sectors_of, track_at}
 use Rattle.flux_engine.specs.Rings.{IsImage, IsRing, disk_id, nominal_of, ring_cells_of, ring_of, ring_with, HasRoomForRings, track_stream, sector_bytes, track_bytes}
-use Rattle.flux_engine.specs.declared.sectors.Sectors.{Sectors}
+use Rattle.disk_recordings.specs.declared.sectors.Sectors.{Sectors}
 use Rattle.flux_engine.proofs.Captured.{steady_captures}
 use Rattle.flux_engine.specs.lemmas.Pieces.{pieces-more}
 use Rattle.flux_engine.specs.lemmas.Repeated.{early_one}

@@ -23,7 +23,7 @@ use Rattle.turn_merge.specs.Others.{NotedOther, OthersKnown}
 use Rattle.turn_merge.specs.declared.clock.Clock.{Clock}
 use Rattle.flux_engine.specs.declared.plan.Clocks.{Clocks}
 use Rattle.flux_engine.specs.declared.plan.Rule.{Rule}
-use Rattle.flux_engine.specs.declared.sectors.Sectors.{Sectors}
+use Rattle.disk_recordings.specs.declared.sectors.Sectors.{Sectors}
 
 -- cells that were recovered from these transitions: each has its one, the first cell is a one, and there are few
 pub record AreCellsOf (times : List ℕ) (cells : List Bool) : Type 0 where

@@ -1,28 +1,15 @@
 -- The tracks of a format, their sectors, and their recovered cells by each clock.
-use Rattle.std.specs.Prelude.{ℕ, Bool, List, slice_get, unwrap_or}
+pub use Rattle.disk_recordings.specs.TrackSectors.{sectors_of, track_at}
+use Rattle.std.specs.Prelude.{ℕ, Bool, List}
 use Rattle.flux_base.specs.declared.track.TrackId.{TrackId}
 use Rattle.index_turns.specs.Track.{turn_length}
 use Rattle.phase_loop.specs.Rows.{recovered}
 use Rattle.phase_loop.specs.Start.{held, start_for}
 use Rattle.phase_loop.specs.declared.start.LoopStart.{LoopStart}
-use Rattle.sector_images.specs.Formats.{row, zone}
-use Rattle.sector_images.specs.Places.{tracks}
+use Rattle.sector_images.specs.Formats.{zone}
 use Rattle.sector_images.specs.declared.format.Format.{Format}
 use Rattle.turn_merge.specs.declared.clock.Clock.{Clock}
 use Rattle.turn_merge.specs.declared.clock.Clock.TheVariants.{Following, Held}
-use Rattle.flux_engine.specs.declared.sectors.Sectors.{Sectors}
-
--- track number n of the format, from 0
-abbrev pub track_at : Format → ℕ → TrackId
-track_at format n = unwrap_or (slice_get (tracks format) n) (record { cylinder = 0; head = 0 })
-
--- the sectors of a track
-abbrev pub sectors_of : Format → TrackId → Sectors
-sectors_of format track = record {
-  first = (row format).first_sector;
-  count = (zone format track.cylinder).sectors;
-  size = (row format).sector_size;
-}
 
 -- where the clock recovery of a track starts: at the mean cell of its first turn
 abbrev pub start_of : Format → TrackId → List ℕ → LoopStart

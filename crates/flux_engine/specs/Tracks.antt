@@ -23,7 +23,7 @@ use Rattle.turn_merge.specs.declared.verdict.Verdict.TheVariants.{Good, Contradi
 use Rattle.disk_recordings.specs.Members.{header_at, sector_at}
 use Rattle.flux_engine.specs.Recordings.{sectors_of, cells_of}
 use Rattle.flux_engine.specs.declared.gathered_track.PassedStream.{PassedStream}
-use Rattle.flux_engine.specs.declared.sectors.Sectors.{Sectors}
+use Rattle.disk_recordings.specs.declared.sectors.Sectors.{Sectors}
 
 -- what is read at a place of the cells, with the bytes of a good sector
 abbrev pub Found : Type 0

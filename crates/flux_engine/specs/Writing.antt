@@ -3,7 +3,7 @@ use Rattle.std.specs.Prelude.{◌≡◌, ◌≤◌, ◌+◌, length}
 use Rattle.flux_base.specs.Bounds.{MOST_SECTOR_BYTES}
 use Rattle.sector_report.specs.declared.totals.Totals.{Totals}
 use Rattle.turn_merge.specs.Book.{Knowledge}
-use Rattle.flux_engine.specs.declared.sectors.Sectors.{Sectors}
+use Rattle.disk_recordings.specs.declared.sectors.Sectors.{Sectors}
 
 -- the numbers of the sectors have 8 bits, and a sector has not too many bytes
 pub record AreFew (sectors : Sectors) : Type 0 where

@@ -27,12 +27,11 @@ ghost use Rattle.turn_merge.specs.Readings.{NotedReading, agreed, verdict as ver
 use crate::fault::CaptureFault;
 use crate::gathering::{gather, gather_as_controller};
 use crate::plan::{Clocks, Rule};
-use crate::recordings::sectors_of;
 use crate::room::{DiskRoom, Tools};
 use crate::track_part::{PartFault, write_part};
 use crate::track_writer::TrackWriter;
 use cell_bits::Cells;
-use disk_recordings::{DiskId, controller_format, recording_of};
+use disk_recordings::{DiskId, controller_format, recording_of, sectors_of};
 use flux_base::{Sink, Source, TrackId};
 use index_turns::TrackFlux;
 use kryo_stream::{RoomFault, StreamRoom};

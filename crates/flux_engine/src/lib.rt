@@ -19,10 +19,8 @@ mod gathering;
 mod laws;
 mod plan;
 mod planned;
-mod recordings;
 mod ring_making;
 mod room;
-mod sectors;
 mod told_names;
 mod track;
 mod track_captures;
@@ -39,6 +37,7 @@ pub use capture::{
     verdict, write_started_part,
 };
 pub use disk::{add_totals, decode_disk};
+pub use disk_recordings::{Sectors, sectors_of};
 pub use disk_streams::{fill, write_disk};
 pub use fault::{CaptureFault, EngineFault, PlanFault};
 pub use gathered_track::{Gathered, PassedStream, PassedStreams};
@@ -49,10 +48,8 @@ pub use laws::{
 };
 pub use plan::{Clocks, Plan, Rule};
 pub use planned::{decode_planned, decode_planned_tracks, decode_tracks};
-pub use recordings::sectors_of;
 pub use ring_making::track_ring;
 pub use room::{DiskRoom, format_book};
-pub use sectors::Sectors;
 pub use track::decode_track;
 pub use track_part::{PartFault, write_part};
 pub use track_streams::{NextStream, OneAfterAnother, TrackStreams};

@@ -9,10 +9,9 @@ ghost use Rattle.sector_images.specs.Places.{IsTrack, tracks};
 ghost use Rattle.flux_engine.specs.Recordings.{sectors_of as sectors_in};
 ghost use Rattle.flux_engine.specs.Rings.{FIRST_ID, SECOND_ID, IsRing, disk_id, ring_cells_of, ring_of, track_bytes};
 
-use crate::recordings::sectors_of;
 use arrayvec::ArrayVec;
 use cell_bits::Cells;
-use disk_recordings::{DiskId, has_id, recording_of, tracks_have_rings};
+use disk_recordings::{DiskId, has_id, recording_of, sectors_of, tracks_have_rings};
 use flux_base::{MOST_TRACK_BYTES, Memory, TrackId};
 use frame_law::Recording;
 use sector_images::{Format, image_place, track_id, tracks_keep_bounds};

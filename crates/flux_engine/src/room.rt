@@ -2,9 +2,9 @@ ghost use Rattle.std.specs.Prelude.{◌≡◌, ◌+◌, ◌<◌, ◌^◌, [], le
 ghost use Rattle.flux_engine.specs.Room.{empty_book};
 
 use crate::gathered_track::{Gathered, PassedStreams};
-use crate::recordings::sectors_of;
 use crate::told_names::{name_count, whole_name_count};
 use cell_bits::Cells;
+use disk_recordings::sectors_of;
 use flux_base::Memory;
 use kryo_stream::{MOST_TIMES, StreamRoom};
 use phase_loop::Loop;

@@ -12,8 +12,8 @@ ghost use Rattle.flux_engine.specs.TrackParts.{PartCause, WritesPart};
 ghost use Rattle.flux_engine.specs.Tracks.{named_part};
 ghost use Rattle.flux_engine.specs.Writing.{IsSum, Knows};
 
-use crate::recordings::sectors_of;
 use crate::writing::{write_image, write_lines};
+use disk_recordings::sectors_of;
 use flux_base::{Sink, TrackId};
 use sector_images::{Format, tracks_keep_bounds};
 use sector_report::{Naming, Totals};

@@ -13,8 +13,7 @@ ghost use Rattle.flux_engine.specs.Recordings.{sectors_of as sectors_in};
 ghost use Rattle.flux_engine.specs.Tracks.{image_of, lines_by, totals_of, numbers};
 ghost use Rattle.flux_engine.specs.Writing.{Knows, AreFew, IsSum};
 
-use crate::recordings::sectors_of;
-use crate::sectors::Sectors;
+use disk_recordings::{Sectors, sectors_of};
 use flux_base::{Failed, MOST_SECTOR_BYTES, Sink, TrackId, write_whole};
 use sector_images::{Format, image_sector, tracks_keep_bounds};
 use sector_report::{Naming, Totals, named_line, write_line};

@@ -16,7 +16,7 @@ use Rattle.turn_merge.specs.declared.clock.Clock.{Clock}
 use Rattle.turn_merge.specs.declared.verdict.Place.{Place}
 use Rattle.turn_merge.specs.declared.verdict.Verdict.TheVariants.{Good}
 use Rattle.flux_engine.specs.Tracks.{Found, place_in, readings_at, readings_in, image_bytes}
-use Rattle.flux_engine.specs.declared.sectors.Sectors.{Sectors}
+use Rattle.disk_recordings.specs.declared.sectors.Sectors.{Sectors}
 use Rattle.flux_engine.specs.lemmas.Each.{Each, each-at, each-map, each-flat, each-of, each-unflat, each-filter, each-unfilter, each-missed}
 use Rattle.flux_engine.specs.lemmas.Pieces.{pieces-at}
 

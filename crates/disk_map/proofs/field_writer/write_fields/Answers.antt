@@ -7,7 +7,7 @@ use Rattle.flux_base.specs.Outside.{AppendsPart}
 use Rattle.turn_merge.specs.Readings.{verdict}
 use Rattle.turn_merge.specs.declared.verdict.Verdict.{Verdict}
 use Rattle.flux_engine.specs.Tracks.{totals_of}
-use Rattle.flux_engine.specs.declared.sectors.Sectors.{Sectors}
+use Rattle.disk_recordings.specs.declared.sectors.Sectors.{Sectors}
 use Rattle.flux_engine.specs.lemmas.Pieces.{pieces_next, pieces_stop}
 use Rattle.disk_map.specs.Maps.{field_of, fields_by}
 use Rattle.disk_map.specs.Texts.{field_by}

@@ -2,7 +2,7 @@ use Rattle.std.proofs.Common.{◌≡◌, ◌+◌, ◌-◌, ℕ, Option, Some, ap
 use Rattle.std.specs.Str.{bytes_eq}
 use Rattle.flux_base.specs.declared.track.TrackId.{TrackId}
 use Rattle.flux_engine.specs.Recordings.{sectors_of, track_at}
-use Rattle.flux_engine.specs.declared.sectors.Sectors.{Sectors}
+use Rattle.disk_recordings.specs.declared.sectors.Sectors.{Sectors}
 use Rattle.sector_report.specs.Lines.{two_digits}
 use Rattle.flux_cli.specs.SectorWords.{NamesSector}
 use Rattle.flux_cli.proofs.SectorWords.{next-number, this-number}

@@ -4,7 +4,7 @@ use Rattle.std.specs.List.{flat_map, range_with_len}
 use Rattle.sector_images.specs.Formats.{row}
 use Rattle.flux_engine.specs.Recordings.{sectors_of}
 use Rattle.flux_engine.specs.Rings.{sector_bytes, track_bytes}
-use Rattle.flux_engine.specs.declared.sectors.Sectors.{Sectors}
+use Rattle.disk_recordings.specs.declared.sectors.Sectors.{Sectors}
 use Rattle.flux_engine.proofs.RingLaws.{sectors_fit, sectors_more, slice_size}
 use Rattle.flux_engine.proofs.ring_making.sector_bytes.Goals as goal
 

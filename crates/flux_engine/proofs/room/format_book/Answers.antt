@@ -3,7 +3,7 @@ use Rattle.flux_base.specs.declared.track.TrackId.{TrackId}
 use Rattle.flux_engine.specs.Recordings.{sectors_of, track_at}
 use Rattle.turn_merge.specs.Book.{Knowledge}
 use Rattle.turn_merge.specs.declared.verdict.Verdict.TheVariants.{Missing}
-use Rattle.flux_engine.specs.declared.sectors.Sectors.{Sectors}
+use Rattle.disk_recordings.specs.declared.sectors.Sectors.{Sectors}
 use Rattle.flux_engine.proofs.Noting.{empty_is}
 use Rattle.flux_engine.proofs.room.format_book.Goals as goal
 

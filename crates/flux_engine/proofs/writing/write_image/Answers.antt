@@ -4,7 +4,7 @@ use Rattle.std.specs.Io.KnownBytes.{Appends}
 use Rattle.flux_base.specs.lemmas.Counting.{Counts-then}
 use Rattle.flux_engine.specs.Recordings.{sectors_of}
 use Rattle.flux_engine.specs.Tracks.{image_piece, image_of}
-use Rattle.flux_engine.specs.declared.sectors.Sectors.{Sectors}
+use Rattle.disk_recordings.specs.declared.sectors.Sectors.{Sectors}
 use Rattle.flux_engine.proofs.ImagePieces.{is_piece}
 use Rattle.flux_engine.specs.lemmas.Pieces.{pieces_next, pieces_stop}
 use Rattle.flux_engine.proofs.writing.write_image.Goals as goal

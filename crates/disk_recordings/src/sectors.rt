@@ -2,13 +2,24 @@
 
 ghost use Rattle.std.specs.Prelude.{◌≡◌};
 ghost use Rattle.sector_images.specs.Places.{IsTrack};
-ghost use Rattle.flux_engine.specs.Recordings.{sectors_of as sectors_in};
+ghost use Rattle.disk_recordings.specs.TrackSectors.{sectors_of as sectors_in};
 
-use crate::sectors::Sectors;
-use disk_recordings::{DiskId, recording_of};
+use crate::disk_id::DiskId;
+use crate::recordings::recording_of;
 use flux_base::TrackId;
 use frame_law::Recording;
 use sector_images::Format;
+
+/// The sectors of a track.
+#[derive(Clone, Copy, Debug)]
+pub struct Sectors {
+    /// The number of the first.
+    pub first: u8,
+    /// How many there are.
+    pub count: u8,
+    /// The bytes of each, at most 1024.
+    pub size: u16,
+}
 
 /// The sectors of one of the format's tracks.
 pub fn sectors_of(format: Format, track: TrackId) -> Sectors
