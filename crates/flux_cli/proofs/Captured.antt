@@ -18,10 +18,10 @@ use Rattle.flux_cli.specs.Headlines.{Gave, GaveOrCut, IsExpected, IsOfDecoded, W
 use Rattle.flux_cli.specs.Runs.{Outside, Says, growth}
 use Rattle.flux_cli.specs.FolderRuns.{Began, DidBy, DoesFolder, OnShelf, ShelfMoment, as_source, over_shelf}
 use Rattle.flux_cli.specs.ShelfRuns.{Ran, RanBy, Surroundings, on_shelf}
-use Rattle.flux_cli.specs.FolderWords.{AreFolderWords, NamesFolder}
+use Rattle.flux_words.specs.FolderWords.{AreFolderWords, NamesFolder}
 use Rattle.flux_cli.specs.Work.{Got}
-use Rattle.flux_cli.specs.declared.command.Command.TheVariants.{Decode}
-use Rattle.flux_cli.specs.declared.command.Output.TheVariants.{ImageAndReport}
+use Rattle.flux_words.specs.declared.command.Command.TheVariants.{Decode}
+use Rattle.flux_words.specs.declared.command.Output.TheVariants.{ImageAndReport}
 use Rattle.flux_cli.proofs.Headlines.{Laws, expected, gave_or_cut, runs_as_expected}
 use Rattle.flux_cli.proofs.Outcomes.{format_word, one_format}
 

@@ -12,14 +12,14 @@ use Rattle.kryo_stream.specs.declared.fault.StreamFault.{StreamFault}
 use Rattle.sector_images.specs.declared.format.Format.{Format}
 use Rattle.sector_report.specs.Lines.{refused_text}
 use Rattle.sector_report.specs.declared.totals.Totals.{Totals}
-use Rattle.flux_cli.specs.Commands.{command_for}
+use Rattle.flux_words.specs.Commands.{command_for}
 use Rattle.flux_cli.specs.DisksRuns.{DecodesTo, SaysOfOutput}
 use Rattle.flux_cli.specs.DisksWork.{CutInReading, GotAll, disk_leaves, disk_outcome, disk_work, nowhere, refusal_of, status_of, to_notes}
 use Rattle.flux_cli.specs.Runs.{Does, Finished, IsAnswer, IsCut, NoCountFell, Outside, SaysBy, WasReadWhereNeeded, growth}
 use Rattle.flux_cli.specs.Work.{Got, GotNothing, GotPart, Growth}
 use Rattle.flux_cli.specs.Works.{work_of}
-use Rattle.flux_cli.specs.declared.command.Output.{Output}
-use Rattle.flux_cli.specs.declared.command.Output.TheVariants.{ImageAndReport, ReportAlone}
+use Rattle.flux_words.specs.declared.command.Output.{Output}
+use Rattle.flux_words.specs.declared.command.Output.TheVariants.{ImageAndReport, ReportAlone}
 use Rattle.flux_cli.proofs.Inputs.{Rest, rest}
 use Rattle.flux_cli.proofs.Runs.{done-by}
 

@@ -53,12 +53,12 @@ use Rattle.flux_cli.proofs.PlanRun.{planned-cut-refusal, planned-done, planned-i
 use Rattle.flux_cli.proofs.ReadRun.{draw-done, read-cut-empty, read-done, read-empty}
 use Rattle.flux_cli.proofs.TrialRun.{trial-cut, trial-finish}
 use Rattle.flux_cli.proofs.TurnsRun.{turns-cut-notes, turns-refuse}
-use Rattle.flux_cli.specs.Commands.{command_for}
+use Rattle.flux_words.specs.Commands.{command_for}
 use Rattle.flux_cli.specs.DisksRuns.{DecodesTo}
 use Rattle.flux_cli.specs.DisksWork.{status_of}
 use Rattle.flux_cli.specs.Endings.{EndsBy, disk_ending, dumps_ending, file_ending, identity_ending, image_ending, plan_ending, refuses, written_status}
 use Rattle.flux_cli.specs.FolderRuns.{OnShelf, RefusesMissing, ShelfMoment, on}
-use Rattle.flux_cli.specs.G64Disks.{format_of}
+use Rattle.flux_words.specs.G64Disks.{format_of}
 use Rattle.flux_cli.specs.G64Work.{from_g64_work}
 use Rattle.flux_cli.specs.IdentityRuns.{DidIdentify, identity_status}
 use Rattle.flux_cli.specs.ImagesWork.{image_work}
@@ -68,13 +68,13 @@ use Rattle.flux_cli.specs.PlanRuns.{IsByPlan}
 use Rattle.flux_cli.specs.PlanWork.{planned_work, stop_text}
 use Rattle.flux_cli.specs.ReadRuns.{DidRead, NoneFell, read_status}
 use Rattle.flux_cli.specs.Runs.{Does, DoesBy, NoCountFell, Outside, WasReadWhereNeeded, outside}
-use Rattle.flux_cli.specs.declared.command.Command.{Command}
+use Rattle.flux_words.specs.declared.command.Command.{Command}
 use Rattle.flux_cli.specs.TrialWork.{trial_work}
 use Rattle.flux_cli.specs.TurnsWork.{turns_work}
-use Rattle.flux_cli.specs.declared.command.Command.TheVariants.{FromG64, Map, Tell, Trial, Turns}
-use Rattle.flux_cli.specs.declared.command.Output.{Output}
-use Rattle.flux_cli.specs.declared.dump_words.Shown.TheVariants.{Image, Picture}
-use Rattle.flux_cli.specs.declared.g64_disk.G64Disk.{G64Disk}
+use Rattle.flux_words.specs.declared.command.Command.TheVariants.{FromG64, Map, Tell, Trial, Turns}
+use Rattle.flux_words.specs.declared.command.Output.{Output}
+use Rattle.flux_words.specs.declared.dump_words.Shown.TheVariants.{Image, Picture}
+use Rattle.flux_words.specs.declared.g64_disk.G64Disk.{G64Disk}
 
 -- a stream that was refused; nothing was written of it
 pub turns-refused : {S W N : Type 0} (before : Outside S W N) (source : Moment S) (given : Option (List (List ℕ))) (status : Status)

@@ -25,27 +25,26 @@ use Rattle.sector_report.specs.declared.naming.Naming.{Naming}
 use Rattle.sector_report.specs.declared.naming.Naming.TheVariants.{ByCapture, ByClock}
 use Rattle.sector_report.specs.declared.totals.Totals.{Totals}
 use Rattle.turn_merge.specs.declared.verdict.Verdict.TheVariants.{Good}
-use Rattle.flux_cli.specs.Commands.{AreWordsOf, AskFor}
+use Rattle.flux_words.specs.Commands.{AreWordsOf, AskFor}
 use Rattle.flux_cli.specs.DisksWork.{disk_outcome, refusal_of, status_of, to_notes}
-use Rattle.flux_cli.specs.DumpWords.{Asked, NamesDumps}
-use Rattle.flux_cli.specs.FolderWords.{NamesFolder}
-use Rattle.flux_cli.specs.G64Disks.{format_of}
+use Rattle.flux_words.specs.DumpWords.{Asked, NamesDumps}
+use Rattle.flux_words.specs.FolderWords.{NamesFolder}
+use Rattle.flux_words.specs.G64Disks.{format_of}
 use Rattle.flux_cli.specs.G64Work.{file_refusal, file_status, from_g64_outcome}
 use Rattle.flux_cli.specs.Headlines.{AreRightInFile, AreRightOnDisk, Gave, GaveOrCut, IsExpected, IsOfDecoded, IsOfFile, IsOfPlanned, OfDisk, OfFile, OfRescue, OfSet, OfTrial, RunsAsExpected, WasRead}
-use Rattle.flux_cli.specs.IdentityWords.{NamesIdentity}
-use Rattle.flux_cli.specs.SectorWords.{NamesShow}
-use Rattle.sector_copies.specs.Shown.{SectorAsked}
+use Rattle.flux_words.specs.IdentityWords.{NamesIdentity}
+use Rattle.flux_words.specs.SectorWords.{AskedSector, NamesShow}
 use Rattle.flux_cli.specs.PlanWork.{IsRead, planned_outcome, planned_refusal, planned_status}
 use Rattle.flux_cli.specs.Runs.{Finished, Outside, Says, SaysBy}
 use Rattle.flux_cli.specs.ShelfRuns.{Ran, RanBy, Surroundings}
 use Rattle.flux_cli.specs.Work.{Outcome}
 use Rattle.flux_cli.specs.Works.{work_for, work_of}
-use Rattle.flux_cli.specs.declared.command.Command.{Command}
-use Rattle.flux_cli.specs.declared.command.Command.TheVariants.{Turns, Decode, Report, Map, Write, Trial, ToG64, FromG64, DecodeSet, Rescue, Tell}
-use Rattle.flux_cli.specs.declared.command.Output.{Output}
-use Rattle.flux_cli.specs.declared.command.Output.TheVariants.{ImageAndReport, ReportAlone}
-use Rattle.flux_cli.specs.declared.g64_disk.G64Disk.{G64Disk}
-use Rattle.flux_cli.specs.declared.g64_disk.G64Disk.TheVariants.{Tracks35, Tracks40}
+use Rattle.flux_words.specs.declared.command.Command.{Command}
+use Rattle.flux_words.specs.declared.command.Command.TheVariants.{Turns, Decode, Report, Map, Write, Trial, ToG64, FromG64, DecodeSet, Rescue, Tell}
+use Rattle.flux_words.specs.declared.command.Output.{Output}
+use Rattle.flux_words.specs.declared.command.Output.TheVariants.{ImageAndReport, ReportAlone}
+use Rattle.flux_words.specs.declared.g64_disk.G64Disk.{G64Disk}
+use Rattle.flux_words.specs.declared.g64_disk.G64Disk.TheVariants.{Tracks35, Tracks40}
 use Rattle.flux_cli.proofs.Outcomes.{no_dumps, no_folder, no_identity, no_show, one_command}
 
 -- what the crates below promise
@@ -252,7 +251,7 @@ module _ (names : WordsNameFormats) {S W N H : Type 0} (words : List (List ℕ))
   pub says_of : (command : Command) → AreWordsOf command words → Says command status before.outside after.outside
   says_of command are = by ran.folder ran.dumps ran.identity ran.sector ran.names ran.names_dumps ran.names_identity ran.names_sector ran.did
     where
-      by : (folder : Option (Format × List ℕ)) (dumps : Option Asked) (identity : Option (List ℕ)) (sector : Option SectorAsked) → NamesFolder words folder → NamesDumps words dumps
+      by : (folder : Option (Format × List ℕ)) (dumps : Option Asked) (identity : Option (List ℕ)) (sector : Option AskedSector) → NamesFolder words folder → NamesDumps words dumps
           → NamesIdentity words identity → NamesShow words sector → RanBy folder dumps identity sector words status before after → Says command status before.outside after.outside
       by None None None None none no_read no_name no_sector did =
           subst (λ (asked : Option Command). SaysBy (work_for words asked) asked status before.outside after.outside)

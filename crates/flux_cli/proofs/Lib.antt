@@ -12,12 +12,9 @@ pub mod Headlines
 pub mod Captured
 pub mod TrialRun
 pub mod PagesRun
-pub mod Digits
 pub mod FolderRun
 pub mod ReadRun
 pub mod IdentityRun
-pub mod DumpWords
-pub mod SectorWords
 pub mod SectorRun
 pub mod ReadHeadline
 pub mod Blaming

@@ -20,7 +20,7 @@ use Rattle.flux_cli.specs.DisksWork.{disk_leaves, refusal_of, status_of}
 use Rattle.flux_cli.specs.MapWork.{map_outcome, map_work}
 use Rattle.flux_cli.specs.Runs.{Does, Finished, IsCut, NoCountFell, Outside, WasReadWhereNeeded, growth}
 use Rattle.flux_cli.specs.Work.{Got, GotPart}
-use Rattle.flux_cli.specs.declared.command.Command.TheVariants.{Map}
+use Rattle.flux_words.specs.declared.command.Command.TheVariants.{Map}
 use Rattle.flux_cli.proofs.Inputs.{rest}
 
 leaves-if : (format : Format) (x later : List ℕ) (b : Bool) → IsTakenBehind x later (length (tracks format)) 4096

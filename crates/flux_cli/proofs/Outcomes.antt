@@ -19,25 +19,24 @@ use Rattle.sector_images.specs.Formats.{IsWordOfFormat, WordsNameFormats}
 use Rattle.sector_images.specs.Places.{tracks}
 use Rattle.sector_images.specs.declared.format.Format.{Format}
 use Rattle.sector_report.specs.Lines.{trial_text}
-use Rattle.flux_cli.specs.Commands.{AreWordsOf, AskFor}
+use Rattle.flux_words.specs.Commands.{AreWordsOf, AskFor}
 use Rattle.flux_cli.specs.DisksWork.{disk_outcome}
-use Rattle.flux_cli.specs.DumpWords.{AreReadWords, Asked, NamesDumps}
-use Rattle.flux_cli.specs.FolderWords.{AreFolderWords}
-use Rattle.flux_cli.specs.IdentityWords.{NamesIdentity, identity_words}
-use Rattle.flux_cli.specs.SectorWords.{NamesShow, ShowParts, show_words}
-use Rattle.sector_copies.specs.Shown.{SectorAsked}
-use Rattle.flux_cli.specs.G64Disks.{format_of}
+use Rattle.flux_words.specs.DumpWords.{AreReadWords, Asked, NamesDumps}
+use Rattle.flux_words.specs.FolderWords.{AreFolderWords}
+use Rattle.flux_words.specs.IdentityWords.{NamesIdentity, identity_words}
+use Rattle.flux_words.specs.SectorWords.{AskedSector, NamesShow, ShowParts, show_words}
+use Rattle.flux_words.specs.G64Disks.{format_of}
 use Rattle.flux_cli.specs.G64Work.{from_g64_outcome}
 use Rattle.flux_cli.specs.MapWork.{map_outcome}
 use Rattle.flux_cli.specs.PlanWork.{planned_outcome}
 use Rattle.sector_report.specs.declared.naming.Naming.TheVariants.{ByCapture, ByClock}
 use Rattle.flux_cli.specs.Work.{Outcome}
 use Rattle.flux_cli.specs.Works.{IsOutcome, work_for}
-use Rattle.flux_cli.specs.declared.command.Command.{Command}
-use Rattle.flux_cli.specs.declared.g64_disk.G64Disk.{G64Disk}
-use Rattle.flux_cli.specs.declared.g64_disk.G64Disk.TheVariants.{Tracks35, Tracks40}
-use Rattle.flux_cli.specs.declared.command.Command.TheVariants.{Turns, Decode, Report, Map, Write, Trial, ToG64, FromG64, DecodeSet, Rescue, Tell}
-use Rattle.flux_cli.specs.declared.command.Output.TheVariants.{ImageAndReport, ReportAlone}
+use Rattle.flux_words.specs.declared.command.Command.{Command}
+use Rattle.flux_words.specs.declared.g64_disk.G64Disk.{G64Disk}
+use Rattle.flux_words.specs.declared.g64_disk.G64Disk.TheVariants.{Tracks35, Tracks40}
+use Rattle.flux_words.specs.declared.command.Command.TheVariants.{Turns, Decode, Report, Map, Write, Trial, ToG64, FromG64, DecodeSet, Rescue, Tell}
+use Rattle.flux_words.specs.declared.command.Output.TheVariants.{ImageAndReport, ReportAlone}
 
 -- the first two letters of the first word, as one number
 abbrev letters : List (List ℕ) → ℕ
@@ -313,7 +312,7 @@ pub dumps_no_identity : (words : List (List ℕ)) (dumps : Asked) → AreReadWor
 dumps_no_identity words dumps are = λ dump some same. differ 29285 26980 refl (ap letters (sym are.is ∙ same))
 
 -- and those that ask for a sector of dumps for none
-pub no_show : (command : Command) (words : List (List ℕ)) → AreWordsOf command words → (asked : SectorAsked) (parts : ShowParts asked) → words ≡ show_words asked parts → ⊥
+pub no_show : (command : Command) (words : List (List ℕ)) → AreWordsOf command words → (asked : AskedSector) (parts : ShowParts asked) → words ≡ show_words asked parts → ⊥
 no_show Turns words are asked parts same = differ 29813 29544 refl (ap letters (sym are ∙ same))
 no_show (Decode f) words are asked parts same = differ 25701 29544 refl (ap letters (sym are.is ∙ same))
 no_show (Report f) words are asked parts same = differ 29285 29544 refl (ap letters (sym are.is ∙ same))

@@ -21,8 +21,8 @@ use Rattle.flux_cli.specs.PlanWork.{CutInPlannedReading, IsRead, planned_leaves,
 use Rattle.flux_cli.specs.Runs.{Does, Finished, IsAnswer, IsCut, NoCountFell, Outside, SaysBy, WasReadWhereNeeded, growth}
 use Rattle.flux_cli.specs.Work.{Got, GotPart, Work}
 use Rattle.flux_cli.specs.Works.{work_of}
-use Rattle.flux_cli.specs.declared.command.Command.{Command}
-use Rattle.flux_cli.specs.declared.command.Command.TheVariants.{DecodeSet, Rescue}
+use Rattle.flux_words.specs.declared.command.Command.{Command}
+use Rattle.flux_words.specs.declared.command.Command.TheVariants.{DecodeSet, Rescue}
 use Rattle.flux_cli.proofs.Inputs.{rest}
 use Rattle.flux_cli.proofs.Runs.{done-by}
 

@@ -11,21 +11,21 @@ use Rattle.law_captured_dumps.specs.Said.{EachIsSaid, SaidIsRight}
 use Rattle.sector_images.specs.Formats.{IsWordOfFormat, WordsBeginWithLetters, WordsNameFormats}
 use Rattle.sector_images.specs.declared.format.Format.{Format}
 use Rattle.track_shelf.specs.Files.{File}
-use Rattle.flux_cli.specs.DumpParts.{options_in}
-use Rattle.flux_cli.specs.DumpWords.{AreReadWords, Asked, NamesDumps, asked_disk, option_words, shown_of}
+use Rattle.flux_words.specs.DumpParts.{options_in}
+use Rattle.flux_words.specs.DumpWords.{AreReadWords, Asked, NamesDumps, option_words, shown_of}
+use Rattle.flux_cli.specs.AskedDisks.{asked_disk}
 use Rattle.flux_cli.specs.FolderRuns.{OnShelf}
-use Rattle.flux_cli.specs.FolderWords.{NamesFolder}
-use Rattle.flux_cli.specs.IdentityWords.{NamesIdentity}
-use Rattle.flux_cli.specs.SectorWords.{NamesShow}
-use Rattle.sector_copies.specs.Shown.{SectorAsked}
+use Rattle.flux_words.specs.FolderWords.{NamesFolder}
+use Rattle.flux_words.specs.IdentityWords.{NamesIdentity}
+use Rattle.flux_words.specs.SectorWords.{AskedSector, NamesShow}
 use Rattle.flux_cli.specs.ReadHeadline.{GaveDumps, GaveDumpsOrCut, GavePicture, GaveShown, OfDumps, ReadsAsExpected}
 use Rattle.flux_cli.specs.ReadRuns.{DidRead, FinishedDumps, IsShown, SaysOfRead, read_status}
 use Rattle.flux_cli.specs.Runs.{growth}
 use Rattle.flux_cli.specs.ShelfRuns.{Ran, RanBy, Surroundings, on_shelf}
 use Rattle.flux_cli.specs.Work.{Got}
-use Rattle.flux_cli.specs.declared.dump_words.DumpOptions.{DumpOptions}
-use Rattle.flux_cli.specs.declared.dump_words.Shown.{Shown}
-use Rattle.flux_cli.specs.declared.dump_words.Shown.TheVariants.{Image, Picture}
+use Rattle.flux_words.specs.declared.dump_words.DumpOptions.{DumpOptions}
+use Rattle.flux_words.specs.declared.dump_words.Shown.{Shown}
+use Rattle.flux_words.specs.declared.dump_words.Shown.TheVariants.{Image, Picture}
 use Rattle.flux_cli.proofs.DumpWords.{head-same, options-passed, options-read, tail-same}
 use Rattle.flux_cli.proofs.Outcomes.{folder_no_dumps, one_format}
 
@@ -137,7 +137,7 @@ pub reads_as_expected : DumpLaws → WordsBeginWithLetters → WordsNameFormats 
 reads_as_expected laws letters names words status before after ran asked files are can told =
     gave_or_cut laws (asked_disk asked) files (on_shelf before) (on_shelf after) told (shown_of asked.options) status (by ran.folder ran.dumps ran.identity ran.sector ran.names ran.names_dumps ran.names_identity ran.names_sector ran.did).says
   where
-    by : (folder : Option (Format × List ℕ)) (dumps : Option Asked) (identity : Option (List ℕ)) (sector : Option SectorAsked) → NamesFolder words folder → NamesDumps words dumps
+    by : (folder : Option (Format × List ℕ)) (dumps : Option Asked) (identity : Option (List ℕ)) (sector : Option AskedSector) → NamesFolder words folder → NamesDumps words dumps
         → NamesIdentity words identity → NamesShow words sector → RanBy folder dumps identity sector words status before after → DidRead (shown_of asked.options) (asked_disk asked) status (on_shelf before) (on_shelf after)
     by (Some named) dumps identity sector named_is names_dumps names_identity names_sector did = absurd (folder_no_dumps words named.0 named.1 named_is.0 asked can are)
     by None None None None none no_read no_name no_sector did = absurd (no_read asked can are)

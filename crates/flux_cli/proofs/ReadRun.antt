@@ -19,8 +19,8 @@ use Rattle.track_shelf.specs.Files.{File}
 use Rattle.flux_cli.specs.FolderRuns.{OnShelf}
 use Rattle.flux_cli.specs.ReadRuns.{CutInEmpty, DidRead, FinishedDumps, IsOutcomeOfDumps, IsShown, SaysOfRead, empty_outcome, read_outcome, read_status}
 use Rattle.flux_cli.specs.Work.{Outcome}
-use Rattle.flux_cli.specs.declared.dump_words.Shown.{Shown}
-use Rattle.flux_cli.specs.declared.dump_words.Shown.TheVariants.{Image, Picture}
+use Rattle.flux_words.specs.declared.dump_words.Shown.{Shown}
+use Rattle.flux_words.specs.declared.dump_words.Shown.TheVariants.{Image, Picture}
 
 module _ {H W N : Type 0} (shown : Shown) (disk : DumpDisk) (before after : OnShelf H W N) where
   -- what was done in a room that was made for the disk's format

@@ -8,7 +8,7 @@ use Rattle.sector_images.specs.declared.format.Format.{Format}
 use Rattle.flux_cli.specs.Runs.{Does, DoesBy, Finished, IsAnswer, IsCut, NoCountFell, Outside, SaysBy, WasReadWhereNeeded, growth, reads_of}
 use Rattle.flux_cli.specs.Work.{Got, GotNothing, GotPart, Work}
 use Rattle.flux_cli.specs.Works.{usage_work, work_of}
-use Rattle.flux_cli.specs.declared.command.Command.{Command}
+use Rattle.flux_words.specs.declared.command.Command.{Command}
 use Rattle.flux_cli.proofs.Inputs.{rest}
 
 -- what was done that was asked, by what the status says of it

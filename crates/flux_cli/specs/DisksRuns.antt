@@ -9,7 +9,7 @@ use Rattle.flux_cli.specs.DisksWork.{CutByImage, CutByNotes, CutInReading, GotAl
 use Rattle.flux_cli.specs.Runs.{IsInput, NoCountFell, Outside, WasReadWhereNeeded, growth}
 use Rattle.flux_cli.specs.TurnsWork.{MOST_AT_ONCE}
 use Rattle.flux_cli.specs.Work.{Growth}
-use Rattle.flux_cli.specs.declared.command.Output.{Output}
+use Rattle.flux_words.specs.declared.command.Output.{Output}
 
 -- what the answer says, by the sink of the run whose fault it names
 abbrev pub SaysOfOutput : Output → Format → (taken later : List ℕ) → (image notes : Growth) → Answer → Type 0

@@ -12,8 +12,8 @@ use Rattle.sector_report.specs.Lines.{refused_text}
 use Rattle.sector_report.specs.declared.totals.Totals.{Totals}
 use Rattle.flux_cli.specs.TurnsWork.{MOST_AT_ONCE}
 use Rattle.flux_cli.specs.Work.{Outcome, Growth, Got, GotNothing, Work}
-use Rattle.flux_cli.specs.declared.command.Output.{Output}
-use Rattle.flux_cli.specs.declared.command.Output.TheVariants.{ImageAndReport, ReportAlone}
+use Rattle.flux_words.specs.declared.command.Output.{Output}
+use Rattle.flux_words.specs.declared.command.Output.TheVariants.{ImageAndReport, ReportAlone}
 
 -- whether every sector is good
 abbrev pub status_of : Totals → Option Stop → Status

@@ -13,7 +13,7 @@ use Rattle.track_shelf.specs.Files.{File, LeavesWanted, NamesMissing}
 use Rattle.track_shelf.specs.Names.{missing_text}
 use Rattle.flux_cli.specs.Runs.{Does, Outside, growth}
 use Rattle.flux_cli.specs.Work.{Got, GotPart}
-use Rattle.flux_cli.specs.declared.command.Command.TheVariants.{Decode}
+use Rattle.flux_words.specs.declared.command.Command.TheVariants.{Decode}
 
 -- the shelf at a moment: as a source, with what each of its reads so far gave, and the files that lie on it, if it tells them
 pub record ShelfMoment (H : Type 0) : Type 0 where

@@ -30,15 +30,15 @@ use Rattle.sector_report.specs.Lines.{sector_text, trial_text}
 use Rattle.sector_report.specs.declared.naming.Naming.TheVariants.{ByCapture, ByClock, Unnamed}
 use Rattle.turn_merge.specs.declared.verdict.Place.{Place}
 use Rattle.turn_merge.specs.declared.verdict.Verdict.TheVariants.{Good}
-use Rattle.flux_cli.specs.Commands.{AreWordsOf}
+use Rattle.flux_words.specs.Commands.{AreWordsOf}
 use Rattle.flux_cli.specs.DisksWork.{to_image, to_notes}
-use Rattle.flux_cli.specs.G64Disks.{format_of}
+use Rattle.flux_words.specs.G64Disks.{format_of}
 use Rattle.flux_cli.specs.Runs.{Outside, growth}
 use Rattle.flux_cli.specs.Work.{Got, Outcome}
-use Rattle.flux_cli.specs.declared.command.Command.{Command}
-use Rattle.flux_cli.specs.declared.command.Command.TheVariants.{Decode, DecodeSet, FromG64, Report, Rescue, Trial}
-use Rattle.flux_cli.specs.declared.command.Output.{Output}
-use Rattle.flux_cli.specs.declared.command.Output.TheVariants.{ImageAndReport, ReportAlone}
+use Rattle.flux_words.specs.declared.command.Command.{Command}
+use Rattle.flux_words.specs.declared.command.Command.TheVariants.{Decode, DecodeSet, FromG64, Report, Rescue, Trial}
+use Rattle.flux_words.specs.declared.command.Output.{Output}
+use Rattle.flux_words.specs.declared.command.Output.TheVariants.{ImageAndReport, ReportAlone}
 
 -- the disk was read to its end, and not refused
 abbrev pub WasRead : Status → Type 0

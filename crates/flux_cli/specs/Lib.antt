@@ -1,12 +1,4 @@
-pub mod G64Disks
-pub mod Seeds
-pub mod Counts
-pub mod Commands
-pub mod FolderWords
-pub mod FormatWords
-pub mod DumpWords
-pub mod IdentityWords
-pub mod DumpParts
+pub mod AskedDisks
 pub mod Turns
 pub mod Work
 pub mod TurnsWork
@@ -24,7 +16,6 @@ pub mod PlanRuns
 pub mod DisksRuns
 pub mod FolderRuns
 pub mod ReadRuns
-pub mod SectorWords
 pub mod SectorRuns
 pub mod IdentityRuns
 pub mod Endings

@@ -6,8 +6,8 @@ use Rattle.flux_base.specs.declared.status.Status.{Status}
 use Rattle.flux_engine.specs.declared.plan.Plan.{Plan}
 use Rattle.sector_images.specs.declared.format.Format.{Format}
 use Rattle.flux_cli.specs.Runs.{Does, Outside}
-use Rattle.flux_cli.specs.declared.command.Command.{Command}
-use Rattle.flux_cli.specs.declared.command.Command.TheVariants.{DecodeSet, Rescue}
+use Rattle.flux_words.specs.declared.command.Command.{Command}
+use Rattle.flux_words.specs.declared.command.Command.TheVariants.{DecodeSet, Rescue}
 
 -- the command reads a disk of this format by this plan
 abbrev pub IsByPlan : Command → Plan → Format → Type 0

@@ -13,13 +13,14 @@ use Rattle.law_captured_dumps.specs.Inputs.{HasWhole, IsSteadyOrPassed}
 use Rattle.law_captured_dumps.specs.Said.{IsSaid, IsSaidRightly}
 use Rattle.track_shelf.specs.Files.{File}
 use Rattle.turn_merge.specs.Readings.{verdict}
-use Rattle.flux_cli.specs.DumpWords.{AreReadWords, Asked, CanBeRead, asked_disk, shown_of}
+use Rattle.flux_words.specs.DumpWords.{AreReadWords, Asked, CanBeRead, shown_of}
+use Rattle.flux_cli.specs.AskedDisks.{asked_disk}
 use Rattle.flux_cli.specs.FolderRuns.{OnShelf}
 use Rattle.flux_cli.specs.ReadRuns.{read_status}
 use Rattle.flux_cli.specs.Runs.{growth}
 use Rattle.flux_cli.specs.Work.{Got}
-use Rattle.flux_cli.specs.declared.dump_words.Shown.{Shown}
-use Rattle.flux_cli.specs.declared.dump_words.Shown.TheVariants.{Image, Picture}
+use Rattle.flux_words.specs.declared.dump_words.Shown.{Shown}
+use Rattle.flux_words.specs.declared.dump_words.Shown.TheVariants.{Image, Picture}
 
 -- Each sector's line and its bytes in the image are those that all readings of the dumps bear out. A sector that one dump has whole is never
 -- wrong unsaid, whatever the other files are; where these are captures too or passed over, and the drives kept their speed, it is good with

@@ -12,8 +12,8 @@ use Rattle.track_shelf.specs.Files.{File}
 use Rattle.flux_cli.specs.FolderRuns.{OnShelf}
 use Rattle.flux_cli.specs.Runs.{growth}
 use Rattle.flux_cli.specs.Work.{Outcome, Got, GotNothing, GotPart}
-use Rattle.flux_cli.specs.declared.dump_words.Shown.{Shown}
-use Rattle.flux_cli.specs.declared.dump_words.Shown.TheVariants.{Image, Picture}
+use Rattle.flux_words.specs.declared.dump_words.Shown.{Shown}
+use Rattle.flux_words.specs.declared.dump_words.Shown.TheVariants.{Image, Picture}
 
 -- whether the image is all that can be read there
 abbrev pub read_status : DumpTotals → Status

@@ -7,10 +7,10 @@ use Rattle.flux_base.specs.declared.status.Status.{Status}
 use Rattle.flux_base.specs.declared.status.Status.TheVariants.{AllGood, NotAllGood, Refused, Usage, ReadFault, ImageFault, NotesFault, Memory, ShelfFault}
 use Rattle.flux_engine.specs.Needed.{ReadsWhereOpen}
 use Rattle.kryo_stream.specs.Reads.{SourceMoment}
-use Rattle.flux_cli.specs.Commands.{AskFor}
+use Rattle.flux_words.specs.Commands.{AskFor}
 use Rattle.flux_cli.specs.Work.{Outcome, Growth, Got, Work}
 use Rattle.flux_cli.specs.Works.{work_for, work_of}
-use Rattle.flux_cli.specs.declared.command.Command.{Command}
+use Rattle.flux_words.specs.declared.command.Command.{Command}
 
 -- the outside at a moment: the source, with what each of its reads so far gave, if it tells that, and both sinks
 pub record Outside (S W N : Type 0) : Type 0 where

@@ -5,14 +5,14 @@ use Rattle.disk_rescue.specs.Rescued.{rescuing}
 use Rattle.flux_base.specs.declared.status.Status.{Status}
 use Rattle.flux_base.specs.declared.status.Status.TheVariants.{Usage, NotesFault}
 use Rattle.flux_help.specs.WrongWords.{wrong_text}
-use Rattle.flux_cli.specs.Commands.{AskFor}
+use Rattle.flux_words.specs.Commands.{AskFor}
 use Rattle.flux_cli.specs.DisksWork.{disk_work}
-use Rattle.flux_cli.specs.DumpWords.{NamesDumps}
-use Rattle.flux_cli.specs.FolderWords.{NamesFolder}
-use Rattle.flux_cli.specs.G64Disks.{format_of}
+use Rattle.flux_words.specs.DumpWords.{NamesDumps}
+use Rattle.flux_words.specs.FolderWords.{NamesFolder}
+use Rattle.flux_words.specs.G64Disks.{format_of}
 use Rattle.flux_cli.specs.G64Work.{from_g64_work, to_g64_work}
-use Rattle.flux_cli.specs.IdentityWords.{NamesIdentity}
-use Rattle.flux_cli.specs.SectorWords.{NamesShow}
+use Rattle.flux_words.specs.IdentityWords.{NamesIdentity}
+use Rattle.flux_words.specs.SectorWords.{NamesShow}
 use Rattle.flux_cli.specs.ImagesWork.{write_work}
 use Rattle.flux_cli.specs.PlanWork.{planned_work}
 use Rattle.flux_cli.specs.MapWork.{map_work}
@@ -20,9 +20,9 @@ use Rattle.flux_cli.specs.PagesWork.{page_work}
 use Rattle.flux_cli.specs.TrialWork.{trial_work}
 use Rattle.flux_cli.specs.TurnsWork.{turns_work}
 use Rattle.flux_cli.specs.Work.{Outcome, Growth, GotNothing, GotPart, Work}
-use Rattle.flux_cli.specs.declared.command.Command.{Command}
-use Rattle.flux_cli.specs.declared.command.Command.TheVariants.{Turns, Decode, Report, Map, Write, Trial, ToG64, FromG64, DecodeSet, Rescue, Tell}
-use Rattle.flux_cli.specs.declared.command.Output.TheVariants.{ImageAndReport, ReportAlone}
+use Rattle.flux_words.specs.declared.command.Command.{Command}
+use Rattle.flux_words.specs.declared.command.Command.TheVariants.{Turns, Decode, Report, Map, Write, Trial, ToG64, FromG64, DecodeSet, Rescue, Tell}
+use Rattle.flux_words.specs.declared.command.Output.TheVariants.{ImageAndReport, ReportAlone}
 
 -- nothing is read, and the notes get a text
 abbrev pub usage_leaves : Status → (x later : List ℕ) → Type 0

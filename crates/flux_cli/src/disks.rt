@@ -5,17 +5,17 @@ ghost use Rattle.flux_base.specs.Counts.{counts_of};
 ghost use Rattle.flux_cli.specs.Blamed.{source_blame};
 ghost use Rattle.flux_base.specs.Moments.{moment};
 ghost use Rattle.flux_base.specs.declared.status.Status.{Status};
-ghost use Rattle.flux_cli.specs.Commands.{command_for};
+ghost use Rattle.flux_words.specs.Commands.{command_for};
 ghost use Rattle.flux_cli.specs.DisksRuns.{DecodesTo};
 ghost use Rattle.flux_cli.specs.DisksWork.{status_of};
 ghost use Rattle.flux_cli.specs.Runs.{Does, outside};
-ghost use Rattle.flux_cli.specs.declared.command.Output.TheVariants.{ReportAlone};
+ghost use Rattle.flux_words.specs.declared.command.Output.TheVariants.{ReportAlone};
 ghost use Rattle.flux_engine.specs.Room.{fresh};
 
-use crate::command::Output;
 use crate::endings::end_of_disk;
 use flux_base::{CountingSink, Sink, Source, Status};
 use flux_engine::{DiskRoom, EngineFault, decode_disk};
+use flux_words::Output;
 use sector_report::Totals;
 
 /// Decodes a disk, and gives its image with its report, or the report alone. Notes say why it is refused.

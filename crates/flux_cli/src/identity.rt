@@ -1,7 +1,6 @@
 //! Which disk a dump is of.
 
-ghost use Rattle.std.specs.Prelude.{◌≢◌, ◌≡◌, [], ◌∷◌};
-ghost use Rattle.std.specs.Option.{option_map};
+ghost use Rattle.std.specs.Prelude.{◌≢◌, ◌≡◌};
 ghost use Rattle.flux_base.specs.declared.status.Status.{Status};
 ghost use Rattle.flux_base.specs.Blames.{CountsBy, three_counts};
 ghost use Rattle.flux_base.specs.Counts.{counts_of};
@@ -9,35 +8,11 @@ ghost use Rattle.flux_cli.specs.Blamed.{shelf_blame};
 ghost use Rattle.flux_base.specs.Moments.{moment};
 ghost use Rattle.flux_cli.specs.FolderRuns.{on, shelf_moment};
 ghost use Rattle.flux_cli.specs.IdentityRuns.{DidIdentify, identity_status};
-ghost use Rattle.flux_cli.specs.IdentityWords.{NamesIdentity};
 
 use crate::endings::end_of_identity;
 use dump_identity::{Finding, IdentityRoom, identify};
 use flux_base::{Sink, Status, Word};
 use track_shelf::Shelf;
-
-/// The dump that the words name, if they ask which disk it is of: `identify DUMP`.
-pub fn identity_of(words: &[Word]) -> Option<&Word>
-    ensures { NamesIdentity words.now (option_map (λ dump. dump.now) result) }
-{
-    match words {
-        [verb, dump] => named_dump(verb.bytes(), dump),
-        _ => None,
-    }
-}
-
-/// The same of two words.
-fn named_dump<'a>(verb: &[u8], dump: &'a Word) -> Option<&'a Word>
-    ensures { NamesIdentity (verb.now ∷ dump.now ∷ []) (option_map (λ dump. dump.now) result) }
-{
-    if verb != b"identify".as_slice() {
-        return None;
-    }
-    if dump.bytes().is_empty() {
-        return None;
-    }
-    Some(dump)
-}
 
 /// Says which disk a dump is of: the lines go to `image`. Notes say that it has no file of any track.
 pub fn identify_dump<H: Shelf, W: Sink, N: Sink>(

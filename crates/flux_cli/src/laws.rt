@@ -7,7 +7,7 @@ ghost use Rattle.flux_cli.specs.IdentityRuns.{IsOutcomeOfDump};
 ghost use Rattle.flux_cli.specs.SectorRuns.{IsOutcomeOfSector};
 ghost use Rattle.flux_cli.specs.Work.{Outcome};
 ghost use Rattle.flux_cli.specs.Works.{IsOutcome};
-ghost use Rattle.flux_cli.specs.declared.dump_words.Shown.{Shown};
+ghost use Rattle.flux_words.specs.declared.dump_words.Shown.{Shown};
 ghost use Rattle.sector_copies.specs.Laws.{AreReadingsOfFiles};
 ghost use Rattle.sector_copies.specs.Shown.{SectorAsked};
 ghost use Rattle.track_shelf.specs.Files.{File};

@@ -1,21 +1,15 @@
-//! The program's words, its one call [`run`], and the adapters over the standard streams.
+//! The program's one call [`run`], what it does for each of the words that it is asked by, and the adapters over the standard streams.
 #![tactic(auto)]
 
-mod command;
-mod count;
 mod disks;
-mod dump_words;
 mod endings;
 mod folder;
-mod g64_disk;
 mod identity;
 mod laws;
 mod planned;
 mod program;
 mod read;
 mod sector;
-mod sector_words;
-mod seed;
 mod standard;
 mod std_shelf;
 mod task;

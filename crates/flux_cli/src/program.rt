@@ -5,7 +5,8 @@ ghost use Rattle.flux_cli.specs.Blamed.{CountsOfRun, all_counts, shelf_blame, so
 ghost use Rattle.flux_base.specs.Moments.{moment};
 ghost use Rattle.flux_base.specs.declared.status.Status.{Status};
 ghost use Rattle.flux_cli.specs.Captured.{FolderCaptured, FolderErased, RunsCaptured, RunsErased};
-ghost use Rattle.flux_cli.specs.DumpWords.{asked_disk, asked_of, shown_of};
+ghost use Rattle.flux_words.specs.DumpWords.{asked_of, shown_of};
+ghost use Rattle.flux_cli.specs.AskedDisks.{asked_disk, shown_sector};
 ghost use Rattle.flux_cli.specs.FolderRuns.{on, shelf_moment};
 ghost use Rattle.flux_cli.specs.Headlines.{RunsAsExpected};
 ghost use Rattle.flux_cli.specs.IdentityRuns.{DidIdentify};
@@ -13,18 +14,15 @@ ghost use Rattle.flux_cli.specs.ReadHeadline.{ReadsAsExpected};
 ghost use Rattle.flux_cli.specs.ReadRuns.{DidRead};
 ghost use Rattle.flux_cli.specs.Runs.{RanOverSource, outside};
 ghost use Rattle.flux_cli.specs.SectorRuns.{DidShow};
-ghost use Rattle.flux_cli.specs.SectorWords.{asked_sector};
+ghost use Rattle.flux_words.specs.SectorWords.{asked_sector};
 ghost use Rattle.flux_cli.specs.ShelfRuns.{Ran, surroundings};
 ghost use Rattle.flux_engine.specs.Recordings.{track_at};
 ghost use Rattle.sector_images.specs.Places.{IsSector, tracks};
 
-use crate::command::{Command, Output, command_of};
-use crate::dump_words::{DumpsAsked, dumps_of};
-use crate::folder::{decode_folder, folder_of};
-use crate::identity::{identify_dump, identity_of};
+use crate::folder::decode_folder;
+use crate::identity::identify_dump;
 use crate::read::show;
 use crate::sector::show_one;
-use crate::sector_words::{ShowAsked, sector_of};
 use crate::task::{
     DecodeSet, Decoding, FromG64, Map, Rescue, Task, Tell, ToG64, Trial, Turns, Write,
 };
@@ -35,6 +33,9 @@ use flux_base::{Memory, Sink, Source, Status, Word};
 use flux_engine::{DiskRoom, good_is_right_on_disks, lines_tell_verdicts};
 use flux_help::write_wrong_words;
 use flux_trial::whole_trials_have_one_line;
+use flux_words::{
+    Command, DumpsAsked, Output, ShowAsked, command_of, dumps_of, folder_of, identity_of, sector_of,
+};
 use g64_image::{file_lines_tell, good_is_right_in_files, written_files_come_back};
 use law_captured_disks::captured_disks_decode;
 use law_captured_dumps::{captured_dumps_are_read, dumps_say_each_sector};
@@ -233,7 +234,7 @@ fn run_show<W: Sink, N: Sink, H: Shelf>(
     requires few { length asked.dumps.now ≤ 8 }
     requires track { asked.number < length (tracks asked.format) }
     requires sector { IsSector asked.format (track_at asked.format asked.number) asked.sector }
-    ensures did { DidShow (asked_sector asked.entry) result
+    ensures did { DidShow (shown_sector (asked_sector asked.entry)) result
         (on (shelf_moment (moment H.left H.faults H.failed shelf.old) (H.given shelf.old) (H.files shelf.old)) (moment W.written W.faults W.failed image.old) (moment N.written N.faults N.failed notes.old))
         (on (shelf_moment (moment H.left H.faults H.failed shelf.new) (H.given shelf.new) (H.files shelf.new)) (moment W.written W.faults W.failed image.new) (moment N.written N.faults N.failed notes.new)) }
     ensures blames { CountsBy (shelf_blame result)

@@ -11,12 +11,12 @@ ghost use Rattle.flux_cli.specs.FolderRuns.{on, shelf_moment};
 ghost use Rattle.flux_cli.specs.ReadRuns.{DidRead, read_status};
 ghost use Rattle.flux_engine.specs.Room.{fresh};
 
-use crate::dump_words::Shown;
 use crate::endings::end_of_dumps;
 use disk_map::map_dumps;
 use dump_reading::{DumpTotals, Dumps, read_dumps};
 use flux_base::{Sink, Status};
 use flux_engine::DiskRoom;
+use flux_words::Shown;
 use track_shelf::Shelf;
 
 /// Reads a disk of its dumps, and shows this of the verdicts. Notes say which dump has none of its files.

@@ -5,7 +5,7 @@ ghost use Rattle.flux_base.specs.Moments.{Puts, moment};
 ghost use Rattle.flux_cli.specs.Blamed.{source_blame};
 ghost use Rattle.flux_cli.specs.Runs.{Does, outside};
 ghost use Rattle.flux_cli.specs.Turns.{turn_lines, turns_text};
-ghost use Rattle.flux_cli.specs.declared.command.Command.TheVariants.{Turns};
+ghost use Rattle.flux_words.specs.declared.command.Command.TheVariants.{Turns};
 ghost use Rattle.kryo_stream.specs.Room.{IsFresh};
 
 use crate::endings::refuse;

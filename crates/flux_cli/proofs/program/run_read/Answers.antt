@@ -1,6 +1,7 @@
 use Rattle.std.proofs.Common.{ap, arith, refl}
 use Rattle.flux_engine.specs.Room.{RoomState}
-use Rattle.flux_cli.specs.DumpWords.{asked_disk, asked_of, shown_of}
+use Rattle.flux_words.specs.DumpWords.{asked_of, shown_of}
+use Rattle.flux_cli.specs.AskedDisks.{asked_disk}
 use Rattle.flux_cli.proofs.ReadRun.{in_room}
 use Rattle.flux_cli.proofs.program.run_read.Goals as goal
 

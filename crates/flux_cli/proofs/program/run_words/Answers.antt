@@ -1,7 +1,7 @@
 use Rattle.std.proofs.Common.{Some, None, arith, inl, inr, refl}
 use Rattle.flux_cli.proofs.Blaming.{no-shelf, run-of-shelf, run-of-source}
-use Rattle.flux_cli.specs.DumpWords.{asked_of}
-use Rattle.flux_cli.specs.SectorWords.{asked_sector}
+use Rattle.flux_words.specs.DumpWords.{asked_of}
+use Rattle.flux_words.specs.SectorWords.{asked_sector}
 use Rattle.flux_cli.proofs.Outcomes.{dumps_no_identity, dumps_no_show, folder_no_dumps, folder_no_identity, folder_no_show, identity_no_show}
 use Rattle.flux_cli.proofs.program.run_words.Goals as goal
 

@@ -1,6 +1,6 @@
 use Rattle.std.proofs.Common.{◌≤◌, refl, subst, sym}
 use Rattle.flux_engine.specs.declared.plan.Plan.{Plan}
-use Rattle.flux_cli.specs.declared.command.Command.TheVariants.{DecodeSet}
+use Rattle.flux_words.specs.declared.command.Command.TheVariants.{DecodeSet}
 use Rattle.flux_cli.proofs.task.DecodeSetTask.run.Goals as goal
 
 pub set_plan-requires : goal.set_plan-requires

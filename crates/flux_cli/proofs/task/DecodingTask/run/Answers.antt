@@ -2,7 +2,7 @@ use Rattle.std.proofs.Common.{ap}
 use Rattle.flux_engine.specs.Room.{RoomState}
 use Rattle.sector_images.specs.declared.format.Format.{Format}
 use Rattle.flux_cli.proofs.Runs.{for_format, out_of_memory}
-use Rattle.flux_cli.specs.Commands.{command_for}
+use Rattle.flux_words.specs.Commands.{command_for}
 use Rattle.flux_cli.proofs.task.DecodingTask.run.Goals as goal
 
 pub returns-in-Ok-clause-does : goal.returns-in-Ok-clause-does

@@ -4,7 +4,7 @@ use Rattle.flux_cli.proofs.EndingLaws.{ends-blame, file-blame}
 use Rattle.flux_cli.proofs.G64Run.{file-reads}
 use Rattle.flux_cli.proofs.Runs.{out_of_memory}
 use Rattle.flux_cli.specs.Blamed.{source_blame}
-use Rattle.flux_cli.specs.declared.command.Command.TheVariants.{FromG64}
+use Rattle.flux_words.specs.declared.command.Command.TheVariants.{FromG64}
 use Rattle.flux_cli.proofs.task.FromG64Task.run.Goals as goal
 
 pub returns-in-Ok-clause-does : goal.returns-in-Ok-clause-does

@@ -1,6 +1,6 @@
 use Rattle.std.proofs.Common.{◌≤◌, arith, refl, subst, sym}
 use Rattle.flux_engine.specs.declared.plan.Plan.{Plan}
-use Rattle.flux_cli.specs.declared.command.Command.TheVariants.{Rescue}
+use Rattle.flux_words.specs.declared.command.Command.TheVariants.{Rescue}
 use Rattle.flux_cli.proofs.task.RescueTask.run.Goals as goal
 
 pub decode_by_plan-requires : goal.decode_by_plan-requires

@@ -1,7 +1,7 @@
 use Rattle.flux_cli.proofs.Ended.{trial-ended}
 use Rattle.flux_cli.proofs.EndingLaws.{written-blame}
 use Rattle.flux_cli.proofs.Runs.{out_of_memory}
-use Rattle.flux_cli.specs.declared.command.Command.TheVariants.{Trial}
+use Rattle.flux_words.specs.declared.command.Command.TheVariants.{Trial}
 use Rattle.flux_cli.proofs.task.TrialTask.run.Goals as goal
 
 pub returns-in-Ok-clause-does : goal.returns-in-Ok-clause-does

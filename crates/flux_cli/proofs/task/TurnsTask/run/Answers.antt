@@ -1,5 +1,5 @@
 use Rattle.flux_cli.proofs.Runs.{out_of_memory}
-use Rattle.flux_cli.specs.declared.command.Command.TheVariants.{Turns}
+use Rattle.flux_words.specs.declared.command.Command.TheVariants.{Turns}
 use Rattle.flux_cli.proofs.task.TurnsTask.run.Goals as goal
 
 pub returns-in-Err-clause-does : goal.returns-in-Err-clause-does

@@ -6,7 +6,7 @@ use Rattle.flux_cli.proofs.EndingLaws.{ends-blame, image-blame}
 use Rattle.flux_cli.proofs.ImagesRun.{image-reads}
 use Rattle.flux_cli.proofs.Runs.{out_of_memory}
 use Rattle.flux_cli.specs.Blamed.{source_blame}
-use Rattle.flux_cli.specs.declared.command.Command.TheVariants.{Write}
+use Rattle.flux_words.specs.declared.command.Command.TheVariants.{Write}
 use Rattle.flux_cli.proofs.task.WriteTask.run.Goals as goal
 
 pub returns-in-Ok-clause-does : goal.returns-in-Ok-clause-does

@@ -1,7 +1,0 @@
-use Rattle.std.proofs.Common.{◌≢◌, ◌<◌, ℕ}
-use Rattle.flux_engine.specs.Recordings.{track_at}
-use Rattle.flux_cli.specs.SectorWords.{track_word}
-use Rattle.flux_cli.proofs.sector_words.track_number.Given as goal
-
-abbrev pub invariant-loop-number : goal.invariant-loop-number
-invariant-loop-number l = (k : ℕ) → k < l.number → track_word (track_at l.format k) ≢ l.word

@@ -1,0 +1,156 @@
+-- What the words of `read` ask for.
+use Rattle.std.specs.Prelude.{if◌then◌else◌}
+use Rattle.std.proofs.Common.{◌≡◌, ◌≢◌, ◌≤◌, ◌+◌, ◌-◌, ℕ, Bool, true, false, List, [], ◌∷◌, ◌++◌, codes, drop, take, get_or, length, length-append, Option, Some, None, refl, sym, ap, ◌∙◌, subst, arith}
+use Rattle.std.specs.Str.{bytes_eq}
+use Rattle.std.proofs.lemmas.List.{length-drop, take_all}
+use Rattle.std.proofs.lemmas.Slice.Eq.{bytes_eq-Decides}
+use Rattle.sector_images.specs.Formats.{IsWordOfFormat, WordsBeginWithLetters, WordsNameFormats}
+use Rattle.sector_images.specs.declared.format.Format.{Format}
+use Rattle.flux_words.specs.DumpParts.{IsMaybeReadable, IsNotFirst, NamesBehind, NamesWith, is_first, options_in}
+use Rattle.flux_words.specs.DumpWords.{Asked, CanBeRead, NamesDumps, double_step_word, option_words, picture_word}
+use Rattle.flux_words.specs.declared.dump_words.DumpOptions.{DumpOptions}
+use Rattle.flux_words.specs.declared.dump_words.DumpOptions.TheVariants.{Without, DoubleStep, Picture, PictureDoubleStep, DoubleStepPicture}
+
+-- no format has an option's word, which begins with a dash
+pub no_option : WordsBeginWithLetters → (option word : List ℕ) (f : Format) → get_or option 0 0 ≡ 45 → IsWordOfFormat word f → word ≢ option
+no_option letters option word f begins named same =
+    let letter = letters word f named in
+    let dash : get_or word 0 0 ≡ 45 = ap (λ (w : List ℕ). get_or w 0 0) same ∙ begins in
+    omega (arith, letter, dash)
+
+pub head-same : {X : Type 0} (x y : X) (xs ys : List X) → x ∷ xs ≡ y ∷ ys → x ≡ y
+head-same x y xs ys same = cc
+
+pub tail-same : {X : Type 0} (x y : X) (xs ys : List X) → x ∷ xs ≡ y ∷ ys → xs ≡ ys
+tail-same x y xs ys same = cc
+
+-- the command's word
+pub dumps-named : (words rest : List (List ℕ)) (r : Option Asked) → words ≡ codes "read" ∷ rest → NamesBehind rest r → NamesDumps words r
+dumps-named words rest None at names = λ asked can are.
+    names asked can (record { word = are.word; is = tail-same _ _ _ _ (sym at ∙ are.is); named = are.named })
+dumps-named words rest (Some asked) at names =
+    (record { word = names.0.word; is = at ∙ ap (λ later. codes "read" ∷ later) names.0.is; named = names.0.named }, names.1)
+
+pub dumps-unnamed : (words : List (List ℕ)) → IsNotFirst (codes "read") words → NamesDumps words None
+dumps-unnamed words other = λ asked can are. other _ are.is
+
+differs : (option word : List ℕ) → word ≢ option → bytes_eq word option ≡ false
+differs option word other = by (bytes_eq word option) refl
+  where
+    by : (b : Bool) → bytes_eq word option ≡ b → b ≡ false
+    by false is = refl
+    by true is = absurd (other ((bytes_eq-Decides word option).0 is))
+
+if-false : {X : Type 0} (b : Bool) (x y : X) → b ≡ false → (if b then x else y) ≡ y
+if-false true x y is = absurd (cc)
+if-false false x y is = refl
+
+-- the options that stand before a disk's words are found
+pub options-read : WordsBeginWithLetters → (options : DumpOptions) (word : List ℕ) (dumps : List (List ℕ)) (f : Format) → IsWordOfFormat word f
+    → options_in (option_words options ++ (word ∷ dumps)) ≡ options
+options-read letters Without word dumps f named =
+    if-false _ _ _ (differs picture_word word (no_option letters picture_word word f refl named))
+    ∙ if-false _ _ _ (differs double_step_word word (no_option letters double_step_word word f refl named))
+options-read letters DoubleStep word dumps f named = if-false _ _ _ (differs picture_word word (no_option letters picture_word word f refl named))
+options-read letters Picture word dumps f named = if-false _ _ _ (differs double_step_word word (no_option letters double_step_word word f refl named))
+options-read letters PictureDoubleStep word dumps f named = refl
+options-read letters DoubleStepPicture word dumps f named = refl
+
+-- and what stands behind them
+pub options-passed : (options : DumpOptions) (words : List (List ℕ)) → drop (length (option_words options)) (option_words options ++ words) ≡ words
+options-passed Without words = refl
+options-passed DoubleStep words = refl
+options-passed Picture words = refl
+options-passed PictureDoubleStep words = refl
+options-passed DoubleStepPicture words = refl
+
+first-is : (word : List ℕ) (words : List (List ℕ)) → is_first word words ≡ true → words ≡ word ∷ drop 1 words
+first-is word [] is = absurd (cc)
+first-is word (first ∷ others) is = ap (λ (w : List ℕ). w ∷ others) ((bytes_eq-Decides first word).0 is)
+
+module _ (words : List (List ℕ)) where
+  -- the words are these options, and what stands behind them
+  abbrev Front : DumpOptions → Type 0
+  Front options = words ≡ option_words options ++ drop (length (option_words options)) words
+
+pub options-front : (words : List (List ℕ)) → Front words (options_in words)
+options-front [] = refl
+options-front (first ∷ others) = by (bytes_eq first picture_word) (bytes_eq first double_step_word) refl refl
+  where
+    words : List (List ℕ)
+    words = first ∷ others
+
+    behind_picture : (c : Bool) → is_first double_step_word others ≡ c → first ≡ picture_word → Front words (if c then PictureDoubleStep else Picture)
+    behind_picture true two one = ap (λ (w : List ℕ). w ∷ others) one ∙ ap (λ (ws : List (List ℕ)). picture_word ∷ ws) (first-is double_step_word others two)
+    behind_picture false two one = ap (λ (w : List ℕ). w ∷ others) one
+
+    behind_double : (c : Bool) → is_first picture_word others ≡ c → first ≡ double_step_word → Front words (if c then DoubleStepPicture else DoubleStep)
+    behind_double true two one = ap (λ (w : List ℕ). w ∷ others) one ∙ ap (λ (ws : List (List ℕ)). double_step_word ∷ ws) (first-is picture_word others two)
+    behind_double false two one = ap (λ (w : List ℕ). w ∷ others) one
+
+    by : (b d : Bool) → bytes_eq first picture_word ≡ b → bytes_eq first double_step_word ≡ d
+        → Front words (if b then (if is_first double_step_word others then PictureDoubleStep else Picture)
+        else (if d then (if is_first picture_word others then DoubleStepPicture else DoubleStep) else Without))
+    by true d one other = behind_picture (is_first double_step_word others) refl ((bytes_eq-Decides first picture_word).0 one)
+    by false true one other = behind_double (is_first picture_word others) refl ((bytes_eq-Decides first double_step_word).0 other)
+    by false false one other = refl
+
+pub options-fit : (words : List (List ℕ)) → length (option_words (options_in words)) ≤ length words
+options-fit words =
+    let rest : List (List ℕ) = drop (length (option_words (options_in words))) words in
+    let all : length words ≡ length (option_words (options_in words)) + length rest = ap length (options-front words) ∙ length-append (option_words (options_in words)) rest in
+    omega (arith, all)
+
+-- a slice to the end has all that stands behind
+pub slice-rest : (words : List (List ℕ)) (n : ℕ) → take (length words - n) (drop n words) ≡ drop n words
+slice-rest words n = take_all (length words - n) (drop n words) (omega (arith, length-drop n words))
+
+-- the words behind those of the options
+pub behind-named : WordsBeginWithLetters → (words : List (List ℕ)) (r : Option Asked) → NamesWith (options_in words) (drop (length (option_words (options_in words))) words) r
+    → NamesBehind words r
+behind-named letters words (Some asked) names = (
+  record {
+    word = names.1.word;
+    is = options-front words ∙ ap (λ (rest : List (List ℕ)). option_words (options_in words) ++ rest) names.1.is
+        ∙ ap (λ (o : DumpOptions). option_words o ++ (names.1.word ∷ asked.dumps)) (sym names.0);
+    named = names.1.named;
+  },
+  names.2,
+)
+behind-named letters words None names = λ asked can are.
+    let disk : List (List ℕ) = are.word ∷ asked.dumps in
+    let found : options_in words ≡ asked.options = ap options_in are.is ∙ options-read letters asked.options are.word asked.dumps asked.format are.named in
+    let rest : drop (length (option_words (options_in words))) words ≡ disk =
+    ap (λ (o : DumpOptions). drop (length (option_words o)) words) found ∙ ap (drop (length (option_words asked.options))) are.is ∙ options-passed asked.options disk in
+    names asked (sym found) can (record { word = are.word; is = rest; named = are.named })
+
+module _ (words : List (List ℕ)) where
+  -- the format and the dumps
+  module _ (options : DumpOptions) where
+    pub with-format : (format : Format) (word : List ℕ) (dumps : List (List ℕ)) (r : Option Asked) → words ≡ word ∷ dumps → IsWordOfFormat word format
+        → WordsNameFormats → IsMaybeReadable (record { options = options; dumps = dumps; format = format }) r → NamesWith options words r
+    with-format format word dumps (Some asked) at is one readable = (
+      ap (λ (a : Asked). a.options) readable.0,
+      record {
+        word = word;
+        is = at ∙ ap (λ (a : Asked). word ∷ a.dumps) (sym readable.0);
+        named = subst (λ (a : Asked). IsWordOfFormat word a.format) (sym readable.0) is;
+      },
+      readable.1,
+    )
+    with-format format word dumps None at is one readable = λ asked chosen can are.
+        let both : are.word ∷ asked.dumps ≡ word ∷ dumps = sym are.is ∙ at in
+        let kind : asked.format ≡ format =
+        one word asked.format format (subst (λ (w : List ℕ). IsWordOfFormat w asked.format) (head-same _ _ _ _ both) are.named) is in
+        let rest : asked.dumps ≡ dumps = tail-same _ _ _ _ both in
+        readable (subst CanBeRead (same-asked asked (record { options = options; dumps = dumps; format = format }) chosen rest kind) can)
+      where
+        same-asked : (a b : Asked) → a.options ≡ b.options → a.dumps ≡ b.dumps → a.format ≡ b.format → a ≡ b
+        same-asked a b chosen rest kinds =
+            ap (λ (o : DumpOptions). record a { options = o }) chosen
+            ∙ ap (λ (d : List (List ℕ)). record a { options = b.options; dumps = d }) rest
+            ∙ ap (λ (f : Format). record b { format = f }) kinds
+
+    pub no-format : (word : List ℕ) (dumps : List (List ℕ)) → words ≡ word ∷ dumps → ((f : Format) → ¬ IsWordOfFormat word f) → NamesWith options words None
+    no-format word dumps at none = λ asked chosen can are.
+        none asked.format (subst (λ (w : List ℕ). IsWordOfFormat w asked.format) (head-same _ _ _ _ (sym are.is ∙ at)) are.named)

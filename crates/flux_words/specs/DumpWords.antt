@@ -1,0 +1,77 @@
+-- The words that ask to read dumps of a disk.
+use Rattle.std.specs.Prelude.{◌≡◌, ◌≤◌, ℕ, Bool, true, false, List, [], ◌∷◌, ◌++◌, length, codes, Option, Some, None}
+use Rattle.std.specs.List.{list_any}
+use Rattle.sector_images.specs.Formats.{IsWordOfFormat}
+use Rattle.sector_images.specs.declared.format.Format.{Format}
+use Rattle.track_shelf.specs.Stepping.{reaches_all}
+use Rattle.track_shelf.specs.declared.stepping.Stepping.{Stepping}
+use Rattle.track_shelf.specs.declared.stepping.Stepping.TheVariants.{Single, Double}
+use Rattle.flux_words.specs.declared.dump_words.DumpOptions.{DumpOptions}
+use Rattle.flux_words.specs.declared.dump_words.DumpOptions.TheVariants.{Without, DoubleStep, Picture, PictureDoubleStep, DoubleStepPicture}
+use Rattle.flux_words.specs.declared.dump_words.DumpsAsked.{DumpsAsked}
+use Rattle.flux_words.specs.declared.dump_words.Shown.{Shown}
+use Rattle.flux_words.specs.declared.dump_words.Shown.TheVariants.{Image as ShownImage, Picture as ShownPicture}
+
+-- what is asked of dumps: the options, the dumps by their names, and the format
+pub record Asked : Type 0 where
+  pub options : DumpOptions
+  pub dumps : List (List ℕ)
+  pub format : Format
+
+abbrev pub asked_of : DumpsAsked → Asked
+asked_of asked = record { options = asked.options; dumps = asked.dumps.now; format = asked.format }
+
+-- how the drive stepped, by the options
+abbrev pub stepping_of : DumpOptions → Stepping
+stepping_of Without = Single
+stepping_of Picture = Single
+stepping_of DoubleStep = Double
+stepping_of PictureDoubleStep = Double
+stepping_of DoubleStepPicture = Double
+
+-- and what is shown of the verdicts
+abbrev pub shown_of : DumpOptions → Shown
+shown_of Without = ShownImage
+shown_of DoubleStep = ShownImage
+shown_of Picture = ShownPicture
+shown_of PictureDoubleStep = ShownPicture
+shown_of DoubleStepPicture = ShownPicture
+
+abbrev pub double_step_word : List ℕ
+double_step_word = codes "--double-step"
+
+abbrev pub picture_word : List ℕ
+picture_word = codes "--picture"
+
+-- the words before the format: both options may stand there, in either order
+abbrev pub option_words : DumpOptions → List (List ℕ)
+option_words Without = []
+option_words DoubleStep = double_step_word ∷ []
+option_words Picture = picture_word ∷ []
+option_words PictureDoubleStep = picture_word ∷ double_step_word ∷ []
+option_words DoubleStepPicture = double_step_word ∷ picture_word ∷ []
+
+pub record AreReadWords (asked : Asked) (words : List (List ℕ)) : Type 0 where
+  pub word : List ℕ
+  pub is : words ≡ codes "read" ∷ (option_words asked.options ++ (word ∷ asked.dumps))
+  pub named : IsWordOfFormat word asked.format
+
+-- most dumps of a disk
+abbrev pub MOST_DUMPS : ℕ
+MOST_DUMPS = 8
+
+abbrev pub is_nameless : List ℕ → Bool
+is_nameless [] = true
+is_nameless (byte ∷ bytes) = false
+
+-- there are 1 to 8 dumps, each with a name, and the drive reaches all tracks
+pub record CanBeRead (asked : Asked) : Type 0 where
+  pub some : 1 ≤ length asked.dumps
+  pub most : length asked.dumps ≤ MOST_DUMPS
+  pub named : list_any is_nameless asked.dumps ≡ false
+  pub reached : reaches_all (stepping_of asked.options) asked.format ≡ true
+
+-- what the words ask of dumps, if they ask for that
+abbrev pub NamesDumps : List (List ℕ) → Option Asked → Type 0
+NamesDumps words (Some asked) = AreReadWords asked words × CanBeRead asked
+NamesDumps words None = (asked : Asked) → CanBeRead asked → ¬ AreReadWords asked words

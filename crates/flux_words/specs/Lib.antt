@@ -1,0 +1,10 @@
+pub mod G64Disks
+pub mod Seeds
+pub mod Counts
+pub mod FormatWords
+pub mod Commands
+pub mod FolderWords
+pub mod DumpWords
+pub mod DumpParts
+pub mod IdentityWords
+pub mod SectorWords

@@ -1,0 +1,228 @@
+//! The words that ask to show a sector of dumps.
+
+ghost use Rattle.std.specs.Prelude.{◌≡◌, ◌<◌, ◌≤◌, ◌-◌, IfSome, Some, decimal, length};
+ghost use Rattle.std.specs.Option.{option_map};
+ghost use Rattle.std.specs.Str.{bytes_eq};
+ghost use Rattle.flux_words.specs.SectorWords.{HasNumber, IsMaybeShown, MOST_COPY_NUMBERS, NamesBehind, NamesCopy, NamesCopyFirst, NamesNumber, NamesPlace, NamesSector, NamesShow, NamesStepped, NamesTrack, asked_sector, track_word};
+ghost use Rattle.disk_recordings.specs.TrackSectors.{sectors_of as sectors_in, track_at};
+ghost use Rattle.sector_images.specs.Places.{tracks};
+ghost use Rattle.sector_report.specs.Lines.{two_digits};
+
+use crate::dump_words::{behind, has_nameless};
+use disk_recordings::sectors_of;
+use flux_base::{TrackId, Word};
+use sector_images::{Format, track_count, track_id, tracks_keep_bounds, words_name_formats};
+use sector_report::{Line, put, put_two_digits, put_u32};
+use track_shelf::Stepping;
+
+/// How many dumps are read at most.
+const MOST_DUMPS: usize = 8;
+
+/// How many contents are kept of a sector at most.
+const MOST_COPIES: u32 = 16;
+
+/// What is asked of one sector of dumps.
+#[derive(Clone, Copy)]
+pub struct ShowAsked<'a> {
+    pub stepping: Stepping,
+    /// The content that is asked for alone, by its number from 0.
+    pub alone: Option<u32>,
+    pub format: Format,
+    /// The number of the track among the format's.
+    pub number: u32,
+    pub sector: u8,
+    /// The dumps by their names, 1 to 8 of them, each a folder or one of its files.
+    pub dumps: &'a [Word],
+}
+
+/// What the words ask of a sector, if they ask for that: `show [--double-step] [--copy N] FORMAT TRACK SECTOR DUMP...`, with the options in
+/// either order, and the track and the sector as reports name them.
+pub fn sector_of(words: &[Word]) -> Option<ShowAsked<'_>>
+    ensures { NamesShow words.now (option_map asked_sector result) }
+{
+    match behind(words, b"show") {
+        Some(rest) => asked_behind(rest),
+        None => None,
+    }
+}
+
+/// What the words behind the command's ask for.
+fn asked_behind(words: &[Word]) -> Option<ShowAsked<'_>>
+    ensures { NamesBehind words.now (option_map asked_sector result) }
+{
+    words_name_formats();
+    match behind(words, b"--double-step") {
+        Some(rest) => asked_by(Stepping::Double, rest),
+        None => asked_first(words),
+    }
+}
+
+/// What those behind the steps' ask for.
+fn asked_by(stepping: Stepping, words: &[Word]) -> Option<ShowAsked<'_>>
+    ensures { NamesCopy stepping words.now (option_map asked_sector result) }
+{
+    words_name_formats();
+    match behind(words, b"--copy") {
+        Some(rest) => match numbered(rest) {
+            Some((number, others)) => asked_of_disk(stepping, Some(number), others),
+            None => None,
+        },
+        None => asked_of_disk(stepping, None, words),
+    }
+}
+
+/// What words ask for of which the steps' is not the first: it may stand behind the number of a content.
+fn asked_first(words: &[Word]) -> Option<ShowAsked<'_>>
+    ensures { NamesCopyFirst words.now (option_map asked_sector result) }
+{
+    words_name_formats();
+    match behind(words, b"--copy") {
+        Some(rest) => match numbered(rest) {
+            Some((number, others)) => asked_stepped(number, others),
+            None => None,
+        },
+        None => asked_of_disk(Stepping::Single, None, words),
+    }
+}
+
+/// What the words behind the number of a content ask for.
+fn asked_stepped(number: u32, words: &[Word]) -> Option<ShowAsked<'_>>
+    ensures { NamesStepped (Some number) words.now (option_map asked_sector result) }
+{
+    words_name_formats();
+    match behind(words, b"--double-step") {
+        Some(rest) => asked_of_disk(Stepping::Double, Some(number), rest),
+        None => asked_of_disk(Stepping::Single, Some(number), words),
+    }
+}
+
+/// The number of a content that the first word is, and the words behind it.
+fn numbered(words: &[Word]) -> Option<(u32, &[Word])>
+    ensures { HasNumber words.now (option_map (λ named. (named.0, named.1.now)) result) }
+{
+    let Some((word, others)) = words.split_first() else {
+        return None;
+    };
+    match copy_number(word.bytes()) {
+        Some(number) => Some((number, others)),
+        None => None,
+    }
+}
+
+/// What those from the format's on ask for.
+fn asked_of_disk(stepping: Stepping, alone: Option<u32>, words: &[Word]) -> Option<ShowAsked<'_>>
+    ensures { NamesPlace stepping alone words.now (option_map asked_sector result) }
+{
+    words_name_formats();
+    let [word, track, sector, dumps @ ..] = words else {
+        return None;
+    };
+    let Some(format) = Format::of_word(word.bytes()) else {
+        return None;
+    };
+    let Some(number) = track_number(format, track.bytes()) else {
+        return None;
+    };
+    let Some(sector) = sector_number(format, number, sector.bytes()) else {
+        return None;
+    };
+    showable(ShowAsked {
+        stepping,
+        alone,
+        format,
+        number,
+        sector,
+        dumps,
+    })
+}
+
+/// The same, where it can be shown.
+fn showable(asked: ShowAsked<'_>) -> Option<ShowAsked<'_>>
+    ensures { IsMaybeShown (asked_sector asked.entry) (option_map asked_sector result) }
+{
+    if asked.dumps.is_empty() {
+        return None;
+    }
+    if asked.dumps.len() > MOST_DUMPS {
+        return None;
+    }
+    if has_nameless(asked.dumps) {
+        return None;
+    }
+    if asked.stepping.reaches_all(asked.format) {
+        Some(asked)
+    } else {
+        None
+    }
+}
+
+/// The number of a content that a word is.
+fn copy_number(word: &[u8]) -> Option<u32>
+    ensures { NamesNumber MOST_COPY_NUMBERS decimal word.now result }
+{
+    for number in 0..MOST_COPIES {
+        if is_decimal(number, word) {
+            return Some(number);
+        }
+    }
+    None
+}
+
+/// Whether a word is a number.
+fn is_decimal(number: u32, word: &[u8]) -> bool
+    ensures { result ≡ bytes_eq (decimal number) word.now }
+{
+    let mut line = Line::new();
+    put_u32(&mut line, number);
+    line.as_str().as_bytes() == word
+}
+
+/// The number of the track that a word names as reports do.
+fn track_number(format: Format, word: &[u8]) -> Option<u32>
+    ensures { NamesTrack format word.now result }
+{
+    tracks_keep_bounds();
+    for number in 0..track_count(format) {
+        if is_track_word(track_id(format, number), word) {
+            return Some(number);
+        }
+    }
+    None
+}
+
+/// Whether a word names a track as reports do.
+fn is_track_word(track: TrackId, word: &[u8]) -> bool
+    requires { track.cylinder < 100 }
+    ensures { result ≡ bytes_eq (track_word track) word.now }
+{
+    let mut line = Line::new();
+    put_two_digits(&mut line, track.cylinder);
+    put(&mut line, ".");
+    put_u32(&mut line, u32::from(track.head));
+    line.as_str().as_bytes() == word
+}
+
+/// The sector of a track that a word names as reports do.
+fn sector_number(format: Format, number: u32, word: &[u8]) -> Option<u8>
+    requires { number < length (tracks format) }
+    ensures names { NamesSector format number word.now (option_map (λ sector. sector - (sectors_in format (track_at format number)).first) result) }
+    ensures least { IfSome result (λ sector. (sectors_in format (track_at format number)).first ≤ sector) }
+{
+    tracks_keep_bounds();
+    let sectors = sectors_of(format, track_id(format, number));
+    for index in 0..sectors.count {
+        if is_sector_word(sectors.first + index, word) {
+            return Some(sectors.first + index);
+        }
+    }
+    None
+}
+
+/// Whether a word names a sector as reports do.
+fn is_sector_word(sector: u8, word: &[u8]) -> bool
+    ensures { result ≡ bytes_eq (two_digits sector) word.now }
+{
+    let mut line = Line::new();
+    put_two_digits(&mut line, sector);
+    line.as_str().as_bytes() == word
+}
