@@ -1,4 +1,5 @@
-//! The program's one call [`run`], what it does for each of the words that it is asked by, and the adapters over the standard streams.
+//! The program's one call [`run`], and what it does for each of the words that it is asked by; with it the adapters over the standard streams
+//! (`std_streams`).
 #![tactic(auto)]
 
 mod disks;
@@ -10,8 +11,6 @@ mod planned;
 mod program;
 mod read;
 mod sector;
-mod standard;
-mod std_shelf;
 mod task;
 mod turns;
 
@@ -19,5 +18,4 @@ pub use laws::{
     identity_outcomes_are_one, outcomes_are_one, read_outcomes_are_one, sector_outcomes_are_one,
 };
 pub use program::run;
-pub use standard::{StdSink, StdSource};
-pub use std_shelf::StdShelf;
+pub use std_streams::{StdShelf, StdSink, StdSource};

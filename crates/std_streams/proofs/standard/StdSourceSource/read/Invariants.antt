@@ -1,5 +1,5 @@
 use Rattle.std.proofs.Common.{◌≡◌}
-use Rattle.flux_cli.proofs.standard.StdSourceSource.read.Given as goal
+use Rattle.std_streams.proofs.standard.StdSourceSource.read.Given as goal
 
 abbrev pub invariant-loop : goal.invariant-loop
 invariant-loop g l = l.self.faults ≡ l.initial.self.faults

@@ -1,5 +1,5 @@
 use Rattle.std.proofs.Common.{◌≡◌}
-use Rattle.flux_cli.proofs.standard.StdSinkSink.write.Given as goal
+use Rattle.std_streams.proofs.std_shelf.StdShelf.read_on.Given as goal
 
 abbrev pub invariant-loop : goal.invariant-loop
 invariant-loop g l = l.self.faults ≡ l.initial.self.faults
