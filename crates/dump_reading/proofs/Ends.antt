@@ -12,8 +12,8 @@ use Rattle.flux_engine.specs.LoopProgress.{EndedBySink, EndedByStream, EndsLoop,
 use Rattle.flux_engine.specs.PlanAnswers.{of_part, of_stream}
 use Rattle.flux_engine.specs.Plans.{PartOf, Seen}
 use Rattle.flux_engine.specs.Room.{RoomState}
-use Rattle.flux_engine.specs.declared.fault.CaptureFault.{CaptureFault}
-use Rattle.flux_engine.specs.declared.fault.CaptureFault.TheVariants.{ReadFault as UnreadCapture}
+use Rattle.kryo_stream.specs.declared.fault.CaptureFault.{CaptureFault}
+use Rattle.kryo_stream.specs.declared.fault.CaptureFault.TheVariants.{ReadFault as UnreadCapture}
 use Rattle.flux_engine.specs.declared.fault.PlanFault.{PlanFault}
 use Rattle.flux_engine.specs.declared.fault.PlanFault.TheVariants.{ReadFault, ImageFault, NotesFault, Refused}
 use Rattle.flux_engine.specs.declared.track_part.PartFault.{PartFault}

@@ -9,7 +9,7 @@ use Rattle.sector_report.specs.declared.dump_lines.Passed.TheVariants.{Refused}
 use Rattle.flux_engine.specs.Answers.{CaptureAnswer, IsOfCaptureAtHand, ReadsStream, SaysOfCapture}
 use Rattle.flux_engine.specs.LoopProgress.{seen_next}
 use Rattle.flux_engine.specs.Plans.{Seen}
-use Rattle.flux_engine.specs.declared.fault.CaptureFault.TheVariants.{Refused as RefusedCapture}
+use Rattle.kryo_stream.specs.declared.fault.CaptureFault.TheVariants.{Refused as RefusedCapture}
 use Rattle.flux_engine.specs.declared.track_streams.NextStream.TheVariants.{Read, PassedOver}
 use Rattle.dump_reading.specs.DumpStreams.{passed_over, seen_file, seen_unless}
 

@@ -18,8 +18,8 @@ use Rattle.track_shelf.specs.declared.stepping.Stepping.{Stepping}
 use Rattle.flux_engine.specs.LoopProgress.{GivesNext, seen_at, seen_next}
 use Rattle.flux_engine.specs.Plans.{Seen}
 use Rattle.flux_engine.specs.Recordings.{track_at}
-use Rattle.flux_engine.specs.declared.fault.CaptureFault.{CaptureFault}
-use Rattle.flux_engine.specs.declared.fault.CaptureFault.TheVariants.{ReadFault}
+use Rattle.kryo_stream.specs.declared.fault.CaptureFault.{CaptureFault}
+use Rattle.kryo_stream.specs.declared.fault.CaptureFault.TheVariants.{ReadFault}
 use Rattle.flux_engine.specs.declared.plan.Plan.{Plan}
 use Rattle.flux_engine.specs.declared.track_streams.NextStream.{NextStream}
 use Rattle.dump_reading.specs.DumpStreams.{HaveComeOf, dump_streams, passed_over, seen_file, seen_in, seen_of}

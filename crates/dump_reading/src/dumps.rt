@@ -7,7 +7,7 @@ ghost use Rattle.dump_reading.specs.Files.{IsFresh};
 ghost use Rattle.flux_engine.specs.Answers.{CaptureCause};
 ghost use Rattle.flux_engine.specs.Blamed.{is_unread};
 ghost use Rattle.flux_engine.specs.LoopProgress.{IsBoundedNext, seen_next};
-ghost use Rattle.flux_engine.specs.declared.fault.CaptureFault.TheVariants.{ReadFault};
+ghost use Rattle.kryo_stream.specs.declared.fault.CaptureFault.TheVariants.{ReadFault};
 ghost use Rattle.track_shelf.specs.Files.{File, file_at};
 ghost use Rattle.track_shelf.specs.Names.{path_text};
 

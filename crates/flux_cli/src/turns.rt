@@ -11,7 +11,7 @@ ghost use Rattle.kryo_stream.specs.Room.{IsFresh};
 use crate::endings::refuse;
 use flux_base::{Failed, Sink, Source, Status};
 use index_turns::TrackFlux;
-use kryo_stream::{RoomFault, StreamRoom};
+use kryo_stream::{CaptureFault, StreamRoom};
 use sector_report::{refused_line, transitions_line, turn_line, write_line};
 
 /// Reads one stream, and prints its transitions and turns.
@@ -34,8 +34,8 @@ pub fn print_turns<S: Source, W: Sink, N: Sink>(
             Ok(()) => Status::AllGood,
             Err(_) => Status::ImageFault,
         },
-        Err(RoomFault::ReadFault) => Status::ReadFault,
-        Err(RoomFault::Refused { block, fault }) => {
+        Err(CaptureFault::ReadFault) => Status::ReadFault,
+        Err(CaptureFault::Refused { block, fault }) => {
             refuse(&refused_line(0, block, &fault), notes)
         }
     }

@@ -6,8 +6,8 @@ use Rattle.flux_base.specs.lemmas.Counting.{Counts-none}
 use Rattle.flux_engine.specs.Answers.{of_capture, of_sink}
 use Rattle.flux_engine.specs.Blamed.{engine_blame, is_unread, part_blame, plan_blame}
 use Rattle.flux_engine.specs.PlanAnswers.{PlanAnswer, engine_answer, of_part, of_stream}
-use Rattle.flux_engine.specs.declared.fault.CaptureFault.{CaptureFault}
-use Rattle.flux_engine.specs.declared.fault.CaptureFault.TheVariants.{ReadFault as UnreadCapture, Refused as RefusedCapture}
+use Rattle.kryo_stream.specs.declared.fault.CaptureFault.{CaptureFault}
+use Rattle.kryo_stream.specs.declared.fault.CaptureFault.TheVariants.{ReadFault as UnreadCapture, Refused as RefusedCapture}
 use Rattle.flux_engine.specs.declared.fault.PlanFault.TheVariants.{ReadFault, ImageFault, NotesFault, Refused}
 use Rattle.flux_engine.specs.declared.track_part.PartFault.{PartFault}
 use Rattle.flux_engine.specs.declared.track_part.PartFault.TheVariants.{ImageFault as PartImageFault, NotesFault as PartNotesFault}

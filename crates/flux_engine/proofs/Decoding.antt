@@ -13,8 +13,8 @@ use Rattle.flux_engine.specs.Room.{RoomState}
 use Rattle.flux_engine.specs.lemmas.OneCapture.{one_capture}
 use Rattle.flux_engine.specs.TrackParts.{WritesPart}
 use Rattle.flux_engine.specs.Tracks.{IsPart, TrackPart, part_of}
-use Rattle.flux_engine.specs.declared.fault.CaptureFault.{CaptureFault}
-use Rattle.flux_engine.specs.declared.fault.CaptureFault.TheVariants.{ReadFault as UnreadCapture, Refused as RefusedCapture}
+use Rattle.kryo_stream.specs.declared.fault.CaptureFault.{CaptureFault}
+use Rattle.kryo_stream.specs.declared.fault.CaptureFault.TheVariants.{ReadFault as UnreadCapture, Refused as RefusedCapture}
 use Rattle.flux_engine.specs.declared.track_part.PartFault.{PartFault}
 use Rattle.flux_engine.specs.declared.track_part.PartFault.TheVariants.{ImageFault as PartImageFault, NotesFault as PartNotesFault}
 

@@ -39,7 +39,7 @@ use Rattle.flux_engine.specs.Rules.{AreAllBy, AreOthersBy}
 use Rattle.flux_engine.specs.TrackParts.{WritesPart}
 use Rattle.flux_engine.specs.Tracks.{TrackPart, track_notes}
 use Rattle.flux_engine.specs.Writing.{sum_of}
-use Rattle.flux_engine.specs.declared.fault.CaptureFault.{CaptureFault}
+use Rattle.kryo_stream.specs.declared.fault.CaptureFault.{CaptureFault}
 use Rattle.flux_engine.specs.declared.gathered_track.PassedStream.{PassedStream}
 use Rattle.flux_engine.specs.declared.plan.Clocks.{Clocks}
 use Rattle.flux_engine.specs.declared.plan.Clocks.TheVariants.{Both, FollowingAlone}

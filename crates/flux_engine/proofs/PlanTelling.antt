@@ -18,8 +18,8 @@ use Rattle.flux_engine.specs.PlanAnswers.{DecodesPlanned, IsOfBytesTaken, IsFini
 use Rattle.flux_engine.specs.PlanProgress.{HasCome}
 use Rattle.flux_engine.specs.Plans.{EndsInPlan, PartOf}
 use Rattle.flux_engine.specs.TrackParts.{PartCause}
-use Rattle.flux_engine.specs.declared.fault.CaptureFault.{CaptureFault}
-use Rattle.flux_engine.specs.declared.fault.CaptureFault.TheVariants.{ReadFault as UnreadCapture, Refused as RefusedCapture}
+use Rattle.kryo_stream.specs.declared.fault.CaptureFault.{CaptureFault}
+use Rattle.kryo_stream.specs.declared.fault.CaptureFault.TheVariants.{ReadFault as UnreadCapture, Refused as RefusedCapture}
 use Rattle.flux_engine.specs.declared.fault.PlanFault.{PlanFault}
 use Rattle.flux_engine.specs.declared.track_part.PartFault.{PartFault}
 use Rattle.flux_engine.specs.declared.track_part.PartFault.TheVariants.{ImageFault as PartImageFault, NotesFault as PartNotesFault}

@@ -25,8 +25,8 @@ use Rattle.flux_engine.specs.Room.{RoomState}
 use Rattle.flux_engine.specs.SourceStreams.{AreFirst, HaveCome, HaveEnded, WasNeeded}
 use Rattle.flux_engine.specs.Streams.{behind, stream_at}
 use Rattle.flux_engine.specs.Tracks.{TrackPart}
-use Rattle.flux_engine.specs.declared.fault.CaptureFault.{CaptureFault}
-use Rattle.flux_engine.specs.declared.fault.CaptureFault.TheVariants.{ReadFault as UnreadCapture, Refused as RefusedCapture}
+use Rattle.kryo_stream.specs.declared.fault.CaptureFault.{CaptureFault}
+use Rattle.kryo_stream.specs.declared.fault.CaptureFault.TheVariants.{ReadFault as UnreadCapture, Refused as RefusedCapture}
 use Rattle.flux_engine.specs.declared.fault.PlanFault.{PlanFault}
 use Rattle.flux_engine.specs.declared.plan.Plan.{Plan}
 use Rattle.flux_engine.specs.declared.track_part.PartFault.{PartFault}

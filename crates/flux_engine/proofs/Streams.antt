@@ -1,20 +1,21 @@
 -- From what reading a stream answers to what decoding its track says of the input.
-use Rattle.std.specs.Prelude.{◌≡◌, ◌≤◌, ◌<◌, ℕ, ◌+◌, ◌-◌, ◌^◌, Bool, true, false, All, List, [], ◌++◌, length, slice_get, nat_lt, Option, Some, None, Ok, Err, if◌then◌else◌}
+use Rattle.std.specs.Prelude.{◌≡◌, ◌≤◌, ◌<◌, ℕ, ◌+◌, ◌-◌, ◌^◌, Bool, true, false, All, List, [], ◌++◌, length, slice_get, nat_lt, Option, Some, None, Ok, Err, if◌then◌else◌, OnOk}
 use Rattle.std.specs.Option.{option_or}
 use Rattle.std.proofs.Common.{ap, sym, subst, ◌∙◌, arith, inl, inr, append-nil}
 use Rattle.std.proofs.lemmas.Bool.{cases_lt, lt-ltb}
 use Rattle.std.proofs.lemmas.List.{length-map}
 use Rattle.index_turns.specs.Track.{TrackState}
-use Rattle.kryo_stream.specs.Outcome.{IsRead, input_of, most_padding}
+use Rattle.kryo_stream.specs.Outcome.{IsRead, IsSmall, input_of, most_padding}
 use Rattle.kryo_stream.specs.Pieces.{BlockOrFault}
+use Rattle.kryo_stream.specs.Room.{track_answer}
 use Rattle.kryo_stream.specs.Stream.{first_fault, fault_at, last_block, pieces, piece_behind, turn_fault, mark_faults, marks, index_time, indexes, stream}
 use Rattle.kryo_stream.specs.declared.block.SpelledBlock.{SpelledBlock}
+use Rattle.kryo_stream.specs.declared.fault.CaptureFault.TheVariants.{ReadFault, Refused}
 use Rattle.kryo_stream.specs.declared.fault.StreamFault.{StreamFault}
 use Rattle.kryo_stream.specs.declared.fault.StreamFault.TheVariants.{NoTurn}
 use Rattle.kryo_stream.specs.declared.fault.TrackFault.TheVariants.{ReadFault as Unread, Refused as NotAStream}
 use Rattle.flux_engine.specs.Answers.{CaptureAnswer, ReadsStream}
 use Rattle.flux_engine.specs.Reading.{IsBounded}
-use Rattle.flux_engine.specs.declared.fault.CaptureFault.TheVariants.{ReadFault, Refused}
 
 few_bytes : (used : Bool) (n : ℕ) → n ≤ most_padding used + 4198400 → n ≤ 4198416
 few_bytes true n few = omega (arith, few)
@@ -50,7 +51,7 @@ module _ (left left' : Option (List ℕ)) (used : Bool) (held held' : List ℕ) 
   abbrev Reads : CaptureAnswer → Type 0
   Reads answer = ReadsStream left left' used held held' flux.times flux.indexes answer
 
-  pub read_failed : IsRead left left' used held held' flux (Err Unread) → Reads (Err ReadFault)
+  read_failed : IsRead left left' used held held' flux (Err Unread) → Reads (Err ReadFault)
   read_failed r = record {
     taken = r.taken;
     consumed = r.consumed;
@@ -61,7 +62,7 @@ module _ (left left' : Option (List ℕ)) (used : Bool) (held held' : List ℕ) 
     ended = λ cannot. absurd cannot;
   }
 
-  pub read_refused : (block : ℕ) (fault : StreamFault) → IsRead left left' used held held' flux (Err (NotAStream block fault))
+  read_refused : (block : ℕ) (fault : StreamFault) → IsRead left left' used held held' flux (Err (NotAStream block fault))
       → Reads (Err (Refused block fault))
   read_refused block fault r = record {
     taken = r.taken;
@@ -71,7 +72,7 @@ module _ (left left' : Option (List ℕ)) (used : Bool) (held held' : List ℕ) 
     ended = r.ended;
   }
 
-  pub read_whole : (u : Unit {0}) → IsRead left left' used held held' flux (Ok u) → Reads (Ok u)
+  read_whole : (u : Unit {0}) → IsRead left left' used held held' flux (Ok u) → Reads (Ok u)
   read_whole u r = record {
     taken = r.taken;
     consumed = r.consumed;
@@ -82,16 +83,24 @@ module _ (left left' : Option (List ℕ)) (used : Bool) (held held' : List ℕ) 
     ended = λ cannot. absurd cannot;
   }
 
+  pub read_answered : (answer : CaptureAnswer) → IsRead left left' used held held' flux (track_answer answer) → Reads answer
+  read_answered (Ok u) r = read_whole u r
+  read_answered (Err ReadFault) r = read_failed r
+  read_answered (Err (Refused block fault)) r = read_refused block fault r
+
   -- its times are bounded
-  pub read_bounded : (u : Unit {0}) → IsRead left left' used held held' flux (Ok u) → length flux.times ≤ 4194304 → length flux.indexes ≤ 262144
-      → All (λ (time : ℕ). time ≤ 2 ^ 38) flux.times → All (λ (time : ℕ). time < 2 ^ 39) flux.indexes → IsBounded flux
-  read_bounded u r few_times few_indexes times_within indexes_within =
+  read_bounded : (u : Unit {0}) → IsRead left left' used held held' flux (Ok u) → IsSmall flux → IsBounded flux
+  read_bounded u r small =
       let x : List ℕ = input_of used ((held ++ r.taken) ++ []) in
       let s = r.says [] (λ cannot. absurd cannot) in
       record {
         turns = subst (λ (is : List ℕ). 2 ≤ length is) (sym s.indexes) (two_turns x s.no_fault);
-        few_times = few_times;
-        few_indexes = few_indexes;
-        times = times_within;
-        indexes = indexes_within;
+        few_times = small.few_times;
+        few_indexes = small.few_indexes;
+        times = small.times_within;
+        indexes = small.indexes_within;
       }
+
+  pub answered_bounded : (answer : CaptureAnswer) → IsRead left left' used held held' flux (track_answer answer) → IsSmall flux → OnOk answer (IsBounded flux)
+  answered_bounded (Ok u) r small = read_bounded u r small
+  answered_bounded (Err fault) r small = tt

@@ -16,8 +16,8 @@ use Rattle.flux_engine.specs.Captured.{AppendsReadings, AreReadingsAt}
 use Rattle.flux_engine.specs.Disks.{Stop, Decoded, IsDecoded, AreParts, images, lines, totals_over}
 use Rattle.flux_engine.specs.Streams.{behind, behind_stream}
 use Rattle.flux_engine.specs.Tracks.{TrackPart, IsPart}
-use Rattle.flux_engine.specs.declared.fault.CaptureFault.{CaptureFault}
-use Rattle.flux_engine.specs.declared.fault.CaptureFault.TheVariants.{ReadFault as UnreadCapture, Refused as RefusedCapture}
+use Rattle.kryo_stream.specs.declared.fault.CaptureFault.{CaptureFault}
+use Rattle.kryo_stream.specs.declared.fault.CaptureFault.TheVariants.{ReadFault as UnreadCapture, Refused as RefusedCapture}
 use Rattle.flux_engine.specs.declared.fault.EngineFault.{EngineFault}
 use Rattle.flux_engine.specs.declared.track_part.PartFault.{PartFault}
 use Rattle.flux_engine.specs.declared.track_part.PartFault.TheVariants.{ImageFault as PartImageFault, NotesFault as PartNotesFault}

@@ -1,8 +1,8 @@
 -- Whom an answer blames: of which object of the outside it tells a fault.
 use Rattle.std.specs.Prelude.{Bool, true, false, Result, Ok, Err}
 use Rattle.flux_base.specs.Blames.{Blame, no_one, the_source, the_image, the_notes}
-use Rattle.flux_engine.specs.declared.fault.CaptureFault.{CaptureFault}
-use Rattle.flux_engine.specs.declared.fault.CaptureFault.TheVariants.{ReadFault as UnreadCapture}
+use Rattle.kryo_stream.specs.declared.fault.CaptureFault.{CaptureFault}
+use Rattle.kryo_stream.specs.declared.fault.CaptureFault.TheVariants.{ReadFault as UnreadCapture}
 use Rattle.flux_engine.specs.declared.fault.EngineFault.{EngineFault}
 use Rattle.flux_engine.specs.declared.fault.EngineFault.TheVariants.{ReadFault as EngineReadFault, ImageFault as EngineImageFault, NotesFault as EngineNotesFault}
 use Rattle.flux_engine.specs.declared.fault.PlanFault.{PlanFault}

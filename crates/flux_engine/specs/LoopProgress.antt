@@ -18,7 +18,7 @@ use Rattle.flux_engine.specs.Plans.{AreCaptures, AreOthersTo, ArePlannedParts, P
 use Rattle.flux_engine.specs.Reading.{IsBounded}
 use Rattle.flux_engine.specs.Room.{MOST_READINGS, RoomState}
 use Rattle.flux_engine.specs.Tracks.{TrackPart}
-use Rattle.flux_engine.specs.declared.fault.CaptureFault.{CaptureFault}
+use Rattle.kryo_stream.specs.declared.fault.CaptureFault.{CaptureFault}
 use Rattle.flux_engine.specs.declared.fault.PlanFault.{PlanFault}
 use Rattle.flux_engine.specs.declared.gathered_track.PassedStream.{PassedStream}
 use Rattle.flux_engine.specs.declared.plan.Clocks.{Clocks}

@@ -20,8 +20,8 @@ use Rattle.sector_images.specs.declared.format.Format.{Format}
 use Rattle.sector_report.specs.Lines.{total_text}
 use Rattle.sector_report.specs.declared.totals.Totals.{Totals}
 use Rattle.flux_engine.specs.Plans.{ArePlannedParts, IsPlanned, PartOf, PlanStop, Planned, streams_in}
-use Rattle.flux_engine.specs.declared.fault.CaptureFault.{CaptureFault}
-use Rattle.flux_engine.specs.declared.fault.CaptureFault.TheVariants.{ReadFault as UnreadCapture, Refused as RefusedCapture}
+use Rattle.kryo_stream.specs.declared.fault.CaptureFault.{CaptureFault}
+use Rattle.kryo_stream.specs.declared.fault.CaptureFault.TheVariants.{ReadFault as UnreadCapture, Refused as RefusedCapture}
 use Rattle.flux_engine.specs.declared.fault.EngineFault.TheVariants.{ReadFault as EngineReadFault, ImageFault as EngineImageFault, NotesFault as EngineNotesFault, Refused as RefusedDisk}
 use Rattle.flux_engine.specs.declared.fault.PlanFault.{PlanFault}
 use Rattle.flux_engine.specs.declared.fault.PlanFault.TheVariants.{ReadFault, ImageFault, NotesFault, Refused}

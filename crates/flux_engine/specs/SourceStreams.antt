@@ -12,8 +12,8 @@ use Rattle.flux_engine.specs.PlanAnswers.{MOST_OF_STREAM}
 use Rattle.flux_engine.specs.PlanProgress.{HasCome}
 use Rattle.flux_engine.specs.Plans.{EndsInPlan, Seen, seen}
 use Rattle.flux_engine.specs.Streams.{stream_at}
-use Rattle.flux_engine.specs.declared.fault.CaptureFault.{CaptureFault}
-use Rattle.flux_engine.specs.declared.fault.CaptureFault.TheVariants.{ReadFault, Refused}
+use Rattle.kryo_stream.specs.declared.fault.CaptureFault.{CaptureFault}
+use Rattle.kryo_stream.specs.declared.fault.CaptureFault.TheVariants.{ReadFault, Refused}
 use Rattle.flux_engine.specs.declared.plan.Plan.{Plan}
 
 -- these are the first streams of the input, whatever follows the bytes that were taken

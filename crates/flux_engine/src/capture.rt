@@ -24,7 +24,6 @@ ghost use Rattle.turn_merge.specs.Book.{IsKnown, MOST_NOTES, SameShape, StandsFo
 ghost use Rattle.turn_merge.specs.Others.{NotedOther, OthersStandFor};
 ghost use Rattle.turn_merge.specs.Readings.{NotedReading, agreed, verdict as verdict_over};
 
-use crate::fault::CaptureFault;
 use crate::gathering::{gather, gather_as_controller};
 use crate::plan::{Clocks, Rule};
 use crate::room::{DiskRoom, Tools};
@@ -34,7 +33,7 @@ use cell_bits::Cells;
 use disk_recordings::{DiskId, controller_format, recording_of, sectors_of};
 use flux_base::{Sink, Source, TrackId};
 use index_turns::TrackFlux;
-use kryo_stream::{RoomFault, StreamRoom};
+use kryo_stream::{CaptureFault, StreamRoom};
 use phase_loop::{Loop, LoopStart, recover};
 use sector_images::{Format, nominal, ring_cells, track_id, tracks_keep_bounds};
 use sector_report::{Naming, Totals};
@@ -253,11 +252,7 @@ pub fn read_stream<S: Source>(source: &mut S, stream: &mut StreamRoom) -> Result
     ensures later { S.faults source.old ≤ S.faults source.new }
     ensures counts { Counts (is_unread result) (counts_of S.faults S.failed source.old) (counts_of S.faults S.failed source.new) }
 {
-    match stream.read(source) {
-        Ok(()) => Ok(()),
-        Err(RoomFault::Refused { block, fault }) => Err(CaptureFault::Refused { block, fault }),
-        Err(RoomFault::ReadFault) => Err(CaptureFault::ReadFault),
-    }
+    stream.read(source)
 }
 
 /// Recovers the cells of a capture of a track by these clocks and notes all readings of its sectors in the book.

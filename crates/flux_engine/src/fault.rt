@@ -45,14 +45,3 @@ pub enum PlanFault {
         fault: StreamFault,
     },
 }
-
-/// Why a stream of a track was not read.
-#[derive(Clone, Copy, Debug, PartialEq, Eq, Error)]
-pub enum CaptureFault {
-    /// The source failed.
-    #[error("the source failed")]
-    ReadFault,
-    /// The stream has a fault: the block's number in it, from 0, and the fault.
-    #[error("block {block}: {fault}")]
-    Refused { block: u32, fault: StreamFault },
-}

@@ -39,9 +39,10 @@ pub use capture::{
 pub use disk::{add_totals, decode_disk};
 pub use disk_recordings::{Sectors, sectors_of};
 pub use disk_streams::{fill, write_disk};
-pub use fault::{CaptureFault, EngineFault, PlanFault};
+pub use fault::{EngineFault, PlanFault};
 pub use gathered_track::{Gathered, PassedStream, PassedStreams};
 pub use gathering::{note_reading, place_of};
+pub use kryo_stream::CaptureFault;
 pub use laws::{
     good_is_right, good_is_right_on_disks, lines_tell_verdicts, outcomes_are_one,
     parts_fill_images, parts_stay, plans_are_right, rules_are_read,

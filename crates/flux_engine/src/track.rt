@@ -9,10 +9,11 @@ ghost use Rattle.kryo_stream.specs.Reads.{source_at};
 ghost use Rattle.sector_images.specs.Places.{tracks};
 
 use crate::capture::{read_capture, start_track};
-use crate::fault::{CaptureFault, EngineFault};
+use crate::fault::EngineFault;
 use crate::room::DiskRoom;
 use crate::track_part::{PartFault, write_part};
 use flux_base::{Sink, Source};
+use kryo_stream::CaptureFault;
 use sector_images::{track_id, tracks_keep_bounds};
 use sector_report::{Naming, Totals};
 

@@ -18,7 +18,7 @@ ghost use Rattle.sector_images.specs.Places.{IsTrack, tracks};
 ghost use Rattle.turn_merge.specs.Book.{MOST_NOTES};
 
 use crate::capture::{clock_count, note_by_clocks, start_track};
-use crate::fault::{CaptureFault, PlanFault};
+use crate::fault::PlanFault;
 use crate::gathered_track::PassedStream;
 use crate::plan::{Clocks, Plan, Rule};
 use crate::room::{DiskRoom, Tools};
@@ -26,6 +26,7 @@ use crate::track_streams::{NextStream, TrackStreams};
 use disk_recordings::{headers_have_names, tracks_have_only_own};
 use flux_base::TrackId;
 use index_turns::TrackFlux;
+use kryo_stream::CaptureFault;
 use sector_images::{Format, track_id, tracks_keep_bounds};
 
 /// Reads all captures of a track: the next streams, so many. Their readings are gathered, which of them were passed over,

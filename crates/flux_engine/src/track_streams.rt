@@ -7,7 +7,7 @@ ghost use Rattle.flux_engine.specs.Blamed.{is_unread};
 ghost use Rattle.flux_engine.specs.LoopProgress.{GivesNext, IsBoundedNext};
 ghost use Rattle.flux_engine.specs.Plans.{Seen};
 ghost use Rattle.flux_engine.specs.SourceStreams.{HaveCome, HaveEnded};
-ghost use Rattle.flux_engine.specs.declared.fault.CaptureFault.{CaptureFault};
+ghost use Rattle.kryo_stream.specs.declared.fault.CaptureFault.{CaptureFault};
 ghost use Rattle.flux_engine.specs.declared.plan.Plan.{Plan};
 ghost use Rattle.flux_engine.specs.lemmas.Coming.{none_came};
 ghost use Rattle.kryo_stream.specs.Reads.{source_at};
@@ -15,9 +15,8 @@ ghost use Rattle.sector_images.specs.Places.{tracks};
 ghost use Rattle.sector_images.specs.declared.format.Format.{Format};
 
 use crate::capture::read_stream;
-use crate::fault::CaptureFault;
 use flux_base::Source;
-use kryo_stream::StreamRoom;
+use kryo_stream::{CaptureFault, StreamRoom};
 use sector_images::Format;
 use sector_report::Passed;
 

@@ -1,8 +1,8 @@
 -- What contracts see of the room in which streams are read, and of its answers.
 use Rattle.std.specs.Prelude.{◌≡◌, ℕ, Bool, false, List, [], Result, Ok, Err}
 use Rattle.index_turns.specs.Track.{TrackState}
-use Rattle.kryo_stream.specs.declared.fault.RoomFault.{RoomFault}
-use Rattle.kryo_stream.specs.declared.fault.RoomFault.TheVariants.{ReadFault, Refused}
+use Rattle.kryo_stream.specs.declared.fault.CaptureFault.{CaptureFault}
+use Rattle.kryo_stream.specs.declared.fault.CaptureFault.TheVariants.{ReadFault, Refused}
 use Rattle.kryo_stream.specs.declared.fault.TrackFault.TheVariants.{ReadFault as TrackReadFault, Refused as TrackRefused}
 use Rattle.kryo_stream.specs.Outcome.{Answer}
 
@@ -21,7 +21,7 @@ pub record IsFresh (room : StreamRoomState) : Type 0 where
   pub indexes : room.flux.indexes ≡ []
 
 -- the same answer of a call that could want memory
-abbrev pub track_answer : Result (Unit {0}) RoomFault → Answer
+abbrev pub track_answer : Result (Unit {0}) CaptureFault → Answer
 track_answer (Ok u) = Ok u
 track_answer (Err ReadFault) = Err TrackReadFault
 track_answer (Err (Refused block fault)) = Err (TrackRefused block fault)

@@ -49,9 +49,9 @@ pub enum TrackFault {
     Refused { block: u32, fault: StreamFault },
 }
 
-/// Why a track was not read in a room that was reserved for it.
+/// Why a stream that captures a track was not read, where all room was reserved.
 #[derive(Clone, Copy, Debug, PartialEq, Eq, Error)]
-pub enum RoomFault {
+pub enum CaptureFault {
     /// The source failed.
     #[error("the source failed")]
     ReadFault,

@@ -16,7 +16,7 @@ mod writing;
 
 pub use bench::{MOST_INDEXES, MOST_TIMES, StreamBench};
 pub use block::{Block, Mark, SpelledBlock};
-pub use fault::{RoomFault, StreamFault, TrackFault};
+pub use fault::{CaptureFault, StreamFault, TrackFault};
 pub use intake::Intake;
 pub use laws::{blocks_law, growth_law, joined_law, padding_law, spelling_law, stream_law};
 pub use reading::read_track;

@@ -4,7 +4,7 @@ ghost use Rattle.kryo_stream.specs.Outcome.{IsRead, IsReadOfInput, IsReadWhereNe
 ghost use Rattle.kryo_stream.specs.Reads.{source_at};
 
 use crate::bench::{MOST_INDEXES, MOST_TIMES, StreamBench};
-use crate::fault::{RoomFault, TrackFault};
+use crate::fault::{CaptureFault, TrackFault};
 use crate::intake::Intake;
 use crate::reading::read_track;
 use flux_base::{Memory, Source};
@@ -65,7 +65,7 @@ impl StreamRoom {
 
     /// Reads one stream, as `read_track` does. After each `Err` the track is empty, and the room may not be
     /// used again for reading before it begins anew.
-    pub fn read<S: Source>(&mut self, source: &mut S) -> Result<(), RoomFault>
+    pub fn read<S: Source>(&mut self, source: &mut S) -> Result<(), CaptureFault>
         ensures read { IsRead (S.left source.old) (S.left source.new) self.old.used self.old.held self.new.held self.new.flux (track_answer result) }
         ensures told { (bytes : List ℕ) → S.left source.old ≡ Some bytes → IsReadOfInput (input_of self.old.used (self.old.held ++ bytes)) (S.left source.new) self.new.held self.new.flux (track_answer result) }
         ensures needed { IsReadWhereNeeded (source_at S.left S.given S.faults source.old) (source_at S.left S.given S.faults source.new) self.old.used self.old.held }
@@ -80,8 +80,11 @@ impl StreamRoom {
     {
         match read_track(source, &mut self.intake, &mut self.flux, &mut self.bench) {
             Ok(()) => Ok(()),
-            Err(TrackFault::ReadFault) => Err(RoomFault::ReadFault),
-            Err(TrackFault::Refused { block, fault }) => Err(RoomFault::Refused { block, fault }),
+            Err(TrackFault::ReadFault) => Err(CaptureFault::ReadFault),
+            Err(TrackFault::Refused { block, fault }) => Err(CaptureFault::Refused {
+                block,
+                fault,
+            }),
             // All room was reserved.
             Err(TrackFault::Memory) => unreachable!(),
         }

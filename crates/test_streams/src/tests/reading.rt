@@ -1,7 +1,7 @@
 //! One stream, streams one after another, and sources that fail.
 use super::{Came, Input, ONE_TURN, Reader, TRUNCATED, TURN, comes_to, holds};
 use flux_base::MemorySource;
-use kryo_stream::{RoomFault, StreamFault, StreamRoom, TrackFault};
+use kryo_stream::{CaptureFault, StreamFault, StreamRoom, TrackFault};
 use std::alloc::Global;
 use std::process::Abort;
 use std::test::Fail;
@@ -158,7 +158,7 @@ fn calls_its_source(
 }
 
 fn reads_a_turn(rt: &impl Abort, room: &mut StreamRoom, source: &mut MemorySource, chunk: u32) {
-    let answer: Result<(), RoomFault> = room.read(source);
+    let answer: Result<(), CaptureFault> = room.read(source);
     assert_eq!(rt; answer, Ok(()));
     holds(rt, room.flux(), &TURN, "a turn", chunk);
 }
