@@ -17,8 +17,7 @@ pub(crate) fn next_sync(frame: &CellsFrom, from: usize, to: usize) -> Option<usi
     ensures first { IfSome result (λ sync. IsFirstSync (IsSync frame.now) from to sync) }
     ensures none { IfNone result (NoSync (IsSync frame.now) from to) }
 {
-    let sync = first_mark(frame, from, to, FM_DATA_MARK);
-    let sync = first_mark(frame, from, sync, FM_DELETED_DATA_MARK);
+    let sync = first_data_mark(frame, from, to);
     let sync = first_mark(frame, from, sync, FM_ID_MARK);
     let sync = first_mark(frame, from, sync, FM_INDEX_MARK);
     if sync == to {
@@ -26,6 +25,31 @@ pub(crate) fn next_sync(frame: &CellsFrom, from: usize, to: usize) -> Option<usi
     }
     Some(sync)
 }
+
+/// The least place from `from` to below `end` at which a mark stands that opens data, or `end` where there is none. What both of
+/// them begin with is sought, which no ordinary bytes have.
+fn first_data_mark(frame: &CellsFrom, from: usize, end: usize) -> usize
+    requires order { from ≤ end }
+    requires near { end < 2 ^ 32 }
+    ensures behind { from ≤ result }
+    ensures before { result ≤ end }
+    ensures stands { result < end → DataMarkAt frame.now result }
+    ensures first { (place : ℕ) → from ≤ place → place < result → ¬ DataMarkAt frame.now place }
+{
+    let mut start = from;
+    while let Some(place) = frame.find_word(start, end, DATA_MARKS, DATA_MARKS_CELLS) {
+        if opens_data(frame, place) {
+            return place;
+        }
+        start = place + 1;
+    }
+    end
+}
+
+/// The first cells of both marks that open data.
+const DATA_MARKS: u32 = 0xF56;
+
+const DATA_MARKS_CELLS: u8 = 12;
 
 /// The least place from `from` to below `end` at which the mark stands, or `end` where there is none.
 fn first_mark(frame: &CellsFrom, from: usize, end: usize, mark: u32) -> usize
@@ -64,7 +88,7 @@ pub(crate) fn read_field(
 
 /// Whether a mark that opens data stands at the place.
 fn opens_data(frame: &CellsFrom, sync: usize) -> bool
-    requires { sync < 2 ^ 31 }
+    requires { sync < 2 ^ 32 }
     ensures { IsTrue result ↔ DataMarkAt frame.now sync }
 {
     frame.stands_at(sync, FM_DATA_MARK, MARK_CELLS)
