@@ -107,11 +107,12 @@ impl Cells {
         ensures { IsWindow self.now.cells place result }
     {
         let index = place / 64;
-        joined(
-            self.block(index),
-            self.block(index + 1),
-            (place % 64) as u32,
-        )
+        let shift = (place % 64) as u32;
+        // Nearly always both words are whole, which one look tells.
+        if index + 1 < self.words.len() {
+            return joined(self.words[index], self.words[index + 1], shift);
+        }
+        joined(self.block(index), self.block(index + 1), shift)
     }
 }
 
