@@ -81,56 +81,48 @@ few_at_hand {held = held} {rest = rest} {b = b} p bound =
     let size : length rest ≡ length (held ++ p.taken) - b.offset = ap length p.reading.place ∙ length-drop b.offset (held ++ p.taken) in
     omega (arith, size, bound, p.reading.inside)
 
+-- what is answered where a block begins that is not read whole
+answered : {old new : SourceMoment} {held rest next : List ℕ} {n : ℕ} {b : Before} {ts : List ℕ} {bench : BenchState} (flux : TrackState) (answer : Answer)
+    → (here : Progress old new held rest n b ts bench) → b.offset + length rest ≤ 4198400
+    → ((later : List ℕ) → (IsTruncated answer → later ≡ []) → Says answer (input_of false ((held ++ here.taken) ++ later)) flux (next ++ later))
+    → (IsTruncated answer → IsAtEnd new.left) → IsCut answer (input_of false (held ++ here.taken))
+    → IsRead old.left new.left false held next flux answer
+answered flux answer here few says ended cut = record {
+  taken = here.taken;
+  consumed = here.takes.consumed;
+  few = few_at_hand here few;
+  says = says;
+  ended = ended;
+  cut = cut;
+}
+
 pub read_refused : {old mid new : SourceMoment} {held now next : List ℕ} {n : ℕ} {b : Before} {ts : List ℕ} {bench : BenchState} (flux : TrackState) (fault : StreamFault)
     → Progress old mid held now n b ts bench → TakesBlock mid new now next b (Ok (Err fault))
     → IsRead old.left new.left false held next flux (Err (Refused n fault))
-read_refused {old} {mid} {new} {held} {now} {next} {n} {b} {ts} {bench} flux fault r t =
-    let here : Progress old new held (now ++ t.taken) n b ts bench = at_block t.taken r t.takes in record {
-      taken = here.taken;
-      consumed = here.takes.consumed;
-      few = few_at_hand here t.few;
-      says = λ later none. first_fault-later (held ++ here.taken) later n (now ++ t.taken) b ts bench fault here.reading t.says.0 none;
-      ended = t.says.1;
-      cut = tt;
-    }
+read_refused {held = held} {now = now} {n = n} {b = b} {ts = ts} {bench = bench} flux fault r t =
+    let here = at_block t.taken r t.takes in
+    answered flux (Err (Refused n fault)) here t.few
+    (λ later none. first_fault-later (held ++ here.taken) later n (now ++ t.taken) b ts bench fault here.reading t.says.0 none) t.says.1 tt
 
 pub read_failed : {old mid new : SourceMoment} {held now next : List ℕ} {n : ℕ} {b : Before} {ts : List ℕ} {bench : BenchState} (flux : TrackState) (failed : Failed)
     → Progress old mid held now n b ts bench → TakesBlock mid new now next b (Err failed)
     → IsRead old.left new.left false held next flux (Err ReadFault)
-read_failed {old} {mid} {new} {held} {now} {next} {n} {b} {ts} {bench} flux failed r t =
-    let here : Progress old new held (now ++ t.taken) n b ts bench = at_block t.taken r t.takes in record {
-      taken = here.taken;
-      consumed = here.takes.consumed;
-      few = few_at_hand here t.few;
-      says = λ later none. tt;
-      ended = λ never. absurd never;
-      cut = (n, first_fault-here (held ++ here.taken) n (now ++ t.taken) b ts bench Truncated here.reading t.says);
-    }
+read_failed {held = held} {now = now} {n = n} {b = b} {ts = ts} {bench = bench} flux failed r t =
+    let here = at_block t.taken r t.takes in
+    answered flux (Err ReadFault) here t.few (λ later none. tt) (λ never. absurd never)
+    (n, first_fault-here (held ++ here.taken) n (now ++ t.taken) b ts bench Truncated here.reading t.says)
 
 pub read_memory : {old mid new : SourceMoment} {held now next : List ℕ} {n : ℕ} {b : Before} {ts : List ℕ} {bench : BenchState} (flux : TrackState) (answer : Result BlockOrFault Failed)
     → Progress old mid held now n b ts bench → TakesBlock mid new now next b answer
     → IsRead old.left new.left false held next flux (Err Memory)
-read_memory {old} {mid} {new} {held} {now} {next} {n} {b} {ts} {bench} flux answer r t =
-    let here : Progress old new held (now ++ t.taken) n b ts bench = at_block t.taken r t.takes in record {
-      taken = here.taken;
-      consumed = here.takes.consumed;
-      few = few_at_hand here t.few;
-      says = λ later none. tt;
-      ended = λ never. absurd never;
-      cut = tt;
-    }
+read_memory flux answer r t =
+    answered flux (Err Memory) (at_block t.taken r t.takes) t.few (λ later none. tt) (λ never. absurd never) tt
 
 -- where memory is wanted for a run, nothing is said
 pub run_memory : {old new : SourceMoment} {held now next : List ℕ} {n : ℕ} {b : Before} {ts : List ℕ} {bench : BenchState} (flux : TrackState)
     → Progress old new held now n b ts bench → length now ≤ 4096 → IsRead old.left new.left false held next flux (Err Memory)
-run_memory {b = b} flux r few = record {
-  taken = r.taken;
-  consumed = r.takes.consumed;
-  few = few_at_hand r (omega (arith, few, r.reading.tally.within.offset));
-  says = λ later none. tt;
-  ended = λ never. absurd never;
-  cut = tt;
-}
+run_memory flux r few =
+    answered flux (Err Memory) r (omega (arith, few, r.reading.tally.within.offset)) (λ later none. tt) (λ never. absurd never) tt
 
 -- what was taken for a block was needed
 pub taken_for_block : {old mid new : SourceMoment} {held now next : List ℕ} {n : ℕ} {b : Before} {ts : List ℕ} {bench : BenchState} {answer : Result BlockOrFault Failed}

@@ -103,22 +103,6 @@ limit-of x ps p is =
     subst (Lies (total_bytes ps) (drop (total_bytes ps) x)) is (piece_at-lies (total_bytes ps) (in_stream_bytes ps) (has_ended ps) (drop (total_bytes ps) x)) in
     lies.2
 
-pub streams_are_short : StreamsAreShort
-streams_are_short x none =
-    let n : ℕ = last_block x in
-    let read = read-whole x n (piece_behind x (pieces x n)) none in
-    let one_more : n + 1 ≡ suc n = omega arith in
-    let all : stream x ≡ pieces x n ++ read.0 ∷ [] = ap (pieces x) one_more ∙ ap (with_piece (pieces x n)) read.1 in
-    let within = limit-of x (pieces x n) read.0 read.1 in
-    let bytes = ap total_bytes all ∙ sum_by-push (λ q. q.bytes) (pieces x n) read.0 in
-    let few = blocks-few x (n + 1) in
-    let count = filter-few (time_at (stream x)) 0 (length (stream x)) in
-    let count' = filter-few (mark_at (stream x)) 0 (length (stream x)) in
-    let same = length-map (marks (stream x)) (index_time (stream x)) in (
-      omega (arith, within, bytes, few, count),
-      omega (arith, within, bytes, few, count', same),
-    )
-
 pub streams_keep_the_limit : StreamsKeepTheLimit
 streams_keep_the_limit x none =
     let n : ℕ = last_block x in
@@ -128,6 +112,17 @@ streams_keep_the_limit x none =
     let within = limit-of x (pieces x n) read.0 read.1 in
     let bytes = ap total_bytes all ∙ sum_by-push (λ q. q.bytes) (pieces x n) read.0 in
     omega (arith, within, bytes)
+
+pub streams_are_short : StreamsAreShort
+streams_are_short x none =
+    let within = streams_keep_the_limit x none in
+    let few = blocks-few x (last_block x + 1) in
+    let count = filter-few (time_at (stream x)) 0 (length (stream x)) in
+    let count' = filter-few (mark_at (stream x)) 0 (length (stream x)) in
+    let same = length-map (marks (stream x)) (index_time (stream x)) in (
+      omega (arith, within, few, count),
+      omega (arith, within, few, count', same),
+    )
 
 -- nothing is no stream
 nothing : first_fault [] ≡ Some (0, Truncated)

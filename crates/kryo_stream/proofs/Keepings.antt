@@ -19,7 +19,7 @@ use Rattle.kryo_stream.proofs.BlockReadings.{reads_block}
 use Rattle.kryo_stream.proofs.Pieces.{piece_at-grows}
 use Rattle.kryo_stream.proofs.Progressing.{ok_not}
 use Rattle.kryo_stream.proofs.Readings.{has-enough}
-use Rattle.kryo_stream.proofs.Runs.{before_same, or_false, same_reading, reads_on_both, run_of_front, is_roomy, IsRoomy, keeps_room_both, keeps_bench_both}
+use Rattle.kryo_stream.proofs.Runs.{IsReading-bench, before_same, or_false, same_reading, reads_on_both, run_of_front, is_roomy, IsRoomy, keeps_room_both, keeps_bench_both}
 
 -- a transition of two bytes
 pub piece_at-two : (offset counted : ℕ) (bytes : List ℕ) → 2 ≤ length bytes → slice_index bytes 0 ≤ 7 → offset + 2 ≤ LIMIT
@@ -198,21 +198,7 @@ keeps_long {bytes} {b} {old} {mid} {new} {bench} {bmid} {bnew} {place} {time} {p
 pub reading_of_notes : {x : List ℕ} {n : ℕ} {rest : List ℕ} {b : Before} {ts us : List ℕ} {bench bench' : BenchState}
     → IsReading x n rest b ts bench → us ≡ ts → KeepsNotes bench bench' → IsReading x n rest b us bench'
 reading_of_notes {x} {n} {rest} {b} {ts} {us} {bench} {bench'} r times notes =
-    let kept : IsReading x n rest b ts bench' = record {
-      place = r.place;
-      inside = r.inside;
-      count = r.count;
-      size = r.size;
-      goes_on = r.goes_on;
-      tally = r.tally;
-      noted = record {
-        sizes = r.noted.sizes;
-        flux = notes.ends ∙ r.noted.flux;
-        overflow = notes.overflows ∙ r.noted.overflow;
-        index = notes.indexes ∙ r.noted.index;
-      };
-    } in
-    same_reading kept refl refl (sym times)
+    same_reading (IsReading-bench r notes.ends notes.overflows notes.indexes) refl refl (sym times)
 
 -- the bytes at hand and a front of them
 pub reading_of_front : {x : List ℕ} {n : ℕ} {held : List ℕ} {b : Before} {ts us : List ℕ} {bench bench' : BenchState} (reach : ℕ)

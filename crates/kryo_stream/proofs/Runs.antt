@@ -58,6 +58,24 @@ same_reading {x} {n} {n'} {rest} {b} {b'} {ts} {ts'} {bench} r number before tim
     subst (λ k. IsReading x k rest b' ts' bench) number
     (subst (λ a. IsReading x n rest a ts' bench) before (subst (λ t. IsReading x n rest b t bench) times r))
 
+-- the same reading, with a bench that holds the same
+pub IsReading-bench : {x : List ℕ} {n : ℕ} {rest : List ℕ} {b : Before} {ts : List ℕ} {bench bench' : BenchState} → IsReading x n rest b ts bench
+    → bench'.ends ≡ bench.ends → bench'.overflows ≡ bench.overflows → bench'.indexes ≡ bench.indexes → IsReading x n rest b ts bench'
+IsReading-bench r ends overflows indexes = record {
+  place = r.place;
+  inside = r.inside;
+  count = r.count;
+  size = r.size;
+  goes_on = r.goes_on;
+  tally = r.tally;
+  noted = record {
+    sizes = r.noted.sizes;
+    flux = ends ∙ r.noted.flux;
+    overflow = overflows ∙ r.noted.overflow;
+    index = indexes ∙ r.noted.index;
+  };
+}
+
 -- a bench holds a run more
 pub record HoldsRun (bench bench' : BenchState) (position count : ℕ) : Type 0 where
   pub ends : bench'.ends ≡ bench.ends ++ range_with_len (position + 1) count
@@ -69,21 +87,7 @@ pub IsReading-run : (x : List ℕ) (n : ℕ) (run rest : List ℕ) (b : Before) 
     → HoldsRun bench bench' b.counted (length run) → IsReading x n (run ++ rest) b ts bench
     → IsReading x (n + length run) rest (behind_run b run) (ts ++ times_after b.time run) bench'
 IsReading-run x n [] rest b ts bench bench' short going room holds r =
-    let same : bench'.ends ≡ bench.ends = holds.ends ∙ append-nil bench.ends in
-    let kept : IsReading x n rest b ts bench' = record {
-      place = r.place;
-      inside = r.inside;
-      count = r.count;
-      size = r.size;
-      goes_on = r.goes_on;
-      tally = r.tally;
-      noted = record {
-        sizes = r.noted.sizes;
-        flux = same ∙ r.noted.flux;
-        overflow = holds.overflows ∙ r.noted.overflow;
-        index = holds.indexes ∙ r.noted.index;
-      };
-    } in
+    let kept = IsReading-bench r (holds.ends ∙ append-nil bench.ends) holds.overflows holds.indexes in
     same_reading kept (omega arith)
     (before_same b (behind_run b []) (omega arith) (omega arith) refl (omega arith)) (sym (append-nil ts))
 IsReading-run x n (byte ∷ run) rest b ts bench bench' short going room holds r =

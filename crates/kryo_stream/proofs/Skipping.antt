@@ -62,6 +62,12 @@ IsPassing-on {old} {mid} {new} {held} {now} {between} {next} {count} {gone} here
     IsPassing-took (subst (λ h. IsPassing old mid held h count later) (sym place) (IsPassing-pass here later p (omega (arith, all)) is)) t
     (omega (arith, ap length place, length-drop here now, all)) short
 
+-- the same of what is left to be passed over, where that is more
+pub IsPassing-rest : {old mid new : SourceMoment} {held now between next : List ℕ} {count here : ℕ} (rest : ℕ) → rest ≤ count
+    → IsPassing old mid held now count (count - rest) → here ≡ length now → here < rest → between ≡ drop here now → Took IsNothing mid new between next
+    → IsPassing old new held next count (count - (rest - here))
+IsPassing-rest {count = count} {here = here} rest within p all less = IsPassing-on here (count - (rest - here)) p all (omega (arith, within, less)) (omega (arith, within, less))
+
 pub skipped_all : {old new : SourceMoment} {held held' : List ℕ} {count gone : ℕ} → IsPassing old new held held' count gone
     → gone ≡ count → IsSkipped old new held held' count (Ok Taken)
 skipped_all {held = held} p is = record {

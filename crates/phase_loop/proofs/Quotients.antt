@@ -1,6 +1,8 @@
 -- Quotients by reciprocals and by comparisons.
-use Rattle.std.proofs.Common.{◌≡◌, ℕ, ◌+◌, ◌*◌, ◌/◌, ◌^◌, ◌<◌, ◌≤◌, max, arith, refl, sym, ◌∙◌, ap, inl, inr, Bool, true, false, nat_le}
+use Rattle.std.proofs.Common.{◌≡◌, ℕ, List, get_or, ◌+◌, ◌-◌, ◌*◌, ◌/◌, ◌^◌, ◌<◌, ◌≤◌, max, arith, refl, sym, ◌∙◌, ap, inl, inr, Bool, true, false, nat_le}
 use Rattle.std.proofs.lemmas.Bool.{cases_lt, lt-leb, le-leb}
+use Rattle.std.proofs.lemmas.List.{get_or_default}
+use Rattle.phase_loop.specs.Reciprocals.{AreReciprocals}
 use Rattle.phase_loop.specs.Window.{WIDEST}
 use Rattle.std.proofs.Math.Nat.{div-eq_of_lt-le, lt-div-mul-add, div-mul-le_self, mul-le-mul_left, div-le_of_le-mul, div-lt_iff_lt-mul}
 
@@ -43,6 +45,15 @@ reciprocal_small count least =
     let enough : 17179869184 * 64 ≤ 17179869184 * count = mul-le-mul_left 17179869184 least in
     let quotient : 1099511627776 / count ≤ 17179869184 = div-le_of_le-mul count (omega (arith, enough)) in
     omega (arith, quotient)
+
+-- what stands in the table for a count
+pub reciprocal_at : (table : List ℕ) (other count : ℕ) {read : ℕ} → AreReciprocals table → 64 ≤ count → count ≤ 2048
+    → read ≡ get_or table (count - 1) other → read ≡ 2 ^ 40 / count + 1
+reciprocal_at table other count exact least largest at =
+    let place : ℕ = count - 1 in
+    let next : place + 1 ≡ count = omega (arith, least) in
+    at ∙ get_or_default table place other 0 (omega (arith, exact.0, least, largest)) ∙ exact.1 place (omega (arith, least, largest))
+    ∙ ap (λ (n : ℕ). 1099511627776 / n + 1) next
 
 -- what a comparison counts for
 abbrev pub one_if : Bool → ℕ

@@ -10,12 +10,12 @@ use Rattle.turn_merge.specs.Book.{Knowledge, IsKnown, StandsFor, HasShape, MOST_
 use Rattle.turn_merge.proofs.Knowing.{book_of, known_below, found_at_is, length-found, stands_from, stands_more, good_ones-good, bad_ones-good, good_ones-bad, bad_ones-bad}
 
 -- the index of a known sector
-pub index_below : (book : Knowledge) (first n size notes : ℕ) (vs : List Verdict) (bs : List ℕ) (s len : ℕ)
-    → book_of first n size notes vs bs ≡ book → IsKnown book s → n ≤ length vs → len ≡ length vs → s - first < len
-index_below book first n size notes vs bs s len e known room long =
+pub index_below : {book : Knowledge} {first n size notes : ℕ} (vs : List Verdict) (bs : List ℕ) {s len i : ℕ}
+    → book_of first n size notes vs bs ≡ book → IsKnown book s → n ≤ length vs → len ≡ length vs → i ≡ s - first → i < len
+index_below {book} {first} {n} {size} {notes} vs bs {s} e known room long index =
     let known_here : IsKnown (book_of first n size notes vs bs) s = subst (λ (b : Knowledge). IsKnown b s) (sym e) known in
     let below = (known_below first n size notes vs bs s known_here).1 in
-    omega arith
+    omega (arith, below, room, long, index)
 
 -- the part of a sector lies in the bytes
 pub part_within : (vs : List Verdict) (bs : List ℕ) (size i : ℕ) → length bs ≡ length vs * size → i < length vs
@@ -79,6 +79,14 @@ pub kept_read : (first n size notes : ℕ) (vs : List Verdict) (bs : List ℕ) (
     → StandsFor (book_of first n size notes vs bs) readings → kept v (part bs size i) ≡ agreed readings s
 kept_read first n size notes vs bs s i v readings known index read stands =
     rw (read, index) (sym (ap (λ (f : Found). f.bytes) (found_at_is first n size notes vs bs s known)) ∙ stands.bytes s known)
+
+-- the same of what was read of a book's fields
+pub kept_of_known : {book : Knowledge} {first n size notes : ℕ} (vs : List Verdict) (bs : List ℕ) {s i : ℕ} (v : Verdict) (readings : List NotedReading)
+    → book_of first n size notes vs bs ≡ book → IsKnown book s → n ≤ length vs → i ≡ s - first → v ≡ get_or vs i v
+    → StandsFor book readings → kept v (part bs size i) ≡ agreed readings s
+kept_of_known {book} {first} {n} {size} {notes} vs bs {s} {i} v readings e known room index read stands =
+    kept_read first n size notes vs bs s i v readings (subst (λ (b : Knowledge). IsKnown b s) (sym e) known) index
+    (read_is vs i v read (index_below vs bs e known room refl index)) (subst (λ (b : Knowledge). StandsFor b readings) (sym e) stands)
 
 pub kept_good : (v : Verdict) (held : List ℕ) (good bad : ℕ) (first : Place) → v ≡ Good good bad first → kept v held ≡ Some held
 kept_good v held good bad first e = rw e refl

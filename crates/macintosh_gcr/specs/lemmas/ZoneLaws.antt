@@ -1,6 +1,6 @@
 -- What the zones have in common.
 use Rattle.std.specs.Prelude.{◌≡◌, ◌+◌, ◌*◌, ◌≤◌, refl}
-use Rattle.std.proofs.Common.{lit≤}
+use Rattle.std.proofs.Common.{lit≤, subst, sym}
 use Rattle.flux_base.specs.Bounds.{LONGEST_RING, MOST_SECTOR_BYTES}
 use Rattle.flux_base.specs.declared.track.TrackId.{TrackId}
 use Rattle.disk_zones.specs.declared.zones.Zone.{Zone}
@@ -39,7 +39,8 @@ few_sectors track = by_macintosh_zone (λ zone. zone.sectors ≤ 12) track.cylin
 abbrev HasRoom : Zone → Type 0
 HasRoom zone = (5988 * zone.sectors ≤ zone.ring_cells) × (zone.ring_cells ≤ 5988 * zone.sectors + 65535)
 
-pub has_room : (track : TrackId) → HasRoom (zone_of track)
-has_room track =
-    by_macintosh_zone HasRoom track.cylinder
-    ((lit≤ tt, lit≤ tt), ((lit≤ tt, lit≤ tt), ((lit≤ tt, lit≤ tt), ((lit≤ tt, lit≤ tt), (lit≤ tt, lit≤ tt)))))
+pub has_room : (track : TrackId) {zone : Zone} → zone ≡ zone_of track → HasRoom zone
+has_room track is =
+    subst HasRoom (sym is)
+    (by_macintosh_zone HasRoom track.cylinder
+    ((lit≤ tt, lit≤ tt), ((lit≤ tt, lit≤ tt), ((lit≤ tt, lit≤ tt), ((lit≤ tt, lit≤ tt), (lit≤ tt, lit≤ tt))))))

@@ -1,16 +1,7 @@
-use Rattle.std.proofs.Common.{arith, ◌≡◌, ◌∙◌, ap, ℕ, ◌+◌, ◌-◌, ◌/◌}
-use Rattle.std.proofs.lemmas.List.{get_or_default}
-use Rattle.phase_loop.proofs.Quotients.{quotient_by_reciprocal}
+use Rattle.phase_loop.proofs.Quotients.{quotient_by_reciprocal, reciprocal_at}
 use Rattle.phase_loop.proofs.reciprocals.Reciprocals.quotient.Goals as goal
 
 pub returns : goal.returns
 returns c =
-    let place : ℕ = c.args.count - 1 in
-    let exact = c.args.self.now.exact in
-    let next : place + 1 ≡ c.args.count = omega (arith, c.requires.least) in
-    let is : c.index-reciprocal.result.now ≡ 1099511627776 / c.args.count + 1 =
-    c.index-reciprocal.ensures
-    ∙ get_or_default c.args.self.now.table.items place _ 0 (omega (arith, exact.0, c.requires.least, c.requires.largest))
-    ∙ exact.1 place (omega (arith, c.requires.least, c.requires.largest))
-    ∙ ap (λ (n : ℕ). 1099511627776 / n + 1) next in
-    rw is (quotient_by_reciprocal c.args.total c.args.count c.requires.total c.requires.least c.requires.largest)
+    rw (reciprocal_at c.args.self.now.table.items _ c.args.count c.args.self.now.exact c.requires.least c.requires.largest c.index-reciprocal.ensures)
+    (quotient_by_reciprocal c.args.total c.args.count c.requires.total c.requires.least c.requires.largest)

@@ -6,36 +6,28 @@ use Rattle.turn_merge.proofs.book.Book.note_good.Goals as goal
 
 pub index-verdict-requires : goal.index-verdict-requires
 index-verdict-requires c =
-    rw c.from-index.ensures
-    (index_below _ _ _ _ _ _ _ c.args.sector _ c.self.view_is c.requires.known c.self.invariant.known (c.self.inside.verdicts.ok.0))
+    index_below _ _ c.self.view_is c.requires.known c.self.invariant.known (c.self.inside.verdicts.ok.0) c.from-index.ensures
 
 pub with_good_at-requires-clause-room : goal.with_good_at-requires-clause-room
 with_good_at-requires-clause-room c =
-    let below : c.from-index.result < length c.self.inside.verdicts.items =
-    rw c.from-index.ensures
-    (index_below _ _ _ _ _ _ _ c.args.sector _ c.self.view_is c.requires.known c.self.invariant.known refl) in
+    let below = index_below _ _ c.self.view_is c.requires.known c.self.invariant.known refl c.from-index.ensures in
     few_counted _ c.from-index.result c.self.inside.notes _ (read_is _ _ _ c.index-verdict.ensures below) c.self.invariant.counts
     (subst (λ (n : ℕ). n < MOST_NOTES) (sym (ap (λ (b : Knowledge). b.notes) c.self.view_is)) c.requires.few)
 
 pub with_good_at-requires-clause-within : goal.with_good_at-requires-clause-within
 with_good_at-requires-clause-within c =
-    let below : c.from-index.result < length c.self.inside.verdicts.items =
-    rw c.from-index.ensures
-    (index_below _ _ _ _ _ _ _ c.args.sector _ c.self.view_is c.requires.known c.self.invariant.known refl) in
+    let below = index_below _ _ c.self.view_is c.requires.known c.self.invariant.known refl c.from-index.ensures in
     let whole : length c.args.bytes.now ≡ c.self.inside.size = c.requires.whole ∙ sym (ap (λ (b : Knowledge). b.size) c.self.view_is) in
     rw (c.deref_mut.ensures.value, whole)
     (part_within c.self.inside.verdicts.items c.self.inside.bytes.items c.self.inside.size c.from-index.result c.self.invariant.held below)
 
 pub index_mut-requires : goal.index_mut-requires
 index_mut-requires c =
-    rw c.from-index.ensures
-    (index_below _ _ _ _ _ _ _ c.args.sector _ c.self.view_is c.requires.known c.self.invariant.known (c.self.inside.verdicts.ok.0))
+    index_below _ _ c.self.view_is c.requires.known c.self.invariant.known (c.self.inside.verdicts.ok.0) c.from-index.ensures
 
 pub returns-clause-noted : goal.returns-clause-noted
 returns-clause-noted c readings stands =
-    let below : c.from-index.result < length c.self.inside.verdicts.items =
-    rw c.from-index.ensures
-    (index_below _ _ _ _ _ _ _ c.args.sector _ c.self.view_is c.requires.known c.self.invariant.known refl) in
+    let below = index_below _ _ c.self.view_is c.requires.known c.self.invariant.known refl c.from-index.ensures in
     let whole : length c.args.bytes.now ≡ c.self.inside.size = c.requires.whole ∙ sym (ap (λ (b : Knowledge). b.size) c.self.view_is) in
     let same_length : length c.with_good_at.new.held ≡ c.self.inside.bytes.len =
     c.with_good_at.auto.held ∙ ap length c.deref_mut.ensures.value ∙ sym (c.self.inside.bytes.ok.0) in
