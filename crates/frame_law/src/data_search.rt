@@ -8,7 +8,7 @@ ghost use Rattle.flux_base.specs.declared.header_name.HeaderName.{HeaderName};
 ghost use Rattle.frame_law.specs.Frames.{DATA_REACH, IsSyncInReach};
 ghost use Rattle.frame_law.specs.Others.{HasNamedData};
 
-use crate::frame_reading::DATA_REACH;
+use crate::frame_reading::{DATA_REACH, whole_header};
 use crate::{CellsFrom, Layout, SectorBuffer};
 use flux_base::HeaderName;
 
@@ -30,7 +30,7 @@ fn next_data<L: Layout>(
         from result buffer.new.items }
 {
     buffer.clear();
-    let header_end = layout.header_end(frame)?;
+    let header_end = whole_header(layout, frame)?;
     let end = header_end + DATA_REACH;
     let mut start = from.max(header_end);
     // No header stands from the header's end up to here: where no sync for data is found, no more is looked at.
@@ -40,9 +40,10 @@ fn next_data<L: Layout>(
         if has_header(layout, frame, seen, sync) {
             return None;
         }
-        if read_at_sync(layout, size, frame, sync, buffer) {
+        if stands_at_sync(layout, size, frame, sync, buffer) {
             return Some(sync);
         }
+        buffer.clear();
         seen = sync;
         start = sync + 1;
     }
@@ -119,31 +120,7 @@ pub(crate) fn has_named_data<L: Layout>(
     next_data(layout, size, frame, 0, buffer).is_some()
 }
 
-/// Whether data stand at the sync, but for the headers before it. The buffer, which was empty, then has their bytes,
-/// and is else empty.
-fn read_at_sync<L: Layout>(
-    layout: &L,
-    size: u16,
-    frame: &CellsFrom,
-    sync: usize,
-    buffer: &mut SectorBuffer,
-) -> bool
-    requires sync { IsSyncInReach (L.header_end layout.now frame.now) (L.is_sync layout.now frame.now) sync }
-    requires near { sync < 2 ^ 31 }
-    requires most { size ≤ MOST_SECTOR_BYTES }
-    requires empty { buffer.old.items ≡ [] }
-    ensures good { IsTrue result → WholeDataAt (L.data_end layout.now size) (L.hold layout.now size) frame.now sync buffer.new.items }
-    ensures bad { result ≡ false → (bytes : List ℕ) → ¬ WholeDataAt (L.data_end layout.now size) (L.hold layout.now size) frame.now sync bytes }
-    ensures empty { result ≡ false → buffer.new.items ≡ [] }
-{
-    if stands_at_sync(layout, size, frame, sync, buffer) {
-        return true;
-    }
-    buffer.clear();
-    false
-}
-
-/// The same, where the buffer may have anything if none stand.
+/// Whether data stand at the sync, but for the headers before it. Then the buffer, which was empty, has their bytes.
 fn stands_at_sync<L: Layout>(
     layout: &L,
     size: u16,

@@ -1,7 +1,8 @@
 //! A sector is read in one way for every recording: its header, and the data at the first sync after it.
 
-ghost use Rattle.std.specs.Prelude.{◌≡◌, ℕ, ◌≤◌, [], List, false, length, IfSome, IfNone, IsTrue};
+ghost use Rattle.std.specs.Prelude.{◌≡◌, ℕ, ◌<◌, ◌≤◌, [], List, false, length, IfSome, IfNone, IsTrue};
 ghost use Rattle.cell_bits.specs.Word.{Stands};
+ghost use Rattle.flux_base.specs.Bounds.{LONGEST_RING};
 ghost use Rattle.frame_law.specs.Frames.{DataStand, HeaderStands, SectorStands};
 ghost use Rattle.frame_law.specs.Others.{IsSectorName};
 ghost use Rattle.frame_law.specs.Readings.{Reads};
@@ -28,7 +29,7 @@ pub(crate) fn read_frame<L: Layout>(
         Reads header (λ s bytes. SectorStands (header s) (content bytes)) result buffer.new.items }
 {
     buffer.clear();
-    let Some(header_end) = layout.header_end(frame) else {
+    let Some(header_end) = whole_header(layout, frame) else {
         return Reading::Nothing;
     };
     let Some(sector) = header_sector(layout, frame, header_end, track) else {
@@ -39,6 +40,16 @@ pub(crate) fn read_frame<L: Layout>(
     }
     buffer.clear();
     Reading::Bad { sector }
+}
+
+/// Where the header at the front of the cells ends, which has no more cells than a ring. None where it is not whole.
+pub(crate) fn whole_header<L: Layout>(layout: &L, frame: &CellsFrom) -> Option<usize>
+    ensures some { IfSome result (λ end. (end ≡ L.header_end layout.now frame.now) × (end ≤ length frame.now)) }
+    ensures near { IfSome result (λ end. end ≤ LONGEST_RING) }
+    ensures none { IfNone result (length frame.now < L.header_end layout.now frame.now) }
+{
+    let end = layout.header_end(frame)?;
+    Some(end)
 }
 
 /// The number of the sector whose header, of this track, stands at the front of the cells after the sync. It ends at
@@ -108,6 +119,7 @@ fn read_content<L: Layout>(
     buffer: &mut SectorBuffer,
 ) -> bool
     requires end { header_end ≡ L.header_end layout.now frame.now }
+    requires near { header_end ≤ LONGEST_RING }
     requires empty { buffer.old.items ≡ [] }
     ensures good { IsTrue result → DataStand (L.header_end layout.now) (L.data_end layout.now (L.sector_bytes layout.now)) (L.is_sync layout.now) (L.hold layout.now (L.sector_bytes layout.now)) frame.now buffer.new.items }
     ensures bad { result ≡ false → (bytes : List ℕ) → ¬ DataStand (L.header_end layout.now) (L.data_end layout.now (L.sector_bytes layout.now)) (L.is_sync layout.now) (L.hold layout.now (L.sector_bytes layout.now)) frame.now bytes }
