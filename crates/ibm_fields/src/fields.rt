@@ -1,6 +1,6 @@
 ghost use Rattle.std.specs.Prelude.{◌≡◌, ℕ, ◌+◌, ◌*◌, ◌^◌, ◌<◌, ◌≤◌, ◌++◌, [], length, IfSome};
 ghost use Rattle.flux_base.specs.Bounds.{MOST_SECTOR_BYTES};
-ghost use Rattle.ibm_fields.specs.Fields.{bytes_at, number_at as number_of_bytes, size_named as bytes_named};
+ghost use Rattle.ibm_fields.specs.Fields.{address_named, bytes_at, number_at as number_of_bytes, size_named as bytes_named};
 
 use flux_base::HeaderName;
 use frame_law::{CellsFrom, SectorBuffer};
@@ -18,6 +18,19 @@ pub fn address_at(frame: &CellsFrom, offset: usize) -> [u8; 4]
         frame.byte_at(offset + 32),
         frame.byte_at(offset + 48),
     ]
+}
+
+/// The name of a header that has this address.
+pub fn name_of(address: [u8; 4]) -> HeaderName
+    ensures { address_named result ≡ address }
+{
+    let [cylinder, head, sector, size_code] = address;
+    HeaderName::Address {
+        cylinder,
+        head,
+        sector,
+        size_code,
+    }
 }
 
 /// How many bytes there are in the data of a header with this name, by the code of their size. None where the code is

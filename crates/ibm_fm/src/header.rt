@@ -6,7 +6,7 @@ use crate::layout::{ADDRESS_CHECK_PLACE, ADDRESS_PLACE};
 use crate::rows::field_check;
 use flux_base::HeaderName;
 use frame_law::CellsFrom;
-use ibm_fields::{ID_BYTE, address_at, number_at};
+use ibm_fields::{ID_BYTE, address_at, name_of, number_at};
 
 /// What the header at the front of the cells, which are as many as one has, names. None where its check value is
 /// another.
@@ -15,15 +15,9 @@ pub(crate) fn header_name(frame: &CellsFrom) -> Option<HeaderName>
     ensures named { IfSome result (λ name. Names frame.now name) }
     ensures none { IfNone result ((name : HeaderName) → ¬ Names frame.now name) }
 {
-    let [cylinder, head, sector, size_code] = address_at(frame, ADDRESS_PLACE);
-    let check = field_check(ID_BYTE, &[cylinder, head, sector, size_code]);
-    if number_at(frame, ADDRESS_CHECK_PLACE) != check {
+    let address = address_at(frame, ADDRESS_PLACE);
+    if number_at(frame, ADDRESS_CHECK_PLACE) != field_check(ID_BYTE, &address) {
         return None;
     }
-    Some(HeaderName::Address {
-        cylinder,
-        head,
-        sector,
-        size_code,
-    })
+    Some(name_of(address))
 }

@@ -9,7 +9,7 @@ use crate::rows::field_check;
 use cell_bits::MFM_A1_MARK;
 use flux_base::HeaderName;
 use frame_law::CellsFrom;
-use ibm_fields::{ID_BYTE, address_at, number_at};
+use ibm_fields::{ID_BYTE, address_at, name_of, number_at};
 
 /// What the header at the front of the cells, which are as many as one has, names. None where it is none, or its check
 /// value is another.
@@ -24,15 +24,9 @@ pub(crate) fn header_name(frame: &CellsFrom) -> Option<HeaderName>
     if frame.byte_at(FIRST_BYTE_PLACE) != ID_BYTE {
         return None;
     }
-    let [cylinder, head, sector, size_code] = address_at(frame, ADDRESS_PLACE);
-    let check = field_check(ID_BYTE, &[cylinder, head, sector, size_code]);
-    if number_at(frame, ADDRESS_CHECK_PLACE) != check {
+    let address = address_at(frame, ADDRESS_PLACE);
+    if number_at(frame, ADDRESS_CHECK_PLACE) != field_check(ID_BYTE, &address) {
         return None;
     }
-    Some(HeaderName::Address {
-        cylinder,
-        head,
-        sector,
-        size_code,
-    })
+    Some(name_of(address))
 }
