@@ -49,25 +49,41 @@ AppendsCells-stop old mid new first then all why (Err e) failed a b short = reco
   succeeds = λ fits. b.succeeds (spare-behind old mid first then a.ok a.room_stays (omega (arith, short, fits)));
 }
 
-module _ {X : Type 0} (cells_of : X → List Bool) (pieces : List X) where
-  -- the cells of one more piece
-  pub AppendsCells-next : (old mid new : CellsState) (i : ℕ) (d : X) → i < length pieces
-      → AppendsCells old mid (flat_map cells_of (take i pieces)) (Ok tt) → AppendsCells mid new (cells_of (get_or pieces i d)) (Ok tt)
-      → AppendsCells old new (flat_map cells_of (take (i + 1) pieces)) (Ok tt)
-  AppendsCells-next old mid new i d within a b =
-      let more = AppendsCells-more old mid new _ _ (Ok tt) a b in
-      let one = append-nil (cells_of (get_or pieces i d)) in
-      let joined = flat_map-append cells_of (take i pieces) (get_or pieces i d ∷ []) in
-      rw (take_more pieces i d within, joined, one) more
+-- pieces of which each is some of what is appended, be that cells or what is coded as cells
+module _ {X Y : Type 0} (Appends : CellsState → CellsState → List Y → Result (Unit {0}) Memory → Type 0) (told : X → List Y) (pieces : List X) where
+  -- one more piece
+  pub Appends-next : ((old mid new : CellsState) (first then : List Y) (result : Result (Unit {0}) Memory)
+      → Appends old mid first (Ok tt) → Appends mid new then result → Appends old new (first ++ then) result)
+      → (old mid new : CellsState) (i : ℕ) (d : X) → i < length pieces
+      → Appends old mid (flat_map told (take i pieces)) (Ok tt) → Appends mid new (told (get_or pieces i d)) (Ok tt)
+      → Appends old new (flat_map told (take (i + 1) pieces)) (Ok tt)
+  Appends-next more old mid new i d within a b =
+      let longer = more old mid new _ _ (Ok tt) a b in
+      let one = append-nil (told (get_or pieces i d)) in
+      let joined = flat_map-append told (take i pieces) (get_or pieces i d ∷ []) in
+      rw (take_more pieces i d within, joined, one) longer
 
   -- no memory for one more piece
-  pub AppendsCells-short : (old mid new : CellsState) (i : ℕ) (d : X) (why : Memory) (result : Result (Unit {0}) Memory)
+  pub Appends-short : ((old mid new : CellsState) (first then all : List Y) (why : Memory) (result : Result (Unit {0}) Memory)
+      → IsErr result → Appends old mid first (Ok tt) → Appends mid new then (Err why) → length first + length then ≤ length all
+      → Appends old new all result)
+      → (old mid new : CellsState) (i : ℕ) (d : X) (why : Memory) (result : Result (Unit {0}) Memory)
       → IsErr result → i < length pieces
-      → AppendsCells old mid (flat_map cells_of (take i pieces)) (Ok tt) → AppendsCells mid new (cells_of (get_or pieces i d)) (Err why)
-      → AppendsCells old new (flat_map cells_of pieces) result
-  AppendsCells-short old mid new i d why result failed within a b =
-      let first = flat_map cells_of (take i pieces) in
-      let then = cells_of (get_or pieces i d) in
-      let part = length-flat_map-take cells_of pieces i d within in
-      AppendsCells-stop old mid new first then (flat_map cells_of pieces) why result failed a b
-      (omega (arith, part, length-append first then))
+      → Appends old mid (flat_map told (take i pieces)) (Ok tt) → Appends mid new (told (get_or pieces i d)) (Err why)
+      → Appends old new (flat_map told pieces) result
+  Appends-short stop old mid new i d why result failed within a b =
+      let part = length-flat_map-take told pieces i d within in
+      stop old mid new (flat_map told (take i pieces)) (told (get_or pieces i d)) (flat_map told pieces) why result failed a b (omega (arith, part))
+
+pub AppendsCells-next : {X : Type 0} (cells_of : X → List Bool) (pieces : List X) (old mid new : CellsState) (i : ℕ) (d : X) → i < length pieces
+    → AppendsCells old mid (flat_map cells_of (take i pieces)) (Ok tt) → AppendsCells mid new (cells_of (get_or pieces i d)) (Ok tt)
+    → AppendsCells old new (flat_map cells_of (take (i + 1) pieces)) (Ok tt)
+AppendsCells-next cells_of pieces = Appends-next AppendsCells cells_of pieces AppendsCells-more
+
+pub AppendsCells-short : {X : Type 0} (cells_of : X → List Bool) (pieces : List X) (old mid new : CellsState) (i : ℕ) (d : X) (why : Memory)
+    (result : Result (Unit {0}) Memory) → IsErr result → i < length pieces
+    → AppendsCells old mid (flat_map cells_of (take i pieces)) (Ok tt) → AppendsCells mid new (cells_of (get_or pieces i d)) (Err why)
+    → AppendsCells old new (flat_map cells_of pieces) result
+AppendsCells-short cells_of pieces =
+    Appends-short AppendsCells cells_of pieces (λ old mid new first then all why result failed a b short.
+    AppendsCells-stop old mid new first then all why result failed a b (omega (arith, short, length-append first then)))

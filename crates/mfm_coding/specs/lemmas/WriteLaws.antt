@@ -1,10 +1,7 @@
 -- Bytes and marks that are appended some after others.
-use Rattle.std.specs.Prelude.{◌≡◌, ℕ, ◌+◌, ◌<◌, ◌≤◌, Bool, List, [], ◌∷◌, ◌++◌, length, IsErr, Ok, Err, take, get_or, flat_map}
+use Rattle.std.specs.Prelude.{◌≡◌, ◌+◌, ◌≤◌, Bool, List, [], ◌∷◌, ◌++◌, length, IsErr, Ok, Err}
 use Rattle.std.specs.declared.result.Result.{Result}
 use Rattle.std.proofs.Common.{ap, sym, subst, ◌∙◌, arith, append-nil, length-append}
-use Rattle.std.proofs.lemmas.List.{take_more}
-use Rattle.std.proofs.lemmas.List.Concat.{flat_map-append}
-use Rattle.std.proofs.lemmas.List.Folds.{length-flat_map-take}
 use Rattle.flux_base.specs.declared.outside.Memory.{Memory}
 use Rattle.cell_bits.specs.Bytes.{last_cell}
 use Rattle.cell_bits.specs.State.{CellsState}
@@ -57,26 +54,3 @@ AppendsSymbols-stop old mid new first then all why result failed a b short =
       length-coded middle then,
       length-coded before all,
     ))
-
-module _ {X : Type 0} (symbols_of : X → List Symbol) (pieces : List X) where
-  -- those of one more piece
-  pub AppendsSymbols-next : (old mid new : CellsState) (i : ℕ) (d : X) → i < length pieces
-      → AppendsSymbols old mid (flat_map symbols_of (take i pieces)) (Ok tt) → AppendsSymbols mid new (symbols_of (get_or pieces i d)) (Ok tt)
-      → AppendsSymbols old new (flat_map symbols_of (take (i + 1) pieces)) (Ok tt)
-  AppendsSymbols-next old mid new i d within a b =
-      let more = AppendsSymbols-more old mid new _ _ (Ok tt) a b in
-      let one = append-nil (symbols_of (get_or pieces i d)) in
-      let joined = flat_map-append symbols_of (take i pieces) (get_or pieces i d ∷ []) in
-      rw (take_more pieces i d within, joined, one) more
-
-  -- no memory for one more piece
-  pub AppendsSymbols-short : (old mid new : CellsState) (i : ℕ) (d : X) (why : Memory) (result : Result (Unit {0}) Memory)
-      → IsErr result → i < length pieces
-      → AppendsSymbols old mid (flat_map symbols_of (take i pieces)) (Ok tt) → AppendsSymbols mid new (symbols_of (get_or pieces i d)) (Err why)
-      → AppendsSymbols old new (flat_map symbols_of pieces) result
-  AppendsSymbols-short old mid new i d why result failed within a b =
-      let first = flat_map symbols_of (take i pieces) in
-      let then = symbols_of (get_or pieces i d) in
-      let part = length-flat_map-take symbols_of pieces i d within in
-      AppendsSymbols-stop old mid new first then (flat_map symbols_of pieces) why result failed a b
-      (omega (arith, part, length-append first then))

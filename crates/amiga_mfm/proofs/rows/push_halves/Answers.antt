@@ -1,10 +1,11 @@
 use Rattle.std.proofs.Common.{◌≡◌, ap, ◌∙◌, subst, arith, take, ℕ, List, Ok, Err}
 use Rattle.std.specs.List.{flat_map}
 use Rattle.std.proofs.lemmas.List.{take_all}
+use Rattle.frame_law.specs.lemmas.WritingLaws.{Appends-next, Appends-short}
 use Rattle.mfm_coding.specs.declared.symbol.Symbol.{Symbol}
 use Rattle.mfm_coding.specs.Coding.{bytes_as_data}
 use Rattle.mfm_coding.specs.Writes.{AppendsSymbols}
-use Rattle.mfm_coding.specs.lemmas.WriteLaws.{AppendsSymbols-next, AppendsSymbols-none, AppendsSymbols-short}
+use Rattle.mfm_coding.specs.lemmas.WriteLaws.{AppendsSymbols-more, AppendsSymbols-none, AppendsSymbols-stop}
 use Rattle.amiga_mfm.specs.Layout.{halves_symbols}
 use Rattle.amiga_mfm.specs.Longs.{half_bytes}
 use Rattle.amiga_mfm.proofs.Pushes.{halves-each, one_half}
@@ -20,7 +21,7 @@ returns-in_err-push_bytes c =
     let bytes = c.half_bytes.ensures ∙ ap half_bytes c.of.ensures in
     subst (λ (symbols : List Symbol). AppendsSymbols c.args.cells.now c.push_bytes.new.cells symbols c.from_residual.result)
     (halves-each c.args.half longs)
-    (AppendsSymbols-short one longs c.args.cells.now c.loop-long.cells c.push_bytes.new.cells c.loop-long.long-index _ _
+    (Appends-short AppendsSymbols one longs AppendsSymbols-stop c.args.cells.now c.loop-long.cells c.push_bytes.new.cells c.loop-long.long-index _ _
     c.from_residual.result c.from_residual.ensures.0 c.loop-long-test.true c.loop-long.invariant
     (subst (λ (some : List ℕ). AppendsSymbols c.loop-long.cells c.push_bytes.new.cells (bytes_as_data some) (Err c.in_err-push_bytes.field-0.0)) bytes c.in_err-push_bytes.ensures))
 
@@ -29,7 +30,7 @@ loop-long-preserved c =
     let longs = c.args.longs.now in
     let one = one_half c.args.half in
     let bytes = c.half_bytes.ensures ∙ ap half_bytes c.of.ensures in
-    AppendsSymbols-next one longs c.args.cells.now c.loop-long.cells c.push_bytes.new.cells c.loop-long.long-index _
+    Appends-next AppendsSymbols one longs AppendsSymbols-more c.args.cells.now c.loop-long.cells c.push_bytes.new.cells c.loop-long.long-index _
     c.loop-long-test.true c.loop-long.invariant
     (subst (λ (some : List ℕ). AppendsSymbols c.loop-long.cells c.push_bytes.new.cells (bytes_as_data some) (Ok tt)) bytes c.in_ok-push_bytes.ensures)
 
