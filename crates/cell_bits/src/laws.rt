@@ -9,6 +9,7 @@ use crate::marks::{
 
 /// Each mark is the 16 cells of its byte with the clock bits that its standard gives it (IBM 3740 for FM, IBM
 /// System 34 for MFM). MFM's rule gives A1 the clock 0E and C2 the clock 1C; each mark lacks a one of it.
+#[tactic(auto, unfolding(crate::specs::Marks::mark, crate::specs::Marks::woven, crate::specs::Word::number_of, crate::specs::Word::word_cells))]
 pub fn marks_law()
     ensures fm_id { mark 0xC7 0xFE ≡ FM_ID_MARK }
     ensures fm_data { mark 0xC7 0xFB ≡ FM_DATA_MARK }

@@ -3,7 +3,7 @@ ghost use Rattle.frame_law.specs.Frames.{IsFirstSync, NoSync};
 ghost use Rattle.commodore_gcr.specs.Sectors.{Hold, IsSync};
 
 use crate::fields::{stands_at, take_bytes};
-use crate::layout::{CONTENT_CHECK_PLACE, CONTENT_PLACE, DATA_BYTE, SYNC, SYNC_CELLS, SYNC_ONES};
+use crate::layout::{CODING, CONTENT_CHECK_PLACE, CONTENT_PLACE, DATA_BYTE, SYNC_ONES};
 use check_values::xor_bytes;
 use frame_law::{CellsFrom, SectorBuffer};
 
@@ -14,7 +14,7 @@ pub(crate) fn next_sync(frame: &CellsFrom, from: usize, to: usize) -> Option<usi
     ensures first { IfSome result (λ sync. IsFirstSync (IsSync frame.now) from to sync) }
     ensures none { IfNone result (NoSync (IsSync frame.now) from to) }
 {
-    frame.find_word(from, to, SYNC, SYNC_CELLS)
+    frame.find_word(from, to, CODING.sync, CODING.sync_cells)
 }
 
 /// Whether the block after the sync at the place is one of data. Then the buffer, which was empty, has their

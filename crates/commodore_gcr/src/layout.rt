@@ -50,20 +50,16 @@ pub(crate) const HEADER_GAP: u8 = 9;
 /// The byte of the gaps, whose bits are cells as they are.
 pub(crate) const GAP_BYTE: u8 = 0x55;
 
-/// The end of a sync mark: ten ones, and the zero with which each block begins.
-pub(crate) const SYNC: u32 = 0b111_1111_1110;
-
-pub(crate) const SYNC_CELLS: u8 = 11;
-
-/// Group code has at most two zeros after one another; headers begin with the end of a sync mark.
+/// Group code has at most two zeros after one another. Headers begin with the end of a sync mark: ten ones, and the
+/// zero with which each block begins.
 pub(crate) const CODING: Coding = Coding {
     shortest: 1,
     longest: 3,
-    sync: SYNC,
-    sync_cells: SYNC_CELLS,
+    sync: 0b111_1111_1110,
+    sync_cells: 11,
 };
 
-/// The ones of it: the block begins so many cells after its place.
+/// The ones of a sync: the block begins so many cells after its place.
 pub(crate) const SYNC_ONES: usize = 10;
 
 /// The cells of a byte in group code.

@@ -11,7 +11,7 @@ use crate::rows::field_check;
 use cell_bits::MFM_A1_MARK;
 use frame_law::{CellsFrom, SectorBuffer};
 use ibm_fields::{DATA_BYTE, DELETED_DATA_BYTE, number_at, take_bytes};
-use mfm_coding::{TWO_MARKS, TWO_MARKS_CELLS};
+use mfm_coding::CODING;
 
 /// The first three marks at a place from `from` to below `to`.
 pub(crate) fn next_sync(frame: &CellsFrom, from: usize, to: usize) -> Option<usize>
@@ -21,7 +21,7 @@ pub(crate) fn next_sync(frame: &CellsFrom, from: usize, to: usize) -> Option<usi
     ensures none { IfNone result (NoSync (SyncAt frame.now) from to) }
 {
     let mut start = from;
-    while let Some(place) = frame.find_word(start, to, TWO_MARKS, TWO_MARKS_CELLS) {
+    while let Some(place) = frame.find_word(start, to, CODING.sync, CODING.sync_cells) {
         if frame.stands_at(place + THIRD_MARK_PLACE, MFM_A1_MARK, MARK_CELLS) {
             return Some(place);
         }

@@ -6,6 +6,6 @@ mod coding;
 mod pushes;
 mod symbol;
 
-pub use coding::{CODING, TWO_MARKS, TWO_MARKS_CELLS};
+pub use coding::CODING;
 pub use pushes::{push_bytes, push_run, push_symbol};
 pub use symbol::Symbol;
