@@ -6,10 +6,11 @@ ghost use Rattle.frame_law.specs.declared.coding.Coding.{Coding};
 ghost use Rattle.frame_law.specs.Frames.{AreSizes, EndsAt, FrameStands, IsFirstSync, IsSyncInReach, IsWithinReach, NoSync};
 ghost use Rattle.flux_base.specs.declared.header_name.HeaderName.{HeaderName};
 ghost use Rattle.frame_law.specs.lemmas.OwnData.{AreSyncsOrNone, BeginAtOnce, HasOwnDataSyncs};
-ghost use Rattle.frame_law.specs.lemmas.OwnFrames.{HasOwnSyncs, TellsEarly, TellsEnds};
+ghost use Rattle.frame_law.specs.lemmas.FrameLaws.{frame_within, ring_length, sector_stands};
+ghost use Rattle.frame_law.specs.lemmas.OwnFrames.{HasOwnSyncs, TellsEarly, TellsEnds, TellsTrack, header_within, sector_syncs, some_cells, tells_sector};
 ghost use Rattle.frame_law.specs.Others.{NamesSectors};
 ghost use Rattle.frame_law.specs.Writing.{AppendsCells};
-ghost use Rattle.track_rings.specs.Rings.{AreSectors, IsSectorNumber, AreBytes};
+ghost use Rattle.track_rings.specs.Rings.{AreSectors, IsSectorNumber, AreBytes, bytes_of};
 ghost use Rattle.track_rings.specs.Rows.{IsContent, Rows, frame_size, last_of, place_of, ring_of, ring_size, rows_cells, sector_rows};
 ghost use Rattle.track_rings.specs.Spaced.{MayFollow};
 
@@ -281,4 +282,59 @@ pub trait Layout {
         (place_of (row_size r track) (lowest_sector r) (sector_bytes r) (rows r track))
         (AreSectors (sector_count r track) (sector_bytes r))
         (λ bytes. ring_of asks (row_cells r track) (lowest_sector r) (sector_count r track) (sector_bytes r) bytes (rows r track)) };
+
+    /// So what cells tell of names they tell of sectors.
+    ghost sector_tells: { (r : Self) (track : TrackId) →
+        TellsEarly CODING.sync_cells header_cells (data_cells r) (header_end r) (data_end r (sector_bytes r))
+        (names_sector r track) (is_sync r) (hold r (sector_bytes r)) } = { λ r track.
+            tells_sector (names r) (is_name_of r track) (names_sector r track) (named_sector r track)
+            CODING.sync_cells header_cells (data_cells r) (header_end r) (data_end r (sector_bytes r)) (is_sync r) (hold r (sector_bytes r)) (tells r) };
+
+    /// And all that the laws of a track's own sectors rest on is told.
+    ghost track_told: { (r : Self) (track : TrackId) → has_track r track →
+        TellsTrack header_cells (data_cells r) (header_end r) (data_end r (sector_bytes r)) (is_sync r) (hold r (sector_bytes r))
+        CODING.sync CODING.sync_cells (data_place r) (lowest_sector r) (sector_count r track) (names_sector r track)
+        (place_of (row_size r track) (lowest_sector r) (sector_bytes r) (rows r track))
+        (AreSectors (sector_count r track) (sector_bytes r))
+        (λ bytes. ring_of asks (row_cells r track) (lowest_sector r) (sector_count r track) (sector_bytes r) bytes (rows r track))
+        (track_cells r track) (bytes_of (lowest_sector r) (sector_bytes r)) } = { λ r track known. record {
+          ends = tells_ends r;
+          tells = sector_tells r track;
+          syncs =
+              sector_syncs (names r) (is_name_of r track) (names_sector r track) (named_sector r track)
+              CODING.sync CODING.sync_cells header_cells (lowest_sector r) (sector_count r track)
+              (place_of (row_size r track) (lowest_sector r) (sector_bytes r) (rows r track))
+              (AreSectors (sector_count r track) (sector_bytes r))
+              (λ bytes. ring_of asks (row_cells r track) (lowest_sector r) (sector_count r track) (sector_bytes r) bytes (rows r track))
+              (own_syncs r track known);
+          some = some_cells sizes (reach r);
+          size = λ bytes given.
+              ring_length asks (row_cells r track) (row_size r track) (row_length r track)
+              (lowest_sector r) (sector_count r track) (sector_bytes r) (rows r track) bytes (track_cells r track)
+              given.whole (sums r track known).1;
+          low = λ bytes given n number.
+              (frame_within asks (row_cells r track) (row_size r track) (row_length r track)
+              (lowest_sector r) (sector_count r track) (sector_bytes r) (rows r track)
+              CODING.shortest CODING.longest last_zeros CODING.sync_cells header_cells sizes
+              (λ m content row. row_follows r track m content row known)
+              bytes n (track_cells r track) (data_place r + data_cells r) (counts r track known).0 given number
+              (sums r track known).0 (sums r track known).1).0;
+          room = λ bytes given.
+              header_within asks (row_cells r track) (row_size r track) (row_length r track)
+              (lowest_sector r) (sector_count r track) (sector_bytes r) (rows r track) bytes (track_cells r track)
+              (counts r track known).0 given (reach r) (sums r track known).0 (sums r track known).1;
+          stands = λ bytes given n from count place number lies.
+              sector_stands asks (row_cells r track) (row_size r track) (row_length r track)
+              (lowest_sector r) (sector_count r track) (sector_bytes r) (rows r track)
+              CODING.shortest CODING.longest last_zeros CODING.sync_cells header_cells sizes
+              (λ m content row. row_follows r track m content row known)
+              (data_cells r) CODING.sync (data_place r) (header_end r) (data_end r (sector_bytes r)) (is_sync r) (hold r (sector_bytes r))
+              (names_sector r track)
+              bytes n from count place (track_cells r track) given number
+              (λ content before rest fit long. (
+                frame_stands r track n content before rest known number fit long,
+                frame_ends r track n content before rest known number fit long,
+              ))
+              (sums r track known).0 (sums r track known).1 (reach r) lies;
+        } };
 }

@@ -8,7 +8,7 @@ ghost use Rattle.frame_law.specs.Others.{HasNamedData, IsSectorName};
 ghost use Rattle.frame_law.specs.lemmas.Named.{named_header, own_named_data};
 ghost use Rattle.frame_law.specs.lemmas.ControllerLaws.{data_alone, data_within, named_alone, own_content, strict_has_data};
 ghost use Rattle.frame_law.specs.lemmas.FrameLaws.{frames-apart, frame_within, one_content, ring_length, ring_spaced, sector_stands};
-ghost use Rattle.frame_law.specs.lemmas.OwnFrames.{header_agrees, header_alone, header_own, header_within, named_own, no_header, same_sector, sector_alone, sector_own, sector_syncs, some_cells, some_header, tells_sector};
+ghost use Rattle.frame_law.specs.lemmas.OwnFrames.{header_alone, same_sector, sector_alone, some_cells, some_header, track-header_agrees, track-header_own, track-named_own, track-no_header, track-sector_own};
 ghost use Rattle.track_rings.specs.OwnSectors.{between_zeros};
 ghost use Rattle.track_rings.specs.Rings.{AreSectors, bytes_of};
 ghost use Rattle.track_rings.specs.Rows.{place_of, ring_of};
@@ -230,177 +230,26 @@ impl<L: Layout> Recording for L {
     ghost header_alone = { λ r track cells s header.
         header_alone L.header_cells (L.data_cells r) (L.header_end r) (L.data_end r (L.sector_bytes r)) (L.is_sync r)
         (L.hold r (L.sector_bytes r)) L.CODING.sync L.CODING.sync_cells (L.data_place r)
-        (L.lowest_sector r) (L.sector_count r track) (L.names_sector r track) (L.tells_ends r)
-        (tells_sector (L.names r) (L.is_name_of r track) (L.names_sector r track) (L.named_sector r track)
-        L.CODING.sync_cells L.header_cells (L.data_cells r) (L.header_end r) (L.data_end r (L.sector_bytes r)) (L.is_sync r) (L.hold r (L.sector_bytes r))
-        (L.tells r))
+        (L.lowest_sector r) (L.sector_count r track) (L.names_sector r track) (L.tells_ends r) (L.sector_tells r track)
         cells s (some_header L.sizes) header };
 
     ghost sector_alone = { λ r track cells s xs sector.
         sector_alone L.header_cells (L.data_cells r) (L.header_end r) (L.data_end r (L.sector_bytes r)) (L.is_sync r)
         (L.hold r (L.sector_bytes r)) L.CODING.sync L.CODING.sync_cells (L.data_place r)
-        (L.lowest_sector r) (L.sector_count r track) (L.names_sector r track) (L.tells_ends r)
-        (tells_sector (L.names r) (L.is_name_of r track) (L.names_sector r track) (L.named_sector r track)
-        L.CODING.sync_cells L.header_cells (L.data_cells r) (L.header_end r) (L.data_end r (L.sector_bytes r)) (L.is_sync r) (L.hold r (L.sector_bytes r))
-        (L.tells r))
+        (L.lowest_sector r) (L.sector_count r track) (L.names_sector r track) (L.tells_ends r) (L.sector_tells r track)
         cells s xs (some_header L.sizes) sector };
 
     ghost header_own = { λ r track bytes s zeros from count behind place known given header.
-        header_own L.header_cells (L.data_cells r) (L.header_end r) (L.data_end r (L.sector_bytes r)) (L.is_sync r)
-        (L.hold r (L.sector_bytes r)) L.CODING.sync L.CODING.sync_cells (L.data_place r)
-        (L.lowest_sector r) (L.sector_count r track) (L.names_sector r track) (L.tells_ends r)
-        (tells_sector (L.names r) (L.is_name_of r track) (L.names_sector r track) (L.named_sector r track)
-        L.CODING.sync_cells L.header_cells (L.data_cells r) (L.header_end r) (L.data_end r (L.sector_bytes r)) (L.is_sync r) (L.hold r (L.sector_bytes r))
-        (L.tells r))
-        (place_of (L.row_size r track) (L.lowest_sector r) (L.sector_bytes r) (L.rows r track))
-        (AreSectors (L.sector_count r track) (L.sector_bytes r))
-        (λ content. ring_of L.asks (L.row_cells r track) (L.lowest_sector r) (L.sector_count r track) (L.sector_bytes r) content (L.rows r track))
-        (sector_syncs (L.names r) (L.is_name_of r track) (L.names_sector r track) (L.named_sector r track)
-        L.CODING.sync L.CODING.sync_cells L.header_cells (L.lowest_sector r) (L.sector_count r track)
-        (place_of (L.row_size r track) (L.lowest_sector r) (L.sector_bytes r) (L.rows r track))
-        (AreSectors (L.sector_count r track) (L.sector_bytes r))
-        (λ content. ring_of L.asks (L.row_cells r track) (L.lowest_sector r) (L.sector_count r track) (L.sector_bytes r) content (L.rows r track))
-        (L.own_syncs r track known))
-        (L.track_cells r track) (L.data_place r + L.data_cells r) (bytes_of (L.lowest_sector r) (L.sector_bytes r)) bytes given
-        (ring_length L.asks (L.row_cells r track) (L.row_size r track) (L.row_length r track)
-        (L.lowest_sector r) (L.sector_count r track) (L.sector_bytes r) (L.rows r track) bytes (L.track_cells r track)
-        given.whole (L.sums r track known).1)
-        (some_cells L.sizes (L.reach r))
-        (λ n number.
-        (frame_within L.asks (L.row_cells r track) (L.row_size r track) (L.row_length r track)
-        (L.lowest_sector r) (L.sector_count r track) (L.sector_bytes r) (L.rows r track)
-        L.CODING.shortest L.CODING.longest L.last_zeros L.CODING.sync_cells L.header_cells L.sizes
-        (λ m content row. L.row_follows r track m content row known)
-        bytes n (L.track_cells r track) (L.data_place r + L.data_cells r) (L.counts r track known).0 given number
-        (L.sums r track known).0 (L.sums r track known).1).0)
-        (header_within L.asks (L.row_cells r track) (L.row_size r track) (L.row_length r track)
-        (L.lowest_sector r) (L.sector_count r track) (L.sector_bytes r) (L.rows r track) bytes (L.track_cells r track)
-        (L.counts r track known).0 given (L.reach r) (L.sums r track known).0 (L.sums r track known).1)
-        (λ n n_from n_count n_place number lies.
-        sector_stands L.asks (L.row_cells r track) (L.row_size r track) (L.row_length r track)
-        (L.lowest_sector r) (L.sector_count r track) (L.sector_bytes r) (L.rows r track)
-        L.CODING.shortest L.CODING.longest L.last_zeros L.CODING.sync_cells L.header_cells L.sizes
-        (λ m content row. L.row_follows r track m content row known)
-        (L.data_cells r) L.CODING.sync (L.data_place r) (L.header_end r) (L.data_end r (L.sector_bytes r)) (L.is_sync r) (L.hold r (L.sector_bytes r))
-        (L.names_sector r track)
-        bytes n n_from n_count n_place (L.track_cells r track) given number
-        (λ content before rest fit long. (
-          L.frame_stands r track n content before rest known number fit long,
-          L.frame_ends r track n content before rest known number fit long,
-        ))
-        (L.sums r track known).0 (L.sums r track known).1 (L.reach r) lies)
-        s zeros from count behind place header };
+        track-header_own (L.track_told r track known) bytes given zeros from count behind place s header };
 
     ghost sector_own = { λ r track bytes s zeros from count behind place xs known given sector.
-        sector_own L.header_cells (L.data_cells r) (L.header_end r) (L.data_end r (L.sector_bytes r)) (L.is_sync r)
-        (L.hold r (L.sector_bytes r)) L.CODING.sync L.CODING.sync_cells (L.data_place r)
-        (L.lowest_sector r) (L.sector_count r track) (L.names_sector r track) (L.tells_ends r)
-        (tells_sector (L.names r) (L.is_name_of r track) (L.names_sector r track) (L.named_sector r track)
-        L.CODING.sync_cells L.header_cells (L.data_cells r) (L.header_end r) (L.data_end r (L.sector_bytes r)) (L.is_sync r) (L.hold r (L.sector_bytes r))
-        (L.tells r))
-        (place_of (L.row_size r track) (L.lowest_sector r) (L.sector_bytes r) (L.rows r track))
-        (AreSectors (L.sector_count r track) (L.sector_bytes r))
-        (λ content. ring_of L.asks (L.row_cells r track) (L.lowest_sector r) (L.sector_count r track) (L.sector_bytes r) content (L.rows r track))
-        (sector_syncs (L.names r) (L.is_name_of r track) (L.names_sector r track) (L.named_sector r track)
-        L.CODING.sync L.CODING.sync_cells L.header_cells (L.lowest_sector r) (L.sector_count r track)
-        (place_of (L.row_size r track) (L.lowest_sector r) (L.sector_bytes r) (L.rows r track))
-        (AreSectors (L.sector_count r track) (L.sector_bytes r))
-        (λ content. ring_of L.asks (L.row_cells r track) (L.lowest_sector r) (L.sector_count r track) (L.sector_bytes r) content (L.rows r track))
-        (L.own_syncs r track known))
-        (L.track_cells r track) (L.data_place r + L.data_cells r) (bytes_of (L.lowest_sector r) (L.sector_bytes r)) bytes given
-        (ring_length L.asks (L.row_cells r track) (L.row_size r track) (L.row_length r track)
-        (L.lowest_sector r) (L.sector_count r track) (L.sector_bytes r) (L.rows r track) bytes (L.track_cells r track)
-        given.whole (L.sums r track known).1)
-        (some_cells L.sizes (L.reach r))
-        (λ n number.
-        (frame_within L.asks (L.row_cells r track) (L.row_size r track) (L.row_length r track)
-        (L.lowest_sector r) (L.sector_count r track) (L.sector_bytes r) (L.rows r track)
-        L.CODING.shortest L.CODING.longest L.last_zeros L.CODING.sync_cells L.header_cells L.sizes
-        (λ m content row. L.row_follows r track m content row known)
-        bytes n (L.track_cells r track) (L.data_place r + L.data_cells r) (L.counts r track known).0 given number
-        (L.sums r track known).0 (L.sums r track known).1).0)
-        (header_within L.asks (L.row_cells r track) (L.row_size r track) (L.row_length r track)
-        (L.lowest_sector r) (L.sector_count r track) (L.sector_bytes r) (L.rows r track) bytes (L.track_cells r track)
-        (L.counts r track known).0 given (L.reach r) (L.sums r track known).0 (L.sums r track known).1)
-        (λ n n_from n_count n_place number lies.
-        sector_stands L.asks (L.row_cells r track) (L.row_size r track) (L.row_length r track)
-        (L.lowest_sector r) (L.sector_count r track) (L.sector_bytes r) (L.rows r track)
-        L.CODING.shortest L.CODING.longest L.last_zeros L.CODING.sync_cells L.header_cells L.sizes
-        (λ m content row. L.row_follows r track m content row known)
-        (L.data_cells r) L.CODING.sync (L.data_place r) (L.header_end r) (L.data_end r (L.sector_bytes r)) (L.is_sync r) (L.hold r (L.sector_bytes r))
-        (L.names_sector r track)
-        bytes n n_from n_count n_place (L.track_cells r track) given number
-        (λ content before rest fit long. (
-          L.frame_stands r track n content before rest known number fit long,
-          L.frame_ends r track n content before rest known number fit long,
-        ))
-        (L.sums r track known).0 (L.sums r track known).1 (L.reach r) lies)
-        s zeros from count behind place xs sector };
+        track-sector_own (L.track_told r track known) bytes given zeros from count behind place s xs sector };
 
     ghost no_other = { λ r track bytes zeros from count behind place name known given header.
-        named_own L.header_cells (L.data_cells r) (L.header_end r) (L.data_end r (L.sector_bytes r)) (L.is_sync r)
-        (L.hold r (L.sector_bytes r)) L.CODING.sync L.CODING.sync_cells (L.data_place r)
-        (L.lowest_sector r) (L.sector_count r track) (L.names_sector r track) (L.tells_ends r)
-        (tells_sector (L.names r) (L.is_name_of r track) (L.names_sector r track) (L.named_sector r track)
-        L.CODING.sync_cells L.header_cells (L.data_cells r) (L.header_end r) (L.data_end r (L.sector_bytes r)) (L.is_sync r) (L.hold r (L.sector_bytes r))
-        (L.tells r))
-        (place_of (L.row_size r track) (L.lowest_sector r) (L.sector_bytes r) (L.rows r track))
-        (AreSectors (L.sector_count r track) (L.sector_bytes r))
-        (λ content. ring_of L.asks (L.row_cells r track) (L.lowest_sector r) (L.sector_count r track) (L.sector_bytes r) content (L.rows r track))
-        (sector_syncs (L.names r) (L.is_name_of r track) (L.names_sector r track) (L.named_sector r track)
-        L.CODING.sync L.CODING.sync_cells L.header_cells (L.lowest_sector r) (L.sector_count r track)
-        (place_of (L.row_size r track) (L.lowest_sector r) (L.sector_bytes r) (L.rows r track))
-        (AreSectors (L.sector_count r track) (L.sector_bytes r))
-        (λ content. ring_of L.asks (L.row_cells r track) (L.lowest_sector r) (L.sector_count r track) (L.sector_bytes r) content (L.rows r track))
-        (L.own_syncs r track known))
-        (L.track_cells r track) (L.data_place r + L.data_cells r) (bytes_of (L.lowest_sector r) (L.sector_bytes r)) bytes given
-        (ring_length L.asks (L.row_cells r track) (L.row_size r track) (L.row_length r track)
-        (L.lowest_sector r) (L.sector_count r track) (L.sector_bytes r) (L.rows r track) bytes (L.track_cells r track)
-        given.whole (L.sums r track known).1)
-        (some_cells L.sizes (L.reach r))
-        (λ n number.
-        (frame_within L.asks (L.row_cells r track) (L.row_size r track) (L.row_length r track)
-        (L.lowest_sector r) (L.sector_count r track) (L.sector_bytes r) (L.rows r track)
-        L.CODING.shortest L.CODING.longest L.last_zeros L.CODING.sync_cells L.header_cells L.sizes
-        (λ m content row. L.row_follows r track m content row known)
-        bytes n (L.track_cells r track) (L.data_place r + L.data_cells r) (L.counts r track known).0 given number
-        (L.sums r track known).0 (L.sums r track known).1).0)
-        (header_within L.asks (L.row_cells r track) (L.row_size r track) (L.row_length r track)
-        (L.lowest_sector r) (L.sector_count r track) (L.sector_bytes r) (L.rows r track) bytes (L.track_cells r track)
-        (L.counts r track known).0 given (L.reach r) (L.sums r track known).0 (L.sums r track known).1)
-        (λ n n_from n_count n_place number lies.
-        sector_stands L.asks (L.row_cells r track) (L.row_size r track) (L.row_length r track)
-        (L.lowest_sector r) (L.sector_count r track) (L.sector_bytes r) (L.rows r track)
-        L.CODING.shortest L.CODING.longest L.last_zeros L.CODING.sync_cells L.header_cells L.sizes
-        (λ m content row. L.row_follows r track m content row known)
-        (L.data_cells r) L.CODING.sync (L.data_place r) (L.header_end r) (L.data_end r (L.sector_bytes r)) (L.is_sync r) (L.hold r (L.sector_bytes r))
-        (L.names_sector r track)
-        bytes n n_from n_count n_place (L.track_cells r track) given number
-        (λ content before rest fit long. (
-          L.frame_stands r track n content before rest known number fit long,
-          L.frame_ends r track n content before rest known number fit long,
-        ))
-        (L.sums r track known).0 (L.sums r track known).1 (L.reach r) lies)
-        zeros from count behind place (L.names r) (L.is_name_of r track) (L.named_sector r track) (L.tells r) (L.own_syncs r track known).leads
-        name header };
+        track-named_own (L.track_told r track known) bytes given zeros from count behind place
+        (L.names r) (L.is_name_of r track) (L.named_sector r track) (L.tells r) (L.own_syncs r track known).leads name header };
 
-    ghost no_header = { λ r track count s known header.
-        no_header L.header_cells (L.data_cells r) (L.header_end r) (L.data_end r (L.sector_bytes r)) (L.is_sync r)
-        (L.hold r (L.sector_bytes r)) L.CODING.sync L.CODING.sync_cells (L.data_place r)
-        (L.lowest_sector r) (L.sector_count r track) (L.names_sector r track) (L.tells_ends r)
-        (tells_sector (L.names r) (L.is_name_of r track) (L.names_sector r track) (L.named_sector r track)
-        L.CODING.sync_cells L.header_cells (L.data_cells r) (L.header_end r) (L.data_end r (L.sector_bytes r)) (L.is_sync r) (L.hold r (L.sector_bytes r))
-        (L.tells r))
-        (place_of (L.row_size r track) (L.lowest_sector r) (L.sector_bytes r) (L.rows r track))
-        (AreSectors (L.sector_count r track) (L.sector_bytes r))
-        (λ content. ring_of L.asks (L.row_cells r track) (L.lowest_sector r) (L.sector_count r track) (L.sector_bytes r) content (L.rows r track))
-        (sector_syncs (L.names r) (L.is_name_of r track) (L.names_sector r track) (L.named_sector r track)
-        L.CODING.sync L.CODING.sync_cells L.header_cells (L.lowest_sector r) (L.sector_count r track)
-        (place_of (L.row_size r track) (L.lowest_sector r) (L.sector_bytes r) (L.rows r track))
-        (AreSectors (L.sector_count r track) (L.sector_bytes r))
-        (λ content. ring_of L.asks (L.row_cells r track) (L.lowest_sector r) (L.sector_count r track) (L.sector_bytes r) content (L.rows r track))
-        (L.own_syncs r track known))
-        count s header };
+    ghost no_header = { λ r track count s known header. track-no_header (L.track_told r track known) count s header };
 
     ghost name_leads = { λ r cells name header. header.begins };
 
@@ -452,49 +301,6 @@ impl<L: Layout> Recording for L {
         s at (bytes_of (L.lowest_sector r) (L.sector_bytes r) bytes s) xs
         (drop place (between_zeros (ring_of L.asks (L.row_cells r track) (L.lowest_sector r) (L.sector_count r track) (L.sector_bytes r) bytes
         (L.rows r track)) zeros from count behind))
-        (header_agrees L.header_cells (L.data_cells r) (L.header_end r) (L.data_end r (L.sector_bytes r)) (L.is_sync r)
-        (L.hold r (L.sector_bytes r)) L.CODING.sync L.CODING.sync_cells (L.data_place r)
-        (L.lowest_sector r) (L.sector_count r track) (L.names_sector r track) (L.tells_ends r)
-        (tells_sector (L.names r) (L.is_name_of r track) (L.names_sector r track) (L.named_sector r track)
-        L.CODING.sync_cells L.header_cells (L.data_cells r) (L.header_end r) (L.data_end r (L.sector_bytes r)) (L.is_sync r) (L.hold r (L.sector_bytes r))
-        (L.tells r))
-        (place_of (L.row_size r track) (L.lowest_sector r) (L.sector_bytes r) (L.rows r track))
-        (AreSectors (L.sector_count r track) (L.sector_bytes r))
-        (λ content. ring_of L.asks (L.row_cells r track) (L.lowest_sector r) (L.sector_count r track) (L.sector_bytes r) content (L.rows r track))
-        (sector_syncs (L.names r) (L.is_name_of r track) (L.names_sector r track) (L.named_sector r track)
-        L.CODING.sync L.CODING.sync_cells L.header_cells (L.lowest_sector r) (L.sector_count r track)
-        (place_of (L.row_size r track) (L.lowest_sector r) (L.sector_bytes r) (L.rows r track))
-        (AreSectors (L.sector_count r track) (L.sector_bytes r))
-        (λ content. ring_of L.asks (L.row_cells r track) (L.lowest_sector r) (L.sector_count r track) (L.sector_bytes r) content (L.rows r track))
-        (L.own_syncs r track known))
-        (L.track_cells r track) (L.data_place r + L.data_cells r) (bytes_of (L.lowest_sector r) (L.sector_bytes r)) bytes given
-        (ring_length L.asks (L.row_cells r track) (L.row_size r track) (L.row_length r track)
-        (L.lowest_sector r) (L.sector_count r track) (L.sector_bytes r) (L.rows r track) bytes (L.track_cells r track)
-        given.whole (L.sums r track known).1)
-        (some_cells L.sizes (L.reach r))
-        (λ n number.
-        (frame_within L.asks (L.row_cells r track) (L.row_size r track) (L.row_length r track)
-        (L.lowest_sector r) (L.sector_count r track) (L.sector_bytes r) (L.rows r track)
-        L.CODING.shortest L.CODING.longest L.last_zeros L.CODING.sync_cells L.header_cells L.sizes
-        (λ m content row. L.row_follows r track m content row known)
-        bytes n (L.track_cells r track) (L.data_place r + L.data_cells r) (L.counts r track known).0 given number
-        (L.sums r track known).0 (L.sums r track known).1).0)
-        (header_within L.asks (L.row_cells r track) (L.row_size r track) (L.row_length r track)
-        (L.lowest_sector r) (L.sector_count r track) (L.sector_bytes r) (L.rows r track) bytes (L.track_cells r track)
-        (L.counts r track known).0 given (L.reach r) (L.sums r track known).0 (L.sums r track known).1)
-        (λ n n_from n_count n_place number lies.
-        sector_stands L.asks (L.row_cells r track) (L.row_size r track) (L.row_length r track)
-        (L.lowest_sector r) (L.sector_count r track) (L.sector_bytes r) (L.rows r track)
-        L.CODING.shortest L.CODING.longest L.last_zeros L.CODING.sync_cells L.header_cells L.sizes
-        (λ m content row. L.row_follows r track m content row known)
-        (L.data_cells r) L.CODING.sync (L.data_place r) (L.header_end r) (L.data_end r (L.sector_bytes r)) (L.is_sync r) (L.hold r (L.sector_bytes r))
-        (L.names_sector r track)
-        bytes n n_from n_count n_place (L.track_cells r track) given number
-        (λ content before rest fit long. (
-          L.frame_stands r track n content before rest known number fit long,
-          L.frame_ends r track n content before rest known number fit long,
-        ))
-        (L.sums r track known).0 (L.sums r track known).1 (L.reach r) lies)
-        s zeros from count behind place header)
+        (track-header_agrees (L.track_told r track known) bytes given zeros from count behind place s header)
         content };
 }

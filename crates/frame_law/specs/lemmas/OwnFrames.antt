@@ -352,3 +352,61 @@ module _ (header_cells data_cells : ℕ) (header_end : List Bool → ℕ) (data_
                 agree = here.agree;
                 stands = λ many enough. (owns.stands s many here.number enough).content;
               }
+
+-- What is known of a track: what cells tell of it, where its first cells stand in its ring, and where its sectors do.
+pub record TellsTrack (header_cells data_cells : ℕ) (header_end : List Bool → ℕ) (data_end : List Bool → ℕ → ℕ) (is_sync : List Bool → ℕ → Type 0)
+    (hold : List Bool → ℕ → List ℕ → Type 0) (sync sync_cells data_place first sectors : ℕ) (names : List Bool → ℕ → Type 0) (place_of : ℕ → ℕ)
+    (Given : List ℕ → Type 0) (ring : List ℕ → List Bool) (ring_cells : ℕ) (content : List ℕ → ℕ → List ℕ) : Type 0 where
+  pub ends : TellsEnds header_cells data_cells header_end data_end
+  pub tells : TellsEarly sync_cells header_cells data_cells header_end data_end names is_sync hold
+  pub syncs : HasOwnSyncs sync sync_cells header_cells first sectors names place_of Given ring
+  pub some : 1 ≤ data_place + data_cells
+  pub size : (bytes : List ℕ) → Given bytes → length (ring bytes) ≡ ring_cells
+  pub low : (bytes : List ℕ) → Given bytes → (s : ℕ) → IsSectorNumber first sectors s → place_of s + (data_place + data_cells) ≤ ring_cells
+  pub room : (bytes : List ℕ) → Given bytes → header_cells ≤ ring_cells
+  pub stands : (bytes : List ℕ) → Given bytes → (s from count place : ℕ) → IsSectorNumber first sectors s
+      → LiesAt ring_cells (place_of s) (data_place + data_cells) from count place
+      → IsWhole header_end data_end is_sync hold sync sync_cells data_place first sectors names (drop place (stretch (ring bytes) from count)) s (content bytes s)
+
+module _ {header_cells data_cells : ℕ} {header_end : List Bool → ℕ} {data_end : List Bool → ℕ → ℕ} {is_sync : List Bool → ℕ → Type 0}
+    {hold : List Bool → ℕ → List ℕ → Type 0} {sync sync_cells data_place first sectors : ℕ} {names : List Bool → ℕ → Type 0} {place_of : ℕ → ℕ}
+    {Given : List ℕ → Type 0} {ring : List ℕ → List Bool} {ring_cells : ℕ} {content : List ℕ → ℕ → List ℕ}
+    (told : TellsTrack header_cells data_cells header_end data_end is_sync hold sync sync_cells data_place first sectors names place_of Given ring ring_cells content) where
+  -- no header of one of its sectors stands in zeros
+  pub track-no_header : (count s : ℕ) → ¬ HeaderStands sync sync_cells header_end first sectors names (replicate count false) s
+  track-no_header = no_header header_cells data_cells header_end data_end is_sync hold sync sync_cells data_place first sectors names told.ends told.tells place_of Given ring told.syncs
+
+  module _ (bytes : List ℕ) (given : Given bytes) (zeros from count behind place : ℕ) where
+    abbrev here : List Bool
+    here = drop place (between_zeros (ring bytes) zeros from count behind)
+
+    -- in a stretch of its ring between zeros stands nothing but its own sectors
+    pub track-header_own : (s : ℕ) → HeaderStands sync sync_cells header_end first sectors names here s → IsOwnPlace ring_cells (place_of s) zeros from place
+    track-header_own s =
+        header_own header_cells data_cells header_end data_end is_sync hold sync sync_cells data_place first sectors names told.ends told.tells place_of Given ring told.syncs
+        ring_cells (data_place + data_cells) content bytes given (told.size bytes given) told.some (told.low bytes given) (told.room bytes given) (told.stands bytes given)
+        s zeros from count behind place
+
+    pub track-sector_own : (s : ℕ) (xs : List ℕ) → IsWhole header_end data_end is_sync hold sync sync_cells data_place first sectors names here s xs
+        → xs ≡ content bytes s
+    track-sector_own s =
+        sector_own header_cells data_cells header_end data_end is_sync hold sync sync_cells data_place first sectors names told.ends told.tells place_of Given ring told.syncs
+        ring_cells (data_place + data_cells) content bytes given (told.size bytes given) told.some (told.low bytes given) (told.room bytes given) (told.stands bytes given)
+        s zeros from count behind place
+
+    pub track-header_agrees : (s : ℕ) → HeaderStands sync sync_cells header_end first sectors names here s
+        → AgreesWithFrame header_end data_end is_sync hold first sectors place_of (ring bytes) (data_place + data_cells) s (content bytes s) here
+    track-header_agrees s =
+        header_agrees header_cells data_cells header_end data_end is_sync hold sync sync_cells data_place first sectors names told.ends told.tells place_of Given ring told.syncs
+        ring_cells (data_place + data_cells) content bytes given (told.size bytes given) told.some (told.low bytes given) (told.room bytes given) (told.stands bytes given)
+        s zeros from count behind place
+
+    pub track-named_own : (all : List Bool → HeaderName → Type 0) (is_name_of : HeaderName → ℕ → Type 0) → NamesSectors all is_name_of names
+        → TellsEarly sync_cells header_cells data_cells header_end data_end all is_sync hold
+        → ((cells : List Bool) (n : HeaderName) → Stands cells sync sync_cells 0 → all cells n → Leads told.syncs.lead told.syncs.rest cells)
+        → (name : HeaderName) → NamedHeaderStands sync sync_cells header_end all here name
+        → (t : ℕ) × HeaderStands sync sync_cells header_end first sectors names here t
+    track-named_own =
+        named_own header_cells data_cells header_end data_end is_sync hold sync sync_cells data_place first sectors names told.ends told.tells place_of Given ring told.syncs
+        ring_cells (data_place + data_cells) content bytes given (told.size bytes given) told.some (told.low bytes given) (told.room bytes given) (told.stands bytes given)
+        zeros from count behind place
