@@ -1,5 +1,5 @@
 -- The places of a block where a word may begin, a digit each.
-use Rattle.std.proofs.Common.{◌≡◌, ℕ, suc, ◌+◌, ◌-◌, ◌*◌, ◌/◌, ◌%◌, ◌^◌, ◌<◌, ◌≤◌, min, Bool, List, length, set, slice_index, true, false, ◌==◌, ◌⊎◌, inl, inr, ◌↔◌, sym, ap, ◌∙◌, subst, arith, bit_and, pow-suc}
+use Rattle.std.proofs.Common.{◌≡◌, ℕ, suc, ◌+◌, ◌-◌, ◌*◌, ◌/◌, ◌%◌, ◌^◌, ◌<◌, ◌≤◌, min, Bool, List, length, set, slice_index, true, false, ◌==◌, ◌⊎◌, inl, inr, ◌↔◌, refl, sym, ap, ◌∙◌, subst, arith, bit_and, pow-suc}
 use Rattle.std.specs.Int.{bit_at, bit_not, w64}
 use Rattle.std.proofs.lemmas.Bool.{cases_lt}
 use Rattle.std.proofs.lemmas.Bool.Decides.{nat_tests}
@@ -8,7 +8,8 @@ use Rattle.std.proofs.lemmas.Nat.Bits.{bit_at-lt, bit_at-zero, bit_at_and, bit_a
 use Rattle.std.proofs.lemmas.Nat.{leading_top, shr_high}
 use Rattle.std.specs.Int.Count.{count_leading_zeros}
 use Rattle.cell_bits.specs.Word.{digit}
-use Rattle.cell_bits.specs.inside.Window.{cell_of_two, IsJoined, MeetsAt, AreCandidates, AreCellsOf, StandAt}
+use Rattle.cell_bits.specs.inside.Window.{cell_of_two, IsJoined, MeetsAt, AreCandidates, AreCellsOf, AreLeftOf, StandAt}
+use Rattle.cell_bits.proofs.Joining.{digit-shl}
 
 -- a test of a digit
 from_digit : (value place : ℕ) → digit value place ≡ true → bit_at value place ≡ 1
@@ -150,3 +151,33 @@ first-digit places some fits =
         let rest : n - 2 ^ i < 2 ^ i = omega arith in
         let split : n ≡ 1 * 2 ^ i + (n - 2 ^ i) = omega arith in
         ap (λ x. x % 2) (ap (λ x. x / 2 ^ i) split ∙ shr_high 1 i (n - 2 ^ i) rest)
+
+-- such cells, a digit each: all of them, and fewer
+pub left-all : (word count equal : ℕ) (one : Bool) → count ≤ 32
+    → ((k : ℕ) → k < 64 → (digit equal (63 - k) ≡ true) ↔ (digit (word * 2 ^ (64 - count) % 2 ^ 64) (63 - k) ≡ one))
+    → AreLeftOf word count equal one
+left-all word count equal one most told k below is =
+    let at : 63 - k - (64 - count) ≡ count - 1 - k = omega (arith, below, most) in
+    sym (digit-shl word (64 - count) (63 - k) (omega arith) (omega (arith, below, most)) ∙ ap (digit word) at)
+    ∙ (told k (omega (arith, below, most))).0 is
+
+pub left-fewer : (word count left mask : ℕ) (one : Bool) → AreLeftOf word count left one → AreLeftOf word count (bit_and left mask) one
+left-fewer word count left mask one all k below is = all k below ((digit-and left mask (63 - k)).0 is).0
+
+-- the first of them
+no_zeros_left : count_leading_zeros 64 0 ≡ 64
+unfolding count_leading_zeros
+no_zeros_left = refl
+
+pub left-first : (word count left : ℕ) (one : Bool) → count ≤ 32 → left < 2 ^ 64 → AreLeftOf word count left one
+    → (offset : ℕ) → offset ≡ count_leading_zeros 64 left → offset < count → digit word (count - 1 - offset) ≡ one
+left-first word count left one most fits all offset is below =
+    elim (cases_lt 0 left) [
+      | inl some ↦
+          let at = (first-digit left some fits).1 in
+          all offset below (ap (λ (n : ℕ). digit left (63 - n)) is ∙ at)
+      | inr none ↦
+          let zero : left ≡ 0 = omega (arith, none) in
+          let past : count_leading_zeros 64 left ≡ 64 = ap (count_leading_zeros 64) zero ∙ no_zeros_left in
+          absurd (omega (arith, past, is, below, most))
+    ]

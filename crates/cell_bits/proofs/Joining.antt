@@ -32,6 +32,10 @@ digit-shr value k place = ap (λ bit. bit == 1) (bit_at-shr value k place)
 pub digit-mod : (value width place : ℕ) → place < width → digit (value % 2 ^ width) place ≡ digit value place
 digit-mod value width place low = ap (λ bit. bit == 1) (bit_at-mod value width place low)
 
+pub digit-shl : (value shift place : ℕ) → place < 64 → shift ≤ place → digit (value * 2 ^ shift % 2 ^ 64) place ≡ digit value (place - shift)
+digit-shl value shift place low high =
+    ap (λ bit. bit == 1) (bit_at-mod (value * 2 ^ shift) 64 place low ∙ bit_at-shl_high value shift place high)
+
 cell_of_two-high : (high low k : ℕ) → k < 64 → cell_of_two high low k ≡ digit high (63 - k)
 cell_of_two-high high low k within = grind (arith, nat_tests)
 

@@ -27,6 +27,10 @@ abbrev pub AreCellsOf : (word count : ℕ) → List ℕ → (many : ℕ) → Boo
 AreCellsOf word count offsets many one = (index : ℕ) → index < many
     → (slice_index offsets index < count) × (digit word (count - 1 - slice_index offsets index) ≡ one)
 
+-- digits for the cells of the word, high bit first, that are of such cells alone; what follows them may be anything
+abbrev pub AreLeftOf : (word count left : ℕ) → Bool → Type 0
+AreLeftOf word count left one = (k : ℕ) → k < count → digit left (63 - k) ≡ true → digit word (count - 1 - k) ≡ one
+
 -- so many cells stand at these offsets behind cell k of two blocks
 abbrev pub StandAt : ℕ → ℕ → List ℕ → (many : ℕ) → Bool → ℕ → Type 0
 StandAt high low offsets many one k = (index : ℕ) → index < many → cell_of_two high low (k + slice_index offsets index) ≡ one

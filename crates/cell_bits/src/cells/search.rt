@@ -134,11 +134,16 @@ impl Rarer {
         if ones < FEW || zeros < FEW || places < SHORT {
             return Rarer { one, offsets, many };
         }
-        for offset in 0..count {
-            if is_one(word, count - 1 - offset) == one {
-                offsets[many] = offset;
-                many += 1;
+        // From the high bit on: ones for the cells that are not gathered yet.
+        let mut left = equal_cells((word as u64) << (64 - count as u32), one);
+        for _ in 0..count {
+            let offset = left.leading_zeros() as u8;
+            if offset >= count {
+                break;
             }
+            offsets[many] = offset;
+            many += 1;
+            left &= u64::MAX >> (offset as u32 + 1);
         }
         Rarer { one, offsets, many }
     }
@@ -159,14 +164,6 @@ impl Rarer {
         }
         false
     }
-}
-
-/// Whether the bit is one that is worth 2^`place`.
-fn is_one(word: u32, place: u8) -> bool
-    requires { place < 32 }
-    ensures { result ≡ digit word place }
-{
-    (word >> place as u32) & 1 == 1
 }
 
 /// The places of the first of two blocks from which the low `count` bits of the word stand, 1 to 32, high bit first: a bit each,
