@@ -293,7 +293,7 @@ pub trait Layout {
     /// And all that the laws of a track's own sectors rest on is told.
     ghost track_told: { (r : Self) (track : TrackId) → has_track r track →
         TellsTrack header_cells (data_cells r) (header_end r) (data_end r (sector_bytes r)) (is_sync r) (hold r (sector_bytes r))
-        CODING.sync CODING.sync_cells (data_place r) (lowest_sector r) (sector_count r track) (names_sector r track)
+        CODING.sync CODING.sync_cells (data_place r) (lowest_sector r) (sector_count r track) (names r) (names_sector r track)
         (place_of (row_size r track) (lowest_sector r) (sector_bytes r) (rows r track))
         (AreSectors (sector_count r track) (sector_bytes r))
         (λ bytes. ring_of asks (row_cells r track) (lowest_sector r) (sector_count r track) (sector_bytes r) bytes (rows r track))
@@ -307,6 +307,7 @@ pub trait Layout {
               (AreSectors (sector_count r track) (sector_bytes r))
               (λ bytes. ring_of asks (row_cells r track) (lowest_sector r) (sector_count r track) (sector_bytes r) bytes (rows r track))
               (own_syncs r track known);
+          leads = (own_syncs r track known).leads;
           some = some_cells sizes (reach r);
           size = λ bytes given.
               ring_length asks (row_cells r track) (row_size r track) (row_length r track)

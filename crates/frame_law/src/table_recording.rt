@@ -247,7 +247,7 @@ impl<L: Layout> Recording for L {
 
     ghost no_other = { λ r track bytes zeros from count behind place name known given header.
         track-named_own (L.track_told r track known) bytes given zeros from count behind place
-        (L.names r) (L.is_name_of r track) (L.named_sector r track) (L.tells r) (L.own_syncs r track known).leads name header };
+        (L.is_name_of r track) (L.named_sector r track) (L.tells r) name header };
 
     ghost no_header = { λ r track count s known header. track-no_header (L.track_told r track known) count s header };
 

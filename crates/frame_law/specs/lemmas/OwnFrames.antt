@@ -355,11 +355,12 @@ module _ (header_cells data_cells : ℕ) (header_end : List Bool → ℕ) (data_
 
 -- What is known of a track: what cells tell of it, where its first cells stand in its ring, and where its sectors do.
 pub record TellsTrack (header_cells data_cells : ℕ) (header_end : List Bool → ℕ) (data_end : List Bool → ℕ → ℕ) (is_sync : List Bool → ℕ → Type 0)
-    (hold : List Bool → ℕ → List ℕ → Type 0) (sync sync_cells data_place first sectors : ℕ) (names : List Bool → ℕ → Type 0) (place_of : ℕ → ℕ)
+    (hold : List Bool → ℕ → List ℕ → Type 0) (sync sync_cells data_place first sectors : ℕ) (all : List Bool → HeaderName → Type 0) (names : List Bool → ℕ → Type 0) (place_of : ℕ → ℕ)
     (Given : List ℕ → Type 0) (ring : List ℕ → List Bool) (ring_cells : ℕ) (content : List ℕ → ℕ → List ℕ) : Type 0 where
   pub ends : TellsEnds header_cells data_cells header_end data_end
   pub tells : TellsEarly sync_cells header_cells data_cells header_end data_end names is_sync hold
   pub syncs : HasOwnSyncs sync sync_cells header_cells first sectors names place_of Given ring
+  pub leads : (cells : List Bool) (n : HeaderName) → Stands cells sync sync_cells 0 → all cells n → Leads syncs.lead syncs.rest cells
   pub some : 1 ≤ data_place + data_cells
   pub size : (bytes : List ℕ) → Given bytes → length (ring bytes) ≡ ring_cells
   pub low : (bytes : List ℕ) → Given bytes → (s : ℕ) → IsSectorNumber first sectors s → place_of s + (data_place + data_cells) ≤ ring_cells
@@ -369,9 +370,9 @@ pub record TellsTrack (header_cells data_cells : ℕ) (header_end : List Bool �
       → IsWhole header_end data_end is_sync hold sync sync_cells data_place first sectors names (drop place (stretch (ring bytes) from count)) s (content bytes s)
 
 module _ {header_cells data_cells : ℕ} {header_end : List Bool → ℕ} {data_end : List Bool → ℕ → ℕ} {is_sync : List Bool → ℕ → Type 0}
-    {hold : List Bool → ℕ → List ℕ → Type 0} {sync sync_cells data_place first sectors : ℕ} {names : List Bool → ℕ → Type 0} {place_of : ℕ → ℕ}
+    {hold : List Bool → ℕ → List ℕ → Type 0} {sync sync_cells data_place first sectors : ℕ} {all : List Bool → HeaderName → Type 0} {names : List Bool → ℕ → Type 0} {place_of : ℕ → ℕ}
     {Given : List ℕ → Type 0} {ring : List ℕ → List Bool} {ring_cells : ℕ} {content : List ℕ → ℕ → List ℕ}
-    (told : TellsTrack header_cells data_cells header_end data_end is_sync hold sync sync_cells data_place first sectors names place_of Given ring ring_cells content) where
+    (told : TellsTrack header_cells data_cells header_end data_end is_sync hold sync sync_cells data_place first sectors all names place_of Given ring ring_cells content) where
   -- no header of one of its sectors stands in zeros
   pub track-no_header : (count s : ℕ) → ¬ HeaderStands sync sync_cells header_end first sectors names (replicate count false) s
   track-no_header = no_header header_cells data_cells header_end data_end is_sync hold sync sync_cells data_place first sectors names told.ends told.tells place_of Given ring told.syncs
@@ -401,12 +402,11 @@ module _ {header_cells data_cells : ℕ} {header_end : List Bool → ℕ} {data_
         ring_cells (data_place + data_cells) content bytes given (told.size bytes given) told.some (told.low bytes given) (told.room bytes given) (told.stands bytes given)
         s zeros from count behind place
 
-    pub track-named_own : (all : List Bool → HeaderName → Type 0) (is_name_of : HeaderName → ℕ → Type 0) → NamesSectors all is_name_of names
+    pub track-named_own : (is_name_of : HeaderName → ℕ → Type 0) → NamesSectors all is_name_of names
         → TellsEarly sync_cells header_cells data_cells header_end data_end all is_sync hold
-        → ((cells : List Bool) (n : HeaderName) → Stands cells sync sync_cells 0 → all cells n → Leads told.syncs.lead told.syncs.rest cells)
         → (name : HeaderName) → NamedHeaderStands sync sync_cells header_end all here name
         → (t : ℕ) × HeaderStands sync sync_cells header_end first sectors names here t
-    track-named_own =
+    track-named_own is_name_of named tells =
         named_own header_cells data_cells header_end data_end is_sync hold sync sync_cells data_place first sectors names told.ends told.tells place_of Given ring told.syncs
         ring_cells (data_place + data_cells) content bytes given (told.size bytes given) told.some (told.low bytes given) (told.room bytes given) (told.stands bytes given)
-        zeros from count behind place
+        zeros from count behind place all is_name_of named tells told.leads
