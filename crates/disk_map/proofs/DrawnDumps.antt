@@ -1,5 +1,5 @@
 -- From what the loop over dumps wrote to the picture of a disk.
-use Rattle.std.specs.Prelude.{◌≡◌, ◌≤◌, ◌<◌, ℕ, ◌+◌, List, [], ◌∷◌, ◌++◌, codes, length, take, Option, None, Result, Ok, Err, refl}
+use Rattle.std.specs.Prelude.{◌≡◌, ℕ, ◌+◌, List, [], ◌∷◌, ◌++◌, codes, length, take, Option, Err, refl}
 use Rattle.std.specs.Io.KnownBytes.{Appends}
 use Rattle.std.proofs.Common.{ap, sym, subst, ◌∙◌, arith, inl, inr, append_assoc, append-nil}
 use Rattle.std.proofs.KnownBytes.{Appends-trans}
@@ -7,11 +7,13 @@ use Rattle.std.proofs.lemmas.List.{length_push}
 use Rattle.flux_base.specs.Outside.{AppendsPart}
 use Rattle.flux_base.specs.lemmas.Parts.{AppendsPart-second}
 use Rattle.track_shelf.specs.Files.{File}
-use Rattle.flux_engine.specs.Answers.{AppendsAndPart}
+use Rattle.flux_base.specs.Blames.{CountsBy, no_counts, three_counts}
+use Rattle.flux_base.specs.Counts.{FaultCounts}
 use Rattle.flux_engine.specs.Disks.{images}
 use Rattle.flux_engine.specs.Tracks.{TrackPart}
 use Rattle.flux_engine.specs.lemmas.PartLaws.{images-more}
-use Rattle.dump_reading.specs.Outcomes.{DumpDisk, DumpsCause, HasTracksBy, IsToldEmpty, StopsBy, WroteFrontBy, WroteIntoImageBy, numbers_of}
+use Rattle.dump_reading.specs.Blamed.{dumps_blame}
+use Rattle.dump_reading.specs.Outcomes.{DumpDisk, HasTracksBy, StopsBy, WroteFrontBy, WroteIntoImageBy, numbers_of}
 use Rattle.dump_reading.specs.declared.fault.DumpsFault.{DumpsFault}
 use Rattle.dump_reading.specs.declared.fault.DumpsFault.TheVariants.{NoFiles, ShelfFault, ImageFault, NotesFault}
 use Rattle.dump_reading.specs.declared.totals.DumpTotals.{DumpTotals}
@@ -99,17 +101,10 @@ module _ (disk : DumpDisk) (told : Option (List File)) (picture : Option (List �
         }
 
     -- reading the tracks stopped; there are no notes that could have failed
-    pub drawn-stopped : (written notes notes' : Option (List ℕ)) (fault : DumpsFault) (s s' p p' : ℕ) → DumpsCause {A = DumpTotals} s s' p p' 0 0 (Err fault)
+    pub drawn-stopped : (written notes notes' : Option (List ℕ)) (fault : DumpsFault) (s s' p p' : FaultCounts)
+        → CountsBy (dumps_blame {A = DumpTotals} (Err fault)) (three_counts s p no_counts) (three_counts s' p' no_counts)
         → StopsBy dumps_part disk told top written notes notes' fault → SaysOfDrawing disk told picture written (Err fault)
-    drawn-stopped written notes notes' (NoFiles dump) s s' p p' cause stops = absurd stops
-    drawn-stopped written notes notes' ShelfFault s s' p p' cause stops = inr (drawn-first written notes notes' stops)
-    drawn-stopped written notes notes' ImageFault s s' p p' cause stops = cut-field written notes notes' stops
-    drawn-stopped written notes notes' NotesFault s s' p p' cause stops = omega (arith, cause)
-
--- a fault that rose later rose since before
-pub cause-since : (fault : DumpsFault) (s t s' p q p' : ℕ) → s ≤ t → p ≤ q → DumpsCause {A = DumpTotals} t s' q p' 0 0 (Err fault)
-    → DumpsCause {A = DumpTotals} s s' p p' 0 0 (Err fault)
-cause-since (NoFiles dump) s t s' p q p' shelf picture cause = tt
-cause-since ShelfFault s t s' p q p' shelf picture cause = omega (arith, shelf, cause)
-cause-since ImageFault s t s' p q p' shelf picture cause = omega (arith, picture, cause)
-cause-since NotesFault s t s' p q p' shelf picture cause = omega (arith, cause)
+    drawn-stopped written notes notes' (NoFiles dump) s s' p p' counts stops = absurd stops
+    drawn-stopped written notes notes' ShelfFault s s' p p' counts stops = inr (drawn-first written notes notes' stops)
+    drawn-stopped written notes notes' ImageFault s s' p p' counts stops = cut-field written notes notes' stops
+    drawn-stopped written notes notes' NotesFault s s' p p' counts stops = omega (arith, counts.notes.cause)

@@ -6,7 +6,7 @@ ghost use Rattle.flux_base.specs.Counts.{counts_of};
 ghost use Rattle.flux_base.specs.Moments.{Puts, moment};
 ghost use Rattle.flux_engine.specs.Room.{fresh};
 ghost use Rattle.dump_reading.specs.Blamed.{dumps_blame};
-ghost use Rattle.dump_reading.specs.Outcomes.{DumpsCause, disk_of};
+ghost use Rattle.dump_reading.specs.Outcomes.{disk_of};
 ghost use Rattle.disk_map.specs.Dumps.{SaysOfDrawing, dumps_foot};
 
 use crate::disk::write_top;
@@ -36,12 +36,9 @@ pub fn map_dumps<H: Shelf, P: Sink>(
     requires few { length dumps.now.names.now ≤ 16 }
     ensures says { SaysOfDrawing (disk_of dumps.now room.old.format) (H.files shelf.old) (P.written picture.old) (P.written picture.new) result }
     ensures files { H.files shelf.new ≡ H.files shelf.old }
-    ensures cause { DumpsCause (H.faults shelf.old) (H.faults shelf.new) (P.faults picture.old) (P.faults picture.new) 0 0 result }
     ensures blames { CountsBy (dumps_blame result)
         (three_counts (counts_of H.faults H.failed shelf.old) (counts_of P.faults P.failed picture.old) no_counts)
         (three_counts (counts_of H.faults H.failed shelf.new) (counts_of P.faults P.failed picture.new) no_counts) }
-    ensures shelf_later { H.faults shelf.old ≤ H.faults shelf.new }
-    ensures picture_later { P.faults picture.old ≤ P.faults picture.new }
 {
     let format = room_format(room);
     match find_empty(dumps, format, shelf) {

@@ -1,6 +1,6 @@
 -- What came of the candidates that were tried so far.
-use Rattle.std.proofs.Common.{◌≡◌, ◌<◌, ◌≤◌, ◌⊎◌, inl, inr, ℕ, Bool, true, false, List, [], ◌∷◌, ◌++◌, length, take, Option, None, Some, Ok, Err, arith, refl, sym, ap, subst, ◌∙◌, append-nil, append_assoc}
-use Rattle.std.specs.Prelude.{◌||◌, All, flat_map, map}
+use Rattle.std.proofs.Common.{◌≡◌, inl, ℕ, true, false, List, [], ◌∷◌, ◌++◌, take, Option, None, Some, Err, refl, sym, ap, subst, ◌∙◌, append-nil, append_assoc}
+use Rattle.std.specs.Prelude.{map}
 use Rattle.std.specs.Io.KnownBytes.{Appends, Keeps}
 use Rattle.std.specs.List.{list_any}
 use Rattle.std.specs.Option.{is_some}
@@ -11,15 +11,15 @@ use Rattle.std.proofs.lemmas.List.Concat.{flat_map-append}
 use Rattle.std.proofs.lemmas.List.Elements.{All-nil, All-push}
 use Rattle.flux_base.specs.Outside.{AppendsPart}
 use Rattle.track_shelf.specs.Files.{File}
+use Rattle.dump_reading.specs.declared.fault.DumpsFault.{DumpsFault}
+use Rattle.dump_reading.specs.declared.fault.DumpsFault.TheVariants.{NoFiles, ShelfFault, ImageFault, NotesFault}
 use Rattle.dump_reading.specs.declared.totals.DumpTotals.{DumpTotals}
 use Rattle.dump_identity.specs.Candidates.{candidates}
 use Rattle.dump_identity.specs.Findings.{AreFindings, ComesTo, best_of, has_files, tried_of}
-use Rattle.dump_identity.specs.Lines.{best_text, line_in, line_of, lines_of}
-use Rattle.dump_identity.specs.Outcomes.{AreAllFindings, AreFirstFindings, CutAtOne, FoundOne, HasNoFiles, HasTried, IdentityCause, SaysOfIdentity, WroteIdentity, WroteIntoBest, candidates_in}
+use Rattle.dump_identity.specs.Lines.{best_text, line_of, lines_of}
+use Rattle.dump_identity.specs.Outcomes.{CutAtOne, FoundOne, HasNoFiles, HasTried, SaysOfIdentity, WroteIdentity, WroteIntoBest, candidates_in}
 use Rattle.dump_identity.specs.Trials.{trial_of}
 use Rattle.dump_identity.specs.declared.candidate.Candidate.{Candidate}
-use Rattle.dump_identity.specs.declared.fault.IdentityFault.{IdentityFault}
-use Rattle.dump_identity.specs.declared.fault.IdentityFault.TheVariants.{NoFiles, ShelfFault, LinesFault}
 use Rattle.dump_identity.specs.declared.finding.Finding.{Finding}
 use Rattle.dump_identity.specs.declared.room.Trial.{Trial}
 use Rattle.dump_identity.specs.declared.tried.Tried.{Tried}
@@ -95,15 +95,16 @@ module _ (dump : List ℕ) (told : Option (List File)) (lines : Option (List ℕ
         ∙ ap tried_candidates same ∙ of-trials candidates
 
     -- a fault ended the next one
-    pub made-cut : (trial : Trial) (rest : List Trial) → trials ++ trial ∷ rest ≡ map trial_of candidates → (now : Option (List ℕ)) (fault : IdentityFault)
+    pub made-cut : (trial : Trial) (rest : List Trial) → trials ++ trial ∷ rest ≡ map trial_of candidates → (now : Option (List ℕ)) (fault : DumpsFault)
         → CutAtOne dump told mid now trial.candidate fault → SaysOfIdentity dump told lines now (Err fault)
-    made-cut trial rest same now NoFiles cut = absurd cut
+    made-cut trial rest same now (NoFiles number) cut = absurd cut
+    made-cut trial rest same now NotesFault cut = absurd cut
     made-cut trial rest same now ShelfFault cut = record {
       findings = made.findings;
       first = record { behind = tried_candidates (trial ∷ rest); first = behind (trial ∷ rest) same; are = made.are };
       grew = subst (λ (o : Option (List ℕ)). Appends lines o (lines_of made.findings)) (sym cut) made.grew;
     }
-    made-cut trial rest same now LinesFault cut = inl (record {
+    made-cut trial rest same now ImageFault cut = inl (record {
       findings = made.findings;
       next = cut.finding;
       first = record {
@@ -141,8 +142,9 @@ module _ (dump : List ℕ) (told : Option (List File)) (lines now : Option (List
   files-are = ap (λ (t : Tried). t.has_files) has.tried_is
 
   -- no candidate has a file
-  pub tried-none : tried.has_files ≡ false → HasNoFiles dump told × Keeps lines now
+  pub tried-none : tried.has_files ≡ false → (◌≡◌ {A = ℕ} 0 0) × HasNoFiles dump told × Keeps lines now
   tried-none none = (
+    refl,
     record { findings = has.findings; all = has.all; none = sym files-are ∙ none },
     kept-none lines now (subst (Appends lines now) (no-lines has.findings (sym files-are ∙ none)) has.grew),
   )
@@ -169,10 +171,3 @@ module _ (dump : List ℕ) (told : Option (List File)) (lines now : Option (List
         all = has.all;
         grew = (p.0, p.1, Appends-trans lines now after (lines_of has.findings) (take p.0 (best_text (best_of has.findings))) has.grew p.2);
       }
-
--- a fault that was counted since a moment was counted since every one before it
-pub cause-since : (A B : Type 0) (shelf mid_shelf shelf' lines mid_lines lines' : ℕ) (fault : IdentityFault) → shelf ≤ mid_shelf → lines ≤ mid_lines
-    → IdentityCause {A = A} mid_shelf shelf' mid_lines lines' (Err fault) → IdentityCause {A = B} shelf shelf' lines lines' (Err fault)
-cause-since A B shelf mid_shelf shelf' lines mid_lines lines' NoFiles shelf_later lines_later cause = cause
-cause-since A B shelf mid_shelf shelf' lines mid_lines lines' ShelfFault shelf_later lines_later cause = omega (arith, shelf_later, cause)
-cause-since A B shelf mid_shelf shelf' lines mid_lines lines' LinesFault shelf_later lines_later cause = omega (arith, lines_later, cause)

@@ -4,4 +4,3 @@ pub mod Findings
 pub mod Lines
 pub mod Outcomes
 pub mod Laws
-pub mod Blamed

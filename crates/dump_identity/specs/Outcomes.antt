@@ -1,17 +1,16 @@
 -- What saying which disk a dump is of may answer, and what that says of the dump and of the bytes that were written.
-use Rattle.std.specs.Prelude.{◌≡◌, ◌⊎◌, ℕ, Bool, true, false, List, [], ◌∷◌, ◌++◌, map, Option, Some, None, Result, Ok, Err}
+use Rattle.std.specs.Prelude.{◌≡◌, ◌⊎◌, ℕ, true, false, List, [], ◌∷◌, ◌++◌, map, Option, Result, Ok, Err}
 use Rattle.std.specs.Io.KnownBytes.{Appends, Keeps}
 use Rattle.std.specs.List.{list_any}
-use Rattle.flux_base.specs.Outside.{AppendsPart, Rose}
+use Rattle.flux_base.specs.Outside.{AppendsPart}
 use Rattle.track_shelf.specs.Files.{File}
 use Rattle.flux_engine.specs.Answers.{AppendsAndPart}
-use Rattle.dump_reading.specs.declared.totals.DumpTotals.{DumpTotals}
+use Rattle.dump_reading.specs.declared.fault.DumpsFault.{DumpsFault}
+use Rattle.dump_reading.specs.declared.fault.DumpsFault.TheVariants.{NoFiles, ShelfFault, ImageFault, NotesFault}
 use Rattle.dump_identity.specs.Candidates.{candidates}
 use Rattle.dump_identity.specs.Findings.{AreFindings, ComesTo, best_of, has_files, tried_of}
 use Rattle.dump_identity.specs.Lines.{best_text, line_of, lines_of}
 use Rattle.dump_identity.specs.declared.candidate.Candidate.{Candidate}
-use Rattle.dump_identity.specs.declared.fault.IdentityFault.{IdentityFault}
-use Rattle.dump_identity.specs.declared.fault.IdentityFault.TheVariants.{NoFiles, ShelfFault, LinesFault}
 use Rattle.dump_identity.specs.declared.finding.Finding.{Finding}
 use Rattle.dump_identity.specs.declared.tried.Tried.{Tried}
 
@@ -73,18 +72,13 @@ pub record WroteIntoBest (dump : List ℕ) (told : Option (List File)) (lines li
   pub all : AreAllFindings dump told findings
   pub grew : AppendsAndPart lines lines' (lines_of findings) (best_text (best_of findings))
 
--- What an answer says. A dump without files is told before anything is written.
-abbrev pub SaysOfIdentity : (dump : List ℕ) → (told : Option (List File)) → (lines lines' : Option (List ℕ)) → Result (Option Finding) IdentityFault → Type 0
+-- What an answer says. A dump without files is told before anything is written, as the first and only one. Nothing is written to notes.
+abbrev pub SaysOfIdentity : (dump : List ℕ) → (told : Option (List File)) → (lines lines' : Option (List ℕ)) → Result (Option Finding) DumpsFault → Type 0
 SaysOfIdentity dump told lines lines' (Ok best) = WroteIdentity dump told lines lines' best
-SaysOfIdentity dump told lines lines' (Err NoFiles) = HasNoFiles dump told × Keeps lines lines'
+SaysOfIdentity dump told lines lines' (Err (NoFiles number)) = (number ≡ 0) × HasNoFiles dump told × Keeps lines lines'
 SaysOfIdentity dump told lines lines' (Err ShelfFault) = WroteFirst dump told lines lines'
-SaysOfIdentity dump told lines lines' (Err LinesFault) = WroteIntoLine dump told lines lines' ⊎ WroteIntoBest dump told lines lines'
-
--- a fault of an object comes only where its count rose
-abbrev pub IdentityCause : {A : Type 0} → (shelf shelf' lines lines' : ℕ) → Result A IdentityFault → Type 0
-IdentityCause shelf shelf' lines lines' (Err ShelfFault) = Rose shelf shelf'
-IdentityCause shelf shelf' lines lines' (Err LinesFault) = Rose lines lines'
-IdentityCause shelf shelf' lines lines' _ = Unit {0}
+SaysOfIdentity dump told lines lines' (Err ImageFault) = WroteIntoLine dump told lines lines' ⊎ WroteIntoBest dump told lines lines'
+SaysOfIdentity dump told lines lines' (Err NotesFault) = ⊥
 
 -- all candidates were tried, and the lines of those that have a good sector were written
 pub record HasTried (dump : List ℕ) (told : Option (List File)) (lines lines' : Option (List ℕ)) (tried : Tried) : Type 0 where
@@ -107,7 +101,8 @@ pub record CutLine (dump : List ℕ) (told : Option (List File)) (lines lines' :
   pub grew : AppendsPart lines lines' (line_of finding)
 
 -- a fault ended the try of one
-abbrev pub CutAtOne : (dump : List ℕ) → (told : Option (List File)) → (lines lines' : Option (List ℕ)) → Candidate → IdentityFault → Type 0
-CutAtOne dump told lines lines' candidate NoFiles = ⊥
+abbrev pub CutAtOne : (dump : List ℕ) → (told : Option (List File)) → (lines lines' : Option (List ℕ)) → Candidate → DumpsFault → Type 0
+CutAtOne dump told lines lines' candidate (NoFiles _) = ⊥
 CutAtOne dump told lines lines' candidate ShelfFault = lines' ≡ lines
-CutAtOne dump told lines lines' candidate LinesFault = CutLine dump told lines lines' candidate
+CutAtOne dump told lines lines' candidate ImageFault = CutLine dump told lines lines' candidate
+CutAtOne dump told lines lines' candidate NotesFault = ⊥

@@ -1,18 +1,16 @@
 //! Which disk a dump is of.
 
-ghost use Rattle.std.specs.Prelude.{◌≡◌, ◌≤◌, is_err, OnErr, IfErr, IfOk};
+ghost use Rattle.std.specs.Prelude.{◌≡◌, is_err, IfErr, IfOk};
 ghost use Rattle.flux_base.specs.Blames.{CountsBy, no_counts, three_counts};
 ghost use Rattle.flux_base.specs.Counts.{Counts, counts_of};
 ghost use Rattle.flux_base.specs.Moments.{Puts, moment};
-ghost use Rattle.flux_base.specs.Outside.{Rose};
 ghost use Rattle.flux_engine.specs.Room.{empty_book, fresh};
-ghost use Rattle.dump_identity.specs.Blamed.{identity_blame};
+ghost use Rattle.dump_reading.specs.Blamed.{dumps_blame};
 ghost use Rattle.dump_identity.specs.Findings.{ComesTo};
 ghost use Rattle.dump_identity.specs.Lines.{line_of};
-ghost use Rattle.dump_identity.specs.Outcomes.{CutAtOne, FoundOne, HasTried, IdentityCause, SaysOfIdentity};
+ghost use Rattle.dump_identity.specs.Outcomes.{CutAtOne, FoundOne, HasTried, SaysOfIdentity};
 
 use crate::candidate::Candidate;
-use crate::fault::IdentityFault;
 use crate::finding::Finding;
 use crate::lines::{best_line, finding_line};
 use crate::room::{IdentityRoom, Trial};
@@ -31,32 +29,29 @@ use track_shelf::Shelf;
 /// for want of memory.
 ///
 /// A dump that has no file of any track is refused, and nothing is written. After a fault nothing more is read or written, and the
-/// lines before are written whole.
+/// lines before are written whole. `ImageFault` is that of the lines. No notes are written, so `NotesFault` does not come.
 pub fn identify<H: Shelf, W: Sink>(
     dump: &Word,
     room: IdentityRoom,
     shelf: &mut H,
     lines: &mut W,
-) -> Result<Option<Finding>, IdentityFault>
+) -> Result<Option<Finding>, DumpsFault>
     ensures says { SaysOfIdentity dump.now (H.files shelf.old) (W.written lines.old) (W.written lines.new) result }
     ensures files { H.files shelf.new ≡ H.files shelf.old }
-    ensures cause { IdentityCause (H.faults shelf.old) (H.faults shelf.new) (W.faults lines.old) (W.faults lines.new) result }
-    ensures blames { CountsBy (identity_blame result)
+    ensures blames { CountsBy (dumps_blame result)
         (three_counts (counts_of H.faults H.failed shelf.old) (counts_of W.faults W.failed lines.old) no_counts)
         (three_counts (counts_of H.faults H.failed shelf.new) (counts_of W.faults W.failed lines.new) no_counts) }
-    ensures shelf_later { H.faults shelf.old ≤ H.faults shelf.new }
-    ensures lines_later { W.faults lines.old ≤ W.faults lines.new }
 {
     let tried = match try_all(dump, room, shelf, lines) {
         Ok(tried) => tried,
         Err(fault) => return Err(fault),
     };
     if !tried.has_files {
-        return Err(IdentityFault::NoFiles);
+        return Err(DumpsFault::NoFiles { dump: 0 });
     }
     match write_line(lines, &best_line(&tried.best)) {
         Ok(()) => Ok(tried.best),
-        Err(Failed) => Err(IdentityFault::LinesFault),
+        Err(Failed) => Err(DumpsFault::ImageFault),
     }
 }
 
@@ -66,16 +61,13 @@ fn try_all<H: Shelf, W: Sink>(
     room: IdentityRoom,
     shelf: &mut H,
     lines: &mut W,
-) -> Result<Tried, IdentityFault>
+) -> Result<Tried, DumpsFault>
     ensures ok { IfOk result (HasTried dump.now (H.files shelf.old) (W.written lines.old) (W.written lines.new)) }
     ensures err { IfErr result (λ fault. SaysOfIdentity dump.now (H.files shelf.old) (W.written lines.old) (W.written lines.new) (Err fault)) }
     ensures files { H.files shelf.new ≡ H.files shelf.old }
-    ensures cause { IdentityCause (H.faults shelf.old) (H.faults shelf.new) (W.faults lines.old) (W.faults lines.new) result }
-    ensures blames { CountsBy (identity_blame result)
+    ensures blames { CountsBy (dumps_blame result)
         (three_counts (counts_of H.faults H.failed shelf.old) (counts_of W.faults W.failed lines.old) no_counts)
         (three_counts (counts_of H.faults H.failed shelf.new) (counts_of W.faults W.failed lines.new) no_counts) }
-    ensures shelf_later { H.faults shelf.old ≤ H.faults shelf.new }
-    ensures lines_later { W.faults lines.old ≤ W.faults lines.new }
 {
     let mut disk = room.disk;
     let mut tried = Tried::none();
@@ -95,27 +87,24 @@ fn try_one<H: Shelf, W: Sink>(
     disk: &mut DiskRoom,
     shelf: &mut H,
     lines: &mut W,
-) -> Result<Finding, IdentityFault>
+) -> Result<Finding, DumpsFault>
     requires { trial.book ≡ empty_book trial.candidate.format }
     ensures ok { IfOk result (FoundOne dump.now (H.files shelf.old) (W.written lines.old) (W.written lines.new) trial.candidate) }
     ensures err { IfErr result (CutAtOne dump.now (H.files shelf.old) (W.written lines.old) (W.written lines.new) trial.candidate) }
     ensures files { H.files shelf.new ≡ H.files shelf.old }
-    ensures cause { IdentityCause (H.faults shelf.old) (H.faults shelf.new) (W.faults lines.old) (W.faults lines.new) result }
-    ensures blames { CountsBy (identity_blame result)
+    ensures blames { CountsBy (dumps_blame result)
         (three_counts (counts_of H.faults H.failed shelf.old) (counts_of W.faults W.failed lines.old) no_counts)
         (three_counts (counts_of H.faults H.failed shelf.new) (counts_of W.faults W.failed lines.new) no_counts) }
-    ensures shelf_later { H.faults shelf.old ≤ H.faults shelf.new }
-    ensures lines_later { W.faults lines.old ≤ W.faults lines.new }
 {
     let candidate = trial.candidate;
     disk.begin_format(candidate.format, trial.book);
     let finding = match read_as(candidate, dump, disk, shelf) {
         Ok(totals) => Finding { candidate, totals },
-        Err(Failed) => return Err(IdentityFault::ShelfFault),
+        Err(Failed) => return Err(DumpsFault::ShelfFault),
     };
     match write_finding(&finding, lines) {
         Ok(()) => Ok(finding),
-        Err(Failed) => Err(IdentityFault::LinesFault),
+        Err(Failed) => Err(DumpsFault::ImageFault),
     }
 }
 
@@ -130,9 +119,7 @@ fn read_as<H: Shelf>(
     requires { disk.old ≡ fresh candidate.format }
     ensures ok { IfOk result (ComesTo dump.now (H.files shelf.old) candidate) }
     ensures files { H.files shelf.new ≡ H.files shelf.old }
-    ensures cause { OnErr result (Rose (H.faults shelf.old) (H.faults shelf.new)) }
     ensures counts { Counts (is_err result) (counts_of H.faults H.failed shelf.old) (counts_of H.faults H.failed shelf.new) }
-    ensures later { H.faults shelf.old ≤ H.faults shelf.new }
 {
     let dumps = Dumps {
         names: from_ref(dump),

@@ -2,7 +2,6 @@
 #![tactic(auto)]
 
 mod candidate;
-mod fault;
 mod finding;
 mod identifying;
 mod laws;
@@ -11,7 +10,6 @@ mod room;
 mod tried;
 
 pub use candidate::Candidate;
-pub use fault::IdentityFault;
 pub use finding::Finding;
 pub use identifying::identify;
 pub use laws::{complete_is_read_whole, identities_are_one};

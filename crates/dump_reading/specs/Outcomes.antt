@@ -3,7 +3,6 @@ use Rattle.std.specs.Prelude.{◌≡◌, ◌<◌, ◌≤◌, ◌⊎◌, ℕ, ◌
 use Rattle.std.specs.Io.KnownBytes.{Appends}
 use Rattle.std.specs.List.{list_any}
 use Rattle.std.specs.Option.{is_some}
-use Rattle.flux_base.specs.Outside.{Rose}
 use Rattle.flux_base.specs.declared.track.TrackId.{TrackId}
 use Rattle.sector_images.specs.Places.{tracks}
 use Rattle.sector_images.specs.declared.format.Format.{Format}
@@ -195,10 +194,3 @@ SaysOfDumps disk told image image' notes notes' (Err ShelfFault) = WroteFront di
 SaysOfDumps disk told image image' notes notes' (Err ImageFault) = WroteIntoImage disk told image image' notes notes'
 SaysOfDumps disk told image image' notes notes' (Err NotesFault) =
     WroteIntoLines disk told image image' notes notes' ⊎ WroteIntoEnd disk told image image' notes notes'
-
--- a fault of an object comes only where its count rose
-abbrev pub DumpsCause : {A : Type 0} → (shelf shelf' image image' notes notes' : ℕ) → Result A DumpsFault → Type 0
-DumpsCause shelf shelf' image image' notes notes' (Err ShelfFault) = Rose shelf shelf'
-DumpsCause shelf shelf' image image' notes notes' (Err ImageFault) = Rose image image'
-DumpsCause shelf shelf' image image' notes notes' (Err NotesFault) = Rose notes notes'
-DumpsCause shelf shelf' image image' notes notes' _ = Unit {0}

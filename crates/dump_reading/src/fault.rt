@@ -5,7 +5,7 @@ pub enum DumpsFault {
     NoFiles { dump: u8 },
     /// The shelf failed, or one of its files.
     ShelfFault,
-    /// The sink of the image failed.
+    /// The sink of the image failed, or of what is shown in its place: a picture, a sector's contents, or which disk it is.
     ImageFault,
     /// The sink of the notes failed.
     NotesFault,

@@ -6,7 +6,7 @@ ghost use Rattle.flux_base.specs.Counts.{counts_of};
 ghost use Rattle.flux_base.specs.Moments.{Puts, moment};
 ghost use Rattle.flux_engine.specs.Room.{fresh};
 ghost use Rattle.dump_reading.specs.Blamed.{dumps_blame};
-ghost use Rattle.dump_reading.specs.Outcomes.{DumpsCause, HasTracksBy, SaysOfDumps, StopsBy, disk_by, disk_of};
+ghost use Rattle.dump_reading.specs.Outcomes.{HasTracksBy, SaysOfDumps, StopsBy, disk_by, disk_of};
 ghost use Rattle.dump_reading.specs.Reports.{end_text};
 
 use crate::dumps::Dumps;
@@ -39,13 +39,9 @@ pub fn read_dumps<H: Shelf, W: Sink, N: Sink>(
     requires few { length dumps.now.names.now ≤ 16 }
     ensures says { SaysOfDumps (disk_of dumps.now room.old.format) (H.files shelf.old) (W.written image.old) (W.written image.new) (N.written notes.old) (N.written notes.new) result }
     ensures files { H.files shelf.new ≡ H.files shelf.old }
-    ensures cause { DumpsCause (H.faults shelf.old) (H.faults shelf.new) (W.faults image.old) (W.faults image.new) (N.faults notes.old) (N.faults notes.new) result }
     ensures blames { CountsBy (dumps_blame result)
         (three_counts (counts_of H.faults H.failed shelf.old) (counts_of W.faults W.failed image.old) (counts_of N.faults N.failed notes.old))
         (three_counts (counts_of H.faults H.failed shelf.new) (counts_of W.faults W.failed image.new) (counts_of N.faults N.failed notes.new)) }
-    ensures shelf_later { H.faults shelf.old ≤ H.faults shelf.new }
-    ensures image_later { W.faults image.old ≤ W.faults image.new }
-    ensures notes_later { N.faults notes.old ≤ N.faults notes.new }
 {
     read_dumps_by(Clocks::Both, dumps, room, shelf, image, notes)
 }
@@ -63,13 +59,9 @@ pub fn read_dumps_by<H: Shelf, W: Sink, N: Sink>(
     requires few { length dumps.now.names.now ≤ 16 }
     ensures says { SaysOfDumps (disk_by clocks dumps.now room.old.format) (H.files shelf.old) (W.written image.old) (W.written image.new) (N.written notes.old) (N.written notes.new) result }
     ensures files { H.files shelf.new ≡ H.files shelf.old }
-    ensures cause { DumpsCause (H.faults shelf.old) (H.faults shelf.new) (W.faults image.old) (W.faults image.new) (N.faults notes.old) (N.faults notes.new) result }
     ensures blames { CountsBy (dumps_blame result)
         (three_counts (counts_of H.faults H.failed shelf.old) (counts_of W.faults W.failed image.old) (counts_of N.faults N.failed notes.old))
         (three_counts (counts_of H.faults H.failed shelf.new) (counts_of W.faults W.failed image.new) (counts_of N.faults N.failed notes.new)) }
-    ensures shelf_later { H.faults shelf.old ≤ H.faults shelf.new }
-    ensures image_later { W.faults image.old ≤ W.faults image.new }
-    ensures notes_later { N.faults notes.old ≤ N.faults notes.new }
 {
     match find_empty(dumps, room_format(room), shelf) {
         Ok(None) => {}
@@ -102,13 +94,9 @@ pub fn read_dump_tracks<O: TrackWriter, H: Shelf, W: Sink, N: Sink>(
     ensures ok { IfOk result (HasTracksBy (O.part_of writer.now) (disk_by clocks dumps.now room.old.format) (H.files shelf.old) (W.written image.old) (W.written image.new) (N.written notes.old) (N.written notes.new)) }
     ensures err { IfErr result (StopsBy (O.part_of writer.now) (disk_by clocks dumps.now room.old.format) (H.files shelf.old) (W.written image.old) (W.written image.new) (N.written notes.old) (N.written notes.new)) }
     ensures files { H.files shelf.new ≡ H.files shelf.old }
-    ensures cause { DumpsCause (H.faults shelf.old) (H.faults shelf.new) (W.faults image.old) (W.faults image.new) (N.faults notes.old) (N.faults notes.new) result }
     ensures blames { CountsBy (dumps_blame result)
         (three_counts (counts_of H.faults H.failed shelf.old) (counts_of W.faults W.failed image.old) (counts_of N.faults N.failed notes.old))
         (three_counts (counts_of H.faults H.failed shelf.new) (counts_of W.faults W.failed image.new) (counts_of N.faults N.failed notes.new)) }
-    ensures shelf_later { H.faults shelf.old ≤ H.faults shelf.new }
-    ensures image_later { W.faults image.old ≤ W.faults image.new }
-    ensures notes_later { N.faults notes.old ≤ N.faults notes.new }
 {
     let plan = Plan {
         captures: dumps.names.len() as u8,

@@ -17,13 +17,13 @@ use Rattle.flux_cli.specs.Captured.{DecodesFolder, FolderCaptured, FolderErased,
 use Rattle.flux_cli.specs.Headlines.{Gave, GaveOrCut, IsExpected, IsOfDecoded, WasRead}
 use Rattle.flux_cli.specs.Runs.{Outside, Says, growth}
 use Rattle.flux_cli.specs.FolderRuns.{Began, DidBy, DoesFolder, OnShelf, ShelfMoment, as_source, over_shelf}
-use Rattle.flux_cli.specs.ShelfRuns.{Ran, RanBy, Surroundings, on_shelf}
-use Rattle.flux_words.specs.FolderWords.{AreFolderWords, NamesFolder}
+use Rattle.flux_cli.specs.ShelfRuns.{AskOfShelf, OfShelf, a_folder, a_sector, an_identity, some_dumps, Ran, RanBy, Surroundings, on_shelf}
+use Rattle.flux_words.specs.FolderWords.{AreFolderWords}
 use Rattle.flux_cli.specs.Work.{Got}
 use Rattle.flux_words.specs.declared.command.Command.TheVariants.{Decode}
 use Rattle.flux_words.specs.declared.command.Output.TheVariants.{ImageAndReport}
 use Rattle.flux_cli.proofs.Headlines.{Laws, expected, gave_or_cut, runs_as_expected}
-use Rattle.flux_cli.proofs.Outcomes.{format_word, one_format}
+use Rattle.flux_cli.proofs.Outcomes.{folder_no_dumps, folder_no_identity, folder_no_show, format_word, one_format}
 
 -- what follows from a run that is done
 with_done : {S W N : Type 0} (before after : Outside S W N) (Done Done' : Status → Type 0) → ((s : Status) → Done s → Done' s)
@@ -98,16 +98,18 @@ module _ (laws : Laws) {S W N H : Type 0} (words : List (List ℕ)) (status : St
   -- what was done for `decode-folder`
   folder_did : (format : Format) (folder : List ℕ) → AreFolderWords format folder words → folder ≢ []
       → DoesFolder format folder status (on_shelf before) (on_shelf after)
-  folder_did format folder are some = by ran.folder ran.names ran.did
+  folder_did format folder are some = by ran.asked ran.asks ran.did
     where
-      by : (named : Option (Format × List ℕ)) → NamesFolder words named → RanBy named ran.dumps ran.identity ran.sector words status before after
-          → DoesFolder format folder status (on_shelf before) (on_shelf after)
-      by None none did = absurd (none format folder some are)
-      by (Some named) named_is did =
-          let same = sym named_is.0.is ∙ are.is in
+      by : (of : Option OfShelf) → AskOfShelf words of → RanBy of words status before after → DoesFolder format folder status (on_shelf before) (on_shelf after)
+      by None none did = absurd (none.0 format folder some are)
+      by (Some (a_folder other name)) names did =
+          let same = sym names.0.is ∙ are.is in
           subst (λ (f : Format). DoesFolder f folder status (on_shelf before) (on_shelf after))
-          (one_format laws.names named_is.0.word are.word named.0 format (ap format_word same) named_is.0.named are.named)
-          (subst (λ (n : List ℕ). DoesFolder named.0 n status (on_shelf before) (on_shelf after)) (ap third_word same) did.0)
+          (one_format laws.names names.0.word are.word other format (ap format_word same) names.0.named are.named)
+          (subst (λ (n : List ℕ). DoesFolder other n status (on_shelf before) (on_shelf after)) (ap third_word same) did.0)
+      by (Some (some_dumps asked)) names did = absurd (folder_no_dumps words format folder are asked names.1 names.0)
+      by (Some (an_identity dump)) names did = absurd (folder_no_identity words format folder are dump names.1 names.0)
+      by (Some (a_sector asked)) names did = absurd (folder_no_show words format folder are asked names.0 names.1 names.2.0 names.2.1)
 
   pub runs_captured : RunsCaptured words status before.outside after.outside
   runs_captured format image x decodes is disk =

@@ -1,22 +1,13 @@
 -- What a command did, by what its work answered and how that ended.
-use Rattle.std.proofs.Common.{◌≡◌, ◌==◌, ◌≤◌, ℕ, false, List, [], Option, Some, None, Result, Ok, Err, inl, inr, refl, arith}
+use Rattle.std.proofs.Common.{◌≡◌, ◌==◌, ◌≤◌, ℕ, false, List, [], Option, Some, None, Result, Ok, Err, refl, arith}
 use Rattle.std.proofs.KnownBytes.{Appends-nil, Consumes-nil, Keeps-refl}
 use Rattle.std.specs.List.{slice_get}
 use Rattle.disk_map.specs.Answers.{MapCause, MapsDisk}
-use Rattle.disk_map.specs.Dumps.{SaysOfDrawing}
-use Rattle.dump_identity.specs.Outcomes.{IdentityCause, SaysOfIdentity}
-use Rattle.dump_identity.specs.declared.fault.IdentityFault.{IdentityFault}
-use Rattle.dump_identity.specs.declared.fault.IdentityFault.TheVariants.{NoFiles as NoFilesOfDump, ShelfFault as DumpUnread, LinesFault}
-use Rattle.dump_identity.specs.declared.finding.Finding.{Finding}
-use Rattle.dump_reading.specs.Outcomes.{DumpDisk, DumpsCause, SaysOfDumps}
-use Rattle.dump_reading.specs.declared.fault.DumpsFault.{DumpsFault}
-use Rattle.dump_reading.specs.declared.fault.DumpsFault.TheVariants.{NoFiles, ShelfFault as DumpsUnread, ImageFault as DumpsUnwritten, NotesFault as DumpsUntold}
-use Rattle.dump_reading.specs.declared.totals.DumpTotals.{DumpTotals}
 use Rattle.flux_base.specs.Moments.{Moment, Puts}
 use Rattle.flux_base.specs.declared.track.TrackId.{TrackId}
 use Rattle.flux_base.specs.declared.outside.Failed.{Failed}
 use Rattle.flux_base.specs.declared.status.Status.{Status}
-use Rattle.flux_base.specs.declared.status.Status.TheVariants.{AllGood, ReadFault, ImageFault, NotesFault, ShelfFault}
+use Rattle.flux_base.specs.declared.status.Status.TheVariants.{AllGood, ReadFault, ImageFault, NotesFault}
 use Rattle.flux_engine.specs.Answers.{Answer as DiskAnswer}
 use Rattle.flux_engine.specs.PlanAnswers.{DecodesPlanned, PlanAnswer, PlanCause}
 use Rattle.flux_engine.specs.Tracks.{part_by}
@@ -38,42 +29,36 @@ use Rattle.kryo_stream.specs.declared.fault.StreamFault.{StreamFault}
 use Rattle.kryo_stream.specs.declared.fault.TrackFault.TheVariants.{Refused as StreamRefused}
 use Rattle.sector_images.specs.Places.{tracks}
 use Rattle.sector_images.specs.declared.format.Format.{Format}
-use Rattle.sector_report.specs.DumpLines.{no_files_text}
 use Rattle.sector_report.specs.Lines.{image_text, refused_text}
 use Rattle.sector_report.specs.declared.naming.Naming.TheVariants.{Unnamed}
 use Rattle.track_shelf.specs.Names.{missing_text}
 use Rattle.flux_cli.proofs.DisksRun.{does-cut-refusal, does-decode, does-image-fault, does-notes-fault, does-read-fault, does-refuse}
 use Rattle.flux_cli.proofs.EndingLaws.{ends-refused, ends-with}
 use Rattle.flux_cli.proofs.G64Run.{file-cut-image, file-cut-notes, file-cut-read, file-cut-refusal, file-does, file-finish, file-refuse}
-use Rattle.flux_cli.proofs.IdentityRun.{identity-done, identity-refused}
 use Rattle.flux_cli.proofs.ImagesRun.{image-cut-image, image-cut-notes, image-cut-read, image-finish, image-refuse}
 use Rattle.flux_cli.proofs.MapRun.{map-cut-refusal, map-done, map-image-fault, map-refused, map-unread}
 use Rattle.flux_cli.proofs.PagesRun.{page-cut, page-finish}
 use Rattle.flux_cli.proofs.PlanRun.{planned-cut-refusal, planned-done, planned-image-fault, planned-notes-fault, planned-refused, planned-unread}
-use Rattle.flux_cli.proofs.ReadRun.{draw-done, read-cut-empty, read-done, read-empty}
 use Rattle.flux_cli.proofs.TrialRun.{trial-cut, trial-finish}
 use Rattle.flux_cli.proofs.TurnsRun.{turns-cut-notes, turns-refuse}
 use Rattle.flux_words.specs.Commands.{command_for}
 use Rattle.flux_cli.specs.DisksRuns.{DecodesTo}
 use Rattle.flux_cli.specs.DisksWork.{status_of}
-use Rattle.flux_cli.specs.Endings.{EndsBy, disk_ending, dumps_ending, file_ending, identity_ending, image_ending, plan_ending, refuses, written_status}
-use Rattle.flux_cli.specs.FolderRuns.{OnShelf, RefusesMissing, ShelfMoment, on}
+use Rattle.flux_cli.specs.Endings.{EndsBy, disk_ending, file_ending, image_ending, plan_ending, refuses, written_status}
+use Rattle.flux_cli.specs.FolderRuns.{RefusesMissing, ShelfMoment, on}
 use Rattle.flux_words.specs.G64Disks.{format_of}
 use Rattle.flux_cli.specs.G64Work.{from_g64_work}
-use Rattle.flux_cli.specs.IdentityRuns.{DidIdentify, identity_status}
 use Rattle.flux_cli.specs.ImagesWork.{image_work}
 use Rattle.flux_cli.specs.MapWork.{map_work}
 use Rattle.flux_cli.specs.PagesWork.{page_work}
 use Rattle.flux_cli.specs.PlanRuns.{IsByPlan}
 use Rattle.flux_cli.specs.PlanWork.{planned_work, stop_text}
-use Rattle.flux_cli.specs.ReadRuns.{DidRead, NoneFell, read_status}
 use Rattle.flux_cli.specs.Runs.{Does, DoesBy, NoCountFell, Outside, WasReadWhereNeeded, outside}
 use Rattle.flux_words.specs.declared.command.Command.{Command}
 use Rattle.flux_cli.specs.TrialWork.{trial_work}
 use Rattle.flux_cli.specs.TurnsWork.{turns_work}
 use Rattle.flux_words.specs.declared.command.Command.TheVariants.{FromG64, Map, Tell, Trial, Turns}
 use Rattle.flux_words.specs.declared.command.Output.{Output}
-use Rattle.flux_words.specs.declared.dump_words.Shown.TheVariants.{Image, Picture}
 use Rattle.flux_words.specs.declared.g64_disk.G64Disk.{G64Disk}
 
 -- a stream that was refused; nothing was written of it
@@ -290,91 +275,3 @@ missing-refused {N = N} shelf image mid after status format number track at is =
     ends-refused (λ (s : Status) (n : Moment N). RefusesMissing format number s (on shelf image mid) (on shelf image n)) (missing_text number track) status mid after
     (λ line later. record { track = track; is = at; says = line; untouched = refl; later = later })
     (λ part later rose. record { track = track; is = at; says = (part, rose); untouched = refl; later = later }) is
-
--- over the shelf
-module _ {H W N : Type 0} (before : OnShelf H W N) (shelf : ShelfMoment H) (image : Moment W) (status : Status) where
-  none-fell : (notes : Moment N) → before.shelf.source.counts.faults ≤ shelf.source.counts.faults → before.image.counts.faults ≤ image.counts.faults
-      → before.notes.counts.faults ≤ notes.counts.faults → NoneFell before (on shelf image notes)
-  none-fell notes shelf_later image_later later = record { shelf = shelf_later; image = image_later; notes = later }
-
-  -- dumps that were read
-  module _ (disk : DumpDisk) (mid after : Moment N) (shelf_later : before.shelf.source.counts.faults ≤ shelf.source.counts.faults)
-      (image_later : before.image.counts.faults ≤ image.counts.faults) (notes_later : before.notes.counts.faults ≤ mid.counts.faults) where
-    abbrev Read : Status → Moment N → Type 0
-    Read s n = DidRead Image disk s before (on shelf image n)
-
-    pub read-ended : (answer : Result DumpTotals DumpsFault)
-        → SaysOfDumps disk before.shelf.files before.image.bytes image.bytes before.notes.bytes mid.bytes answer
-        → DumpsCause before.shelf.source.counts.faults shelf.source.counts.faults before.image.counts.faults image.counts.faults before.notes.counts.faults mid.counts.faults answer
-        → EndsBy (dumps_ending answer) status mid after → DidRead Image disk status before (on shelf image after)
-    read-ended (Ok totals) d cause is = ends-with Read (read_status totals) status mid after (record {
-      says = read-done disk before (on shelf image mid) totals d.0 d.1;
-      counts = none-fell mid shelf_later image_later notes_later;
-    }) is
-    read-ended (Err DumpsUnread) d cause is =
-        ends-with Read ShelfFault status mid after (record { says = (d, cause); counts = none-fell mid shelf_later image_later notes_later }) is
-    read-ended (Err DumpsUnwritten) d cause is =
-        ends-with Read ImageFault status mid after (record { says = (d, cause); counts = none-fell mid shelf_later image_later notes_later }) is
-    read-ended (Err DumpsUntold) d cause is =
-        ends-with Read NotesFault status mid after (record { says = (inl d, cause); counts = none-fell mid shelf_later image_later notes_later }) is
-    read-ended (Err (NoFiles dump)) d cause is = ends-refused Read (no_files_text dump) status mid after
-        (λ line later. record {
-          says = read-empty Image disk before (on shelf image after) dump d.0 d.1 d.2 mid.bytes d.3 line;
-          counts = none-fell after shelf_later image_later (omega (arith, notes_later, later));
-        })
-        (λ part later rose. record {
-          says = (inr (read-cut-empty Image disk before (on shelf image after) dump d.0 d.1 d.2 mid.bytes d.3 part), omega (arith, notes_later, rose));
-          counts = none-fell after shelf_later image_later (omega (arith, notes_later, later));
-        }) is
-
-  -- the work did not touch the notes
-  module _ (after : Moment N) (shelf_later : before.shelf.source.counts.faults ≤ shelf.source.counts.faults) (image_later : before.image.counts.faults ≤ image.counts.faults) where
-    -- dumps that were drawn
-    module _ (disk : DumpDisk) where
-      abbrev Drew : Status → Moment N → Type 0
-      Drew s n = DidRead Picture disk s before (on shelf image n)
-
-      pub draw-ended : (answer : Result DumpTotals DumpsFault) → SaysOfDrawing disk before.shelf.files before.image.bytes image.bytes answer
-          → DumpsCause before.shelf.source.counts.faults shelf.source.counts.faults before.image.counts.faults image.counts.faults 0 0 answer
-          → EndsBy (dumps_ending answer) status before.notes after → DidRead Picture disk status before (on shelf image after)
-      draw-ended (Ok totals) d cause is = ends-with Drew (read_status totals) status before.notes after (record {
-        says = draw-done disk before (on shelf image before.notes) totals d.0 d.1 refl;
-        counts = none-fell before.notes shelf_later image_later (omega arith);
-      }) is
-      draw-ended (Err DumpsUnread) d cause is = ends-with Drew ShelfFault status before.notes after
-          (record { says = ((d, Keeps-refl before.notes.bytes), cause); counts = none-fell before.notes shelf_later image_later (omega arith) }) is
-      draw-ended (Err DumpsUnwritten) d cause is = ends-with Drew ImageFault status before.notes after
-          (record { says = ((d, Keeps-refl before.notes.bytes), cause); counts = none-fell before.notes shelf_later image_later (omega arith) }) is
-      draw-ended (Err DumpsUntold) d cause is = absurd d
-      draw-ended (Err (NoFiles dump)) d cause is = ends-refused Drew (no_files_text dump) status before.notes after
-          (λ line later. record {
-            says = read-empty Picture disk before (on shelf image after) dump d.0 d.1 d.2 before.notes.bytes refl line;
-            counts = none-fell after shelf_later image_later later;
-          })
-          (λ part later rose. record {
-            says = (read-cut-empty Picture disk before (on shelf image after) dump d.0 d.1 d.2 before.notes.bytes refl part, rose);
-            counts = none-fell after shelf_later image_later later;
-          }) is
-
-    -- a dump of which was said which disk it is of
-    module _ (dump : List ℕ) where
-      abbrev Identified : Status → Moment N → Type 0
-      Identified s n = DidIdentify dump s before (on shelf image n)
-
-      pub identity-ended : (answer : Result (Option Finding) IdentityFault) → SaysOfIdentity dump before.shelf.files before.image.bytes image.bytes answer
-          → IdentityCause before.shelf.source.counts.faults shelf.source.counts.faults before.image.counts.faults image.counts.faults answer
-          → EndsBy (identity_ending answer) status before.notes after → DidIdentify dump status before (on shelf image after)
-      identity-ended (Ok best) d cause is = ends-with Identified (identity_status best) status before.notes after (record {
-        says = identity-done dump before (on shelf image before.notes) best d (Appends-nil before.notes.bytes);
-        counts = none-fell before.notes shelf_later image_later (omega arith);
-      }) is
-      identity-ended (Err DumpUnread) d cause is = ends-with Identified ShelfFault status before.notes after
-          (record { says = ((d, Keeps-refl before.notes.bytes), cause); counts = none-fell before.notes shelf_later image_later (omega arith) }) is
-      identity-ended (Err LinesFault) d cause is = ends-with Identified ImageFault status before.notes after
-          (record { says = ((d, Keeps-refl before.notes.bytes), cause); counts = none-fell before.notes shelf_later image_later (omega arith) }) is
-      identity-ended (Err NoFilesOfDump) d cause is = ends-refused Identified (no_files_text 0) status before.notes after
-          (λ line later. record {
-            says = identity-refused dump before (on shelf image after) d.0 d.1 line;
-            counts = none-fell after shelf_later image_later later;
-          })
-          (λ part later rose. record { says = ((d.0, d.1, part), rose); counts = none-fell after shelf_later image_later later }) is

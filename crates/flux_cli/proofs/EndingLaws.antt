@@ -1,15 +1,8 @@
 -- What ends a command, and whom the status that it ends with blames.
-use Rattle.std.proofs.Common.{◌≡◌, ◌==◌, ◌≤◌, ℕ, Bool, true, false, if◌then◌else◌, List, Option, Some, None, Result, Ok, Err, is_err, sym, subst}
-use Rattle.dump_identity.specs.Blamed.{identity_blame}
-use Rattle.dump_identity.specs.Findings.{is_complete as is_complete_disk}
-use Rattle.dump_identity.specs.declared.fault.IdentityFault.{IdentityFault}
-use Rattle.dump_identity.specs.declared.fault.IdentityFault.TheVariants.{NoFiles as NoFilesOfDump, ShelfFault as DumpUnread, LinesFault}
-use Rattle.dump_identity.specs.declared.finding.Finding.{Finding}
+use Rattle.std.proofs.Common.{◌≡◌, ◌==◌, ◌≤◌, ℕ, Bool, true, false, if◌then◌else◌, List, Result, Ok, Err, is_err, sym, subst}
 use Rattle.dump_reading.specs.Blamed.{dumps_blame}
-use Rattle.dump_reading.specs.Totals.{is_complete}
 use Rattle.dump_reading.specs.declared.fault.DumpsFault.{DumpsFault}
 use Rattle.dump_reading.specs.declared.fault.DumpsFault.TheVariants.{NoFiles, ShelfFault as DumpsUnread, ImageFault as DumpsUnwritten, NotesFault as DumpsUntold}
-use Rattle.dump_reading.specs.declared.totals.DumpTotals.{DumpTotals}
 use Rattle.flux_base.specs.Blames.{Blame, CountsBy, OutsideCounts, no_one, the_notes, three_counts}
 use Rattle.flux_base.specs.Counts.{Counts, FaultCounts}
 use Rattle.flux_base.specs.Moments.{Moment}
@@ -29,10 +22,9 @@ use Rattle.g64_image.specs.Answers.{FromAnswer}
 use Rattle.g64_image.specs.Blamed.{from_blame}
 use Rattle.g64_image.specs.declared.fault.FromStop.TheVariants.{Refused as FileRefused, ReadFault as FileUnread, ImageFault as FileUnwritten, NotesFault as FileUntold}
 use Rattle.sector_report.specs.declared.naming.Naming.{Naming}
-use Rattle.flux_cli.proofs.Blaming.{good_blames, good_blames_of_shelf}
-use Rattle.flux_cli.proofs.IdentityRun.{identity-blames}
+use Rattle.flux_cli.proofs.Blaming.{good_blames}
 use Rattle.flux_cli.specs.Blamed.{shelf_blame, source_blame}
-use Rattle.flux_cli.specs.Endings.{Ending, EndsBy, disk_ending, dumps_ending, ending_blame, ends, file_ending, identity_ending, image_ending, plan_ending, refuses, written_status}
+use Rattle.flux_cli.specs.Endings.{Ending, EndsBy, disk_ending, ending_blame, ends, file_ending, image_ending, plan_ending, refuses, shelf_ending, written_status}
 use Rattle.flux_cli.specs.Runs.{growth}
 use Rattle.flux_cli.specs.Work.{Got, GotPart}
 
@@ -78,6 +70,29 @@ module _ (blame : Status → Blame) (quiet : blame Refused ≡ no_one) (told : b
   ends-blame (refuses text) Memory before after counts never = absurd never
   ends-blame (refuses text) ShelfFault before after counts never = absurd never
 
+-- what work ends with that is done, or whose input is refused
+abbrev pub IsEnd : Status → Type 0
+IsEnd AllGood = Unit {0}
+IsEnd NotAllGood = Unit {0}
+IsEnd Refused = Unit {0}
+IsEnd _ = ⊥
+
+pub either-ends : (b : Bool) → IsEnd (if b then AllGood else NotAllGood)
+either-ends true = tt
+either-ends false = tt
+
+-- it blames no one
+end-blames : {before after : OutsideCounts} (status : Status) → IsEnd status → CountsBy no_one before after → CountsBy (shelf_blame status) before after
+end-blames AllGood end counts = counts
+end-blames NotAllGood end counts = counts
+end-blames Refused end counts = counts
+end-blames Usage end counts = absurd end
+end-blames ReadFault end counts = absurd end
+end-blames ImageFault end counts = absurd end
+end-blames NotesFault end counts = absurd end
+end-blames Memory end counts = absurd end
+end-blames ShelfFault end counts = absurd end
+
 -- whom an answer blames, its ending does
 module _ {before after : OutsideCounts} where
   pub disk-blame : (answer : DiskAnswer) → CountsBy (engine_blame answer) before after → CountsBy (ending_blame source_blame (disk_ending answer)) before after
@@ -107,19 +122,13 @@ module _ {before after : OutsideCounts} where
   file-blame (Err FileUntold) counts = counts
   file-blame (Err (FileRefused fault)) counts = counts
 
-  pub dumps-blame : (answer : Result DumpTotals DumpsFault) → CountsBy (dumps_blame answer) before after → CountsBy (ending_blame shelf_blame (dumps_ending answer)) before after
-  dumps-blame (Ok totals) counts = good_blames_of_shelf (is_complete totals) counts
-  dumps-blame (Err (NoFiles dump)) counts = counts
-  dumps-blame (Err DumpsUnread) counts = counts
-  dumps-blame (Err DumpsUnwritten) counts = counts
-  dumps-blame (Err DumpsUntold) counts = counts
-
-  pub dump-blame : (answer : Result (Option Finding) IdentityFault) → CountsBy (identity_blame answer) before after
-      → CountsBy (ending_blame shelf_blame (identity_ending answer)) before after
-  dump-blame (Ok best) counts = identity-blames best counts
-  dump-blame (Err NoFilesOfDump) counts = counts
-  dump-blame (Err DumpUnread) counts = counts
-  dump-blame (Err LinesFault) counts = counts
+  pub shelf-blame : {A : Type 0} (by : A → Status) → ((done : A) → IsEnd (by done)) → (answer : Result A DumpsFault) → CountsBy (dumps_blame answer) before after
+      → CountsBy (ending_blame shelf_blame (shelf_ending by answer)) before after
+  shelf-blame by end (Ok done) counts = end-blames (by done) (end done) counts
+  shelf-blame by end (Err (NoFiles dump)) counts = counts
+  shelf-blame by end (Err DumpsUnread) counts = counts
+  shelf-blame by end (Err DumpsUnwritten) counts = counts
+  shelf-blame by end (Err DumpsUntold) counts = counts
 
 -- what a command over the source ends with where it had its memory
 abbrev pub IsOverSource : Status → Type 0
@@ -131,6 +140,17 @@ IsOverSource _ = Unit {0}
 abbrev pub IsOverShelf : Status → Type 0
 IsOverShelf ReadFault = ⊥
 IsOverShelf _ = Unit {0}
+
+end-over-shelf : (status : Status) → IsEnd status → IsOverShelf status
+end-over-shelf AllGood end = tt
+end-over-shelf NotAllGood end = tt
+end-over-shelf Refused end = tt
+end-over-shelf Usage end = absurd end
+end-over-shelf ReadFault end = absurd end
+end-over-shelf ImageFault end = absurd end
+end-over-shelf NotesFault end = absurd end
+end-over-shelf Memory end = absurd end
+end-over-shelf ShelfFault end = absurd end
 
 module _ {N : Type 0} (before after : Moment N) (status : Status) where
   pub ended-by-line : (text : List ℕ) (P : Status → Type 0) → P Refused → P NotesFault → EndsBy (refuses text) status before after → P status
@@ -148,25 +168,13 @@ module _ {N : Type 0} (before after : Moment N) (status : Status) where
   disk-over-source (Err (DiskRefused track block fault)) is =
       ended-by-line _ IsOverSource tt tt is
 
-  is-complete : (b : Bool) → IsOverShelf (if b then AllGood else NotAllGood)
-  is-complete true = tt
-  is-complete false = tt
-
-  pub dumps-over-shelf : (answer : Result DumpTotals DumpsFault) → EndsBy (dumps_ending answer) status before after → IsOverShelf status
-  dumps-over-shelf (Ok totals) is = ends-with (λ (s : Status) (n : Moment N). IsOverShelf s) _ status before after (is-complete (is_complete totals)) is
-  dumps-over-shelf (Err DumpsUnread) is = ends-with (λ (s : Status) (n : Moment N). IsOverShelf s) ShelfFault status before after tt is
-  dumps-over-shelf (Err DumpsUnwritten) is = ends-with (λ (s : Status) (n : Moment N). IsOverShelf s) ImageFault status before after tt is
-  dumps-over-shelf (Err DumpsUntold) is = ends-with (λ (s : Status) (n : Moment N). IsOverShelf s) NotesFault status before after tt is
-  dumps-over-shelf (Err (NoFiles dump)) is =
-      ended-by-line _ IsOverShelf tt tt is
-
-  pub dump-over-shelf : (answer : Result (Option Finding) IdentityFault) → EndsBy (identity_ending answer) status before after → IsOverShelf status
-  dump-over-shelf (Ok None) is = ends-with (λ (s : Status) (n : Moment N). IsOverShelf s) NotAllGood status before after tt is
-  dump-over-shelf (Ok (Some best)) is = ends-with (λ (s : Status) (n : Moment N). IsOverShelf s) _ status before after (is-complete (is_complete_disk best)) is
-  dump-over-shelf (Err DumpUnread) is = ends-with (λ (s : Status) (n : Moment N). IsOverShelf s) ShelfFault status before after tt is
-  dump-over-shelf (Err LinesFault) is = ends-with (λ (s : Status) (n : Moment N). IsOverShelf s) ImageFault status before after tt is
-  dump-over-shelf (Err NoFilesOfDump) is =
-      ended-by-line _ IsOverShelf tt tt is
+  pub shelf-over-shelf : {A : Type 0} (by : A → Status) → ((done : A) → IsEnd (by done)) → (answer : Result A DumpsFault) → EndsBy (shelf_ending by answer) status before after
+      → IsOverShelf status
+  shelf-over-shelf by end (Ok done) is = ends-with (λ (s : Status) (n : Moment N). IsOverShelf s) _ status before after (end-over-shelf (by done) (end done)) is
+  shelf-over-shelf by end (Err DumpsUnread) is = ends-with (λ (s : Status) (n : Moment N). IsOverShelf s) ShelfFault status before after tt is
+  shelf-over-shelf by end (Err DumpsUnwritten) is = ends-with (λ (s : Status) (n : Moment N). IsOverShelf s) ImageFault status before after tt is
+  shelf-over-shelf by end (Err DumpsUntold) is = ends-with (λ (s : Status) (n : Moment N). IsOverShelf s) NotesFault status before after tt is
+  shelf-over-shelf by end (Err (NoFiles dump)) is = ended-by-line _ IsOverShelf tt tt is
 
 -- what is written to the image alone
 pub written-blame : {source image image' notes : FaultCounts} (answer : Result (Unit {0}) Failed) → Counts (is_err answer) image image'

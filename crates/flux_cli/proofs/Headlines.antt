@@ -27,16 +27,12 @@ use Rattle.sector_report.specs.declared.totals.Totals.{Totals}
 use Rattle.turn_merge.specs.declared.verdict.Verdict.TheVariants.{Good}
 use Rattle.flux_words.specs.Commands.{AreWordsOf, AskFor}
 use Rattle.flux_cli.specs.DisksWork.{disk_outcome, refusal_of, status_of, to_notes}
-use Rattle.flux_words.specs.DumpWords.{Asked, NamesDumps}
-use Rattle.flux_words.specs.FolderWords.{NamesFolder}
 use Rattle.flux_words.specs.G64Disks.{format_of}
 use Rattle.flux_cli.specs.G64Work.{file_refusal, file_status, from_g64_outcome}
 use Rattle.flux_cli.specs.Headlines.{AreRightInFile, AreRightOnDisk, Gave, GaveOrCut, IsExpected, IsOfDecoded, IsOfFile, IsOfPlanned, OfDisk, OfFile, OfRescue, OfSet, OfTrial, RunsAsExpected, WasRead}
-use Rattle.flux_words.specs.IdentityWords.{NamesIdentity}
-use Rattle.flux_words.specs.SectorWords.{AskedSector, NamesShow}
 use Rattle.flux_cli.specs.PlanWork.{IsRead, planned_outcome, planned_refusal, planned_status}
 use Rattle.flux_cli.specs.Runs.{Finished, Outside, Says, SaysBy}
-use Rattle.flux_cli.specs.ShelfRuns.{Ran, RanBy, Surroundings}
+use Rattle.flux_cli.specs.ShelfRuns.{AskOfShelf, OfShelf, a_folder, a_sector, an_identity, some_dumps, Ran, RanBy, Surroundings}
 use Rattle.flux_cli.specs.Work.{Outcome}
 use Rattle.flux_cli.specs.Works.{work_for, work_of}
 use Rattle.flux_words.specs.declared.command.Command.{Command}
@@ -249,17 +245,16 @@ asked_is names words command (Some other) are asks = ap Some (one_command names 
 module _ (names : WordsNameFormats) {S W N H : Type 0} (words : List (List ℕ)) (status : Status) (before after : Surroundings S W N H) (ran : Ran words status before after) where
   -- what was done for a command over the source
   pub says_of : (command : Command) → AreWordsOf command words → Says command status before.outside after.outside
-  says_of command are = by ran.folder ran.dumps ran.identity ran.sector ran.names ran.names_dumps ran.names_identity ran.names_sector ran.did
+  says_of command are = by ran.asked ran.asks ran.did
     where
-      by : (folder : Option (Format × List ℕ)) (dumps : Option Asked) (identity : Option (List ℕ)) (sector : Option AskedSector) → NamesFolder words folder → NamesDumps words dumps
-          → NamesIdentity words identity → NamesShow words sector → RanBy folder dumps identity sector words status before after → Says command status before.outside after.outside
-      by None None None None none no_read no_name no_sector did =
+      by : (of : Option OfShelf) → AskOfShelf words of → RanBy of words status before after → Says command status before.outside after.outside
+      by None none did =
           subst (λ (asked : Option Command). SaysBy (work_for words asked) asked status before.outside after.outside)
           (asked_is names words command did.0.asked are did.0.asks) did.0.does.says
-      by (Some named) dumps identity sector named_is names_dumps names_identity names_sector did = absurd (no_folder command words are named.0 named.1 named_is.0)
-      by None (Some asked) identity sector none read_is names_identity names_sector did = absurd (no_dumps command words are asked read_is.0)
-      by None None (Some dump) sector none no_read name_is names_sector did = absurd (no_identity command words are dump name_is.0)
-      by None None None (Some asked) none no_read no_name sector_is did = absurd (no_show command words are asked sector_is.2.0 sector_is.2.1)
+      by (Some (a_folder format folder)) folder_is did = absurd (no_folder command words are format folder folder_is.0)
+      by (Some (some_dumps asked)) read_is did = absurd (no_dumps command words are asked read_is.0)
+      by (Some (an_identity dump)) name_is did = absurd (no_identity command words are dump name_is.0)
+      by (Some (a_sector asked)) sector_is did = absurd (no_show command words are asked sector_is.2.0 sector_is.2.1)
 
 pub runs_as_expected : Laws → {S W N H : Type 0} (words : List (List ℕ)) (status : Status) (before after : Surroundings S W N H) → Ran words status before after
     → RunsAsExpected words status before.outside after.outside

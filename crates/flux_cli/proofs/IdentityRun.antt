@@ -1,74 +1,45 @@
 -- What `identify` did by what was said of the dump.
-use Rattle.std.specs.Prelude.{if◌then◌else◌}
-use Rattle.std.proofs.Common.{◌≡◌, ℕ, Bool, true, false, List, [], Option, Some, None, inl, inr, refl, sym, ap, ◌∙◌, append-nil}
-use Rattle.std.specs.Io.KnownBytes.{Appends, Keeps}
+use Rattle.std.proofs.Common.{◌≡◌, ℕ, List, Option, Some, None, Result, Ok, Err, inl, inr, refl, sym, ap, ◌∙◌, subst}
 use Rattle.dump_identity.specs.Findings.{is_complete}
 use Rattle.dump_identity.specs.Laws.{IdentitiesAreOne, NoFilesAreNoIdentity}
-use Rattle.dump_identity.specs.Outcomes.{HasNoFiles, Identified, IsIdentified, WroteIdentity}
+use Rattle.dump_identity.specs.Outcomes.{SaysOfIdentity}
 use Rattle.dump_identity.specs.declared.finding.Finding.{Finding}
-use Rattle.flux_base.specs.Blames.{CountsBy, OutsideCounts, no_one}
-use Rattle.flux_base.specs.declared.status.Status.{Status}
-use Rattle.flux_base.specs.declared.status.Status.TheVariants.{AllGood, NotAllGood, Refused, ReadFault}
+use Rattle.dump_reading.specs.declared.fault.DumpsFault.{DumpsFault}
+use Rattle.dump_reading.specs.declared.fault.DumpsFault.TheVariants.{NoFiles, ShelfFault, ImageFault, NotesFault}
+use Rattle.flux_base.specs.Outside.{AppendsPart}
 use Rattle.sector_report.specs.DumpLines.{no_files_text}
 use Rattle.track_shelf.specs.Files.{File}
-use Rattle.flux_cli.proofs.Blaming.{good_blames_of_shelf}
-use Rattle.flux_cli.specs.Blamed.{shelf_blame}
-use Rattle.flux_cli.specs.FolderRuns.{OnShelf}
-use Rattle.flux_cli.specs.IdentityRuns.{FinishedIdentity, IsOutcomeOfDump, SaysOfIdentify, identity_outcome, identity_status, no_files_outcome}
-use Rattle.flux_cli.specs.Work.{Outcome}
+use Rattle.flux_cli.proofs.EndingLaws.{IsEnd, either-ends}
+use Rattle.flux_cli.proofs.ShelfEnded.{Answers, kept-nothing, same-kept, same-nothing}
+use Rattle.flux_cli.specs.IdentityRuns.{IsOutcomeOfDump, identity_outcome, identity_status, identity_work}
+use Rattle.flux_cli.specs.ShelfWork.{empty_outcome}
+use Rattle.flux_cli.specs.Work.{Growth, Outcome}
 
-kept-none : (old new : Option (List ℕ)) → Keeps old new → Appends old new []
-kept-none None new kept = tt
-kept-none (Some xs) None kept = kept
-kept-none (Some xs) (Some ys) kept = kept ∙ sym (append-nil xs)
+-- whether one disk explains all is no fault
+pub identity-ends : (best : Option Finding) → IsEnd (identity_status best)
+identity-ends None = tt
+identity-ends (Some best) = either-ends (is_complete best)
 
-module _ {H W N : Type 0} (dump : List ℕ) (before after : OnShelf H W N) where
-  -- the lines were written
-  module _ (best : Option Finding) (wrote : WroteIdentity dump before.shelf.files before.image.bytes after.image.bytes best)
-      (still : Appends before.notes.bytes after.notes.bytes []) where
-    finished : (status : Status) → status ≡ identity_status best → FinishedIdentity dump status before after
-    finished status is = record {
-      outcome = identity_outcome wrote.outcome;
-      is = inr (wrote.outcome, wrote.is, refl);
-      status_is = is ∙ ap identity_status wrote.best_is;
-      image_got = wrote.grew;
-      notes_got = still;
-    }
-
-    pub identity-done : SaysOfIdentify dump (identity_status best) before after
-    identity-done = of best refl
-      where
-        of : (b : Option Finding) → best ≡ b → SaysOfIdentify dump (identity_status b) before after
-        of None is = finished NotAllGood (sym (ap identity_status is))
-        of (Some f) is = by (is_complete f) refl
-          where
-            by : (all : Bool) → is_complete f ≡ all → SaysOfIdentify dump (if all then AllGood else NotAllGood) before after
-            by true all = finished AllGood (sym (ap identity_status is ∙ ap (λ (x : Bool). if x then AllGood else NotAllGood) all))
-            by false all = finished NotAllGood (sym (ap identity_status is ∙ ap (λ (x : Bool). if x then AllGood else NotAllGood) all))
-
-  -- the dump has no file of any track, and the line that says so was written
-  pub identity-refused : HasNoFiles dump before.shelf.files → Keeps before.image.bytes after.image.bytes
-      → Appends before.notes.bytes after.notes.bytes (no_files_text 0) → FinishedIdentity dump Refused before after
-  identity-refused none kept got = record {
-    outcome = no_files_outcome;
-    is = inl (none, refl);
-    status_is = refl;
-    image_got = kept-none before.image.bytes after.image.bytes kept;
-    notes_got = got;
-  }
-
--- a status that tells whether one disk explains all tells no fault
-pub identity-blames : {old new : OutsideCounts} (best : Option Finding) → CountsBy no_one old new → CountsBy (shelf_blame (identity_status best)) old new
-identity-blames None counts = counts
-identity-blames (Some f) counts = good_blames_of_shelf (is_complete f) counts
-
-pub identity-read : (best : Option Finding) → identity_status best ≡ ReadFault → ⊥
-identity-read None same = cc
-identity-read (Some f) same = by (is_complete f) same
-  where
-    by : (all : Bool) → (if all then AllGood else NotAllGood) ≡ ReadFault → ⊥
-    by true e = cc
-    by false e = cc
+pub identity-answers : (dump : List ℕ) (told : Option (List File)) (image notes : Growth) (answer : Result (Option Finding) DumpsFault)
+    → SaysOfIdentity dump told image.before image.after answer → notes.after ≡ notes.before
+    → Answers (identity_work dump) told image notes identity_status answer
+identity-answers dump told image notes (Ok best) says same = record {
+  outcome = identity_outcome says.outcome;
+  is = inr (says.outcome, says.is, refl);
+  end = identity-ends best;
+  same = ap identity_status says.best_is;
+  image_got = says.grew;
+  notes_got = same-nothing notes.before notes.after same;
+}
+identity-answers dump told image notes (Err (NoFiles number)) says same = record {
+  is = inl (says.1, ap empty_outcome says.0);
+  image_got = kept-nothing image.before image.after says.2;
+  same = same;
+  cut = λ after part. (says.1, says.2, subst (λ (n : ℕ). AppendsPart notes.before after (no_files_text n)) says.0 part);
+}
+identity-answers dump told image notes (Err ShelfFault) says same = (says, same-kept notes.before notes.after same)
+identity-answers dump told image notes (Err ImageFault) says same = (says, same-kept notes.before notes.after same)
+identity-answers dump told image notes (Err NotesFault) says same = absurd says
 
 -- the files decide the outcome of `identify`
 pub one_outcome_of_dump : IdentitiesAreOne → NoFilesAreNoIdentity → (dump : List ℕ) (files : List File) (a b : Outcome)

@@ -13,6 +13,7 @@ pub mod Captured
 pub mod TrialRun
 pub mod PagesRun
 pub mod FolderRun
+pub mod ShelfEnded
 pub mod ReadRun
 pub mod IdentityRun
 pub mod SectorRun

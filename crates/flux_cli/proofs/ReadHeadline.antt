@@ -12,22 +12,20 @@ use Rattle.sector_images.specs.Formats.{IsWordOfFormat, WordsBeginWithLetters, W
 use Rattle.sector_images.specs.declared.format.Format.{Format}
 use Rattle.track_shelf.specs.Files.{File}
 use Rattle.flux_words.specs.DumpParts.{options_in}
-use Rattle.flux_words.specs.DumpWords.{AreReadWords, Asked, NamesDumps, option_words, shown_of}
+use Rattle.flux_words.specs.DumpWords.{AreReadWords, Asked, option_words, shown_of}
 use Rattle.flux_cli.specs.AskedDisks.{asked_disk}
 use Rattle.flux_cli.specs.FolderRuns.{OnShelf}
-use Rattle.flux_words.specs.FolderWords.{NamesFolder}
-use Rattle.flux_words.specs.IdentityWords.{NamesIdentity}
-use Rattle.flux_words.specs.SectorWords.{AskedSector, NamesShow}
 use Rattle.flux_cli.specs.ReadHeadline.{GaveDumps, GaveDumpsOrCut, GavePicture, GaveShown, OfDumps, ReadsAsExpected}
-use Rattle.flux_cli.specs.ReadRuns.{DidRead, FinishedDumps, IsShown, SaysOfRead, read_status}
+use Rattle.flux_cli.specs.ReadRuns.{IsShown, read_status, read_work}
 use Rattle.flux_cli.specs.Runs.{growth}
-use Rattle.flux_cli.specs.ShelfRuns.{Ran, RanBy, Surroundings, on_shelf}
+use Rattle.flux_cli.specs.ShelfRuns.{AskOfShelf, OfShelf, a_folder, a_sector, an_identity, some_dumps, Ran, RanBy, Surroundings, on_shelf}
+use Rattle.flux_cli.specs.ShelfWork.{DidOnShelf, FinishedOnShelf}
 use Rattle.flux_cli.specs.Work.{Got}
 use Rattle.flux_words.specs.declared.dump_words.DumpOptions.{DumpOptions}
 use Rattle.flux_words.specs.declared.dump_words.Shown.{Shown}
 use Rattle.flux_words.specs.declared.dump_words.Shown.TheVariants.{Image, Picture}
-use Rattle.flux_cli.proofs.DumpWords.{head-same, options-passed, options-read, tail-same}
-use Rattle.flux_cli.proofs.Outcomes.{folder_no_dumps, one_format}
+use Rattle.flux_words.specs.lemmas.Options.{head-same, options-passed, options-read, tail-same}
+use Rattle.flux_cli.proofs.Outcomes.{dumps_no_identity, dumps_no_show, folder_no_dumps, one_format}
 
 -- what the laws of dumps promise
 pub record DumpLaws : Type 0 where
@@ -109,21 +107,21 @@ module _ (laws : DumpLaws) {H W N : Type 0} (disk : DumpDisk) (files : List File
   }
   gave_shown Picture status d drawn status_is image_got notes_got = of_picture laws disk files status before after d drawn status_is image_got notes_got
 
-  gave : (shown : Shown) (status : Status) → (status ≡ Refused → ⊥) → FinishedDumps shown disk status before after → GaveShown shown disk files status before after
+  gave : (shown : Shown) (status : Status) → (status ≡ Refused → ⊥) → FinishedOnShelf (read_work shown disk) status before after → GaveShown shown disk files status before after
   gave shown status other f =
       elim f.is [
         | inl (number, low, first, is) ↦ absurd (other (f.status_is ∙ ap (λ o. o.status) is))
-        | inr (d, none, read, is) ↦ gave_shown shown status d (subst (λ (t : Option (List File)). IsShown shown disk t d) told read) (f.status_is ∙ ap (λ o. o.status) is)
+        | inr (none, (d, read, is)) ↦ gave_shown shown status d (subst (λ (t : Option (List File)). IsShown shown disk t d) told read) (f.status_is ∙ ap (λ o. o.status) is)
             (rw is at f.image_got) (rw is at f.notes_got)
       ]
 
-  pub gave_or_cut : (shown : Shown) (status : Status) → SaysOfRead shown disk status before after → GaveDumpsOrCut shown disk files status before after
+  pub gave_or_cut : (shown : Shown) (status : Status) → DidOnShelf (read_work shown disk) status before after → GaveDumpsOrCut shown disk files status before after
   gave_or_cut shown AllGood says = gave shown AllGood all_refused says
   gave_or_cut shown NotAllGood says = gave shown NotAllGood not_refused says
   gave_or_cut shown Refused f =
       elim f.is [
         | inl (number, low, first, is) ↦ (number, low, first files told)
-        | inr (d, none, read, is) ↦ absurd (by_complete (is_complete d.totals) (f.status_is ∙ ap (λ o. o.status) is))
+        | inr (none, (d, read, is)) ↦ absurd (by_complete (is_complete d.totals) (f.status_is ∙ ap (λ o. o.status) is))
       ]
   gave_or_cut shown Usage says = says
   gave_or_cut shown ReadFault says = says
@@ -134,14 +132,15 @@ module _ (laws : DumpLaws) {H W N : Type 0} (disk : DumpDisk) (files : List File
 
 pub reads_as_expected : DumpLaws → WordsBeginWithLetters → WordsNameFormats → {S W N H : Type 0} (words : List (List ℕ)) (status : Status) (before after : Surroundings S W N H)
     → Ran words status before after → ReadsAsExpected words status (on_shelf before) (on_shelf after)
-reads_as_expected laws letters names words status before after ran asked files are can told =
-    gave_or_cut laws (asked_disk asked) files (on_shelf before) (on_shelf after) told (shown_of asked.options) status (by ran.folder ran.dumps ran.identity ran.sector ran.names ran.names_dumps ran.names_identity ran.names_sector ran.did).says
+reads_as_expected laws letters names_formats words status before after ran asked files are can told =
+    gave_or_cut laws (asked_disk asked) files (on_shelf before) (on_shelf after) told (shown_of asked.options) status (by ran.asked ran.asks ran.did)
   where
-    by : (folder : Option (Format × List ℕ)) (dumps : Option Asked) (identity : Option (List ℕ)) (sector : Option AskedSector) → NamesFolder words folder → NamesDumps words dumps
-        → NamesIdentity words identity → NamesShow words sector → RanBy folder dumps identity sector words status before after → DidRead (shown_of asked.options) (asked_disk asked) status (on_shelf before) (on_shelf after)
-    by (Some named) dumps identity sector named_is names_dumps names_identity names_sector did = absurd (folder_no_dumps words named.0 named.1 named_is.0 asked can are)
-    by None None None None none no_read no_name no_sector did = absurd (no_read asked can are)
-    by None None (Some dump) sector none no_read name_is names_sector did = absurd (no_read asked can are)
-    by None None None (Some other) none no_read no_name sector_is did = absurd (no_read asked can are)
-    by None (Some other) identity sector none read_is names_identity names_sector did =
-        subst (λ (a : Asked). DidRead (shown_of a.options) (asked_disk a) status (on_shelf before) (on_shelf after)) (one_asked letters names words other asked read_is.0 are) did.0
+    Read : Asked → Type 0
+    Read of = DidOnShelf (read_work (shown_of of.options) (asked_disk of)) status (on_shelf before) (on_shelf after)
+
+    by : (of : Option OfShelf) → AskOfShelf words of → RanBy of words status before after → Read asked
+    by None none did = absurd (none.1 asked can are)
+    by (Some (a_folder format folder)) names did = absurd (folder_no_dumps words format folder names.0 asked can are)
+    by (Some (some_dumps other)) names did = subst Read (one_asked letters names_formats words other asked names.0 are) did.0
+    by (Some (an_identity dump)) names did = absurd (dumps_no_identity words asked are dump names.1 names.0)
+    by (Some (a_sector other)) names did = absurd (dumps_no_show words asked are other names.0 names.1 names.2.0 names.2.1)

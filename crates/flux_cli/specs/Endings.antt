@@ -1,11 +1,7 @@
 -- How a command ends by what its work answered: with a status, or with a line to the notes that says why the input is refused.
-use Rattle.std.specs.Prelude.{◌≡◌, ℕ, List, Option, None, Result, Ok, Err}
-use Rattle.dump_identity.specs.declared.fault.IdentityFault.{IdentityFault}
-use Rattle.dump_identity.specs.declared.fault.IdentityFault.TheVariants.{NoFiles as NoFilesOfDump, ShelfFault as DumpUnread, LinesFault}
-use Rattle.dump_identity.specs.declared.finding.Finding.{Finding}
+use Rattle.std.specs.Prelude.{◌≡◌, ℕ, List, None, Result, Ok, Err}
 use Rattle.dump_reading.specs.declared.fault.DumpsFault.{DumpsFault}
 use Rattle.dump_reading.specs.declared.fault.DumpsFault.TheVariants.{NoFiles, ShelfFault as DumpsUnread, ImageFault as DumpsUnwritten, NotesFault as DumpsUntold}
-use Rattle.dump_reading.specs.declared.totals.DumpTotals.{DumpTotals}
 use Rattle.flux_base.specs.Blames.{Blame, no_one}
 use Rattle.flux_base.specs.Moments.{Moment, Puts}
 use Rattle.flux_base.specs.declared.outside.Failed.{Failed}
@@ -24,9 +20,7 @@ use Rattle.sector_report.specs.DumpLines.{no_files_text}
 use Rattle.sector_report.specs.Lines.{image_text, refused_text}
 use Rattle.sector_report.specs.declared.naming.Naming.{Naming}
 use Rattle.flux_cli.specs.DisksWork.{status_of}
-use Rattle.flux_cli.specs.IdentityRuns.{identity_status}
 use Rattle.flux_cli.specs.PlanWork.{stop_text}
-use Rattle.flux_cli.specs.ReadRuns.{read_status}
 
 pub data Ending : Type 0 where
   ends : Status → Ending
@@ -81,17 +75,13 @@ file_ending (Err FileUnwritten) = ends ImageFault
 file_ending (Err FileUntold) = ends NotesFault
 file_ending (Err (FileRefused fault)) = refuses (g64_text fault)
 
--- a disk that was read of its dumps
-abbrev pub dumps_ending : Result DumpTotals DumpsFault → Ending
-dumps_ending (Ok totals) = ends (read_status totals)
-dumps_ending (Err (NoFiles dump)) = refuses (no_files_text dump)
-dumps_ending (Err DumpsUnread) = ends ShelfFault
-dumps_ending (Err DumpsUnwritten) = ends ImageFault
-dumps_ending (Err DumpsUntold) = ends NotesFault
+-- what was asked of dumps, by what became of it
+abbrev pub fault_ending : DumpsFault → Ending
+fault_ending (NoFiles dump) = refuses (no_files_text dump)
+fault_ending DumpsUnread = ends ShelfFault
+fault_ending DumpsUnwritten = ends ImageFault
+fault_ending DumpsUntold = ends NotesFault
 
--- a dump of which is said which disk it is of
-abbrev pub identity_ending : Result (Option Finding) IdentityFault → Ending
-identity_ending (Ok best) = ends (identity_status best)
-identity_ending (Err NoFilesOfDump) = refuses (no_files_text 0)
-identity_ending (Err DumpUnread) = ends ShelfFault
-identity_ending (Err LinesFault) = ends ImageFault
+abbrev pub shelf_ending : {A : Type 0} → (A → Status) → Result A DumpsFault → Ending
+shelf_ending by (Ok done) = ends (by done)
+shelf_ending by (Err fault) = fault_ending fault

@@ -6,12 +6,13 @@ use Rattle.flux_words.specs.DumpWords.{Asked, NamesDumps, shown_of}
 use Rattle.flux_cli.specs.AskedDisks.{asked_disk, shown_sector}
 use Rattle.flux_cli.specs.FolderRuns.{DoesFolder, OnShelf, ShelfMoment}
 use Rattle.flux_words.specs.FolderWords.{NamesFolder}
-use Rattle.flux_cli.specs.IdentityRuns.{DidIdentify}
+use Rattle.flux_cli.specs.IdentityRuns.{identity_work}
 use Rattle.flux_words.specs.IdentityWords.{NamesIdentity}
-use Rattle.flux_cli.specs.ReadRuns.{DidRead}
+use Rattle.flux_cli.specs.ReadRuns.{read_work}
 use Rattle.flux_cli.specs.Runs.{Outside, RanOverSource}
-use Rattle.flux_cli.specs.SectorRuns.{DidShow}
+use Rattle.flux_cli.specs.SectorRuns.{sector_work}
 use Rattle.flux_words.specs.SectorWords.{AskedSector, NamesShow}
+use Rattle.flux_cli.specs.ShelfWork.{DidOnShelf}
 
 -- all objects at a moment
 pub record Surroundings (S W N H : Type 0) : Type 0 where
@@ -24,30 +25,36 @@ surroundings outside shelf = record { outside = outside; shelf = shelf }
 abbrev pub on_shelf : {S W N H : Type 0} → Surroundings S W N H → OnShelf H W N
 on_shelf now = record { shelf = now.shelf; image = now.outside.image; notes = now.outside.notes }
 
--- where the words name a folder or dumps, the source is not touched; else the shelf is not
-abbrev pub RanBy : {S W N H : Type 0} → Option (Format × List ℕ) → Option Asked → (identity : Option (List ℕ)) → (sector : Option AskedSector) → (words : List (List ℕ)) → Status → (before after : Surroundings S W N H) → Type 0
-RanBy None None None None words status before after = RanOverSource words status before.outside after.outside × (after.shelf ≡ before.shelf)
-RanBy (Some named) dumps identity sector words status before after =
-    DoesFolder named.0 named.1 status (on_shelf before) (on_shelf after)
-    × (after.outside.source ≡ before.outside.source) × (after.outside.given ≡ before.outside.given)
-RanBy None (Some asked) identity sector words status before after =
-    DidRead (shown_of asked.options) (asked_disk asked) status (on_shelf before) (on_shelf after)
-    × (after.outside.source ≡ before.outside.source) × (after.outside.given ≡ before.outside.given)
-RanBy None None (Some dump) sector words status before after =
-    DidIdentify dump status (on_shelf before) (on_shelf after)
-    × (after.outside.source ≡ before.outside.source) × (after.outside.given ≡ before.outside.given)
-RanBy None None None (Some asked) words status before after =
-    DidShow (shown_sector asked) status (on_shelf before) (on_shelf after)
-    × (after.outside.source ≡ before.outside.source) × (after.outside.given ≡ before.outside.given)
+-- what is asked of the shelf
+pub data OfShelf : Type 0 where
+  a_folder : Format → (folder : List ℕ) → OfShelf
+  some_dumps : Asked → OfShelf
+  an_identity : (dump : List ℕ) → OfShelf
+  a_sector : AskedSector → OfShelf
+
+-- what the words ask of it, if they do
+abbrev pub AskOfShelf : (words : List (List ℕ)) → Option OfShelf → Type 0
+AskOfShelf words None = NamesFolder words None × NamesDumps words None × NamesIdentity words None × NamesShow words None
+AskOfShelf words (Some (a_folder format folder)) = NamesFolder words (Some (format, folder))
+AskOfShelf words (Some (some_dumps asked)) = NamesDumps words (Some asked)
+AskOfShelf words (Some (an_identity dump)) = NamesIdentity words (Some dump)
+AskOfShelf words (Some (a_sector asked)) = NamesShow words (Some asked)
+
+-- what was done for it
+abbrev pub DoesOnShelf : {H W N : Type 0} → OfShelf → Status → (before after : OnShelf H W N) → Type 0
+DoesOnShelf (a_folder format folder) status before after = DoesFolder format folder status before after
+DoesOnShelf (some_dumps asked) status before after = DidOnShelf (read_work (shown_of asked.options) (asked_disk asked)) status before after
+DoesOnShelf (an_identity dump) status before after = DidOnShelf (identity_work dump) status before after
+DoesOnShelf (a_sector asked) status before after = DidOnShelf (sector_work (shown_sector asked)) status before after
+
+-- where the words ask for something of the shelf, the source is not touched; else the shelf is not
+abbrev pub RanBy : {S W N H : Type 0} → Option OfShelf → (words : List (List ℕ)) → Status → (before after : Surroundings S W N H) → Type 0
+RanBy None words status before after = RanOverSource words status before.outside after.outside × (after.shelf ≡ before.shelf)
+RanBy (Some asked) words status before after =
+    DoesOnShelf asked status (on_shelf before) (on_shelf after) × (after.outside.source ≡ before.outside.source) × (after.outside.given ≡ before.outside.given)
 
 -- what a run with these words did
 pub record Ran {S W N H : Type 0} (words : List (List ℕ)) (status : Status) (before after : Surroundings S W N H) : Type 0 where
-  pub folder : Option (Format × List ℕ)
-  pub names : NamesFolder words folder
-  pub dumps : Option Asked
-  pub names_dumps : NamesDumps words dumps
-  pub identity : Option (List ℕ)
-  pub names_identity : NamesIdentity words identity
-  pub sector : Option AskedSector
-  pub names_sector : NamesShow words sector
-  pub did : RanBy folder dumps identity sector words status before after
+  pub asked : Option OfShelf
+  pub asks : AskOfShelf words asked
+  pub did : RanBy asked words status before after

@@ -2,13 +2,16 @@
 
 ghost use Rattle.std.specs.Prelude.{◌≡◌};
 ghost use Rattle.flux_base.specs.Moments.{moment};
-ghost use Rattle.flux_cli.specs.Endings.{EndsBy, disk_ending, dumps_ending, file_ending, identity_ending, image_ending, plan_ending, refuses, written_status};
+ghost use Rattle.flux_cli.specs.Endings.{EndsBy, disk_ending, fault_ending, file_ending, image_ending, plan_ending, refuses, shelf_ending, written_status};
+ghost use Rattle.flux_cli.specs.IdentityRuns.{identity_status};
+ghost use Rattle.flux_cli.specs.ReadRuns.{read_status};
+ghost use Rattle.flux_cli.specs.SectorRuns.{sector_status};
 
 use crate::disks::status_of;
 use crate::identity::status_of as status_of_identity;
 use crate::planned::stop_line;
 use crate::read::status_of as status_of_dumps;
-use dump_identity::{Finding, IdentityFault};
+use dump_identity::Finding;
 use dump_reading::{DumpTotals, DumpsFault};
 use flux_base::{Failed, Sink, Status};
 use flux_engine::{EngineFault, PlanFault, WriteFault};
@@ -103,30 +106,58 @@ pub(crate) fn end_of_file<N: Sink>(answer: Result<Totals, FromStop>, notes: &mut
     }
 }
 
+/// Ends what was asked of dumps and was not done, or not all.
+fn end_of_fault<N: Sink>(fault: DumpsFault, notes: &mut N) -> Status
+    ensures { EndsBy (fault_ending fault) result (moment N.written N.faults N.failed notes.old) (moment N.written N.faults N.failed notes.new) }
+{
+    match fault {
+        DumpsFault::NoFiles { dump } => refuse(&no_files_line(dump), notes),
+        DumpsFault::ShelfFault => Status::ShelfFault,
+        DumpsFault::ImageFault => Status::ImageFault,
+        DumpsFault::NotesFault => Status::NotesFault,
+    }
+}
+
 /// Ends a disk that was read of its dumps.
 pub(crate) fn end_of_dumps<N: Sink>(answer: Result<DumpTotals, DumpsFault>, notes: &mut N) -> Status
-    ensures { EndsBy (dumps_ending answer) result (moment N.written N.faults N.failed notes.old) (moment N.written N.faults N.failed notes.new) }
+    ensures { EndsBy (shelf_ending read_status answer) result (moment N.written N.faults N.failed notes.old) (moment N.written N.faults N.failed notes.new) }
 {
     match answer {
         Ok(totals) => status_of_dumps(&totals),
-        Err(DumpsFault::NoFiles { dump }) => refuse(&no_files_line(dump), notes),
-        Err(DumpsFault::ShelfFault) => Status::ShelfFault,
-        Err(DumpsFault::ImageFault) => Status::ImageFault,
-        Err(DumpsFault::NotesFault) => Status::NotesFault,
+        Err(fault) => end_of_fault(fault, notes),
     }
 }
 
 /// Ends a dump of which is said which disk it is of.
 pub(crate) fn end_of_identity<N: Sink>(
-    answer: Result<Option<Finding>, IdentityFault>,
+    answer: Result<Option<Finding>, DumpsFault>,
     notes: &mut N,
 ) -> Status
-    ensures { EndsBy (identity_ending answer) result (moment N.written N.faults N.failed notes.old) (moment N.written N.faults N.failed notes.new) }
+    ensures { EndsBy (shelf_ending identity_status answer) result (moment N.written N.faults N.failed notes.old) (moment N.written N.faults N.failed notes.new) }
 {
     match answer {
         Ok(best) => status_of_identity(&best),
-        Err(IdentityFault::NoFiles) => refuse(&no_files_line(0), notes),
-        Err(IdentityFault::ShelfFault) => Status::ShelfFault,
-        Err(IdentityFault::LinesFault) => Status::ImageFault,
+        Err(fault) => end_of_fault(fault, notes),
+    }
+}
+
+/// Ends a sector that was shown as the dumps have it.
+pub(crate) fn end_of_sector<N: Sink>(answer: Result<usize, DumpsFault>, notes: &mut N) -> Status
+    ensures { EndsBy (shelf_ending sector_status answer) result (moment N.written N.faults N.failed notes.old) (moment N.written N.faults N.failed notes.new) }
+{
+    match answer {
+        Ok(copies) => status_of_copies(copies),
+        Err(fault) => end_of_fault(fault, notes),
+    }
+}
+
+/// Whether good readings of a sector hold one content.
+fn status_of_copies(copies: usize) -> Status
+    ensures { result ≡ sector_status copies }
+{
+    if copies == 1 {
+        Status::AllGood
+    } else {
+        Status::NotAllGood
     }
 }

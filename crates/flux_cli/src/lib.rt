@@ -10,7 +10,7 @@ mod laws;
 mod planned;
 mod program;
 mod read;
-mod sector;
+mod shelf_task;
 mod task;
 mod turns;
 

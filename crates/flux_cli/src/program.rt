@@ -1,48 +1,30 @@
-ghost use Rattle.std.specs.Prelude.{◌≢◌, ◌≤◌, ◌<◌, Some, length};
 ghost use Rattle.flux_base.specs.Blames.{CountsBy, three_counts};
 ghost use Rattle.flux_base.specs.Counts.{counts_of};
-ghost use Rattle.flux_cli.specs.Blamed.{CountsOfRun, all_counts, shelf_blame, source_blame};
+ghost use Rattle.flux_cli.specs.Blamed.{CountsOfRun, all_counts, source_blame};
 ghost use Rattle.flux_base.specs.Moments.{moment};
-ghost use Rattle.flux_base.specs.declared.status.Status.{Status};
 ghost use Rattle.flux_cli.specs.Captured.{FolderCaptured, FolderErased, RunsCaptured, RunsErased};
-ghost use Rattle.flux_words.specs.DumpWords.{asked_of, shown_of};
-ghost use Rattle.flux_cli.specs.AskedDisks.{asked_disk, shown_sector};
 ghost use Rattle.flux_cli.specs.FolderRuns.{on, shelf_moment};
 ghost use Rattle.flux_cli.specs.Headlines.{RunsAsExpected};
-ghost use Rattle.flux_cli.specs.IdentityRuns.{DidIdentify};
 ghost use Rattle.flux_cli.specs.ReadHeadline.{ReadsAsExpected};
-ghost use Rattle.flux_cli.specs.ReadRuns.{DidRead};
 ghost use Rattle.flux_cli.specs.Runs.{RanOverSource, outside};
-ghost use Rattle.flux_cli.specs.SectorRuns.{DidShow};
-ghost use Rattle.flux_words.specs.SectorWords.{asked_sector};
 ghost use Rattle.flux_cli.specs.ShelfRuns.{Ran, surroundings};
-ghost use Rattle.flux_engine.specs.Recordings.{track_at};
-ghost use Rattle.sector_images.specs.Places.{IsSector, tracks};
 
-use crate::folder::decode_folder;
-use crate::identity::identify_dump;
-use crate::read::show;
-use crate::sector::show_one;
+use crate::shelf_task::{DecodeFolder, Identify, ShelfTask};
 use crate::task::{
     DecodeSet, Decoding, FromG64, Map, Rescue, Task, Tell, ToG64, Trial, Turns, Write,
 };
 use disk_map::dumps_are_drawn_as_reported;
-use dump_identity::IdentityRoom;
-use dump_reading::Dumps;
-use flux_base::{Memory, Sink, Source, Status, Word};
-use flux_engine::{DiskRoom, good_is_right_on_disks, lines_tell_verdicts};
+use flux_base::{Sink, Source, Status, Word};
+use flux_engine::{good_is_right_on_disks, lines_tell_verdicts};
 use flux_help::write_wrong_words;
 use flux_trial::whole_trials_have_one_line;
-use flux_words::{
-    Command, DumpsAsked, Output, ShowAsked, command_of, dumps_of, folder_of, identity_of, sector_of,
-};
+use flux_words::{Command, Output, command_of, dumps_of, folder_of, identity_of, sector_of};
 use g64_image::{file_lines_tell, good_is_right_in_files, written_files_come_back};
 use law_captured_disks::captured_disks_decode;
 use law_captured_dumps::{captured_dumps_are_read, dumps_say_each_sector};
 use law_captured_plans::planned_lines_tell;
 use law_captured_rescues::{captured_disks_are_rescued, steady_disks_are_rescued};
 use law_captured_sets::captured_sets_decode;
-use sector_copies::SectorRoom;
 use sector_images::words_name_formats;
 use std::alloc::Global;
 use track_shelf::Shelf;
@@ -154,101 +136,13 @@ fn run_words<S: Source, W: Sink, N: Sink, H: Shelf>(
             None => match identity_of(words) {
                 None => match sector_of(words) {
                     None => run_over_source(alloc, words, source, image, notes),
-                    Some(asked) => run_show(alloc, asked, shelf, image, notes),
+                    Some(asked) => asked.run(alloc, shelf, image, notes),
                 },
-                Some(dump) => run_identity(alloc, dump, shelf, image, notes),
+                Some(dump) => Identify { dump }.run(alloc, shelf, image, notes),
             },
-            Some(asked) => run_read(alloc, asked, shelf, image, notes),
+            Some(asked) => asked.run(alloc, shelf, image, notes),
         },
-        Some((format, folder)) => match DiskRoom::reserve(alloc, format) {
-            Ok(mut room) => decode_folder(&mut room, format, folder, shelf, image, notes),
-            Err(Memory) => Status::Memory,
-        },
-    }
-}
-
-/// Runs the command `read` in a room of its own.
-fn run_read<W: Sink, N: Sink, H: Shelf>(
-    alloc: Global,
-    asked: DumpsAsked<'_>,
-    shelf: &mut H,
-    image: &mut W,
-    notes: &mut N,
-) -> Status
-    requires { length asked.dumps.now ≤ 8 }
-    ensures did { DidRead (shown_of asked.entry.options) (asked_disk (asked_of asked.entry)) result
-        (on (shelf_moment (moment H.left H.faults H.failed shelf.old) (H.given shelf.old) (H.files shelf.old)) (moment W.written W.faults W.failed image.old) (moment N.written N.faults N.failed notes.old))
-        (on (shelf_moment (moment H.left H.faults H.failed shelf.new) (H.given shelf.new) (H.files shelf.new)) (moment W.written W.faults W.failed image.new) (moment N.written N.faults N.failed notes.new)) }
-    ensures blames { CountsBy (shelf_blame result)
-        (three_counts (counts_of H.faults H.failed shelf.old) (counts_of W.faults W.failed image.old) (counts_of N.faults N.failed notes.old))
-        (three_counts (counts_of H.faults H.failed shelf.new) (counts_of W.faults W.failed image.new) (counts_of N.faults N.failed notes.new)) }
-    ensures no_source { result ≢ Status.ReadFault }
-{
-    let dumps = Dumps {
-        names: asked.dumps,
-        stepping: asked.options.stepping(),
-    };
-    match DiskRoom::reserve(alloc, asked.format) {
-        Ok(mut room) => show(
-            asked.options.shown(),
-            &dumps,
-            &mut room,
-            shelf,
-            image,
-            notes,
-        ),
-        Err(Memory) => Status::Memory,
-    }
-}
-
-/// Runs the command `identify` in a room of its own.
-fn run_identity<W: Sink, N: Sink, H: Shelf>(
-    alloc: Global,
-    dump: &Word,
-    shelf: &mut H,
-    image: &mut W,
-    notes: &mut N,
-) -> Status
-    ensures did { DidIdentify dump.now result
-        (on (shelf_moment (moment H.left H.faults H.failed shelf.old) (H.given shelf.old) (H.files shelf.old)) (moment W.written W.faults W.failed image.old) (moment N.written N.faults N.failed notes.old))
-        (on (shelf_moment (moment H.left H.faults H.failed shelf.new) (H.given shelf.new) (H.files shelf.new)) (moment W.written W.faults W.failed image.new) (moment N.written N.faults N.failed notes.new)) }
-    ensures blames { CountsBy (shelf_blame result)
-        (three_counts (counts_of H.faults H.failed shelf.old) (counts_of W.faults W.failed image.old) (counts_of N.faults N.failed notes.old))
-        (three_counts (counts_of H.faults H.failed shelf.new) (counts_of W.faults W.failed image.new) (counts_of N.faults N.failed notes.new)) }
-    ensures no_source { result ≢ Status.ReadFault }
-{
-    match IdentityRoom::reserve(alloc) {
-        Ok(room) => identify_dump(dump, room, shelf, image, notes),
-        Err(Memory) => Status::Memory,
-    }
-}
-
-/// Runs the command `show` in a room of its own.
-fn run_show<W: Sink, N: Sink, H: Shelf>(
-    alloc: Global,
-    asked: ShowAsked<'_>,
-    shelf: &mut H,
-    image: &mut W,
-    notes: &mut N,
-) -> Status
-    requires few { length asked.dumps.now ≤ 8 }
-    requires track { asked.number < length (tracks asked.format) }
-    requires sector { IsSector asked.format (track_at asked.format asked.number) asked.sector }
-    ensures did { DidShow (shown_sector (asked_sector asked.entry)) result
-        (on (shelf_moment (moment H.left H.faults H.failed shelf.old) (H.given shelf.old) (H.files shelf.old)) (moment W.written W.faults W.failed image.old) (moment N.written N.faults N.failed notes.old))
-        (on (shelf_moment (moment H.left H.faults H.failed shelf.new) (H.given shelf.new) (H.files shelf.new)) (moment W.written W.faults W.failed image.new) (moment N.written N.faults N.failed notes.new)) }
-    ensures blames { CountsBy (shelf_blame result)
-        (three_counts (counts_of H.faults H.failed shelf.old) (counts_of W.faults W.failed image.old) (counts_of N.faults N.failed notes.old))
-        (three_counts (counts_of H.faults H.failed shelf.new) (counts_of W.faults W.failed image.new) (counts_of N.faults N.failed notes.new)) }
-    ensures no_source { result ≢ Status.ReadFault }
-{
-    let dumps = Dumps {
-        names: asked.dumps,
-        stepping: asked.stepping,
-    };
-    match SectorRoom::reserve(alloc, asked.format, asked.number, asked.sector) {
-        Ok(mut room) => show_one(&dumps, asked.alone, &mut room, shelf, image, notes),
-        Err(Memory) => Status::Memory,
+        Some((format, folder)) => DecodeFolder { format, folder }.run(alloc, shelf, image, notes),
     }
 }
 

@@ -8,7 +8,8 @@ ghost use Rattle.flux_cli.specs.Blamed.{shelf_blame};
 ghost use Rattle.dump_reading.specs.Outcomes.{disk_of};
 ghost use Rattle.flux_base.specs.Moments.{moment};
 ghost use Rattle.flux_cli.specs.FolderRuns.{on, shelf_moment};
-ghost use Rattle.flux_cli.specs.ReadRuns.{DidRead, read_status};
+ghost use Rattle.flux_cli.specs.ReadRuns.{read_status, read_work};
+ghost use Rattle.flux_cli.specs.ShelfWork.{DidOnShelf};
 ghost use Rattle.flux_engine.specs.Room.{fresh};
 
 use crate::endings::end_of_dumps;
@@ -30,7 +31,7 @@ pub fn show<H: Shelf, W: Sink, N: Sink>(
 ) -> Status
     requires fresh { room.old ≡ fresh room.old.format }
     requires few { length dumps.now.names.now ≤ 16 }
-    ensures did { DidRead shown (disk_of dumps.now room.old.format) result
+    ensures did { DidOnShelf (read_work shown (disk_of dumps.now room.old.format)) result
         (on (shelf_moment (moment H.left H.faults H.failed shelf.old) (H.given shelf.old) (H.files shelf.old)) (moment W.written W.faults W.failed image.old) (moment N.written N.faults N.failed notes.old))
         (on (shelf_moment (moment H.left H.faults H.failed shelf.new) (H.given shelf.new) (H.files shelf.new)) (moment W.written W.faults W.failed image.new) (moment N.written N.faults N.failed notes.new)) }
     ensures blames { CountsBy (shelf_blame result)

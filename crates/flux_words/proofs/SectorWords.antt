@@ -12,7 +12,8 @@ use Rattle.track_shelf.specs.declared.stepping.Stepping.TheVariants.{Single, Dou
 use Rattle.flux_words.specs.DumpParts.{IsNotFirst}
 use Rattle.flux_words.specs.DumpWords.{double_step_word}
 use Rattle.flux_words.specs.SectorWords.{AreCopyWords, AskedSector, CanBeShown, HasNumber, HasOptions, HasSteps, HasStepsBehind, IsAlone, IsMaybeShown, MOST_COPY_NUMBERS, NamesBehind, NamesBy, NamesCopy, NamesCopyFirst, NamesNumber, NamesPlace, NamesSector, NamesShow, NamesStepped, NamesTrack, PlaceParts, ShowParts, behind_words, copy_first_words, copy_words, place_words, step_words, stepped_words}
-use Rattle.flux_words.proofs.DumpWords.{head-same, slice-rest, tail-same}
+use Rattle.flux_words.specs.lemmas.Options.{head-same, tail-same}
+use Rattle.flux_words.proofs.DumpWords.{slice-rest}
 
 abbrev copy_word : List ℕ
 copy_word = codes "--copy"

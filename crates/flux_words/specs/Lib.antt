@@ -8,3 +8,4 @@ pub mod DumpWords
 pub mod DumpParts
 pub mod IdentityWords
 pub mod SectorWords
+pub mod lemmas

@@ -1,6 +1,6 @@
 //! Which disk a dump is of.
-use dump_identity::{Candidate, Finding, IdentityFault, IdentityRoom, identify};
-use dump_reading::DumpTotals;
+use dump_identity::{Candidate, Finding, IdentityRoom, identify};
+use dump_reading::{DumpTotals, DumpsFault};
 use flux_base::{Memory, MemorySink, MemorySource, TrackId, Word};
 use flux_engine::{WriteRoom, write_disk};
 use ibm_disks::IbmDisk;
@@ -29,7 +29,7 @@ fn acorn_track(alloc: Global) -> Result<Vec<u8>, Memory> {
 /// What was said of a dump.
 #[derive(Drop)]
 struct Said {
-    answer: Result<Option<Finding>, IdentityFault>,
+    answer: Result<Option<Finding>, DumpsFault>,
     lines: MemorySink,
 }
 
@@ -98,13 +98,13 @@ const ENDS: [(
     &str,
     &[u64],
     usize,
-    Result<Option<Finding>, IdentityFault>,
+    Result<Option<Finding>, DumpsFault>,
     &[u8],
 ); 4] = [
     ("dump", &[], 4096, Ok(None), b"best none\n"),
-    ("dump", &[], 3, Err(IdentityFault::LinesFault), b"bes"),
-    ("dump", &[0], 4096, Err(IdentityFault::ShelfFault), b""),
-    ("none", &[], 4096, Err(IdentityFault::NoFiles), b""),
+    ("dump", &[], 3, Err(DumpsFault::ImageFault), b"bes"),
+    ("dump", &[0], 4096, Err(DumpsFault::ShelfFault), b""),
+    ("none", &[], 4096, Err(DumpsFault::NoFiles { dump: 0 }), b""),
 ];
 
 #[test]

@@ -2,7 +2,7 @@ use Rattle.std.proofs.Common.{true, false, inl, refl}
 use Rattle.flux_base.specs.lemmas.Blaming.{CountsBy-image, CountsBy-source, CountsBy-then}
 use Rattle.flux_engine.specs.lemmas.Blamed.{CountsBy-unnoted}
 use Rattle.dump_reading.specs.Outcomes.{disk_of}
-use Rattle.disk_map.proofs.DrawnDumps.{cause-since, drawn-all, drawn-stopped, no-foot, no-top}
+use Rattle.disk_map.proofs.DrawnDumps.{drawn-all, drawn-stopped, no-foot, no-top}
 use Rattle.disk_map.proofs.dumps.map_dumps.Goals as goal
 
 pub returns-in-Err-clause-says : goal.returns-in-Err-clause-says
@@ -17,11 +17,7 @@ pub returns-in-Err-read_dump_tracks-clause-says : goal.returns-in-Err-read_dump_
 returns-in-Err-read_dump_tracks-clause-says g c =
     drawn-stopped (disk_of c.args.dumps.now c.args.room.now.format) (g.H.Shelf.files c.args.shelf.now) (g.P.Sink.written c.args.picture.now) (g.P.Sink.written c.write_top.new.picture)
     (rw c.room_format-format.ensures at c.in-Ok.ensures.ok) (g.P.Sink.written c.read_dump_tracks.new.image) _ _ c.in-Err-read_dump_tracks.fault _ _ _ _
-    c.in-Err-read_dump_tracks.ensures.cause (rw c.in-Ok-None.ensures.kept at c.in-Err-read_dump_tracks.ensures.err)
-
-pub returns-in-Err-read_dump_tracks-clause-cause : goal.returns-in-Err-read_dump_tracks-clause-cause
-returns-in-Err-read_dump_tracks-clause-cause g c =
-    cause-since c.in-Err-read_dump_tracks.fault _ _ _ _ _ _ c.in-Ok-None.ensures.counts.later c.in-Ok.ensures.counts.later c.in-Err-read_dump_tracks.ensures.cause
+    (CountsBy-unnoted _ refl c.in-Err-read_dump_tracks.ensures.blames) (rw c.in-Ok-None.ensures.kept at c.in-Err-read_dump_tracks.ensures.err)
 
 pub returns-in-Ok-write_foot-clause-says : goal.returns-in-Ok-write_foot-clause-says
 returns-in-Ok-write_foot-clause-says g c = (

@@ -1,4 +1,4 @@
-use Rattle.std.proofs.Common.{◌≡◌, ◌≤◌, ◌+◌, [], ◌∷◌, ◌++◌, List, Option, length, map, Ok, Err, refl, sym, ap, subst, ◌∙◌, append_assoc, append-nil, arith}
+use Rattle.std.proofs.Common.{◌≡◌, ◌+◌, [], ◌∷◌, ◌++◌, List, Option, length, map, refl, sym, ap, subst, ◌∙◌, append_assoc, append-nil, arith}
 use Rattle.std.proofs.lemmas.Grind.{common_steps}
 use Rattle.std.specs.Vec.Iter.{into_iter_items}
 use Rattle.flux_base.specs.lemmas.Blaming.{CountsBy-none, CountsBy-then}
@@ -6,10 +6,8 @@ use Rattle.track_shelf.specs.Files.{File}
 use Rattle.dump_identity.specs.Candidates.{candidates}
 use Rattle.dump_identity.specs.Outcomes.{CutAtOne, FoundOne}
 use Rattle.dump_identity.specs.Trials.{trial_of}
-use Rattle.dump_identity.specs.declared.finding.Finding.{Finding}
 use Rattle.dump_identity.specs.declared.room.Trial.{Trial}
-use Rattle.dump_identity.specs.declared.tried.Tried.{Tried}
-use Rattle.dump_identity.proofs.Tries.{is-trial, made-all, made-cut, made-next, made-none, cause-since}
+use Rattle.dump_identity.proofs.Tries.{is-trial, made-all, made-cut, made-next, made-none}
 use Rattle.dump_identity.proofs.identifying.try_all.Goals as goal
 
 none-left : (trials : List Trial) → length trials ≡ 0 → trials ≡ []
@@ -23,8 +21,6 @@ loop-trial-init g c = record {
   made = made-none c.args.dump.now (g.H.Shelf.files c.args.shelf.now) (g.W.Sink.written c.args.lines.now) c.none-tried.result c.none-tried.ensures;
   kept = refl;
   blames = CountsBy-none _;
-  shelf_later = omega arith;
-  lines_later = omega arith;
 }
 
 pub try_one-requires : goal.try_one-requires
@@ -51,8 +47,6 @@ loop-trial-preserved g c =
           c.note.ensures;
       kept = c.try_one.ensures.files ∙ at.invariant.kept;
       blames = CountsBy-then _ at.invariant.blames c.in-Ok.ensures.blames;
-      shelf_later = omega (arith, at.invariant.shelf_later, c.try_one.ensures.shelf_later);
-      lines_later = omega (arith, at.invariant.lines_later, c.try_one.ensures.lines_later);
     }
 
 pub returns-clause-ok : goal.returns-clause-ok
@@ -72,9 +66,6 @@ returns-in-Err-clause-err g c =
     made-cut c.args.dump.now (g.H.Shelf.files c.args.shelf.now) (g.W.Sink.written c.args.lines.now) at.yielded (g.W.Sink.written at.lines) at.tried at.invariant.made trial
     (into_iter_items c.next.new.self) whole (g.W.Sink.written c.try_one.new.lines) c.in-Err.fault
     (subst (λ (o : Option (List File)). CutAtOne c.args.dump.now o (g.W.Sink.written at.lines) (g.W.Sink.written c.try_one.new.lines) trial.candidate c.in-Err.fault) at.invariant.kept c.in-Err.ensures.err)
-
-pub returns-in-Err-clause-cause : goal.returns-in-Err-clause-cause
-returns-in-Err-clause-cause g c = cause-since Finding Tried _ _ _ _ _ _ c.in-Err.fault c.loop-trial.invariant.shelf_later c.loop-trial.invariant.lines_later c.in-Err.ensures.cause
 
 pub returns-clause-blames : goal.returns-clause-blames
 returns-clause-blames g c = c.loop-trial.invariant.blames

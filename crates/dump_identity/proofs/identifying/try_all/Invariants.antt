@@ -1,4 +1,4 @@
-use Rattle.std.proofs.Common.{◌≡◌, ◌≤◌, ◌++◌, length, map}
+use Rattle.std.proofs.Common.{◌≡◌, ◌++◌, length, map}
 use Rattle.std.specs.Vec.Iter.{into_iter_items, into_iter_len}
 use Rattle.flux_base.specs.Blames.{CountsBy, no_counts, no_one, three_counts}
 use Rattle.flux_base.specs.Counts.{counts_of}
@@ -15,6 +15,4 @@ invariant-loop-trial g l = record {
   kept : g.H.Shelf.files l.shelf ≡ g.H.Shelf.files l.initial.shelf;
   blames : CountsBy no_one (three_counts (counts_of g.H.Source.faults g.H.Source.failed l.initial.shelf) (counts_of g.W.Sink.faults g.W.Sink.failed l.initial.lines) no_counts)
       (three_counts (counts_of g.H.Source.faults g.H.Source.failed l.shelf) (counts_of g.W.Sink.faults g.W.Sink.failed l.lines) no_counts);
-  shelf_later : g.H.Source.faults l.initial.shelf ≤ g.H.Source.faults l.shelf;
-  lines_later : g.W.Sink.faults l.initial.lines ≤ g.W.Sink.faults l.lines;
 }

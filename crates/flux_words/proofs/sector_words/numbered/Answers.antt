@@ -1,6 +1,6 @@
 use Rattle.std.proofs.Common.{◌∷◌, ℕ, List, ap, subst, sym, ◌∙◌, decimal, None}
 use Rattle.flux_words.specs.SectorWords.{MOST_COPY_NUMBERS, NamesNumber}
-use Rattle.flux_words.proofs.DumpWords.{head-same}
+use Rattle.flux_words.specs.lemmas.Options.{head-same}
 use Rattle.flux_words.proofs.sector_words.numbered.Goals as goal
 
 pub returns-in-Some-copy_number : goal.returns-in-Some-copy_number

@@ -1,0 +1,60 @@
+-- What there is to do for a command over dumps on the shelf, and what was done: it gave all that the files come to, or a fault cut it.
+use Rattle.std.specs.Prelude.{◌≡◌, ◌⊎◌, ◌<◌, ℕ, List, [], length, Option, Some, None}
+use Rattle.dump_reading.specs.Outcomes.{DumpDisk, IsToldEmpty}
+use Rattle.flux_base.specs.Outside.{Rose}
+use Rattle.flux_base.specs.declared.status.Status.{Status}
+use Rattle.flux_base.specs.declared.status.Status.TheVariants.{AllGood, NotAllGood, Refused, Usage, ReadFault, ImageFault, NotesFault, Memory, ShelfFault}
+use Rattle.sector_report.specs.DumpLines.{no_files_text}
+use Rattle.track_shelf.specs.Files.{File}
+use Rattle.flux_cli.specs.FolderRuns.{OnShelf}
+use Rattle.flux_cli.specs.Runs.{growth}
+use Rattle.flux_cli.specs.Work.{Got, GotNothing, GotPart, Growth, Outcome}
+
+-- The row of one command.
+pub record ShelfWork : Type 1 where
+  -- what the files come to, by those that are told
+  pub gives : (told : Option (List File)) → Outcome → Type 0
+  -- what both sinks got where a fault cut the work, by the status, which says whose fault it is
+  pub cut : Status → (told : Option (List File)) → (image notes : Growth) → Type 0
+
+-- the work is done: both sinks got all that the files come to, and the status is the outcome's
+pub record FinishedOnShelf {H W N : Type 0} (work : ShelfWork) (status : Status) (before after : OnShelf H W N) : Type 0 where
+  pub outcome : Outcome
+  pub is : work.gives before.shelf.files outcome
+  pub status_is : status ≡ outcome.status
+  pub image_got : Got (growth before.image after.image) outcome.image
+  pub notes_got : Got (growth before.notes after.notes) outcome.notes
+
+-- it was cut at a place that the command's row states
+abbrev pub IsCutOnShelf : {H W N : Type 0} → ShelfWork → Status → (before after : OnShelf H W N) → Type 0
+IsCutOnShelf work status before after = work.cut status before.shelf.files (growth before.image after.image) (growth before.notes after.notes)
+
+-- What the status says. All was given that the files come to; or a fault of one object, which that object counted, cut the work; or there was no
+-- memory to begin.
+abbrev pub DidOnShelf : {H W N : Type 0} → ShelfWork → Status → (before after : OnShelf H W N) → Type 0
+DidOnShelf work AllGood before after = FinishedOnShelf work AllGood before after
+DidOnShelf work NotAllGood before after = FinishedOnShelf work NotAllGood before after
+DidOnShelf work Refused before after = FinishedOnShelf work Refused before after
+DidOnShelf work Usage before after = ⊥
+DidOnShelf work ReadFault before after = ⊥
+DidOnShelf work ImageFault before after = IsCutOnShelf work ImageFault before after × Rose before.image.counts.faults after.image.counts.faults
+DidOnShelf work NotesFault before after = IsCutOnShelf work NotesFault before after × Rose before.notes.counts.faults after.notes.counts.faults
+DidOnShelf work Memory before after = after ≡ before
+DidOnShelf work ShelfFault before after = IsCutOnShelf work ShelfFault before after × Rose before.shelf.source.counts.faults after.shelf.source.counts.faults
+
+-- where a dump has none of the wanted files, its number is told
+abbrev pub empty_outcome : ℕ → Outcome
+empty_outcome number = record { status = Refused; image = []; notes = no_files_text number }
+
+-- The first of the dumps that has none of the disk's files is refused; where each has one, the outcome is one of these.
+abbrev pub IsEmptyOr : DumpDisk → (told : Option (List File)) → (Outcome → Type 0) → Outcome → Type 0
+IsEmptyOr disk told Is o =
+    ((number : ℕ) × (number < length disk.dumps) × IsToldEmpty disk told (Some number) × (o ≡ empty_outcome number)) ⊎ (IsToldEmpty disk told None × Is o)
+
+-- of the line that says which dump has none of the disk's files a part was written that is shorter than it
+pub record CutInEmpty (disk : DumpDisk) (told : Option (List File)) (image notes : Growth) : Type 0 where
+  pub number : ℕ
+  pub low : number < length disk.dumps
+  pub is : IsToldEmpty disk told (Some number)
+  pub image_got : GotNothing image
+  pub notes_got : GotPart notes (no_files_text number)

@@ -1,0 +1,123 @@
+//! What a command over the shelf promises, whichever it is, and each of these commands.
+
+ghost use Rattle.std.specs.Prelude.{◌≢◌, ◌≤◌, ◌<◌, length};
+ghost use Rattle.flux_base.specs.Blames.{CountsBy, three_counts};
+ghost use Rattle.flux_base.specs.Counts.{counts_of};
+ghost use Rattle.flux_base.specs.Moments.{moment};
+ghost use Rattle.flux_base.specs.declared.status.Status.{Status};
+ghost use Rattle.flux_cli.specs.Blamed.{shelf_blame};
+ghost use Rattle.flux_words.specs.DumpWords.{asked_of};
+ghost use Rattle.flux_cli.specs.FolderRuns.{on, shelf_moment};
+ghost use Rattle.flux_words.specs.SectorWords.{asked_sector};
+ghost use Rattle.flux_cli.specs.ShelfRuns.{DoesOnShelf, OfShelf, a_folder, a_sector, an_identity, some_dumps};
+ghost use Rattle.flux_engine.specs.Recordings.{track_at};
+ghost use Rattle.sector_images.specs.Places.{IsSector, tracks};
+
+use crate::endings::{end_of_identity, end_of_sector};
+use crate::folder::decode_folder;
+use crate::read::show;
+use dump_identity::{IdentityRoom, identify};
+use dump_reading::Dumps;
+use flux_base::{Memory, Sink, Status, Word};
+use flux_engine::DiskRoom;
+use flux_words::{DumpsAsked, ShowAsked};
+use sector_copies::{SectorRoom, show_sector};
+use sector_images::Format;
+use std::alloc::Global;
+use track_shelf::Shelf;
+
+/// A command over the shelf, with what its words ask for.
+pub(crate) trait ShelfTask<H: Shelf, W: Sink, N: Sink> {
+    /// What is asked of the shelf.
+    ghost asked: { Self → OfShelf };
+
+    /// What it keeps to.
+    ghost is_bounded: { Self → Type 0 } = { λ _. Unit {0} };
+
+    /// Does the command, in a room of its own.
+    fn run(&self, alloc: Global, shelf: &mut H, image: &mut W, notes: &mut N) -> Status
+        requires { is_bounded self.now }
+        ensures did { DoesOnShelf (asked self.now) result
+            (on (shelf_moment (moment H.left H.faults H.failed shelf.old) (H.given shelf.old) (H.files shelf.old)) (moment W.written W.faults W.failed image.old) (moment N.written N.faults N.failed notes.old))
+            (on (shelf_moment (moment H.left H.faults H.failed shelf.new) (H.given shelf.new) (H.files shelf.new)) (moment W.written W.faults W.failed image.new) (moment N.written N.faults N.failed notes.new)) }
+        ensures blames { CountsBy (shelf_blame result)
+            (three_counts (counts_of H.faults H.failed shelf.old) (counts_of W.faults W.failed image.old) (counts_of N.faults N.failed notes.old))
+            (three_counts (counts_of H.faults H.failed shelf.new) (counts_of W.faults W.failed image.new) (counts_of N.faults N.failed notes.new)) }
+        ensures no_source { result ≢ Status.ReadFault };
+}
+
+/// Decodes the track files of a folder: the image goes to `image`, and the report to `notes`.
+#[derive(Clone, Copy)]
+pub(crate) struct DecodeFolder<'a> {
+    pub(crate) format: Format,
+    pub(crate) folder: &'a [u8],
+}
+
+impl<H: Shelf, W: Sink, N: Sink> ShelfTask<H, W, N> for DecodeFolder<'_> {
+    ghost asked = { λ task. a_folder task.format task.folder.now };
+
+    fn run(&self, alloc: Global, shelf: &mut H, image: &mut W, notes: &mut N) -> Status {
+        match DiskRoom::reserve(alloc, self.format) {
+            Ok(mut room) => decode_folder(&mut room, self.format, self.folder, shelf, image, notes),
+            Err(Memory) => Status::Memory,
+        }
+    }
+}
+
+/// Reads a disk of its dumps, to its image and its report or to a picture.
+impl<H: Shelf, W: Sink, N: Sink> ShelfTask<H, W, N> for DumpsAsked<'_> {
+    ghost asked = { λ task. some_dumps (asked_of task) };
+
+    ghost is_bounded = { λ task. length task.dumps.now ≤ 8 };
+
+    fn run(&self, alloc: Global, shelf: &mut H, image: &mut W, notes: &mut N) -> Status {
+        let dumps = Dumps {
+            names: self.dumps,
+            stepping: self.options.stepping(),
+        };
+        match DiskRoom::reserve(alloc, self.format) {
+            Ok(mut room) => show(self.options.shown(), &dumps, &mut room, shelf, image, notes),
+            Err(Memory) => Status::Memory,
+        }
+    }
+}
+
+/// Says which disk a dump is of: the lines go to `image`. Notes say that it has no file of any track.
+#[derive(Clone, Copy)]
+pub(crate) struct Identify<'a> {
+    pub(crate) dump: &'a Word,
+}
+
+impl<H: Shelf, W: Sink, N: Sink> ShelfTask<H, W, N> for Identify<'_> {
+    ghost asked = { λ task. an_identity task.dump.now };
+
+    fn run(&self, alloc: Global, shelf: &mut H, image: &mut W, notes: &mut N) -> Status {
+        match IdentityRoom::reserve(alloc) {
+            Ok(room) => end_of_identity(identify(self.dump, room, shelf, image), notes),
+            Err(Memory) => Status::Memory,
+        }
+    }
+}
+
+/// Shows a sector of a disk of its dumps: its contents, or one of them alone, go to `image`. Notes say which streams were passed over, or which
+/// dump has none of the disk's files.
+impl<H: Shelf, W: Sink, N: Sink> ShelfTask<H, W, N> for ShowAsked<'_> {
+    ghost asked = { λ task. a_sector (asked_sector task) };
+
+    ghost is_bounded = { λ task.
+        (length task.dumps.now ≤ 8) × (task.number < length (tracks task.format)) × IsSector task.format (track_at task.format task.number) task.sector };
+
+    fn run(&self, alloc: Global, shelf: &mut H, image: &mut W, notes: &mut N) -> Status {
+        let dumps = Dumps {
+            names: self.dumps,
+            stepping: self.stepping,
+        };
+        match SectorRoom::reserve(alloc, self.format, self.number, self.sector) {
+            Ok(mut room) => {
+                let answer = show_sector(&dumps, self.alone, &mut room, shelf, image, notes);
+                end_of_sector(answer, notes)
+            }
+            Err(Memory) => Status::Memory,
+        }
+    }
+}
