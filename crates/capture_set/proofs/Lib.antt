@@ -1,1 +1,2 @@
 pub mod OneCapture
+pub mod Causes

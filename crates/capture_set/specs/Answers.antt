@@ -1,8 +1,10 @@
 -- What decoding a set may answer: what reading a disk by the plan of a set may.
-use Rattle.std.specs.Prelude.{ℕ, List, Option, Result}
+use Rattle.std.specs.Prelude.{ℕ, List, Option, Result, Err}
+use Rattle.flux_base.specs.Outside.{Rose}
 use Rattle.sector_images.specs.declared.format.Format.{Format}
-use Rattle.flux_engine.specs.PlanAnswers.{DecodesPlanned, IsFinished, PlanAnswer, PlanCause, SaysOfPlannedInput}
+use Rattle.flux_engine.specs.PlanAnswers.{DecodesPlanned, IsFinished, PlanAnswer, SaysOfPlannedInput}
 use Rattle.flux_engine.specs.declared.fault.PlanFault.{PlanFault}
+use Rattle.flux_engine.specs.declared.fault.PlanFault.TheVariants.{ReadFault, ImageFault, NotesFault}
 use Rattle.capture_set.specs.Sets.{set_part_of, set_plan}
 
 -- A call that decodes a set from a fresh room.
@@ -17,7 +19,10 @@ SaysOfSetInput format count x left' image image' notes notes' answer =
 
 -- each fault of an object of the outside comes only where its count rose
 abbrev pub SetCause : {A : Type 0} → (source source' image image' notes notes' : ℕ) → Result A PlanFault → Type 0
-SetCause source source' image image' notes notes' answer = PlanCause source source' image image' notes notes' answer
+SetCause source source' image image' notes notes' (Err ReadFault) = Rose source source'
+SetCause source source' image image' notes notes' (Err ImageFault) = Rose image image'
+SetCause source source' image image' notes notes' (Err NotesFault) = Rose notes notes'
+SetCause source source' image image' notes notes' _ = Unit {0}
 
 -- the whole input was decoded, or a stream of it has a fault
 abbrev pub IsWholeOrRefused : PlanAnswer → Type 0

@@ -4,11 +4,14 @@ use Rattle.std.specs.Io.KnownBytes.{Consumes, IsAtEnd}
 use Rattle.std.proofs.Common.{sym, subst, ◌∙◌, arith, append-nil}
 use Rattle.sector_images.specs.declared.format.Format.{Format}
 use Rattle.flux_engine.specs.Answers.{Stayed}
-use Rattle.flux_engine.specs.PlanAnswers.{PlanAnswer, PlanCause}
+use Rattle.flux_base.specs.Blames.{CountsBy, no_counts, three_counts}
+use Rattle.flux_base.specs.Counts.{FaultCounts}
+use Rattle.flux_engine.specs.Blamed.{plan_blame}
+use Rattle.flux_engine.specs.PlanAnswers.{PlanAnswer}
 use Rattle.flux_engine.specs.declared.fault.PlanFault.{PlanFault}
 use Rattle.flux_engine.specs.declared.fault.PlanFault.TheVariants.{ReadFault, ImageFault, NotesFault, Refused}
 use Rattle.flux_engine.specs.lemmas.ReadLaws.{Rest, rest_of, some_same}
-use Rattle.disk_map.specs.Answers.{IsOfDiskAtHand, IsWholeOrRefused, MapCause, MapsDisk, SaysOfMap, SaysOfMapInput}
+use Rattle.disk_map.specs.Answers.{IsOfDiskAtHand, IsWholeOrRefused, MapsDisk, SaysOfMap, SaysOfMapInput}
 
 at_end : (x taken : List ℕ) (left' : Option (List ℕ)) → IsAtEnd left' → (r : Rest x left' taken) → r.rest ≡ []
 at_end x taken None end r = absurd (cc)
@@ -42,16 +45,19 @@ module _ (format : Format) (x : List ℕ) (left left' picture picture' : Option 
       let r = rest_is d.taken d.consumed in (r.rest, r.left, whole (Err ImageFault) d r (λ end. at_end x d.taken left' end r))
   says_of_input (Err NotesFault) d = absurd (d.says [] (λ cannot. refl))
 
-pub whole_or_refused : (s s' p p' : ℕ) (answer : PlanAnswer) → MapCause s s' p p' answer → Stayed s s' → Stayed p p' → IsWholeOrRefused answer
-whole_or_refused s s' p p' (Ok totals) cause source picture = tt
-whole_or_refused s s' p p' (Err (Refused track capture block fault)) cause source picture = tt
-whole_or_refused s s' p p' (Err ReadFault) cause source picture = omega (arith, cause, source.0, source.1)
-whole_or_refused s s' p p' (Err ImageFault) cause source picture = omega (arith, cause, picture.0, picture.1)
-whole_or_refused s s' p p' (Err NotesFault) cause source picture = omega (arith, cause)
+-- no notes are written that could fail
+module _ {source source' picture picture' : FaultCounts} where
+  pub whole_or_refused : (answer : PlanAnswer) → CountsBy (plan_blame answer) (three_counts source picture no_counts) (three_counts source' picture' no_counts)
+      → Stayed source.faults source'.faults → Stayed picture.faults picture'.faults → IsWholeOrRefused answer
+  whole_or_refused (Ok totals) counts stayed drawn = tt
+  whole_or_refused (Err (Refused track capture block fault)) counts stayed drawn = tt
+  whole_or_refused (Err ReadFault) counts stayed drawn = omega (arith, counts.source.cause, stayed.0, stayed.1)
+  whole_or_refused (Err ImageFault) counts stayed drawn = omega (arith, counts.image.cause, drawn.0, drawn.1)
+  whole_or_refused (Err NotesFault) counts stayed drawn = omega (arith, counts.notes.cause)
 
--- no notes were written that could have failed
-pub no_notes_fault : (s s' p p' : ℕ) (fault : PlanFault) → PlanCause {A = Unit {0}} s s' p p' 0 0 (Err fault) → ¬ (fault ≡ NotesFault)
-no_notes_fault s s' p p' NotesFault cause is = omega (arith, cause)
-no_notes_fault s s' p p' ReadFault cause is = absurd (cc)
-no_notes_fault s s' p p' ImageFault cause is = absurd (cc)
-no_notes_fault s s' p p' (Refused track capture block fault) cause is = absurd (cc)
+  pub no_notes_fault : (fault : PlanFault) → CountsBy (plan_blame {A = Unit {0}} (Err fault)) (three_counts source picture no_counts) (three_counts source' picture' no_counts)
+      → ¬ (fault ≡ NotesFault)
+  no_notes_fault NotesFault counts is = omega (arith, counts.notes.cause)
+  no_notes_fault ReadFault counts is = absurd (cc)
+  no_notes_fault ImageFault counts is = absurd (cc)
+  no_notes_fault (Refused track capture block fault) counts is = absurd (cc)

@@ -1,5 +1,5 @@
 -- What drawing a disk may answer, and what that says of the input and of the bytes that were written.
-use Rattle.std.specs.Prelude.{◌≡◌, ◌≤◌, ◌⊎◌, ℕ, ◌+◌, List, [], ◌++◌, length, Option, Some, None, Result, Ok, Err}
+use Rattle.std.specs.Prelude.{◌≡◌, ◌≤◌, ◌⊎◌, ℕ, ◌+◌, List, [], ◌++◌, length, Option, Some, None, Ok, Err}
 use Rattle.std.specs.Io.KnownBytes.{Appends, Consumes, IsAtEnd}
 use Rattle.flux_base.specs.Outside.{AppendsPart}
 use Rattle.kryo_stream.specs.declared.fault.StreamFault.TheVariants.{Truncated}
@@ -7,8 +7,7 @@ use Rattle.sector_images.specs.Places.{tracks}
 use Rattle.sector_images.specs.declared.format.Format.{Format}
 use Rattle.flux_engine.specs.Answers.{IsTakenBehind}
 use Rattle.flux_engine.specs.Disks.{Stop, decoded_count, stop_of}
-use Rattle.flux_engine.specs.PlanAnswers.{IsFinished, MOST_OF_STREAM, PlanAnswer, PlanCause, SaysTruncated}
-use Rattle.flux_engine.specs.declared.fault.PlanFault.{PlanFault}
+use Rattle.flux_engine.specs.PlanAnswers.{IsFinished, MOST_OF_STREAM, PlanAnswer, SaysTruncated}
 use Rattle.flux_engine.specs.declared.fault.PlanFault.TheVariants.{ReadFault, ImageFault, NotesFault, Refused}
 use Rattle.disk_map.specs.Maps.{AreMapTracks, IsMapped, MapTrack, Mapped, foot_of, front_of}
 
@@ -19,11 +18,6 @@ IsOfDiskAtHand left' (Err (Refused _ _ _ fault)) = fault ≡ Truncated
 IsOfDiskAtHand left' (Err ReadFault) = Unit {0}
 IsOfDiskAtHand left' (Err ImageFault) = IsAtEnd left'
 IsOfDiskAtHand left' _ = ⊥
-
--- each fault of an object of the outside comes only where its count rose; the picture stands in the place of the image, and there are no
--- notes, which could fail
-abbrev pub MapCause : {A : Type 0} → (source source' picture picture' : ℕ) → Result A PlanFault → Type 0
-MapCause source source' picture picture' answer = PlanCause source source' picture picture' 0 0 answer
 
 -- all was written that the input x comes to
 pub record Drew (format : Format) (x : List ℕ) (picture picture' : Option (List ℕ)) (o : Mapped) : Type 0 where

@@ -8,7 +8,7 @@ ghost use Rattle.flux_engine.specs.Blamed.{plan_blame};
 ghost use Rattle.flux_engine.specs.Needed.{EndsInStreams, ReadsWhereOpen};
 ghost use Rattle.flux_engine.specs.Room.{fresh};
 ghost use Rattle.kryo_stream.specs.Reads.{source_at};
-ghost use Rattle.disk_map.specs.Answers.{IsWholeOrRefused, MapCause, MapsDisk, SaysOfMapInput};
+ghost use Rattle.disk_map.specs.Answers.{IsWholeOrRefused, MapsDisk, SaysOfMapInput};
 ghost use Rattle.disk_map.specs.Places.{layout_of};
 ghost use Rattle.disk_map.specs.Progress.{EndsEarly};
 ghost use Rattle.disk_map.specs.Texts.{grid_text, grids_text, top_by};
@@ -42,15 +42,12 @@ pub fn map_disk<S: Source, P: Sink>(
     // A source that tells its bytes is read only where those that it gave before end inside a stream.
     ensures needed { (bytes : List ℕ) → S.left source.old ≡ Some bytes → ReadsWhereOpen (EndsInStreams room.old.format) (source_at S.left S.given S.faults source.old) (source_at S.left S.given S.faults source.new) }
 
-    ensures cause { MapCause (S.faults source.old) (S.faults source.new) (P.faults picture.old) (P.faults picture.new) result }
     ensures blames { CountsBy (plan_blame result)
         (three_counts (counts_of S.faults S.failed source.old) (counts_of P.faults P.failed picture.old) no_counts)
         (three_counts (counts_of S.faults S.failed source.new) (counts_of P.faults P.failed picture.new) no_counts) }
 
     // Over a source and a sink that do not fail there is no other answer.
     ensures complete { Stayed (S.faults source.old) (S.faults source.new) → Stayed (P.faults picture.old) (P.faults picture.new) → IsWholeOrRefused result }
-    ensures source_later { S.faults source.old ≤ S.faults source.new }
-    ensures picture_later { P.faults picture.old ≤ P.faults picture.new }
 {
     let format = room_format(room);
     match write_top("map", format, picture) {

@@ -1,11 +1,11 @@
-ghost use Rattle.std.specs.Prelude.{◌≡◌, ◌≤◌, ℕ, List, Some};
+ghost use Rattle.std.specs.Prelude.{◌≡◌, ℕ, List, Some};
 ghost use Rattle.flux_base.specs.Blames.{CountsBy, three_counts};
 ghost use Rattle.flux_base.specs.Counts.{counts_of};
 ghost use Rattle.flux_engine.specs.Answers.{Stayed};
 ghost use Rattle.flux_engine.specs.Blamed.{plan_blame};
 ghost use Rattle.flux_engine.specs.Needed.{ReadsWhereOpen};
 ghost use Rattle.flux_engine.specs.Plans.{EndsInPlan};
-ghost use Rattle.flux_engine.specs.PlanAnswers.{IsFinished, PlanCause};
+ghost use Rattle.flux_engine.specs.PlanAnswers.{IsFinished};
 ghost use Rattle.flux_engine.specs.Room.{fresh};
 ghost use Rattle.kryo_stream.specs.Reads.{source_at};
 ghost use Rattle.disk_rescue.specs.Answers.{Rescues, SaysOfRescueInput};
@@ -34,16 +34,12 @@ pub fn rescue_disk<S: Source, W: Sink, N: Sink>(
     // A source that tells its bytes is read only where those that it gave before end inside a stream.
     ensures needed { (bytes : List ℕ) → S.left source.old ≡ Some bytes → ReadsWhereOpen (EndsInPlan rescuing room.old.format) (source_at S.left S.given S.faults source.old) (source_at S.left S.given S.faults source.new) }
 
-    ensures cause { PlanCause (S.faults source.old) (S.faults source.new) (W.faults image.old) (W.faults image.new) (N.faults notes.old) (N.faults notes.new) result }
     ensures blames { CountsBy (plan_blame result)
         (three_counts (counts_of S.faults S.failed source.old) (counts_of W.faults W.failed image.old) (counts_of N.faults N.failed notes.old))
         (three_counts (counts_of S.faults S.failed source.new) (counts_of W.faults W.failed image.new) (counts_of N.faults N.failed notes.new)) }
 
     // Over a source and sinks that do not fail there is no other answer.
     ensures complete { Stayed (S.faults source.old) (S.faults source.new) → Stayed (W.faults image.old) (W.faults image.new) → Stayed (N.faults notes.old) (N.faults notes.new) → IsFinished result }
-    ensures source_later { S.faults source.old ≤ S.faults source.new }
-    ensures image_later { W.faults image.old ≤ W.faults image.new }
-    ensures notes_later { N.faults notes.old ≤ N.faults notes.new }
 {
     decode_planned(rescue_plan(), room, source, image, notes)
 }

@@ -1,10 +1,9 @@
 //! The dumps of a disk, and where the streams of its tracks lie in them.
 
-ghost use Rattle.std.specs.Prelude.{◌≡◌, ◌≤◌, List, ℕ, Some, IfErr, IfOk};
+ghost use Rattle.std.specs.Prelude.{◌≡◌, List, ℕ, Some, IfErr, IfOk};
 ghost use Rattle.flux_base.specs.Counts.{Counts, counts_of};
 ghost use Rattle.dump_reading.specs.DumpStreams.{HaveComeOf, none_came, seen_file, seen_of};
 ghost use Rattle.dump_reading.specs.Files.{IsFresh};
-ghost use Rattle.flux_engine.specs.Answers.{CaptureCause};
 ghost use Rattle.flux_engine.specs.Blamed.{is_unread};
 ghost use Rattle.flux_engine.specs.LoopProgress.{IsBoundedNext, seen_next};
 ghost use Rattle.kryo_stream.specs.declared.fault.CaptureFault.TheVariants.{ReadFault};
@@ -67,8 +66,6 @@ fn read_dump<H: Shelf>(
     ensures fault { IfErr result (λ fault. fault ≡ ReadFault) }
     ensures kept { H.files shelf.new ≡ H.files shelf.old }
     ensures bounded { IfOk result (λ next. IsBoundedNext next stream.new.flux) }
-    ensures cause { CaptureCause (H.faults shelf.old) (H.faults shelf.new) result }
-    ensures later { H.faults shelf.old ≤ H.faults shelf.new }
     ensures counts { Counts (is_unread result) (counts_of H.faults H.failed shelf.old) (counts_of H.faults H.failed shelf.new) }
 {
     match shelf.open_file(dump, track) {
@@ -88,8 +85,6 @@ fn read_file<H: Shelf>(
     ensures fault { IfErr result (λ fault. fault ≡ ReadFault) }
     ensures kept { H.files shelf.new ≡ H.files shelf.old }
     ensures bounded { IfOk result (λ next. IsBoundedNext next stream.new.flux) }
-    ensures cause { CaptureCause (H.faults shelf.old) (H.faults shelf.new) result }
-    ensures later { H.faults shelf.old ≤ H.faults shelf.new }
     ensures counts { IsFresh (counts_of H.File.faults H.File.failed file) (counts_of H.faults H.failed shelf.old)
         → Counts (is_unread result) (counts_of H.faults H.failed shelf.old) (counts_of H.faults H.failed shelf.new) }
 {

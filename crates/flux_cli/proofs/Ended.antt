@@ -2,14 +2,16 @@
 use Rattle.std.proofs.Common.{◌≡◌, ◌==◌, ◌≤◌, ℕ, false, List, [], Option, Some, None, Result, Ok, Err, refl, arith}
 use Rattle.std.proofs.KnownBytes.{Appends-nil, Consumes-nil, Keeps-refl}
 use Rattle.std.specs.List.{slice_get}
-use Rattle.disk_map.specs.Answers.{MapCause, MapsDisk}
+use Rattle.disk_map.specs.Answers.{MapsDisk}
+use Rattle.flux_base.specs.Blames.{CountsBy, no_counts, three_counts}
 use Rattle.flux_base.specs.Moments.{Moment, Puts}
 use Rattle.flux_base.specs.declared.track.TrackId.{TrackId}
 use Rattle.flux_base.specs.declared.outside.Failed.{Failed}
 use Rattle.flux_base.specs.declared.status.Status.{Status}
 use Rattle.flux_base.specs.declared.status.Status.TheVariants.{AllGood, ReadFault, ImageFault, NotesFault}
 use Rattle.flux_engine.specs.Answers.{Answer as DiskAnswer}
-use Rattle.flux_engine.specs.PlanAnswers.{DecodesPlanned, PlanAnswer, PlanCause}
+use Rattle.flux_engine.specs.Blamed.{plan_blame}
+use Rattle.flux_engine.specs.PlanAnswers.{DecodesPlanned, PlanAnswer}
 use Rattle.flux_engine.specs.Tracks.{part_by}
 use Rattle.flux_engine.specs.Writes.{Answer as ImageAnswer, WriteCause, WritesMade}
 use Rattle.flux_engine.specs.lemmas.ReadLaws.{no_reads}
@@ -152,17 +154,17 @@ module _ {S W N : Type 0} (before : Outside S W N) (source : Moment S) (given : 
 
     pub plan-ended : (answer : PlanAnswer)
         → DecodesPlanned plan (part_by plan.naming) format before.source.bytes source.bytes before.image.bytes image.bytes before.notes.bytes mid.bytes answer
-        → PlanCause before.source.counts.faults source.counts.faults before.image.counts.faults image.counts.faults before.notes.counts.faults mid.counts.faults answer
+        → CountsBy (plan_blame answer) (three_counts before.source.counts before.image.counts before.notes.counts) (three_counts source.counts image.counts mid.counts)
         → EndsBy (plan_ending plan.naming answer) status mid after → Does command status before (outside source given image after)
-    plan-ended (Ok totals) d cause is =
+    plan-ended (Ok totals) d blames is =
         ends-with Planned (status_of totals None) status mid after (planned-done plan format command by_plan before (outside source given image mid) counts needed totals d) is
-    plan-ended (Err PlanUnread) d cause is =
-        ends-with Planned ReadFault status mid after (planned-unread plan format command by_plan before (outside source given image mid) counts needed d cause) is
-    plan-ended (Err PlanUnwritten) d cause is =
-        ends-with Planned ImageFault status mid after (planned-image-fault plan format command by_plan before (outside source given image mid) counts needed d cause) is
-    plan-ended (Err PlanUntold) d cause is =
-        ends-with Planned NotesFault status mid after (planned-notes-fault plan format command by_plan before (outside source given image mid) counts needed d cause) is
-    plan-ended (Err (PlanRefused track capture block fault)) d cause is =
+    plan-ended (Err PlanUnread) d blames is =
+        ends-with Planned ReadFault status mid after (planned-unread plan format command by_plan before (outside source given image mid) counts needed d blames.source.cause) is
+    plan-ended (Err PlanUnwritten) d blames is =
+        ends-with Planned ImageFault status mid after (planned-image-fault plan format command by_plan before (outside source given image mid) counts needed d blames.image.cause) is
+    plan-ended (Err PlanUntold) d blames is =
+        ends-with Planned NotesFault status mid after (planned-notes-fault plan format command by_plan before (outside source given image mid) counts needed d blames.notes.cause) is
+    plan-ended (Err (PlanRefused track capture block fault)) d blames is =
         ends-refused Planned (stop_text plan.naming (record { track = track; capture = capture; block = block; fault = fault })) status mid after
         (λ line later. planned-refused plan format command by_plan before (outside source given image after) mid track capture block fault d counts needed later line)
         (λ part later rose. planned-cut-refusal plan format command by_plan before (outside source given image after) mid track capture block fault d counts needed later part rose) is
@@ -209,19 +211,19 @@ module _ {S W N : Type 0} (before : Outside S W N) (source : Moment S) (given : 
     -- a picture
     pub map-ended : (format : Format) (answer : PlanAnswer) → WasReadWhereNeeded (map_work format) before (outside source given image before.notes)
         → MapsDisk format before.source.bytes source.bytes before.image.bytes image.bytes answer
-        → MapCause before.source.counts.faults source.counts.faults before.image.counts.faults image.counts.faults answer
+        → CountsBy (plan_blame answer) (three_counts before.source.counts before.image.counts no_counts) (three_counts source.counts image.counts no_counts)
         → EndsBy (plan_ending Unnamed answer) status before.notes after → Does (Map format) status before (outside source given image after)
-    map-ended format (Ok totals) needed d cause is =
+    map-ended format (Ok totals) needed d blames is =
         ends-with (λ (s : Status) (n : Moment N). Does (Map format) s before (outside source given image n)) (status_of totals None) status before.notes after
         (map-done format before (outside source given image before.notes) (fell before.notes (omega arith)) needed (Appends-nil before.notes.bytes) (Keeps-refl before.notes.bytes) totals d) is
-    map-ended format (Err PlanUnread) needed d cause is =
+    map-ended format (Err PlanUnread) needed d blames is =
         ends-with (λ (s : Status) (n : Moment N). Does (Map format) s before (outside source given image n)) ReadFault status before.notes after
-        (map-unread format before (outside source given image before.notes) (fell before.notes (omega arith)) needed (Appends-nil before.notes.bytes) (Keeps-refl before.notes.bytes) d cause) is
-    map-ended format (Err PlanUnwritten) needed d cause is =
+        (map-unread format before (outside source given image before.notes) (fell before.notes (omega arith)) needed (Appends-nil before.notes.bytes) (Keeps-refl before.notes.bytes) d blames.source.cause) is
+    map-ended format (Err PlanUnwritten) needed d blames is =
         ends-with (λ (s : Status) (n : Moment N). Does (Map format) s before (outside source given image n)) ImageFault status before.notes after
-        (map-image-fault format before (outside source given image before.notes) (fell before.notes (omega arith)) needed (Appends-nil before.notes.bytes) (Keeps-refl before.notes.bytes) d cause) is
-    map-ended format (Err PlanUntold) needed d cause is = absurd (d.says [] (λ _. refl))
-    map-ended format (Err (PlanRefused track capture block fault)) needed d cause is =
+        (map-image-fault format before (outside source given image before.notes) (fell before.notes (omega arith)) needed (Appends-nil before.notes.bytes) (Keeps-refl before.notes.bytes) d blames.image.cause) is
+    map-ended format (Err PlanUntold) needed d blames is = absurd (d.says [] (λ _. refl))
+    map-ended format (Err (PlanRefused track capture block fault)) needed d blames is =
         ends-refused (λ (s : Status) (n : Moment N). Does (Map format) s before (outside source given image n)) (refused_text track block fault) status before.notes after
         (λ line later. map-refused format before (outside source given image after) track capture block fault d (fell after later) needed line)
         (λ part later rose. map-cut-refusal format before (outside source given image after) track capture block fault d (fell after later) needed part rose) is

@@ -1,14 +1,11 @@
 -- What `map` does by what the drawing of the disk says.
-use Rattle.std.proofs.Common.{◌≡◌, ◌==◌, ◌≤◌, ℕ, ◌++◌, Bool, true, false, if◌then◌else◌, List, [], length, None, Ok, Err, refl, sym, ap, ◌∙◌, subst, append-nil, arith}
+use Rattle.std.proofs.Common.{◌==◌, ℕ, ◌++◌, Bool, true, false, if◌then◌else◌, List, [], length, None, Ok, Err, refl, sym, ap, ◌∙◌, subst, append-nil}
 use Rattle.std.specs.Io.KnownBytes.{Appends, Keeps}
-use Rattle.disk_map.specs.Answers.{DrewFront, MapCause, MapsDisk}
+use Rattle.disk_map.specs.Answers.{DrewFront, MapsDisk}
 use Rattle.disk_map.specs.Maps.{Mapped}
-use Rattle.flux_base.specs.Moments.{Moment}
 use Rattle.flux_base.specs.Outside.{Rose}
-use Rattle.flux_base.specs.declared.status.Status.{Status}
 use Rattle.flux_base.specs.declared.status.Status.TheVariants.{AllGood, NotAllGood, Refused as RefusedStatus, ReadFault as ReadFaultStatus, ImageFault as ImageFaultStatus, NotesFault as NotesFaultStatus}
 use Rattle.flux_engine.specs.Answers.{IsTakenBehind}
-use Rattle.flux_engine.specs.Disks.{Stop}
 use Rattle.flux_engine.specs.PlanAnswers.{PlanAnswer}
 use Rattle.flux_engine.specs.declared.fault.PlanFault.TheVariants.{ReadFault, ImageFault, Refused}
 use Rattle.kryo_stream.specs.declared.fault.StreamFault.{StreamFault}
@@ -18,7 +15,7 @@ use Rattle.sector_report.specs.Lines.{refused_text}
 use Rattle.sector_report.specs.declared.totals.Totals.{Totals}
 use Rattle.flux_cli.specs.DisksWork.{disk_leaves, refusal_of, status_of}
 use Rattle.flux_cli.specs.MapWork.{map_outcome, map_work}
-use Rattle.flux_cli.specs.Runs.{Does, Finished, IsCut, NoCountFell, Outside, WasReadWhereNeeded, growth}
+use Rattle.flux_cli.specs.Runs.{Does, Finished, NoCountFell, Outside, WasReadWhereNeeded, growth}
 use Rattle.flux_cli.specs.Work.{Got, GotPart}
 use Rattle.flux_words.specs.declared.command.Command.TheVariants.{Map}
 use Rattle.flux_cli.proofs.Inputs.{rest}
@@ -33,9 +30,6 @@ module _ {S W N : Type 0} (format : Format) (before after : Outside S W N) (coun
     (nothing : Appends before.notes.bytes after.notes.bytes []) (kept : Keeps before.notes.bytes after.notes.bytes) where
   abbrev Maps : PlanAnswer → Type 0
   Maps answer = MapsDisk format before.source.bytes after.source.bytes before.image.bytes after.image.bytes answer
-
-  abbrev Caused : PlanAnswer → Type 0
-  Caused answer = MapCause {A = Totals} before.source.counts.faults after.source.counts.faults before.image.counts.faults after.image.counts.faults answer
 
   -- all was drawn
   drawn : (totals : Totals) → Maps (Ok totals) → Finished (map_work format) (status_of totals None) before after
@@ -63,7 +57,7 @@ module _ {S W N : Type 0} (format : Format) (before after : Outside S W N) (coun
       by true done = record { answer = tt; says = done; counts = counts; needed = needed }
       by false done = record { answer = tt; says = done; counts = counts; needed = needed }
 
-  pub map-unread : Maps (Err ReadFault) → Caused (Err ReadFault) → Does (Map format) ReadFaultStatus before after
+  pub map-unread : Maps (Err ReadFault) → Rose before.source.counts.faults after.source.counts.faults → Does (Map format) ReadFaultStatus before after
   map-unread d cause =
       let r = rest before.source after.source d.taken d.consumed in
       let s = subst (λ x. DrewFront format x before.image.bytes after.image.bytes) (append-nil d.taken) (d.says [] (λ _. refl)) in record {
@@ -73,7 +67,7 @@ module _ {S W N : Type 0} (format : Format) (before after : Outside S W N) (coun
         needed = needed;
       }
 
-  pub map-image-fault : Maps (Err ImageFault) → Caused (Err ImageFault) → Does (Map format) ImageFaultStatus before after
+  pub map-image-fault : Maps (Err ImageFault) → Rose before.image.counts.faults after.image.counts.faults → Does (Map format) ImageFaultStatus before after
   map-image-fault d cause =
       let r = rest before.source after.source d.taken d.consumed in record {
         answer = tt;

@@ -1,13 +1,13 @@
 -- What a command does that reads a disk by a plan, by what the reading says.
-use Rattle.std.proofs.Common.{◌≡◌, ◌==◌, ◌≤◌, ℕ, ◌+◌, ◌*◌, ◌++◌, Bool, true, false, if◌then◌else◌, inl, inr, List, [], take, length, None, Some, Ok, Err, refl, sym, ap, ◌∙◌, subst, append-nil, arith}
+use Rattle.std.proofs.Common.{◌==◌, ◌≤◌, ℕ, ◌+◌, ◌*◌, ◌++◌, Bool, true, false, if◌then◌else◌, inl, inr, List, [], take, length, None, Some, Ok, Err, refl, sym, ap, ◌∙◌, subst, append-nil, arith}
 use Rattle.std.proofs.KnownBytes.{Appends-trans}
 use Rattle.flux_base.specs.Moments.{Moment}
 use Rattle.flux_base.specs.Outside.{Rose}
 use Rattle.flux_base.specs.declared.status.Status.{Status}
 use Rattle.flux_base.specs.declared.status.Status.TheVariants.{AllGood, NotAllGood, Refused as RefusedStatus, ReadFault as ReadFaultStatus, ImageFault as ImageFaultStatus, NotesFault as NotesFaultStatus}
 use Rattle.flux_engine.specs.Answers.{IsTakenBehind}
-use Rattle.flux_engine.specs.PlanAnswers.{DecodesPlanned, PlanAnswer, PlanCause}
-use Rattle.flux_engine.specs.Plans.{IsFirstFault, PlanStop, Planned, StopsAt, streams_in}
+use Rattle.flux_engine.specs.PlanAnswers.{DecodesPlanned, PlanAnswer}
+use Rattle.flux_engine.specs.Plans.{PlanStop, StopsAt, streams_in}
 use Rattle.flux_engine.specs.Tracks.{part_by}
 use Rattle.flux_engine.specs.declared.fault.PlanFault.TheVariants.{ReadFault, ImageFault, NotesFault, Refused}
 use Rattle.flux_engine.specs.declared.plan.Plan.{Plan}
@@ -42,9 +42,6 @@ leaves-if plan format x later false few = few
 module _ {S W N : Type 0} (plan : Plan) (format : Format) (command : Command) (by_plan : IsByPlan command plan format) (before after : Outside S W N) (counts : NoCountFell before after) (needed : WasReadWhereNeeded (planned_work plan format) before after) where
   abbrev Decodes : PlanAnswer → Type 0
   Decodes answer = DecodesPlanned plan (part_by plan.naming) format before.source.bytes after.source.bytes before.image.bytes after.image.bytes before.notes.bytes after.notes.bytes answer
-
-  abbrev Caused : PlanAnswer → Type 0
-  Caused answer = PlanCause {A = Totals} before.source.counts.faults after.source.counts.faults before.image.counts.faults after.image.counts.faults before.notes.counts.faults after.notes.counts.faults answer
 
   -- all was decoded
   decoded : (totals : Totals) → Decodes (Ok totals) → Finished (planned_work plan format) (status_of totals None) before after
@@ -82,7 +79,7 @@ module _ {S W N : Type 0} (plan : Plan) (format : Format) (command : Command) (b
       by true done = did AllGood tt (finished AllGood done)
       by false done = did NotAllGood tt (finished NotAllGood done)
 
-  pub planned-unread : Decodes (Err ReadFault) → Caused (Err ReadFault) → Does command ReadFaultStatus before after
+  pub planned-unread : Decodes (Err ReadFault) → Rose before.source.counts.faults after.source.counts.faults → Does command ReadFaultStatus before after
   planned-unread d cause =
       let r = rest before.source after.source d.taken d.consumed in
       let s = d.says [] (λ _. refl) in
@@ -97,12 +94,12 @@ module _ {S W N : Type 0} (plan : Plan) (format : Format) (command : Command) (b
       } in
       did ReadFaultStatus tt (cut ReadFaultStatus (record { taken = d.taken; later = r.later; input = r.input; place = place }), cause)
 
-  pub planned-image-fault : Decodes (Err ImageFault) → Caused (Err ImageFault) → Does command ImageFaultStatus before after
+  pub planned-image-fault : Decodes (Err ImageFault) → Rose before.image.counts.faults after.image.counts.faults → Does command ImageFaultStatus before after
   planned-image-fault d cause =
       let r = rest before.source after.source d.taken d.consumed in
       did ImageFaultStatus tt (cut ImageFaultStatus (record { taken = d.taken; later = r.later; input = r.input; place = d.says r.later (λ never. absurd never) }), cause)
 
-  pub planned-notes-fault : Decodes (Err NotesFault) → Caused (Err NotesFault) → Does command NotesFaultStatus before after
+  pub planned-notes-fault : Decodes (Err NotesFault) → Rose before.notes.counts.faults after.notes.counts.faults → Does command NotesFaultStatus before after
   planned-notes-fault d cause =
       let r = rest before.source after.source d.taken d.consumed in
       did NotesFaultStatus tt (cut NotesFaultStatus (record { taken = d.taken; later = r.later; input = r.input; place = inl (d.says r.later (λ never. absurd never)) }), cause)

@@ -4,9 +4,9 @@ use Rattle.std.proofs.Common.{ap, sym, subst, ◌∙◌, arith, inl, inr}
 use Rattle.sector_images.specs.Places.{tracks}
 use Rattle.sector_images.specs.declared.format.Format.{Format}
 use Rattle.sector_report.specs.declared.naming.Naming.TheVariants.{Unnamed}
-use Rattle.flux_engine.specs.Answers.{DecodesDisk, EngineCause, IsOfBytesAtHand, IsTakenBehind, IsTruncated, SaysOfDisk, WroteAll}
+use Rattle.flux_engine.specs.Answers.{DecodesDisk, IsOfBytesAtHand, IsTakenBehind, IsTruncated, SaysOfDisk, WroteAll}
 use Rattle.flux_engine.specs.Disks.{AreParts, Decoded, IsDecoded, IsPartAt, decoded_count, decoded_of, part_at}
-use Rattle.flux_engine.specs.PlanAnswers.{DecodesPlanned, IsOfBytesTaken, PlanAnswer, PlanCause, SaysOfPlanned, SaysTruncated, WrotePlanned, engine_answer}
+use Rattle.flux_engine.specs.PlanAnswers.{DecodesPlanned, IsOfBytesTaken, PlanAnswer, SaysOfPlanned, SaysTruncated, WrotePlanned, engine_answer}
 use Rattle.flux_engine.specs.Plans.{ArePlannedParts, IsFirstFault, IsPlanned, IsPlannedPart, PlanStop, Planned, StopsAt, decoding, planned_count, planned_of, streams_in}
 use Rattle.flux_engine.specs.Tracks.{TrackPart, part_by}
 use Rattle.flux_engine.specs.declared.fault.PlanFault.TheVariants.{ReadFault, ImageFault, NotesFault, Refused}
@@ -113,10 +113,3 @@ decodes_disk format left left' image image' notes notes' answer d = record {
   says = λ (later : List ℕ) only. says_of_disk format (d.taken ++ later) later image image' notes notes' answer (d.says later (λ is. only (at_hand answer is)));
   ended = λ is. d.ended (truncated answer is);
 }
-
-pub engine_cause : (s s' i i' n n' : ℕ) (answer : PlanAnswer) → PlanCause s s' i i' n n' answer → EngineCause s s' i i' n n' (engine_answer answer)
-engine_cause s s' i i' n n' (Ok totals) cause = tt
-engine_cause s s' i i' n n' (Err ReadFault) cause = cause
-engine_cause s s' i i' n n' (Err ImageFault) cause = cause
-engine_cause s s' i i' n n' (Err NotesFault) cause = cause
-engine_cause s s' i i' n n' (Err (Refused track capture block fault)) cause = tt

@@ -1,8 +1,8 @@
 -- What an answer says of the input that a source tells, and when the source is read.
-use Rattle.std.specs.Prelude.{◌≡◌, ◌<◌, ◌≤◌, ℕ, ◌+◌, ◌*◌, Bool, List, [], ◌++◌, length, nat_lt, take, Option, Some, None, Ok, Err, refl}
+use Rattle.std.specs.Prelude.{◌≡◌, ◌<◌, ℕ, ◌+◌, ◌*◌, Bool, List, [], ◌++◌, length, nat_lt, take, Option, Some, None, Ok, Err, refl}
 use Rattle.std.specs.List.{concat}
 use Rattle.std.specs.Io.KnownBytes.{Consumes, IsAtEnd}
-use Rattle.std.proofs.Common.{ap, sym, subst, ◌∙◌, arith, append-nil}
+use Rattle.std.proofs.Common.{ap, sym, subst, ◌∙◌, append-nil}
 use Rattle.std.proofs.lemmas.List.{append_cancel_right}
 use Rattle.kryo_stream.specs.Outcome.{DoNotTell, IsReadWhereNeeded, input_of}
 use Rattle.kryo_stream.specs.Reads.{SourceMoment}
@@ -10,20 +10,12 @@ use Rattle.kryo_stream.specs.Stream.{first_fault}
 use Rattle.kryo_stream.specs.declared.fault.StreamFault.TheVariants.{Truncated}
 use Rattle.sector_images.specs.Places.{tracks}
 use Rattle.sector_images.specs.declared.format.Format.{Format}
-use Rattle.flux_engine.specs.Answers.{CaptureCause, Stayed}
 use Rattle.flux_engine.specs.Needed.{ReadsWhereOpen}
 use Rattle.flux_engine.specs.Streams.{stream_at}
 use Rattle.flux_engine.specs.lemmas.ReadLaws.{Rest, reads_more, rest_of, some_same}
-use Rattle.flux_engine.specs.PlanAnswers.{DecodesPlanned, IsOfBytesTaken, IsFinished, SaysOfPlanned, SaysOfPlannedInput, PlanAnswer, PlanCause, of_part, of_stream}
+use Rattle.flux_engine.specs.PlanAnswers.{DecodesPlanned, IsOfBytesTaken, SaysOfPlanned, SaysOfPlannedInput, PlanAnswer}
 use Rattle.flux_engine.specs.PlanProgress.{HasCome}
 use Rattle.flux_engine.specs.Plans.{EndsInPlan, PartOf}
-use Rattle.flux_engine.specs.TrackParts.{PartCause}
-use Rattle.kryo_stream.specs.declared.fault.CaptureFault.{CaptureFault}
-use Rattle.kryo_stream.specs.declared.fault.CaptureFault.TheVariants.{ReadFault as UnreadCapture, Refused as RefusedCapture}
-use Rattle.flux_engine.specs.declared.fault.PlanFault.{PlanFault}
-use Rattle.flux_engine.specs.declared.track_part.PartFault.{PartFault}
-use Rattle.flux_engine.specs.declared.track_part.PartFault.TheVariants.{ImageFault as PartImageFault, NotesFault as PartNotesFault}
-use Rattle.sector_report.specs.declared.totals.Totals.{Totals}
 use Rattle.flux_engine.specs.declared.fault.PlanFault.TheVariants.{ReadFault, ImageFault, NotesFault, Refused}
 use Rattle.flux_engine.proofs.PlanParts.{stops_here}
 use Rattle.flux_engine.specs.declared.plan.Plan.{Plan}
@@ -60,20 +52,6 @@ module _ (plan : Plan) (of : PartOf) (format : Format) (x : List ℕ) (left left
   says_of_planned (Err ImageFault) d = (let r = rest_is d.taken d.consumed in (r.rest, r.left, whole (Err ImageFault) d r (λ cannot. absurd cannot)))
   says_of_planned (Err NotesFault) d = (let r = rest_is d.taken d.consumed in (r.rest, r.left, whole (Err NotesFault) d r (λ cannot. absurd cannot)))
 
--- a cause is one whatever the answer would be without the fault
-pub same_cause : (s s' i i' n n' : ℕ) (fault : PlanFault) → PlanCause {A = Unit {0}} s s' i i' n n' (Err fault) → PlanCause {A = Totals} s s' i i' n n' (Err fault)
-same_cause s s' i i' n n' ReadFault cause = cause
-same_cause s s' i i' n n' ImageFault cause = cause
-same_cause s s' i i' n n' NotesFault cause = cause
-same_cause s s' i i' n n' (Refused track capture block fault) cause = tt
-
-pub is_finished : (s s' i i' n n' : ℕ) (answer : PlanAnswer) → PlanCause s s' i i' n n' answer → Stayed s s' → Stayed i i' → Stayed n n' → IsFinished answer
-is_finished s s' i i' n n' (Ok totals) cause source image notes = tt
-is_finished s s' i i' n n' (Err (Refused track capture block fault)) cause source image notes = tt
-is_finished s s' i i' n n' (Err ReadFault) cause source image notes = omega (arith, cause, source.0, source.1)
-is_finished s s' i i' n n' (Err ImageFault) cause source image notes = omega (arith, cause, image.0, image.1)
-is_finished s s' i i' n n' (Err NotesFault) cause source image notes = omega (arith, cause, notes.0, notes.1)
-
 -- one stream more is read
 module _ (plan : Plan) (format : Format) (x : List ℕ) (old mid new : SourceMoment) (told : old.left ≡ Some x) (taken held : List ℕ) (used : Bool) (n q : ℕ)
     (c : HasCome old.left mid.left taken held used (n * plan.captures + q)) (low : n < length (tracks format)) (few : q < plan.captures) where
@@ -103,20 +81,3 @@ module _ (plan : Plan) (format : Format) (x : List ℕ) (old mid new : SourceMom
     λ k below. subst (λ so_far. EndsInPlan plan format (so_far ++ concat (take k p.pieces))) (sym (taken_is r)) (untold (concat (take k p.pieces)) (p.needed k below)),
     p.still,
   )
-
--- each fault that is passed on has its cause
-pub stream_cause : (s s' n q : ℕ) (fault : CaptureFault) → CaptureCause {A = Unit {0}} s s' (Err fault) → PlanCause {A = Unit {0}} s s' 0 0 0 0 (Err (of_stream n q fault))
-stream_cause s s' n q UnreadCapture cause = cause
-stream_cause s s' n q (RefusedCapture block fault) cause = tt
-
-pub captures_cause : (A : Type 0) (s s' i i' n n' : ℕ) (fault : PlanFault) → PlanCause {A = Unit {0}} s s' 0 0 0 0 (Err fault) → (before : ℕ) → before ≤ s
-    → PlanCause {A = A} before s' i i' n n' (Err fault)
-captures_cause A s s' i i' n n' ReadFault cause before least = omega (arith, cause, least)
-captures_cause A s s' i i' n n' ImageFault cause before least = omega (arith, cause)
-captures_cause A s s' i i' n n' NotesFault cause before least = omega (arith, cause)
-captures_cause A s s' i i' n n' (Refused track capture block fault) cause before least = tt
-
-pub part_cause : (A : Type 0) (s s' i mid i' n nmid n' : ℕ) (fault : PartFault) → PartCause mid i' nmid n' (Err fault) → i ≤ mid → n ≤ nmid
-    → PlanCause {A = A} s s' i i' n n' (Err (of_part fault))
-part_cause A s s' i mid i' n nmid n' PartImageFault cause image_later notes_later = omega (arith, cause, image_later)
-part_cause A s s' i mid i' n nmid n' PartNotesFault cause image_later notes_later = omega (arith, cause, notes_later)

@@ -1,7 +1,6 @@
 -- What reading a disk by a plan may answer, and what that says of the input and of the bytes that were written.
 use Rattle.std.specs.Prelude.{◌≡◌, ◌<◌, ◌⊎◌, ℕ, ◌+◌, ◌*◌, Bool, List, [], ◌∷◌, ◌++◌, length, Option, Some, None, Result, Ok, Err, OnOk}
 use Rattle.std.specs.Io.KnownBytes.{Appends, Consumes, IsAtEnd}
-use Rattle.flux_base.specs.Outside.{Rose}
 use Rattle.flux_base.specs.declared.track.TrackId.{TrackId}
 use Rattle.turn_merge.specs.Book.{Knowledge}
 use Rattle.turn_merge.specs.Readings.{NotedReading}
@@ -40,13 +39,6 @@ abbrev pub IsOfBytesTaken : {A : Type 0} → Result A PlanFault → Type 0
 IsOfBytesTaken (Err (Refused _ _ _ fault)) = fault ≡ Truncated
 IsOfBytesTaken (Err ReadFault) = Unit {0}
 IsOfBytesTaken _ = ⊥
-
--- each fault of an object of the outside comes only where its count rose
-abbrev pub PlanCause : {A : Type 0} → (source source' image image' notes notes' : ℕ) → Result A PlanFault → Type 0
-PlanCause source source' image image' notes notes' (Err ReadFault) = Rose source source'
-PlanCause source source' image image' notes notes' (Err ImageFault) = Rose image image'
-PlanCause source source' image image' notes notes' (Err NotesFault) = Rose notes notes'
-PlanCause source source' image image' notes notes' _ = Unit {0}
 
 -- the fault of a capture of a track, and that of a sink, among those of a disk
 abbrev pub of_stream : (track capture : ℕ) → CaptureFault → PlanFault

@@ -1,7 +1,7 @@
 -- What the call that writes a track may answer, and what that says of the bytes that were written.
 use Rattle.std.specs.Prelude.{◌≡◌, ℕ, List, Option, Result, Ok, Err}
 use Rattle.std.specs.Io.KnownBytes.{Appends}
-use Rattle.flux_base.specs.Outside.{AppendsPart, Rose}
+use Rattle.flux_base.specs.Outside.{AppendsPart}
 use Rattle.sector_report.specs.declared.totals.Totals.{Totals}
 use Rattle.flux_engine.specs.Tracks.{TrackPart}
 use Rattle.flux_engine.specs.declared.track_part.PartFault.{PartFault}
@@ -12,9 +12,3 @@ abbrev pub WritesPart : TrackPart → (image image' notes notes' : Option (List 
 WritesPart part image image' notes notes' (Ok totals) = Appends image image' part.image × Appends notes notes' part.lines × (totals ≡ part.totals)
 WritesPart part image image' notes notes' (Err ImageFault) = AppendsPart image image' part.image × (notes' ≡ notes)
 WritesPart part image image' notes notes' (Err NotesFault) = Appends image image' part.image × AppendsPart notes notes' part.lines
-
--- each fault comes only where the count of that sink rose
-abbrev pub PartCause : (image image' notes notes' : ℕ) → Result Totals PartFault → Type 0
-PartCause image image' notes notes' (Ok totals) = Unit {0}
-PartCause image image' notes notes' (Err ImageFault) = Rose image image'
-PartCause image image' notes notes' (Err NotesFault) = Rose notes notes'

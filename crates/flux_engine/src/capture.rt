@@ -8,12 +8,12 @@ ghost use Rattle.flux_engine.specs.Answers.{CaptureCause, ReadsCapture, ReadsStr
 ghost use Rattle.flux_engine.specs.Blamed.{is_unread, part_blame};
 ghost use Rattle.flux_engine.specs.Captured.{count_of_clocks};
 ghost use Rattle.cell_bits.specs.State.{room};
-ghost use Rattle.flux_engine.specs.Gathering.{AreCellsOf, HasNoted, HasNotedBy, IsBookFor};
+ghost use Rattle.flux_engine.specs.Gathering.{AreCellsOf, HasNoted, HasNotedBy};
 ghost use Rattle.flux_engine.specs.PlanAnswers.{ReadsByClocks};
 ghost use Rattle.flux_engine.specs.Reading.{IsBounded};
 ghost use Rattle.flux_engine.specs.Recordings.{cells_by, start_by as start_of_clock, track_at, sectors_of as sectors_in};
 ghost use Rattle.flux_engine.specs.Room.{IsRoomy, MOST_CELLS, MOST_READINGS, MOST_SOURCES};
-ghost use Rattle.flux_engine.specs.TrackParts.{PartCause, WritesPart};
+ghost use Rattle.flux_engine.specs.TrackParts.{WritesPart};
 ghost use Rattle.flux_engine.specs.Tracks.{named_part, track_notes};
 ghost use Rattle.flux_engine.specs.Writing.{IsSum, Knows};
 ghost use Rattle.kryo_stream.specs.Outcome.{IsReadWhereNeeded};
@@ -130,8 +130,6 @@ pub fn read_by_clocks<S: Source>(
     ensures sound { OnOk result (room.new.failed ≡ false) }
     ensures failed { OnErr result (room.new.failed ≡ true) }
 
-    ensures cause { CaptureCause (S.faults source.old) (S.faults source.new) result }
-    ensures later { S.faults source.old ≤ S.faults source.new }
     ensures counts { Counts (is_unread result) (counts_of S.faults S.failed source.old) (counts_of S.faults S.failed source.new) }
 {
     tracks_keep_bounds();
@@ -199,12 +197,9 @@ pub fn write_started_part<W: Sink, N: Sink>(
         → WritesPart (named_part naming room.now.format (track_at room.now.format room.now.started) readings) (W.written image.old) (W.written image.new) (N.written notes.old) (N.written notes.new) result }
     ensures sum { IfOk result IsSum }
     ensures few { IfOk result (λ totals. totals.sectors ≤ 100) }
-    ensures cause { PartCause (W.faults image.old) (W.faults image.new) (N.faults notes.old) (N.faults notes.new) result }
     ensures blames { CountsBy (part_blame result)
         (three_counts no_counts (counts_of W.faults W.failed image.old) (counts_of N.faults N.failed notes.old))
         (three_counts no_counts (counts_of W.faults W.failed image.new) (counts_of N.faults N.failed notes.new)) }
-    ensures image_later { W.faults image.old ≤ W.faults image.new }
-    ensures notes_later { N.faults notes.old ≤ N.faults notes.new }
 {
     tracks_keep_bounds();
     let track = track_id(room.format, room.started);
@@ -229,12 +224,9 @@ pub(crate) fn write_started<O: TrackWriter, W: Sink, N: Sink>(
         → WritesPart (O.part_of writer.now room.now.format (track_at room.now.format room.now.started) (track_notes readings room.now.passed others)) (W.written image.old) (W.written image.new) (N.written notes.old) (N.written notes.new) result }
     ensures sum { IfOk result IsSum }
     ensures few { IfOk result (λ totals. totals.sectors ≤ 100) }
-    ensures cause { PartCause (W.faults image.old) (W.faults image.new) (N.faults notes.old) (N.faults notes.new) result }
     ensures blames { CountsBy (part_blame result)
         (three_counts no_counts (counts_of W.faults W.failed image.old) (counts_of N.faults N.failed notes.old))
         (three_counts no_counts (counts_of W.faults W.failed image.new) (counts_of N.faults N.failed notes.new)) }
-    ensures image_later { W.faults image.old ≤ W.faults image.new }
-    ensures notes_later { N.faults notes.old ≤ N.faults notes.new }
 {
     tracks_keep_bounds();
     let track = track_id(room.format, room.started);
@@ -248,8 +240,6 @@ pub fn read_stream<S: Source>(source: &mut S, stream: &mut StreamRoom) -> Result
     ensures bounded { OnOk result (IsBounded stream.new.flux) }
     ensures held { length stream.new.held ≤ 4096 }
     ensures used { stream.new.used ≡ true }
-    ensures cause { CaptureCause (S.faults source.old) (S.faults source.new) result }
-    ensures later { S.faults source.old ≤ S.faults source.new }
     ensures counts { Counts (is_unread result) (counts_of S.faults S.failed source.old) (counts_of S.faults S.failed source.new) }
 {
     stream.read(source)

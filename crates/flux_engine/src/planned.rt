@@ -8,7 +8,7 @@ ghost use Rattle.flux_engine.specs.Blamed.{plan_blame};
 ghost use Rattle.flux_engine.specs.Disks.{no_totals};
 ghost use Rattle.flux_engine.specs.LoopProgress.{EndsLoop, HasWritten};
 ghost use Rattle.flux_engine.specs.Needed.{ReadsWhereOpen};
-ghost use Rattle.flux_engine.specs.PlanAnswers.{DecodesPlanned, IsFinished, PlanCause, SaysOfPlannedInput, of_part as of_part_fault};
+ghost use Rattle.flux_engine.specs.PlanAnswers.{DecodesPlanned, IsFinished, SaysOfPlannedInput, of_part as of_part_fault};
 ghost use Rattle.flux_engine.specs.PlanProgress.{EndsInTracks, HasPlanned};
 ghost use Rattle.flux_engine.specs.Plans.{EndsInPlan};
 ghost use Rattle.flux_engine.specs.Room.{fresh};
@@ -52,16 +52,12 @@ pub fn decode_planned<S: Source, W: Sink, N: Sink>(
     // A source that tells its bytes is read only where those that it gave before end inside a stream.
     ensures needed { (bytes : List ℕ) → S.left source.old ≡ Some bytes → ReadsWhereOpen (EndsInPlan plan room.old.format) (source_at S.left S.given S.faults source.old) (source_at S.left S.given S.faults source.new) }
 
-    ensures cause { PlanCause (S.faults source.old) (S.faults source.new) (W.faults image.old) (W.faults image.new) (N.faults notes.old) (N.faults notes.new) result }
     ensures blames { CountsBy (plan_blame result)
         (three_counts (counts_of S.faults S.failed source.old) (counts_of W.faults W.failed image.old) (counts_of N.faults N.failed notes.old))
         (three_counts (counts_of S.faults S.failed source.new) (counts_of W.faults W.failed image.new) (counts_of N.faults N.failed notes.new)) }
 
     // Over a source and sinks that do not fail there is no other answer.
     ensures complete { Stayed (S.faults source.old) (S.faults source.new) → Stayed (W.faults image.old) (W.faults image.new) → Stayed (N.faults notes.old) (N.faults notes.new) → IsFinished result }
-    ensures source_later { S.faults source.old ≤ S.faults source.new }
-    ensures image_later { W.faults image.old ≤ W.faults image.new }
-    ensures notes_later { N.faults notes.old ≤ N.faults notes.new }
 {
     let writer = ImageAndReport {
         naming: plan.naming,
@@ -96,13 +92,9 @@ pub fn decode_planned_tracks<O: TrackWriter, S: Source, W: Sink, N: Sink>(
     ensures ok { OnOk result (HasPlanned plan (O.part_of writer.now) room.old.format (S.left source.old) (S.left source.new) (W.written image.old) (W.written image.new) (N.written notes.old) (N.written notes.new) room.new (length (tracks room.old.format)) totals.new) }
     ensures needed { (bytes : List ℕ) → S.left source.old ≡ Some bytes → ReadsWhereOpen (EndsInPlan plan room.old.format) (source_at S.left S.given S.faults source.old) (source_at S.left S.given S.faults source.new) }
     ensures err { OnErr result (EndsInTracks plan (O.part_of writer.now) room.old.format (S.left source.old) (S.left source.new) (W.written image.old) (W.written image.new) (N.written notes.old) (N.written notes.new) totals.new result) }
-    ensures cause { PlanCause (S.faults source.old) (S.faults source.new) (W.faults image.old) (W.faults image.new) (N.faults notes.old) (N.faults notes.new) result }
     ensures blames { CountsBy (plan_blame result)
         (three_counts (counts_of S.faults S.failed source.old) (counts_of W.faults W.failed image.old) (counts_of N.faults N.failed notes.old))
         (three_counts (counts_of S.faults S.failed source.new) (counts_of W.faults W.failed image.new) (counts_of N.faults N.failed notes.new)) }
-    ensures source_later { S.faults source.old ≤ S.faults source.new }
-    ensures image_later { W.faults image.old ≤ W.faults image.new }
-    ensures notes_later { N.faults notes.old ≤ N.faults notes.new }
 {
     growth_law();
     padding_law();
@@ -137,13 +129,9 @@ pub fn decode_tracks<T: TrackStreams<S>, O: TrackWriter, S, W: Sink, N: Sink>(
     requires few { plan.captures ≤ 16 }
     ensures ok { OnOk result (HasWritten plan (O.part_of writer.now) room.old.format (T.came streams.now plan room.old.format source.old source.new) (W.written image.old) (W.written image.new) (N.written notes.old) (N.written notes.new) room.new (length (tracks room.old.format)) totals.new) }
     ensures err { IfErr result (EndsLoop plan (O.part_of writer.now) room.old.format (T.came streams.now plan room.old.format source.old source.new) (T.ended streams.now plan room.old.format source.old source.new) (W.written image.old) (W.written image.new) (N.written notes.old) (N.written notes.new) room.new totals.new) }
-    ensures cause { PlanCause (T.faults source.old) (T.faults source.new) (W.faults image.old) (W.faults image.new) (N.faults notes.old) (N.faults notes.new) result }
     ensures blames { CountsBy (plan_blame result)
         (three_counts (counts_of T.faults T.failed source.old) (counts_of W.faults W.failed image.old) (counts_of N.faults N.failed notes.old))
         (three_counts (counts_of T.faults T.failed source.new) (counts_of W.faults W.failed image.new) (counts_of N.faults N.failed notes.new)) }
-    ensures source_later { T.faults source.old ≤ T.faults source.new }
-    ensures image_later { W.faults image.old ≤ W.faults image.new }
-    ensures notes_later { N.faults notes.old ≤ N.faults notes.new }
 {
     tracks_keep_bounds();
     sectors_lie_in_images();

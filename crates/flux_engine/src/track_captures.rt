@@ -1,14 +1,13 @@
 //! The captures of a track, wherever they come from.
 
-ghost use Rattle.std.specs.Prelude.{◌≡◌, ◌+◌, ◌*◌, ◌≤◌, ◌<◌, List, length, IfOk, OnErr, OnOk, false, true};
+ghost use Rattle.std.specs.Prelude.{◌≡◌, ◌+◌, ◌*◌, ◌≤◌, ◌<◌, List, length, OnOk, false, true};
 ghost use Rattle.flux_base.specs.Blames.{CountsBy, no_counts, three_counts};
 ghost use Rattle.flux_base.specs.Counts.{Counts, counts_of};
-ghost use Rattle.flux_engine.specs.Answers.{CaptureCause};
 ghost use Rattle.flux_engine.specs.Blamed.{is_unread, plan_blame};
 ghost use Rattle.flux_engine.specs.Captured.{count_of_clocks};
 ghost use Rattle.flux_engine.specs.Counts.{AreCountsBelow, CountsTrack};
 ghost use Rattle.flux_engine.specs.LoopProgress.{AreWhole, GathersTrack, HasNotedNext, IsBoundedNext, TakesNext};
-ghost use Rattle.flux_engine.specs.PlanAnswers.{PlanCause, of_stream as of_stream_fault};
+ghost use Rattle.flux_engine.specs.PlanAnswers.{of_stream as of_stream_fault};
 ghost use Rattle.flux_engine.specs.Plans.{Seen};
 ghost use Rattle.flux_engine.specs.Recordings.{sectors_of as sectors_in, track_at};
 ghost use Rattle.flux_engine.specs.Room.{IsRoomy, MOST_READINGS, MOST_SOURCES};
@@ -53,11 +52,9 @@ pub(crate) fn read_captures<T: TrackStreams<S>, S>(
     ensures counts { OnOk result (CountsTrack room.old room.new) }
     ensures few { OnOk result (AreCountsBelow room.new (number + 1)) }
 
-    ensures cause { PlanCause (T.faults source.old) (T.faults source.new) 0 0 0 0 result }
     ensures blames { CountsBy (plan_blame result)
         (three_counts (counts_of T.faults T.failed source.old) no_counts no_counts)
         (three_counts (counts_of T.faults T.failed source.new) no_counts no_counts) }
-    ensures later { T.faults source.old ≤ T.faults source.new }
 {
     tracks_keep_bounds();
     start_track(room, number);
@@ -110,8 +107,6 @@ fn take_next<T: TrackStreams<S>, S>(
     ensures whole_others { room.new.whole_others ≡ room.old.whole_others }
     ensures sound { OnOk result (room.new.failed ≡ false) }
 
-    ensures cause { CaptureCause (T.faults source.old) (T.faults source.new) result }
-    ensures later { T.faults source.old ≤ T.faults source.new }
     ensures counts { Counts (is_unread result) (counts_of T.faults T.failed source.old) (counts_of T.faults T.failed source.new) }
 {
     tracks_keep_bounds();

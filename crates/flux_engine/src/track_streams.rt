@@ -1,8 +1,7 @@
 //! Where the streams of a disk's tracks come from.
 
-ghost use Rattle.std.specs.Prelude.{◌≡◌, ◌+◌, ◌*◌, ◌≤◌, ◌<◌, ℕ, Bool, false, List, [], length, None, Option, IfOk};
+ghost use Rattle.std.specs.Prelude.{◌≡◌, ◌+◌, ◌*◌, ◌<◌, ℕ, Bool, false, List, [], length, None, Option, IfOk};
 ghost use Rattle.flux_base.specs.Counts.{Counts, counts_of};
-ghost use Rattle.flux_engine.specs.Answers.{CaptureCause};
 ghost use Rattle.flux_engine.specs.Blamed.{is_unread};
 ghost use Rattle.flux_engine.specs.LoopProgress.{GivesNext, IsBoundedNext};
 ghost use Rattle.flux_engine.specs.Plans.{Seen};
@@ -61,8 +60,6 @@ pub trait TrackStreams<S> {
             → came self.now plan format start source.old stream.old.held stream.old.used before
             → GivesNext (came self.now plan format start source.new stream.new.held stream.new.used) (ended self.now plan format start source.new) before stream.new.flux result }
         ensures bounded { IfOk result (λ next. IsBoundedNext next stream.new.flux) }
-        ensures cause { CaptureCause (faults source.old) (faults source.new) result }
-        ensures later { faults source.old ≤ faults source.new }
         ensures counts { Counts (is_unread result) (counts_of faults failed source.old) (counts_of faults failed source.new) };
 
     /// At first none came.

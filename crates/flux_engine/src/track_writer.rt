@@ -1,6 +1,6 @@
 //! What becomes of what was gathered of a track.
 
-ghost use Rattle.std.specs.Prelude.{◌≡◌, ◌≤◌, List, IfOk};
+ghost use Rattle.std.specs.Prelude.{◌≤◌, List, IfOk};
 ghost use Rattle.flux_base.specs.Blames.{CountsBy, no_counts, three_counts};
 ghost use Rattle.flux_base.specs.Counts.{counts_of};
 ghost use Rattle.sector_images.specs.Places.{IsTrack};
@@ -10,7 +10,7 @@ ghost use Rattle.turn_merge.specs.Readings.{NotedReading};
 ghost use Rattle.flux_engine.specs.Blamed.{part_blame};
 ghost use Rattle.flux_engine.specs.Plans.{PartOf};
 ghost use Rattle.flux_engine.specs.Recordings.{sectors_of as sectors_in};
-ghost use Rattle.flux_engine.specs.TrackParts.{PartCause, WritesPart};
+ghost use Rattle.flux_engine.specs.TrackParts.{WritesPart};
 ghost use Rattle.flux_engine.specs.Tracks.{part_by, track_notes};
 ghost use Rattle.flux_engine.specs.Writing.{IsSum, Knows};
 
@@ -40,12 +40,9 @@ pub trait TrackWriter {
             → WritesPart (part_of self.now format track (track_notes readings gathered.now.passed.items others)) (W.written image.old) (W.written image.new) (N.written notes.old) (N.written notes.new) result }
         ensures sum { IfOk result IsSum }
         ensures few { IfOk result (λ totals. totals.sectors ≤ 100) }
-        ensures cause { PartCause (W.faults image.old) (W.faults image.new) (N.faults notes.old) (N.faults notes.new) result }
         ensures blames { CountsBy (part_blame result)
             (three_counts no_counts (counts_of W.faults W.failed image.old) (counts_of N.faults N.failed notes.old))
-            (three_counts no_counts (counts_of W.faults W.failed image.new) (counts_of N.faults N.failed notes.new)) }
-        ensures image_later { W.faults image.old ≤ W.faults image.new }
-        ensures notes_later { N.faults notes.old ≤ N.faults notes.new };
+            (three_counts no_counts (counts_of W.faults W.failed image.new) (counts_of N.faults N.failed notes.new)) };
 }
 
 /// The track's part of the image, and its lines of the report. Nothing is told of streams that were passed over, or of

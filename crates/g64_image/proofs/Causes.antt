@@ -1,22 +1,26 @@
--- What a cause says of an answer.
-use Rattle.std.specs.Prelude.{ℕ, Ok, Err}
+-- Where a fault may come, by the counts of the outside.
+use Rattle.std.specs.Prelude.{Ok, Err}
 use Rattle.std.proofs.Common.{arith}
+use Rattle.flux_base.specs.Blames.{CountsBy, three_counts}
+use Rattle.flux_base.specs.Counts.{FaultCounts}
 use Rattle.flux_engine.specs.Answers.{Stayed}
 use Rattle.g64_image.specs.Answers.{FromAnswer, FromCause, IsReadOrRefused}
+use Rattle.g64_image.specs.Blamed.{from_blame}
 use Rattle.g64_image.specs.declared.fault.FromStop.TheVariants.{ReadFault, ImageFault, NotesFault, Refused}
 
-module _ (s s' i i' n n' : ℕ) where
-  -- a call that reads nothing does not answer that reading failed
-  pub cause_of_sinks : (answer : FromAnswer) → FromCause 0 0 i i' n n' answer → FromCause s s' i i' n n' answer
-  cause_of_sinks (Ok totals) cause = tt
-  cause_of_sinks (Err ReadFault) cause = absurd (omega (arith, cause))
-  cause_of_sinks (Err ImageFault) cause = cause
-  cause_of_sinks (Err NotesFault) cause = cause
-  cause_of_sinks (Err (Refused fault)) cause = tt
+module _ {source source' image image' notes notes' : FaultCounts} where
+  pub from_cause : (answer : FromAnswer) → CountsBy (from_blame answer) (three_counts source image notes) (three_counts source' image' notes')
+      → FromCause source.faults source'.faults image.faults image'.faults notes.faults notes'.faults answer
+  from_cause (Ok totals) counts = tt
+  from_cause (Err ReadFault) counts = counts.source.cause
+  from_cause (Err ImageFault) counts = counts.image.cause
+  from_cause (Err NotesFault) counts = counts.notes.cause
+  from_cause (Err (Refused fault)) counts = tt
 
-  pub read_or_refused : (answer : FromAnswer) → FromCause s s' i i' n n' answer → Stayed s s' → Stayed i i' → Stayed n n' → IsReadOrRefused answer
-  read_or_refused (Ok totals) cause source image notes = tt
-  read_or_refused (Err ReadFault) cause source image notes = absurd (omega (arith, cause, source.0, source.1))
-  read_or_refused (Err ImageFault) cause source image notes = absurd (omega (arith, cause, image.0, image.1))
-  read_or_refused (Err NotesFault) cause source image notes = absurd (omega (arith, cause, notes.0, notes.1))
-  read_or_refused (Err (Refused fault)) cause source image notes = tt
+  pub read_or_refused : (answer : FromAnswer) → CountsBy (from_blame answer) (three_counts source image notes) (three_counts source' image' notes')
+      → Stayed source.faults source'.faults → Stayed image.faults image'.faults → Stayed notes.faults notes'.faults → IsReadOrRefused answer
+  read_or_refused (Ok totals) counts read written told = tt
+  read_or_refused (Err ReadFault) counts read written told = absurd (omega (arith, counts.source.cause, read.0, read.1))
+  read_or_refused (Err ImageFault) counts read written told = absurd (omega (arith, counts.image.cause, written.0, written.1))
+  read_or_refused (Err NotesFault) counts read written told = absurd (omega (arith, counts.notes.cause, told.0, told.1))
+  read_or_refused (Err (Refused fault)) counts read written told = tt

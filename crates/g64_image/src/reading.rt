@@ -8,7 +8,6 @@ ghost use Rattle.flux_engine.specs.Blamed.{part_blame};
 ghost use Rattle.flux_engine.specs.Needed.{ReadsUpTo};
 ghost use Rattle.kryo_stream.specs.Reads.{source_at};
 ghost use Rattle.sector_images.specs.Places.{tracks};
-ghost use Rattle.flux_engine.specs.TrackParts.{PartCause};
 ghost use Rattle.g64_image.specs.Answers.{FromCause, IsReadOrRefused, IsTakenFile, ReadsFile, SaysOfFile, SaysOfFileBytes};
 ghost use Rattle.g64_image.specs.Blamed.{from_blame};
 ghost use Rattle.g64_image.specs.Faults.{HasTables, first_fault as first_fault_of};
@@ -81,13 +80,10 @@ fn read_file<W: Sink, N: Sink>(
     requires roomy { IsRoomy format tools.old.cells tools.old.book }
     ensures says { (left : Option (List ℕ)) → IsTakenFile file.now left
         → SaysOfFile format file.now left (W.written image.old) (W.written image.new) (N.written notes.old) (N.written notes.new) result }
-    ensures cause { FromCause 0 0 (W.faults image.old) (W.faults image.new) (N.faults notes.old) (N.faults notes.new) result }
     ensures blames { CountsBy (from_blame result)
         (three_counts no_counts (counts_of W.faults W.failed image.old) (counts_of N.faults N.failed notes.old))
         (three_counts no_counts (counts_of W.faults W.failed image.new) (counts_of N.faults N.failed notes.new)) }
     ensures roomy { IsRoomy format tools.new.cells tools.new.book }
-    ensures image_later { W.faults image.old ≤ W.faults image.new }
-    ensures notes_later { N.faults notes.old ≤ N.faults notes.new }
 {
     match first_fault(format, file) {
         Some(fault) => return Err(FromStop::Refused(fault)),
@@ -118,13 +114,10 @@ fn write_tracks<W: Sink, N: Sink>(
     requires roomy { IsRoomy format tools.old.cells tools.old.book }
     ensures ok { IfOk result (λ totals. HasRead format file.now (W.written image.old) (W.written image.new) (N.written notes.old) (N.written notes.new) (length (tracks format)) totals) }
     ensures err { WasStopped format file.now (W.written image.old) (W.written image.new) (N.written notes.old) (N.written notes.new) result }
-    ensures cause { PartCause (W.faults image.old) (W.faults image.new) (N.faults notes.old) (N.faults notes.new) result }
     ensures blames { CountsBy (part_blame result)
         (three_counts no_counts (counts_of W.faults W.failed image.old) (counts_of N.faults N.failed notes.old))
         (three_counts no_counts (counts_of W.faults W.failed image.new) (counts_of N.faults N.failed notes.new)) }
     ensures roomy { IsRoomy format tools.new.cells tools.new.book }
-    ensures image_later { W.faults image.old ≤ W.faults image.new }
-    ensures notes_later { N.faults notes.old ≤ N.faults notes.new }
 {
     tracks_keep_bounds();
     let mut totals = no_totals();

@@ -3,9 +3,22 @@ use Rattle.kryo_stream.specs.Reads.{source_at}
 use Rattle.flux_engine.specs.Needed.{ReadsWhereOpen}
 use Rattle.flux_engine.specs.Plans.{EndsInPlan}
 use Rattle.flux_engine.specs.declared.plan.Plan.{Plan}
+use Rattle.capture_set.proofs.Causes.{set_cause}
 use Rattle.capture_set.proofs.disk.decode_set.Goals as goal
 
 pub returns-clause-needed : goal.returns-clause-needed
 returns-clause-needed g c = λ bytes told.
     subst (λ (p : Plan). ReadsWhereOpen (EndsInPlan p c.args.room.now.format) (source_at g.S.Source.left g.S.Source.given g.S.Source.faults c.args.source.now)
     (source_at g.S.Source.left g.S.Source.given g.S.Source.faults c.decode_planned.new.source)) c.set_plan.ensures (c.decode_planned.ensures.needed bytes told)
+
+pub returns-clause-cause : goal.returns-clause-cause
+returns-clause-cause g c = set_cause c.decode_planned.result c.decode_planned.ensures.blames
+
+pub returns-clause-source_later : goal.returns-clause-source_later
+returns-clause-source_later g c = c.decode_planned.ensures.blames.source.later
+
+pub returns-clause-image_later : goal.returns-clause-image_later
+returns-clause-image_later g c = c.decode_planned.ensures.blames.image.later
+
+pub returns-clause-notes_later : goal.returns-clause-notes_later
+returns-clause-notes_later g c = c.decode_planned.ensures.blames.notes.later

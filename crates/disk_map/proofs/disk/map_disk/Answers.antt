@@ -15,7 +15,7 @@ use Rattle.disk_map.specs.Progress.{EndsEarly}
 use Rattle.disk_map.specs.Texts.{top_text}
 use Rattle.disk_map.proofs.Drawing.{mapped_all, mapped_fault, mapped_no_foot, mapped_no_top}
 use Rattle.disk_map.proofs.Ended.{ended_blames}
-use Rattle.disk_map.proofs.Telling.{no_notes_fault, says_of_input}
+use Rattle.disk_map.proofs.Telling.{no_notes_fault, says_of_input, whole_or_refused}
 use Rattle.disk_map.proofs.disk.map_disk.Goals as goal
 
 pub returns-in-Err-clause-mapped : goal.returns-in-Err-clause-mapped
@@ -34,7 +34,7 @@ returns-in-Err-decode_planned_tracks-clause-mapped g c =
     let picture' = moment g.P.Sink.written g.P.Sink.faults g.P.Sink.failed c.end_early.new.picture in
     mapped_fault c.args.room.now.format _ _ _ (g.P.Sink.written c.write_top.new.picture) _ _ c.decode_planned_tracks.new.totals
     (subst (λ (f : Format). Appends (g.P.Sink.written c.args.picture.now) (g.P.Sink.written c.write_top.new.picture) (top_text f)) c.room_format-format.ensures c.in-Ok.ensures.ok)
-    picture picture' c.in-Err-decode_planned_tracks.fault c.end_early.result e.err (no_notes_fault _ _ _ _ c.in-Err-decode_planned_tracks.fault e.cause)
+    picture picture' c.in-Err-decode_planned_tracks.fault c.end_early.result e.err (no_notes_fault c.in-Err-decode_planned_tracks.fault (CountsBy-unnoted _ refl e.blames))
     (subst (λ (f : Format). EndsEarly f c.decode_planned_tracks.new.totals picture picture' c.in-Err-decode_planned_tracks.fault c.end_early.result) c.room_format-format.ensures c.end_early.ensures)
 
 pub returns-in-Err-decode_planned_tracks-clause-told : goal.returns-in-Err-decode_planned_tracks-clause-told
@@ -99,3 +99,6 @@ pub returns-in-Err-write_text-clause-blames : goal.returns-in-Err-write_text-cla
 returns-in-Err-write_text-clause-blames g c =
     CountsBy-then _ (CountsBy-then _ (CountsBy-image _ _ false c.in-Ok.ensures.counts) (CountsBy-unnoted _ refl c.in-Ok-decode_planned_tracks.ensures.blames))
     (CountsBy-image _ _ true c.in-Err-write_text.ensures.counts)
+
+pub returns-in-Err-decode_planned_tracks-clause-complete : goal.returns-in-Err-decode_planned_tracks-clause-complete
+returns-in-Err-decode_planned_tracks-clause-complete g c = whole_or_refused (Err c.end_early.result) (returns-in-Err-decode_planned_tracks-clause-blames g c)

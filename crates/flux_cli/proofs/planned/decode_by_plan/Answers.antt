@@ -11,8 +11,8 @@ returns-in-Ok-clause-does g c command by_plan =
     let is = ap (λ (room : RoomState). room.format) c.in-Ok.ensures in
     let e = c.decode_planned-answer.ensures in
     plan-ended _ _ _ _ c.end_of_plan.result c.args.plan c.args.format command by_plan _ _
-    (record { source = e.source_later; image = e.image_later; notes = e.notes_later }) (rw is at e.needed)
-    c.decode_planned-answer.result (rw is at e.decoded) e.cause c.end_of_plan.ensures
+    (record { source = e.blames.source.later; image = e.blames.image.later; notes = e.blames.notes.later }) (rw is at e.needed)
+    c.decode_planned-answer.result (rw is at e.decoded) e.blames c.end_of_plan.ensures
 
 pub returns-in-Err-clause-does : goal.returns-in-Err-clause-does
 returns-in-Err-clause-does g c command by_plan = out_of_memory command _

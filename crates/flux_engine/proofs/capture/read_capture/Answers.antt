@@ -1,4 +1,5 @@
 use Rattle.flux_engine.specs.Recordings.{track_at}
+use Rattle.flux_engine.proofs.BlamedSteps.{capture_cause}
 use Rattle.flux_engine.proofs.Noting.{reads_capture}
 use Rattle.flux_engine.proofs.capture.read_capture.Goals as goal
 
@@ -7,3 +8,9 @@ returns-clause-read g c =
     reads_capture c.args.room.now.format (track_at c.args.room.now.format c.args.number) (g.S.Source.left c.args.source.now) (g.S.Source.left c.read_by_clocks.new.source)
     c.args.room.now.used c.args.room.now.held c.read_by_clocks.new.room.held c.args.room.now.book c.read_by_clocks.new.room.book c.args.capture c.read_by_clocks.result
     c.read_by_clocks.ensures.read
+
+pub returns-clause-cause : goal.returns-clause-cause
+returns-clause-cause g c = capture_cause c.read_by_clocks.result c.read_by_clocks.ensures.counts
+
+pub returns-clause-later : goal.returns-clause-later
+returns-clause-later g c = c.read_by_clocks.ensures.counts.later

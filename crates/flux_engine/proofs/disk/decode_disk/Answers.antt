@@ -2,8 +2,8 @@ use Rattle.kryo_stream.specs.Reads.{source_at}
 use Rattle.flux_engine.specs.Needed.{EndsInStreams}
 use Rattle.flux_engine.specs.Plans.{EndsInPlan, decoding}
 use Rattle.flux_engine.specs.lemmas.OneStream.{ends_in_streams, reads_weaken}
-use Rattle.flux_engine.proofs.BlamedSteps.{engine_blames}
-use Rattle.flux_engine.proofs.DecodedPlans.{decodes_disk, engine_cause}
+use Rattle.flux_engine.proofs.BlamedSteps.{engine_blames, engine_cause}
+use Rattle.flux_engine.proofs.DecodedPlans.{decodes_disk}
 use Rattle.flux_engine.proofs.Telling.{says_of_input, whole_or_refused}
 use Rattle.flux_engine.proofs.disk.decode_disk.Goals as goal
 
@@ -24,15 +24,21 @@ returns-clause-needed g c = λ bytes told.
     (source_at g.S.Source.left g.S.Source.given g.S.Source.faults c.args.source.now) (source_at g.S.Source.left g.S.Source.given g.S.Source.faults c.decode_planned-answer.new.source)
     (ends_in_streams c.args.room.now.format) (c.decode_planned-answer.ensures.needed bytes told)
 
+pub returns-clause-blames : goal.returns-clause-blames
+returns-clause-blames g c =
+    rw c.engine_answer.ensures (engine_blames c.decode_planned-answer.result c.decode_planned-answer.ensures.blames)
+
 pub returns-clause-cause : goal.returns-clause-cause
-returns-clause-cause g c =
-    rw c.engine_answer.ensures
-    (engine_cause (g.S.Source.faults c.args.source.now) (g.S.Source.faults c.decode_planned-answer.new.source) (g.W.Sink.faults c.args.image.now) (g.W.Sink.faults c.decode_planned-answer.new.image)
-    (g.N.Sink.faults c.args.notes.now) (g.N.Sink.faults c.decode_planned-answer.new.notes) c.decode_planned-answer.result c.decode_planned-answer.ensures.cause)
+returns-clause-cause g c = engine_cause c.engine_answer.result (returns-clause-blames g c)
 
 pub returns-clause-complete : goal.returns-clause-complete
 returns-clause-complete g c = whole_or_refused _ _ _ _ _ _ c.engine_answer.result (returns-clause-cause g c)
 
-pub returns-clause-blames : goal.returns-clause-blames
-returns-clause-blames g c =
-    rw c.engine_answer.ensures (engine_blames c.decode_planned-answer.result c.decode_planned-answer.ensures.blames)
+pub returns-clause-source_later : goal.returns-clause-source_later
+returns-clause-source_later g c = c.decode_planned-answer.ensures.blames.source.later
+
+pub returns-clause-image_later : goal.returns-clause-image_later
+returns-clause-image_later g c = c.decode_planned-answer.ensures.blames.image.later
+
+pub returns-clause-notes_later : goal.returns-clause-notes_later
+returns-clause-notes_later g c = c.decode_planned-answer.ensures.blames.notes.later

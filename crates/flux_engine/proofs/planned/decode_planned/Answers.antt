@@ -4,8 +4,9 @@ use Rattle.flux_base.specs.Outside.{AppendsPart}
 use Rattle.flux_base.specs.lemmas.Blaming.{CountsBy-notes, CountsBy-then}
 use Rattle.flux_engine.specs.declared.fault.PlanFault.TheVariants.{NotesFault}
 use Rattle.flux_engine.specs.Tracks.{part_by}
+use Rattle.flux_engine.proofs.BlamedSteps.{is_finished}
 use Rattle.flux_engine.proofs.PlanDecoding.{planned_all, planned_ends, planned_no_total}
-use Rattle.flux_engine.proofs.PlanTelling.{says_of_planned, is_finished, same_cause}
+use Rattle.flux_engine.proofs.PlanTelling.{says_of_planned}
 use Rattle.flux_engine.proofs.planned.decode_planned.Goals as goal
 
 pub returns-in-Err-clause-decoded : goal.returns-in-Err-clause-decoded
@@ -17,11 +18,8 @@ returns-in-Err-clause-told g c = λ bytes told.
     says_of_planned c.args.plan (part_by c.args.plan.naming) c.args.room.now.format bytes (g.S.Source.left c.args.source.now) _ _ _ _ _ told (Err c.in-Err.fault)
     (returns-in-Err-clause-decoded g c)
 
-pub returns-in-Err-clause-cause : goal.returns-in-Err-clause-cause
-returns-in-Err-clause-cause g c = same_cause _ _ _ _ _ _ c.in-Err.fault c.in-Err.ensures.cause
-
 pub returns-in-Err-clause-complete : goal.returns-in-Err-clause-complete
-returns-in-Err-clause-complete g c = is_finished _ _ _ _ _ _ (Err c.in-Err.fault) (returns-in-Err-clause-cause g c)
+returns-in-Err-clause-complete g c = is_finished (Err c.in-Err.fault) c.in-Err.ensures.blames
 
 pub returns-in-Ok-write_line-clause-decoded : goal.returns-in-Ok-write_line-clause-decoded
 returns-in-Ok-write_line-clause-decoded g c =

@@ -22,9 +22,6 @@ loop-number-init g c = record {
   sum = rw c.requires.none refl;
   few = (let none : c.args.totals.now.sectors ≡ 0 = ap (λ (t : Totals). t.sectors) c.requires.none in omega (arith, none));
   counts = counts_start c.args.room.now c.args.room.now.format c.requires.fresh;
-  source_later = omega arith;
-  image_later = omega arith;
-  notes_later = omega arith;
   blames = CountsBy-none _;
 }
 
@@ -111,9 +108,6 @@ loop-number-preserved g c =
       sum = c.add_totals.ensures.sum;
       few = omega (arith, e.few, sum, i.few);
       counts = c.in-Ok.ensures.few;
-      source_later = omega (arith, i.source_later, c.in-Ok.ensures.later);
-      image_later = omega (arith, i.image_later, e.image_later);
-      notes_later = omega (arith, i.notes_later, e.notes_later);
       blames = CountsBy-then _ (CountsBy-then _ i.blames (CountsBy-streams _ _ _ c.in-Ok.ensures.blames)) (CountsBy-sinks _ _ e.blames);
     }
 

@@ -15,9 +15,6 @@ invariant-loop-number g l = record {
   sum : IsSum l.totals;
   few : l.totals.sectors ≤ 100 * l.number;
   counts : AreCountsBelow l.room l.number;
-  source_later : g.T.TrackStreams.faults l.initial.source ≤ g.T.TrackStreams.faults l.source;
-  image_later : g.W.Sink.faults l.initial.image ≤ g.W.Sink.faults l.image;
-  notes_later : g.N.Sink.faults l.initial.notes ≤ g.N.Sink.faults l.notes;
   blames : CountsBy no_one (three_counts (counts_of g.T.TrackStreams.faults g.T.TrackStreams.failed l.initial.source) (counts_of g.W.Sink.faults g.W.Sink.failed l.initial.image) (counts_of g.N.Sink.faults g.N.Sink.failed l.initial.notes))
       (three_counts (counts_of g.T.TrackStreams.faults g.T.TrackStreams.failed l.source) (counts_of g.W.Sink.faults g.W.Sink.failed l.image) (counts_of g.N.Sink.faults g.N.Sink.failed l.notes));
 }

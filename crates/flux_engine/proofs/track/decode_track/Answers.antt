@@ -10,7 +10,7 @@ use Rattle.flux_engine.specs.Room.{RoomState}
 use Rattle.flux_engine.specs.TrackParts.{WritesPart}
 use Rattle.flux_engine.specs.Tracks.{part_of}
 use Rattle.flux_engine.specs.declared.fault.EngineFault.{EngineFault}
-use Rattle.flux_engine.proofs.BlamedSteps.{track_blames, track_sink_blames}
+use Rattle.flux_engine.proofs.BlamedSteps.{engine_cause, track_blames, track_sink_blames}
 use Rattle.flux_engine.proofs.Decoding.{decodes_fault, decodes_started, from_start, of_part}
 use Rattle.flux_engine.proofs.track.decode_track.Goals as goal
 
@@ -86,3 +86,18 @@ returns-in-Err-write_part-clause-blames g c =
     rw c.of_part.ensures
     (CountsBy-then _ (CountsBy-source _ _ false c.in-Ok.ensures.counts)
     (track_sink_blames Totals Totals c.in-Err-write_part.fault (CountsBy-sinks _ _ c.in-Err-write_part.ensures.blames)))
+
+pub returns-in-Ok-write_part-clause-image_later : goal.returns-in-Ok-write_part-clause-image_later
+returns-in-Ok-write_part-clause-image_later g c = c.in-Ok-write_part.ensures.blames.image.later
+
+pub returns-in-Ok-write_part-clause-notes_later : goal.returns-in-Ok-write_part-clause-notes_later
+returns-in-Ok-write_part-clause-notes_later g c = c.in-Ok-write_part.ensures.blames.notes.later
+
+pub returns-in-Err-write_part-clause-image_later : goal.returns-in-Err-write_part-clause-image_later
+returns-in-Err-write_part-clause-image_later g c = c.in-Err-write_part.ensures.blames.image.later
+
+pub returns-in-Err-write_part-clause-notes_later : goal.returns-in-Err-write_part-clause-notes_later
+returns-in-Err-write_part-clause-notes_later g c = c.in-Err-write_part.ensures.blames.notes.later
+
+pub returns-in-Err-write_part-clause-cause : goal.returns-in-Err-write_part-clause-cause
+returns-in-Err-write_part-clause-cause g c = engine_cause (Err c.of_part.result) (returns-in-Err-write_part-clause-blames g c)

@@ -12,7 +12,6 @@ use Rattle.flux_engine.specs.Room.{RoomState}
 use Rattle.flux_engine.proofs.BlamedSteps.{stream_blames}
 use Rattle.flux_engine.proofs.LoopSteps.{came-size, counts_below, counts_track, ended_here, gathered_counted, gathered_more, gathered_none}
 use Rattle.flux_engine.proofs.PlanParts.{few_sources, one_more_source}
-use Rattle.flux_engine.proofs.PlanTelling.{captures_cause, stream_cause}
 use Rattle.flux_engine.proofs.track_captures.read_captures.Goals as goal
 
 pub loop-capture-init : goal.loop-capture-init
@@ -32,7 +31,6 @@ loop-capture-init g c =
       told_others = refl;
       whole_others = refl;
       sound = ap (λ (r : RoomState). r.failed) started ∙ c.requires.sound;
-      later = omega arith;
       counts = Counts-none _;
     }
 
@@ -64,13 +62,6 @@ returns-in-Err-clause-read g c = λ start before size whole came.
     (c.in-Err.ensures.taken plan start (before ++ h.more) low (came-size plan first.format c.args.number Came Came before size room room' q h) here) in
     rw (c.of_stream.ensures, c.from.ensures)
     (ended_here plan first.format c.args.number Came Came before size room room' q h (g.T.TrackStreams.ended c.args.streams.now plan c.args.room.now.format start source') c.in-Err.fault low ended)
-
-pub returns-in-Err-clause-cause : goal.returns-in-Err-clause-cause
-returns-in-Err-clause-cause g c =
-    rw c.of_stream.ensures
-    (captures_cause (Unit {0}) (g.T.TrackStreams.faults c.loop-capture.source) (g.T.TrackStreams.faults c.take_next.new.source) 0 0 0 0 (of_stream c.args.number c.from.result c.in-Err.fault)
-    (stream_cause (g.T.TrackStreams.faults c.loop-capture.source) (g.T.TrackStreams.faults c.take_next.new.source) c.args.number c.from.result c.in-Err.fault c.in-Err.ensures.cause)
-    (g.T.TrackStreams.faults c.args.source.now) c.loop-capture.invariant.later)
 
 pub returns-in-Err-clause-blames : goal.returns-in-Err-clause-blames
 returns-in-Err-clause-blames g c =
@@ -106,7 +97,6 @@ loop-capture-preserved g c =
       told_others = e.told_others ∙ i.told_others;
       whole_others = e.whole_others ∙ i.whole_others;
       sound = e.sound;
-      later = omega (arith, i.later, e.later);
       counts = Counts-then _ i.counts e.counts;
     }
 

@@ -18,6 +18,5 @@ invariant-loop-capture g l = record {
   told_others : l.room.told_others ≡ l.initial.room.told_others;
   whole_others : l.room.whole_others ≡ l.initial.room.whole_others;
   sound : l.room.failed ≡ false;
-  later : g.T.TrackStreams.faults l.initial.source ≤ g.T.TrackStreams.faults l.source;
   counts : Counts false (counts_of g.T.TrackStreams.faults g.T.TrackStreams.failed l.initial.source) (counts_of g.T.TrackStreams.faults g.T.TrackStreams.failed l.source);
 }

@@ -2,7 +2,7 @@ use Rattle.std.proofs.Common.{◌≡◌, false, ◌∙◌, List, ℕ, Option, ar
 use Rattle.flux_base.specs.lemmas.Blaming.{CountsBy-sinks, CountsBy-source, CountsBy-then}
 use Rattle.sector_images.specs.declared.format.Format.{Format}
 use Rattle.g64_image.specs.Answers.{IsTakenFile, ReadsFile, SaysOfFile}
-use Rattle.g64_image.proofs.Causes.{cause_of_sinks, read_or_refused}
+use Rattle.g64_image.proofs.Causes.{from_cause, read_or_refused}
 use Rattle.g64_image.proofs.Sound.{take-front, taken_file}
 use Rattle.g64_image.proofs.Told.{told-file}
 use Rattle.g64_image.proofs.reading.from_g64.Goals as goal
@@ -37,11 +37,17 @@ returns-clause-told g c = λ bytes is.
     (g.W.Sink.written c.read_file.new.image) (g.N.Sink.written c.args.notes.now) (g.N.Sink.written c.read_file.new.notes) c.read_file.result)
     is (returns-clause-read g c))
 
-pub returns-clause-cause : goal.returns-clause-cause
-returns-clause-cause g c = cause_of_sinks _ _ _ _ _ _ c.read_file.result c.read_file.ensures.cause
-
-pub returns-clause-complete : goal.returns-clause-complete
-returns-clause-complete g c = read_or_refused _ _ _ _ _ _ c.read_file.result (cause_of_sinks _ _ _ _ _ _ c.read_file.result c.read_file.ensures.cause)
-
 pub returns-clause-blames : goal.returns-clause-blames
 returns-clause-blames g c = CountsBy-then _ (CountsBy-source _ _ false c.in-Ok.ensures.counts) (CountsBy-sinks _ _ c.read_file.ensures.blames)
+
+pub returns-clause-cause : goal.returns-clause-cause
+returns-clause-cause g c = from_cause c.read_file.result (returns-clause-blames g c)
+
+pub returns-clause-complete : goal.returns-clause-complete
+returns-clause-complete g c = read_or_refused c.read_file.result (returns-clause-blames g c)
+
+pub returns-clause-image_later : goal.returns-clause-image_later
+returns-clause-image_later g c = c.read_file.ensures.blames.image.later
+
+pub returns-clause-notes_later : goal.returns-clause-notes_later
+returns-clause-notes_later g c = c.read_file.ensures.blames.notes.later

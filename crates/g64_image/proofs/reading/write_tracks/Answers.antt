@@ -58,8 +58,6 @@ loop-number-preserved g c =
       roomy = c.read_ring.ensures.roomy;
       sum = c.add_totals.ensures.sum;
       few = omega (arith, c.in-Ok.ensures.few, sum, c.loop-number.invariant.few);
-      image_later = omega (arith, c.loop-number.invariant.image_later, c.in-Ok.ensures.image_later);
-      notes_later = omega (arith, c.loop-number.invariant.notes_later, c.in-Ok.ensures.notes_later);
       blames = CountsBy-then _ c.loop-number.invariant.blames c.in-Ok.ensures.blames;
     }
 

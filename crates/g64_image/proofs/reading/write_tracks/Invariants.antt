@@ -13,8 +13,6 @@ invariant-loop-number g l = record {
   roomy : IsRoomy l.format l.tools.cells l.tools.book;
   sum : IsSum l.totals;
   few : l.totals.sectors ≤ 100 * l.number;
-  image_later : g.W.Sink.faults l.initial.image ≤ g.W.Sink.faults l.image;
-  notes_later : g.N.Sink.faults l.initial.notes ≤ g.N.Sink.faults l.notes;
   blames : CountsBy no_one (three_counts no_counts (counts_of g.W.Sink.faults g.W.Sink.failed l.initial.image) (counts_of g.N.Sink.faults g.N.Sink.failed l.initial.notes))
       (three_counts no_counts (counts_of g.W.Sink.faults g.W.Sink.failed l.image) (counts_of g.N.Sink.faults g.N.Sink.failed l.notes));
 }

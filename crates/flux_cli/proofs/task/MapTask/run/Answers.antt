@@ -13,8 +13,8 @@ pub returns-in-Ok-clause-does : goal.returns-in-Ok-clause-does
 returns-in-Ok-clause-does g c =
     let is = ap (λ (room : RoomState). room.format) c.in-Ok.ensures in
     let e = c.map_disk.ensures in
-    map-ended _ _ _ _ c.end_of_plan.result _ e.source_later e.picture_later c.args.self.now.format c.map_disk.result
-    (rw is at e.needed) (rw is at e.mapped) e.cause c.end_of_plan.ensures
+    map-ended _ _ _ _ c.end_of_plan.result _ e.blames.source.later e.blames.image.later c.args.self.now.format c.map_disk.result
+    (rw is at e.needed) (rw is at e.mapped) e.blames c.end_of_plan.ensures
 
 pub returns-in-Err-clause-does : goal.returns-in-Err-clause-does
 returns-in-Err-clause-does g c = out_of_memory (Map c.args.self.now.format) _
