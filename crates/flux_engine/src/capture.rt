@@ -14,7 +14,7 @@ ghost use Rattle.flux_engine.specs.Reading.{IsBounded};
 ghost use Rattle.flux_engine.specs.Recordings.{cells_by, start_by as start_of_clock, track_at, sectors_of as sectors_in};
 ghost use Rattle.flux_engine.specs.Room.{IsRoomy, MOST_CELLS, MOST_READINGS, MOST_SOURCES};
 ghost use Rattle.flux_engine.specs.TrackParts.{WritesPart};
-ghost use Rattle.flux_engine.specs.Tracks.{named_part, track_notes};
+ghost use Rattle.flux_engine.specs.Tracks.{track_notes};
 ghost use Rattle.flux_engine.specs.Writing.{IsSum, Knows};
 ghost use Rattle.kryo_stream.specs.Outcome.{IsReadWhereNeeded};
 ghost use Rattle.kryo_stream.specs.Reads.{source_at};
@@ -27,7 +27,7 @@ ghost use Rattle.turn_merge.specs.Readings.{NotedReading, agreed, verdict as ver
 use crate::gathering::{gather, gather_as_controller};
 use crate::plan::{Clocks, Rule};
 use crate::room::{DiskRoom, Tools};
-use crate::track_part::{PartFault, write_part};
+use crate::track_part::PartFault;
 use crate::track_writer::TrackWriter;
 use cell_bits::Cells;
 use disk_recordings::{DiskId, controller_format, recording_of, sectors_of};
@@ -36,7 +36,7 @@ use index_turns::TrackFlux;
 use kryo_stream::{CaptureFault, StreamRoom};
 use phase_loop::{Loop, LoopStart, recover};
 use sector_images::{Format, nominal, ring_cells, track_id, tracks_keep_bounds};
-use sector_report::{Naming, Totals};
+use sector_report::Totals;
 use turn_merge::{Clock, Verdict};
 
 /// Begins a track: what was gathered before is forgotten.
@@ -184,33 +184,6 @@ pub fn bytes(room: &DiskRoom, sector: u8) -> Option<&[u8]>
     ensures { (readings : List NotedReading) → StandsFor room.now.book readings → option_copied result ≡ agreed readings sector }
 {
     room.tools.gathered.book.bytes(sector)
-}
-
-/// Writes what the gathered readings of the started track come to, as `write_part` does.
-pub fn write_started_part<W: Sink, N: Sink>(
-    naming: Naming,
-    room: &DiskRoom,
-    image: &mut W,
-    notes: &mut N,
-) -> Result<Totals, PartFault>
-    ensures wrote { (readings : List NotedReading) → StandsFor room.now.book readings
-        → WritesPart (named_part naming room.now.format (track_at room.now.format room.now.started) readings) (W.written image.old) (W.written image.new) (N.written notes.old) (N.written notes.new) result }
-    ensures sum { IfOk result IsSum }
-    ensures few { IfOk result (λ totals. totals.sectors ≤ 100) }
-    ensures blames { CountsBy (part_blame result)
-        (three_counts no_counts (counts_of W.faults W.failed image.old) (counts_of N.faults N.failed notes.old))
-        (three_counts no_counts (counts_of W.faults W.failed image.new) (counts_of N.faults N.failed notes.new)) }
-{
-    tracks_keep_bounds();
-    let track = track_id(room.format, room.started);
-    write_part(
-        naming,
-        room.format,
-        track,
-        &room.tools.gathered.book,
-        image,
-        notes,
-    )
 }
 
 /// Writes what the gathered readings of the started track come to.

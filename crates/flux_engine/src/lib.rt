@@ -34,7 +34,7 @@ mod writing;
 
 pub use capture::{
     bytes, read_by_clocks, read_capture, read_stream, recover_cells, room_format, start_track,
-    verdict, write_started_part,
+    verdict,
 };
 pub use disk::{add_totals, decode_disk};
 pub use disk_recordings::{Sectors, sectors_of};
