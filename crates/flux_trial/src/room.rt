@@ -39,9 +39,10 @@ impl TrialRoom {
     pub fn reserve(alloc: Global, format: Format) -> Result<TrialRoom, Memory>
         ensures { IfOk result (λ room. room ≡ record { format = format; used = false }) }
     {
-        let disk = DiskRoom::reserve(alloc, format)?;
-        let source = TrialSource::reserve(alloc, format)?;
+        // The largest last, so that there is little to give back where memory lacks.
         let image = Kept::reserve(alloc)?;
+        let source = TrialSource::reserve(alloc, format)?;
+        let disk = DiskRoom::reserve(alloc, format)?;
         Ok(TrialRoom {
             format,
             disk,
