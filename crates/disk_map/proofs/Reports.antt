@@ -4,7 +4,7 @@ use Rattle.std.proofs.Common.{ap, sym, subst, ◌∙◌, arith}
 use Rattle.std.proofs.lemmas.List.{length-map, get_or-map}
 use Rattle.flux_base.specs.declared.track.TrackId.{TrackId}
 use Rattle.sector_images.specs.declared.format.Format.{Format}
-use Rattle.flux_engine.specs.Disks.{AreParts, IsPartAt, Stop, decoded_of, part_at, stop_of}
+use Rattle.flux_engine.specs.Disks.{AreParts, IsPartAt, Stop, part_at, report_over, stop_of}
 use Rattle.flux_engine.specs.Tracks.{IsPart}
 use Rattle.disk_map.specs.Laws.{MapsAreOfReports}
 use Rattle.disk_map.specs.Maps.{AreMapTracks, IsMapTrack, MapTrack, Mapped, no_track, parts_of}
@@ -27,5 +27,5 @@ maps_of_reports format x o is =
       parts = parts_of is.tracks;
       each = parts_are format x is.tracks is.each;
       many = length-map is.tracks (λ (t : MapTrack). t.part) ∙ is.many;
-      is = ap (λ (s : Option Stop). decoded_of (parts_of is.tracks) s) stop;
+      is = ap (λ (s : Option Stop). report_over (parts_of is.tracks) s) stop;
     }

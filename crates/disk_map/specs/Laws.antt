@@ -5,7 +5,7 @@ use Rattle.flux_base.specs.declared.track.TrackId.{TrackId}
 use Rattle.sector_images.specs.declared.format.Format.{Format}
 use Rattle.sector_report.specs.declared.naming.Naming.{Naming}
 use Rattle.turn_merge.specs.Readings.{NotedReading, verdict}
-use Rattle.flux_engine.specs.Disks.{IsDecoded, decoded_of}
+use Rattle.flux_engine.specs.Disks.{IsDecoded, report_over}
 use Rattle.flux_engine.specs.Recordings.{sectors_of}
 use Rattle.flux_engine.specs.Tracks.{line_by}
 use Rattle.disk_map.specs.Looks.{colour_of, kind_of, shape_of}
@@ -43,4 +43,4 @@ EachSectorHasItsField = (naming : Naming) (format : Format) (track : TrackId) (r
 
 -- What is drawn of an input is what the input decodes to: the same tracks by the same readings, the same totals, and the same stop.
 abbrev pub MapsAreOfReports : Type 0
-MapsAreOfReports = (format : Format) (x : List ℕ) (o : Mapped) (is : IsMapped format x o) → IsDecoded format x (decoded_of (parts_of is.tracks) o.stop)
+MapsAreOfReports = (format : Format) (x : List ℕ) (o : Mapped) (is : IsMapped format x o) → IsDecoded format x (report_over (parts_of is.tracks) o.stop)

@@ -6,10 +6,11 @@ use Rattle.std.proofs.lemmas.List.{drop_all}
 use Rattle.std.proofs.Math.Seq.{drop-append_seam}
 use Rattle.std.specs.Io.KnownBytes.{Appends, IsAtEnd, Keeps}
 use Rattle.flux_base.specs.declared.status.Status.TheVariants.{AllGood, NotAllGood, Refused as RefusedStatus, ReadFault as ReadFaultStatus, ImageFault as ImageFaultStatus, NotesFault as NotesFaultStatus}
+use Rattle.flux_engine.specs.Disks.{report_over}
 use Rattle.flux_engine.specs.Needed.{ReadsUpTo, ReadsWhereOpen}
 use Rattle.g64_image.specs.Answers.{IsTakenFile, IsWholeFile, ReadsFile, StoppedInImage}
 use Rattle.g64_image.specs.Faults.{MOST_BYTES, first_fault, table_fault}
-use Rattle.g64_image.specs.FileDisks.{FileDisk, IsFileDisk, file_disk_of, read_count}
+use Rattle.g64_image.specs.FileDisks.{FileDisk, IsFileDisk, read_count}
 use Rattle.g64_image.specs.Lines.{g64_text}
 use Rattle.g64_image.specs.declared.fault.FromStop.TheVariants.{ReadFault, ImageFault, NotesFault, Refused}
 use Rattle.g64_image.specs.declared.fault.G64Fault.{G64Fault}
@@ -100,7 +101,7 @@ module _ {S W N : Type 0} (format : Format) (before after : Outside S W N) where
       let d = f.says.0 in
       let wrote = f.says.2 in
       let is = whole-is f.taken r.later f.says.1 r.ended in
-      let none : d.fault ≡ None = ap (λ o. o.fault) wrote.disk.is ∙ f.says.1.no_fault in record {
+      let none : d.stop ≡ None = ap (λ o. o.stop) wrote.disk.is ∙ f.says.1.no_fault in record {
         taken = f.taken;
         later = r.later;
         input = r.input;
@@ -154,7 +155,7 @@ module _ {S W N : Type 0} (format : Format) (before after : Outside S W N) where
   module _ (mid : Option (List ℕ)) (fault : G64Fault)
       (f : ReadsFile format before.source.bytes after.source.bytes before.image.bytes after.image.bytes before.notes.bytes mid (Err (Refused fault))) where
     none_read : FileDisk
-    none_read = file_disk_of [] (Some fault)
+    none_read = report_over [] (Some fault)
 
     is-none : (x : List ℕ) → first_fault format x ≡ Some fault → IsFileDisk format x none_read
     unfolding none_read
@@ -162,7 +163,7 @@ module _ {S W N : Type 0} (format : Format) (before after : Outside S W N) where
       parts = [];
       each = λ n low. absurd (omega arith);
       many = ap (read_count format) (sym is);
-      is = ap (file_disk_of []) (sym is);
+      is = ap (report_over []) (sym is);
     }
 
     -- the line that says why

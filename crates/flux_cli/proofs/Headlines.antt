@@ -117,7 +117,7 @@ module _ (naming : Naming) (d : Planned) (o : Outcome) (is : o ≡ planned_outco
     holds = holds;
   }
 
-module _ (d : FileDisk) (o : Outcome) (is : o ≡ from_g64_outcome d) (none : d.fault ≡ None) where
+module _ (d : FileDisk) (o : Outcome) (is : o ≡ from_g64_outcome d) (none : d.stop ≡ None) where
   file_status_is : o.status ≡ status_of d.totals None
   file_status_is = ap (λ (p : Outcome). p.status) is ∙ ap (file_status d.totals) none
 
@@ -185,7 +185,7 @@ module _ (laws : Laws) (x : List ℕ) (o : Outcome) where
   of_g64 : (disk : G64Disk) (d : FileDisk) → IsFileDisk (format_of disk) x d → o ≡ from_g64_outcome d → OfFile (format_of disk) x o
   of_g64 disk d file is = record {
     told = λ read.
-        let none : d.fault ≡ None = file_read d.totals d.fault (subst (λ (p : Outcome). WasRead p.status) is read) in
+        let none : d.stop ≡ None = file_read d.totals d.stop (subst (λ (p : Outcome). WasRead p.status) is read) in
         of_file d o is none (AreRightInFile (format_of disk) x)
         (λ track sector good bad first number fits line.
         let told = laws.file_lines (format_of disk) x d file track sector (Good good bad first) number fits line in

@@ -30,7 +30,7 @@ file_refusal (Some fault) = g64_text fault
 
 -- the image, and in the notes the report, or why there is none
 abbrev pub from_g64_outcome : FileDisk → Outcome
-from_g64_outcome d = record { status = file_status d.totals d.fault; image = d.image; notes = d.notes ++ file_refusal d.fault }
+from_g64_outcome d = record { status = file_status d.totals d.stop; image = d.image; notes = d.notes ++ file_refusal d.stop }
 
 -- a file is taken to its end, and a refused one at most to one byte more than a file may have
 abbrev pub from_g64_leaves : Status → (x later : List ℕ) → Type 0

@@ -5,9 +5,9 @@ use Rattle.sector_images.specs.Places.{tracks}
 use Rattle.sector_images.specs.declared.format.Format.{Format}
 use Rattle.sector_report.specs.declared.naming.Naming.TheVariants.{Unnamed}
 use Rattle.flux_engine.specs.Answers.{DecodesDisk, IsOfBytesAtHand, IsTakenBehind, IsTruncated, SaysOfDisk, WroteAll}
-use Rattle.flux_engine.specs.Disks.{AreParts, Decoded, IsDecoded, IsPartAt, decoded_count, decoded_of, part_at}
+use Rattle.flux_engine.specs.Disks.{AreParts, Decoded, IsDecoded, IsPartAt, decoded_count, part_at, report_over}
 use Rattle.flux_engine.specs.PlanAnswers.{DecodesPlanned, IsOfBytesTaken, PlanAnswer, SaysOfPlanned, SaysTruncated, WrotePlanned, engine_answer}
-use Rattle.flux_engine.specs.Plans.{ArePlannedParts, IsFirstFault, IsPlanned, IsPlannedPart, PlanStop, Planned, StopsAt, decoding, planned_count, planned_of, streams_in}
+use Rattle.flux_engine.specs.Plans.{ArePlannedParts, IsFirstFault, IsPlanned, IsPlannedPart, PlanStop, Planned, StopsAt, decoding, planned_count, streams_in}
 use Rattle.flux_engine.specs.Tracks.{TrackPart, part_by}
 use Rattle.flux_engine.specs.declared.fault.PlanFault.TheVariants.{ReadFault, ImageFault, NotesFault, Refused}
 use Rattle.flux_engine.specs.lemmas.OneStream.{one_stream, plain_stop, stop_same}
@@ -27,7 +27,7 @@ same_count : (format : Format) (stop : Option PlanStop) → planned_count format
 same_count format None = refl
 same_count format (Some s) = refl
 
-same_of : (parts : List TrackPart) (stop : Option PlanStop) → plain (planned_of parts stop) ≡ decoded_of parts (plain_stop stop)
+same_of : (parts : List TrackPart) (stop : Option PlanStop) → plain (report_over parts stop) ≡ report_over parts (plain_stop stop)
 same_of parts None = refl
 same_of parts (Some s) = refl
 
@@ -38,7 +38,7 @@ is_decoded format x o p =
       parts = p.parts;
       each = one_parts format x p.parts p.each;
       many = p.many ∙ same_count format o.stop ∙ ap (decoded_count format) (sym stop);
-      is = ap plain p.is ∙ same_of p.parts o.stop ∙ ap (decoded_of p.parts) (sym stop);
+      is = ap plain p.is ∙ same_of p.parts o.stop ∙ ap (report_over p.parts) (sym stop);
     }
 
 module _ (format : Format) (x later : List ℕ) (image image' notes notes' : Option (List ℕ)) where

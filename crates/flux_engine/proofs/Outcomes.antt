@@ -13,7 +13,7 @@ use Rattle.sector_images.specs.Places.{SectorsFillTracks, place_of, sector_in, s
 use Rattle.sector_images.specs.declared.format.Format.{Format}
 use Rattle.turn_merge.specs.Readings.{bytes_of}
 use Rattle.turn_merge.specs.declared.clock.Clock.TheVariants.{Following}
-use Rattle.flux_engine.specs.Disks.{Stop, part_at, AreParts, images, lines, totals_over, stop_at, stop_of, decoded_count, Decoded, decoded_of, last_line, no_totals}
+use Rattle.flux_engine.specs.Disks.{AreParts, Decoded, Stop, decoded_count, images, last_line, lines, no_totals, part_at, report_over, stop_at, stop_of, totals_over}
 use Rattle.flux_engine.specs.Laws.{OneOutcome, FirstTracksLead, GoodIsRight}
 use Rattle.disk_recordings.specs.Laws.{TracksAreRead}
 use Rattle.disk_recordings.specs.Members.{header_at, sector_at}
@@ -78,7 +78,7 @@ module _ (read : TracksAreRead) where
 
   pub one_outcome : OneOutcome
   one_outcome format x a b p q =
-      p.is ∙ ap (λ (parts : List TrackPart). decoded_of parts (stop_of format x)) (one_parts format x p.parts q.parts p.each q.each (p.many ∙ sym q.many)) ∙ sym q.is
+      p.is ∙ ap (λ (parts : List TrackPart). report_over parts (stop_of format x)) (one_parts format x p.parts q.parts p.each q.each (p.many ∙ sym q.many)) ∙ sym q.is
 
   -- the first parts of an outcome
   first_parts : (format : Format) (x : List ℕ) (ps qs : List TrackPart) → AreParts format x ps → AreParts format x qs → length ps ≤ length qs → take (length ps) qs ≡ ps

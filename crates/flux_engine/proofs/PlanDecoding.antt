@@ -11,12 +11,12 @@ use Rattle.sector_images.specs.declared.format.Format.{Format}
 use Rattle.sector_report.specs.Lines.{total_text}
 use Rattle.sector_report.specs.declared.totals.Totals.{Totals}
 use Rattle.flux_engine.specs.Answers.{AppendsAndPart, IsTakenBehind}
-use Rattle.flux_engine.specs.Disks.{lines}
+use Rattle.flux_engine.specs.Disks.{lines, report_over}
 use Rattle.flux_engine.specs.Room.{RoomState}
 use Rattle.flux_engine.specs.Streams.{behind}
 use Rattle.flux_engine.specs.PlanAnswers.{DecodesPlanned, SaysOfPlanned, WrotePlanned, of_part}
 use Rattle.flux_engine.specs.PlanProgress.{EndedInStream, EndsInTracks, HasPlanned, StoppedAt}
-use Rattle.flux_engine.specs.Plans.{PartOf, PlanStop, Planned, planned_of}
+use Rattle.flux_engine.specs.Plans.{PartOf, PlanStop, Planned}
 use Rattle.flux_engine.specs.declared.track_part.PartFault.{PartFault}
 use Rattle.flux_engine.specs.declared.track_part.PartFault.TheVariants.{ImageFault as PartImageFault, NotesFault as PartNotesFault}
 use Rattle.flux_engine.specs.declared.fault.PlanFault.{PlanFault}
@@ -32,7 +32,7 @@ module _ (plan : Plan) (of : PartOf) (format : Format) (left left' image image' 
   stopped fault e later q block at s =
       let x : List ℕ = e.taken ++ later in
       let stop : PlanStop = record { track = e.number; capture = q; block = block; fault = at } in (
-        planned_of e.parts (Some stop),
+        report_over e.parts (Some stop),
         record {
           decoded = record {
             parts = e.parts;
@@ -85,9 +85,9 @@ module _ (plan : Plan) (of : PartOf) (format : Format) (left left' image image' 
     consumed = h.come.consumed;
     says = λ (later : List ℕ) only.
         let x : List ℕ = h.taken ++ later in
-        let notes_are : lines h.parts ++ total_text totals ≡ (planned_of h.parts None).notes =
+        let notes_are : lines h.parts ++ total_text totals ≡ (report_over {S = PlanStop} h.parts None).notes =
         ap (λ (t : Totals). lines h.parts ++ total_text t) h.totals_are in (
-          planned_of h.parts None,
+          report_over h.parts None,
           record {
             decoded = record {
               parts = h.parts;

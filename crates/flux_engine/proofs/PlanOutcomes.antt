@@ -8,9 +8,10 @@ use Rattle.kryo_stream.specs.declared.fault.StreamFault.{StreamFault}
 use Rattle.sector_images.specs.declared.format.Format.{Format}
 use Rattle.turn_merge.specs.Readings.{NotedReading}
 use Rattle.turn_merge.specs.declared.clock.Clock.{Clock}
+use Rattle.flux_engine.specs.Disks.{report_over}
 use Rattle.flux_engine.specs.Captured.{AreReadingsBy, AreReadingsOf}
 use Rattle.flux_engine.specs.PlanLaws.{OnePlanned, ReadingsInPlansAreOne}
-use Rattle.flux_engine.specs.Plans.{IsBefore, IsFirstFault, PlanStop, StopsAt, Streams, planned_count, planned_of}
+use Rattle.flux_engine.specs.Plans.{IsBefore, IsFirstFault, PlanStop, StopsAt, Streams, planned_count}
 use Rattle.flux_engine.specs.Recordings.{cells_by, track_at}
 use Rattle.flux_engine.specs.Tracks.{Found, TrackPart, readings_in}
 use Rattle.flux_engine.specs.declared.plan.Clocks.{Clocks}
@@ -90,5 +91,5 @@ module _ (read : RulesAreRead) where
   one_planned plan of format streams a b p q =
       let stop : a.stop ≡ b.stop = stops-same plan format streams a.stop b.stop p.stops q.stops in
       let many : length p.parts ≡ length q.parts = p.many ∙ ap (planned_count format) stop ∙ sym q.many in
-      p.is ∙ ap (λ (parts : List TrackPart). planned_of parts a.stop) (one_parts read one_captures plan of format streams p.parts q.parts p.each q.each many)
-      ∙ ap (planned_of q.parts) stop ∙ sym q.is
+      p.is ∙ ap (λ (parts : List TrackPart). report_over parts a.stop) (one_parts read one_captures plan of format streams p.parts q.parts p.each q.each many)
+      ∙ ap (report_over q.parts) stop ∙ sym q.is

@@ -1,6 +1,6 @@
 -- The lines of a decoded disk's report: one for each sector and the total line, and what each tells.
-use Rattle.std.specs.Prelude.{◌≡◌, ◌<◌, ℕ, ◌+◌, List, ◌++◌, length, unwrap_or, Option, Some, None, refl}
-use Rattle.std.proofs.Common.{ap, sym, subst, ◌∙◌, arith, inl, inr}
+use Rattle.std.specs.Prelude.{◌≡◌, ◌<◌, ℕ, ◌+◌, List, ◌++◌, length, unwrap_or, Option}
+use Rattle.std.proofs.Common.{ap, sym, subst, ◌∙◌, arith}
 use Rattle.flux_base.specs.declared.track.TrackId.{TrackId}
 use Rattle.disk_recordings.specs.Laws.{TracksAreRead}
 use Rattle.kryo_stream.specs.Growth.{StreamsAreShort}
@@ -9,23 +9,17 @@ use Rattle.phase_loop.specs.Sizes.{CellsAreFew}
 use Rattle.sector_images.specs.Places.{IsSector, IsTrack, NumbersNameTracks, TracksKeepBounds}
 use Rattle.sector_images.specs.declared.format.Format.{Format}
 use Rattle.sector_report.specs.LineLaws.{LineFits, SectorLinesTell, SectorsHaveOneLine, TotalsAreNoSectors, TotalsHaveOneLine, line_ends}
-use Rattle.sector_report.specs.Lines.{sector_text, total_text}
+use Rattle.sector_report.specs.Lines.{sector_text}
 use Rattle.sector_report.specs.declared.naming.Naming.TheVariants.{Unnamed}
-use Rattle.sector_report.specs.declared.totals.Totals.{Totals}
 use Rattle.turn_merge.specs.Readings.{verdict}
 use Rattle.turn_merge.specs.declared.verdict.Verdict.{Verdict}
 use Rattle.flux_engine.specs.DiskLaws.{HasLine, IsTold, LinesTellVerdicts, ReportsHaveNoOtherLines, sectors_before, total_lines}
-use Rattle.flux_engine.specs.Disks.{Decoded, IsDecoded, Stop, decoded_count, last_line, lines, totals_over}
+use Rattle.flux_engine.specs.Disks.{Decoded, IsDecoded, decoded_count, last_line, lines, totals_over}
 use Rattle.flux_engine.specs.Recordings.{track_at}
 use Rattle.flux_engine.specs.Streams.{stream_at}
-use Rattle.flux_engine.specs.lemmas.LineNumbers.{ends-line}
-use Rattle.flux_engine.specs.lemmas.ReportLines.{EndsReport, IsLineOf, line_count, line_of_sector}
+use Rattle.flux_engine.specs.lemmas.ReportLines.{IsLineOf, ends_report, last_ends, line_count, line_of_sector}
 use Rattle.flux_engine.specs.lemmas.VerdictBounds.{verdict_fits}
 use Rattle.flux_engine.proofs.DiskParts.{few_parts, first_track, part_lines, part_readings, stop_is}
-
-ends_report : (totals : Totals) (stop : Option Stop) → EndsReport (last_line totals stop)
-ends_report totals None = inr (totals, refl)
-ends_report totals (Some stop) = inl refl
 
 module _ (one : SectorsHaveOneLine) (total_one : TotalsHaveOneLine) (format : Format) (x : List ℕ) (o : Decoded) (is : IsDecoded format x o) where
   abbrev last : List ℕ
@@ -38,16 +32,12 @@ module _ (one : SectorsHaveOneLine) (total_one : TotalsHaveOneLine) (format : Fo
   notes_are =
       ap (λ (d : Decoded). d.notes) is.is ∙ ap (λ stop. lines is.parts ++ last_line (totals_over is.parts) stop) (sym (stop_is format x o is))
 
-  last-ends : (stop : Option Stop) → line_ends (last_line (totals_over is.parts) stop) ≡ total_lines stop
-  last-ends None = ends-line (total_text (totals_over is.parts)) (total_one (totals_over is.parts))
-  last-ends (Some stop) = refl
-
   pub count : line_ends o.notes ≡ sectors_before format (decoded_count format o.stop) + total_lines o.stop
   count =
       ap line_ends notes_are
       ∙ line_count one total_one format is.parts (few_parts format x o is) Unnamed (part_readings format x is.parts is.each) (part_lines format x is.parts is.each) last
       ∙ ap (λ (n : ℕ). sectors_before format n + line_ends last) count_is
-      ∙ ap (λ (n : ℕ). sectors_before format (decoded_count format o.stop) + n) (last-ends o.stop)
+      ∙ ap (λ (n : ℕ). sectors_before format (decoded_count format o.stop) + n) (last_ends total_one (totals_over is.parts) o.stop)
 
   module _ (read : TracksAreRead) (names : NumbersNameTracks) (keep : TracksKeepBounds) (cells_few : CellsAreFew) (short : StreamsAreShort) (tell : SectorLinesTell) (no_sector : TotalsAreNoSectors)
       (track : TrackId) (sector : ℕ) (outcome : Verdict) (number : ℕ) (fits : LineFits Unnamed track sector outcome) (h : HasLine o.notes (sector_text track sector outcome) number) where

@@ -14,7 +14,7 @@ use Rattle.turn_merge.specs.Readings.{verdict}
 use Rattle.turn_merge.specs.declared.verdict.Place.{Place}
 use Rattle.turn_merge.specs.declared.verdict.Verdict.{Verdict}
 use Rattle.turn_merge.specs.declared.verdict.Verdict.TheVariants.{Good}
-use Rattle.flux_engine.specs.Disks.{AreParts, Decoded, IsDecoded, Stop, decoded_count, images, part_at}
+use Rattle.flux_engine.specs.Disks.{AreParts, Decoded, IsDecoded, decoded_count, images, part_at}
 use Rattle.disk_recordings.specs.Members.{header_at, sector_at}
 use Rattle.flux_engine.specs.Recordings.{track_at, cells_of}
 use Rattle.flux_engine.specs.Streams.{stream_at}
@@ -95,7 +95,7 @@ LinesNameVerdicts = (format : Format) (x : List ℕ) (o : Decoded) (n sector : �
     → HasLine o.notes (sector_text (track_at format n) sector outcome) (line_number format n sector)
 
 -- the total line, where the disk was decoded to its end
-abbrev pub total_lines : Option Stop → ℕ
+abbrev pub total_lines : {S : Type 0} → Option S → ℕ
 total_lines None = 1
 total_lines (Some stop) = 0
 

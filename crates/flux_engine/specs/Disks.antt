@@ -61,29 +61,33 @@ abbrev pub decoded_count : Format → Option Stop → ℕ
 decoded_count format (Some stop) = stop.track
 decoded_count format None = length (tracks format)
 
--- the bytes of the image and of the report, the totals, and where decoding stopped
-pub record Decoded : Type 0 where
+-- the bytes of the image and of the report, the totals, and what stopped it before all tracks were there, if something did
+pub record DiskReport (S : Type 0) : Type 0 where
   pub image : List ℕ
   pub notes : List ℕ
   pub totals : Totals
-  pub stop : Option Stop
+  pub stop : Option S
 
--- the line after all sector lines, where all tracks are decoded
-abbrev pub last_line : Totals → Option Stop → List ℕ
+-- what the first tracks come to: the line after all sector lines stands where nothing stopped it
+abbrev pub last_line : {S : Type 0} → Totals → Option S → List ℕ
 last_line totals (Some stop) = []
 last_line totals None = total_text totals
 
-abbrev pub decoded_of : List TrackPart → Option Stop → Decoded
-decoded_of parts stop = record {
+abbrev pub report_over : {S : Type 0} → List TrackPart → Option S → DiskReport S
+report_over parts stop = record {
   image = images parts;
   notes = lines parts ++ last_line (totals_over parts) stop;
   totals = totals_over parts;
   stop = stop;
 }
 
+-- a disk that is decoded is stopped by a stream
+abbrev pub Decoded : Type 0
+Decoded = DiskReport Stop
+
 -- what the input x of a format comes to: all tracks before the first stream with a fault, or all tracks
 pub record IsDecoded (format : Format) (x : List ℕ) (o : Decoded) : Type 0 where
   pub parts : List TrackPart
   pub each : AreParts format x parts
   pub many : length parts ≡ decoded_count format (stop_of format x)
-  pub is : o ≡ decoded_of parts (stop_of format x)
+  pub is : o ≡ report_over parts (stop_of format x)

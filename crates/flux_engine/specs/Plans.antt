@@ -6,14 +6,12 @@ use Rattle.kryo_stream.specs.declared.fault.StreamFault.{StreamFault}
 use Rattle.kryo_stream.specs.declared.fault.StreamFault.TheVariants.{Truncated}
 use Rattle.sector_images.specs.Places.{tracks}
 use Rattle.sector_images.specs.declared.format.Format.{Format}
-use Rattle.sector_report.specs.Lines.{total_text}
 use Rattle.sector_report.specs.declared.dump_lines.Passed.{Passed}
 use Rattle.sector_report.specs.declared.naming.Naming.TheVariants.{Unnamed}
-use Rattle.sector_report.specs.declared.totals.Totals.{Totals}
 use Rattle.turn_merge.specs.Others.{NotedOther}
 use Rattle.turn_merge.specs.Readings.{NotedReading}
 use Rattle.flux_engine.specs.Captured.{AreOthersOf, AreReadingsOf}
-use Rattle.flux_engine.specs.Disks.{images, lines, part_at, totals_over}
+use Rattle.flux_engine.specs.Disks.{DiskReport, lines, part_at, report_over}
 use Rattle.flux_engine.specs.Recordings.{track_at}
 use Rattle.flux_engine.specs.Streams.{stream_at}
 use Rattle.flux_engine.specs.Tracks.{TrackNotes, TrackPart, track_notes}
@@ -116,25 +114,9 @@ abbrev pub planned_count : Format → Option PlanStop → ℕ
 planned_count format (Some stop) = stop.track
 planned_count format None = length (tracks format)
 
--- the bytes of the image and of the report, the totals, and where reading stopped
-pub record Planned : Type 0 where
-  pub image : List ℕ
-  pub notes : List ℕ
-  pub totals : Totals
-  pub stop : Option PlanStop
-
--- the line after all sector lines, where all tracks are decoded
-abbrev pub planned_last_line : Totals → Option PlanStop → List ℕ
-planned_last_line totals (Some stop) = []
-planned_last_line totals None = total_text totals
-
-abbrev pub planned_of : List TrackPart → Option PlanStop → Planned
-planned_of parts stop = record {
-  image = images parts;
-  notes = lines parts ++ planned_last_line (totals_over parts) stop;
-  totals = totals_over parts;
-  stop = stop;
-}
+-- a disk that is read by a plan is stopped by a stream of a capture
+abbrev pub Planned : Type 0
+Planned = DiskReport PlanStop
 
 -- what these streams come to: all tracks before that of the first stream with a fault, or all tracks
 pub record IsPlanned (plan : Plan) (of : PartOf) (format : Format) (streams : Streams) (o : Planned) : Type 0 where
@@ -142,7 +124,7 @@ pub record IsPlanned (plan : Plan) (of : PartOf) (format : Format) (streams : St
   pub each : ArePlannedParts plan of format streams parts
   pub stops : StopsAt plan format streams o.stop
   pub many : length parts ≡ planned_count format o.stop
-  pub is : o ≡ planned_of parts o.stop
+  pub is : o ≡ report_over parts o.stop
 
 -- the streams go on after these bytes: they end inside a block, and no stream before has a fault
 abbrev pub EndsInPlan : Plan → Format → List ℕ → Type 0

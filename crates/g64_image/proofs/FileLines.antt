@@ -1,31 +1,30 @@
 -- The lines of a file's report: one for each sector and the total line, and what each tells.
 use Rattle.std.specs.Prelude.{◌≡◌, ◌≤◌, ◌<◌, ◌^◌, ℕ, ◌+◌, ◌-◌, ◌*◌, ◌==◌, ◌++◌, Bool, true, false, List, [], ◌∷◌, drop, length, take, unwrap_or, if◌then◌else◌, Option, Some, None, refl}
-use Rattle.std.proofs.Common.{ap, sym, subst, ◌∙◌, arith, inl, inr, length-append, length-drop, lit<}
+use Rattle.std.proofs.Common.{ap, sym, subst, ◌∙◌, arith, length-append, length-drop, lit<}
 use Rattle.std.proofs.lemmas.List.{length-take}
 use Rattle.std.proofs.Math.Nat.{min-le_right}
 use Rattle.disk_recordings.specs.Laws.{TracksAreRead}
 use Rattle.disk_recordings.specs.Members.{header_at, sector_at}
 use Rattle.flux_base.specs.declared.track.TrackId.{TrackId}
-use Rattle.flux_engine.specs.DiskLaws.{HasLine, line_number, sectors_before}
-use Rattle.flux_engine.specs.Disks.{lines, part_at, totals_over}
+use Rattle.flux_engine.specs.DiskLaws.{HasLine, line_number, sectors_before, total_lines}
+use Rattle.flux_engine.specs.Disks.{last_line, lines, part_at, totals_over}
 use Rattle.flux_engine.specs.Recordings.{sectors_of, track_at}
 use Rattle.flux_engine.specs.Tracks.{Found, TrackPart, lines_by, readings_at}
 use Rattle.flux_engine.specs.lemmas.Each.{Each, each-flat}
-use Rattle.flux_engine.specs.lemmas.LineNumbers.{ends-line, sector-line}
-use Rattle.flux_engine.specs.lemmas.ReportLines.{EndsReport, IsLineOf, line_count, line_of_sector}
+use Rattle.flux_engine.specs.lemmas.LineNumbers.{sector-line}
+use Rattle.flux_engine.specs.lemmas.ReportLines.{IsLineOf, ends_report, last_ends, line_count, line_of_sector}
 use Rattle.flux_engine.specs.lemmas.VerdictBounds.{ReadingFits, at_place, one_few, readings_fit}
 use Rattle.sector_images.specs.Formats.{row}
 use Rattle.sector_images.specs.Places.{IsSector, IsTrack, NumbersNameTracks, TracksKeepBounds, tracks}
 use Rattle.sector_images.specs.declared.format.Format.{Format}
 use Rattle.sector_report.specs.LineLaws.{LineFits, SectorLinesTell, SectorsHaveOneLine, TotalsAreNoSectors, TotalsHaveOneLine, line_ends}
-use Rattle.sector_report.specs.Lines.{sector_text, total_text}
+use Rattle.sector_report.specs.Lines.{sector_text}
 use Rattle.sector_report.specs.declared.naming.Naming.TheVariants.{Unnamed}
-use Rattle.sector_report.specs.declared.totals.Totals.{Totals}
 use Rattle.turn_merge.specs.Readings.{NotedReading, verdict}
 use Rattle.turn_merge.specs.declared.verdict.Verdict.{Verdict}
 use Rattle.g64_image.specs.Faults.{MOST_BYTES, first_fault}
-use Rattle.g64_image.specs.FileDisks.{AreReadingsTo, FileDisk, IsFileDisk, last_line, read_count, ring_place, ring_readings}
-use Rattle.g64_image.specs.Laws.{FileReportsHaveNoOtherLines, HasFileVerdict, IsToldOfFile, LinesNameFileVerdicts, LinesTellInFiles, file_total_lines}
+use Rattle.g64_image.specs.FileDisks.{AreReadingsTo, FileDisk, IsFileDisk, read_count, ring_place, ring_readings}
+use Rattle.g64_image.specs.Laws.{FileReportsHaveNoOtherLines, HasFileVerdict, IsToldOfFile, LinesNameFileVerdicts, LinesTellInFiles}
 use Rattle.g64_image.specs.Layout.{cells_of_bytes, length_at, offset_of, track_cells}
 use Rattle.g64_image.specs.declared.fault.G64Fault.{G64Fault}
 use Rattle.g64_image.proofs.Bytes.{length-cells_of_bytes}
@@ -85,16 +84,12 @@ none_where : (format : Format) (fault : Option G64Fault) (n : ℕ) → n < read_
 none_where format None n low = refl
 none_where format (Some fault) n low = absurd (omega (arith, low))
 
-ends_report : (totals : Totals) (fault : Option G64Fault) → EndsReport (last_line totals fault)
-ends_report totals None = inr (totals, refl)
-ends_report totals (Some fault) = inl refl
-
 module _ (laws : Laws) (format : Format) (file : List ℕ) (o : FileDisk) (is : IsFileDisk format file o) where
   abbrev last : List ℕ
   last = last_line (totals_over is.parts) (first_fault format file)
 
-  fault_is : o.fault ≡ first_fault format file
-  fault_is = ap (λ (d : FileDisk). d.fault) is.is
+  fault_is : o.stop ≡ first_fault format file
+  fault_is = ap (λ (d : FileDisk). d.stop) is.is
 
   notes_are : o.notes ≡ lines is.parts ++ last
   notes_are = ap (λ (d : FileDisk). d.notes) is.is
@@ -109,17 +104,13 @@ module _ (laws : Laws) (format : Format) (file : List ℕ) (o : FileDisk) (is : 
       → (part_at is.parts n).lines ≡ lines_by Unnamed (track_at format n) (sectors_of format (track_at format n)) (part_readings n low)
   part_lines n low = ap (λ (p : TrackPart). p.lines) (is.each n low).is
 
-  last-ends : (fault : Option G64Fault) → line_ends (last_line (totals_over is.parts) fault) ≡ file_total_lines fault
-  last-ends None = ends-line (total_text (totals_over is.parts)) (laws.total_one (totals_over is.parts))
-  last-ends (Some fault) = refl
-
-  count : line_ends o.notes ≡ sectors_before format (read_count format o.fault) + file_total_lines o.fault
+  count : line_ends o.notes ≡ sectors_before format (read_count format o.stop) + total_lines o.stop
   count =
       ap line_ends notes_are ∙ line_count laws.one laws.total_one format is.parts few Unnamed part_readings part_lines last
       ∙ ap (λ (n : ℕ). sectors_before format n + line_ends last) (is.many ∙ ap (read_count format) (sym fault_is))
-      ∙ ap (λ (n : ℕ). sectors_before format (read_count format o.fault) + n) (last-ends (first_fault format file) ∙ ap file_total_lines (sym fault_is))
+      ∙ ap (λ (n : ℕ). sectors_before format (read_count format o.stop) + n) (last_ends laws.total_one (totals_over is.parts) (first_fault format file) ∙ ap total_lines (sym fault_is))
 
-  named : (n sector : ℕ) (outcome : Verdict) → o.fault ≡ None → n < length (tracks format) → IsSector format (track_at format n) sector
+  named : (n sector : ℕ) (outcome : Verdict) → o.stop ≡ None → n < length (tracks format) → IsSector format (track_at format n) sector
       → HasFileVerdict format file n sector outcome → HasLine o.notes (sector_text (track_at format n) sector outcome) (line_number format n sector)
   named n sector outcome none known one has =
       let low : n < length is.parts = (let all = is.many ∙ ap (read_count format) (sym fault_is ∙ none) in omega (arith, all, known)) in

@@ -8,7 +8,7 @@ use Rattle.std.proofs.lemmas.List.{length_push, get_or_append_left}
 use Rattle.std.proofs.Math.Seq.{get_or-append_seam}
 use Rattle.flux_base.specs.Outside.{AppendsPart}
 use Rattle.flux_engine.specs.Answers.{AppendsAndPart}
-use Rattle.flux_engine.specs.Disks.{images, lines, no_totals, part_at, totals_over}
+use Rattle.flux_engine.specs.Disks.{images, lines, no_totals, part_at, report_over, totals_over}
 use Rattle.flux_engine.specs.lemmas.PartLaws.{images-more, lines-more, totals-more}
 use Rattle.flux_engine.specs.Recordings.{track_at}
 use Rattle.flux_engine.specs.TrackParts.{WritesPart}
@@ -24,7 +24,7 @@ use Rattle.turn_merge.specs.Book.{Knowledge, StandsFor}
 use Rattle.turn_merge.specs.Readings.{NotedReading}
 use Rattle.g64_image.specs.Answers.{IsWholeFile, SaysOfFile}
 use Rattle.g64_image.specs.Faults.{first_fault}
-use Rattle.g64_image.specs.FileDisks.{AreFileParts, IsFilePart, file_disk_of, read_count}
+use Rattle.g64_image.specs.FileDisks.{AreFileParts, IsFilePart, read_count}
 use Rattle.g64_image.specs.Gathering.{HasRingReadings}
 use Rattle.g64_image.specs.Layout.{track_cells}
 use Rattle.g64_image.specs.Progress.{HasRead, WasStopped}
@@ -119,10 +119,10 @@ module _ (format : Format) (file : List ℕ) (left' image image' notes nmid note
   pub read_all : Appends nmid notes' (total_text totals) → SaysOfFile format file left' image image' notes notes' (Ok totals)
   read_all wrote =
       let none = whole.no_fault in
-      let notes_are : lines h.parts ++ total_text totals ≡ (file_disk_of h.parts (first_fault format file)).notes =
+      let notes_are : lines h.parts ++ total_text totals ≡ (report_over h.parts (first_fault format file)).notes =
       ap (λ (t : Totals). lines h.parts ++ total_text t) h.totals_are
-      ∙ ap (λ (f : Option G64Fault). (file_disk_of h.parts f).notes) (sym none) in (
-        file_disk_of h.parts (first_fault format file),
+      ∙ ap (λ (f : Option G64Fault). (report_over h.parts f).notes) (sym none) in (
+        report_over h.parts (first_fault format file),
         whole,
         record {
           disk = record { parts = h.parts; each = h.each; many = h.many ∙ ap (read_count format) (sym none); is = refl };

@@ -59,10 +59,10 @@ module _ (places : PlaceLaws) (format : Format) where
       )
 
 module _ (places : PlaceLaws) (fills : SectorsFillTracks) (read : TracksAreRead) (format : Format) (file : List ℕ) (o : FileDisk)
-    (disk : IsFileDisk format file o) (none : o.fault ≡ None) where
+    (disk : IsFileDisk format file o) (none : o.stop ≡ None) where
   many : length disk.parts ≡ length (tracks format)
   many =
-      let sound : first_fault format file ≡ None = sym (ap (λ (d : FileDisk). d.fault) disk.is) ∙ none in
+      let sound : first_fault format file ≡ None = sym (ap (λ (d : FileDisk). d.stop) disk.is) ∙ none in
       disk.many ∙ ap (read_count format) sound
 
   module _ (n : ℕ) (known : n < length (tracks format)) (found : List Found) (all : AreFileReadings format file n found) where

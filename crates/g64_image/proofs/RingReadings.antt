@@ -6,7 +6,7 @@ use Rattle.std.proofs.lemmas.List.{ext_get_or}
 use Rattle.disk_recordings.specs.Laws.{TracksAreRead}
 use Rattle.disk_recordings.specs.Members.{header_at, sector_at}
 use Rattle.flux_base.specs.declared.track.TrackId.{TrackId}
-use Rattle.flux_engine.specs.Disks.{no_totals, part_at}
+use Rattle.flux_engine.specs.Disks.{no_totals, part_at, report_over}
 use Rattle.flux_engine.specs.Recordings.{track_at}
 use Rattle.flux_engine.specs.Tracks.{Found, TrackPart, part_of}
 use Rattle.frame_law.specs.Laws.{SectorsAreTold}
@@ -15,7 +15,7 @@ use Rattle.frame_law.specs.declared.reading.Reading.{Reading}
 use Rattle.frame_law.specs.declared.reading.Reading.TheVariants.{Nothing, Bad, Good}
 use Rattle.sector_images.specs.declared.format.Format.{Format}
 use Rattle.g64_image.specs.Faults.{first_fault}
-use Rattle.g64_image.specs.FileDisks.{AreFileParts, AreReadingsTo, IsRingPart, file_disk_of, ring_readings}
+use Rattle.g64_image.specs.FileDisks.{AreFileParts, AreReadingsTo, IsRingPart, ring_readings}
 use Rattle.g64_image.specs.Laws.{OneFileDisk}
 use Rattle.g64_image.specs.Layout.{track_cells}
 
@@ -103,4 +103,4 @@ module _ (read : TracksAreRead) where
 
   pub one_file_disk : OneFileDisk
   one_file_disk format file a b p q =
-      p.is ∙ ap (λ (parts : List TrackPart). file_disk_of parts (first_fault format file)) (one_parts format file p.parts q.parts p.each q.each (p.many ∙ sym q.many)) ∙ sym q.is
+      p.is ∙ ap (λ (parts : List TrackPart). report_over parts (first_fault format file)) (one_parts format file p.parts q.parts p.each q.each (p.many ∙ sym q.many)) ∙ sym q.is

@@ -86,12 +86,12 @@ module _ (laws : TrackLaws) (places : PlaceLaws) (read : TracksAreRead) (named :
 
     comes_back : ComesBack format image o
     comes_back = record {
-      no_fault = ap (λ (d : FileDisk). d.fault) disk.is ∙ sound;
+      no_fault = ap (λ (d : FileDisk). d.stop) disk.is ∙ sound;
       image_is = ap (λ (d : FileDisk). d.image) disk.is ∙ images-are places format image is.size disk.parts many image-part;
       all_good = subst (λ (d : FileDisk). d.totals.good ≡ d.totals.sectors) (sym disk.is) (totals_good disk.parts good-part);
       verdicts = one_verdict;
       lines = λ n s known one.
-          named format file o n s (good_there n s) disk (ap (λ (d : FileDisk). d.fault) disk.is ∙ sound) known one (one_verdict n s known one).has;
+          named format file o n s (good_there n s) disk (ap (λ (d : FileDisk). d.stop) disk.is ∙ sound) known one (one_verdict n s known one).has;
     }
 
 pub written_files_come_back : TrackLaws → PlaceLaws → TracksAreRead → LinesNameFileVerdicts → WrittenFilesHaveNoFault → WrittenTracksAreRings → WrittenFilesComeBack

@@ -2,14 +2,12 @@
 use Rattle.std.specs.Prelude.{◌≡◌, ◌<◌, ℕ, ◌+◌, ◌++◌, Bool, List, [], ◌∷◌, flat_map, length, Option, Some, None}
 use Rattle.disk_recordings.specs.Members.{header_at, sector_at}
 use Rattle.flux_base.specs.declared.track.TrackId.{TrackId}
-use Rattle.flux_engine.specs.Disks.{images, lines, part_at, totals_over}
+use Rattle.flux_engine.specs.Disks.{DiskReport, part_at, report_over}
 use Rattle.flux_engine.specs.Recordings.{track_at}
 use Rattle.flux_engine.specs.Tracks.{Found, TrackPart, part_of, readings_at}
 use Rattle.frame_law.specs.Readings.{FirstReading, NoHeader}
 use Rattle.sector_images.specs.Places.{tracks}
 use Rattle.sector_images.specs.declared.format.Format.{Format}
-use Rattle.sector_report.specs.Lines.{total_text}
-use Rattle.sector_report.specs.declared.totals.Totals.{Totals}
 use Rattle.turn_merge.specs.Readings.{NotedReading}
 use Rattle.turn_merge.specs.declared.clock.Clock.TheVariants.{Following}
 use Rattle.turn_merge.specs.declared.verdict.Place.{Place}
@@ -47,34 +45,18 @@ IsFilePart format file n part = IsRingPart format (track_at format n) (track_cel
 abbrev pub AreFileParts : Format → List ℕ → List TrackPart → Type 0
 AreFileParts format file parts = (n : ℕ) → n < length parts → IsFilePart format file n (part_at parts n)
 
--- the bytes of the image and of the report, the totals, and the file's fault
-pub record FileDisk : Type 0 where
-  pub image : List ℕ
-  pub notes : List ℕ
-  pub totals : Totals
-  pub fault : Option G64Fault
+-- a disk that is read of a file is stopped by the file's fault
+abbrev pub FileDisk : Type 0
+FileDisk = DiskReport G64Fault
 
 -- how many tracks are read: all, or none of a file that has a fault
 abbrev pub read_count : Format → Option G64Fault → ℕ
 read_count format (Some fault) = 0
 read_count format None = length (tracks format)
 
--- the line after all sector lines
-abbrev pub last_line : Totals → Option G64Fault → List ℕ
-last_line totals (Some fault) = []
-last_line totals None = total_text totals
-
-abbrev pub file_disk_of : List TrackPart → Option G64Fault → FileDisk
-file_disk_of parts fault = record {
-  image = images parts;
-  notes = lines parts ++ last_line (totals_over parts) fault;
-  totals = totals_over parts;
-  fault = fault;
-}
-
 -- what a file comes to: all its tracks, or nothing where it has a fault
 pub record IsFileDisk (format : Format) (file : List ℕ) (o : FileDisk) : Type 0 where
   pub parts : List TrackPart
   pub each : AreFileParts format file parts
   pub many : length parts ≡ read_count format (first_fault format file)
-  pub is : o ≡ file_disk_of parts (first_fault format file)
+  pub is : o ≡ report_over parts (first_fault format file)

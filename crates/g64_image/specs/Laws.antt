@@ -1,8 +1,8 @@
 -- What the definition of a file's disk comes to, also where the file is written of an image.
-use Rattle.std.specs.Prelude.{◌≡◌, ◌<◌, ℕ, ◌+◌, ◌++◌, List, drop, length, Option, Some, None}
+use Rattle.std.specs.Prelude.{◌≡◌, ◌<◌, ℕ, ◌+◌, ◌++◌, List, drop, length, None}
 use Rattle.flux_base.specs.declared.track.TrackId.{TrackId}
 use Rattle.disk_recordings.specs.Members.{header_at, place_in_ring, sector_at}
-use Rattle.flux_engine.specs.DiskLaws.{HasLine, bytes_at, line_number, sectors_before}
+use Rattle.flux_engine.specs.DiskLaws.{HasLine, bytes_at, line_number, sectors_before, total_lines}
 use Rattle.flux_engine.specs.Recordings.{track_at}
 use Rattle.flux_engine.specs.Rings.{IsImage, ring_of}
 use Rattle.flux_engine.specs.Tracks.{Found}
@@ -18,7 +18,6 @@ use Rattle.turn_merge.specs.declared.verdict.Verdict.{Verdict}
 use Rattle.turn_merge.specs.declared.verdict.Verdict.TheVariants.{Good}
 use Rattle.g64_image.specs.Faults.{first_fault}
 use Rattle.g64_image.specs.FileDisks.{AreReadingsTo, FileDisk, IsFileDisk, read_count, ring_place, ring_readings}
-use Rattle.g64_image.specs.declared.fault.G64Fault.{G64Fault}
 use Rattle.g64_image.specs.Layout.{IsCommodore, g64_file, track_cells}
 
 -- a file comes to one disk
@@ -52,26 +51,21 @@ pub record HasOneFileVerdict (format : Format) (file : List ℕ) (n sector : ℕ
   pub has : HasFileVerdict format file n sector outcome
   pub only : (other : Verdict) → HasFileVerdict format file n sector other → other ≡ outcome
 
--- the total line, of a file without a fault
-abbrev pub file_total_lines : Option G64Fault → ℕ
-file_total_lines None = 1
-file_total_lines (Some fault) = 0
-
 -- the report of a file without a fault has a line for each sector, and the total line; it has no other, and one with a fault has none
 abbrev pub FileReportsHaveNoOtherLines : Type 0
 FileReportsHaveNoOtherLines = (format : Format) (file : List ℕ) (o : FileDisk) → IsFileDisk format file o
-    → line_ends o.notes ≡ sectors_before format (read_count format o.fault) + file_total_lines o.fault
+    → line_ends o.notes ≡ sectors_before format (read_count format o.stop) + total_lines o.stop
 
 -- the report's line of each sector, after those of all sectors before it, names the sector and its verdict
 abbrev pub LinesNameFileVerdicts : Type 0
-LinesNameFileVerdicts = (format : Format) (file : List ℕ) (o : FileDisk) (n sector : ℕ) (outcome : Verdict) → IsFileDisk format file o → o.fault ≡ None
+LinesNameFileVerdicts = (format : Format) (file : List ℕ) (o : FileDisk) (n sector : ℕ) (outcome : Verdict) → IsFileDisk format file o → o.stop ≡ None
     → n < length (tracks format) → IsSector format (track_at format n) sector → HasFileVerdict format file n sector outcome
     → HasLine o.notes (sector_text (track_at format n) sector outcome) (line_number format n sector)
 
 -- Where a sector's line, of whatever numbers that fit in it, is a line of the report, it is the line of that sector, and its verdict is
 -- the one that the line names.
 pub record IsToldOfFile (format : Format) (file : List ℕ) (o : FileDisk) (track : TrackId) (sector : ℕ) (outcome : Verdict) (number : ℕ) : Type 0 where
-  pub no_fault : o.fault ≡ None
+  pub no_fault : o.stop ≡ None
   pub n : ℕ
   pub low : n < length (tracks format)
   pub track_is : track ≡ track_at format n
@@ -87,7 +81,7 @@ LinesTellInFiles = (format : Format) (file : List ℕ) (o : FileDisk) → IsFile
 -- The disk of a written file is that of the image: it has no fault and all of the image's bytes, all sectors are counted as
 -- good, and each is read once, well, and never badly, at its place in the ring of its track, as its line says.
 pub record ComesBack (format : Format) (image : List ℕ) (o : FileDisk) : Type 0 where
-  pub no_fault : o.fault ≡ None
+  pub no_fault : o.stop ≡ None
   pub image_is : o.image ≡ image
   pub all_good : o.totals.good ≡ o.totals.sectors
   pub verdicts : (n sector : ℕ) → n < length (tracks format) → IsSector format (track_at format n) sector
@@ -115,6 +109,6 @@ pub record IsRightlyGoodInFile (format : Format) (file image : List ℕ) (n sect
 
 -- wherever the verdict on a sector of a file without a fault is good
 abbrev pub GoodIsRightInFiles : Type 0
-GoodIsRightInFiles = (format : Format) (file : List ℕ) (o : FileDisk) (n sector good bad : ℕ) (first : Place) → IsFileDisk format file o → o.fault ≡ None
+GoodIsRightInFiles = (format : Format) (file : List ℕ) (o : FileDisk) (n sector good bad : ℕ) (first : Place) → IsFileDisk format file o → o.stop ≡ None
     → n < length (tracks format) → IsSector format (track_at format n) sector → HasFileVerdict format file n sector (Good good bad first)
     → IsRightlyGoodInFile format file o.image n sector first

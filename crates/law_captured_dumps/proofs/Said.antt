@@ -7,10 +7,10 @@ use Rattle.dump_reading.specs.Outcomes.{DumpDisk, DumpsRead, IsDumpsRead, number
 use Rattle.dump_reading.specs.Reports.{end_text, other_lines, passed_line_of, passed_lines, read_part}
 use Rattle.flux_base.specs.declared.track.TrackId.{TrackId}
 use Rattle.flux_engine.specs.DiskLaws.{HasLine, bytes_at}
-use Rattle.flux_engine.specs.Disks.{images, lines, no_totals, part_at}
+use Rattle.flux_engine.specs.Disks.{images, lines, no_totals, part_at, report_over}
 use Rattle.flux_engine.specs.LoopProgress.{streams_over}
 use Rattle.flux_engine.specs.PlanLaws.{ContradictionsAreNamedInPlans, GoodIsRightInPlans, ReadingsInPlansAreOne, StrictGoodStays}
-use Rattle.flux_engine.specs.Plans.{AreCaptures, IsPlanned, IsPlannedPart, Planned, Streams, joined, passed_to, planned_of}
+use Rattle.flux_engine.specs.Plans.{AreCaptures, IsPlanned, IsPlannedPart, Planned, Streams, joined, passed_to}
 use Rattle.flux_engine.specs.Recordings.{sectors_of, track_at}
 use Rattle.flux_engine.specs.Tracks.{TrackPart, image_bytes, line_by, lines_by, named_part, part_by, track_notes}
 use Rattle.flux_engine.specs.declared.gathered_track.PassedStream.{PassedStream}
@@ -188,7 +188,7 @@ module _ (laws : Laws) (disk : DumpDisk) (files : List File) (o : DumpsRead) (is
   image_of_one n low (inr past) = absurd (omega (arith, low, past))
 
   abbrev planned : Planned
-  planned = planned_of plain None
+  planned = report_over plain None
 
   each_planned : (n : ℕ) → n < length plain → IsPlannedPart plan (part_by plan.naming) format came n (part_at plain n)
   unfolding plain_at

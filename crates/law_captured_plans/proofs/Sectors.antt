@@ -12,9 +12,9 @@ use Rattle.turn_merge.specs.Readings.{NotedReading, agreed, verdict}
 use Rattle.turn_merge.specs.declared.verdict.Verdict.{Verdict}
 use Rattle.turn_merge.specs.declared.verdict.Verdict.TheVariants.{Good, Contradictory, Bad, Missing}
 use Rattle.flux_engine.specs.DiskLaws.{HasLine, bytes_at, line_number}
-use Rattle.flux_engine.specs.Disks.{images, part_at, totals_over}
+use Rattle.flux_engine.specs.Disks.{images, last_line, part_at, totals_over}
 use Rattle.flux_engine.specs.PlanLaws.{GoodIsRightInPlans, cells_in}
-use Rattle.flux_engine.specs.Plans.{IsPlanned, IsPlannedPart, PlanStop, Planned, Streams, StopsAt, joined, planned_count, planned_last_line}
+use Rattle.flux_engine.specs.Plans.{IsPlanned, IsPlannedPart, PlanStop, Planned, Streams, StopsAt, joined, planned_count}
 use Rattle.flux_engine.specs.Recordings.{sectors_of, track_at}
 use Rattle.flux_engine.specs.Rules.{RulesAreRead}
 use Rattle.flux_engine.specs.Tracks.{TrackPart, image_bytes, image_of, image_piece, lines_by, part_by}
@@ -120,7 +120,7 @@ module _ (laws : Laws) (plan : Plan) (format : Format) (streams : Streams) (o : 
     says =
         let text : List ℕ = named_text plan.naming (track_at format n) sector (verdict (readings n low) sector) in
         subst (λ (d : Planned). HasLine d.notes text (line_number format n sector)) (sym is.is)
-        (sector-line laws.one format is.parts few plan.naming plan_readings plan_lines (planned_last_line (totals_over is.parts) o.stop) n low sector one)
+        (sector-line laws.one format is.parts few plan.naming plan_readings plan_lines (last_line (totals_over is.parts) o.stop) n low sector one)
 
     pub said : IsSaid plan format streams o n sector
     said = record { captures = (at n low).captures; many = (at n low).many; each = (at n low).each; line = says; held = held }

@@ -1,6 +1,6 @@
 -- What the lines of a disk's report tell that was read by a plan.
-use Rattle.std.specs.Prelude.{◌≡◌, ◌≤◌, ◌<◌, ◌^◌, ℕ, suc, ◌+◌, ◌*◌, List, [], ◌∷◌, ◌++◌, get_or, length, unwrap_or, Option, None, Some, refl}
-use Rattle.std.proofs.Common.{ap, sym, subst, ◌∙◌, arith, inl, inr, length-append, lit<}
+use Rattle.std.specs.Prelude.{◌≡◌, ◌≤◌, ◌<◌, ◌^◌, ℕ, suc, ◌+◌, ◌*◌, List, [], ◌∷◌, ◌++◌, get_or, length, unwrap_or, Option, refl}
+use Rattle.std.proofs.Common.{ap, sym, subst, ◌∙◌, arith, length-append, lit<}
 use Rattle.flux_base.specs.declared.track.TrackId.{TrackId}
 use Rattle.disk_recordings.specs.Laws.{TracksAreRead}
 use Rattle.kryo_stream.specs.Growth.{StreamsAreShort}
@@ -8,10 +8,9 @@ use Rattle.phase_loop.specs.Sizes.{CellsAreFew}
 use Rattle.sector_images.specs.Places.{IsSector, IsTrack, TracksKeepBounds, tracks}
 use Rattle.sector_images.specs.declared.format.Format.{Format}
 use Rattle.sector_report.specs.LineLaws.{LineFits, SectorLinesTell, SourceFits, TotalsAreNoSectors, TotalsHaveOneLine, line_ends}
-use Rattle.sector_report.specs.Lines.{named_text, total_text}
+use Rattle.sector_report.specs.Lines.{named_text}
 use Rattle.sector_report.specs.declared.naming.Naming.{Naming}
 use Rattle.sector_report.specs.declared.naming.Naming.TheVariants.{ByCapture, ByCaptureAndClock, ByClock, Unnamed}
-use Rattle.sector_report.specs.declared.totals.Totals.{Totals}
 use Rattle.turn_merge.specs.Readings.{NotedReading, verdict}
 use Rattle.turn_merge.specs.declared.clock.Clock.{Clock}
 use Rattle.turn_merge.specs.declared.clock.Clock.TheVariants.{Following, Held}
@@ -19,9 +18,9 @@ use Rattle.turn_merge.specs.declared.verdict.Place.{Place}
 use Rattle.turn_merge.specs.declared.verdict.Verdict.{Verdict}
 use Rattle.turn_merge.specs.declared.verdict.Verdict.TheVariants.{Good}
 use Rattle.flux_engine.specs.Captured.{AreReadingsBy, IsUsed, joined_by}
-use Rattle.flux_engine.specs.DiskLaws.{HasLine, bytes_at, sectors_before}
-use Rattle.flux_engine.specs.Disks.{lines, totals_over}
-use Rattle.flux_engine.specs.Plans.{IsPlanned, PlanStop, Planned, Streams, joined, planned_count, planned_last_line}
+use Rattle.flux_engine.specs.DiskLaws.{HasLine, bytes_at, sectors_before, total_lines}
+use Rattle.flux_engine.specs.Disks.{last_line, lines, totals_over}
+use Rattle.flux_engine.specs.Plans.{IsPlanned, Planned, Streams, joined, planned_count}
 use Rattle.flux_engine.specs.Recordings.{track_at}
 use Rattle.flux_engine.specs.Streams.{stream_at}
 use Rattle.flux_engine.specs.Tracks.{part_by}
@@ -32,10 +31,9 @@ use Rattle.flux_engine.specs.declared.plan.Rule.{Rule}
 use Rattle.flux_engine.specs.declared.plan.Rule.TheVariants.{Strict}
 use Rattle.flux_engine.specs.lemmas.Each.{Each, each-append}
 use Rattle.flux_engine.specs.lemmas.JoinedReadings.{each_joined}
-use Rattle.flux_engine.specs.lemmas.LineNumbers.{ends-line}
-use Rattle.flux_engine.specs.lemmas.ReportLines.{EndsReport, IsLineOf, line_count, line_of_sector}
+use Rattle.flux_engine.specs.lemmas.ReportLines.{IsLineOf, ends_report, last_ends, line_count, line_of_sector}
 use Rattle.flux_engine.specs.lemmas.VerdictBounds.{FewFit, ReadingFits, few_fit, readings_fit}
-use Rattle.law_captured_plans.specs.Said.{AreShort, GoodLinesAreRight, InputsAreShort, IsToldBy, IsToldRightly, LinesTellInPlans, PlannedReportsHaveNoOtherLines, TellsSources, planned_total_lines}
+use Rattle.law_captured_plans.specs.Said.{AreShort, GoodLinesAreRight, InputsAreShort, IsToldBy, IsToldRightly, LinesTellInPlans, PlannedReportsHaveNoOtherLines, TellsSources}
 use Rattle.law_captured_plans.proofs.Sectors.{few, plan_lines, plan_readings, said, said-captures, Laws as SectorLaws}
 
 -- what the crates below promise
@@ -93,13 +91,9 @@ joined_few (noted ∷ captures) each =
     let both = length-append noted (joined captures) in
     omega (arith, here, rest, both)
 
-ends_report : (totals : Totals) (stop : Option PlanStop) → EndsReport (planned_last_line totals stop)
-ends_report totals None = inr (totals, refl)
-ends_report totals (Some stop) = inl refl
-
 module _ (laws : Laws) (plan : Plan) (format : Format) (streams : Streams) (o : Planned) (is : IsPlanned plan (part_by plan.naming) format streams o) where
   abbrev last : List ℕ
-  last = planned_last_line (totals_over is.parts) o.stop
+  last = last_line (totals_over is.parts) o.stop
 
   notes_are : o.notes ≡ lines is.parts ++ last
   notes_are = ap (λ (d : Planned). d.notes) is.is
@@ -107,17 +101,13 @@ module _ (laws : Laws) (plan : Plan) (format : Format) (streams : Streams) (o : 
   abbrev no_more : length is.parts ≤ length (tracks format)
   no_more = few laws.sectors plan format streams o is
 
-  last-ends : (stop : Option PlanStop) → line_ends (planned_last_line (totals_over is.parts) stop) ≡ planned_total_lines stop
-  last-ends None = ends-line (total_text (totals_over is.parts)) (laws.total_one (totals_over is.parts))
-  last-ends (Some stop) = refl
-
-  count : line_ends o.notes ≡ sectors_before format (planned_count format o.stop) + planned_total_lines o.stop
+  count : line_ends o.notes ≡ sectors_before format (planned_count format o.stop) + total_lines o.stop
   count =
       ap line_ends notes_are
       ∙ line_count laws.sectors.one laws.total_one format is.parts no_more plan.naming (plan_readings laws.sectors plan format streams o is)
       (plan_lines laws.sectors plan format streams o is) last
       ∙ ap (λ (n : ℕ). sectors_before format n + line_ends last) is.many
-      ∙ ap (λ (n : ℕ). sectors_before format (planned_count format o.stop) + n) (last-ends o.stop)
+      ∙ ap (λ (n : ℕ). sectors_before format (planned_count format o.stop) + n) (last_ends laws.total_one (totals_over is.parts) o.stop)
 
   module _ (most : plan.captures ≤ 16) (strict : plan.rule ≡ Strict) (tells : TellsSources plan.naming plan.captures plan.clocks) (short : AreShort streams) where
     capture_fits : (n : ℕ) (low : n < length is.parts) (q : ℕ) (within : q < length (is.each n low).captures)

@@ -1,5 +1,5 @@
 -- What a disk that was read by a plan says of one of its sectors, in its report and in its image.
-use Rattle.std.specs.Prelude.{◌≡◌, ◌≤◌, ◌<◌, ℕ, ◌+◌, List, length, Option, Some, None}
+use Rattle.std.specs.Prelude.{◌≡◌, ◌≤◌, ◌<◌, ℕ, ◌+◌, List, length, None}
 use Rattle.flux_base.specs.declared.track.TrackId.{TrackId}
 use Rattle.kryo_stream.specs.Protocol.{LIMIT}
 use Rattle.sector_images.specs.Places.{IsSector}
@@ -14,9 +14,9 @@ use Rattle.turn_merge.specs.declared.verdict.Place.{Place}
 use Rattle.turn_merge.specs.declared.verdict.Verdict.{Verdict}
 use Rattle.turn_merge.specs.declared.verdict.Verdict.TheVariants.{Good}
 use Rattle.flux_engine.specs.Captured.{IsUsed}
-use Rattle.flux_engine.specs.DiskLaws.{HasLine, bytes_at, line_number, sectors_before}
+use Rattle.flux_engine.specs.DiskLaws.{HasLine, bytes_at, line_number, sectors_before, total_lines}
 use Rattle.flux_engine.specs.PlanLaws.{IsNamedIn, StandsIn}
-use Rattle.flux_engine.specs.Plans.{AreCaptures, IsPlanned, PlanStop, Planned, Streams, joined, planned_count, streams_in}
+use Rattle.flux_engine.specs.Plans.{AreCaptures, IsPlanned, Planned, Streams, joined, planned_count, streams_in}
 use Rattle.flux_engine.specs.Recordings.{sectors_of, track_at}
 use Rattle.flux_engine.specs.Tracks.{image_bytes, part_by}
 use Rattle.flux_engine.specs.declared.plan.Clocks.{Clocks}
@@ -43,15 +43,10 @@ SectorsAreSaid = (plan : Plan) (format : Format) (streams : Streams) (o : Planne
     → (n sector : ℕ) → n < planned_count format o.stop → IsSector format (track_at format n) sector
     → IsSaid plan format streams o n sector
 
--- the total line, where all tracks were read
-abbrev pub planned_total_lines : Option PlanStop → ℕ
-planned_total_lines None = 1
-planned_total_lines (Some stop) = 0
-
 -- the report has a line for each sector of the tracks that were read, and the total line; it has no other
 abbrev pub PlannedReportsHaveNoOtherLines : Type 0
 PlannedReportsHaveNoOtherLines = (plan : Plan) (format : Format) (streams : Streams) (o : Planned) → IsPlanned plan (part_by plan.naming) format streams o
-    → line_ends o.notes ≡ sectors_before format (planned_count format o.stop) + planned_total_lines o.stop
+    → line_ends o.notes ≡ sectors_before format (planned_count format o.stop) + total_lines o.stop
 
 -- Lines name all that tells a plan's sources apart: the capture, where there are several of a track, and the clock, where both are used.
 abbrev pub TellsSources : Naming → (captures : ℕ) → Clocks → Type 0

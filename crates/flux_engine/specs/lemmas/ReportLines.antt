@@ -1,5 +1,5 @@
 -- The lines of a report: one for each sector of the first tracks and whatever ends it, and what each of them tells.
-use Rattle.std.specs.Prelude.{◌≡◌, ◌≢◌, ◌≤◌, ◌<◌, ◌⊎◌, ℕ, zero, suc, ◌+◌, ◌-◌, List, [], ◌∷◌, ◌++◌, codes, decimal, length, slice_get, Some, None}
+use Rattle.std.specs.Prelude.{◌≡◌, ◌≢◌, ◌≤◌, ◌<◌, ◌⊎◌, ℕ, zero, suc, ◌+◌, ◌-◌, List, [], ◌∷◌, ◌++◌, codes, decimal, length, slice_get, Option, Some, None, refl}
 use Rattle.std.proofs.Common.{ap, sym, subst, ◌∙◌, arith, inl, inr, append-nil, length-append}
 use Rattle.std.proofs.Math.Seq.{take-length}
 use Rattle.std.proofs.lemmas.Bool.{cases_lt}
@@ -13,11 +13,11 @@ use Rattle.sector_report.specs.declared.naming.Naming.{Naming}
 use Rattle.sector_report.specs.declared.totals.Totals.{Totals}
 use Rattle.turn_merge.specs.Readings.{NotedReading, verdict}
 use Rattle.turn_merge.specs.declared.verdict.Verdict.{Verdict}
-use Rattle.flux_engine.specs.DiskLaws.{HasLine, line_number, lines_in, sectors_before}
-use Rattle.flux_engine.specs.Disks.{lines, part_at}
+use Rattle.flux_engine.specs.DiskLaws.{HasLine, line_number, lines_in, sectors_before, total_lines}
+use Rattle.flux_engine.specs.Disks.{last_line, lines, part_at}
 use Rattle.flux_engine.specs.Recordings.{sectors_of, track_at}
 use Rattle.flux_engine.specs.Tracks.{TrackPart, lines_by}
-use Rattle.flux_engine.specs.lemmas.LineNumbers.{Skips, ends-append, line-first, sector-line, sectors-more, skips-tracks}
+use Rattle.flux_engine.specs.lemmas.LineNumbers.{Skips, ends-append, ends-line, line-first, sector-line, sectors-more, skips-tracks}
 
 -- the sector whose line has this number
 record Numbered (format : Format) (tracks_in number : ℕ) : Type 0 where
@@ -57,6 +57,14 @@ past-all (suc m) front is = absurd (none_some is)
 -- what ends a report: nothing, or the total line
 abbrev pub EndsReport : List ℕ → Type 0
 EndsReport last = (last ≡ []) ⊎ ((totals : Totals) × (last ≡ total_text totals))
+
+pub ends_report : {S : Type 0} (totals : Totals) (stop : Option S) → EndsReport (last_line totals stop)
+ends_report totals None = inr (totals, refl)
+ends_report totals (Some stop) = inl refl
+
+pub last_ends : {S : Type 0} → TotalsHaveOneLine → (totals : Totals) (stop : Option S) → line_ends (last_line totals stop) ≡ total_lines stop
+last_ends one totals None = ends-line (total_text totals) (one totals)
+last_ends one totals (Some stop) = refl
 
 -- so what stands after the sectors' lines is nothing, or that line
 past-total : (totals : Totals) (one : IsOneLine (total_text totals)) (m : ℕ) (front : List ℕ) → slice_get (lines_in (total_text totals)) m ≡ Some front
