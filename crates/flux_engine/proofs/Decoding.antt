@@ -1,6 +1,6 @@
 -- From a track's one stream that was read, and the track that was written out, to what decoding the track says.
 use Rattle.std.specs.Prelude.{◌≡◌, ◌++◌, ℕ, Bool, List, [], Option, Result, Ok, Err, refl}
-use Rattle.std.proofs.Common.{ap, subst, ◌∙◌}
+use Rattle.std.proofs.Common.{ap, subst, sym, ◌∙◌}
 use Rattle.flux_base.specs.declared.track.TrackId.{TrackId}
 use Rattle.kryo_stream.specs.Outcome.{input_of}
 use Rattle.sector_images.specs.declared.format.Format.{Format}
@@ -103,3 +103,15 @@ module _ (old start : RoomState) (number : ℕ) (is : start ≡ record old { sta
       (from_start read.held read.book (Ok u) c) empty
       (subst (λ (f : Format). (readings : List NotedReading) → StandsFor read.book readings → WritesPart (part_of f (track_at f number) readings) image image' notes notes' answer)
       (same ∙ ap (λ (r : RoomState). r.format) is) wrote)
+
+  -- where the track was written of the room as its inside is seen
+  pub decodes_seen : (read view : RoomState) → view ≡ read → read.format ≡ start.format → (track : TrackId) → track ≡ track_at view.format number
+      → (image image' notes notes' : Option (List ℕ)) (u : Unit {0}) (answer : Result Totals PartFault)
+      → ReadsCapture start.format (track_at start.format number) 0 left left' start.used start.held read.held start.book read.book (Ok u) → StandsFor start.book []
+      → ((readings : List NotedReading) → StandsFor view.book readings → WritesPart (part_of view.format track readings) image image' notes notes' answer)
+      → DecodesTrack old.format (track_at old.format number) number left left' old.used old.held view.held image image' notes notes' (of_part answer)
+  decodes_seen read view view_is same track at image image' notes notes' u answer c empty wrote =
+      subst (λ (r : RoomState). DecodesTrack old.format (track_at old.format number) number left left' old.used old.held r.held image image' notes notes' (of_part answer)) (sym view_is)
+      (decodes_started read same image image' notes notes' u answer c empty
+      (subst (λ (r : RoomState). (readings : List NotedReading) → StandsFor r.book readings → WritesPart (part_of r.format (track_at r.format number) readings) image image' notes notes' answer) view_is
+      (subst (λ (t : TrackId). (readings : List NotedReading) → StandsFor view.book readings → WritesPart (part_of view.format t readings) image image' notes notes' answer) at wrote)))

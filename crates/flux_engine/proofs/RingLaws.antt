@@ -1,5 +1,5 @@
 -- The ring of each format's tracks, and the bytes in its sectors.
-use Rattle.std.specs.Prelude.{◌≡◌, ◌<◌, ◌≤◌, ℕ, zero, suc, ◌+◌, ◌-◌, ◌*◌, All, Bool, List, [], ◌++◌, length, take, drop, flat_map, get_or, map, slice_get, ◌∷◌, unwrap_or, Option, Some, Result, Ok, Err, OnOk, refl}
+use Rattle.std.specs.Prelude.{◌≡◌, ◌<◌, ◌≤◌, ℕ, zero, suc, ◌+◌, ◌-◌, ◌*◌, All, Bool, List, [], ◌++◌, length, take, drop, flat_map, get_or, map, slice_get, ◌∷◌, Some, Result, Ok, Err, OnOk, refl}
 use Rattle.std.specs.List.{range_with_len}
 use Rattle.std.proofs.Common.{arith, ap, sym, subst, ◌∙◌, inl, inr, length-append, length-drop}
 use Rattle.std.proofs.lemmas.Bool.{cases_lt}
@@ -26,6 +26,7 @@ use Rattle.disk_recordings.specs.declared.sectors.Sectors.{Sectors}
 use Rattle.flux_engine.proofs.Captured.{steady_captures}
 use Rattle.flux_engine.specs.lemmas.Pieces.{pieces-more}
 use Rattle.flux_engine.specs.lemmas.Repeated.{early_one}
+use Rattle.flux_engine.specs.lemmas.TrackAt.{is_track_at}
 
 -- the ring of a format's track
 pub is_ring : RingsHaveCells → (format : Format) (track : TrackId) (image : List ℕ) → IsTrack format track
@@ -113,13 +114,6 @@ pub is_early : TracksKeepBounds → (format : Format) (track : TrackId) → IsTr
 is_early keep format track known ring is =
     let bounds = keep format track known in
     early_one ring is.spaced (omega (arith, is.cells_are, bounds.shortest_ring))
-
--- the track of a number
-pub is_track_at : (format : Format) (number : ℕ) (track : TrackId) → slice_get (tracks format) number ≡ Some track → track_at format number ≡ track
-is_track_at format number track at = ap (λ (o : Option TrackId). unwrap_or o (record { cylinder = 0; head = 0 })) at
-
-pub is_known_at : (format : Format) (number : ℕ) (track : TrackId) → slice_get (tracks format) number ≡ Some track → IsTrack format track → IsTrack format (track_at format number)
-is_known_at format number track at known = subst (IsTrack format) (sym (is_track_at format number track at)) known
 
 -- room for each ring is room for that of a number
 pub room_for : (format : Format) (number : ℕ) (track : TrackId) (old now : CellsState) → slice_get (tracks format) number ≡ Some track → IsTrack format track

@@ -18,3 +18,4 @@ pub mod JoinedReadings
 pub mod OneParts
 pub mod NoneAgreed
 pub mod Blamed
+pub mod TrackAt

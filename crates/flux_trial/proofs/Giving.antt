@@ -19,7 +19,7 @@ use Rattle.flux_trial.specs.Image.{trial_image}
 use Rattle.flux_trial.specs.Times.{trial_indexes, trial_times}
 use Rattle.flux_trial.specs.Tracks.{drive_at, trial_input, trial_ring, trial_stream}
 use Rattle.flux_trial.specs.inside.Giving.{streams_from}
-use Rattle.flux_trial.proofs.Rings.{is_track_at}
+use Rattle.flux_engine.specs.lemmas.TrackAt.{is_track_at}
 
 pub start-left : (format format' : Format) (seed : ℕ) (stream : List ℕ) → format ≡ format' → stream ≡ []
     → drop 0 stream ++ streams_from format seed 0 ≡ trial_input format' seed

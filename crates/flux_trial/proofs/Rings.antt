@@ -1,6 +1,6 @@
 -- The rings of a trial's tracks, and the streams that its drive gives of them.
-use Rattle.std.proofs.Common.{◌≡◌, ◌≤◌, ◌<◌, ◌+◌, ◌*◌, ◌/◌, ℕ, Bool, List, length, get_or, ap, sym, subst, arith}
-use Rattle.std.specs.Prelude.{map, slice_get, unwrap_or, Option, Some}
+use Rattle.std.proofs.Common.{◌≡◌, ◌≤◌, ◌<◌, ◌+◌, ◌*◌, ◌/◌, ℕ, Bool, List, length, get_or, sym, subst, arith}
+use Rattle.std.specs.Prelude.{map, slice_get, Some}
 use Rattle.std.specs.List.{range_with_len}
 use Rattle.std.proofs.lemmas.List.FromFn.{get_or-map-range_with_len, length-map-range_with_len}
 use Rattle.std.proofs.Math.Nat.{mod-lt}
@@ -9,6 +9,7 @@ use Rattle.flux_base.specs.declared.track.TrackId.{TrackId}
 use Rattle.flux_engine.specs.Captures.{ImagesHaveRings}
 use Rattle.flux_engine.specs.Recordings.{track_at}
 use Rattle.flux_engine.specs.Rings.{HasRoomForRings, IsImage, IsRing, ring_cells_of}
+use Rattle.flux_engine.specs.lemmas.TrackAt.{is_track_at}
 use Rattle.kryo_stream.specs.Sequence.{IsStreamOf}
 use Rattle.sector_images.specs.Formats.{row, zone}
 use Rattle.sector_images.specs.Places.{ImagesAreSmall, IsTrack, NumbersNameTracks, TracksKeepBounds, tracks}
@@ -18,13 +19,6 @@ use Rattle.flux_trial.specs.Times.{IsTrialRing, trial_indexes, trial_times}
 use Rattle.flux_trial.specs.Tracks.{drive_at, trial_ring, trial_stream}
 use Rattle.flux_trial.proofs.Sound.{IsUsual}
 use Rattle.flux_trial.proofs.Streams.{WrittenIsRead, WrittenIsShort, stream-read}
-
--- the track of a number
-pub is_track_at : (format : Format) (number : ℕ) (track : TrackId) → slice_get (tracks format) number ≡ Some track → track_at format number ≡ track
-is_track_at format number track at = ap (λ (o : Option TrackId). unwrap_or o (record { cylinder = 0; head = 0 })) at
-
-pub is_known_at : (format : Format) (number : ℕ) (track : TrackId) → slice_get (tracks format) number ≡ Some track → IsTrack format track → IsTrack format (track_at format number)
-is_known_at format number track at known = subst (IsTrack format) (sym (is_track_at format number track at)) known
 
 pub is_trial_ring : TracksKeepBounds → (format : Format) (k : ℕ) (ring : List Bool) → IsTrack format (track_at format k) → IsRing (ring_cells_of format k) ring → IsTrialRing ring
 is_trial_ring keep format k ring known is =

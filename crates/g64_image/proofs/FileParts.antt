@@ -1,5 +1,5 @@
 -- The steps of reading a file.
-use Rattle.std.specs.Prelude.{◌≡◌, ◌<◌, ℕ, ◌+◌, List, [], ◌∷◌, ◌++◌, length, take, Option, Ok, Err, refl}
+use Rattle.std.specs.Prelude.{◌≡◌, ◌<◌, ℕ, ◌+◌, Bool, List, [], ◌∷◌, ◌++◌, length, slice_get, take, Option, Some, Result, Ok, Err, refl}
 use Rattle.std.specs.Io.KnownBytes.{Appends}
 use Rattle.std.proofs.Common.{ap, sym, subst, ◌∙◌, arith, inl, inr}
 use Rattle.std.proofs.KnownBytes.{Appends-nil, Appends-trans}
@@ -7,8 +7,10 @@ use Rattle.std.proofs.lemmas.Bool.{cases_lt}
 use Rattle.std.proofs.lemmas.List.{length_push, get_or_append_left}
 use Rattle.std.proofs.Math.Seq.{get_or-append_seam}
 use Rattle.flux_base.specs.Outside.{AppendsPart}
+use Rattle.flux_base.specs.declared.track.TrackId.{TrackId}
 use Rattle.flux_engine.specs.Answers.{AppendsAndPart}
 use Rattle.flux_engine.specs.Disks.{images, lines, no_totals, part_at, report_over, totals_over}
+use Rattle.flux_engine.specs.lemmas.TrackAt.{track_is}
 use Rattle.flux_engine.specs.lemmas.PartLaws.{images-more, lines-more, totals-more}
 use Rattle.flux_engine.specs.Recordings.{track_at}
 use Rattle.flux_engine.specs.TrackParts.{WritesPart}
@@ -47,6 +49,21 @@ parts-more format file parts n part many each here = λ (k : ℕ) low.
           sym (get_or-append_seam parts part [] no_part) ∙ ap (part_at (parts ++ part ∷ [])) last in
           subst (IsFilePart format file k) is (subst (λ (m : ℕ). IsFilePart format file m part) (sym many ∙ last) here)
     ]
+
+-- the track that was read and written is that of the number
+module _ (format : Format) (n : ℕ) (track : TrackId) (at : slice_get (tracks format) n ≡ Some track) (book : Knowledge) where
+  pub ring-at : (file : List ℕ) (cells : List Bool) → cells ≡ track_cells file n → HasRingReadings format track cells book
+      → HasRingReadings format (track_at format n) (track_cells file n) book
+  ring-at file cells same gathered =
+      subst (λ (t : TrackId). HasRingReadings format t (track_cells file n) book) (track_is format n track at)
+      (subst (λ (cs : List Bool). HasRingReadings format track cs book) same gathered)
+
+  pub part-at : (image image' notes notes' : Option (List ℕ)) (answer : Result Totals PartFault)
+      → ((readings : List NotedReading) → StandsFor book readings → WritesPart (part_of format track readings) image image' notes notes' answer)
+      → (readings : List NotedReading) → StandsFor book readings → WritesPart (part_of format (track_at format n) readings) image image' notes notes' answer
+  part-at image image' notes notes' answer wrote =
+      subst (λ (t : TrackId). (readings : List NotedReading) → StandsFor book readings → WritesPart (part_of format t readings) image image' notes notes' answer)
+      (track_is format n track at) wrote
 
 pub read_start : (format : Format) (file : List ℕ) (image notes : Option (List ℕ)) (totals : Totals) → totals ≡ no_totals
     → HasRead format file image image notes notes 0 totals

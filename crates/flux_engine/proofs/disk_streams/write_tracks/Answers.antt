@@ -6,7 +6,8 @@ use Rattle.flux_engine.specs.Recordings.{track_at}
 use Rattle.flux_engine.specs.Rings.{streams_of, track_stream}
 use Rattle.sector_images.specs.Places.{tracks}
 use Rattle.flux_engine.specs.lemmas.Pieces.{pieces_next, pieces_stop}
-use Rattle.flux_engine.proofs.RingLaws.{is_early, is_known_at, is_stream, room_for}
+use Rattle.flux_engine.specs.lemmas.TrackAt.{is_known_at}
+use Rattle.flux_engine.proofs.RingLaws.{is_early, is_stream, room_for}
 use Rattle.flux_engine.proofs.disk_streams.write_tracks.Goals as goal
 
 pub unreachable-requires : goal.unreachable-requires

@@ -1,17 +1,12 @@
-use Rattle.std.proofs.Common.{◌≡◌, false, List, Option, Ok, Err, ap, sym, subst, unwrap_or}
+use Rattle.std.proofs.Common.{false, Ok, Err, sym, subst}
 use Rattle.flux_base.specs.lemmas.Blaming.{CountsBy-sinks, CountsBy-source, CountsBy-then}
-use Rattle.flux_base.specs.declared.track.TrackId.{TrackId}
-use Rattle.turn_merge.specs.Book.{StandsFor}
-use Rattle.turn_merge.specs.Readings.{NotedReading}
 use Rattle.sector_report.specs.declared.totals.Totals.{Totals}
 use Rattle.flux_engine.specs.Answers.{DecodesTrack}
 use Rattle.flux_engine.specs.Recordings.{track_at}
-use Rattle.flux_engine.specs.Room.{RoomState}
-use Rattle.flux_engine.specs.TrackParts.{WritesPart}
-use Rattle.flux_engine.specs.Tracks.{part_of}
 use Rattle.flux_engine.specs.declared.fault.EngineFault.{EngineFault}
+use Rattle.flux_engine.specs.lemmas.TrackAt.{track_is}
 use Rattle.flux_engine.proofs.BlamedSteps.{engine_cause, track_blames, track_sink_blames}
-use Rattle.flux_engine.proofs.Decoding.{decodes_fault, decodes_started, from_start, of_part}
+use Rattle.flux_engine.proofs.Decoding.{decodes_fault, decodes_seen, from_start}
 use Rattle.flux_engine.proofs.track.decode_track.Goals as goal
 
 pub returns-in-Err-clause-decoded : goal.returns-in-Err-clause-decoded
@@ -29,50 +24,16 @@ returns-in-Err-clause-decoded g c =
 
 pub returns-in-Ok-write_part-clause-decoded : goal.returns-in-Ok-write_part-clause-decoded
 returns-in-Ok-write_part-clause-decoded g c =
-    let inside = c.room.inside in
-    let start = c.start_track.new.room in
-    let read = c.read_capture.new.room in
-    let n = c.args.number in
-    let left = g.S.Source.left c.args.source.now in
-    let left' = g.S.Source.left c.read_capture.new.source in
-    let image = g.W.Sink.written c.args.image.now in
-    let image' = g.W.Sink.written c.write_part.new.image in
-    let notes = g.N.Sink.written c.args.notes.now in
-    let notes' = g.N.Sink.written c.write_part.new.notes in
-    let is : c.track_id-track.result ≡ track_at inside.format n =
-    sym (ap (λ (o : Option TrackId). unwrap_or o (record { cylinder = 0; head = 0 })) c.track_id-track.ensures.at) in
-    let here = subst (λ (t : TrackId). (readings : List NotedReading) → StandsFor inside.tools.gathered.book readings → WritesPart (part_of inside.format t readings) image image' notes notes' (Ok c.in-Ok-write_part.totals))
-    is c.in-Ok-write_part.ensures.wrote in
-    let wrote = subst (λ (r : RoomState). (readings : List NotedReading) → StandsFor r.book readings → WritesPart (part_of r.format (track_at r.format n) readings) image image' notes notes' (Ok c.in-Ok-write_part.totals))
-    c.room.view_is here in
-    let whole = decodes_started c.args.room.now start n c.start_track.ensures.started left left' read c.in-Ok.ensures.format image image' notes notes' c.in-Ok.field-0 (Ok c.in-Ok-write_part.totals)
-    c.in-Ok.ensures.read c.start_track.ensures.empty wrote in
-    subst (λ (r : RoomState). DecodesTrack c.args.room.now.format (track_at c.args.room.now.format n) n left left' c.args.room.now.used c.args.room.now.held r.held image image' notes notes' (of_part (Ok c.in-Ok-write_part.totals)))
-    (sym c.room.view_is) whole
+    decodes_seen c.args.room.now c.start_track.new.room c.args.number c.start_track.ensures.started (g.S.Source.left c.args.source.now) (g.S.Source.left c.read_capture.new.source)
+    c.read_capture.new.room _ c.room.view_is c.in-Ok.ensures.format c.track_id-track.result (track_is _ c.args.number c.track_id-track.result c.track_id-track.ensures.at) _ _ _ _
+    c.in-Ok.field-0 (Ok c.in-Ok-write_part.totals) c.in-Ok.ensures.read c.start_track.ensures.empty c.in-Ok-write_part.ensures.wrote
 
 pub returns-in-Err-write_part-clause-decoded : goal.returns-in-Err-write_part-clause-decoded
 returns-in-Err-write_part-clause-decoded g c =
-    let inside = c.room.inside in
-    let start = c.start_track.new.room in
-    let read = c.read_capture.new.room in
-    let n = c.args.number in
-    let left = g.S.Source.left c.args.source.now in
-    let left' = g.S.Source.left c.read_capture.new.source in
-    let image = g.W.Sink.written c.args.image.now in
-    let image' = g.W.Sink.written c.write_part.new.image in
-    let notes = g.N.Sink.written c.args.notes.now in
-    let notes' = g.N.Sink.written c.write_part.new.notes in
-    let is : c.track_id-track.result ≡ track_at inside.format n =
-    sym (ap (λ (o : Option TrackId). unwrap_or o (record { cylinder = 0; head = 0 })) c.track_id-track.ensures.at) in
-    let here = subst (λ (t : TrackId). (readings : List NotedReading) → StandsFor inside.tools.gathered.book readings → WritesPart (part_of inside.format t readings) image image' notes notes' (Err c.in-Err-write_part.fault))
-    is c.in-Err-write_part.ensures.wrote in
-    let wrote = subst (λ (r : RoomState). (readings : List NotedReading) → StandsFor r.book readings → WritesPart (part_of r.format (track_at r.format n) readings) image image' notes notes' (Err c.in-Err-write_part.fault))
-    c.room.view_is here in
-    let whole = decodes_started c.args.room.now start n c.start_track.ensures.started left left' read c.in-Ok.ensures.format image image' notes notes' c.in-Ok.field-0 (Err c.in-Err-write_part.fault)
-    c.in-Ok.ensures.read c.start_track.ensures.empty wrote in
     rw c.of_part.ensures
-    (subst (λ (r : RoomState). DecodesTrack c.args.room.now.format (track_at c.args.room.now.format n) n left left' c.args.room.now.used c.args.room.now.held r.held image image' notes notes' (of_part (Err c.in-Err-write_part.fault)))
-    (sym c.room.view_is) whole)
+    (decodes_seen c.args.room.now c.start_track.new.room c.args.number c.start_track.ensures.started (g.S.Source.left c.args.source.now) (g.S.Source.left c.read_capture.new.source)
+    c.read_capture.new.room _ c.room.view_is c.in-Ok.ensures.format c.track_id-track.result (track_is _ c.args.number c.track_id-track.result c.track_id-track.ensures.at) _ _ _ _
+    c.in-Ok.field-0 (Err c.in-Err-write_part.fault) c.in-Ok.ensures.read c.start_track.ensures.empty c.in-Err-write_part.ensures.wrote)
 
 pub returns-in-Err-clause-blames : goal.returns-in-Err-clause-blames
 returns-in-Err-clause-blames g c = rw c.of_track.ensures (track_blames (Unit {0}) Totals _ _ c.args.number c.in-Err.fault c.in-Err.ensures.counts)

@@ -1,4 +1,4 @@
-use Rattle.std.proofs.Common.{◌≡◌, ◌<◌, ◌+◌, ◌*◌, List, Option, false, ap, length, sym, subst, unwrap_or}
+use Rattle.std.proofs.Common.{◌≡◌, ◌<◌, ◌+◌, ◌*◌, List, false, length, subst}
 use Rattle.flux_base.specs.declared.track.TrackId.{TrackId}
 use Rattle.index_turns.specs.Track.{TrackState}
 use Rattle.flux_engine.specs.LoopProgress.{HasNotedNext, HasTakenNext, seen_next}
@@ -6,6 +6,7 @@ use Rattle.flux_engine.specs.Plans.{Seen}
 use Rattle.flux_engine.specs.Recordings.{track_at}
 use Rattle.flux_engine.specs.Room.{RoomState}
 use Rattle.flux_engine.specs.declared.plan.Plan.{Plan}
+use Rattle.flux_engine.specs.lemmas.TrackAt.{track_is}
 use Rattle.flux_engine.proofs.LoopSteps.{seen-whole}
 use Rattle.flux_engine.proofs.track_captures.take_next.Goals as goal
 
@@ -32,7 +33,7 @@ returns-clause-taken g c =
       failed = false;
     } in
     let is : c.track_id-track.result ≡ track_at inside.format c.args.number =
-    sym (ap (λ (o : Option TrackId). unwrap_or o (record { cylinder = 0; head = 0 })) c.track_id-track.ensures.at) in
+    track_is inside.format c.args.number c.track_id-track.result c.track_id-track.ensures.at in
     let noted = subst (λ (t : TrackId). HasNotedNext next c.args.rule c.args.clocks inside.format t flux c.args.capture inside.tools.gathered.book gathered.book inside.tools.gathered.passed.items gathered.passed.items inside.tools.gathered.others gathered.others) is
     (subst (λ (f : TrackState). HasNotedNext next c.args.rule c.args.clocks inside.format c.track_id-track.result f c.args.capture inside.tools.gathered.book gathered.book inside.tools.gathered.passed.items gathered.passed.items inside.tools.gathered.others gathered.others)
     c.flux.ensures c.note_next.ensures.noted) in

@@ -2,7 +2,8 @@ use Rattle.std.proofs.Common.{◌∙◌, ap, length, arith}
 use Rattle.flux_trial.specs.Drive.{Drive}
 use Rattle.flux_trial.specs.Times.{IsTrialRing}
 use Rattle.flux_trial.proofs.Giving.{stream-is}
-use Rattle.flux_trial.proofs.Rings.{is_image, is_known_at, is_trial_ring}
+use Rattle.flux_engine.specs.lemmas.TrackAt.{is_known_at}
+use Rattle.flux_trial.proofs.Rings.{is_image, is_trial_ring}
 use Rattle.flux_trial.proofs.Sound.{IsUsual}
 use Rattle.flux_trial.proofs.Writing.{early, ends, few, never_full, short}
 use Rattle.flux_trial.proofs.source.write_track_of.Goals as goal

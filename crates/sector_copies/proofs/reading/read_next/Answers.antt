@@ -1,5 +1,5 @@
-use Rattle.std.specs.Prelude.{◌≡◌, ◌++◌, List, Option, length, unwrap_or}
-use Rattle.std.proofs.Common.{ap, subst, sym, ◌∙◌}
+use Rattle.std.specs.Prelude.{◌≡◌, ◌++◌, List, length}
+use Rattle.std.proofs.Common.{subst}
 use Rattle.flux_base.specs.Counts.{counts_of}
 use Rattle.flux_base.specs.declared.track.TrackId.{TrackId}
 use Rattle.index_turns.specs.Track.{TrackState}
@@ -10,6 +10,7 @@ use Rattle.flux_engine.specs.Plans.{passed_one}
 use Rattle.flux_engine.specs.Recordings.{track_at}
 use Rattle.flux_engine.specs.declared.plan.Clocks.TheVariants.{Both}
 use Rattle.flux_engine.specs.declared.plan.Rule.TheVariants.{Controller}
+use Rattle.flux_engine.specs.lemmas.TrackAt.{track_is}
 use Rattle.dump_reading.specs.Outcomes.{disk_of}
 use Rattle.dump_reading.specs.Reports.{dump_plan}
 use Rattle.sector_copies.specs.Notes.{AppendsNotes, of_sector}
@@ -29,7 +30,7 @@ returns-clause-read g c =
     let old : SectorRoomState = record { format = inside.format; number = inside.number; known = inside.tools.notes; passed = inside.tools.passed.items } in
     let new : SectorRoomState = record { format = inside.format; number = inside.number; known = tools.notes; passed = tools.passed.items } in
     let is : c.track_id-track.result ≡ track_at inside.format inside.number =
-    sym (ap (λ (o : Option TrackId). unwrap_or o (record { cylinder = 0; head = 0 })) c.track_id-track.ensures.at) in
+    track_is inside.format inside.number c.track_id-track.result c.track_id-track.ensures.at in
     let came = c.in-Ok.ensures.next (dump_plan (length disk.dumps)) c.args.shelf.now before c.requires.low (earlier_many disk told inside.number c.args.capture c.requires.low)
     (earlier_came disk told inside.number c.args.capture c.requires.low) in
     let noted = subst (λ (t : TrackId). (readings : List NotedReading) → AreReadingsOf Controller Both inside.format t (seen_next next flux).times (seen_next next flux).indexes c.args.capture readings
