@@ -1,13 +1,15 @@
 -- What the words of `read` ask for.
 use Rattle.std.specs.Prelude.{if◌then◌else◌}
-use Rattle.std.proofs.Common.{◌≡◌, ◌≤◌, ◌+◌, ◌-◌, ℕ, Bool, true, false, List, [], ◌∷◌, ◌++◌, codes, drop, take, get_or, length, length-append, Option, Some, None, refl, sym, ap, ◌∙◌, subst, arith}
+use Rattle.std.proofs.Common.{◌≡◌, ◌≤◌, ◌+◌, ◌-◌, ℕ, Bool, true, false, List, [], ◌∷◌, ◌++◌, codes, drop, take, length, length-append, Option, Some, None, refl, sym, ap, ◌∙◌, subst, arith}
+use Rattle.std.specs.Bool.{Decides, then_some}
+use Rattle.std.specs.Option.{option_map}
 use Rattle.std.specs.Str.{bytes_eq}
 use Rattle.std.proofs.lemmas.List.{length-drop, take_all}
 use Rattle.std.proofs.lemmas.Slice.Eq.{bytes_eq-Decides}
 use Rattle.sector_images.specs.Formats.{IsWordOfFormat, WordsBeginWithLetters, WordsNameFormats}
 use Rattle.sector_images.specs.declared.format.Format.{Format}
-use Rattle.flux_words.specs.DumpParts.{IsMaybeReadable, IsNotFirst, NamesBehind, NamesWith, is_first, options_in}
-use Rattle.flux_words.specs.DumpWords.{Asked, CanBeRead, NamesDumps, double_step_word, option_words, picture_word}
+use Rattle.flux_words.specs.DumpParts.{IsNotFirst, NamesBehind, NamesWith, is_first, options_in}
+use Rattle.flux_words.specs.DumpWords.{AreReadable, Asked, CanBeRead, NamesDumps, double_step_word, option_words, picture_word, stepping_of}
 use Rattle.flux_words.specs.lemmas.Options.{head-same, options-passed, options-read, tail-same}
 use Rattle.flux_words.specs.declared.dump_words.DumpOptions.{DumpOptions}
 use Rattle.flux_words.specs.declared.dump_words.DumpOptions.TheVariants.{Without, DoubleStep, Picture, PictureDoubleStep, DoubleStepPicture}
@@ -85,23 +87,17 @@ behind-named letters words None names = λ asked can are.
 module _ (words : List (List ℕ)) where
   -- the format and the dumps
   module _ (options : DumpOptions) where
-    pub with-format : (format : Format) (word : List ℕ) (dumps : List (List ℕ)) (r : Option Asked) → words ≡ word ∷ dumps → IsWordOfFormat word format
-        → WordsNameFormats → IsMaybeReadable (record { options = options; dumps = dumps; format = format }) r → NamesWith options words r
-    with-format format word dumps (Some asked) at is one readable = (
-      ap (λ (a : Asked). a.options) readable.0,
-      record {
-        word = word;
-        is = at ∙ ap (λ (a : Asked). word ∷ a.dumps) (sym readable.0);
-        named = subst (λ (a : Asked). IsWordOfFormat word a.format) (sym readable.0) is;
-      },
-      readable.1,
-    )
-    with-format format word dumps None at is one readable = λ asked chosen can are.
+    pub with-format : (format : Format) (word : List ℕ) (dumps : List (List ℕ)) (b : Bool) → words ≡ word ∷ dumps → IsWordOfFormat word format
+        → WordsNameFormats → Decides b (AreReadable dumps (stepping_of options) format)
+        → NamesWith options words (then_some b (record { options = options; dumps = dumps; format = format }))
+    with-format format word dumps true at is one readable = (refl, record { word = word; is = at; named = is }, readable.0 refl)
+    with-format format word dumps false at is one readable = λ asked chosen can are.
         let both : are.word ∷ asked.dumps ≡ word ∷ dumps = sym are.is ∙ at in
         let kind : asked.format ≡ format =
         one word asked.format format (subst (λ (w : List ℕ). IsWordOfFormat w asked.format) (head-same _ _ _ _ both) are.named) is in
         let rest : asked.dumps ≡ dumps = tail-same _ _ _ _ both in
-        readable (subst CanBeRead (same-asked asked (record { options = options; dumps = dumps; format = format }) chosen rest kind) can)
+        let yes = readable.1 (subst CanBeRead (same-asked asked (record { options = options; dumps = dumps; format = format }) chosen rest kind) can) in
+        cc
       where
         same-asked : (a b : Asked) → a.options ≡ b.options → a.dumps ≡ b.dumps → a.format ≡ b.format → a ≡ b
         same-asked a b chosen rest kinds =
@@ -112,3 +108,8 @@ module _ (words : List (List ℕ)) where
     pub no-format : (word : List ℕ) (dumps : List (List ℕ)) → words ≡ word ∷ dumps → ((f : Format) → ¬ IsWordOfFormat word f) → NamesWith options words None
     no-format word dumps at none = λ asked chosen can are.
         none asked.format (subst (λ (w : List ℕ). IsWordOfFormat w asked.format) (head-same _ _ _ _ (sym are.is ∙ at)) are.named)
+
+-- what is asked, as contracts see it, where it can be
+pub then-asked : {X Y : Type 0} (view : X → Y) (b : Bool) (x : X) (r : Option X) → r ≡ then_some b x → then_some b (view x) ≡ option_map view r
+then-asked view true x r is = ap (option_map view) (sym is)
+then-asked view false x r is = ap (option_map view) (sym is)

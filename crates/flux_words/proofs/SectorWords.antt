@@ -1,17 +1,17 @@
 -- What the words of `show` ask for.
+use Rattle.std.specs.Bool.{Decides, then_some}
 use Rattle.std.specs.Str.{bytes_eq}
 use Rattle.std.proofs.lemmas.Slice.Eq.{bytes_eq-Decides}
 use Rattle.std.proofs.Common.{true, false, Bool, if◌then◌else◌, ◌≡◌, ◌≢◌, ◌<◌, ◌≤◌, ◌+◌, ◌-◌, ℕ, List, [], ◌∷◌, ◌++◌, codes, decimal, drop, get_or, length, take, Option, Some, None, arith, inl, inr, refl, sym, ap, ◌∙◌, subst}
 use Rattle.std.proofs.lemmas.Bool.{cases_lt}
-use Rattle.std.specs.Option.{option_map}
 use Rattle.disk_recordings.specs.TrackSectors.{sectors_of, track_at}
 use Rattle.sector_images.specs.Formats.{IsWordOfFormat, WordsBeginWithLetters, WordsNameFormats}
 use Rattle.sector_images.specs.declared.format.Format.{Format}
 use Rattle.track_shelf.specs.declared.stepping.Stepping.{Stepping}
 use Rattle.track_shelf.specs.declared.stepping.Stepping.TheVariants.{Single, Double}
 use Rattle.flux_words.specs.DumpParts.{IsNotFirst}
-use Rattle.flux_words.specs.DumpWords.{double_step_word}
-use Rattle.flux_words.specs.SectorWords.{AreCopyWords, AskedSector, CanBeShown, HasNumber, HasOptions, HasSteps, HasStepsBehind, IsAlone, IsMaybeShown, MOST_COPY_NUMBERS, NamesBehind, NamesBy, NamesCopy, NamesCopyFirst, NamesNumber, NamesPlace, NamesSector, NamesShow, NamesStepped, NamesTrack, PlaceParts, ShowParts, behind_words, copy_first_words, copy_words, place_words, step_words, stepped_words}
+use Rattle.flux_words.specs.DumpWords.{AreReadable, double_step_word}
+use Rattle.flux_words.specs.SectorWords.{AreCopyWords, AskedSector, CanBeShown, HasNumber, HasOptions, HasSteps, HasStepsBehind, IsAlone, MOST_COPY_NUMBERS, NamesBehind, NamesBy, NamesCopy, NamesCopyFirst, NamesNumber, NamesPlace, NamesSector, NamesShow, NamesStepped, NamesTrack, PlaceParts, ShowParts, behind_words, copy_first_words, copy_words, place_words, step_words, stepped_words}
 use Rattle.flux_words.specs.lemmas.Options.{head-same, tail-same}
 use Rattle.flux_words.proofs.DumpWords.{slice-rest}
 
@@ -371,34 +371,33 @@ module _ (words : List (List ℕ)) where
                 ∙ ap (λ (s : ℕ). record asked { stepping = stepping; dumps = dumps; format = format; number = number; sector = s }) place
                 ∙ ap (λ (a : Option ℕ). record Asks { alone = a }) fits.1
 
-            place_named : (r : Option AskedSector) → IsMaybeShown Asks r → NamesPlace stepping alone words r
+            place_named : (b : Bool) → Decides b (AreReadable dumps stepping format) → NamesPlace stepping alone words (then_some b Asks)
             unfolding parts_of
-            place_named (Some asked) shown =
-                subst (λ (a : AskedSector). NamesPlace stepping alone words (Some a)) (sym shown.0) ((refl, refl), subst CanBeShown shown.0 shown.1, (parts_of, at))
-            place_named None shown = λ asked fits can parts is. shown (subst CanBeShown (same_asked asked parts is fits can) can)
+            place_named true readable = ((refl, refl), readable.0 refl, (parts_of, at))
+            place_named false readable = λ asked fits can parts is. (let yes = readable.1 (subst CanBeShown (same_asked asked parts is fits can) can) in cc)
 
           -- a sector that the words name
           pub place-named : (at : ℕ) → (sectors_of format (track_at format number)).first ≤ at
-              → NamesSector format number sector (Some (at - (sectors_of format (track_at format number)).first)) → (r : Option AskedSector)
-              → IsMaybeShown (record {
+              → NamesSector format number sector (Some (at - (sectors_of format (track_at format number)).first)) → (b : Bool) → Decides b (AreReadable dumps stepping format)
+              → NamesPlace stepping alone words (then_some b (record {
                 stepping = stepping;
                 dumps = dumps;
                 format = format;
                 number = number;
                 sector = at;
                 alone = alone;
-              }) r → NamesPlace stepping alone words r
-          place-named at least sector_is r shown =
+              }))
+          place-named at least sector_is b readable =
               let first = (sectors_of format (track_at format number)).first in
-              let same : at ≡ first + (at - first) = omega (arith, least) in
-              place_named (at - first) sector_is r (subst (λ (s : ℕ). IsMaybeShown (record {
+              let same : first + (at - first) ≡ at = omega (arith, least) in
+              subst (λ (s : ℕ). NamesPlace stepping alone words (then_some b (record {
                 stepping = stepping;
                 dumps = dumps;
                 format = format;
                 number = number;
                 sector = s;
                 alone = alone;
-              }) r) same shown)
+              }))) same (place_named (at - first) sector_is b readable)
 
 -- words of which the first three are these
 pub three_first : (words : List (List ℕ)) (a b c : List ℕ) → 3 ≤ length words → a ≡ get_or words 0 a → b ≡ get_or words 1 b → c ≡ get_or words 2 c

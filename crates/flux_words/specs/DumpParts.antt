@@ -43,8 +43,3 @@ NamesBehind words None = (asked : Asked) → CanBeRead asked → ¬ AreWordsBehi
 abbrev pub NamesWith : DumpOptions → List (List ℕ) → Option Asked → Type 0
 NamesWith options words (Some asked) = (asked.options ≡ options) × AreDiskWords asked words × CanBeRead asked
 NamesWith options words None = (asked : Asked) → asked.options ≡ options → CanBeRead asked → ¬ AreDiskWords asked words
-
--- the same, where it can be read
-abbrev pub IsMaybeReadable : Asked → Option Asked → Type 0
-IsMaybeReadable asked (Some same) = (same ≡ asked) × CanBeRead same
-IsMaybeReadable asked None = ¬ CanBeRead asked

@@ -64,12 +64,15 @@ abbrev pub is_nameless : List ℕ → Bool
 is_nameless [] = true
 is_nameless (byte ∷ bytes) = false
 
--- there are 1 to 8 dumps, each with a name, and the drive reaches all tracks
-pub record CanBeRead (asked : Asked) : Type 0 where
-  pub some : 1 ≤ length asked.dumps
-  pub most : length asked.dumps ≤ MOST_DUMPS
-  pub named : list_any is_nameless asked.dumps ≡ false
-  pub reached : reaches_all (stepping_of asked.options) asked.format ≡ true
+-- there are 1 to 8 dumps, each with a name, and the drive reaches all tracks of the format
+pub record AreReadable (dumps : List (List ℕ)) (stepping : Stepping) (format : Format) : Type 0 where
+  pub some : 1 ≤ length dumps
+  pub most : length dumps ≤ MOST_DUMPS
+  pub named : list_any is_nameless dumps ≡ false
+  pub reached : reaches_all stepping format ≡ true
+
+abbrev pub CanBeRead : Asked → Type 0
+CanBeRead asked = AreReadable asked.dumps (stepping_of asked.options) asked.format
 
 -- what the words ask of dumps, if they ask for that
 abbrev pub NamesDumps : List (List ℕ) → Option Asked → Type 0

@@ -1,16 +1,14 @@
 -- The words that ask to show a sector of dumps.
-use Rattle.std.specs.Prelude.{◌≡◌, ◌≢◌, ◌<◌, ◌≤◌, ◌⊎◌, ℕ, ◌+◌, Bool, false, true, if◌then◌else◌, List, [], ◌∷◌, ◌++◌, length, codes, decimal, Option, Some, None}
-use Rattle.std.specs.List.{list_any}
+use Rattle.std.specs.Prelude.{◌≡◌, ◌≢◌, ◌<◌, ◌⊎◌, ℕ, ◌+◌, Bool, if◌then◌else◌, List, [], ◌∷◌, ◌++◌, length, codes, decimal, Option, Some, None}
 use Rattle.flux_base.specs.declared.track.TrackId.{TrackId}
 use Rattle.disk_recordings.specs.TrackSectors.{sectors_of, track_at}
 use Rattle.sector_images.specs.Formats.{IsWordOfFormat}
 use Rattle.sector_images.specs.Places.{tracks}
 use Rattle.sector_images.specs.declared.format.Format.{Format}
 use Rattle.sector_report.specs.Lines.{two_digits}
-use Rattle.track_shelf.specs.Stepping.{reaches_all}
 use Rattle.track_shelf.specs.declared.stepping.Stepping.{Stepping}
 use Rattle.track_shelf.specs.declared.stepping.Stepping.TheVariants.{Single, Double}
-use Rattle.flux_words.specs.DumpWords.{MOST_DUMPS, double_step_word, is_nameless}
+use Rattle.flux_words.specs.DumpWords.{AreReadable, double_step_word}
 use Rattle.flux_words.specs.declared.sector_words.ShowAsked.{ShowAsked}
 
 -- what is asked of one sector: how the drive stepped, the dumps by their names, the format, the track by its number, the sector, and the content that is
@@ -103,12 +101,8 @@ behind_words asked parts = if parts.copy_first then copy_first_words asked parts
 abbrev pub show_words : (asked : AskedSector) → ShowParts asked → List (List ℕ)
 show_words asked parts = codes "show" ∷ behind_words asked parts
 
--- there are 1 to 8 dumps, each with a name, and the drive reaches all tracks
-pub record CanBeShown (asked : AskedSector) : Type 0 where
-  pub some : 1 ≤ length asked.dumps
-  pub most : length asked.dumps ≤ MOST_DUMPS
-  pub named : list_any is_nameless asked.dumps ≡ false
-  pub reached : reaches_all asked.stepping asked.format ≡ true
+abbrev pub CanBeShown : AskedSector → Type 0
+CanBeShown asked = AreReadable asked.dumps asked.stepping asked.format
 
 -- words, by what stands in them of what is asked, where it is of this kind: what they ask for, if they ask for that
 abbrev pub NamesBy : {Parts : AskedSector → Type 0} → (text : (asked : AskedSector) → Parts asked → List (List ℕ)) → (Fits : AskedSector → Type 0) → (words : List (List ℕ)) → Option AskedSector → Type 0
@@ -155,8 +149,3 @@ HasOptions stepping alone asked = (asked.stepping ≡ stepping) × (asked.alone 
 
 abbrev pub NamesPlace : Stepping → Option ℕ → List (List ℕ) → Option AskedSector → Type 0
 NamesPlace stepping alone words asked = NamesBy place_words (HasOptions stepping alone) words asked
-
--- the same, where it can be shown
-abbrev pub IsMaybeShown : AskedSector → Option AskedSector → Type 0
-IsMaybeShown asked (Some same) = (same ≡ asked) × CanBeShown same
-IsMaybeShown asked None = ¬ CanBeShown asked

@@ -1,10 +1,11 @@
 //! The words that ask to read dumps of a disk.
 
 ghost use Rattle.std.specs.Prelude.{◌≡◌, ◌∷◌, IfNone, IfSome, length};
+ghost use Rattle.std.specs.Bool.{Decides};
 ghost use Rattle.std.specs.List.{list_any};
 ghost use Rattle.std.specs.Option.{option_map};
-ghost use Rattle.flux_words.specs.DumpParts.{IsMaybeReadable, IsNotFirst, NamesBehind, NamesWith, is_first, options_in};
-ghost use Rattle.flux_words.specs.DumpWords.{NamesDumps, asked_of, is_nameless, option_words, shown_of, stepping_of};
+ghost use Rattle.flux_words.specs.DumpParts.{IsNotFirst, NamesBehind, NamesWith, is_first, options_in};
+ghost use Rattle.flux_words.specs.DumpWords.{AreReadable, NamesDumps, asked_of, is_nameless, option_words, shown_of, stepping_of};
 
 use flux_base::Word;
 use sector_images::{Format, words_name_formats};
@@ -161,38 +162,28 @@ fn asked_with(options: DumpOptions, words: &[Word]) -> Option<DumpsAsked<'_>>
     let Some((word, dumps)) = words.split_first() else {
         return None;
     };
-    match Format::of_word(word.bytes()) {
-        Some(format) => readable(DumpsAsked {
-            options,
-            dumps,
-            format,
-        }),
-        None => None,
-    }
+    let Some(format) = Format::of_word(word.bytes()) else {
+        return None;
+    };
+    are_readable(dumps, options.stepping(), format).then_some(DumpsAsked {
+        options,
+        dumps,
+        format,
+    })
 }
 
-/// The same, where it can be read.
-fn readable(asked: DumpsAsked<'_>) -> Option<DumpsAsked<'_>>
-    ensures { IsMaybeReadable (asked_of asked.entry) (option_map asked_of result) }
+/// Whether there are 1 to 8 dumps, each with a name, and the drive that captured them reaches all tracks of the format.
+pub(crate) fn are_readable(dumps: &[Word], stepping: Stepping, format: Format) -> bool
+    ensures { Decides result (AreReadable dumps.now stepping format) }
 {
-    if asked.dumps.is_empty() {
-        return None;
-    }
-    if asked.dumps.len() > MOST_DUMPS {
-        return None;
-    }
-    if has_nameless(asked.dumps) {
-        return None;
-    }
-    if asked.options.stepping().reaches_all(asked.format) {
-        Some(asked)
-    } else {
-        None
-    }
+    !dumps.is_empty()
+        && dumps.len() <= MOST_DUMPS
+        && !has_nameless(dumps)
+        && stepping.reaches_all(format)
 }
 
 /// Whether a dump has no name.
-pub(crate) fn has_nameless(dumps: &[Word]) -> bool
+fn has_nameless(dumps: &[Word]) -> bool
     ensures { result ≡ list_any is_nameless dumps.now }
 {
     dumps.iter().any(|dump| dump.bytes().is_empty())

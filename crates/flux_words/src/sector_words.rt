@@ -3,20 +3,17 @@
 ghost use Rattle.std.specs.Prelude.{◌≡◌, ◌<◌, ◌≤◌, ◌-◌, IfSome, Some, decimal, length};
 ghost use Rattle.std.specs.Option.{option_map};
 ghost use Rattle.std.specs.Str.{bytes_eq};
-ghost use Rattle.flux_words.specs.SectorWords.{HasNumber, IsMaybeShown, MOST_COPY_NUMBERS, NamesBehind, NamesCopy, NamesCopyFirst, NamesNumber, NamesPlace, NamesSector, NamesShow, NamesStepped, NamesTrack, asked_sector, track_word};
+ghost use Rattle.flux_words.specs.SectorWords.{HasNumber, MOST_COPY_NUMBERS, NamesBehind, NamesCopy, NamesCopyFirst, NamesNumber, NamesPlace, NamesSector, NamesShow, NamesStepped, NamesTrack, asked_sector, track_word};
 ghost use Rattle.disk_recordings.specs.TrackSectors.{sectors_of as sectors_in, track_at};
 ghost use Rattle.sector_images.specs.Places.{tracks};
 ghost use Rattle.sector_report.specs.Lines.{two_digits};
 
-use crate::dump_words::{behind, has_nameless};
+use crate::dump_words::{are_readable, behind};
 use disk_recordings::sectors_of;
 use flux_base::{TrackId, Word};
 use sector_images::{Format, track_count, track_id, tracks_keep_bounds, words_name_formats};
 use sector_report::{Line, put, put_two_digits, put_u32};
 use track_shelf::Stepping;
-
-/// How many dumps are read at most.
-const MOST_DUMPS: usize = 8;
 
 /// How many contents are kept of a sector at most.
 const MOST_COPIES: u32 = 16;
@@ -126,7 +123,7 @@ fn asked_of_disk(stepping: Stepping, alone: Option<u32>, words: &[Word]) -> Opti
     let Some(sector) = sector_number(format, number, sector.bytes()) else {
         return None;
     };
-    showable(ShowAsked {
+    are_readable(dumps, stepping, format).then_some(ShowAsked {
         stepping,
         alone,
         format,
@@ -134,26 +131,6 @@ fn asked_of_disk(stepping: Stepping, alone: Option<u32>, words: &[Word]) -> Opti
         sector,
         dumps,
     })
-}
-
-/// The same, where it can be shown.
-fn showable(asked: ShowAsked<'_>) -> Option<ShowAsked<'_>>
-    ensures { IsMaybeShown (asked_sector asked.entry) (option_map asked_sector result) }
-{
-    if asked.dumps.is_empty() {
-        return None;
-    }
-    if asked.dumps.len() > MOST_DUMPS {
-        return None;
-    }
-    if has_nameless(asked.dumps) {
-        return None;
-    }
-    if asked.stepping.reaches_all(asked.format) {
-        Some(asked)
-    } else {
-        None
-    }
 }
 
 /// The number of a content that a word is.

@@ -2,7 +2,7 @@ use Rattle.std.proofs.Common.{List, ℕ, length, subst}
 use Rattle.std.specs.Option.{option_map}
 use Rattle.flux_words.specs.DumpParts.{NamesWith, options_in}
 use Rattle.flux_words.specs.DumpWords.{asked_of, option_words}
-use Rattle.flux_words.proofs.DumpWords.{behind-named, options-fit, slice-rest}
+use Rattle.flux_words.proofs.DumpWords.{behind-named, slice-rest}
 use Rattle.flux_words.proofs.dump_words.asked_behind.Goals as goal
 
 pub returns : goal.returns

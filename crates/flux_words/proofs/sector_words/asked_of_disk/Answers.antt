@@ -1,7 +1,7 @@
-use Rattle.std.proofs.Common.{◌≡◌, ◌-◌, ◌∷◌, ℕ, List, ap, drop, length, sym, take, ◌∙◌}
-use Rattle.std.specs.Option.{option_map}
-use Rattle.flux_words.specs.SectorWords.{asked_sector}
-use Rattle.flux_words.proofs.SectorWords.{no-format, no-sector, no-track, place-named, place-short, three_first}
+use Rattle.std.proofs.Common.{◌≡◌, ◌-◌, ◌∷◌, ℕ, List, Option, ap, drop, length, subst, sym, take, ◌∙◌}
+use Rattle.flux_words.specs.SectorWords.{AskedSector, NamesPlace, asked_sector}
+use Rattle.flux_words.proofs.DumpWords.{then-asked}
+use Rattle.flux_words.proofs.SectorWords.{place-named, three_first}
 use Rattle.flux_words.proofs.sector_words.asked_of_disk.Goals as goal
 
 pub returns : goal.returns
@@ -13,6 +13,8 @@ returns c =
     ∙ ap (λ (w : List ℕ). w ∷ c.track-item.result ∷ c.sector-item.result ∷ dumps) (sym c.bytes.ensures)
     ∙ ap (λ (w : List ℕ). c.bytes.result.now ∷ w ∷ c.sector-item.result ∷ dumps) (sym c.bytes-2.ensures)
     ∙ ap (λ (w : List ℕ). c.bytes.result.now ∷ c.bytes-2.result.now ∷ w ∷ dumps) (sym c.bytes-3.ensures) in
-    place-named words c.args.stepping c.args.alone c.words_name_formats.ensures.one c.bytes.result.now c.bytes-2.result.now c.bytes-3.result.now dumps at
+    subst (λ (o : Option AskedSector). NamesPlace c.args.stepping c.args.alone words o)
+    (then-asked asked_sector c.are_readable.result _ c.then_some.result c.then_some.ensures)
+    (place-named words c.args.stepping c.args.alone c.words_name_formats.ensures.one c.bytes.result.now c.bytes-2.result.now c.bytes-3.result.now dumps at
     c.in-Some.format c.in-Some.ensures c.in-Some-track_number.number c.in-Some-track_number.ensures
-    c.in-Some-sector_number.sector c.in-Some-sector_number.ensures.least c.in-Some-sector_number.ensures.names (option_map asked_sector c.showable.result) c.showable.ensures
+    c.in-Some-sector_number.sector c.in-Some-sector_number.ensures.least c.in-Some-sector_number.ensures.names c.are_readable.result c.are_readable.ensures)
