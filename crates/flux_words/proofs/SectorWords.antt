@@ -81,6 +81,23 @@ module _ (words : List (List ℕ)) where
           let some = alone_some (place_words asked parts.place) asked parts number is in
           copy_is_no_step (head-same _ _ _ _ (sym some.2 ∙ same))
 
+  -- no words are those behind the command's that are neither in the one order nor in the other
+  neither : ((asked : AskedSector) → CanBeShown asked → (parts : ShowParts asked) → words ≢ step_words asked.stepping ++ copy_words asked parts)
+      → ((asked : AskedSector) (number : ℕ) → asked.alone ≡ Some number → CanBeShown asked → (parts : ShowParts asked) → words ≢ copy_first_words asked parts)
+      → NamesBehind words None
+  neither first behind = λ asked fits can parts is. by asked can parts parts.copy_first asked.alone refl refl is
+    where
+      under : (asked : AskedSector) (parts : ShowParts asked) (late : Bool) → parts.copy_first ≡ late → words ≡ behind_words asked parts
+          → words ≡ (if late then copy_first_words asked parts else step_words asked.stepping ++ copy_words asked parts)
+      under asked parts late order is = is ∙ ap (λ (b : Bool). if b then copy_first_words asked parts else step_words asked.stepping ++ copy_words asked parts) order
+
+      by : (asked : AskedSector) → CanBeShown asked → (parts : ShowParts asked) (late : Bool) (alone : Option ℕ) → parts.copy_first ≡ late → asked.alone ≡ alone → words ≢ behind_words asked parts
+      by asked can parts false alone order same is = first asked can parts (under asked parts false order is)
+      by asked can parts true (Some number) order same is = behind asked number same can parts (under asked parts true order is)
+      by asked can parts true None order same is =
+          first asked can parts (under asked parts true order is ∙ alone_none (stepped_words asked parts.place) asked parts same
+          ∙ ap (λ (later : List (List ℕ)). step_words asked.stepping ++ later) (sym (alone_none (place_words asked parts.place) asked parts same)))
+
   -- the steps' word stands first, or behind a content's number
   pub step-named : WordsBeginWithLetters → (rest : List (List ℕ)) (r : Option AskedSector) → words ≡ double_step_word ∷ rest → NamesCopy Double rest r → NamesBehind words r
   step-named letters rest (Some asked) at names = (
@@ -91,57 +108,29 @@ module _ (words : List (List ℕ)) where
       at ∙ ap (λ later. double_step_word ∷ later) names.2.1 ∙ sym (steps (copy_words asked names.2.0) asked Double names.0),
     ),
   )
-  step-named letters rest None at names = λ asked fits can parts is. by parts.copy_first parts is can refl
+  step-named letters rest None at names = neither (λ asked can parts is. first asked.stepping asked refl can parts is) behind
     where
-      first : {asked : AskedSector} → CanBeShown asked → (parts : ShowParts asked) → words ≢ step_words asked.stepping ++ copy_words asked parts
-      first {asked = asked} can parts is = under asked.stepping refl
-        where
-          under : (s : Stepping) → asked.stepping ≡ s → ⊥
-          under Double same = names asked same can parts (tail-same _ _ _ _ (sym at ∙ is ∙ steps (copy_words asked parts) asked Double same))
-          under Single same = no_steps letters asked parts rest (sym (steps (copy_words asked parts) asked Single same) ∙ sym is ∙ at)
+      first : (s : Stepping) (asked : AskedSector) → asked.stepping ≡ s → CanBeShown asked → (parts : ShowParts asked) → words ≢ step_words asked.stepping ++ copy_words asked parts
+      first Double asked same can parts is = names asked same can parts (tail-same _ _ _ _ (sym at ∙ is ∙ steps (copy_words asked parts) asked Double same))
+      first Single asked same can parts is = no_steps letters asked parts rest (sym (steps (copy_words asked parts) asked Single same) ∙ sym is ∙ at)
 
-      behind : {asked : AskedSector} → CanBeShown asked → (parts : ShowParts asked) → words ≢ copy_first_words asked parts
-      behind {asked = asked} can parts is = under asked.alone refl
-        where
-          under : (alone : Option ℕ) → asked.alone ≡ alone → ⊥
-          under None same =
-              first can parts (is ∙ alone_none (stepped_words asked parts.place) asked parts same
-              ∙ ap (λ (later : List (List ℕ)). step_words asked.stepping ++ later) (sym (alone_none (place_words asked parts.place) asked parts same)))
-          under (Some number) same =
-              let some = alone_some (stepped_words asked parts.place) asked parts number same in
-              copy_is_no_step (head-same _ _ _ _ (sym some.2 ∙ sym is ∙ at))
-
-      by : {asked : AskedSector} (late : Bool) (parts : ShowParts asked) → words ≡ behind_words asked parts → CanBeShown asked → parts.copy_first ≡ late → ⊥
-      by {asked = asked} true parts is can order = behind can parts (is ∙ ap (λ (b : Bool). if b then copy_first_words asked parts else step_words asked.stepping ++ copy_words asked parts) order)
-      by {asked = asked} false parts is can order = first can parts (is ∙ ap (λ (b : Bool). if b then copy_first_words asked parts else step_words asked.stepping ++ copy_words asked parts) order)
+      behind : (asked : AskedSector) (number : ℕ) → asked.alone ≡ Some number → CanBeShown asked → (parts : ShowParts asked) → words ≢ copy_first_words asked parts
+      behind asked number same can parts is =
+          let some = alone_some (stepped_words asked parts.place) asked parts number same in
+          copy_is_no_step (head-same _ _ _ _ (sym some.2 ∙ sym is ∙ at))
 
   pub step-unnamed : (r : Option AskedSector) → IsNotFirst double_step_word words → NamesCopyFirst words r → NamesBehind words r
   step-unnamed (Some asked) other names =
       (tt, names.1, (record { copy = names.2.0.copy; copy_is = names.2.0.copy_is; copy_first = true; place = names.2.0.place }, names.2.1))
-  step-unnamed None other names = λ asked fits can parts is. by parts.copy_first parts is can refl
+  step-unnamed None other names =
+      neither (λ asked can parts is. first asked.stepping asked refl can parts is) (λ asked number same can parts is. names asked (inr (λ none. (let wrong = sym same ∙ none in cc))) can parts is)
     where
-      first : {asked : AskedSector} → CanBeShown asked → (parts : ShowParts asked) → words ≢ step_words asked.stepping ++ copy_words asked parts
-      first {asked = asked} can parts is = under asked.stepping refl
-        where
-          under : (s : Stepping) → asked.stepping ≡ s → ⊥
-          under Double same = other _ (is ∙ steps (copy_words asked parts) asked Double same)
-          under Single same =
-              names asked (inl same) can parts
-              (is ∙ steps (copy_words asked parts) asked Single same
-              ∙ ap (λ (later : List (List ℕ)). parts.copy ++ later) (sym (steps (place_words asked parts.place) asked Single same)))
-
-      behind : {asked : AskedSector} → CanBeShown asked → (parts : ShowParts asked) → words ≢ copy_first_words asked parts
-      behind {asked = asked} can parts is = under asked.alone refl
-        where
-          under : (alone : Option ℕ) → asked.alone ≡ alone → ⊥
-          under None same =
-              first can parts (is ∙ alone_none (stepped_words asked parts.place) asked parts same
-              ∙ ap (λ (later : List (List ℕ)). step_words asked.stepping ++ later) (sym (alone_none (place_words asked parts.place) asked parts same)))
-          under (Some number) same = names asked (inr (λ none. (let wrong = sym same ∙ none in cc))) can parts is
-
-      by : {asked : AskedSector} (late : Bool) (parts : ShowParts asked) → words ≡ behind_words asked parts → CanBeShown asked → parts.copy_first ≡ late → ⊥
-      by {asked = asked} true parts is can order = behind can parts (is ∙ ap (λ (b : Bool). if b then copy_first_words asked parts else step_words asked.stepping ++ copy_words asked parts) order)
-      by {asked = asked} false parts is can order = first can parts (is ∙ ap (λ (b : Bool). if b then copy_first_words asked parts else step_words asked.stepping ++ copy_words asked parts) order)
+      first : (s : Stepping) (asked : AskedSector) → asked.stepping ≡ s → CanBeShown asked → (parts : ShowParts asked) → words ≢ step_words asked.stepping ++ copy_words asked parts
+      first Double asked same can parts is = other _ (is ∙ steps (copy_words asked parts) asked Double same)
+      first Single asked same can parts is =
+          names asked (inl same) can parts
+          (is ∙ steps (copy_words asked parts) asked Single same
+          ∙ ap (λ (later : List (List ℕ)). parts.copy ++ later) (sym (steps (place_words asked parts.place) asked Single same)))
 
   -- behind the number
   module _ (number : ℕ) where
