@@ -1,59 +1,91 @@
--- Whole lines of a report, and the number of a line that stands behind some.
-use Rattle.std.specs.Prelude.{◌≡◌, ◌<◌, ℕ, zero, suc, ◌+◌, List, [], ◌∷◌, ◌++◌, flat_map, length, slice_get, refl}
+-- The lines of a text: what each of them is, by its number, and the number of one that stands behind others.
+use Rattle.std.specs.Prelude.{◌≡◌, ◌<◌, ℕ, zero, suc, ◌+◌, ◌-◌, List, [], ◌∷◌, ◌++◌, flat_map, length, slice_get, Some, refl}
 use Rattle.std.specs.List.{range_with_len}
-use Rattle.std.proofs.Common.{ap, sym, subst, ◌∙◌, arith, append_assoc, append-nil}
+use Rattle.std.proofs.Common.{ap, sym, subst, ◌∙◌, arith, inl, inr, append-nil, append_assoc}
+use Rattle.std.proofs.lemmas.Bool.{cases_lt}
 use Rattle.flux_engine.specs.DiskLaws.{HasLine, lines_in}
-use Rattle.flux_engine.specs.Disks.{lines, part_at}
-use Rattle.flux_engine.specs.Tracks.{TrackPart}
 use Rattle.flux_engine.specs.lemmas.LineNumbers.{Skips, line-first, skips-append, skips-lines}
 use Rattle.sector_report.specs.LineLaws.{IsOneLine}
 
--- the text is so many whole lines
-pub record AreLines (text : List ℕ) : Type 0 where
-  pub count : ℕ
+-- The text is so many whole lines, and this holds of each, by its number, whatever follows the text.
+pub record Tells (P : ℕ → List ℕ → Type 0) (text : List ℕ) (count : ℕ) : Type 0 where
   pub skips : Skips text count
+  pub each : (rest : List ℕ) (number : ℕ) (front : List ℕ) → number < count → slice_get (lines_in (text ++ rest)) number ≡ Some front → P number (front ++ 10 ∷ [])
 
-pub are-nil : AreLines []
-are-nil = record { count = 0; skips = skips-lines (λ k. 10 ∷ []) (λ k. record { front = []; ends = refl; once = refl }) 0 0 }
+some_same : {X : Type 0} {a b : X} → Some a ≡ Some b → a ≡ b
+some_same e = cc
 
-pub are-append : (a b : List ℕ) → AreLines a → AreLines b → AreLines (a ++ b)
-are-append a b first second = record { count = first.count + second.count; skips = skips-append a b first.count second.count first.skips second.skips }
+module _ (P : ℕ → List ℕ → Type 0) where
+  pub tells-nil : Tells P [] 0
+  tells-nil = record {
+    skips = skips-lines (λ k. 10 ∷ []) (λ k. record { front = []; ends = refl; once = refl }) 0 0;
+    each = λ rest number front low at. absurd (omega (arith, low));
+  }
 
-pub are-range : (f : ℕ → List ℕ) → ((k : ℕ) → IsOneLine (f k)) → (first count : ℕ) → AreLines (flat_map f (range_with_len first count))
-are-range f each first count = record { count = count; skips = skips-lines f each first count }
+  pub tells-line : (line : List ℕ) → IsOneLine line → P 0 line → Tells P line 1
+  tells-line line one holds = record {
+    skips = skips-one;
+    each = λ rest number front low at.
+        (let none : number ≡ 0 = omega (arith, low) in
+        let same : one.front ≡ front =
+        some_same (sym (ap (λ (ls : List (List ℕ)). slice_get ls 0) (line-first line rest one)) ∙ ap (slice_get (lines_in (line ++ rest))) (sym none) ∙ at) in
+        subst (λ (k : ℕ). P k (front ++ 10 ∷ [])) (sym none) (subst (P 0) (one.ends ∙ ap (λ (text : List ℕ). text ++ 10 ∷ []) same) holds));
+  }
+    where
+      skips-one : Skips line 1
+      skips-one = subst (λ (text : List ℕ). Skips text 1) (append-nil line) (skips-lines (λ k. line) (λ k. one) 0 1)
 
-are-line : (line : List ℕ) → IsOneLine line → AreLines line
-are-line line one =
-    subst AreLines (append-nil line) (record { count = 1; skips = skips-lines (λ k. line) (λ k. one) 0 1 })
+  -- one text behind another
+  pub tells-append : (a b : List ℕ) (i j : ℕ) → Tells P a i → Tells (λ m line. P (i + m) line) b j → Tells P (a ++ b) (i + j)
+  tells-append a b i j first second = record {
+    skips = skips-append a b i j first.skips second.skips;
+    each = λ rest number front low at.
+        (let there : slice_get (lines_in (a ++ (b ++ rest))) number ≡ Some front = sym (ap (λ (text : List ℕ). slice_get (lines_in text) number) (append_assoc a b rest)) ∙ at in
+        elim (cases_lt number i) [
+          | inl before ↦ first.each (b ++ rest) number front before there
+          | inr past ↦
+              let m : ℕ = number - i in
+              let split : i + m ≡ number = omega (arith, past) in
+              let behind : slice_get (lines_in (b ++ rest)) m ≡ Some front =
+              sym (first.skips.skips (b ++ rest) m) ∙ ap (slice_get (lines_in (a ++ (b ++ rest)))) split ∙ there in
+              subst (λ (k : ℕ). P k (front ++ 10 ∷ [])) split (second.each rest m front (omega (arith, past, low)) behind)
+        ]);
+  }
 
--- a line for each item
-pub are-each : {X : Type 0} (f : X → List ℕ) → ((x : X) → IsOneLine (f x)) → (xs : List X) → AreLines (flat_map f xs)
-are-each f each [] = are-nil
-are-each f each (x ∷ xs) = are-append (f x) (flat_map f xs) (are-line (f x) (each x)) (are-each f each xs)
+-- what holds of each line too
+pub tells-map : (P Q : ℕ → List ℕ → Type 0) (text : List ℕ) (count : ℕ) → ((number : ℕ) (line : List ℕ) → number < count → P number line → Q number line)
+    → Tells P text count → Tells Q text count
+tells-map P Q text count weaker all = record {
+  skips = all.skips;
+  each = λ rest number front low at. weaker number (front ++ 10 ∷ []) low (all.each rest number front low at);
+}
 
--- the lines of the parts, about those of one of them
-pub record Split (ps : List TrackPart) (n : ℕ) : Type 0 where
-  pub before : List ℕ
-  pub rest : List ℕ
-  pub is : lines ps ≡ before ++ ((part_at ps n).lines ++ rest)
-  pub whole : AreLines before
+-- a line for each number of a range
+pub tells-range : (f : ℕ → List ℕ) → ((k : ℕ) → IsOneLine (f k)) → (first count : ℕ) → Tells (λ number line. line ≡ f (first + number)) (flat_map f (range_with_len first count)) count
+tells-range f each first zero = tells-nil (λ number line. line ≡ f (first + number))
+tells-range f each first (suc count) =
+    let P : ℕ → List ℕ → Type 0 = λ number line. line ≡ f (first + number) in
+    let here : first ≡ first + 0 = omega arith in
+    let more : 1 + count ≡ suc count = omega arith in
+    subst (Tells P (flat_map f (range_with_len first (suc count)))) more
+    (tells-append P (f first) (flat_map f (range_with_len (first + 1) count)) 1 count (tells-line P (f first) (each first) (ap f here))
+    (tells-map (λ number line. line ≡ f ((first + 1) + number)) (λ number line. P (1 + number) line) (flat_map f (range_with_len (first + 1) count)) count
+    (λ number line low is. let next : (first + 1) + number ≡ first + (1 + number) = omega arith in is ∙ ap f next)
+    (tells-range f each (first + 1) count)))
 
-pub split_lines : (ps : List TrackPart) → ((m : ℕ) → m < length ps → AreLines (part_at ps m).lines) → (n : ℕ) → n < length ps → Split ps n
-split_lines [] each n low = absurd (omega (arith, low))
-split_lines (p ∷ ps) each zero low = record { before = []; rest = lines ps; is = refl; whole = are-nil }
-split_lines (p ∷ ps) each (suc n) low =
-    let s = split_lines ps (λ m below. each (suc m) (omega (arith, below))) n (omega (arith, low)) in
-    record {
-      before = p.lines ++ s.before;
-      rest = s.rest;
-      is = ap (λ (text : List ℕ). p.lines ++ text) s.is ∙ sym (append_assoc p.lines s.before ((part_at ps n).lines ++ s.rest));
-      whole = are-append p.lines s.before (each 0 (omega arith)) s.whole;
-    }
+-- a line for each item of a list, of all of which the same holds
+pub tells-each : {X : Type 0} (P : List ℕ → Type 0) (f : X → List ℕ) → ((x : X) → IsOneLine (f x)) → ((x : X) → P (f x)) → (xs : List X)
+    → Tells (λ number line. P line) (flat_map f xs) (length xs)
+tells-each P f each holds [] = tells-nil (λ number line. P line)
+tells-each P f each holds (x ∷ xs) =
+    let more : 1 + length xs ≡ suc (length xs) = omega arith in
+    subst (Tells (λ number line. P line) (flat_map f (x ∷ xs))) more
+    (tells-append (λ number line. P line) (f x) (flat_map f xs) 1 (length xs) (tells-line (λ number line. P line) (f x) (each x) (holds x)) (tells-each P f each holds xs))
 
--- a line behind whole lines is a line of the text
-pub has_line : (text before line after : List ℕ) → text ≡ before ++ (line ++ after) → (lines : AreLines before) → IsOneLine line → HasLine text line lines.count
-has_line text before line after is lines one =
-    let first : lines.count ≡ lines.count + 0 = omega arith in
+-- a line behind so many others is a line of the text
+pub has_line : (text before line after : List ℕ) (number : ℕ) → text ≡ before ++ (line ++ after) → Skips before number → IsOneLine line → HasLine text line number
+has_line text before line after number is skipped one =
+    let first : number ≡ number + 0 = omega arith in
     record {
       before = before;
       after = after;
@@ -61,8 +93,8 @@ has_line text before line after is lines one =
       front = one.front;
       ends = one.ends;
       there =
-          ap (λ (t : List ℕ). slice_get (lines_in t) lines.count) is
+          ap (λ (t : List ℕ). slice_get (lines_in t) number) is
           ∙ ap (slice_get (lines_in (before ++ (line ++ after)))) first
-          ∙ lines.skips.skips (line ++ after) 0
+          ∙ skipped.skips (line ++ after) 0
           ∙ ap (λ (ls : List (List ℕ)). slice_get ls 0) (line-first line after one);
     }

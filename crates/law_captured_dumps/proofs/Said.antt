@@ -1,46 +1,37 @@
 -- What dumps that were read say of each sector.
-use Rattle.std.specs.Prelude.{◌≡◌, ◌≤◌, ◌<◌, ◌⊎◌, ℕ, zero, suc, ◌+◌, ◌-◌, map, List, [], ◌∷◌, ◌++◌, flat_map, get_or, length, Option, None, Some, refl}
+use Rattle.std.specs.Prelude.{◌≡◌, ◌≤◌, ◌<◌, ◌⊎◌, ℕ, zero, suc, ◌+◌, map, List, [], ◌∷◌, ◌++◌, get_or, length, None, Some, refl}
 use Rattle.std.specs.List.{range_with_len}
-use Rattle.std.proofs.Common.{ap, sym, subst, ◌∙◌, arith, append_assoc, inl, inr}
+use Rattle.std.proofs.Common.{ap, sym, subst, ◌∙◌, arith, inl, inr}
 use Rattle.std.proofs.lemmas.Bool.{cases_lt}
-use Rattle.dump_reading.specs.Outcomes.{DumpDisk, DumpsRead, IsDumpsRead, numbers_of, plan_of}
-use Rattle.dump_reading.specs.Reports.{end_text, other_lines, passed_line_of, passed_lines, read_part}
+use Rattle.dump_reading.specs.Outcomes.{DumpDisk, DumpsRead, IsDumpsRead, plan_of}
+use Rattle.dump_reading.specs.Reports.{read_part}
 use Rattle.flux_base.specs.declared.track.TrackId.{TrackId}
-use Rattle.flux_engine.specs.DiskLaws.{HasLine, bytes_at}
-use Rattle.flux_engine.specs.Disks.{images, lines, no_totals, part_at, report_over}
+use Rattle.flux_engine.specs.DiskLaws.{bytes_at}
+use Rattle.flux_engine.specs.Disks.{images, part_at, report_over}
 use Rattle.flux_engine.specs.LoopProgress.{streams_over}
 use Rattle.flux_engine.specs.PlanLaws.{ContradictionsAreNamedInPlans, GoodIsRightInPlans, ReadingsInPlansAreOne, StrictGoodStays}
-use Rattle.flux_engine.specs.Plans.{AreCaptures, IsPlanned, IsPlannedPart, Planned, Streams, joined, passed_to}
+use Rattle.flux_engine.specs.Plans.{AreCaptures, IsPlanned, IsPlannedPart, Planned, Streams, joined}
 use Rattle.flux_engine.specs.Recordings.{sectors_of, track_at}
-use Rattle.flux_engine.specs.Tracks.{TrackPart, image_bytes, line_by, lines_by, named_part, part_by, track_notes}
-use Rattle.flux_engine.specs.declared.gathered_track.PassedStream.{PassedStream}
+use Rattle.flux_engine.specs.Tracks.{TrackPart, image_bytes, named_part, part_by}
 use Rattle.flux_engine.specs.declared.plan.Plan.{Plan}
-use Rattle.flux_engine.specs.lemmas.Pieces.{pieces-at}
 use Rattle.law_captured_disks.specs.Headline.{IsSectorOf}
 use Rattle.law_captured_plans.specs.Said.{IsSaid as IsSaidByPlan, SectorsAreSaid}
-use Rattle.sector_images.specs.Formats.{row}
-use Rattle.sector_images.specs.Places.{tracks}
 use Rattle.sector_images.specs.declared.format.Format.{Format}
-use Rattle.sector_report.specs.DumpLines.{DumpsHaveLines, other_text, passed_text}
-use Rattle.sector_report.specs.LineLaws.{IsOneLine, SectorsHaveOneLine}
-use Rattle.sector_report.specs.Lines.{named_text}
 use Rattle.sector_report.specs.declared.naming.Naming.TheVariants.{ByCaptureAndClock}
 use Rattle.track_shelf.specs.Files.{File}
-use Rattle.turn_merge.specs.Others.{NotedOther, others_over}
 use Rattle.turn_merge.specs.Readings.{NotedReading, verdict}
-use Rattle.turn_merge.specs.declared.others.OtherTold.{OtherTold}
 use Rattle.turn_merge.specs.declared.verdict.Verdict.{Verdict}
 use Rattle.turn_merge.specs.declared.verdict.Verdict.TheVariants.{Bad, Contradictory, Good, Missing}
-use Rattle.law_captured_dumps.specs.Said.{EachIsSaid, GoodStaysOrIsContradicted, IsSaid, IsSaidRightly, SaidIsRight, streams_on}
-use Rattle.law_captured_dumps.proofs.Lines.{AreLines, are-append, are-each, are-range, has_line, split_lines}
+use Rattle.law_captured_dumps.specs.Said.{GoodStaysOrIsContradicted, IsSaid, IsSaidRightly, SaidIsRight, streams_on}
+use Rattle.law_captured_dumps.specs.Told.{line_number}
+use Rattle.law_captured_dumps.proofs.ReportLines.{sector_has_line, Laws as LineLaws}
 use Rattle.law_captured_dumps.proofs.Streams.{no_part}
 
 -- what the crates below promise
 pub record Laws : Type 0 where
   pub said : SectorsAreSaid
   pub readings : ReadingsInPlansAreOne
-  pub one : SectorsHaveOneLine
-  pub dump_lines : DumpsHaveLines
+  pub lines : LineLaws
 
 -- a list of so many items, each by its number
 item_at : {X : Type 0} (f : ℕ → X) (d : X) (first count k : ℕ) → k < count → get_or (map f (range_with_len first count)) k d ≡ f (first + k)
@@ -62,12 +53,6 @@ images_one (p ∷ ps) [] same each = absurd (omega (arith, same))
 images_one (p ∷ ps) (q ∷ qs) same each =
     ap (λ (image : List ℕ). image ++ images ps) (each 0 (omega arith))
     ∙ ap (λ (rest : List ℕ). q.image ++ rest) (images_one ps qs (omega (arith, same)) (λ n low. each (suc n) (omega (arith, low))))
-
--- a line among the lines of a track, and of a disk
-line_in : (before passed earlier line later others rest end : List ℕ)
-    → (before ++ ((passed ++ ((earlier ++ (line ++ later)) ++ others)) ++ rest)) ++ end
-    ≡ (before ++ (passed ++ earlier)) ++ (line ++ (later ++ (others ++ (rest ++ end))))
-line_in before passed earlier line later others rest end = simp append_assoc
 
 module _ (laws : Laws) (disk : DumpDisk) (files : List File) (o : DumpsRead) (is : IsDumpsRead disk (Some files) o) where
   abbrev format : Format
@@ -91,64 +76,6 @@ module _ (laws : Laws) (disk : DumpDisk) (files : List File) (o : DumpsRead) (is
 
     abbrev readings : List NotedReading
     readings = joined at.captures
-
-    abbrev passed : List ℕ
-    passed = passed_lines (track n) (passed_to came n plan.captures)
-
-    abbrev others : List ℕ
-    others = other_lines (track n) (others_over at.others)
-
-    abbrev sector_line : ℕ → List ℕ
-    sector_line sector = line_by ByCaptureAndClock (track n) readings sector
-
-    sector_lines : List ℕ
-    sector_lines = flat_map sector_line (range_with_len (sectors_of format (track n)).first (sectors_of format (track n)).count)
-
-    lines_are : (part_at parts n).lines ≡ passed ++ (sector_lines ++ others)
-    unfolding lines_by sector_lines
-    lines_are = ap (λ (p : TrackPart). p.lines) at.is
-
-    one_line : (sector : ℕ) → IsOneLine (sector_line sector)
-    one_line sector = laws.one ByCaptureAndClock (track n) sector (verdict readings sector)
-
-    passed_are : AreLines passed
-    passed_are = are-each (passed_line_of (track n)) (λ (s : PassedStream). laws.dump_lines.passed (track n) s.capture s.why) (passed_to came n plan.captures)
-
-    are_lines : AreLines (part_at parts n).lines
-    unfolding sector_lines
-    are_lines =
-        subst AreLines (sym lines_are)
-        (are-append passed (sector_lines ++ others) passed_are
-        (are-append sector_lines others (are-range sector_line one_line (sectors_of format (track n)).first (sectors_of format (track n)).count)
-        (are-each (other_text ByCaptureAndClock (track n)) (λ (told : OtherTold). laws.dump_lines.other ByCaptureAndClock (track n) told) (others_over at.others))))
-
-  -- each sector of a track has its line
-  module _ (n : ℕ) (low : n < length parts) (sector : ℕ) (one : IsSectorOf format n sector) where
-    pub line : (number : ℕ) × HasLine o.notes (sector_line n low sector) number
-    unfolding sector_lines
-    line =
-        let first : ℕ = (row format).first_sector in
-        let count : ℕ = (sectors_of format (track n)).count in
-        let i : ℕ = sector - first in
-        let here : first + i ≡ sector = omega (arith, one.known.0) in
-        let few : i < count = omega (arith, one.known.0, one.known.1) in
-        let text : List ℕ = sector_line n low sector in
-        let earlier : List ℕ = flat_map (sector_line n low) (range_with_len first i) in
-        let later : List ℕ = flat_map (sector_line n low) (range_with_len (first + i + 1) (count - i - 1)) in
-        let mine : sector_lines n low ≡ earlier ++ (text ++ later) =
-        pieces-at (sector_line n low) first i count few ∙ ap (λ (k : ℕ). earlier ++ (sector_line n low k ++ later)) here in
-        let s = split_lines parts are_lines n low in
-        let end : List ℕ = end_text (numbers_of is.streams parts is.others) in
-        let split : o.notes ≡ (s.before ++ (passed n low ++ earlier)) ++ (text ++ (later ++ (others n low ++ (s.rest ++ end)))) =
-        ap (λ (d : DumpsRead). d.notes) is.is
-        ∙ ap (λ (t : List ℕ). t ++ end) s.is
-        ∙ ap (λ (t : List ℕ). (s.before ++ (t ++ s.rest)) ++ end) (lines_are n low)
-        ∙ ap (λ (t : List ℕ). (s.before ++ ((passed n low ++ (t ++ others n low)) ++ s.rest)) ++ end) mine
-        ∙ line_in s.before (passed n low) earlier text later (others n low) s.rest end in
-        let front : AreLines (s.before ++ (passed n low ++ earlier)) =
-        are-append s.before (passed n low ++ earlier) s.whole
-        (are-append (passed n low) earlier (passed_are n low) (are-range (sector_line n low) (one_line n low) first i)) in
-        (front.count, has_line o.notes (s.before ++ (passed n low ++ earlier)) text (later ++ (others n low ++ (s.rest ++ end))) split front (one_line n low sector))
 
   -- the same disk without what is told beside the sectors: what it comes to by the plan
   plain_of : (n : ℕ) → (n < length parts) ⊎ (length parts ≤ n) → TrackPart
@@ -223,13 +150,12 @@ module _ (laws : Laws) (disk : DumpDisk) (files : List File) (o : DumpsRead) (is
       let here = at n known in
       let said : IsSaidByPlan plan format came planned n sector = laws.said plan format came planned is_planned n sector one.track one.known in
       let same : said.captures ≡ here.captures = laws.readings plan format came n said.captures here.captures said.each here.each (said.many ∙ sym here.many) in
-      let text = line n known sector one in
       record {
         captures = here.captures;
         many = here.many;
         each = moved known here.captures here.many here.each;
-        number = text.0;
-        line = text.1;
+        number = line_number disk files is.others n sector;
+        line = sector_has_line laws.lines disk files o is n known sector one;
         held =
             ap (λ (image : List ℕ). bytes_at format image (track n) sector) (sym image_is)
             ∙ said.held

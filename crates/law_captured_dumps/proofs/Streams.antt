@@ -1,5 +1,5 @@
 -- The streams that came of dumps are those of their files, and the files decide what they come to.
-use Rattle.std.specs.Prelude.{◌≡◌, ◌≤◌, ◌<◌, ℕ, zero, suc, ◌+◌, ◌*◌, ◌/◌, ◌%◌, List, [], ◌∷◌, get_or, length, Option, None, Some, refl}
+use Rattle.std.specs.Prelude.{◌≡◌, ◌<◌, ℕ, zero, suc, ◌+◌, ◌*◌, ◌/◌, ◌%◌, List, [], get_or, length, None, Some, refl}
 use Rattle.std.proofs.Common.{ap, sym, subst, ◌∙◌, arith}
 use Rattle.std.proofs.Math.Nat.{div-lt_iff_lt-mul, mod-lt, mul_comm}
 use Rattle.std.proofs.lemmas.List.{ext_get_or}
@@ -17,14 +17,13 @@ use Rattle.flux_engine.specs.Rules.{RulesAreRead}
 use Rattle.flux_engine.specs.lemmas.OneParts.{one_others_to, one_parts}
 use Rattle.flux_engine.specs.Tracks.{TrackPart}
 use Rattle.flux_engine.specs.declared.plan.Plan.{Plan}
-use Rattle.sector_images.specs.Places.{tracks}
 use Rattle.sector_images.specs.declared.format.Format.{Format}
 use Rattle.track_shelf.specs.Files.{File}
 use Rattle.turn_merge.specs.Others.{NotedOther}
 use Rattle.turn_merge.specs.Readings.{NotedReading}
 use Rattle.law_captured_dumps.specs.Said.{AllOfDumpsIsOne, streams_on}
 
-abbrev none_seen : Seen
+abbrev pub none_seen : Seen
 none_seen = record { fault = None; passed = None; times = []; indexes = [] }
 
 abbrev pub no_part : TrackPart
@@ -39,13 +38,14 @@ module _ (of : PartOf) (disk : DumpDisk) (files : List File) (streams : List See
   abbrev many : ℕ
   many = length disk.dumps
 
-  number : (n q : ℕ) → n < length parts → q < many → n * many + q < length streams
-  number n q known low =
+  -- the stream of a track and a dump is among those that came
+  pub number_low : (n q : ℕ) → n < length parts → q < many → n * many + q < length streams
+  number_low n q known low =
       let below : n * many + q < many * length parts = mul-add-lt n many q (length parts) known low in
       omega (arith, below, mul_comm many (length parts), read.all)
 
   pub same_stream : (n q : ℕ) → n < length parts → q < many → seen_at streams (n * many + q) ≡ streams_on disk files n q
-  same_stream n q known low = read.are files refl n q low (number n q known low)
+  same_stream n q known low = read.are files refl n q low (number_low n q known low)
 
   -- so the readings of a track are those of the files
   pub same_captures : (n : ℕ) → n < length parts → (captures : List (List NotedReading)) → length captures ≡ many

@@ -1,3 +1,4 @@
 pub mod Said
+pub mod Told
 pub mod Inputs
 pub mod Headline

@@ -6,5 +6,6 @@
 mod laws;
 
 pub use laws::{
-    all_of_dumps_is_one, captured_dumps_are_read, dumps_are_one, dumps_say_each_sector,
+    all_of_dumps_is_one, captured_dumps_are_read, dump_lines_tell, dumps_are_one,
+    dumps_say_each_sector,
 };

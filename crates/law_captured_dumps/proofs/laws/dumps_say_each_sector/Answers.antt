@@ -3,12 +3,15 @@ use Rattle.law_captured_dumps.proofs.Said.{Laws, each_said, good_stays, said_is_
 use Rattle.law_captured_dumps.proofs.Streams.{same_captures}
 use Rattle.law_captured_dumps.proofs.laws.dumps_say_each_sector.Goals as goal
 
-laws : (c : goal.After-dumps_have_lines) → Laws
+laws : (c : goal.After-rules_are_read) → Laws
 laws c = record {
   said = c.planned_sectors_are_said.ensures;
   readings = c.plans_are_right.ensures.readings;
-  one = c.sectors_have_one_line.ensures;
-  dump_lines = c.dumps_have_lines.ensures.lines;
+  lines = record {
+    one = c.sectors_have_one_line.ensures;
+    dump_lines = c.dumps_have_lines.ensures.lines;
+    rules = c.rules_are_read.ensures;
+  };
 }
 
 pub returns-clause-said : goal.returns-clause-said

@@ -1,0 +1,93 @@
+-- How many lines the tracks have in a report of dumps: as many as its numbers say.
+use Rattle.std.specs.Prelude.{◌≡◌, ◌≤◌, ◌<◌, ℕ, zero, suc, ◌+◌, ◌*◌, cond, is_some, List, [], get_or, length, sum_by, take, Option, None, Some, refl}
+use Rattle.std.proofs.Common.{ap, sym, ◌∙◌, arith, length-append}
+use Rattle.std.proofs.Math.Nat.{suc-mul}
+use Rattle.std.proofs.Math.Seq.{take-length}
+use Rattle.std.proofs.lemmas.List.{length-map}
+use Rattle.std.proofs.lemmas.List.FromFn.{length-range_with_len}
+use Rattle.std.proofs.lemmas.List.Sums.{sum_by_more}
+use Rattle.dump_reading.specs.Outcomes.{DumpDisk, DumpsRead, IsDumpsRead, numbers_of, plan_of}
+use Rattle.dump_reading.specs.Reports.{read_part}
+use Rattle.flux_engine.specs.Disks.{part_at}
+use Rattle.flux_engine.specs.LoopProgress.{passed_count, seen_at, streams_over}
+use Rattle.flux_engine.specs.Plans.{Seen, Streams, joined, passed_one, passed_to}
+use Rattle.flux_engine.specs.Recordings.{sectors_of, track_at}
+use Rattle.flux_engine.specs.Tracks.{TrackPart, numbers}
+use Rattle.sector_report.specs.declared.dump_lines.Passed.{Passed}
+use Rattle.track_shelf.specs.Files.{File}
+use Rattle.turn_merge.specs.Others.{NotedOther, others_over}
+use Rattle.turn_merge.specs.Readings.{verdict}
+use Rattle.law_captured_dumps.specs.Told.{passed_on}
+use Rattle.law_captured_dumps.proofs.ReportLines.{Laws, before_more, lines_before, passed_many}
+use Rattle.law_captured_dumps.proofs.Streams.{no_part, none_seen, number_low}
+
+one-passed : (q : ℕ) (why : Option Passed) → length (passed_one q why) ≡ cond (is_some why) 1 0
+one-passed q None = refl
+one-passed q (Some why) = refl
+
+module _ (laws : Laws) (disk : DumpDisk) (files : List File) (o : DumpsRead) (is : IsDumpsRead disk (Some files) o) where
+  abbrev many : ℕ
+  many = length disk.dumps
+
+  abbrev came : Streams
+  came = streams_over (plan_of disk) is.streams
+
+  -- the streams of a track that are passed over are counted, one after another
+  passed_so_far : (n : ℕ) → n < length is.parts → (q : ℕ) → q ≤ many
+      → passed_count (take (n * many + q) is.streams) ≡ passed_count (take (n * many) is.streams) + length (passed_to came n q)
+  passed_so_far n low zero few =
+      let same : n * many + 0 ≡ n * many = omega arith in
+      let none : passed_count (take (n * many) is.streams) ≡ passed_count (take (n * many) is.streams) + 0 = omega arith in
+      ap (λ (k : ℕ). passed_count (take k is.streams)) same ∙ none
+  passed_so_far n low (suc q) few =
+      let i : ℕ = n * many + q in
+      let next : n * many + suc q ≡ i + 1 = omega arith in
+      let here : Seen = seen_at is.streams i in
+      let more : passed_count (take (i + 1) is.streams) ≡ passed_count (take i is.streams) + cond (is_some here.passed) 1 0 =
+      sum_by_more (λ (s : Seen). cond (is_some s.passed) 1 0) is.streams i none_seen (number_low read_part disk files is.streams is.parts is.all.read n q low (omega (arith, few))) in
+      let both : length (passed_to came n (suc q)) ≡ length (passed_to came n q) + length (passed_one q here.passed) = length-append (passed_to came n q) (passed_one q here.passed) in
+      let before = passed_so_far n low q (omega (arith, few)) in
+      let one = one-passed q here.passed in
+      ap (λ (k : ℕ). passed_count (take k is.streams)) next ∙ more ∙ omega (arith, before, both, one)
+
+  sectors_many : (n : ℕ) → n < length is.parts → (part_at is.parts n).totals.sectors ≡ (sectors_of disk.format (track_at disk.format n)).count
+  sectors_many n low =
+      let at = is.all.read.each n low in
+      ap (λ (p : TrackPart). p.totals.sectors) at.is
+      ∙ length-map (numbers (sectors_of disk.format (track_at disk.format n))) (verdict (joined at.captures))
+      ∙ length-range_with_len (sectors_of disk.format (track_at disk.format n)).first (sectors_of disk.format (track_at disk.format n)).count
+
+  abbrev told_on : List NotedOther → ℕ
+  told_on others = length (others_over others)
+
+  so_far : (n : ℕ) → n ≤ length is.parts
+      → lines_before laws disk files o is n
+      ≡ passed_count (take (n * many) is.streams) + sum_by (λ (p : TrackPart). p.totals.sectors) (take n is.parts) + sum_by told_on (take n is.others)
+  so_far zero low = (let none : 0 * many ≡ 0 = omega arith in sym (ap (λ (k : ℕ). passed_count (take k is.streams) + 0 + 0) none))
+  so_far (suc n) low =
+      let within : n < length is.parts = omega (arith, low) in
+      let next : n + 1 ≡ suc n = omega arith in
+      let before = so_far n (omega (arith, low)) in
+      let step = before_more laws disk files o is n in
+      let passed : passed_count (take (suc n * many) is.streams) ≡ passed_count (take (n * many) is.streams) + passed_on disk files n =
+      ap (λ (k : ℕ). passed_count (take k is.streams)) (suc-mul n many) ∙ passed_so_far n within many (omega arith)
+      ∙ ap (λ (k : ℕ). passed_count (take (n * many) is.streams) + k) (passed_many laws disk files o is n within) in
+      let sectors : sum_by (λ (p : TrackPart). p.totals.sectors) (take (suc n) is.parts)
+      ≡ sum_by (λ (p : TrackPart). p.totals.sectors) (take n is.parts) + (sectors_of disk.format (track_at disk.format n)).count =
+      ap (λ (k : ℕ). sum_by (λ (p : TrackPart). p.totals.sectors) (take k is.parts)) (sym next)
+      ∙ sum_by_more (λ (p : TrackPart). p.totals.sectors) is.parts n no_part within
+      ∙ ap (λ (k : ℕ). sum_by (λ (p : TrackPart). p.totals.sectors) (take n is.parts) + k) (sectors_many n within) in
+      let told : sum_by told_on (take (suc n) is.others) ≡ sum_by told_on (take n is.others) + told_on (get_or is.others n []) =
+      ap (λ (k : ℕ). sum_by told_on (take k is.others)) (sym next) ∙ sum_by_more told_on is.others n [] (omega (arith, within, is.all.many, is.all.many_others)) in
+      omega (arith, before, step, passed, sectors, told)
+
+  pub lines_counted : lines_before laws disk files o is (length is.parts)
+      ≡ (numbers_of is.streams is.parts is.others).unread + (numbers_of is.streams is.parts is.others).sectors.sectors + (numbers_of is.streams is.parts is.others).others
+  lines_counted =
+      let same : length is.parts ≡ length is.others = omega (arith, is.all.many, is.all.many_others) in
+      so_far (length is.parts) (omega arith)
+      ∙ ap (λ (ss : List Seen). passed_count ss + sum_by (λ (p : TrackPart). p.totals.sectors) (take (length is.parts) is.parts) + sum_by told_on (take (length is.parts) is.others))
+      (ap (λ (k : ℕ). take k is.streams) (sym is.all.read.all) ∙ take-length is.streams)
+      ∙ ap (λ (ps : List TrackPart). passed_count is.streams + sum_by (λ (p : TrackPart). p.totals.sectors) ps + sum_by told_on (take (length is.parts) is.others)) (take-length is.parts)
+      ∙ ap (λ (os : List (List NotedOther)). passed_count is.streams + sum_by (λ (p : TrackPart). p.totals.sectors) is.parts + sum_by told_on os)
+      (ap (λ (k : ℕ). take k is.others) same ∙ take-length is.others)

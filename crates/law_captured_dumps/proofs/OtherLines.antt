@@ -1,0 +1,223 @@
+-- The lines of a report that are not those of sectors: none of them is the text of a sector's line.
+use Rattle.std.specs.Prelude.{◌≡◌, ◌≢◌, ◌==◌, ◌<◌, ◌⊎◌, ℕ, zero, suc, ◌+◌, ◌-◌, ◌/◌, ◌%◌, All, Bool, true, false, List, [], ◌∷◌, ◌++◌, codes, decimal, get_or, length, nat_lt, if◌then◌else◌, refl}
+use Rattle.std.specs.Fmt.{digits, digits_onto, digit_glyph}
+use Rattle.std.specs.List.{slice_split}
+use Rattle.std.proofs.Common.{ap, sym, ◌∙◌, arith, append_assoc, inl, inr, length-append, lit<}
+use Rattle.std.proofs.Math.Nat.{div-lt_iff_lt-mul, mod-lt}
+use Rattle.std.proofs.Math.Seq.{get_or-append_seam}
+use Rattle.std.proofs.lemmas.Bool.{ne_eqb}
+use Rattle.std.proofs.lemmas.Fmt.{decimal_digit}
+use Rattle.std.proofs.lemmas.List.Elements.{All-append, All-cons, All-nil}
+use Rattle.std.proofs.lemmas.List.Splits.{slice_split_at}
+use Rattle.flux_base.specs.declared.header_name.HeaderName.{HeaderName}
+use Rattle.flux_base.specs.declared.header_name.HeaderName.TheVariants.{Address, TrackSector, TrackSectorSide}
+use Rattle.flux_base.specs.declared.track.TrackId.{TrackId}
+use Rattle.sector_report.specs.DumpLines.{dump_name, name_text, other_text, passed_text, unread_text}
+use Rattle.sector_report.specs.LineLaws.{LineFits}
+use Rattle.sector_report.specs.Lines.{fault_text, named_text, place_text, sector_name, two_digits, verdict_text}
+use Rattle.sector_report.specs.declared.dump_lines.Passed.{Passed}
+use Rattle.sector_report.specs.declared.dump_lines.Passed.TheVariants.{Absent, Refused}
+use Rattle.sector_report.specs.declared.naming.Naming.{Naming}
+use Rattle.turn_merge.specs.declared.others.OtherTold.{OtherTold}
+use Rattle.turn_merge.specs.declared.verdict.Verdict.{Verdict}
+
+-- the text is that of no sector's line whose numbers fit
+abbrev pub IsNoSector : List ℕ → Type 0
+IsNoSector text = (naming : Naming) (track : TrackId) (sector : ℕ) (verdict : Verdict) → LineFits naming track sector verdict → named_text naming track sector verdict ≢ text
+
+abbrev is_blank : ℕ → Bool
+is_blank byte = byte == 32
+
+-- the text has no blank
+abbrev IsWord : List ℕ → Type 0
+IsWord text = All (λ (byte : ℕ). is_blank byte ≡ false) text
+
+-- what stands between the first blank and the second one
+abbrev second_word : List ℕ → List ℕ
+second_word text = get_or (slice_split is_blank text) 1 []
+
+digit_no_blank : (b : Bool) (m : ℕ) → is_blank (if b then 48 + m else 87 + m) ≡ false
+digit_no_blank true m = ne_eqb (48 + m) 32 (λ same. omega (arith, same))
+digit_no_blank false m = ne_eqb (87 + m) 32 (λ same. omega (arith, same))
+
+word-if : (b : Bool) (xs ys : List ℕ) → IsWord xs → IsWord ys → IsWord (if b then xs else ys)
+word-if true xs ys first second = first
+word-if false xs ys first second = second
+
+word-digits : (k n : ℕ) (acc : List ℕ) → IsWord acc → IsWord (digits_onto k 10 false n acc)
+word-digits zero n acc is = is
+word-digits (suc k) n acc is =
+    let glyph : ℕ = digit_glyph false (n % 10) in
+    let here : IsWord (glyph ∷ acc) = All-cons (λ (byte : ℕ). is_blank byte ≡ false) glyph acc (digit_no_blank (nat_lt (n % 10) 10) (n % 10)) is in
+    word-if (n / 10 == 0) (glyph ∷ acc) (digits_onto k 10 false (n / 10) (glyph ∷ acc)) here (word-digits k (n / 10) (glyph ∷ acc) here)
+
+word-decimal : (n : ℕ) → IsWord (decimal n)
+unfolding digits
+word-decimal n = word-digits 64 n [] (All-nil (λ (byte : ℕ). is_blank byte ≡ false))
+
+word-append : (xs ys : List ℕ) → IsWord xs → IsWord ys → IsWord (xs ++ ys)
+word-append xs ys first second = All-append (λ (byte : ℕ). is_blank byte ≡ false) xs ys first second
+
+word-cons : (byte : ℕ) (rest : List ℕ) → is_blank byte ≡ false → IsWord rest → IsWord (byte ∷ rest)
+word-cons byte rest is more = All-cons (λ (b : ℕ). is_blank b ≡ false) byte rest is more
+
+word-end : IsWord []
+word-end = All-nil (λ (byte : ℕ). is_blank byte ≡ false)
+
+word-point : IsWord (codes ".")
+word-point = word-cons 46 [] refl word-end
+
+word-dump : IsWord (codes "dump")
+word-dump = word-cons 100 (codes "ump") refl (word-cons 117 (codes "mp") refl (word-cons 109 (codes "p") refl (word-cons 112 [] refl word-end)))
+
+word-other : IsWord (codes "other")
+word-other =
+    word-cons 111 (codes "ther") refl (word-cons 116 (codes "her") refl (word-cons 104 (codes "er") refl (word-cons 101 (codes "r") refl (word-cons 114 [] refl word-end))))
+
+word-two : (n : ℕ) → IsWord (two_digits n)
+unfolding two_digits
+word-two n = word-append (decimal (n / 10)) (decimal (n % 10)) (word-decimal (n / 10)) (word-decimal (n % 10))
+
+-- a track's name, which each line of a track begins with
+abbrev name_of : TrackId → List ℕ
+name_of track = two_digits track.cylinder ++ codes "." ++ decimal track.head
+
+word-name : (track : TrackId) → IsWord (name_of track)
+word-name track =
+    word-append (two_digits track.cylinder ++ codes ".") (decimal track.head)
+    (word-append (two_digits track.cylinder) (codes ".") (word-two track.cylinder) word-point) (word-decimal track.head)
+
+-- the word behind it
+behind_name : (track : TrackId) (word rest : List ℕ) → IsWord word → second_word (name_of track ++ 32 ∷ (word ++ 32 ∷ rest)) ≡ word
+behind_name track word rest is =
+    ap (λ (ws : List (List ℕ)). get_or ws 1 [])
+    (slice_split_at is_blank (name_of track) 32 (word ++ 32 ∷ rest) (word-name track) refl
+    ∙ ap (λ (ws : List (List ℕ)). name_of track ∷ ws) (slice_split_at is_blank word 32 rest is refl))
+
+-- of a sector's line it is the sector's number
+sector_shape : (c h s v : List ℕ) → ((c ++ codes "." ++ h ++ codes " " ++ s ++ codes " ") ++ v) ++ codes "\n" ≡ (c ++ codes "." ++ h) ++ 32 ∷ (s ++ 32 ∷ (v ++ codes "\n"))
+sector_shape c h s v = simp append_assoc
+
+sector_second : (naming : Naming) (track : TrackId) (sector : ℕ) (verdict : Verdict) → second_word (named_text naming track sector verdict) ≡ two_digits sector
+unfolding named_text sector_name
+sector_second naming track sector verdict =
+    ap second_word (sector_shape (two_digits track.cylinder) (decimal track.head) (two_digits sector) (verdict_text naming verdict))
+    ∙ behind_name track (two_digits sector) (verdict_text naming verdict ++ codes "\n") (word-two sector)
+
+-- whose last byte is a digit
+abbrev last_of : List ℕ → ℕ
+last_of text = get_or text (length text - 1) 0
+
+last-is : (xs : List ℕ) (a : ℕ) → last_of (xs ++ a ∷ []) ≡ a
+last-is xs a =
+    let size : length (xs ++ a ∷ []) ≡ length xs + 1 = length-append xs (a ∷ []) in
+    let place : length (xs ++ a ∷ []) - 1 ≡ length xs = omega (arith, size) in
+    ap (λ (k : ℕ). get_or (xs ++ a ∷ []) k 0) place ∙ get_or-append_seam xs a [] 0
+
+last_digit : (n : ℕ) → last_of (two_digits n) ≡ 48 + n % 10
+unfolding two_digits
+last_digit n =
+    ap (λ (d : List ℕ). last_of (decimal (n / 10) ++ d)) (decimal_digit (n % 10) (mod-lt n (lit< tt)))
+    ∙ last-is (decimal (n / 10)) (48 + n % 10)
+
+-- so a line with another word there is no sector's
+pub other_word : (word text : List ℕ) → second_word text ≡ word → 57 < last_of word → IsNoSector text
+other_word word text is high naming track sector verdict fits same =
+    let number : two_digits sector ≡ word = sym (sector_second naming track sector verdict) ∙ ap second_word same ∙ is in
+    let digit : last_of word ≡ 48 + sector % 10 = sym (ap last_of number) ∙ last_digit sector in
+    let low : sector % 10 < 10 = mod-lt sector (lit< tt) in
+    omega (arith, high, digit, low)
+
+-- a stream that was passed over
+dump_shape : (c h d rest : List ℕ) → (c ++ codes "." ++ h ++ codes " dump " ++ d ++ codes " ") ++ rest ≡ (c ++ codes "." ++ h) ++ 32 ∷ (codes "dump" ++ 32 ∷ (d ++ codes " " ++ rest))
+dump_shape c h d rest = simp append_assoc
+
+dump_second : (track : TrackId) (dump : ℕ) (rest : List ℕ) → second_word (dump_name track dump ++ rest) ≡ codes "dump"
+unfolding dump_name
+dump_second track dump rest =
+    ap second_word (dump_shape (two_digits track.cylinder) (decimal track.head) (decimal dump) rest)
+    ∙ behind_name track (codes "dump") (decimal dump ++ codes " " ++ rest) word-dump
+
+absent_shape : (name : List ℕ) → (name ++ codes "missing") ++ codes "\n" ≡ name ++ codes "missing\n"
+absent_shape name = simp append_assoc
+
+refused_shape : (name block fault : List ℕ)
+    → (((name ++ (codes "refused block " ++ block)) ++ codes " ") ++ fault) ++ codes "\n" ≡ name ++ (codes "refused block " ++ block ++ codes " " ++ fault ++ codes "\n")
+refused_shape name block fault = simp append_assoc
+
+pub passed_no_sector : (track : TrackId) (dump : ℕ) (why : Passed) → IsNoSector (passed_text track dump why)
+unfolding passed_text
+passed_no_sector track dump Absent =
+    other_word (codes "dump") (passed_text track dump Absent) (ap second_word (absent_shape (dump_name track dump)) ∙ dump_second track dump (codes "missing\n")) (lit< tt)
+passed_no_sector track dump (Refused block fault) =
+    other_word (codes "dump") (passed_text track dump (Refused block fault))
+    (ap second_word (refused_shape (dump_name track dump) (decimal block) (fault_text fault))
+    ∙ dump_second track dump (codes "refused block " ++ decimal block ++ codes " " ++ fault_text fault ++ codes "\n")) (lit< tt)
+
+-- a name of others
+behind_blank : (name : HeaderName) → (rest : List ℕ) × (name_text name ≡ 32 ∷ rest)
+unfolding name_text
+behind_blank (Address cylinder head sector code) =
+    (decimal cylinder ++ codes " " ++ decimal head ++ codes " " ++ decimal sector ++ codes " " ++ decimal code, refl)
+behind_blank (TrackSector track sector) = (decimal track ++ codes " " ++ decimal sector, refl)
+behind_blank (TrackSectorSide track sector side format) =
+    (decimal track ++ codes " " ++ decimal sector ++ codes " " ++ decimal side ++ codes " " ++ decimal format, refl)
+
+other_shape : (c h name rest : List ℕ) → (c ++ codes "." ++ h ++ codes " other") ++ ((32 ∷ name) ++ rest) ≡ (c ++ codes "." ++ h) ++ 32 ∷ (codes "other" ++ 32 ∷ (name ++ rest))
+other_shape c h name rest = simp append_assoc
+
+rest_shape : (front name blank headers more whole place end : List ℕ)
+    → front ++ name ++ blank ++ headers ++ more ++ whole ++ place ++ end ≡ front ++ (name ++ (blank ++ headers ++ more ++ whole ++ place ++ end))
+rest_shape front name blank headers more whole place end = simp append_assoc
+
+pub other_no_sector : (naming : Naming) (track : TrackId) (told : OtherTold) → IsNoSector (other_text naming track told)
+unfolding other_text
+other_no_sector naming track told =
+    let name = behind_blank told.name in
+    let front : List ℕ = two_digits track.cylinder ++ codes "." ++ decimal track.head ++ codes " other" in
+    let rest : List ℕ = codes " " ++ decimal told.headers ++ codes " " ++ decimal told.whole ++ place_text naming told.first ++ codes "\n" in
+    other_word (codes "other") (other_text naming track told)
+    (ap second_word
+    (rest_shape front (name_text told.name) (codes " ") (decimal told.headers) (codes " ") (decimal told.whole) (place_text naming told.first) (codes "\n")
+    ∙ ap (λ (text : List ℕ). front ++ (text ++ rest)) name.1
+    ∙ other_shape (two_digits track.cylinder) (decimal track.head) name.0 rest)
+    ∙ behind_name track (codes "other") (name.0 ++ rest) word-other) (lit< tt)
+
+-- a sector's line begins with a digit
+two-is : (n : ℕ) → n < 100 → two_digits n ≡ (48 + n / 10) ∷ (48 + n % 10) ∷ []
+unfolding two_digits
+two-is n low =
+    let tens : n / 10 < 10 = (div-lt_iff_lt-mul (lit< tt)).1 low in
+    ap (λ (d : List ℕ). d ++ decimal (n % 10)) (decimal_digit (n / 10) tens) ∙ ap (λ (d : List ℕ). (48 + n / 10) ∷ d) (decimal_digit (n % 10) (mod-lt n (lit< tt)))
+
+first_shape : (two : List ℕ) (a b : ℕ) (h s v : List ℕ) → two ≡ a ∷ b ∷ []
+    → get_or (((two ++ codes "." ++ h ++ codes " " ++ s ++ codes " ") ++ v) ++ codes "\n") 0 0 ≡ a
+first_shape two a b h s v is = ap (λ (d : List ℕ). get_or (((d ++ codes "." ++ h ++ codes " " ++ s ++ codes " ") ++ v) ++ codes "\n") 0 0) is
+
+sector_first : (naming : Naming) (track : TrackId) (sector : ℕ) (verdict : Verdict) → track.cylinder < 100 → get_or (named_text naming track sector verdict) 0 0 ≡ 48 + track.cylinder / 10
+unfolding named_text sector_name
+sector_first naming track sector verdict low =
+    first_shape (two_digits track.cylinder) (48 + track.cylinder / 10) (48 + track.cylinder % 10) (decimal track.head) (two_digits sector) (verdict_text naming verdict) (two-is track.cylinder low)
+
+-- so a line that begins with anything else is no sector's
+pub other_first : (text : List ℕ) (byte : ℕ) → get_or text 0 0 ≡ byte → (byte < 48) ⊎ (57 < byte) → IsNoSector text
+other_first text byte is other naming track sector verdict fits same =
+    let tens : track.cylinder / 10 < 10 = (div-lt_iff_lt-mul (lit< tt)).1 fits.cylinder_fits in
+    by (sym (sector_first naming track sector verdict fits.cylinder_fits) ∙ ap (λ (t : List ℕ). get_or t 0 0) same ∙ is) tens other
+  where
+    by : 48 + track.cylinder / 10 ≡ byte → track.cylinder / 10 < 10 → (byte < 48) ⊎ (57 < byte) → ⊥
+    by both tens (inl low) = omega (arith, both, low)
+    by both tens (inr high) = omega (arith, both, high, tens)
+
+-- the two lines at the end
+unread_first : (u o w : List ℕ) → get_or (codes "unread " ++ u ++ codes " other " ++ o ++ codes " whole " ++ w ++ codes "\n") 0 0 ≡ 117
+unread_first u o w = refl
+
+pub unread_no_sector : (unread others whole : ℕ) → IsNoSector (unread_text unread others whole)
+unfolding unread_text
+unread_no_sector unread others whole =
+    other_first (unread_text unread others whole) 117 (unread_first (decimal unread) (decimal others) (decimal whole)) (inr (lit< tt))
+
+-- and what is no line at all
+pub end_no_sector : IsNoSector (10 ∷ [])
+end_no_sector = other_first (10 ∷ []) 10 refl (inl (lit< tt))
