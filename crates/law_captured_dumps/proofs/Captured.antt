@@ -1,13 +1,13 @@
 -- From what stands in the streams of dumps to what they come to.
-use Rattle.std.specs.Prelude.{◌≡◌, ◌<◌, ◌⊎◌, ℕ, Bool, true, ◌&&◌, List, [], if◌then◌else◌, length, replicate, unwrap_or, Option, refl}
-use Rattle.std.proofs.Common.{ap, sym, subst, ◌∙◌, arith, inl, inr}
+use Rattle.std.specs.Prelude.{◌≡◌, ◌<◌, ℕ, Bool, true, ◌&&◌, List, [], length, replicate, unwrap_or, Option, refl}
+use Rattle.std.proofs.Common.{ap, sym, subst, ◌∙◌, arith}
 use Rattle.std.proofs.lemmas.Bool.{eq-eqb}
 use Rattle.dump_reading.specs.Outcomes.{DumpDisk, DumpsRead, plan_of}
 use Rattle.flux_engine.specs.Captured.{IsUsed}
 use Rattle.flux_engine.specs.DiskLaws.{bytes_at}
 use Rattle.flux_engine.specs.PlanLaws.{StandsIn, cells_in}
 use Rattle.flux_engine.specs.Plans.{AreCaptures, Streams, joined}
-use Rattle.flux_engine.specs.Recordings.{sectors_of, track_at}
+use Rattle.flux_engine.specs.Recordings.{track_at}
 use Rattle.flux_engine.specs.Rings.{IsImage, sector_bytes}
 use Rattle.flux_engine.specs.Rules.{RulesAreRead, StandsBy}
 use Rattle.flux_engine.specs.Tracks.{Found, place_in}
@@ -24,7 +24,6 @@ use Rattle.flux_engine.specs.lemmas.NoneAgreed.{none_agreed}
 use Rattle.law_captured_disks.specs.lemmas.NoneGood.{no_goods}
 use Rattle.law_captured_plans.specs.Headline.{IsOwnOrContradictory}
 use Rattle.sector_images.specs.Formats.{row}
-use Rattle.sector_images.specs.Places.{tracks}
 use Rattle.sector_images.specs.declared.format.Format.{Format}
 use Rattle.track_shelf.specs.Files.{File}
 use Rattle.turn_merge.specs.Readings.{NotedReading, bad_ones, good_ones, good_reading, verdict}

@@ -26,7 +26,6 @@ use Rattle.law_captured_disks.specs.lemmas.Cells.{cells-same}
 use Rattle.law_decoded_rings.specs.Pieces.{RingPiece, begin_of_piece, cells_of_ring_pieces}
 use Rattle.law_decoded_rings.specs.Verdicts.{LiesInOnePiece, PiecesAreRightWithin, StandsAsWrittenWithin, TwoRingsHaveSectors}
 use Rattle.phase_loop.specs.Rows.{recovered}
-use Rattle.sector_images.specs.Formats.{row}
 use Rattle.sector_images.specs.Places.{NumbersNameTracks, SectorsLieInImages, tracks}
 use Rattle.sector_images.specs.declared.format.Format.{Format}
 use Rattle.track_rings.specs.Rings.{last_in, stretch}
@@ -35,7 +34,7 @@ use Rattle.track_shelf.specs.Names.{path_text}
 use Rattle.track_shelf.specs.Stepping.{file_track}
 use Rattle.track_shelf.specs.declared.stepping.Stepping.{Stepping}
 use Rattle.turn_merge.specs.declared.clock.Clock.{Clock}
-use Rattle.turn_merge.specs.declared.clock.Clock.TheVariants.{Following, Held}
+use Rattle.turn_merge.specs.declared.clock.Clock.TheVariants.{Following}
 use Rattle.law_captured_dumps.specs.Inputs.{Begins, Captures, CapturesInPart, HasWhole, IsPassedOver, IsSteadyOrPassed}
 use Rattle.law_captured_dumps.specs.Said.{streams_on}
 

@@ -1,6 +1,6 @@
 -- The dumps that a reader answers for: files whose streams capture the tracks of a disk, whole or erased in parts, and others that are
 -- passed over.
-use Rattle.std.specs.Prelude.{◌≡◌, ◌<◌, ◌⊎◌, ℕ, ◌∷◌, ◌++◌, List, map, Option, Some, true, is_some, option_and_then}
+use Rattle.std.specs.Prelude.{◌≡◌, ◌⊎◌, ℕ, ◌∷◌, ◌++◌, List, map, Option, Some, true, is_some, option_and_then}
 use Rattle.std.specs.List.{slice_get}
 use Rattle.dump_reading.specs.Outcomes.{DumpDisk}
 use Rattle.flux_engine.specs.Captures.{Capture, ErasedCapture, IsSteady, IsSteadyErased}

@@ -1,5 +1,5 @@
 -- What dumps that were read say of each sector of the disk, in the report and in the image.
-use Rattle.std.specs.Prelude.{◌≡◌, ◌<◌, ◌⊎◌, ℕ, List, length, Some}
+use Rattle.std.specs.Prelude.{◌≡◌, ◌<◌, ℕ, List, length, Some}
 use Rattle.disk_recordings.specs.Members.{header_at, sector_at}
 use Rattle.dump_reading.specs.DumpStreams.{dump_streams}
 use Rattle.dump_reading.specs.Outcomes.{DumpDisk, DumpsRead, IsDumpsRead, IsReadBy, plan_of}

@@ -12,7 +12,6 @@ use Rattle.law_decoded_rings.specs.Verdicts.{PiecesAreRightWithin, TwoRingsHaveS
 use Rattle.sector_images.specs.Places.{tracks}
 use Rattle.sector_images.specs.declared.format.Format.{Format}
 use Rattle.law_captured_dumps.proofs.Captured.{Laws, never_wrong, read_well}
-use Rattle.law_captured_dumps.proofs.Owning.{Laws as OwnLaws}
 use Rattle.law_captured_dumps.proofs.laws.captured_dumps_are_read.Goals as goal
 
 own : (c : goal.After-sectors_lie_in_images) → RewrittenTracksAreOwn
