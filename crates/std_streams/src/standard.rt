@@ -6,7 +6,7 @@ use std::io::{ErrorKind, Read, Write};
 /// How often a call that was interrupted is made before it counts as failed.
 const TRIES: u32 = 1000;
 
-/// A reader of std as a source. Each of its errors is counted as a fault. It tells no bytes.
+/// A reader of std as a source. Each of its errors is counted as a fault. It tells the bytes that its reader tells.
 #[derive(Drop)]
 pub struct StdSource<R> {
     reader: R,
@@ -15,7 +15,8 @@ pub struct StdSource<R> {
 
 impl<R: Read> StdSource<R> {
     pub fn new(reader: R) -> StdSource<R>
-        ensures { result.faults ≡ 0 }
+        ensures reader { result.reader ≡ reader }
+        ensures faults { result.faults ≡ 0 }
     {
         StdSource { reader, faults: 0 }
     }
@@ -29,6 +30,8 @@ impl<R: Read> StdSource<R> {
 }
 
 impl<R: Read> Source for StdSource<R> {
+    ghost left = { λ source. R.remaining source.reader };
+
     ghost faults = { λ source. source.faults };
 
     fn read(&mut self, buffer: &mut [u8]) -> Result<usize, Failed> {
@@ -45,7 +48,7 @@ impl<R: Read> Source for StdSource<R> {
 }
 
 /// A writer of std as a sink. Each of its errors, and each write that takes nothing of a piece that is not
-/// empty, is counted as a fault. It tells no bytes.
+/// empty, is counted as a fault. It tells the bytes that its writer tells.
 #[derive(Drop)]
 pub struct StdSink<W> {
     writer: W,
@@ -54,13 +57,16 @@ pub struct StdSink<W> {
 
 impl<W: Write> StdSink<W> {
     pub fn new(writer: W) -> StdSink<W>
-        ensures { result.faults ≡ 0 }
+        ensures writer { result.writer ≡ writer }
+        ensures faults { result.faults ≡ 0 }
     {
         StdSink { writer, faults: 0 }
     }
 }
 
 impl<W: Write> Sink for StdSink<W> {
+    ghost written = { λ sink. W.contents sink.writer };
+
     ghost faults = { λ sink. sink.faults };
 
     fn write(&mut self, piece: &[u8]) -> Result<usize, Failed> {
