@@ -10,14 +10,11 @@ use crate::text::{DiskWord, disk_word, name_word};
 use crate::track_numbers::TrackNumbers;
 use crate::word::DiskNumbers;
 
-/// The most cylinders, heads and sectors of a track, and the greatest number of a sector.
-const MOST_CYLINDERS: u16 = 99;
+/// The most cylinders of a disk.
+const MOST_CYLINDERS: u8 = 99;
 
-const MOST_HEADS: u16 = 2;
-
-const MOST_SECTORS: u16 = 32;
-
-const GREATEST_SECTOR: u16 = 255;
+/// The most heads of a cylinder.
+const MOST_HEADS: u8 = 2;
 
 /// A disk by its numbers, of which there is such a track.
 #[derive(Clone, Copy, Debug, PartialEq, Eq)]
@@ -65,27 +62,24 @@ impl IbmDisk {
         ensures some { IfSome result (IsDiskOf numbers) }
         ensures none { IfNone result ((disk : IbmDisk) → ¬ IsDiskOf numbers disk) }
     {
-        if numbers.cylinders == 0 {
+        let Ok(cylinders) = u8::try_from(numbers.cylinders) else {
+            return None;
+        };
+        let Ok(heads) = u8::try_from(numbers.heads) else {
+            return None;
+        };
+        if !are_few(cylinders, heads) {
             return None;
         }
-        if numbers.cylinders > MOST_CYLINDERS {
+        let Some(track) = track_of(numbers) else {
             return None;
-        }
-        if numbers.heads == 0 {
-            return None;
-        }
-        if numbers.heads > MOST_HEADS {
-            return None;
-        }
-        match track_of(numbers) {
-            Some(track) => Some(IbmDisk {
-                cylinders: numbers.cylinders as u8,
-                heads: numbers.heads as u8,
-                rate: numbers.rate,
-                track,
-            }),
-            None => None,
-        }
+        };
+        Some(IbmDisk {
+            cylinders,
+            heads,
+            rate: numbers.rate,
+            track,
+        })
     }
 
     /// How many cylinders it has.
@@ -192,9 +186,9 @@ fn are_few(cylinders: u8, heads: u8) -> bool
     ensures { result ≡ are_few cylinders heads }
 {
     let some_cylinders = cylinders >= 1;
-    let few_cylinders = cylinders <= 99;
+    let few_cylinders = cylinders <= MOST_CYLINDERS;
     let some_heads = heads >= 1;
-    let few_heads = heads <= 2;
+    let few_heads = heads <= MOST_HEADS;
     some_cylinders && few_cylinders && some_heads && few_heads
 }
 
@@ -204,17 +198,9 @@ fn track_of(numbers: DiskNumbers) -> Option<TrackNumbers>
     ensures fills { IfSome result (FillsTrackOf numbers.rate) }
     ensures none { IfNone result ((track : TrackNumbers) → ¬ HasTrack numbers track) }
 {
-    if numbers.sectors > MOST_SECTORS {
-        return None;
-    }
-    if numbers.first_sector > GREATEST_SECTOR {
-        return None;
-    }
-    let Some(size) = SectorSize::of_bytes(numbers.sector_bytes) else {
-        return None;
-    };
-    let sectors = numbers.sectors as u8;
-    let first_sector = numbers.first_sector as u8;
+    let sectors = u8::try_from(numbers.sectors).ok()?;
+    let first_sector = u8::try_from(numbers.first_sector).ok()?;
+    let size = SectorSize::of_bytes(numbers.sector_bytes)?;
     TrackNumbers::of_disk(numbers.rate, sectors, first_sector, size)
 }
 

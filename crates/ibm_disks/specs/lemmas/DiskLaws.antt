@@ -54,7 +54,7 @@ sound-disk disk = by (is_disk disk) refl
     by true is = is
     by false is = known
 
-few-parts : (cylinders heads : ℕ) → are_few cylinders heads ≡ true → (1 ≤ cylinders) × (cylinders ≤ 99) × (1 ≤ heads) × (heads ≤ 2)
+pub few-parts : (cylinders heads : ℕ) → are_few cylinders heads ≡ true → (1 ≤ cylinders) × (cylinders ≤ 99) × (1 ≤ heads) × (heads ≤ 2)
 few-parts cylinders heads is =
     let most = both _ (nat_le heads 2) is in
     let some = both _ (nat_le 1 heads) most.0 in
