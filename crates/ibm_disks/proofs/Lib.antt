@@ -1,4 +1,3 @@
-mod Digits
 mod Splits
 mod Tracks
 mod Printed

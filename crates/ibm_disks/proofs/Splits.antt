@@ -2,10 +2,8 @@
 use Rattle.std.specs.Prelude.{◌≡◌, ◌≢◌, ℕ, zero, suc, ◌<◌, ◌≤◌, ◌^◌, List, [], ◌∷◌, ◌++◌, length, take, drop, get_or, decimal, Option, Some, None, IfSome, IfNone, refl}
 use Rattle.std.specs.Str.Parse.{AllDigits, digits_value}
 use Rattle.std.proofs.Common.{ap, sym, subst, ◌∙◌, arith}
-use Rattle.std.proofs.Math.Nat.{pow-le-pow_right}
 use Rattle.std.proofs.lemmas.Fmt.{decimal-digits_value, decimal_digit, decimal_injective, decimal_is_IsNumeral, decimal_nonempty, first_decimal, length-decimal-le}
-use Rattle.std.proofs.lemmas.Int.Digits.{digits_value-lt}
-use Rattle.std.proofs.lemmas.Str.Parse.{numerals_by_value, tells_digits}
+use Rattle.std.proofs.lemmas.Str.Parse.{digits_value_short, numerals_by_value, tells_digits}
 use Rattle.ibm_disks.specs.declared.rate.Rate.{Rate}
 use Rattle.ibm_disks.specs.declared.rate.Rate.TheVariants.{Double, High, HighAt360, Single, SingleAt360}
 use Rattle.ibm_disks.specs.Words.{HasNo, density_word, rate_word}
@@ -76,10 +74,9 @@ decimal-one m n low low' same = decimal_injective m n (omega (arith, low)) (omeg
 pub digits-write : (text : List ℕ) → AllDigits 10 text → 0 < length text → length text ≤ 4 → (get_or text 0 0 ≡ 48 → length text ≡ 1)
     → (digits_value 10 text < 10000) × (text ≡ decimal (digits_value 10 text))
 digits-write text digits some few zeros =
-    let below = digits_value-lt 10 text digits in
-    let power : 10 ^ length text ≤ 10 ^ 4 = pow-le-pow_right {n = 10} (omega arith) {i = length text} {j = 4} few in
-    let small : digits_value 10 text < 10000 = omega (arith, below, power) in
-    (small, sym (decimal-digits_value (numerals_by_value (AllDigits 10) tells_digits) text digits some zeros (omega (arith, small))))
+    let numerals = numerals_by_value (AllDigits 10) tells_digits in
+    let small : digits_value 10 text < 10000 = digits_value_short numerals text 4 digits few in
+    (small, sym (decimal-digits_value numerals text digits some zeros (omega (arith, small))))
 
 module _ (text : List ℕ) where
   -- the number that is read is the one that the text writes, and none where it writes none

@@ -5,6 +5,7 @@ ghost use Rattle.std.specs.Str.Parse.{AllDigits, digits_value};
 ghost use Rattle.ibm_disks.specs.Words.{AreBehindRate, AreShort, EndsWith, HasNo, IsWordOf, IsWordOfRate, density_word, rate_word};
 
 use crate::rate::Rate;
+use std::str;
 
 /// The numbers of a disk: how many cylinders and heads it has, how many sectors a track has, of how many bytes each, and
 /// the number of the first of them.
@@ -189,16 +190,20 @@ fn is_padded(text: &[u8]) -> bool
 
 /// The number that digits write. None where a byte is no digit.
 fn value_of(text: &[u8]) -> Option<u16>
+    requires some { 0 < length text.now }
     requires few { length text.now ≤ 4 }
     ensures some { IfSome result (λ n. AllDigits 10 text.now × (n ≡ digits_value 10 text.now)) }
     ensures none { IfNone result (¬ AllDigits 10 text.now) }
 {
-    let mut number: u16 = 0;
-    for byte in text {
-        if !byte.is_ascii_digit() {
-            return None;
-        }
-        number = number * 10 + u16::from(*byte - b'0');
+    // The library takes a plus before the digits.
+    if text[0] == b'+' {
+        return None;
     }
-    Some(number)
+    let Ok(digits) = str::from_utf8(text) else {
+        return None;
+    };
+    match u16::from_str_radix(digits, 10) {
+        Ok(number) => Some(number),
+        Err(_) => None,
+    }
 }
