@@ -1,6 +1,6 @@
 -- From what a run did over dumps to what is known of it.
 use Rattle.std.specs.Prelude.{if◌then◌else◌}
-use Rattle.std.proofs.Common.{◌≡◌, ℕ, Bool, true, false, List, ◌∷◌, ◌++◌, drop, length, Option, Some, None, inl, inr, sym, ap, ◌∙◌, subst}
+use Rattle.std.proofs.Common.{◌≡◌, ◌≤◌, ℕ, Bool, true, false, List, ◌∷◌, ◌++◌, drop, length, Option, Some, None, inl, inr, sym, ap, ◌∙◌, subst, arith}
 use Rattle.disk_map.specs.Dumps.{IsDumpsDrawn, PicturesOfDumpsShowReports, ShowsReport}
 use Rattle.dump_reading.specs.Outcomes.{DumpDisk, DumpsRead, IsDumpsRead}
 use Rattle.dump_reading.specs.Totals.{is_complete}
@@ -8,6 +8,7 @@ use Rattle.flux_base.specs.declared.status.Status.{Status}
 use Rattle.flux_base.specs.declared.status.Status.TheVariants.{AllGood, NotAllGood, Refused, Usage, ReadFault, ImageFault, NotesFault, Memory, ShelfFault}
 use Rattle.law_captured_dumps.specs.Headline.{CapturedDumpsAreNeverWrong, SteadyDumpsAreReadWell}
 use Rattle.law_captured_dumps.specs.Said.{EachIsSaid, SaidIsRight}
+use Rattle.law_captured_dumps.specs.Told.{LinesTell, NoSectorIsToldTwice, ReportsHaveNoOtherLines, SectorsHaveTheirNumbers}
 use Rattle.sector_images.specs.Formats.{IsWordOfFormat, WordsBeginWithLetters, WordsNameFormats}
 use Rattle.sector_images.specs.declared.format.Format.{Format}
 use Rattle.track_shelf.specs.Files.{File}
@@ -31,6 +32,10 @@ use Rattle.flux_cli.proofs.Outcomes.{dumps_no_identity, dumps_no_show, folder_no
 pub record DumpLaws : Type 0 where
   pub said : EachIsSaid
   pub right : SaidIsRight
+  pub numbered : SectorsHaveTheirNumbers
+  pub told : LinesTell
+  pub once : NoSectorIsToldTwice
+  pub count : ReportsHaveNoOtherLines
   pub whole : CapturedDumpsAreNeverWrong
   pub steady : SteadyDumpsAreReadWell
   pub pictures : PicturesOfDumpsShowReports
@@ -60,10 +65,15 @@ module _ (letters : WordsBeginWithLetters) (names : WordsNameFormats) where
       ∙ ap (drop (length (option_words b.options))) behind ∙ options-passed b.options others)
 
 -- what was read of dumps
-of_dumps : DumpLaws → (disk : DumpDisk) (files : List File) (d : DumpsRead) → IsDumpsRead disk (Some files) d → OfDumps disk files d
-of_dumps laws disk files d read = record {
+of_dumps : DumpLaws → (disk : DumpDisk) (files : List File) → length disk.dumps ≤ 16 → (d : DumpsRead) → IsDumpsRead disk (Some files) d → OfDumps disk files d
+of_dumps laws disk files few d read = record {
+  is = read;
   said = laws.said disk files d read;
   right = laws.right disk files d;
+  numbered = laws.numbered disk files d read;
+  told = laws.told disk files d read few;
+  once = laws.once disk files d read few;
+  count = laws.count disk files d read;
   whole = λ image is. laws.whole disk files image d is read;
   steady = λ image is. laws.steady disk files image d is read;
 }
@@ -80,10 +90,10 @@ by_complete true same = all_refused (sym same)
 by_complete false same = not_refused (sym same)
 
 -- a picture was drawn of dumps, and with it their report is known
-of_picture : DumpLaws → {H W N : Type 0} (disk : DumpDisk) (files : List File) (status : Status) (before after : OnShelf H W N) (d : DumpsRead) → IsDumpsDrawn disk (Some files) d
+of_picture : DumpLaws → {H W N : Type 0} (disk : DumpDisk) (files : List File) → length disk.dumps ≤ 16 → (status : Status) (before after : OnShelf H W N) (d : DumpsRead) → IsDumpsDrawn disk (Some files) d
     → status ≡ read_status d.totals → Got (growth before.image after.image) d.image → Got (growth before.notes after.notes) d.notes
     → GavePicture disk files status before after
-of_picture laws disk files status before after d is status_is image_got notes_got =
+of_picture laws disk files few status before after d is status_is image_got notes_got =
     let shows : ShowsReport disk (Some files) d is = laws.pictures disk (Some files) d is in
     record {
       drawn = d;
@@ -92,10 +102,10 @@ of_picture laws disk files status before after d is status_is image_got notes_go
       image_got = image_got;
       notes_got = subst (λ (bytes : List ℕ). Got (growth before.notes after.notes) bytes) (ap (λ (o : DumpsRead). o.notes) is.is) notes_got;
       shows = shows;
-      holds = of_dumps laws disk files shows.report shows.read;
+      holds = of_dumps laws disk files few shows.report shows.read;
     }
 
-module _ (laws : DumpLaws) {H W N : Type 0} (disk : DumpDisk) (files : List File) (before after : OnShelf H W N) (told : before.shelf.files ≡ Some files) where
+module _ (laws : DumpLaws) {H W N : Type 0} (disk : DumpDisk) (files : List File) (few : length disk.dumps ≤ 16) (before after : OnShelf H W N) (told : before.shelf.files ≡ Some files) where
   gave_shown : (shown : Shown) (status : Status) (d : DumpsRead) → IsShown shown disk (Some files) d → status ≡ read_status d.totals
       → Got (growth before.image after.image) d.image → Got (growth before.notes after.notes) d.notes → GaveShown shown disk files status before after
   gave_shown Image status d read status_is image_got notes_got = record {
@@ -103,9 +113,9 @@ module _ (laws : DumpLaws) {H W N : Type 0} (disk : DumpDisk) (files : List File
     status_is = status_is;
     image_got = image_got;
     notes_got = notes_got;
-    holds = of_dumps laws disk files d read;
+    holds = of_dumps laws disk files few d read;
   }
-  gave_shown Picture status d drawn status_is image_got notes_got = of_picture laws disk files status before after d drawn status_is image_got notes_got
+  gave_shown Picture status d drawn status_is image_got notes_got = of_picture laws disk files few status before after d drawn status_is image_got notes_got
 
   gave : (shown : Shown) (status : Status) → (status ≡ Refused → ⊥) → FinishedOnShelf (read_work shown disk) status before after → GaveShown shown disk files status before after
   gave shown status other f =
@@ -133,7 +143,7 @@ module _ (laws : DumpLaws) {H W N : Type 0} (disk : DumpDisk) (files : List File
 pub reads_as_expected : DumpLaws → WordsBeginWithLetters → WordsNameFormats → {S W N H : Type 0} (words : List (List ℕ)) (status : Status) (before after : Surroundings S W N H)
     → Ran words status before after → ReadsAsExpected words status (on_shelf before) (on_shelf after)
 reads_as_expected laws letters names_formats words status before after ran asked files are can told =
-    gave_or_cut laws (asked_disk asked) files (on_shelf before) (on_shelf after) told (shown_of asked.options) status (by ran.asked ran.asks ran.did)
+    gave_or_cut laws (asked_disk asked) files (omega (arith, can.most)) (on_shelf before) (on_shelf after) told (shown_of asked.options) status (by ran.asked ran.asks ran.did)
   where
     Read : Asked → Type 0
     Read of = DidOnShelf (read_work (shown_of of.options) (asked_disk of)) status (on_shelf before) (on_shelf after)

@@ -21,7 +21,7 @@ use flux_trial::whole_trials_have_one_line;
 use flux_words::{Command, Output, command_of, dumps_of, folder_of, identity_of, sector_of};
 use g64_image::{file_lines_tell, good_is_right_in_files, written_files_come_back};
 use law_captured_disks::captured_disks_decode;
-use law_captured_dumps::{captured_dumps_are_read, dumps_say_each_sector};
+use law_captured_dumps::{captured_dumps_are_read, dump_lines_tell, dumps_say_each_sector};
 use law_captured_plans::planned_lines_tell;
 use law_captured_rescues::{captured_disks_are_rescued, steady_disks_are_rescued};
 use law_captured_sets::captured_sets_decode;
@@ -88,9 +88,10 @@ pub fn run<S: Source, W: Sink, N: Sink, H: Shelf>(
         (on (shelf_moment (moment H.left H.faults H.failed shelf.old) (H.given shelf.old) (H.files shelf.old)) (moment W.written W.faults W.failed image.old) (moment N.written N.faults N.failed notes.old))
         (on (shelf_moment (moment H.left H.faults H.failed shelf.new) (H.given shelf.new) (H.files shelf.new)) (moment W.written W.faults W.failed image.new) (moment N.written N.faults N.failed notes.new)) }
 
-    // Of `read`, where the shelf tells its files: each sector's line and its bytes are those that all readings of the dumps bear out; a
-    // sector that one dump has whole is good with its own bytes or contradictory, and good where the other files are captures too or
-    // passed over and the drives kept their speed. A picture of them is that of such a report.
+    // Of `read`, where the shelf tells its files: each sector's line and its bytes are those that all readings of the dumps bear out, and
+    // each line that has the text of a sector's line is that one. A sector that one dump has whole is good with its own bytes or
+    // contradictory, and good where the other files are captures too or passed over and the drives kept their speed. A picture of them is
+    // that of such a report.
     ensures dumps { ReadsAsExpected words.now result
         (on (shelf_moment (moment H.left H.faults H.failed shelf.old) (H.given shelf.old) (H.files shelf.old)) (moment W.written W.faults W.failed image.old) (moment N.written N.faults N.failed notes.old))
         (on (shelf_moment (moment H.left H.faults H.failed shelf.new) (H.given shelf.new) (H.files shelf.new)) (moment W.written W.faults W.failed image.new) (moment N.written N.faults N.failed notes.new)) }
@@ -108,6 +109,7 @@ pub fn run<S: Source, W: Sink, N: Sink, H: Shelf>(
     file_lines_tell();
     good_is_right_in_files();
     dumps_say_each_sector();
+    dump_lines_tell();
     captured_dumps_are_read();
     dumps_are_drawn_as_reported();
     run_words(alloc, words, source, image, notes, shelf)

@@ -33,11 +33,13 @@ abbrev pub line_number : DumpDisk → List File → (others : List (List NotedOt
 line_number disk files others n sector =
     sum_by (lines_on disk files others) (range_with_len 0 n) + passed_on disk files n + (sector - (row disk.format).first_sector)
 
--- a report has each sector's line at its number, with the verdict over all readings of its track
+-- the report has each sector's line at its number, with the verdict over all readings of its track
+abbrev pub HaveTheirNumbers : DumpDisk → List File → DumpsRead → (others : List (List NotedOther)) → Type 0
+HaveTheirNumbers disk files o others = (n sector : ℕ) → IsSectorOf disk.format n sector → (said : IsSaid disk files o n sector)
+    → HasLine o.notes (named_text ByCaptureAndClock (track_at disk.format n) sector (verdict (joined said.captures) sector)) (line_number disk files others n sector)
+
 abbrev pub SectorsHaveTheirNumbers : Type 0
-SectorsHaveTheirNumbers = (disk : DumpDisk) (files : List File) (o : DumpsRead) (is : IsDumpsRead disk (Some files) o)
-    → (n sector : ℕ) → IsSectorOf disk.format n sector → (said : IsSaid disk files o n sector)
-    → HasLine o.notes (named_text ByCaptureAndClock (track_at disk.format n) sector (verdict (joined said.captures) sector)) (line_number disk files is.others n sector)
+SectorsHaveTheirNumbers = (disk : DumpDisk) (files : List File) (o : DumpsRead) (is : IsDumpsRead disk (Some files) o) → HaveTheirNumbers disk files o is.others
 
 -- The line is that of this sector of the disk and stands at its number, and the verdict, with the dumps, the clocks and the places that it
 -- names, is the one over all readings of the sector's track.
@@ -49,19 +51,24 @@ pub record IsTold (disk : DumpDisk) (files : List File) (o : DumpsRead) (others 
   pub is : verdict (joined said.captures) sector ≡ outcome
   pub number_is : number ≡ line_number disk files others n sector
 
--- So it is with each line of a report that has the text of a sector's line, of whatever numbers that fit in it.
+-- so it is with each line of a report that has the text of a sector's line, of whatever numbers that fit in it
+abbrev pub AreTold : DumpDisk → List File → DumpsRead → (others : List (List NotedOther)) → Type 0
+AreTold disk files o others = (track : TrackId) (sector : ℕ) (outcome : Verdict) (number : ℕ) → LineFits ByCaptureAndClock track sector outcome
+    → HasLine o.notes (named_text ByCaptureAndClock track sector outcome) number → IsTold disk files o others track sector outcome number
+
 abbrev pub LinesTell : Type 0
 LinesTell = (disk : DumpDisk) (files : List File) (o : DumpsRead) (is : IsDumpsRead disk (Some files) o) → length disk.dumps ≤ 16
-    → (track : TrackId) (sector : ℕ) (outcome : Verdict) (number : ℕ) → LineFits ByCaptureAndClock track sector outcome
-    → HasLine o.notes (named_text ByCaptureAndClock track sector outcome) number → IsTold disk files o is.others track sector outcome number
+    → AreTold disk files o is.others
 
--- And no report tells a sector twice: two lines that have the texts of lines of one sector are one line, with one verdict.
-abbrev pub NoSectorIsToldTwice : Type 0
-NoSectorIsToldTwice = (disk : DumpDisk) (files : List File) (o : DumpsRead) → IsDumpsRead disk (Some files) o → length disk.dumps ≤ 16
-    → (track : TrackId) (sector : ℕ) (outcome other : Verdict) (number another : ℕ)
+-- a report tells no sector twice: two lines that have the texts of lines of one sector are one line, with one verdict
+abbrev pub TellsOnce : (notes : List ℕ) → Type 0
+TellsOnce notes = (track : TrackId) (sector : ℕ) (outcome other : Verdict) (number another : ℕ)
     → LineFits ByCaptureAndClock track sector outcome → LineFits ByCaptureAndClock track sector other
-    → HasLine o.notes (named_text ByCaptureAndClock track sector outcome) number → HasLine o.notes (named_text ByCaptureAndClock track sector other) another
+    → HasLine notes (named_text ByCaptureAndClock track sector outcome) number → HasLine notes (named_text ByCaptureAndClock track sector other) another
     → (outcome ≡ other) × (number ≡ another)
+
+abbrev pub NoSectorIsToldTwice : Type 0
+NoSectorIsToldTwice = (disk : DumpDisk) (files : List File) (o : DumpsRead) → IsDumpsRead disk (Some files) o → length disk.dumps ≤ 16 → TellsOnce o.notes
 
 -- A report has a line for each stream that is passed over, one for each sector, one for each name of others that is told, and the two with
 -- the totals. It has no other.

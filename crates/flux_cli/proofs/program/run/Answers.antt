@@ -42,5 +42,16 @@ returns-clause-folder_erased g c = folder_erased (laws g c) _ _ _ _ c.run_words.
 pub returns-clause-dumps : goal.returns-clause-dumps
 returns-clause-dumps g c =
     let said = c.dumps_say_each_sector.ensures in
+    let lines = c.dump_lines_tell.ensures in
     let read = c.captured_dumps_are_read.ensures in
-    reads_as_expected (record { said = said.said; right = said.right; whole = read.never_wrong; steady = read.well; pictures = c.dumps_are_drawn_as_reported.ensures }) c.words_name_formats.ensures.letters c.words_name_formats.ensures.one _ _ _ _ c.run_words.ensures.ran
+    reads_as_expected (record {
+      said = said.said;
+      right = said.right;
+      numbered = lines.numbered;
+      told = lines.told;
+      once = lines.once;
+      count = lines.count;
+      whole = read.never_wrong;
+      steady = read.well;
+      pictures = c.dumps_are_drawn_as_reported.ensures;
+    }) c.words_name_formats.ensures.letters c.words_name_formats.ensures.one _ _ _ _ c.run_words.ensures.ran
