@@ -6,15 +6,12 @@ use crate::seed::number_of;
 const MOST_DIGITS: usize = 2;
 
 /// The most streams that capture one track.
-const MOST_CAPTURES: u64 = 16;
+const MOST_CAPTURES: u32 = 16;
 
 /// The number that a word of one or two digits writes, if it is 1 to 16.
 pub(crate) fn count_of(word: &[u8]) -> Option<u32>
     ensures { NamesCount word.now result }
 {
-    if word.is_empty() {
-        return None;
-    }
     if word.len() > MOST_DIGITS {
         return None;
     }
@@ -25,7 +22,7 @@ pub(crate) fn count_of(word: &[u8]) -> Option<u32>
 }
 
 /// So many captures, if there is one and there are not too many.
-fn captures_of(count: u64) -> Option<u32>
+fn captures_of(count: u32) -> Option<u32>
     ensures { IsMaybeCount count result }
 {
     if count == 0 {
@@ -34,5 +31,5 @@ fn captures_of(count: u64) -> Option<u32>
     if count > MOST_CAPTURES {
         return None;
     }
-    Some(count as u32)
+    Some(count)
 }

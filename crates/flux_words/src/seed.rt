@@ -1,6 +1,8 @@
-ghost use Rattle.std.specs.Prelude.{◌≡◌, ◌≤◌, IfNone, IfSome, length};
-ghost use Rattle.std.specs.Str.Parse.{AllDigits, digits_value};
+ghost use Rattle.std.specs.Prelude.{◌≡◌, ◌<◌, ◌^◌, IfNone, IfSome};
+ghost use Rattle.std.specs.Str.Parse.{IsNumeral, digits_value};
 ghost use Rattle.flux_words.specs.Seeds.{NamesSeed};
+
+use std::str;
 
 /// The most digits of a seed.
 const MOST_DIGITS: usize = 10;
@@ -9,30 +11,29 @@ const MOST_DIGITS: usize = 10;
 pub(crate) fn seed_of(word: &[u8]) -> Option<u32>
     ensures { NamesSeed word.now result }
 {
-    if word.is_empty() {
-        return None;
-    }
     if word.len() > MOST_DIGITS {
         return None;
     }
-    match number_of(word) {
-        Some(number) => u32::try_from(number).ok(),
-        None => None,
-    }
+    number_of(word)
 }
 
-/// The number that digits write. None where a byte is no digit.
-pub(crate) fn number_of(word: &[u8]) -> Option<u64>
-    requires { length word.now ≤ 10 }
-    ensures some { IfSome result (λ number. AllDigits 10 word.now × (number ≡ digits_value 10 word.now)) }
-    ensures none { IfNone result (¬ AllDigits 10 word.now) }
+/// The number that a word of digits alone writes, if it has at most 32 bits.
+pub(crate) fn number_of(word: &[u8]) -> Option<u32>
+    ensures some { IfSome result (λ number. IsNumeral 10 word.now × (digits_value 10 word.now ≡ number) × (number < 2 ^ 32)) }
+    ensures none { IfNone result (¬ (IsNumeral 10 word.now × (digits_value 10 word.now < 2 ^ 32))) }
 {
-    let mut number: u64 = 0;
-    for byte in word {
-        if !byte.is_ascii_digit() {
-            return None;
-        }
-        number = number * 10 + u64::from(*byte - b'0');
+    if word.is_empty() {
+        return None;
     }
-    Some(number)
+    // The library takes a plus before the digits.
+    if word[0] == b'+' {
+        return None;
+    }
+    let Ok(text) = str::from_utf8(word) else {
+        return None;
+    };
+    match u32::from_str_radix(text, 10) {
+        Ok(number) => Some(number),
+        Err(_) => None,
+    }
 }

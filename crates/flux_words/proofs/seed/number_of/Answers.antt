@@ -1,26 +1,14 @@
-use Rattle.std.proofs.Common.{◌+◌, ◌*◌, ◌∙◌, ap, refl, arith, inl, inr}
-use Rattle.flux_words.proofs.Digits.{more, other, small}
+use Rattle.std.proofs.Common.{◌<◌, ◌^◌, ◌∙◌, ap, subst, sym, List, ℕ}
+use Rattle.std.specs.Str.Parse.{IsNumeral, digits_value, without_leading_plus}
+use Rattle.std.proofs.lemmas.Fmt.{IsAscii-from_digits}
+use Rattle.std.proofs.lemmas.Str.{IsUtf8-from_ascii}
+use Rattle.std.proofs.lemmas.Str.Parse.{without_leading_plus_none}
 use Rattle.flux_words.proofs.seed.number_of.Goals as goal
 
-pub returns-then-not-is_ascii_digit-clause-none : goal.returns-then-not-is_ascii_digit-clause-none
-returns-then-not-is_ascii_digit-clause-none c =
-    other c.args.word.now c.loop-byte.byte-index _ c.loop-byte-test.true refl (λ digit. elim c.if-not-is_ascii_digit.ensures.cases [
-      | inl low ↦ omega (arith, low, digit.0)
-      | inr high ↦ omega (arith, high, digit.1)
-    ])
+pub returns-in_default-clause-none : goal.returns-in_default-clause-none
+returns-in_default-clause-none c = λ fits. c.in_default.ensures.cases.0 (IsUtf8-from_ascii c.args.word.now (IsAscii-from_digits c.args.word.now fits.0.1))
 
-pub overflow_mul-number : goal.overflow_mul-number
-overflow_mul-number c =
-    let few = small c.args.word.now c.loop-byte.byte-index c.loop-byte.number c.loop-byte.invariant.digits c.requires c.loop-byte-test.true c.loop-byte.invariant.value in
-    omega (arith, few)
-
-pub overflow_add-number : goal.overflow_add-number
-overflow_add-number c =
-    let few = small c.args.word.now c.loop-byte.byte-index c.loop-byte.number c.loop-byte.invariant.digits c.requires c.loop-byte-test.true c.loop-byte.invariant.value in
-    omega (arith, few, c.from.ensures, c.if-not-is_ascii_digit.ensures.cases.1)
-
-pub loop-byte-preserved : goal.loop-byte-preserved
-loop-byte-preserved c =
-    let next = more c.args.word.now c.loop-byte.byte-index c.loop-byte.number _ c.loop-byte-test.true c.loop-byte.invariant.digits
-    c.if-not-is_ascii_digit.ensures.cases refl c.loop-byte.invariant.value in
-    record { digits = next.0; value = ap (λ n. c.loop-byte.number * 10 + n) c.from.ensures ∙ next.1 }
+pub returns-in-Err-clause-none : goal.returns-in-Err-clause-none
+returns-in-Err-clause-none c = λ fits. (
+    let plain = ap without_leading_plus c.in-Ok.ensures.cases.0 ∙ without_leading_plus_none c.args.word.now c.if-word-eq43.false in
+    c.in-Err.ensures.value (subst (λ (ds : List ℕ). IsNumeral 10 ds × (digits_value 10 ds < 2 ^ 32)) (sym plain) fits))
