@@ -4,10 +4,7 @@ ghost use Rattle.std.specs.Prelude.{◌≡◌, ◌≤◌, count_by, length, take
 ghost use Rattle.flux_engine.specs.Counts.{has_data};
 ghost use Rattle.turn_merge.specs.Others.{MOST_TOLD as MOST_NAMES};
 
-use turn_merge::{OtherTold, Others};
-
-/// The most names that are told of a track.
-const MOST_TOLD: usize = 64;
+use turn_merge::{MOST_TOLD, OtherTold, Others};
 
 /// The names that are told: no more than the first so many.
 fn told_names(others: &Others) -> &[OtherTold]

@@ -10,7 +10,7 @@ use std::alloc::Global;
 use std::marker::Model;
 
 /// The most names that are told of a track.
-const MOST_TOLD: usize = 64;
+pub const MOST_TOLD: usize = 64;
 
 /// What is told of the headers that have one name, which none of the track's sectors has.
 #[derive(Clone, Copy, Debug, PartialEq, Eq)]
