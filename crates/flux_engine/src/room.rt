@@ -14,7 +14,7 @@ use std::marker::Model;
 use turn_merge::{Book, Others};
 
 /// The most cells of one track: 32 for each transition.
-const MOST_CELLS: usize = 32 * MOST_TIMES;
+pub const MOST_CELLS: usize = 32 * MOST_TIMES;
 
 /// What the transitions of a track are worked on with.
 #[derive(Drop)]

@@ -18,17 +18,14 @@ use crate::tools::{SectorTools, note_next};
 use cell_bits::Cells;
 use dump_reading::Dumps;
 use flux_base::{Failed, Memory, TrackId};
-use flux_engine::{PassedStream, PassedStreams, TrackStreams, sectors_of};
-use kryo_stream::{MOST_TIMES, StreamRoom};
+use flux_engine::{MOST_CELLS, PassedStream, PassedStreams, TrackStreams, sectors_of};
+use kryo_stream::StreamRoom;
 use phase_loop::Loop;
 use sector_images::{Format, image_place, track_id, tracks_keep_bounds};
 use std::alloc::Global;
 use std::marker::Model;
 use track_shelf::Shelf;
 use turn_merge::Verdict;
-
-/// The most cells of one track: 32 for each transition.
-const MOST_CELLS: usize = 32 * MOST_TIMES;
 
 /// All that reading one sector of a disk's dumps takes, less than 128 MiB: no answer of a call on it is for want of memory.
 ///
