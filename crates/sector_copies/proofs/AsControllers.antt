@@ -23,7 +23,7 @@ use Rattle.flux_engine.specs.Rules.{AreReadByControllers}
 use Rattle.flux_engine.specs.Tracks.{Found, readings_in}
 use Rattle.flux_engine.specs.declared.plan.Clocks.TheVariants.{Both}
 use Rattle.flux_engine.specs.declared.plan.Rule.TheVariants.{Controller}
-use Rattle.sector_copies.specs.Notes.{AppendsNotes, SectorKnown, of_sector}
+use Rattle.sector_copies.specs.Notes.{AppendsNotes, NotesOf, SectorKnown, of_sector}
 use Rattle.sector_copies.proofs.Searches.{appends_none, appends_on}
 
 known_too : (format : Format) (track : TrackId) → IsTrack format track → IsTrack (as_controllers_read format) track
@@ -60,9 +60,9 @@ noted_by clock format other track times indexes cells capture sector old new is 
 
 -- by both, one after the other
 pub noted_both : (format : Format) (track : TrackId) (times indexes : List ℕ) (capture : ℕ) (old mid new : SectorKnown) → mid.sector ≡ old.sector
-    → ((readings : List NotedReading) → AreReadingsBy Controller Following format track times indexes capture readings → AppendsNotes old mid (of_sector old.sector readings))
-    → ((readings : List NotedReading) → AreReadingsBy Controller Held format track times indexes capture readings → AppendsNotes mid new (of_sector mid.sector readings))
-    → (readings : List NotedReading) → AreReadingsOf Controller Both format track times indexes capture readings → AppendsNotes old new (of_sector old.sector readings)
+    → NotesOf (AreReadingsBy Controller Following format track times indexes capture) old mid
+    → NotesOf (AreReadingsBy Controller Held format track times indexes capture) mid new
+    → NotesOf (AreReadingsOf Controller Both format track times indexes capture) old new
 noted_both format track times indexes capture old mid new same first second readings are =
     let following = are.by_clock Following in
     let held = are.by_clock Held in
@@ -94,8 +94,7 @@ module _ (alone : StandAlone) (format : Format) (track : TrackId) (known : IsTra
       let found : are.found ≡ [] = all.are ∙ ap (flat_map readings_of) headers in
       are.are ∙ ap (readings_in capture clock [] [] (cells_by clock format track [] [])) found
 
-  pub none_noted : (known' : SectorKnown) (readings : List NotedReading) → AreReadingsOf Controller Both format track [] [] capture readings
-      → AppendsNotes known' known' (of_sector known'.sector readings)
+  pub none_noted : (known' : SectorKnown) → NotesOf (AreReadingsOf Controller Both format track [] [] capture) known' known'
   none_noted known' readings are =
       let following = none_by Following (are.by_clock Following) (are.each Following tt) in
       let held = none_by Held (are.by_clock Held) (are.each Held tt) in

@@ -28,7 +28,7 @@ use Rattle.flux_engine.specs.declared.track_streams.NextStream.{NextStream}
 use Rattle.dump_reading.specs.DumpStreams.{HaveComeOf, dump_streams, passed_over}
 use Rattle.dump_reading.specs.Outcomes.{DumpDisk}
 use Rattle.dump_reading.specs.Reports.{dump_plan}
-use Rattle.sector_copies.specs.Notes.{AppendsNotes, SectorKnown, SectorStandsFor, of_sector}
+use Rattle.sector_copies.specs.Notes.{NotesOf, SectorKnown, SectorStandsFor, of_sector}
 use Rattle.sector_copies.specs.TrackReadings.{HasReadNext, HasReadTo, IsSameRoom, IsStreamOf, SectorRoomState}
 
 abbrev none_seen : Seen
@@ -89,8 +89,7 @@ module _ (disk : DumpDisk) where
 
       -- what was noted of it, and that it was passed over
       pub next_read : (next : NextStream) (old new : SectorRoomState) → GivesNext Came Ended earlier flux (Ok next)
-          → ((readings : List NotedReading) → AreReadingsOf Controller Both disk.format (track_at disk.format n) (seen_next next flux).times (seen_next next flux).indexes q readings
-          → AppendsNotes old.known new.known (of_sector old.known.sector readings))
+          → NotesOf (AreReadingsOf Controller Both disk.format (track_at disk.format n) (seen_next next flux).times (seen_next next flux).indexes q) old.known new.known
           → new.passed ≡ old.passed ++ passed_one q (seen_next next flux).passed → HasReadNext disk told n q old new
       next_read next old new came noted passed = record { here = seen_next next flux; is = next_is next came; noted = noted; passed_are = passed }
 

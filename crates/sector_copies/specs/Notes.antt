@@ -25,6 +25,10 @@ pub record SectorStandsFor (known : SectorKnown) (readings : List NotedReading) 
 abbrev pub AppendsNotes : SectorKnown → SectorKnown → List NotedReading → Type 0
 AppendsNotes old new more = (readings : List NotedReading) → SectorStandsFor old readings → SectorStandsFor new (readings ++ more)
 
+-- of whatever list has all these readings of a track, a call notes those of the sector
+abbrev pub NotesOf : (AreAll : List NotedReading → Type 0) → SectorKnown → SectorKnown → Type 0
+NotesOf AreAll old new = (readings : List NotedReading) → AreAll readings → AppendsNotes old new (of_sector old.sector readings)
+
 -- the good readings of a header of a sector: one for each of its data
 abbrev pub data_readings : (sector : ℕ) → Place → List (ℕ × List ℕ) → List NotedReading
 data_readings sector place found = flat_map (λ d. good_reading sector place d.1 ∷ []) found

@@ -18,7 +18,7 @@ use Rattle.dump_reading.specs.DumpStreams.{dump_streams}
 use Rattle.dump_reading.specs.Outcomes.{DumpDisk}
 use Rattle.dump_reading.specs.Reports.{dump_plan}
 use Rattle.sector_copies.specs.Copies.{Copy, copies_over}
-use Rattle.sector_copies.specs.Notes.{AppendsNotes, SectorKnown, SectorStandsFor, of_sector}
+use Rattle.sector_copies.specs.Notes.{NotesOf, SectorKnown, SectorStandsFor, of_sector}
 
 -- the format, the track's number, what is known of the sector, and which of the track's streams were passed over
 pub record SectorRoomState : Type 0 where
@@ -56,8 +56,7 @@ IsStreamOf disk told n q seen = (files : List File) → told ≡ Some files → 
 pub record HasReadNext (disk : DumpDisk) (told : Option (List File)) (n q : ℕ) (old new : SectorRoomState) : Type 0 where
   pub here : Seen
   pub is : IsStreamOf disk told n q here
-  pub noted : (readings : List NotedReading) → AreReadingsOf Controller Both disk.format (track_at disk.format n) here.times here.indexes q readings
-      → AppendsNotes old.known new.known (of_sector old.known.sector readings)
+  pub noted : NotesOf (AreReadingsOf Controller Both disk.format (track_at disk.format n) here.times here.indexes q) old.known new.known
   pub passed_are : new.passed ≡ old.passed ++ passed_one q here.passed
 
 -- The first q streams of a track, by the files of the dumps where they are told: what is known stands for all readings of the sector in

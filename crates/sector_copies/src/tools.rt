@@ -1,6 +1,6 @@
 //! What the streams of a track are worked on with, and what is noted of them.
 
-ghost use Rattle.std.specs.Prelude.{◌≡◌, ◌≤◌, ◌<◌, ◌+◌, ◌*◌, ◌++◌, List, length};
+ghost use Rattle.std.specs.Prelude.{◌≡◌, ◌≤◌, ◌<◌, ◌+◌, ◌*◌, ◌++◌, length};
 ghost use Rattle.cell_bits.specs.State.{room};
 ghost use Rattle.flux_engine.specs.Captured.{AreReadingsBy, AreReadingsOf};
 ghost use Rattle.flux_engine.specs.LoopProgress.{IsBoundedNext, seen_next};
@@ -9,11 +9,10 @@ ghost use Rattle.flux_engine.specs.Reading.{IsBounded};
 ghost use Rattle.flux_engine.specs.Room.{MOST_CELLS, MOST_READINGS};
 ghost use Rattle.flux_engine.specs.declared.plan.Clocks.TheVariants.{Both};
 ghost use Rattle.flux_engine.specs.declared.plan.Rule.TheVariants.{Controller};
-ghost use Rattle.sector_copies.specs.Notes.{AppendsNotes, IsSameSector, of_sector};
+ghost use Rattle.sector_copies.specs.Notes.{IsSameSector, NotesOf};
 ghost use Rattle.sector_images.specs.Formats.{row};
 ghost use Rattle.sector_images.specs.Places.{IsTrack};
 ghost use Rattle.turn_merge.specs.Book.{MOST_NOTES};
-ghost use Rattle.turn_merge.specs.Readings.{NotedReading};
 
 use crate::notes::SectorNotes;
 use crate::walk::note_cells;
@@ -50,8 +49,7 @@ pub(crate) fn note_next(
     requires size { tools.old.notes.book.size ≡ (row format).sector_size }
     requires few { tools.old.notes.book.notes + 2 * MOST_READINGS ≤ MOST_NOTES }
     requires room { length tools.old.passed.items < 16 }
-    ensures noted { (readings : List NotedReading) → AreReadingsOf Controller Both format track (seen_next next flux.now).times (seen_next next flux.now).indexes capture readings
-        → AppendsNotes tools.old.notes tools.new.notes (of_sector tools.old.notes.sector readings) }
+    ensures noted { NotesOf (AreReadingsOf Controller Both format track (seen_next next flux.now).times (seen_next next flux.now).indexes capture) tools.old.notes tools.new.notes }
     ensures passed { tools.new.passed.items ≡ tools.old.passed.items ++ passed_one capture (seen_next next flux.now).passed }
     ensures same { IsSameSector tools.old.notes tools.new.notes }
     ensures few { tools.new.notes.book.notes ≤ tools.old.notes.book.notes + 2 * MOST_READINGS }
@@ -78,8 +76,7 @@ fn note_stream(
     requires cells { MOST_CELLS ≤ room tools.old.cells }
     requires size { tools.old.notes.book.size ≡ (row format).sector_size }
     requires few { tools.old.notes.book.notes + 2 * MOST_READINGS ≤ MOST_NOTES }
-    ensures noted { (readings : List NotedReading) → AreReadingsOf Controller Both format track flux.now.times flux.now.indexes capture readings
-        → AppendsNotes tools.old.notes tools.new.notes (of_sector tools.old.notes.sector readings) }
+    ensures noted { NotesOf (AreReadingsOf Controller Both format track flux.now.times flux.now.indexes capture) tools.old.notes tools.new.notes }
     ensures kept { tools.new.passed ≡ tools.old.passed }
     ensures same { IsSameSector tools.old.notes tools.new.notes }
     ensures few { tools.new.notes.book.notes ≤ tools.old.notes.book.notes + 2 * MOST_READINGS }
@@ -103,8 +100,7 @@ fn note_by_clock(
     requires cells { MOST_CELLS ≤ room tools.old.cells }
     requires size { tools.old.notes.book.size ≡ (row format).sector_size }
     requires few { tools.old.notes.book.notes + MOST_READINGS ≤ MOST_NOTES }
-    ensures noted { (readings : List NotedReading) → AreReadingsBy Controller clock format track flux.now.times flux.now.indexes capture readings
-        → AppendsNotes tools.old.notes tools.new.notes (of_sector tools.old.notes.sector readings) }
+    ensures noted { NotesOf (AreReadingsBy Controller clock format track flux.now.times flux.now.indexes capture) tools.old.notes tools.new.notes }
     ensures kept { tools.new.passed ≡ tools.old.passed }
     ensures same { IsSameSector tools.old.notes tools.new.notes }
     ensures few { tools.new.notes.book.notes ≤ tools.old.notes.book.notes + MOST_READINGS }

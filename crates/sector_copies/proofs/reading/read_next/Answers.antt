@@ -1,9 +1,8 @@
-use Rattle.std.specs.Prelude.{◌≡◌, ◌++◌, List, length}
+use Rattle.std.specs.Prelude.{◌≡◌, ◌++◌, length}
 use Rattle.std.proofs.Common.{subst}
 use Rattle.flux_base.specs.Counts.{counts_of}
 use Rattle.flux_base.specs.declared.track.TrackId.{TrackId}
 use Rattle.index_turns.specs.Track.{TrackState}
-use Rattle.turn_merge.specs.Readings.{NotedReading}
 use Rattle.flux_engine.specs.Captured.{AreReadingsOf}
 use Rattle.flux_engine.specs.LoopProgress.{seen_next}
 use Rattle.flux_engine.specs.Plans.{passed_one}
@@ -13,7 +12,7 @@ use Rattle.flux_engine.specs.declared.plan.Rule.TheVariants.{Controller}
 use Rattle.flux_engine.specs.lemmas.TrackAt.{track_is}
 use Rattle.dump_reading.specs.Outcomes.{disk_of}
 use Rattle.dump_reading.specs.Reports.{dump_plan}
-use Rattle.sector_copies.specs.Notes.{AppendsNotes, of_sector}
+use Rattle.sector_copies.specs.Notes.{NotesOf}
 use Rattle.sector_copies.specs.TrackReadings.{HasReadNext, SectorRoomState}
 use Rattle.sector_copies.proofs.Streams.{earlier, earlier_came, earlier_many, ended_counts, ended_kept, next_kept, next_read}
 use Rattle.sector_copies.proofs.reading.read_next.Goals as goal
@@ -33,10 +32,8 @@ returns-clause-read g c =
     track_is inside.format inside.number c.track_id-track.result c.track_id-track.ensures.at in
     let came = c.in-Ok.ensures.next (dump_plan (length disk.dumps)) c.args.shelf.now before c.requires.low (earlier_many disk told inside.number c.args.capture c.requires.low)
     (earlier_came disk told inside.number c.args.capture c.requires.low) in
-    let noted = subst (λ (t : TrackId). (readings : List NotedReading) → AreReadingsOf Controller Both inside.format t (seen_next next flux).times (seen_next next flux).indexes c.args.capture readings
-    → AppendsNotes inside.tools.notes tools.notes (of_sector inside.tools.notes.sector readings)) is
-    (subst (λ (f : TrackState). (readings : List NotedReading) → AreReadingsOf Controller Both inside.format c.track_id-track.result (seen_next next f).times (seen_next next f).indexes c.args.capture readings
-    → AppendsNotes inside.tools.notes tools.notes (of_sector inside.tools.notes.sector readings)) c.flux.ensures c.note_next.ensures.noted) in
+    let Noted : TrackId → TrackState → Type 0 = λ t f. NotesOf (AreReadingsOf Controller Both inside.format t (seen_next next f).times (seen_next next f).indexes c.args.capture) inside.tools.notes tools.notes in
+    let noted = subst (λ (t : TrackId). Noted t flux) is (subst (Noted c.track_id-track.result) c.flux.ensures c.note_next.ensures.noted) in
     let passed = subst (λ (f : TrackState). tools.passed.items ≡ inside.tools.passed.items ++ passed_one c.args.capture (seen_next next f).passed) c.flux.ensures c.note_next.ensures.passed in
     subst (λ (r : SectorRoomState). HasReadNext (disk_of c.args.dumps.now r.format) told r.number c.args.capture r new) c.room.view_is
     (next_read disk told inside.number c.args.capture c.requires.low (g.H.Shelf.files c.next_stream.new.source) flux next old new came noted passed)
