@@ -12,18 +12,11 @@ use Rattle.track_shelf.specs.declared.stepping.Stepping.TheVariants.{Single, Dou
 use Rattle.flux_words.specs.DumpParts.{IsNotFirst}
 use Rattle.flux_words.specs.DumpWords.{AreReadable, double_step_word}
 use Rattle.flux_words.specs.SectorWords.{AreCopyWords, AskedSector, CanBeShown, HasNumber, HasOptions, HasSteps, HasStepsBehind, IsAlone, MOST_COPY_NUMBERS, NamesBehind, NamesBy, NamesCopy, NamesCopyFirst, NamesNumber, NamesPlace, NamesSector, NamesShow, NamesStepped, NamesTrack, PlaceParts, ShowParts, behind_words, copy_first_words, copy_words, place_words, step_words, stepped_words}
-use Rattle.flux_words.specs.lemmas.Options.{head-same, tail-same}
+use Rattle.flux_words.specs.lemmas.Options.{head-same, no_option, tail-same}
 use Rattle.flux_words.proofs.DumpWords.{slice-rest}
 
 abbrev copy_word : List ℕ
 copy_word = codes "--copy"
-
--- no format has an option's word, which begins with a dash
-no_option : WordsBeginWithLetters → (option word : List ℕ) (f : Format) → get_or option 0 0 ≡ 45 → IsWordOfFormat word f → option ≢ word
-no_option letters option word f dash named same =
-    let letter = letters word f named in
-    let first : get_or option 0 0 ≡ get_or word 0 0 = ap (λ (w : List ℕ). get_or w 0 0) same in
-    omega (arith, letter, dash, first)
 
 -- a number is one by its text
 one_number : (bound : ℕ) (text : ℕ → List ℕ) (word : List ℕ) (n m : ℕ) → NamesNumber bound text word (Some n) → NamesNumber bound text word (Some m) → n ≡ m
@@ -69,7 +62,7 @@ module _ (words : List (List ℕ)) where
 
   -- words from a format's on do not begin with the steps' word
   no_steps_at_place : WordsBeginWithLetters → (asked : AskedSector) (place : PlaceParts asked) (rest : List (List ℕ)) → place_words asked place ≢ double_step_word ∷ rest
-  no_steps_at_place letters asked place rest same = no_option letters double_step_word place.word asked.format refl place.named (sym (head-same _ _ _ _ same))
+  no_steps_at_place letters asked place rest same = no_option letters double_step_word place.word asked.format refl place.named (head-same _ _ _ _ same)
 
   -- nor do those from the copy's on
   no_steps : WordsBeginWithLetters → (asked : AskedSector) (parts : ShowParts asked) (rest : List (List ℕ)) → copy_words asked parts ≢ double_step_word ∷ rest
@@ -191,7 +184,7 @@ module _ (words : List (List ℕ)) where
 
   -- words from a format's on do not begin with the copy's word
   no_copy_at_place : WordsBeginWithLetters → (asked : AskedSector) (place : PlaceParts asked) (rest : List (List ℕ)) → place_words asked place ≢ copy_word ∷ rest
-  no_copy_at_place letters asked place rest same = no_option letters copy_word place.word asked.format refl place.named (sym (head-same _ _ _ _ same))
+  no_copy_at_place letters asked place rest same = no_option letters copy_word place.word asked.format refl place.named (head-same _ _ _ _ same)
 
   -- nor do those of single steps
   no_copy_at_steps : WordsBeginWithLetters → (asked : AskedSector) → HasStepsBehind asked → asked.alone ≡ None → (place : PlaceParts asked) (rest : List (List ℕ))

@@ -11,7 +11,7 @@ use Rattle.flux_words.specs.declared.dump_words.DumpOptions.{DumpOptions}
 use Rattle.flux_words.specs.declared.dump_words.DumpOptions.TheVariants.{Without, DoubleStep, Picture, PictureDoubleStep, DoubleStepPicture}
 
 -- no format has an option's word, which begins with a dash
-no_option : WordsBeginWithLetters → (option word : List ℕ) (f : Format) → get_or option 0 0 ≡ 45 → IsWordOfFormat word f → word ≢ option
+pub no_option : WordsBeginWithLetters → (option word : List ℕ) (f : Format) → get_or option 0 0 ≡ 45 → IsWordOfFormat word f → word ≢ option
 no_option letters option word f begins named same =
     let letter = letters word f named in
     let dash : get_or word 0 0 ≡ 45 = ap (λ (w : List ℕ). get_or w 0 0) same ∙ begins in
