@@ -71,9 +71,9 @@ has_noted_too clock format other track times indexes cells capture old new befor
 
 pub reads_by_clocks : (rule : Rule) (clocks : Clocks) (format : Format) (track : TrackId) (capture : ℕ) (left left' : Option (List ℕ)) (used : Bool) (held held' : List ℕ) (flux : TrackState) (old new : Knowledge) (before after : OthersKnown)
     (u : Unit {0}) → ReadsStream left left' used held held' flux.times flux.indexes (Ok u) → HasNotedBy rule clocks format track flux.times flux.indexes capture old new before after
-    → ReadsByClocks rule clocks format track capture left left' used held held' old new (Ok u)
+    → ReadsByClocks rule clocks format track capture left left' used held held' old new before after (Ok u)
 reads_by_clocks rule clocks format track capture left left' used held held' flux old new before after u read n =
-    record { times = flux.times; indexes = flux.indexes; read = read; noted = (n.readings, n.are, n.noted) }
+    record { times = flux.times; indexes = flux.indexes; read = read; noted = (n.readings, n.are, n.noted); others = (n.others, n.others_are, n.others_noted) }
 
 -- a list of what is noted for each clock
 abbrev of_clocks : {X : Type 0} → (following held : List X) → Clock → List X
@@ -134,9 +134,10 @@ module _ (rule : Rule) (format : Format) (track : TrackId) (times indexes : List
 
 module _ (format : Format) (track : TrackId) (left left' : Option (List ℕ)) (used : Bool) (held held' : List ℕ) (old new : Knowledge) where
   -- by the one clock
-  pub reads_capture : (capture : ℕ) (answer : CaptureAnswer) → ReadsByClocks Strict FollowingAlone format track capture left left' used held held' old new answer
+  pub reads_capture : (before after : OthersKnown) (capture : ℕ) (answer : CaptureAnswer)
+      → ReadsByClocks Strict FollowingAlone format track capture left left' used held held' old new before after answer
       → ReadsCapture format track capture left left' used held held' old new answer
-  reads_capture capture (Ok u) c = record {
+  reads_capture before after capture (Ok u) c = record {
     times = c.times;
     indexes = c.indexes;
     read = c.read;
@@ -146,7 +147,7 @@ module _ (format : Format) (track : TrackId) (left left' : Option (List ℕ)) (u
       c.noted.2,
     );
   }
-  reads_capture capture (Err fault) c = record { times = c.times; indexes = c.indexes; read = c.read; noted = tt }
+  reads_capture before after capture (Err fault) c = record { times = c.times; indexes = c.indexes; read = c.read; noted = tt }
 
 -- what is known of a sector without a reading
 abbrev nothing : Found

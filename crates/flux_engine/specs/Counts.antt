@@ -36,6 +36,12 @@ pub record CountsTrack (old new : RoomState) : Type 0 where
   pub told : new.told_others ≡ old.told_others + length (take MOST_TOLD new.others.told)
   pub whole : new.whole_others ≡ old.whole_others + count_by has_data (take MOST_TOLD new.others.told)
 
+-- what was counted stays as it was
+pub record KeepsCounts (old new : RoomState) : Type 0 where
+  pub unread : new.unread ≡ old.unread
+  pub told : new.told_others ≡ old.told_others
+  pub whole : new.whole_others ≡ old.whole_others
+
 -- what is counted of so many tracks at most
 pub record AreCountsBelow (room : RoomState) (n : ℕ) : Type 0 where
   pub unread : room.unread ≤ 16 * n

@@ -3,9 +3,10 @@ use Rattle.std.specs.Prelude.{◌≡◌, ◌<◌, ◌⊎◌, ℕ, ◌+◌, ◌*�
 use Rattle.std.specs.Io.KnownBytes.{Appends, Consumes, IsAtEnd}
 use Rattle.flux_base.specs.declared.track.TrackId.{TrackId}
 use Rattle.turn_merge.specs.Book.{Knowledge}
+use Rattle.turn_merge.specs.Others.{NotedOther, OthersKnown}
 use Rattle.turn_merge.specs.Readings.{NotedReading}
 use Rattle.flux_engine.specs.Answers.{Answer, AppendsAndPart, CaptureAnswer, IsTakenBehind, ReadsStream}
-use Rattle.flux_engine.specs.Captured.{AppendsReadings, AreReadingsOf}
+use Rattle.flux_engine.specs.Captured.{AppendsOthers, AppendsReadings, AreOthersOf, AreReadingsOf}
 use Rattle.flux_engine.specs.Disks.{images, lines, totals_over}
 use Rattle.flux_engine.specs.Tracks.{TrackPart}
 use Rattle.flux_engine.specs.declared.track_part.PartFault.{PartFault}
@@ -50,13 +51,14 @@ of_part PartImageFault = ImageFault
 of_part PartNotesFault = NotesFault
 
 -- A call that reads one of the streams that capture a track by a rule and these clocks: where the stream has no fault, all its readings were
--- noted after those before.
+-- noted after those before, and all its other headers after those before.
 pub record ReadsByClocks (rule : Rule) (clocks : Clocks) (format : Format) (track : TrackId) (capture : ℕ) (left left' : Option (List ℕ)) (used : Bool) (held held' : List ℕ)
-    (old new : Knowledge) (answer : CaptureAnswer) : Type 0 where
+    (old new : Knowledge) (before after : OthersKnown) (answer : CaptureAnswer) : Type 0 where
   pub times : List ℕ
   pub indexes : List ℕ
   pub read : ReadsStream left left' used held held' times indexes answer
   pub noted : OnOk answer ((readings : List NotedReading) × AreReadingsOf rule clocks format track times indexes capture readings × AppendsReadings old new readings)
+  pub others : OnOk answer ((others : List NotedOther) × AreOthersOf rule clocks format track times indexes capture others × AppendsOthers before after others)
 
 -- the most bytes of padding, of a stream and of what an intake holds after it
 abbrev pub MOST_OF_STREAM : ℕ

@@ -7,6 +7,7 @@ ghost use Rattle.flux_base.specs.Counts.{Counts, counts_of};
 ghost use Rattle.flux_engine.specs.Answers.{CaptureCause, ReadsCapture, ReadsStream};
 ghost use Rattle.flux_engine.specs.Blamed.{is_unread, part_blame};
 ghost use Rattle.flux_engine.specs.Captured.{count_of_clocks};
+ghost use Rattle.flux_engine.specs.Counts.{KeepsCounts};
 ghost use Rattle.cell_bits.specs.State.{room};
 ghost use Rattle.flux_engine.specs.Gathering.{AreCellsOf, HasNoted, HasNotedBy};
 ghost use Rattle.flux_engine.specs.PlanAnswers.{ReadsByClocks};
@@ -82,6 +83,8 @@ pub fn read_capture<S: Source>(
     ensures started { room.new.started ≡ number }
     ensures captures { OnOk result (room.new.captures ≡ room.old.captures + 1) }
     ensures shape { SameShape room.old.book room.new.book }
+    ensures passed { room.new.passed ≡ room.old.passed }
+    ensures counted { KeepsCounts room.old room.new }
     ensures sound { OnOk result (room.new.failed ≡ false) }
     ensures failed { OnErr result (room.new.failed ≡ true) }
 
@@ -114,7 +117,7 @@ pub fn read_by_clocks<S: Source>(
     requires started { number ≡ room.old.started }
     requires few { room.old.captures + count_of_clocks clocks ≤ MOST_SOURCES }
     requires sound { room.old.failed ≡ false }
-    ensures read { ReadsByClocks rule clocks room.old.format (track_at room.old.format number) capture (S.left source.old) (S.left source.new) room.old.used room.old.held room.new.held room.old.book room.new.book result }
+    ensures read { ReadsByClocks rule clocks room.old.format (track_at room.old.format number) capture (S.left source.old) (S.left source.new) room.old.used room.old.held room.new.held room.old.book room.new.book room.old.others room.new.others result }
 
     // The source is read only where the bytes at hand do not tell the answer.
     ensures needed { IsReadWhereNeeded (source_at S.left S.given S.faults source.old) (source_at S.left S.given S.faults source.new) room.old.used room.old.held }
@@ -127,6 +130,8 @@ pub fn read_by_clocks<S: Source>(
     ensures started { room.new.started ≡ number }
     ensures captures { OnOk result (room.new.captures ≡ room.old.captures + count_of_clocks clocks) }
     ensures shape { SameShape room.old.book room.new.book }
+    ensures passed { room.new.passed ≡ room.old.passed }
+    ensures counted { KeepsCounts room.old room.new }
     ensures sound { OnOk result (room.new.failed ≡ false) }
     ensures failed { OnErr result (room.new.failed ≡ true) }
 

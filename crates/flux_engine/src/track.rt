@@ -3,6 +3,7 @@ ghost use Rattle.flux_base.specs.Blames.{CountsBy, three_counts};
 ghost use Rattle.flux_base.specs.Counts.{counts_of};
 ghost use Rattle.flux_engine.specs.Answers.{DecodesTrack, EngineCause, of_capture, of_sink};
 ghost use Rattle.flux_engine.specs.Blamed.{engine_blame};
+ghost use Rattle.flux_engine.specs.Counts.{KeepsCounts};
 ghost use Rattle.flux_engine.specs.Recordings.{track_at};
 ghost use Rattle.kryo_stream.specs.Outcome.{IsReadWhereNeeded};
 ghost use Rattle.kryo_stream.specs.Reads.{source_at};
@@ -44,6 +45,7 @@ pub fn decode_track<S: Source, W: Sink, N: Sink>(
     ensures held { length room.new.held ≤ 4096 }
     ensures used { room.new.used ≡ true }
     ensures next { OnOk result (room.new.next ≡ number + 1) }
+    ensures counted { KeepsCounts room.old room.new }
     ensures sound { OnOk result (room.new.failed ≡ false) }
     ensures failed { OnErr result (room.new.failed ≡ true) }
 
