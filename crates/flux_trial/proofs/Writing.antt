@@ -5,16 +5,35 @@ use Rattle.std.proofs.lemmas.List.Elements.{All-weaker}
 use Rattle.flux_base.specs.Outside.{AppendsPart, Rose}
 use Rattle.flux_writer.specs.Reading.{EndsWithTransition}
 use Rattle.flux_writer.specs.Written.{stream_of_times}
-use Rattle.std.specs.Prelude.{Some}
+use Rattle.std.specs.Prelude.{Some, slice_get}
+use Rattle.flux_base.specs.declared.track.TrackId.{TrackId}
+use Rattle.sector_images.specs.Formats.{zone}
+use Rattle.sector_images.specs.Places.{IsTrack, TracksKeepBounds, tracks}
+use Rattle.sector_images.specs.declared.format.Format.{Format}
+use Rattle.flux_engine.specs.Rings.{IsRing, ring_cells_of}
+use Rattle.flux_engine.specs.lemmas.TrackAt.{is_known_at}
 use Rattle.flux_trial.specs.Drive.{Drive}
 use Rattle.flux_trial.specs.Times.{IsTrialRing, trial_indexes, trial_times}
 use Rattle.flux_trial.specs.inside.Keeping.{faults_of, ROOM}
+use Rattle.flux_trial.proofs.Rings.{is_trial_ring}
 use Rattle.flux_trial.proofs.Sound.{IsUsual, LATEST}
 use Rattle.flux_trial.proofs.Streams.{WrittenIsShort, ends-with-transition, four_indexes, stream-short, times-few, times-small}
 use Rattle.flux_trial.proofs.Trials.{never_rose, none_failed}
 
-module _ (d : Drive) (ring : List Bool) (usual : IsUsual d) (is : IsTrialRing ring) (times indexes : List ℕ)
-    (times_are : times ≡ trial_times d ring) (indexes_are : indexes ≡ trial_indexes d ring) where
+-- a track of a format's disks, its ring, and what the drive gives of it
+module _ (keep : TracksKeepBounds) (format : Format) (seed number cell : ℕ) (track : TrackId) (at : slice_get (tracks format) number ≡ Some track)
+    (known : IsTrack format track) (cell_is : cell ≡ (zone format track.cylinder).nominal) (ring : List Bool) (ring_is : IsRing (ring_cells_of format number) ring)
+    (times indexes : List ℕ) (times_are : times ≡ trial_times (record { seed = seed; track = number; nominal = cell }) ring)
+    (indexes_are : indexes ≡ trial_indexes (record { seed = seed; track = number; nominal = cell }) ring) where
+  abbrev d : Drive
+  d = record { seed = seed; track = number; nominal = cell }
+
+  usual : IsUsual d
+  usual = (let bounds = keep format track known in record { least = omega (arith, bounds.shortest_cell, cell_is); most = omega (arith, bounds.longest_cell, cell_is) })
+
+  is : IsTrialRing ring
+  is = is_trial_ring keep format number ring (is_known_at format number track at known) ring_is
+
   pub ends : EndsWithTransition times indexes
   ends =
       subst (λ (ts : List ℕ). EndsWithTransition ts indexes) (sym times_are)

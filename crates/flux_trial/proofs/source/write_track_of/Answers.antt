@@ -1,10 +1,7 @@
-use Rattle.std.proofs.Common.{◌∙◌, ap, length, arith}
-use Rattle.flux_trial.specs.Drive.{Drive}
-use Rattle.flux_trial.specs.Times.{IsTrialRing}
+use Rattle.std.proofs.Common.{◌∙◌, ap, length}
 use Rattle.flux_trial.proofs.Giving.{stream-is}
 use Rattle.flux_engine.specs.lemmas.TrackAt.{is_known_at}
 use Rattle.flux_trial.proofs.Rings.{is_image, is_trial_ring}
-use Rattle.flux_trial.proofs.Sound.{IsUsual}
 use Rattle.flux_trial.proofs.Writing.{early, ends, few, never_full, short}
 use Rattle.flux_trial.proofs.source.write_track_of.Goals as goal
 
@@ -18,39 +15,23 @@ trial_flux-requires-clause-ring c =
 
 pub write_times-requires-clause-last : goal.write_times-requires-clause-last
 write_times-requires-clause-last c =
-    let d : Drive = record { seed = c.args.seed; track = c.args.number; nominal = c.nominal-cell.result } in
-    let bounds = c.tracks_keep_bounds.ensures.bounds c.args.format c.track_id.result c.track_id.ensures.track in
-    let usual : IsUsual d = record { least = omega (arith, bounds.shortest_cell, c.nominal-cell.ensures); most = omega (arith, bounds.longest_cell, c.nominal-cell.ensures) } in
-    let ring : IsTrialRing c.track_ring.new.cells.cells = is_trial_ring c.tracks_keep_bounds.ensures.bounds c.args.format c.args.number c.track_ring.new.cells.cells
-    (is_known_at c.args.format c.args.number c.track_id.result c.track_id.ensures.at c.track_id.ensures.track) c.in-Ok.ensures.ring in
-    ends d c.track_ring.new.cells.cells usual ring c.trial_flux.new.flux.times c.trial_flux.new.flux.indexes c.in-Ok-trial_flux.ensures.times c.in-Ok-trial_flux.ensures.indexes
+    ends c.tracks_keep_bounds.ensures.bounds c.args.format c.args.seed c.args.number c.nominal-cell.result c.track_id.result c.track_id.ensures.at c.track_id.ensures.track
+    c.nominal-cell.ensures c.track_ring.new.cells.cells c.in-Ok.ensures.ring c.trial_flux.new.flux.times c.trial_flux.new.flux.indexes c.in-Ok-trial_flux.ensures.times c.in-Ok-trial_flux.ensures.indexes
 
 pub write_times-requires-clause-few : goal.write_times-requires-clause-few
 write_times-requires-clause-few c =
-    let d : Drive = record { seed = c.args.seed; track = c.args.number; nominal = c.nominal-cell.result } in
-    let bounds = c.tracks_keep_bounds.ensures.bounds c.args.format c.track_id.result c.track_id.ensures.track in
-    let usual : IsUsual d = record { least = omega (arith, bounds.shortest_cell, c.nominal-cell.ensures); most = omega (arith, bounds.longest_cell, c.nominal-cell.ensures) } in
-    let ring : IsTrialRing c.track_ring.new.cells.cells = is_trial_ring c.tracks_keep_bounds.ensures.bounds c.args.format c.args.number c.track_ring.new.cells.cells
-    (is_known_at c.args.format c.args.number c.track_id.result c.track_id.ensures.at c.track_id.ensures.track) c.in-Ok.ensures.ring in
-    few d c.track_ring.new.cells.cells usual ring c.trial_flux.new.flux.times c.trial_flux.new.flux.indexes c.in-Ok-trial_flux.ensures.times c.in-Ok-trial_flux.ensures.indexes
+    few c.tracks_keep_bounds.ensures.bounds c.args.format c.args.seed c.args.number c.nominal-cell.result c.track_id.result c.track_id.ensures.at c.track_id.ensures.track
+    c.nominal-cell.ensures c.track_ring.new.cells.cells c.in-Ok.ensures.ring c.trial_flux.new.flux.times c.trial_flux.new.flux.indexes c.in-Ok-trial_flux.ensures.times c.in-Ok-trial_flux.ensures.indexes
 
 pub write_times-requires-clause-early : goal.write_times-requires-clause-early
 write_times-requires-clause-early c =
-    let d : Drive = record { seed = c.args.seed; track = c.args.number; nominal = c.nominal-cell.result } in
-    let bounds = c.tracks_keep_bounds.ensures.bounds c.args.format c.track_id.result c.track_id.ensures.track in
-    let usual : IsUsual d = record { least = omega (arith, bounds.shortest_cell, c.nominal-cell.ensures); most = omega (arith, bounds.longest_cell, c.nominal-cell.ensures) } in
-    let ring : IsTrialRing c.track_ring.new.cells.cells = is_trial_ring c.tracks_keep_bounds.ensures.bounds c.args.format c.args.number c.track_ring.new.cells.cells
-    (is_known_at c.args.format c.args.number c.track_id.result c.track_id.ensures.at c.track_id.ensures.track) c.in-Ok.ensures.ring in
-    early d c.track_ring.new.cells.cells usual ring c.trial_flux.new.flux.times c.trial_flux.new.flux.indexes c.in-Ok-trial_flux.ensures.times c.in-Ok-trial_flux.ensures.indexes
+    early c.tracks_keep_bounds.ensures.bounds c.args.format c.args.seed c.args.number c.nominal-cell.result c.track_id.result c.track_id.ensures.at c.track_id.ensures.track
+    c.nominal-cell.ensures c.track_ring.new.cells.cells c.in-Ok.ensures.ring c.trial_flux.new.flux.times c.trial_flux.new.flux.indexes c.in-Ok-trial_flux.ensures.times c.in-Ok-trial_flux.ensures.indexes
 
 pub unreachable-requires-in-Err-write_times : goal.unreachable-requires-in-Err-write_times
 unreachable-requires-in-Err-write_times c =
-    let d : Drive = record { seed = c.args.seed; track = c.args.number; nominal = c.nominal-cell.result } in
-    let bounds = c.tracks_keep_bounds.ensures.bounds c.args.format c.track_id.result c.track_id.ensures.track in
-    let usual : IsUsual d = record { least = omega (arith, bounds.shortest_cell, c.nominal-cell.ensures); most = omega (arith, bounds.longest_cell, c.nominal-cell.ensures) } in
-    let ring : IsTrialRing c.track_ring.new.cells.cells = is_trial_ring c.tracks_keep_bounds.ensures.bounds c.args.format c.args.number c.track_ring.new.cells.cells
-    (is_known_at c.args.format c.args.number c.track_id.result c.track_id.ensures.at c.track_id.ensures.track) c.in-Ok.ensures.ring in
-    let size = short d c.track_ring.new.cells.cells usual ring c.trial_flux.new.flux.times c.trial_flux.new.flux.indexes c.in-Ok-trial_flux.ensures.times
+    let size = short c.tracks_keep_bounds.ensures.bounds c.args.format c.args.seed c.args.number c.nominal-cell.result c.track_id.result c.track_id.ensures.at c.track_id.ensures.track
+    c.nominal-cell.ensures c.track_ring.new.cells.cells c.in-Ok.ensures.ring c.trial_flux.new.flux.times c.trial_flux.new.flux.indexes c.in-Ok-trial_flux.ensures.times
     c.in-Ok-trial_flux.ensures.indexes c.written_law.ensures.size in
     never_full c.clear.new.self _ c.write_times.new.sink c.clear.ensures size c.in-Err-write_times.ensures.err c.in-Err-write_times.ensures.counts.cause
 
