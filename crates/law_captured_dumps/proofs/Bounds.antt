@@ -41,6 +41,7 @@ use Rattle.turn_merge.specs.Readings.{NotedReading, verdict}
 use Rattle.turn_merge.specs.declared.clock.Clock.{Clock}
 use Rattle.turn_merge.specs.declared.clock.Clock.TheVariants.{Following, Held}
 use Rattle.law_captured_dumps.specs.Said.{streams_on}
+use Rattle.law_captured_dumps.proofs.Lines.{each-all}
 
 -- of numbers that rise, each is at least its place
 at_least : (xs : List ℕ) → IsStrictlyIncreasing xs → (k : ℕ) → k < length xs → k ≤ slice_index xs k
@@ -96,15 +97,11 @@ header_few (place, (sector, first ∷ more)) limit some few =
     let same : length (readings_of (place, (sector, first ∷ more))) ≡ length (first ∷ more) = length-map (first ∷ more) (λ (d : ℕ × List ℕ). (place, Good sector, d.1)) in
     omega (arith, same, few)
 
-each_all : {X : Type 0} (P : X → Type 0) → ((x : X) → P x) → (xs : List X) → Each P xs
-each_all P all [] = tt
-each_all P all (x ∷ xs) = (all x, each_all P all xs)
-
 header_inside : (h : ℕ × HeaderData) (limit : ℕ) → h.0 < limit → Each (λ (f : Found). f.0 < limit) (readings_of h)
 header_inside (place, (sector, [])) limit low = (low, tt)
 header_inside (place, (sector, first ∷ more)) limit low =
     map_each (λ (f : Found). f.0 < limit) (λ (d : ℕ × List ℕ). (place, Good sector, d.1)) (first ∷ more)
-    (each_all (λ (d : ℕ × List ℕ). place < limit) (λ d. low) (first ∷ more))
+    (each-all (λ (d : ℕ × List ℕ). place < limit) (λ d. low) (first ∷ more))
 
 -- as many times as many
 flat_few : {X Y : Type 0} (f : X → List Y) (most : ℕ) (xs : List X) → Each (λ (x : X). length (f x) ≤ most) xs → length (flat_map f xs) ≤ most * length xs
@@ -170,7 +167,7 @@ module _ (capture : ℕ) (small : capture < 2 ^ 64) (clock : Clock) (times index
 
   noted_few : (found : List Found) → length (readings_in capture clock times indexes cells found) ≤ length found
   noted_few found =
-      let few = flat_few read_at 1 found (each_all (λ (f : Found). length (read_at f) ≤ 1) (λ f. one_few (place_in capture clock times indexes cells f.0) f.1 f.2) found) in
+      let few = flat_few read_at 1 found (each-all (λ (f : Found). length (read_at f) ≤ 1) (λ f. one_few (place_in capture clock times indexes cells f.0) f.1 f.2) found) in
       omega (arith, few)
 
   noted_fit : (found : List Found) → length cells < 2 ^ 64 → length indexes < 2 ^ 64 → Each (λ (f : Found). f.0 < length cells) found

@@ -4,6 +4,7 @@ use Rattle.std.specs.List.{range_with_len}
 use Rattle.std.proofs.Common.{ap, sym, subst, ◌∙◌, arith, inl, inr, append-nil, append_assoc}
 use Rattle.std.proofs.lemmas.Bool.{cases_lt}
 use Rattle.flux_engine.specs.DiskLaws.{HasLine, lines_in}
+use Rattle.flux_engine.specs.lemmas.Each.{Each}
 use Rattle.flux_engine.specs.lemmas.LineNumbers.{Skips, line-first, skips-append, skips-lines}
 use Rattle.sector_report.specs.LineLaws.{IsOneLine}
 
@@ -74,13 +75,17 @@ tells-range f each first (suc count) =
     (tells-range f each (first + 1) count)))
 
 -- a line for each item of a list, of all of which the same holds
-pub tells-each : {X : Type 0} (P : List ℕ → Type 0) (f : X → List ℕ) → ((x : X) → IsOneLine (f x)) → ((x : X) → P (f x)) → (xs : List X)
+pub tells-each : {X : Type 0} (P : List ℕ → Type 0) (f : X → List ℕ) → ((x : X) → IsOneLine (f x)) → (xs : List X) → Each (λ (x : X). P (f x)) xs
     → Tells (λ number line. P line) (flat_map f xs) (length xs)
-tells-each P f each holds [] = tells-nil (λ number line. P line)
-tells-each P f each holds (x ∷ xs) =
+tells-each P f each [] holds = tells-nil (λ number line. P line)
+tells-each P f each (x ∷ xs) holds =
     let more : 1 + length xs ≡ suc (length xs) = omega arith in
     subst (Tells (λ number line. P line) (flat_map f (x ∷ xs))) more
-    (tells-append (λ number line. P line) (f x) (flat_map f xs) 1 (length xs) (tells-line (λ number line. P line) (f x) (each x) (holds x)) (tells-each P f each holds xs))
+    (tells-append (λ number line. P line) (f x) (flat_map f xs) 1 (length xs) (tells-line (λ number line. P line) (f x) (each x) holds.0) (tells-each P f each xs holds.1))
+
+pub each-all : {X : Type 0} (P : X → Type 0) → ((x : X) → P x) → (xs : List X) → Each P xs
+each-all P all [] = tt
+each-all P all (x ∷ xs) = (all x, each-all P all xs)
 
 -- a line behind so many others is a line of the text
 pub has_line : (text before line after : List ℕ) (number : ℕ) → text ≡ before ++ (line ++ after) → Skips before number → IsOneLine line → HasLine text line number

@@ -1,25 +1,32 @@
--- The lines of a report that are not those of sectors: none of them is the text of a sector's line.
+-- The lines of a report that are not those of sectors, and those that are not of streams that were passed over: none has the text of such a
+-- line.
 use Rattle.std.specs.Prelude.{◌≡◌, ◌≢◌, ◌==◌, ◌<◌, ◌⊎◌, ℕ, zero, suc, ◌+◌, ◌-◌, ◌/◌, ◌%◌, All, Bool, true, false, List, [], ◌∷◌, ◌++◌, codes, decimal, get_or, length, nat_lt, if◌then◌else◌, refl}
 use Rattle.std.specs.Fmt.{digits, digits_onto, digit_glyph}
 use Rattle.std.specs.List.{slice_split}
 use Rattle.std.proofs.Common.{ap, sym, ◌∙◌, arith, append_assoc, inl, inr, length-append, lit<}
 use Rattle.std.proofs.Math.Nat.{div-lt_iff_lt-mul, mod-lt}
 use Rattle.std.proofs.Math.Seq.{get_or-append_seam}
-use Rattle.std.proofs.lemmas.Bool.{ne_eqb}
+use Rattle.std.proofs.lemmas.Bool.{lt-ltb, ne_eqb}
 use Rattle.std.proofs.lemmas.Fmt.{decimal_digit}
-use Rattle.std.proofs.lemmas.List.Elements.{All-append, All-cons, All-nil}
+use Rattle.std.proofs.lemmas.List.Elements.{All-append, All-cons, All-get_or, All-nil}
 use Rattle.std.proofs.lemmas.List.Splits.{slice_split_at}
 use Rattle.flux_base.specs.declared.header_name.HeaderName.{HeaderName}
 use Rattle.flux_base.specs.declared.header_name.HeaderName.TheVariants.{Address, TrackSector, TrackSectorSide}
 use Rattle.flux_base.specs.declared.track.TrackId.{TrackId}
 use Rattle.sector_report.specs.DumpLines.{dump_name, name_text, other_text, passed_text, unread_text}
 use Rattle.sector_report.specs.LineLaws.{LineFits}
-use Rattle.sector_report.specs.Lines.{fault_text, named_text, place_text, sector_name, two_digits, verdict_text}
+use Rattle.sector_report.specs.Lines.{fault_text, named_text, place_text, sector_name, total_text, two_digits, verdict_text}
+use Rattle.kryo_stream.specs.declared.fault.StreamFault.{StreamFault}
 use Rattle.sector_report.specs.declared.dump_lines.Passed.{Passed}
 use Rattle.sector_report.specs.declared.dump_lines.Passed.TheVariants.{Absent, Refused}
 use Rattle.sector_report.specs.declared.naming.Naming.{Naming}
+use Rattle.sector_report.specs.declared.totals.Totals.{Totals}
 use Rattle.turn_merge.specs.declared.others.OtherTold.{OtherTold}
 use Rattle.turn_merge.specs.declared.verdict.Verdict.{Verdict}
+
+-- the text is that of no stream's line that was passed over
+abbrev pub IsNoPassed : List ℕ → Type 0
+IsNoPassed text = (track : TrackId) (dump : ℕ) (why : Passed) → passed_text track dump why ≢ text
 
 -- the text is that of no sector's line whose numbers fit
 abbrev pub IsNoSector : List ℕ → Type 0
@@ -32,9 +39,12 @@ is_blank byte = byte == 32
 abbrev IsWord : List ℕ → Type 0
 IsWord text = All (λ (byte : ℕ). is_blank byte ≡ false) text
 
--- what stands between the first blank and the second one
+-- what stands between the blanks, and between the first one and the second one
+abbrev words : List ℕ → List (List ℕ)
+words text = slice_split is_blank text
+
 abbrev second_word : List ℕ → List ℕ
-second_word text = get_or (slice_split is_blank text) 1 []
+second_word text = get_or (words text) 1 []
 
 digit_no_blank : (b : Bool) (m : ℕ) → is_blank (if b then 48 + m else 87 + m) ≡ false
 digit_no_blank true m = ne_eqb (48 + m) 32 (λ same. omega (arith, same))
@@ -70,6 +80,20 @@ word-point = word-cons 46 [] refl word-end
 word-dump : IsWord (codes "dump")
 word-dump = word-cons 100 (codes "ump") refl (word-cons 117 (codes "mp") refl (word-cons 109 (codes "p") refl (word-cons 112 [] refl word-end)))
 
+word-refused : IsWord (codes "refused")
+word-refused =
+    word-cons 114 (codes "efused") refl (word-cons 101 (codes "fused") refl (word-cons 102 (codes "used") refl
+    (word-cons 117 (codes "sed") refl (word-cons 115 (codes "ed") refl (word-cons 101 (codes "d") refl (word-cons 100 [] refl word-end))))))
+
+word-unread : IsWord (codes "unread")
+word-unread =
+    word-cons 117 (codes "nread") refl (word-cons 110 (codes "read") refl (word-cons 114 (codes "ead") refl
+    (word-cons 101 (codes "ad") refl (word-cons 97 (codes "d") refl (word-cons 100 [] refl word-end)))))
+
+word-total : IsWord (codes "total")
+word-total =
+    word-cons 116 (codes "otal") refl (word-cons 111 (codes "tal") refl (word-cons 116 (codes "al") refl (word-cons 97 (codes "l") refl (word-cons 108 [] refl word-end))))
+
 word-other : IsWord (codes "other")
 word-other =
     word-cons 111 (codes "ther") refl (word-cons 116 (codes "her") refl (word-cons 104 (codes "er") refl (word-cons 101 (codes "r") refl (word-cons 114 [] refl word-end))))
@@ -87,12 +111,14 @@ word-name track =
     word-append (two_digits track.cylinder ++ codes ".") (decimal track.head)
     (word-append (two_digits track.cylinder) (codes ".") (word-two track.cylinder) word-point) (word-decimal track.head)
 
--- the word behind it
+-- a word, and those behind its blank
+next : (word rest : List ℕ) → IsWord word → words (word ++ 32 ∷ rest) ≡ word ∷ words rest
+next word rest is = slice_split_at is_blank word 32 rest is refl
+
+-- the word behind the name
 behind_name : (track : TrackId) (word rest : List ℕ) → IsWord word → second_word (name_of track ++ 32 ∷ (word ++ 32 ∷ rest)) ≡ word
 behind_name track word rest is =
-    ap (λ (ws : List (List ℕ)). get_or ws 1 [])
-    (slice_split_at is_blank (name_of track) 32 (word ++ 32 ∷ rest) (word-name track) refl
-    ∙ ap (λ (ws : List (List ℕ)). name_of track ∷ ws) (slice_split_at is_blank word 32 rest is refl))
+    ap (λ (ws : List (List ℕ)). get_or ws 1 []) (next (name_of track) (word ++ 32 ∷ rest) (word-name track) ∙ ap (λ (ws : List (List ℕ)). name_of track ∷ ws) (next word rest is))
 
 -- of a sector's line it is the sector's number
 sector_shape : (c h s v : List ℕ) → ((c ++ codes "." ++ h ++ codes " " ++ s ++ codes " ") ++ v) ++ codes "\n" ≡ (c ++ codes "." ++ h) ++ 32 ∷ (s ++ 32 ∷ (v ++ codes "\n"))
@@ -128,31 +154,89 @@ other_word word text is high naming track sector verdict fits same =
     let low : sector % 10 < 10 = mod-lt sector (lit< tt) in
     omega (arith, high, digit, low)
 
--- a stream that was passed over
-dump_shape : (c h d rest : List ℕ) → (c ++ codes "." ++ h ++ codes " dump " ++ d ++ codes " ") ++ rest ≡ (c ++ codes "." ++ h) ++ 32 ∷ (codes "dump" ++ 32 ∷ (d ++ codes " " ++ rest))
+-- a stream that was passed over: its track, its dump and the reason
+dump_shape : (c h d rest : List ℕ) → (c ++ codes "." ++ h ++ codes " dump " ++ d ++ codes " ") ++ rest ≡ (c ++ codes "." ++ h) ++ 32 ∷ (codes "dump" ++ 32 ∷ (d ++ 32 ∷ rest))
 dump_shape c h d rest = simp append_assoc
 
-dump_second : (track : TrackId) (dump : ℕ) (rest : List ℕ) → second_word (dump_name track dump ++ rest) ≡ codes "dump"
+dump_words : (track : TrackId) (dump : ℕ) (rest : List ℕ) → words (dump_name track dump ++ rest) ≡ name_of track ∷ codes "dump" ∷ decimal dump ∷ words rest
 unfolding dump_name
-dump_second track dump rest =
-    ap second_word (dump_shape (two_digits track.cylinder) (decimal track.head) (decimal dump) rest)
-    ∙ behind_name track (codes "dump") (decimal dump ++ codes " " ++ rest) word-dump
+dump_words track dump rest =
+    ap words (dump_shape (two_digits track.cylinder) (decimal track.head) (decimal dump) rest)
+    ∙ next (name_of track) (codes "dump" ++ 32 ∷ (decimal dump ++ 32 ∷ rest)) (word-name track)
+    ∙ ap (λ (ws : List (List ℕ)). name_of track ∷ ws) (next (codes "dump") (decimal dump ++ 32 ∷ rest) word-dump)
+    ∙ ap (λ (ws : List (List ℕ)). name_of track ∷ codes "dump" ∷ ws) (next (decimal dump) rest (word-decimal dump))
 
 absent_shape : (name : List ℕ) → (name ++ codes "missing") ++ codes "\n" ≡ name ++ codes "missing\n"
 absent_shape name = simp append_assoc
 
 refused_shape : (name block fault : List ℕ)
-    → (((name ++ (codes "refused block " ++ block)) ++ codes " ") ++ fault) ++ codes "\n" ≡ name ++ (codes "refused block " ++ block ++ codes " " ++ fault ++ codes "\n")
+    → (((name ++ (codes "refused block " ++ block)) ++ codes " ") ++ fault) ++ codes "\n" ≡ name ++ (codes "refused" ++ 32 ∷ (codes "block " ++ block ++ codes " " ++ fault ++ codes "\n"))
 refused_shape name block fault = simp append_assoc
 
-pub passed_no_sector : (track : TrackId) (dump : ℕ) (why : Passed) → IsNoSector (passed_text track dump why)
+-- the first word of the reason
+abbrev reason_word : Passed → List ℕ
+reason_word Absent = codes "missing\n"
+reason_word (Refused block fault) = codes "refused"
+
+pub passed_words : (track : TrackId) (dump : ℕ) (why : Passed)
+    → (rest : List (List ℕ)) × (words (passed_text track dump why) ≡ name_of track ∷ codes "dump" ∷ decimal dump ∷ reason_word why ∷ rest)
 unfolding passed_text
-passed_no_sector track dump Absent =
-    other_word (codes "dump") (passed_text track dump Absent) (ap second_word (absent_shape (dump_name track dump)) ∙ dump_second track dump (codes "missing\n")) (lit< tt)
-passed_no_sector track dump (Refused block fault) =
-    other_word (codes "dump") (passed_text track dump (Refused block fault))
-    (ap second_word (refused_shape (dump_name track dump) (decimal block) (fault_text fault))
-    ∙ dump_second track dump (codes "refused block " ++ decimal block ++ codes " " ++ fault_text fault ++ codes "\n")) (lit< tt)
+passed_words track dump Absent = ([], ap words (absent_shape (dump_name track dump)) ∙ dump_words track dump (codes "missing\n"))
+passed_words track dump (Refused block fault) =
+    let rest : List ℕ = codes "block " ++ decimal block ++ codes " " ++ fault_text fault ++ codes "\n" in (
+      words rest,
+      ap words (refused_shape (dump_name track dump) (decimal block) (fault_text fault))
+          ∙ dump_words track dump (codes "refused" ++ 32 ∷ rest)
+          ∙ ap (λ (ws : List (List ℕ)). name_of track ∷ codes "dump" ∷ decimal dump ∷ ws) (next (codes "refused") rest word-refused),
+    )
+
+-- lines of one text tell one track and one dump
+pub absent_same : (track other : TrackId) (dump another : ℕ) (why reason : Passed) → passed_text track dump why ≡ passed_text other another reason
+    → passed_text track dump Absent ≡ passed_text other another Absent
+unfolding dump_name passed_text
+absent_same track other dump another why reason same =
+    let all = sym (passed_words track dump why).1 ∙ ap words same ∙ (passed_words other another reason).1 in
+    let names : name_of track ≡ name_of other = ap (λ (ws : List (List ℕ)). get_or ws 0 []) all in
+    let dumps : decimal dump ≡ decimal another = ap (λ (ws : List (List ℕ)). get_or ws 2 []) all in
+    ap (λ (name : List ℕ). name ++ codes " dump " ++ decimal dump ++ codes " " ++ codes "missing" ++ codes "\n") names
+    ∙ ap (λ (d : List ℕ). name_of other ++ codes " dump " ++ d ++ codes " " ++ codes "missing" ++ codes "\n") dumps
+
+passed_second : (track : TrackId) (dump : ℕ) (why : Passed) → second_word (passed_text track dump why) ≡ codes "dump"
+passed_second track dump why = ap (λ (ws : List (List ℕ)). get_or ws 1 []) (passed_words track dump why).1
+
+pub passed_no_sector : (track : TrackId) (dump : ℕ) (why : Passed) → IsNoSector (passed_text track dump why)
+passed_no_sector track dump why = other_word (codes "dump") (passed_text track dump why) (passed_second track dump why) (lit< tt)
+
+-- what has another word there is none
+other_than_dump : (text : List ℕ) (byte : ℕ) → last_of (second_word text) ≡ byte → (byte < 112) ⊎ (112 < byte) → IsNoPassed text
+other_than_dump text byte is other track dump why same =
+    by (sym (ap last_of (passed_second track dump why)) ∙ ap (λ (t : List ℕ). last_of (second_word t)) same ∙ is) other
+  where
+    by : 112 ≡ byte → (byte < 112) ⊎ (112 < byte) → ⊥
+    by here (inl low) = omega (arith, here, low)
+    by here (inr high) = omega (arith, here, high)
+
+pub sector_no_passed : (naming : Naming) (track : TrackId) (sector : ℕ) (verdict : Verdict) → IsNoPassed (named_text naming track sector verdict)
+sector_no_passed naming track sector verdict =
+    let low : sector % 10 < 10 = mod-lt sector (lit< tt) in
+    other_than_dump (named_text naming track sector verdict) (48 + sector % 10)
+    (ap last_of (sector_second naming track sector verdict) ∙ last_digit sector) (inl (omega (arith, low)))
+
+-- a missing stream's line is no refused one's
+refused_no_missing : (track : TrackId) (dump block : ℕ) (fault : StreamFault) (other : TrackId) (another : ℕ)
+    → passed_text track dump (Refused block fault) ≢ passed_text other another Absent
+refused_no_missing track dump block fault other another same =
+    let first : codes "refused" ≡ codes "missing\n" =
+    sym (ap (λ (ws : List (List ℕ)). get_or ws 3 []) (passed_words track dump (Refused block fault)).1)
+    ∙ ap (λ (text : List ℕ). get_or (words text) 3 []) same
+    ∙ ap (λ (ws : List (List ℕ)). get_or ws 3 []) (passed_words other another Absent).1 in
+    let sizes : 7 ≡ 8 = ap (λ (word : List ℕ). length word) first in
+    omega (arith, sizes)
+
+pub missing_is_missing : (track : TrackId) (dump : ℕ) (why : Passed) (other : TrackId) (another : ℕ)
+    → passed_text track dump why ≡ passed_text other another Absent → why ≡ Absent
+missing_is_missing track dump Absent other another same = refl
+missing_is_missing track dump (Refused block fault) other another same = absurd (refused_no_missing track dump block fault other another same)
 
 -- a name of others
 behind_blank : (name : HeaderName) → (rest : List ℕ) × (name_text name ≡ 32 ∷ rest)
@@ -170,18 +254,23 @@ rest_shape : (front name blank headers more whole place end : List ℕ)
     → front ++ name ++ blank ++ headers ++ more ++ whole ++ place ++ end ≡ front ++ (name ++ (blank ++ headers ++ more ++ whole ++ place ++ end))
 rest_shape front name blank headers more whole place end = simp append_assoc
 
-pub other_no_sector : (naming : Naming) (track : TrackId) (told : OtherTold) → IsNoSector (other_text naming track told)
+other_second : (naming : Naming) (track : TrackId) (told : OtherTold) → second_word (other_text naming track told) ≡ codes "other"
 unfolding other_text
-other_no_sector naming track told =
+other_second naming track told =
     let name = behind_blank told.name in
     let front : List ℕ = two_digits track.cylinder ++ codes "." ++ decimal track.head ++ codes " other" in
     let rest : List ℕ = codes " " ++ decimal told.headers ++ codes " " ++ decimal told.whole ++ place_text naming told.first ++ codes "\n" in
-    other_word (codes "other") (other_text naming track told)
-    (ap second_word
+    ap second_word
     (rest_shape front (name_text told.name) (codes " ") (decimal told.headers) (codes " ") (decimal told.whole) (place_text naming told.first) (codes "\n")
     ∙ ap (λ (text : List ℕ). front ++ (text ++ rest)) name.1
     ∙ other_shape (two_digits track.cylinder) (decimal track.head) name.0 rest)
-    ∙ behind_name track (codes "other") (name.0 ++ rest) word-other) (lit< tt)
+    ∙ behind_name track (codes "other") (name.0 ++ rest) word-other
+
+pub other_no_sector : (naming : Naming) (track : TrackId) (told : OtherTold) → IsNoSector (other_text naming track told)
+other_no_sector naming track told = other_word (codes "other") (other_text naming track told) (other_second naming track told) (lit< tt)
+
+pub other_no_passed : (naming : Naming) (track : TrackId) (told : OtherTold) → IsNoPassed (other_text naming track told)
+other_no_passed naming track told = other_than_dump (other_text naming track told) 114 (ap last_of (other_second naming track told)) (inr (lit< tt))
 
 -- a sector's line begins with a digit
 two-is : (n : ℕ) → n < 100 → two_digits n ≡ (48 + n / 10) ∷ (48 + n % 10) ∷ []
@@ -221,3 +310,67 @@ unread_no_sector unread others whole =
 -- and what is no line at all
 pub end_no_sector : IsNoSector (10 ∷ [])
 end_no_sector = other_first (10 ∷ []) 10 refl (inl (lit< tt))
+
+-- a number is written in digits
+digit_low : (n : ℕ) → digit_glyph false (n % 10) < 58
+digit_low n =
+    let low : n % 10 < 10 = mod-lt n (lit< tt) in
+    rw (lt-ltb (n % 10) 10 low) (omega (arith, low))
+
+abbrev AreLow : List ℕ → Type 0
+AreLow text = All (λ (byte : ℕ). byte < 58) text
+
+low-if : (b : Bool) (xs ys : List ℕ) → AreLow xs → AreLow ys → AreLow (if b then xs else ys)
+low-if true xs ys first second = first
+low-if false xs ys first second = second
+
+low-digits : (k n : ℕ) (acc : List ℕ) → AreLow acc → AreLow (digits_onto k 10 false n acc)
+low-digits zero n acc low = low
+low-digits (suc k) n acc low =
+    let glyph : ℕ = digit_glyph false (n % 10) in
+    let here : AreLow (glyph ∷ acc) = All-cons (λ (byte : ℕ). byte < 58) glyph acc (digit_low n) low in
+    low-if (n / 10 == 0) (glyph ∷ acc) (digits_onto k 10 false (n / 10) (glyph ∷ acc)) here (low-digits k (n / 10) (glyph ∷ acc) here)
+
+low-decimal : (n : ℕ) → AreLow (decimal n)
+unfolding digits
+low-decimal n = low-digits 64 n [] (All-nil (λ (byte : ℕ). byte < 58))
+
+low_last : (text : List ℕ) → AreLow text → last_of text < 58
+low_last [] low = lit< tt
+low_last (byte ∷ rest) low =
+    let last : length (byte ∷ rest) - 1 < length (byte ∷ rest) = omega arith in
+    All-get_or (λ (b : ℕ). b < 58) (byte ∷ rest) (length (byte ∷ rest) - 1) 0 last low
+
+-- so a line whose second word is a number is none of a stream
+number_no_passed : (word rest : List ℕ) (number : ℕ) (text : List ℕ) → IsWord word → text ≡ word ++ 32 ∷ (decimal number ++ 32 ∷ rest) → IsNoPassed text
+number_no_passed word rest number text is same =
+    let low = low_last (decimal number) (low-decimal number) in
+    let second : second_word text ≡ decimal number =
+    ap second_word same
+    ∙ ap (λ (ws : List (List ℕ)). get_or ws 1 []) (next word (decimal number ++ 32 ∷ rest) is ∙ ap (λ (ws : List (List ℕ)). word ∷ ws) (next (decimal number) rest (word-decimal number))) in
+    other_than_dump text (last_of (decimal number)) (ap last_of second) (inl (omega (arith, low)))
+
+unread_shape : (u o w : List ℕ) → codes "unread " ++ u ++ codes " other " ++ o ++ codes " whole " ++ w ++ codes "\n" ≡ codes "unread" ++ 32 ∷ (u ++ 32 ∷ (codes "other " ++ o ++ codes " whole " ++ w ++ codes "\n"))
+unread_shape u o w = simp append_assoc
+
+pub unread_no_passed : (unread others whole : ℕ) → IsNoPassed (unread_text unread others whole)
+unfolding unread_text
+unread_no_passed unread others whole =
+    number_no_passed (codes "unread") (codes "other " ++ decimal others ++ codes " whole " ++ decimal whole ++ codes "\n") unread (unread_text unread others whole) word-unread
+    (unread_shape (decimal unread) (decimal others) (decimal whole))
+
+total_shape : (s g b m c : List ℕ)
+    → codes "total " ++ s ++ codes " good " ++ g ++ codes " bad " ++ b ++ codes " missing " ++ m ++ codes " contradictory " ++ c ++ codes "\n"
+    ≡ codes "total" ++ 32 ∷ (s ++ 32 ∷ (codes "good " ++ g ++ codes " bad " ++ b ++ codes " missing " ++ m ++ codes " contradictory " ++ c ++ codes "\n"))
+total_shape s g b m c = simp append_assoc
+
+pub total_no_passed : (totals : Totals) → IsNoPassed (total_text totals)
+unfolding total_text
+total_no_passed totals =
+    number_no_passed (codes "total")
+    (codes "good " ++ decimal totals.good ++ codes " bad " ++ decimal totals.bad ++ codes " missing " ++ decimal totals.missing ++ codes " contradictory " ++ decimal totals.contradictory ++ codes "\n")
+    totals.sectors (total_text totals) word-total
+    (total_shape (decimal totals.sectors) (decimal totals.good) (decimal totals.bad) (decimal totals.missing) (decimal totals.contradictory))
+
+pub end_no_passed : IsNoPassed (10 ∷ [])
+end_no_passed = other_than_dump (10 ∷ []) 0 refl (inl (lit< tt))

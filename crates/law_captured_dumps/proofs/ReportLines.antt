@@ -1,8 +1,9 @@
 -- The lines of the tracks in a report of dumps, one behind another: which of them are those of sectors, and at which numbers these stand.
-use Rattle.std.specs.Prelude.{◌≡◌, ◌≤◌, ◌<◌, ◌⊎◌, ℕ, zero, suc, ◌+◌, ◌-◌, List, [], ◌∷◌, ◌++◌, drop, flat_map, get_or, length, sum_by, take, Some, refl}
+use Rattle.std.specs.Prelude.{◌≡◌, ◌≤◌, ◌<◌, ◌⊎◌, ℕ, zero, suc, ◌+◌, ◌-◌, List, [], ◌∷◌, ◌++◌, drop, flat_map, get_or, length, sum_by, take, Option, None, Some, refl}
 use Rattle.std.specs.List.{range_with_len}
 use Rattle.std.proofs.Common.{ap, sym, subst, ◌∙◌, arith, append-nil, append_assoc, inl, inr}
 use Rattle.std.proofs.Math.Seq.{take-suc}
+use Rattle.std.proofs.lemmas.Bool.{cases_lt}
 use Rattle.std.proofs.lemmas.List.Concat.{flat_map-append}
 use Rattle.std.proofs.lemmas.List.Sums.{sum_by_push}
 use Rattle.dump_reading.specs.Outcomes.{DumpDisk, DumpsRead, IsDumpsRead, numbers_of, plan_of}
@@ -15,16 +16,18 @@ use Rattle.flux_engine.specs.Recordings.{sectors_of, track_at}
 use Rattle.flux_engine.specs.Rules.{RulesAreRead}
 use Rattle.flux_engine.specs.Tracks.{TrackPart, line_by, lines_by}
 use Rattle.flux_engine.specs.declared.gathered_track.PassedStream.{PassedStream}
+use Rattle.flux_engine.specs.lemmas.Each.{Each, each-append}
 use Rattle.flux_engine.specs.lemmas.LineNumbers.{Skips, skips-append, skips-lines}
 use Rattle.flux_engine.specs.lemmas.OneParts.{one_others_to}
 use Rattle.flux_engine.specs.lemmas.PartLaws.{lines_split}
 use Rattle.flux_engine.specs.lemmas.Pieces.{pieces-at, range-more}
 use Rattle.law_captured_disks.specs.Headline.{IsSectorOf}
 use Rattle.sector_images.specs.Formats.{row}
-use Rattle.sector_images.specs.Places.{IsSector}
+use Rattle.sector_images.specs.Places.{IsSector, tracks}
 use Rattle.sector_images.specs.declared.format.Format.{Format}
-use Rattle.sector_report.specs.DumpLines.{DumpsHaveLines, other_text}
+use Rattle.sector_report.specs.DumpLines.{DumpsHaveLines, other_text, passed_text}
 use Rattle.sector_report.specs.LineLaws.{IsOneLine, SectorsHaveOneLine}
+use Rattle.sector_report.specs.declared.dump_lines.Passed.{Passed}
 use Rattle.sector_report.specs.declared.naming.Naming.TheVariants.{ByCaptureAndClock}
 use Rattle.track_shelf.specs.Files.{File}
 use Rattle.turn_merge.specs.Others.{NotedOther, others_over}
@@ -32,8 +35,8 @@ use Rattle.turn_merge.specs.Readings.{NotedReading, verdict}
 use Rattle.turn_merge.specs.declared.others.OtherTold.{OtherTold}
 use Rattle.law_captured_dumps.specs.Said.{streams_on}
 use Rattle.law_captured_dumps.specs.Told.{line_number, lines_on, passed_on}
-use Rattle.law_captured_dumps.proofs.Lines.{Tells, has_line, tells-append, tells-each, tells-map, tells-nil, tells-range}
-use Rattle.law_captured_dumps.proofs.OtherLines.{IsNoSector, other_no_sector, passed_no_sector}
+use Rattle.law_captured_dumps.proofs.Lines.{Tells, each-all, has_line, tells-append, tells-each, tells-map, tells-nil, tells-range}
+use Rattle.law_captured_dumps.proofs.OtherLines.{IsNoPassed, IsNoSector, other_no_passed, other_no_sector, passed_no_sector}
 use Rattle.law_captured_dumps.proofs.Streams.{no_part, same_stream}
 
 -- what the crates below promise
@@ -58,12 +61,54 @@ pub record IsOnDisk (format : Format) (many : ℕ) (before : ℕ → ℕ) (line_
   pub line_is : line ≡ line_of n low sector
   pub number_is : number ≡ before n + (sector - (row format).first_sector)
 
+-- the line is that of a dump's stream of a track of the disk, which is passed over for this reason
+pub record IsPassed (disk : DumpDisk) (files : List File) (line : List ℕ) : Type 0 where
+  pub n : ℕ
+  pub low : n < length (tracks disk.format)
+  pub dump : ℕ
+  pub few : dump < length disk.dumps
+  pub why : Passed
+  pub is : (streams_on disk files n dump).passed ≡ Some why
+  pub line_is : line ≡ passed_text (track_at disk.format n) dump why
+
+-- the line is no sector's, and is that of such a stream, or has not the text of one
+abbrev pub IsBeside : DumpDisk → List File → List ℕ → Type 0
+IsBeside disk files line = IsNoSector line × (IsPassed disk files line ⊎ IsNoPassed line)
+
 -- streams that are the same are passed over alike
 passed-same : (a b : Streams) (n count : ℕ) → ((q : ℕ) → q < count → a n q ≡ b n q) → (k : ℕ) → k ≤ count → passed_to a n k ≡ passed_to b n k
 passed-same a b n count same zero low = refl
 passed-same a b n count same (suc k) low =
     ap (λ (ps : List PassedStream). ps ++ passed_one k (a n k).passed) (passed-same a b n count same k (omega (arith, low)))
     ∙ ap (λ (s : Seen). passed_to b n k ++ passed_one k s.passed) (same k (omega (arith, low)))
+
+-- a stream that is passed over is among those of its track that are
+record IsAmong (streams : Streams) (n k dump : ℕ) (why : Passed) : Type 0 where
+  before : List PassedStream
+  after : List PassedStream
+  is : passed_to streams n k ≡ before ++ (record { capture = dump; why = why } ∷ after)
+
+among : (streams : Streams) (n k dump : ℕ) (why : Passed) → dump < k → (streams n dump).passed ≡ Some why → IsAmong streams n k dump why
+among streams n zero dump why low passed = absurd (omega (arith, low))
+among streams n (suc k) dump why low passed =
+    elim (cases_lt dump k) [
+      | inl earlier ↦
+          let rest = among streams n k dump why earlier passed in
+          record {
+            before = rest.before;
+            after = rest.after ++ passed_one k (streams n k).passed;
+            is =
+                ap (λ (ps : List PassedStream). ps ++ passed_one k (streams n k).passed) rest.is
+                ∙ append_assoc rest.before (record { capture = dump; why = why } ∷ rest.after) (passed_one k (streams n k).passed);
+          }
+      | inr past ↦
+          let same : k ≡ dump = omega (arith, low, past) in
+          record {
+            before = passed_to streams n k;
+            after = [];
+            is = ap (λ (q : ℕ). passed_to streams n k ++ passed_one q (streams n q).passed) same ∙ ap (λ (p : Option Passed). passed_to streams n k ++ passed_one dump p) passed;
+          }
+    ]
 
 -- a line in the middle of a track's lines
 line_in : (front passed earlier line later others rest end : List ℕ)
@@ -139,17 +184,39 @@ module _ (laws : Laws) (disk : DumpDisk) (files : List File) (o : DumpsRead) (is
     one_line sector = laws.one ByCaptureAndClock (track_at format n) sector (verdict readings sector)
 
     abbrev OnTrack : ℕ → List ℕ → Type 0
-    OnTrack number line = IsOnTrack format n (length streams_passed) sector_line number line ⊎ IsNoSector line
+    OnTrack number line = IsOnTrack format n (length streams_passed) sector_line number line ⊎ IsBeside disk files line
 
-    passed_tell : Tells (λ number line. IsNoSector line) passed (length streams_passed)
+    abbrev PassedHere : PassedStream → Type 0
+    PassedHere s = IsBeside disk files (passed_line_of (track_at format n) s)
+
+    passed_here : (k : ℕ) → k < length disk.dumps → (why : Option Passed) → (streams_on disk files n k).passed ≡ why → Each PassedHere (passed_one k why)
+    passed_here k few None is_passed = tt
+    passed_here k few (Some why) is_passed = (
+      (
+        passed_no_sector (track_at format n) k why,
+        inl (record { n = n; low = omega (arith, low, is.all.many); dump = k; few = few; why = why; is = is_passed; line_is = refl }),
+      ),
+      tt,
+    )
+
+    each_passed : (k : ℕ) → k ≤ length disk.dumps → Each PassedHere (passed_to came n k)
+    each_passed zero few = tt
+    each_passed (suc k) few =
+        let within : k < length disk.dumps = omega (arith, few) in
+        each-append PassedHere (passed_to came n k) (passed_one k (came n k).passed) (each_passed k (omega (arith, few)))
+        (passed_here k within (came n k).passed (ap (λ (s : Seen). s.passed) (sym (same_stream read_part disk files is.streams is.parts is.all.read n k low within))))
+
+    passed_tell : Tells (λ number line. IsBeside disk files line) passed (length streams_passed)
     passed_tell =
-        tells-each IsNoSector (passed_line_of (track_at format n)) (λ (s : PassedStream). laws.dump_lines.passed (track_at format n) s.capture s.why)
-        (λ s. passed_no_sector (track_at format n) s.capture s.why) streams_passed
+        tells-each (IsBeside disk files) (passed_line_of (track_at format n)) (λ (s : PassedStream). laws.dump_lines.passed (track_at format n) s.capture s.why)
+        streams_passed (each_passed (length disk.dumps) (omega arith))
 
-    others_tell : Tells (λ number line. IsNoSector line) others (length told)
+    others_tell : Tells (λ number line. IsBeside disk files line) others (length told)
     others_tell =
-        tells-each IsNoSector (other_text ByCaptureAndClock (track_at format n)) (λ (t : OtherTold). laws.dump_lines.other ByCaptureAndClock (track_at format n) t)
-        (λ t. other_no_sector ByCaptureAndClock (track_at format n) t) told
+        tells-each (IsBeside disk files) (other_text ByCaptureAndClock (track_at format n))
+        (λ (t : OtherTold). laws.dump_lines.other ByCaptureAndClock (track_at format n) t) told
+        (each-all (λ (t : OtherTold). IsBeside disk files (other_text ByCaptureAndClock (track_at format n) t))
+        (λ t. (other_no_sector ByCaptureAndClock (track_at format n) t, inr (other_no_passed ByCaptureAndClock (track_at format n) t))) told)
 
     sectors_tell : Tells (λ m line. OnTrack (length streams_passed + m) line) sector_lines (count_of n)
     unfolding sector_lines
@@ -166,12 +233,12 @@ module _ (laws : Laws) (disk : DumpDisk) (files : List File) (o : DumpsRead) (is
         subst (λ (text : List ℕ). Tells OnTrack text (lines_on disk files is.others n)) (sym lines_are)
         (subst (Tells OnTrack (passed ++ (sector_lines ++ others))) lines_many
         (tells-append OnTrack passed (sector_lines ++ others) i (count_of n + length told)
-        (tells-map (λ m line. IsNoSector line) OnTrack passed i (λ m line below other. inr other) passed_tell)
+        (tells-map (λ m line. IsBeside disk files line) OnTrack passed i (λ m line below other. inr other) passed_tell)
         (tells-append behind sector_lines others (count_of n) (length told) sectors_tell
-        (tells-map (λ m line. IsNoSector line) (λ m line. behind (count_of n + m) line) others (length told) (λ m line below other. inr other) others_tell))))
+        (tells-map (λ m line. IsBeside disk files line) (λ m line. behind (count_of n + m) line) others (length told) (λ m line below other. inr other) others_tell))))
 
   abbrev pub OnDisk : ℕ → List ℕ → Type 0
-  OnDisk number line = IsOnDisk format (length is.parts) first_line sector_line number line ⊎ IsNoSector line
+  OnDisk number line = IsOnDisk format (length is.parts) first_line sector_line number line ⊎ IsBeside disk files line
 
   -- the line of a track, behind those of the tracks before
   on_disk : (n : ℕ) (low : n < length is.parts) (m : ℕ) (line : List ℕ) → OnTrack n low m line → OnDisk (lines_before n + m) line
@@ -235,3 +302,38 @@ module _ (laws : Laws) (disk : DumpDisk) (files : List File) (o : DumpsRead) (is
       (skips-append (passed n low) earlier (length (streams_passed n low)) i (passed_tell n low).skips (skips-lines (sector_line n low) (one_line n low) first i)) in
       has_line o.notes (front ++ (passed n low ++ earlier)) text (later ++ (others n low ++ (rest ++ end))) (line_number disk files is.others n sector) split
       (subst (Skips (front ++ (passed n low ++ earlier))) number skipped) (one_line n low sector)
+
+  -- and each stream that is passed over has its line
+  stream_in : (front earlier line later rest more end : List ℕ)
+      → (front ++ (((earlier ++ (line ++ later)) ++ rest) ++ more)) ++ end ≡ (front ++ earlier) ++ (line ++ (later ++ (rest ++ (more ++ end))))
+  stream_in front earlier line later rest more end = simp append_assoc
+
+  pub stream_has_line : (n : ℕ) (low : n < length is.parts) (dump : ℕ) (why : Passed) → dump < length disk.dumps → (streams_on disk files n dump).passed ≡ Some why
+      → (number : ℕ) × HasLine o.notes (passed_text (track_at format n) dump why) number
+  stream_has_line n low dump why few is_passed =
+      let same = same_stream read_part disk files is.streams is.parts is.all.read n dump low few in
+      let a = among came n (length disk.dumps) dump why few (ap (λ (s : Seen). s.passed) same ∙ is_passed) in
+      let line_of : PassedStream → List ℕ = passed_line_of (track_at format n) in
+      let text : List ℕ = passed_text (track_at format n) dump why in
+      let earlier : List ℕ = flat_map line_of a.before in
+      let later : List ℕ = flat_map line_of a.after in
+      let mine : passed n low ≡ earlier ++ (text ++ later) =
+      ap (flat_map line_of) a.is ∙ flat_map-append line_of a.before (record { capture = dump; why = why } ∷ a.after) in
+      let front : List ℕ = lines (take n is.parts) in
+      let more : List ℕ = lines (drop (suc n) is.parts) in
+      let rest : List ℕ = sector_lines n low ++ others n low in
+      let end : List ℕ = end_text (numbers_of is.streams is.parts is.others) in
+      let split : o.notes ≡ (front ++ earlier) ++ (text ++ (later ++ (rest ++ (more ++ end)))) =
+      ap (λ (d : DumpsRead). d.notes) is.is
+      ∙ ap (λ (t : List ℕ). t ++ end) (lines_split is.parts n low)
+      ∙ ap (λ (t : List ℕ). (front ++ (t ++ more)) ++ end) (lines_are n low)
+      ∙ ap (λ (t : List ℕ). (front ++ ((t ++ rest) ++ more)) ++ end) mine
+      ∙ stream_in front earlier text later rest more end in
+      let line : (s : PassedStream) → IsOneLine (line_of s) = λ s. laws.dump_lines.passed (track_at format n) s.capture s.why in
+      let before = tells-each (λ (l : List ℕ). Unit {0}) line_of line a.before (each-all (λ (s : PassedStream). Unit {0}) (λ s. tt) a.before) in
+      let skipped : Skips (front ++ earlier) (lines_before n + length a.before) =
+      skips-append front earlier (lines_before n) (length a.before) (front_tells n (omega (arith, low))).skips before.skips in (
+        lines_before n + length a.before,
+        has_line o.notes (front ++ earlier) text (later ++ (rest ++ (more ++ end))) (lines_before n + length a.before) split skipped
+            (laws.dump_lines.passed (track_at format n) dump why),
+      )

@@ -13,22 +13,25 @@ use Rattle.flux_engine.specs.PlanLaws.{ReadingsInPlansAreOne}
 use Rattle.flux_engine.specs.Plans.{AreCaptures, joined}
 use Rattle.flux_engine.specs.Recordings.{track_at}
 use Rattle.flux_engine.specs.Tracks.{TrackPart}
+use Rattle.flux_engine.specs.lemmas.TrackAt.{is_known_at}
 use Rattle.law_captured_disks.specs.Headline.{IsSectorOf}
 use Rattle.sector_images.specs.Places.{IsSector}
-use Rattle.sector_report.specs.DumpLines.{unread_text}
+use Rattle.sector_report.specs.DumpLines.{PassedLineFits, PassedLinesTell, passed_text, unread_text}
 use Rattle.sector_report.specs.LineLaws.{LineFits, SectorLinesTell, TotalsAreNoSectors, TotalsHaveOneLine, line_ends}
 use Rattle.sector_report.specs.Lines.{named_text, total_text}
+use Rattle.sector_report.specs.declared.dump_lines.Passed.{Passed}
+use Rattle.sector_report.specs.declared.dump_lines.Passed.TheVariants.{Absent}
 use Rattle.sector_report.specs.declared.naming.Naming.TheVariants.{ByCaptureAndClock}
 use Rattle.track_shelf.specs.Files.{File}
 use Rattle.turn_merge.specs.Readings.{NotedReading, verdict}
 use Rattle.turn_merge.specs.declared.verdict.Verdict.{Verdict}
 use Rattle.law_captured_dumps.specs.Said.{EachIsSaid, IsSaid, streams_on}
-use Rattle.law_captured_dumps.specs.Told.{IsTold, LinesTell, NoSectorIsToldTwice, ReportsHaveNoOtherLines, SectorsHaveTheirNumbers, line_number}
+use Rattle.law_captured_dumps.specs.Told.{IsPassedTold, IsTold, LinesTell, NoSectorIsToldTwice, PassedLinesAreTold, PassedStreamsAreSaid, ReportsHaveNoOtherLines, SectorsHaveTheirNumbers, line_number}
 use Rattle.law_captured_dumps.proofs.Bounds.{line_fits, Laws as BoundLaws}
 use Rattle.law_captured_dumps.proofs.Counts.{lines_counted}
 use Rattle.law_captured_dumps.proofs.Lines.{Tells, tells-append, tells-line}
-use Rattle.law_captured_dumps.proofs.OtherLines.{end_no_sector, unread_no_sector}
-use Rattle.law_captured_dumps.proofs.ReportLines.{IsOnDisk, OnDisk, first_line, front_tells, lines_before, sector_has_line, sector_line, Laws as LineLaws}
+use Rattle.law_captured_dumps.proofs.OtherLines.{absent_same, end_no_passed, end_no_sector, missing_is_missing, sector_no_passed, total_no_passed, unread_no_passed, unread_no_sector}
+use Rattle.law_captured_dumps.proofs.ReportLines.{IsOnDisk, IsPassed, OnDisk, first_line, front_tells, lines_before, sector_has_line, sector_line, stream_has_line, Laws as LineLaws}
 use Rattle.law_captured_dumps.proofs.Streams.{same_captures}
 use Rattle.law_captured_dumps.proofs.TrackNumbers.{one_number, Laws as TrackLaws}
 
@@ -38,6 +41,7 @@ pub record Laws : Type 0 where
   pub total_one : TotalsHaveOneLine
   pub tell : SectorLinesTell
   pub no_total : TotalsAreNoSectors
+  pub passed_tell : PassedLinesTell
   pub readings : ReadingsInPlansAreOne
   pub bounds : BoundLaws
   pub said : EachIsSaid
@@ -71,9 +75,9 @@ module _ (laws : Laws) (disk : DumpDisk) (files : List File) (o : DumpsRead) (is
       let total : List ℕ = total_text totals.sectors in
       tells-append (λ m line. Here (all + m) line) unread total 1 1
       (tells-line (λ m line. Here (all + m) line) unread (laws.lines.dump_lines.unread totals.unread totals.others totals.whole)
-      (inr (unread_no_sector totals.unread totals.others totals.whole)))
+      (inr (unread_no_sector totals.unread totals.others totals.whole, inr (unread_no_passed totals.unread totals.others totals.whole))))
       (tells-line (λ m line. Here (all + (1 + m)) line) total (laws.total_one totals.sectors)
-      (inr (λ naming track sector outcome fits. laws.no_total naming totals.sectors track sector outcome fits)))
+      (inr ((λ naming track sector outcome fits. laws.no_total naming totals.sectors track sector outcome fits), inr (total_no_passed totals.sectors))))
 
   notes_tell : Tells Here o.notes (all + 2)
   notes_tell =
@@ -81,6 +85,13 @@ module _ (laws : Laws) (disk : DumpDisk) (files : List File) (o : DumpsRead) (is
       (tells-append Here (lines is.parts) (end_text totals) all 2
       (subst (λ (ps : List TrackPart). Tells Here (lines ps) all) (take-length is.parts) (front_tells laws.lines disk files o is (length is.parts) (omega arith)))
       end_tells)
+
+  -- behind them nothing stands
+  nothing_behind : (number : ℕ) (front : List ℕ) → all + 2 ≤ number → slice_get (lines_in (o.notes ++ [])) number ≡ Some front → front ≡ []
+  nothing_behind number front past at =
+      let m : ℕ = number - (all + 2) in
+      let split : (all + 2) + m ≡ number = omega (arith, past) in
+      past-all m front (sym (notes_tell.skips.skips [] m) ∙ ap (slice_get (lines_in (o.notes ++ []))) split ∙ at)
 
   count : line_ends o.notes ≡ o.totals.unread + o.totals.sectors.sectors + o.totals.others + 2
   count =
@@ -138,7 +149,7 @@ module _ (laws : Laws) (disk : DumpDisk) (files : List File) (o : DumpsRead) (is
 
     told_there : Here number (h.front ++ 10 ∷ []) → IsTold disk files o is.others track sector outcome number
     told_there (inl s) = of_sector s
-    told_there (inr other) = absurd (other ByCaptureAndClock track sector outcome fits h.ends)
+    told_there (inr beside) = absurd (beside.0 ByCaptureAndClock track sector outcome fits h.ends)
 
     at_end : slice_get (lines_in (o.notes ++ [])) number ≡ Some h.front
     at_end = ap (λ (text : List ℕ). slice_get (lines_in text) number) (append-nil o.notes) ∙ h.there
@@ -148,11 +159,7 @@ module _ (laws : Laws) (disk : DumpDisk) (files : List File) (o : DumpsRead) (is
         elim (cases_lt number (all + 2)) [
           | inl low ↦ told_there (notes_tell.each [] number h.front low at_end)
           | inr past ↦
-              let m : ℕ = number - (all + 2) in
-              let split : (all + 2) + m ≡ number = omega (arith, past) in
-              let behind : slice_get (lines_in []) m ≡ Some h.front =
-              sym (notes_tell.skips.skips [] m) ∙ ap (slice_get (lines_in (o.notes ++ []))) split ∙ at_end in
-              absurd (end_no_sector ByCaptureAndClock track sector outcome fits (h.ends ∙ ap (λ (f : List ℕ). f ++ 10 ∷ []) (past-all m h.front behind)))
+              absurd (end_no_sector ByCaptureAndClock track sector outcome fits (h.ends ∙ ap (λ (f : List ℕ). f ++ 10 ∷ []) (nothing_behind number h.front past at_end)))
         ]
 
   -- two lines of one sector are one
@@ -173,6 +180,45 @@ module _ (laws : Laws) (disk : DumpDisk) (files : List File) (o : DumpsRead) (is
       first.number_is ∙ ap (λ (n : ℕ). line_number disk files is.others n sector) same_track ∙ sym second.number_is,
     )
 
+  -- the line of a stream that is passed over
+  module _ (most : length disk.dumps ≤ 16) (track : TrackId) (dump : ℕ) (why : Passed) (number : ℕ) (fits : PassedLineFits track dump why)
+      (h : HasLine o.notes (passed_text track dump why) number) where
+    of_stream : IsPassed disk files (h.front ++ 10 ∷ []) → IsPassedTold disk files track dump why
+    of_stream p =
+        let same : passed_text track dump why ≡ passed_text (track_at disk.format p.n) p.dump p.why = h.ends ∙ p.line_is in
+        let named = laws.bounds.numbers disk.format p.n p.low in
+        let bounds = laws.bounds.keep disk.format (track_at disk.format p.n) (is_known_at disk.format p.n named.0 named.1 named.2) in
+        let told = laws.passed_tell track (track_at disk.format p.n) dump p.dump Absent Absent
+        (record { cylinder_fits = fits.cylinder_fits; head_fits = fits.head_fits; dump_fits = fits.dump_fits; why_fits = tt })
+        (record { cylinder_fits = omega (arith, bounds.cylinder); head_fits = omega (arith, bounds.head); dump_fits = omega (arith, p.few, most); why_fits = tt })
+        (absent_same track (track_at disk.format p.n) dump p.dump why p.why same) in
+        record {
+          n = p.n;
+          low = p.low;
+          track_is = told.0;
+          few = subst (λ (q : ℕ). q < length disk.dumps) (sym told.1) p.few;
+          reason = p.why;
+          is = subst (λ (q : ℕ). (streams_on disk files p.n q).passed ≡ Some p.why) (sym told.1) p.is;
+          text =
+              ap (λ (id : TrackId). passed_text id dump p.why) told.0
+              ∙ ap (λ (q : ℕ). passed_text (track_at disk.format p.n) q p.why) told.1 ∙ sym same;
+          missing = λ absent. missing_is_missing (track_at disk.format p.n) p.dump p.why track dump (sym same ∙ ap (passed_text track dump) absent);
+        }
+
+    stream_there : Here number (h.front ++ 10 ∷ []) → IsPassedTold disk files track dump why
+    stream_there (inl s) =
+        absurd (sector_no_passed ByCaptureAndClock (track_at disk.format s.n) s.sector (verdict (joined (captures s.n s.low)) s.sector) track dump why (h.ends ∙ s.line_is))
+    stream_there (inr (beside, inl p)) = of_stream p
+    stream_there (inr (beside, inr other)) = absurd (other track dump why h.ends)
+
+    stream_told : IsPassedTold disk files track dump why
+    stream_told =
+        let at_end : slice_get (lines_in (o.notes ++ [])) number ≡ Some h.front = ap (λ (text : List ℕ). slice_get (lines_in text) number) (append-nil o.notes) ∙ h.there in
+        elim (cases_lt number (all + 2)) [
+          | inl low ↦ stream_there (notes_tell.each [] number h.front low at_end)
+          | inr past ↦ absurd (end_no_passed track dump why (h.ends ∙ ap (λ (f : List ℕ). f ++ 10 ∷ []) (nothing_behind number h.front past at_end)))
+        ]
+
 pub sectors_have_their_numbers : Laws → SectorsHaveTheirNumbers
 sectors_have_their_numbers laws disk files o is n sector one said = numbered laws disk files o is n sector one said
 
@@ -186,3 +232,10 @@ pub no_sector_is_told_twice : Laws → NoSectorIsToldTwice
 no_sector_is_told_twice laws disk files o is most track sector outcome other number another fits fits' h h' =
     once laws disk files o is most track sector outcome other number another (told laws disk files o is most track sector outcome number fits h)
     (told laws disk files o is most track sector other another fits' h')
+
+pub passed_streams_are_said : Laws → PassedStreamsAreSaid
+passed_streams_are_said laws disk files o is n dump why low few is_passed =
+    stream_has_line laws.lines disk files o is n (omega (arith, low, is.all.many)) dump why few is_passed
+
+pub passed_lines_are_told : Laws → PassedLinesAreTold
+passed_lines_are_told laws disk files o is most track dump why number fits h = stream_told laws disk files o is most track dump why number fits h

@@ -1,5 +1,5 @@
 -- What the lines of a report of dumps tell: which of them are those of sectors, at which number each stands, and how many there are.
-use Rattle.std.specs.Prelude.{◌≡◌, ◌≤◌, ℕ, ◌+◌, ◌-◌, List, [], get_or, length, sum_by, Some}
+use Rattle.std.specs.Prelude.{◌≡◌, ◌≤◌, ◌<◌, ℕ, ◌+◌, ◌-◌, List, [], get_or, length, sum_by, Some}
 use Rattle.std.specs.List.{range_with_len}
 use Rattle.dump_reading.specs.Outcomes.{DumpDisk, DumpsRead, IsDumpsRead}
 use Rattle.flux_base.specs.declared.track.TrackId.{TrackId}
@@ -8,8 +8,12 @@ use Rattle.flux_engine.specs.Plans.{joined, passed_to}
 use Rattle.flux_engine.specs.Recordings.{sectors_of, track_at}
 use Rattle.law_captured_disks.specs.Headline.{IsSectorOf}
 use Rattle.sector_images.specs.Formats.{row}
+use Rattle.sector_images.specs.Places.{tracks}
+use Rattle.sector_report.specs.DumpLines.{PassedLineFits, passed_text}
 use Rattle.sector_report.specs.LineLaws.{LineFits, line_ends}
 use Rattle.sector_report.specs.Lines.{named_text}
+use Rattle.sector_report.specs.declared.dump_lines.Passed.{Passed}
+use Rattle.sector_report.specs.declared.dump_lines.Passed.TheVariants.{Absent}
 use Rattle.sector_report.specs.declared.naming.Naming.TheVariants.{ByCaptureAndClock}
 use Rattle.track_shelf.specs.Files.{File}
 use Rattle.turn_merge.specs.Others.{NotedOther, others_over}
@@ -69,6 +73,34 @@ TellsOnce notes = (track : TrackId) (sector : ℕ) (outcome other : Verdict) (nu
 
 abbrev pub NoSectorIsToldTwice : Type 0
 NoSectorIsToldTwice = (disk : DumpDisk) (files : List File) (o : DumpsRead) → IsDumpsRead disk (Some files) o → length disk.dumps ≤ 16 → TellsOnce o.notes
+
+-- the report has a line for each stream that is passed over, with the reason
+abbrev pub ArePassedSaid : DumpDisk → List File → DumpsRead → Type 0
+ArePassedSaid disk files o = (n dump : ℕ) (why : Passed) → n < length (tracks disk.format) → dump < length disk.dumps → (streams_on disk files n dump).passed ≡ Some why
+    → (number : ℕ) × HasLine o.notes (passed_text (track_at disk.format n) dump why) number
+
+abbrev pub PassedStreamsAreSaid : Type 0
+PassedStreamsAreSaid = (disk : DumpDisk) (files : List File) (o : DumpsRead) → IsDumpsRead disk (Some files) o → ArePassedSaid disk files o
+
+-- The line is that of this dump's stream of a track of the disk, which is passed over, for a reason that is told by the same text. Where the
+-- line says that the file is missing, it is.
+pub record IsPassedTold (disk : DumpDisk) (files : List File) (track : TrackId) (dump : ℕ) (why : Passed) : Type 0 where
+  pub n : ℕ
+  pub low : n < length (tracks disk.format)
+  pub track_is : track ≡ track_at disk.format n
+  pub few : dump < length disk.dumps
+  pub reason : Passed
+  pub is : (streams_on disk files n dump).passed ≡ Some reason
+  pub text : passed_text track dump reason ≡ passed_text track dump why
+  pub missing : why ≡ Absent → reason ≡ Absent
+
+-- so it is with each line of a report that has the text of such a stream's line
+abbrev pub ArePassedTold : DumpDisk → List File → DumpsRead → Type 0
+ArePassedTold disk files o = (track : TrackId) (dump : ℕ) (why : Passed) (number : ℕ) → PassedLineFits track dump why
+    → HasLine o.notes (passed_text track dump why) number → IsPassedTold disk files track dump why
+
+abbrev pub PassedLinesAreTold : Type 0
+PassedLinesAreTold = (disk : DumpDisk) (files : List File) (o : DumpsRead) → IsDumpsRead disk (Some files) o → length disk.dumps ≤ 16 → ArePassedTold disk files o
 
 -- A report has a line for each stream that is passed over, one for each sector, one for each name of others that is told, and the two with
 -- the totals. It has no other.

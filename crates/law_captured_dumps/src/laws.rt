@@ -2,7 +2,7 @@
 
 ghost use Rattle.law_captured_dumps.specs.Headline.{CapturedDumpsAreNeverWrong, SteadyDumpsAreReadWell};
 ghost use Rattle.law_captured_dumps.specs.Said.{AllOfDumpsIsOne, DumpsAreOne, EachIsSaid, GoodStaysOrIsContradicted, SaidIsRight};
-ghost use Rattle.law_captured_dumps.specs.Told.{LinesTell, NoSectorIsToldTwice, ReportsHaveNoOtherLines, SectorsHaveTheirNumbers};
+ghost use Rattle.law_captured_dumps.specs.Told.{LinesTell, NoSectorIsToldTwice, PassedLinesAreTold, PassedStreamsAreSaid, ReportsHaveNoOtherLines, SectorsHaveTheirNumbers};
 
 use disk_recordings::{
     DiskRecording, headers_have_names, rewritten_tracks_are_read, rewritten_tracks_have_only_own,
@@ -53,11 +53,14 @@ pub fn dumps_say_each_sector()
 
 /// In the report each sector's line stands at its number: behind those of all tracks before its own, of the streams of its track that are
 /// passed over, and of the track's sectors of smaller numbers. Each line that has the text of a sector's line is that one, with the sector's
-/// verdict, so that no sector is told twice. There are as many lines as the numbers of the report say.
+/// verdict, so that no sector is told twice. Each stream that is passed over has its line too, and each line that has the text of such a
+/// stream's is one. There are as many lines as the numbers of the report say.
 pub fn dump_lines_tell()
     ensures numbered { SectorsHaveTheirNumbers }
     ensures told { LinesTell }
     ensures once { NoSectorIsToldTwice }
+    ensures passed { PassedStreamsAreSaid }
+    ensures passed_told { PassedLinesAreTold }
     ensures count { ReportsHaveNoOtherLines }
 {
     dumps_say_each_sector();

@@ -1,4 +1,4 @@
-use Rattle.law_captured_dumps.proofs.Told.{Laws, lines_tell, no_sector_is_told_twice, reports_have_no_other_lines, sectors_have_their_numbers}
+use Rattle.law_captured_dumps.proofs.Told.{Laws, lines_tell, no_sector_is_told_twice, passed_lines_are_told, passed_streams_are_said, reports_have_no_other_lines, sectors_have_their_numbers}
 use Rattle.law_captured_dumps.proofs.laws.dump_lines_tell.Goals as goal
 
 laws : (c : goal.After-tracks_fill_images) → Laws
@@ -11,6 +11,7 @@ laws c = record {
   total_one = c.totals_have_one_line.ensures;
   tell = c.sector_lines_tell.ensures.sectors;
   no_total = c.sector_lines_tell.ensures.totals;
+  passed_tell = c.dumps_have_lines.ensures.tell;
   readings = c.plans_are_right.ensures.readings;
   bounds = record {
     names = c.headers_have_names.ensures;
@@ -36,6 +37,12 @@ returns-clause-told c = lines_tell (laws c)
 
 pub returns-clause-once : goal.returns-clause-once
 returns-clause-once c = no_sector_is_told_twice (laws c)
+
+pub returns-clause-passed : goal.returns-clause-passed
+returns-clause-passed c = passed_streams_are_said (laws c)
+
+pub returns-clause-passed_told : goal.returns-clause-passed_told
+returns-clause-passed_told c = passed_lines_are_told (laws c)
 
 pub returns-clause-count : goal.returns-clause-count
 returns-clause-count c = reports_have_no_other_lines (laws c)
