@@ -8,7 +8,7 @@ use Rattle.flux_base.specs.declared.status.Status.{Status}
 use Rattle.flux_base.specs.declared.status.Status.TheVariants.{AllGood, NotAllGood, Refused, Usage, ReadFault, ImageFault, NotesFault, Memory, ShelfFault}
 use Rattle.law_captured_dumps.specs.Headline.{CapturedDumpsAreNeverWrong, SteadyDumpsAreReadWell}
 use Rattle.law_captured_dumps.specs.Said.{EachIsSaid, SaidIsRight}
-use Rattle.law_captured_dumps.specs.Told.{LinesTell, NoSectorIsToldTwice, ReportsHaveNoOtherLines, SectorsHaveTheirNumbers}
+use Rattle.law_captured_dumps.specs.Told.{LinesTell, NoSectorIsToldTwice, PassedLinesAreTold, PassedStreamsAreSaid, ReportsHaveNoOtherLines, SectorsHaveTheirNumbers}
 use Rattle.sector_images.specs.Formats.{IsWordOfFormat, WordsBeginWithLetters, WordsNameFormats}
 use Rattle.sector_images.specs.declared.format.Format.{Format}
 use Rattle.track_shelf.specs.Files.{File}
@@ -35,6 +35,8 @@ pub record DumpLaws : Type 0 where
   pub numbered : SectorsHaveTheirNumbers
   pub told : LinesTell
   pub once : NoSectorIsToldTwice
+  pub passed : PassedStreamsAreSaid
+  pub passed_told : PassedLinesAreTold
   pub count : ReportsHaveNoOtherLines
   pub whole : CapturedDumpsAreNeverWrong
   pub steady : SteadyDumpsAreReadWell
@@ -73,6 +75,8 @@ of_dumps laws disk files few d read = record {
   numbered = laws.numbered disk files d read;
   told = laws.told disk files d read few;
   once = laws.once disk files d read few;
+  passed = laws.passed disk files d read;
+  passed_told = laws.passed_told disk files d read few;
   count = laws.count disk files d read;
   whole = λ image is. laws.whole disk files image d is read;
   steady = λ image is. laws.steady disk files image d is read;
