@@ -188,18 +188,6 @@ pub const APPLE_PO: Disk = Disk {
     ..APPLE_DO
 };
 
-pub const IBM_160: Disk = Disk {
-    word: "ibm-160",
-    heads: 1,
-    ..IBM_320
-};
-
-pub const IBM_180: Disk = Disk {
-    word: "ibm-180",
-    heads: 1,
-    ..IBM_360
-};
-
 pub const IBM_320: Disk = Disk {
     word: "ibm-320",
     zones: Zones::One(CylinderZone {
@@ -233,24 +221,6 @@ pub const ATARI_ST_800: Disk = Disk {
     ..IBM_720
 };
 
-pub const CPC_DATA: Disk = Disk {
-    word: "cpc-data",
-    first_sector: 0xC1,
-    zones: Zones::One(CylinderZone {
-        sectors: 9,
-        place: 2528,
-        step: 10496,
-        ticks: 48,
-    }),
-    ..IBM_180
-};
-
-pub const CPC_SYSTEM: Disk = Disk {
-    word: "cpc-system",
-    first_sector: 0x41,
-    ..CPC_DATA
-};
-
 pub const ACORN_DFS_40: Disk = Disk {
     word: "acorn-dfs-40",
     cylinders: 40,
@@ -264,12 +234,6 @@ pub const ACORN_DFS_40: Disk = Disk {
         step: 4960,
         ticks: 96,
     }),
-};
-
-pub const ACORN_DFS_80: Disk = Disk {
-    word: "acorn-dfs-80",
-    cylinders: 80,
-    ..ACORN_DFS_40
 };
 
 /// One zero cell more stands in each sector.
