@@ -2,7 +2,7 @@
 
 ghost use Rattle.dump_identity.specs.Laws.{CompleteIsReadWhole, IdentitiesAreOne, NoFilesAreNoIdentity};
 
-use law_captured_dumps::dumps_are_one;
+use law_read_dumps::dumps_are_one;
 
 /// Where the best of all disks is complete, reading the dump with its words, by the clock that follows the drive alone, calls every
 /// sector good, and no other name has data.

@@ -7,8 +7,9 @@ use Rattle.dump_reading.specs.Totals.{is_complete}
 use Rattle.flux_base.specs.declared.status.Status.{Status}
 use Rattle.flux_base.specs.declared.status.Status.TheVariants.{AllGood, NotAllGood, Refused, Usage, ReadFault, ImageFault, NotesFault, Memory, ShelfFault}
 use Rattle.law_captured_dumps.specs.Headline.{CapturedDumpsAreNeverWrong, SteadyDumpsAreReadWell}
-use Rattle.law_captured_dumps.specs.Said.{EachIsSaid, SaidIsRight}
-use Rattle.law_captured_dumps.specs.Told.{LinesTell, NoSectorIsToldTwice, PassedLinesAreTold, PassedStreamsAreSaid, ReportsHaveNoOtherLines, SectorsHaveTheirNumbers}
+use Rattle.law_read_dumps.specs.Lines.{PassedStreamsAreSaid, ReportsHaveNoOtherLines, SectorsHaveTheirNumbers}
+use Rattle.law_read_dumps.specs.Said.{EachIsSaid, SaidIsRight}
+use Rattle.law_reported_dumps.specs.Told.{LinesTell, NoSectorIsToldTwice, PassedLinesAreTold}
 use Rattle.sector_images.specs.Formats.{IsWordOfFormat, WordsBeginWithLetters, WordsNameFormats}
 use Rattle.sector_images.specs.declared.format.Format.{Format}
 use Rattle.track_shelf.specs.Files.{File}

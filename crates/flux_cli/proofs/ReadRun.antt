@@ -8,7 +8,7 @@ use Rattle.dump_reading.specs.declared.fault.DumpsFault.{DumpsFault}
 use Rattle.dump_reading.specs.declared.fault.DumpsFault.TheVariants.{NoFiles, ShelfFault, ImageFault, NotesFault}
 use Rattle.dump_reading.specs.declared.totals.DumpTotals.{DumpTotals}
 use Rattle.flux_base.specs.declared.status.Status.{Status}
-use Rattle.law_captured_dumps.specs.Said.{AllOfDumpsIsOne}
+use Rattle.law_read_dumps.specs.Said.{AllOfDumpsIsOne}
 use Rattle.sector_images.specs.declared.format.Format.{Format}
 use Rattle.track_shelf.specs.Files.{File}
 use Rattle.flux_cli.proofs.EndingLaws.{IsEnd, either-ends}

@@ -10,8 +10,9 @@ use Rattle.flux_engine.specs.Rings.{IsImage}
 use Rattle.law_captured_disks.specs.Headline.{IsSectorOf}
 use Rattle.law_captured_dumps.specs.Headline.{IsReadRightly, IsReadWell}
 use Rattle.law_captured_dumps.specs.Inputs.{HasWhole, IsSteadyOrPassed}
-use Rattle.law_captured_dumps.specs.Said.{IsSaid, IsSaidRightly}
-use Rattle.law_captured_dumps.specs.Told.{ArePassedSaid, ArePassedTold, AreTold, HaveTheirNumbers, TellsOnce}
+use Rattle.law_read_dumps.specs.Lines.{ArePassedSaid, HaveTheirNumbers}
+use Rattle.law_read_dumps.specs.Said.{IsSaid, IsSaidRightly}
+use Rattle.law_reported_dumps.specs.Told.{ArePassedTold, AreTold, TellsOnce}
 use Rattle.sector_report.specs.LineLaws.{line_ends}
 use Rattle.track_shelf.specs.Files.{File}
 use Rattle.turn_merge.specs.Readings.{verdict}

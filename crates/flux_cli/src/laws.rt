@@ -31,7 +31,7 @@ pub fn outcomes_are_one()
 pub fn read_outcomes_are_one()
     ensures { (shown : Shown) (disk : DumpDisk) (files : List File) (a b : Outcome) → IsOutcomeOfDumps shown disk (Some files) a → IsOutcomeOfDumps shown disk (Some files) b → a ≡ b }
 {
-    law_captured_dumps::all_of_dumps_is_one()
+    law_read_dumps::all_of_dumps_is_one()
 }
 
 /// A dump and the files on the shelf decide the outcome of `identify`: there is one at most.

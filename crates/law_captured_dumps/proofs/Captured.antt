@@ -34,7 +34,7 @@ use Rattle.turn_merge.specs.declared.verdict.Verdict.{Verdict}
 use Rattle.turn_merge.specs.declared.verdict.Verdict.TheVariants.{Bad, Contradictory, Good, Missing}
 use Rattle.law_captured_dumps.specs.Headline.{CapturedDumpsAreNeverWrong, IsReadRightly, IsReadWell, SteadyDumpsAreReadWell}
 use Rattle.law_captured_dumps.specs.Inputs.{HasWhole, IsSteadyOrPassed}
-use Rattle.law_captured_dumps.specs.Said.{EachIsSaid, IsRightlyGood, IsSaid, IsSaidRightly, SaidIsRight, streams_on}
+use Rattle.law_read_dumps.specs.Said.{EachIsSaid, IsRightlyGood, IsSaid, IsSaidRightly, SaidIsRight, streams_on}
 use Rattle.law_captured_dumps.proofs.Owning.{HoldsOwn, Laws as OwnLaws, holds, mine, stands, tracks_written}
 
 -- what the crates below promise, and the laws before

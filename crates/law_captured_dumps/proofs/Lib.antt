@@ -1,11 +1,2 @@
-pub mod Streams
-pub mod Lines
-pub mod OtherLines
-pub mod ReportLines
-pub mod Counts
-pub mod Bounds
-pub mod TrackNumbers
-pub mod Told
-pub mod Said
 pub mod Owning
 pub mod Captured

@@ -36,7 +36,7 @@ use Rattle.track_shelf.specs.declared.stepping.Stepping.{Stepping}
 use Rattle.turn_merge.specs.declared.clock.Clock.{Clock}
 use Rattle.turn_merge.specs.declared.clock.Clock.TheVariants.{Following}
 use Rattle.law_captured_dumps.specs.Inputs.{Begins, Captures, CapturesInPart, HasWhole, IsPassedOver, IsSteadyOrPassed}
-use Rattle.law_captured_dumps.specs.Said.{streams_on}
+use Rattle.law_read_dumps.specs.Said.{streams_on}
 
 -- what the crates below promise
 pub record Laws : Type 0 where

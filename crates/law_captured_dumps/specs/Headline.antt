@@ -12,7 +12,7 @@ use Rattle.turn_merge.specs.Readings.{verdict}
 use Rattle.turn_merge.specs.declared.verdict.Place.{Place}
 use Rattle.turn_merge.specs.declared.verdict.Verdict.TheVariants.{Good}
 use Rattle.law_captured_dumps.specs.Inputs.{HasWhole, IsSteadyOrPassed}
-use Rattle.law_captured_dumps.specs.Said.{IsSaid}
+use Rattle.law_read_dumps.specs.Said.{IsSaid}
 
 -- a sector of track number n, in the report and in the image, is good with its own bytes, or contradictory
 pub record IsReadRightly (disk : DumpDisk) (files : List File) (image : List ℕ) (o : DumpsRead) (n sector : ℕ) : Type 0 where

@@ -12,7 +12,7 @@ use Rattle.law_decoded_rings.specs.Verdicts.{LiesInOnePiece}
 use Rattle.track_shelf.specs.Files.{File, file_at}
 use Rattle.track_shelf.specs.Names.{path_text}
 use Rattle.track_shelf.specs.Stepping.{file_track}
-use Rattle.law_captured_dumps.specs.Said.{streams_on}
+use Rattle.law_read_dumps.specs.Said.{streams_on}
 
 -- the file of track number n in the dump of this number, if it is there
 abbrev pub file_on : DumpDisk → List File → (n dump : ℕ) → Option File

@@ -1,4 +1,2 @@
-pub mod Said
-pub mod Told
 pub mod Inputs
 pub mod Headline

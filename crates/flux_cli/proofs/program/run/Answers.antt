@@ -42,16 +42,17 @@ returns-clause-folder_erased g c = folder_erased (laws g c) _ _ _ _ c.run_words.
 pub returns-clause-dumps : goal.returns-clause-dumps
 returns-clause-dumps g c =
     let said = c.dumps_say_each_sector.ensures in
-    let lines = c.dump_lines_tell.ensures in
+    let lines = c.dump_reports_have_lines.ensures in
+    let told = c.dump_lines_tell.ensures in
     let read = c.captured_dumps_are_read.ensures in
     reads_as_expected (record {
       said = said.said;
       right = said.right;
       numbered = lines.numbered;
-      told = lines.told;
-      once = lines.once;
+      told = told.told;
+      once = told.once;
       passed = lines.passed;
-      passed_told = lines.passed_told;
+      passed_told = told.passed_told;
       count = lines.count;
       whole = read.never_wrong;
       steady = read.well;

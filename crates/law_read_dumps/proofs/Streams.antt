@@ -8,7 +8,6 @@ use Rattle.dump_reading.specs.Outcomes.{AreTracksBy, DumpDisk, DumpsRead, IsRead
 use Rattle.dump_reading.specs.declared.totals.DumpTotals.{DumpTotals}
 use Rattle.flux_engine.specs.Captured.{AreReadingsOf}
 use Rattle.flux_engine.specs.Counts.{AreOthersOver}
-use Rattle.flux_engine.specs.Disks.{no_totals}
 use Rattle.flux_engine.specs.LoopProgress.{seen_at, streams_over}
 use Rattle.flux_engine.specs.PlanLaws.{ReadingsInPlansAreOne}
 use Rattle.flux_engine.specs.Plans.{AreCaptures, ArePlannedParts, PartOf, Seen, Streams}
@@ -21,13 +20,10 @@ use Rattle.sector_images.specs.declared.format.Format.{Format}
 use Rattle.track_shelf.specs.Files.{File}
 use Rattle.turn_merge.specs.Others.{NotedOther}
 use Rattle.turn_merge.specs.Readings.{NotedReading}
-use Rattle.law_captured_dumps.specs.Said.{AllOfDumpsIsOne, streams_on}
+use Rattle.law_read_dumps.specs.Said.{AllOfDumpsIsOne, streams_on}
 
 abbrev pub none_seen : Seen
 none_seen = record { fault = None; passed = None; times = []; indexes = [] }
-
-abbrev pub no_part : TrackPart
-no_part = record { image = []; lines = []; totals = no_totals }
 
 -- what has a number has a count
 some_of : (i a count : ℕ) → i < a * count → 0 < count

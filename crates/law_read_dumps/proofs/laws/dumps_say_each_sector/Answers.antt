@@ -1,7 +1,7 @@
 use Rattle.dump_reading.specs.Reports.{read_part}
-use Rattle.law_captured_dumps.proofs.Said.{Laws, each_said, good_stays, said_is_right}
-use Rattle.law_captured_dumps.proofs.Streams.{same_captures}
-use Rattle.law_captured_dumps.proofs.laws.dumps_say_each_sector.Goals as goal
+use Rattle.law_read_dumps.proofs.Said.{Laws, each_said, good_stays, said_is_right}
+use Rattle.law_read_dumps.proofs.Streams.{same_captures}
+use Rattle.law_read_dumps.proofs.laws.dumps_say_each_sector.Goals as goal
 
 laws : (c : goal.After-rules_are_read) → Laws
 laws c = record {

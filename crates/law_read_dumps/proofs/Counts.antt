@@ -13,13 +13,14 @@ use Rattle.flux_engine.specs.LoopProgress.{passed_count, seen_at, streams_over}
 use Rattle.flux_engine.specs.Plans.{Seen, Streams, joined, passed_one, passed_to}
 use Rattle.flux_engine.specs.Recordings.{sectors_of, track_at}
 use Rattle.flux_engine.specs.Tracks.{TrackPart, numbers}
+use Rattle.flux_engine.specs.lemmas.PartLaws.{no_part}
 use Rattle.sector_report.specs.declared.dump_lines.Passed.{Passed}
 use Rattle.track_shelf.specs.Files.{File}
 use Rattle.turn_merge.specs.Others.{NotedOther, others_over}
 use Rattle.turn_merge.specs.Readings.{verdict}
-use Rattle.law_captured_dumps.specs.Told.{passed_on}
-use Rattle.law_captured_dumps.proofs.ReportLines.{Laws, before_more, lines_before, passed_many}
-use Rattle.law_captured_dumps.proofs.Streams.{no_part, none_seen, number_low}
+use Rattle.law_read_dumps.specs.Lines.{passed_on}
+use Rattle.law_read_dumps.proofs.ReportLines.{Laws, before_more, lines_before, passed_many}
+use Rattle.law_read_dumps.proofs.Streams.{none_seen, number_low}
 
 one-passed : (q : ℕ) (why : Option Passed) → length (passed_one q why) ≡ cond (is_some why) 1 0
 one-passed q None = refl

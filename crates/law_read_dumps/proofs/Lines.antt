@@ -6,15 +6,13 @@ use Rattle.std.proofs.lemmas.Bool.{cases_lt}
 use Rattle.flux_engine.specs.DiskLaws.{HasLine, lines_in}
 use Rattle.flux_engine.specs.lemmas.Each.{Each}
 use Rattle.flux_engine.specs.lemmas.LineNumbers.{Skips, line-first, skips-append, skips-lines}
+use Rattle.flux_engine.specs.lemmas.ReadLaws.{some_same}
 use Rattle.sector_report.specs.LineLaws.{IsOneLine}
 
 -- The text is so many whole lines, and this holds of each, by its number, whatever follows the text.
 pub record Tells (P : ℕ → List ℕ → Type 0) (text : List ℕ) (count : ℕ) : Type 0 where
   pub skips : Skips text count
   pub each : (rest : List ℕ) (number : ℕ) (front : List ℕ) → number < count → slice_get (lines_in (text ++ rest)) number ≡ Some front → P number (front ++ 10 ∷ [])
-
-some_same : {X : Type 0} {a b : X} → Some a ≡ Some b → a ≡ b
-some_same e = cc
 
 module _ (P : ℕ → List ℕ → Type 0) where
   pub tells-nil : Tells P [] 0
@@ -29,7 +27,7 @@ module _ (P : ℕ → List ℕ → Type 0) where
     each = λ rest number front low at.
         (let none : number ≡ 0 = omega (arith, low) in
         let same : one.front ≡ front =
-        some_same (sym (ap (λ (ls : List (List ℕ)). slice_get ls 0) (line-first line rest one)) ∙ ap (slice_get (lines_in (line ++ rest))) (sym none) ∙ at) in
+        some_same one.front front (sym (ap (λ (ls : List (List ℕ)). slice_get ls 0) (line-first line rest one)) ∙ ap (slice_get (lines_in (line ++ rest))) (sym none) ∙ at) in
         subst (λ (k : ℕ). P k (front ++ 10 ∷ [])) (sym none) (subst (P 0) (one.ends ∙ ap (λ (text : List ℕ). text ++ 10 ∷ []) same) holds));
   }
     where
@@ -82,10 +80,6 @@ tells-each P f each (x ∷ xs) holds =
     let more : 1 + length xs ≡ suc (length xs) = omega arith in
     subst (Tells (λ number line. P line) (flat_map f (x ∷ xs))) more
     (tells-append (λ number line. P line) (f x) (flat_map f xs) 1 (length xs) (tells-line (λ number line. P line) (f x) (each x) holds.0) (tells-each P f each xs holds.1))
-
-pub each-all : {X : Type 0} (P : X → Type 0) → ((x : X) → P x) → (xs : List X) → Each P xs
-each-all P all [] = tt
-each-all P all (x ∷ xs) = (all x, each-all P all xs)
 
 -- a line behind so many others is a line of the text
 pub has_line : (text before line after : List ℕ) (number : ℕ) → text ≡ before ++ (line ++ after) → Skips before number → IsOneLine line → HasLine text line number

@@ -28,6 +28,7 @@ use Rattle.frame_law.specs.declared.reading.Reading.TheVariants.{Good}
 use Rattle.kryo_stream.specs.Growth.{StreamsAreShort}
 use Rattle.kryo_stream.specs.Stream.{first_fault}
 use Rattle.kryo_stream.specs.declared.fault.StreamFault.{StreamFault}
+use Rattle.law_read_dumps.specs.Said.{streams_on}
 use Rattle.phase_loop.specs.Sizes.{CellsAreFew}
 use Rattle.sector_images.specs.Places.{IsSector, NumbersNameTracks, TracksKeepBounds, tracks}
 use Rattle.sector_images.specs.declared.format.Format.{Format}
@@ -40,8 +41,6 @@ use Rattle.track_shelf.specs.declared.stepping.Stepping.{Stepping}
 use Rattle.turn_merge.specs.Readings.{NotedReading, verdict}
 use Rattle.turn_merge.specs.declared.clock.Clock.{Clock}
 use Rattle.turn_merge.specs.declared.clock.Clock.TheVariants.{Following, Held}
-use Rattle.law_captured_dumps.specs.Said.{streams_on}
-use Rattle.law_captured_dumps.proofs.Lines.{each-all}
 
 -- of numbers that rise, each is at least its place
 at_least : (xs : List ℕ) → IsStrictlyIncreasing xs → (k : ℕ) → k < length xs → k ≤ slice_index xs k
@@ -101,7 +100,7 @@ header_inside : (h : ℕ × HeaderData) (limit : ℕ) → h.0 < limit → Each (
 header_inside (place, (sector, [])) limit low = (low, tt)
 header_inside (place, (sector, first ∷ more)) limit low =
     map_each (λ (f : Found). f.0 < limit) (λ (d : ℕ × List ℕ). (place, Good sector, d.1)) (first ∷ more)
-    (each-all (λ (d : ℕ × List ℕ). place < limit) (λ d. low) (first ∷ more))
+    (each-of (λ (d : ℕ × List ℕ). place < limit) (first ∷ more) (λ d has. low))
 
 -- as many times as many
 flat_few : {X Y : Type 0} (f : X → List Y) (most : ℕ) (xs : List X) → Each (λ (x : X). length (f x) ≤ most) xs → length (flat_map f xs) ≤ most * length xs
@@ -167,7 +166,7 @@ module _ (capture : ℕ) (small : capture < 2 ^ 64) (clock : Clock) (times index
 
   noted_few : (found : List Found) → length (readings_in capture clock times indexes cells found) ≤ length found
   noted_few found =
-      let few = flat_few read_at 1 found (each-all (λ (f : Found). length (read_at f) ≤ 1) (λ f. one_few (place_in capture clock times indexes cells f.0) f.1 f.2) found) in
+      let few = flat_few read_at 1 found (each-of (λ (f : Found). length (read_at f) ≤ 1) found (λ f has. one_few (place_in capture clock times indexes cells f.0) f.1 f.2)) in
       omega (arith, few)
 
   noted_fit : (found : List Found) → length cells < 2 ^ 64 → length indexes < 2 ^ 64 → Each (λ (f : Found). f.0 < length cells) found

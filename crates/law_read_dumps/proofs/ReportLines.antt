@@ -1,5 +1,5 @@
--- The lines of the tracks in a report of dumps, one behind another: which of them are those of sectors, and at which numbers these stand.
-use Rattle.std.specs.Prelude.{◌≡◌, ◌≤◌, ◌<◌, ◌⊎◌, ℕ, zero, suc, ◌+◌, ◌-◌, List, [], ◌∷◌, ◌++◌, drop, flat_map, get_or, length, sum_by, take, Option, None, Some, refl}
+-- The lines of the tracks in a report of dumps, one behind another: what each of them is, and at which numbers those of sectors stand.
+use Rattle.std.specs.Prelude.{◌≡◌, ◌≤◌, ◌<◌, ◌⊎◌, ℕ, zero, suc, ◌+◌, ◌-◌, Contains, List, [], ◌∷◌, ◌++◌, drop, flat_map, get_or, length, sum_by, take, Option, None, Some, refl}
 use Rattle.std.specs.List.{range_with_len}
 use Rattle.std.proofs.Common.{ap, sym, subst, ◌∙◌, arith, append-nil, append_assoc, inl, inr}
 use Rattle.std.proofs.Math.Seq.{take-suc}
@@ -16,14 +16,14 @@ use Rattle.flux_engine.specs.Recordings.{sectors_of, track_at}
 use Rattle.flux_engine.specs.Rules.{RulesAreRead}
 use Rattle.flux_engine.specs.Tracks.{TrackPart, line_by, lines_by}
 use Rattle.flux_engine.specs.declared.gathered_track.PassedStream.{PassedStream}
-use Rattle.flux_engine.specs.lemmas.Each.{Each, each-append}
+use Rattle.flux_engine.specs.lemmas.Each.{Each, each-append, each-of}
 use Rattle.flux_engine.specs.lemmas.LineNumbers.{Skips, skips-append, skips-lines}
 use Rattle.flux_engine.specs.lemmas.OneParts.{one_others_to}
-use Rattle.flux_engine.specs.lemmas.PartLaws.{lines_split}
+use Rattle.flux_engine.specs.lemmas.PartLaws.{lines_split, no_part}
 use Rattle.flux_engine.specs.lemmas.Pieces.{pieces-at, range-more}
 use Rattle.law_captured_disks.specs.Headline.{IsSectorOf}
 use Rattle.sector_images.specs.Formats.{row}
-use Rattle.sector_images.specs.Places.{IsSector, tracks}
+use Rattle.sector_images.specs.Places.{IsSector}
 use Rattle.sector_images.specs.declared.format.Format.{Format}
 use Rattle.sector_report.specs.DumpLines.{DumpsHaveLines, other_text, passed_text}
 use Rattle.sector_report.specs.LineLaws.{IsOneLine, SectorsHaveOneLine}
@@ -33,11 +33,10 @@ use Rattle.track_shelf.specs.Files.{File}
 use Rattle.turn_merge.specs.Others.{NotedOther, others_over}
 use Rattle.turn_merge.specs.Readings.{NotedReading, verdict}
 use Rattle.turn_merge.specs.declared.others.OtherTold.{OtherTold}
-use Rattle.law_captured_dumps.specs.Said.{streams_on}
-use Rattle.law_captured_dumps.specs.Told.{line_number, lines_on, passed_on}
-use Rattle.law_captured_dumps.proofs.Lines.{Tells, each-all, has_line, tells-append, tells-each, tells-map, tells-nil, tells-range}
-use Rattle.law_captured_dumps.proofs.OtherLines.{IsNoPassed, IsNoSector, other_no_passed, other_no_sector, passed_no_sector}
-use Rattle.law_captured_dumps.proofs.Streams.{no_part, same_stream}
+use Rattle.law_read_dumps.specs.Said.{streams_on}
+use Rattle.law_read_dumps.specs.Lines.{IsOtherLine, IsPassedLine, line_number, lines_on, passed_on}
+use Rattle.law_read_dumps.proofs.Lines.{Tells, has_line, tells-append, tells-each, tells-map, tells-nil, tells-range}
+use Rattle.law_read_dumps.proofs.Streams.{same_stream}
 
 -- what the crates below promise
 pub record Laws : Type 0 where
@@ -61,19 +60,9 @@ pub record IsOnDisk (format : Format) (many : ℕ) (before : ℕ → ℕ) (line_
   pub line_is : line ≡ line_of n low sector
   pub number_is : number ≡ before n + (sector - (row format).first_sector)
 
--- the line is that of a dump's stream of a track of the disk, which is passed over for this reason
-pub record IsPassed (disk : DumpDisk) (files : List File) (line : List ℕ) : Type 0 where
-  pub n : ℕ
-  pub low : n < length (tracks disk.format)
-  pub dump : ℕ
-  pub few : dump < length disk.dumps
-  pub why : Passed
-  pub is : (streams_on disk files n dump).passed ≡ Some why
-  pub line_is : line ≡ passed_text (track_at disk.format n) dump why
-
--- the line is no sector's, and is that of such a stream, or has not the text of one
-abbrev pub IsBeside : DumpDisk → List File → List ℕ → Type 0
-IsBeside disk files line = IsNoSector line × (IsPassed disk files line ⊎ IsNoPassed line)
+-- the line stands beside those of the sectors
+abbrev pub IsBeside : DumpDisk → List File → (others : List (List NotedOther)) → List ℕ → Type 0
+IsBeside disk files others line = IsPassedLine disk files line ⊎ IsOtherLine disk others line
 
 -- streams that are the same are passed over alike
 passed-same : (a b : Streams) (n count : ℕ) → ((q : ℕ) → q < count → a n q ≡ b n q) → (k : ℕ) → k ≤ count → passed_to a n k ≡ passed_to b n k
@@ -175,6 +164,9 @@ module _ (laws : Laws) (disk : DumpDisk) (files : List File) (o : DumpsRead) (is
         one_others_to laws.rules (plan_of disk) format came n (length disk.dumps) at.others (get_or is.others n []) at.others_are
         (is.all.others_are n (omega (arith, low, is.all.many, is.all.many_others)))
 
+    told_there : (name : OtherTold) → Contains told name → Contains (others_over (get_or is.others n [])) name
+    told_there name has = subst (λ (os : List NotedOther). Contains (others_over os) name) others_same has
+
     lines_many : length streams_passed + (count_of n + length told) ≡ lines_on disk files is.others n
     lines_many =
         let same : length told ≡ length (others_over (get_or is.others n [])) = ap (λ (os : List NotedOther). length (others_over os)) others_same in
@@ -184,20 +176,15 @@ module _ (laws : Laws) (disk : DumpDisk) (files : List File) (o : DumpsRead) (is
     one_line sector = laws.one ByCaptureAndClock (track_at format n) sector (verdict readings sector)
 
     abbrev OnTrack : ℕ → List ℕ → Type 0
-    OnTrack number line = IsOnTrack format n (length streams_passed) sector_line number line ⊎ IsBeside disk files line
+    OnTrack number line = IsOnTrack format n (length streams_passed) sector_line number line ⊎ IsBeside disk files is.others line
 
     abbrev PassedHere : PassedStream → Type 0
-    PassedHere s = IsBeside disk files (passed_line_of (track_at format n) s)
+    PassedHere s = IsBeside disk files is.others (passed_line_of (track_at format n) s)
 
     passed_here : (k : ℕ) → k < length disk.dumps → (why : Option Passed) → (streams_on disk files n k).passed ≡ why → Each PassedHere (passed_one k why)
     passed_here k few None is_passed = tt
-    passed_here k few (Some why) is_passed = (
-      (
-        passed_no_sector (track_at format n) k why,
-        inl (record { n = n; low = omega (arith, low, is.all.many); dump = k; few = few; why = why; is = is_passed; line_is = refl }),
-      ),
-      tt,
-    )
+    passed_here k few (Some why) is_passed =
+        (inl (record { n = n; low = omega (arith, low, is.all.many); dump = k; few = few; why = why; is = is_passed; line_is = refl }), tt)
 
     each_passed : (k : ℕ) → k ≤ length disk.dumps → Each PassedHere (passed_to came n k)
     each_passed zero few = tt
@@ -206,17 +193,17 @@ module _ (laws : Laws) (disk : DumpDisk) (files : List File) (o : DumpsRead) (is
         each-append PassedHere (passed_to came n k) (passed_one k (came n k).passed) (each_passed k (omega (arith, few)))
         (passed_here k within (came n k).passed (ap (λ (s : Seen). s.passed) (sym (same_stream read_part disk files is.streams is.parts is.all.read n k low within))))
 
-    passed_tell : Tells (λ number line. IsBeside disk files line) passed (length streams_passed)
+    passed_tell : Tells (λ number line. IsBeside disk files is.others line) passed (length streams_passed)
     passed_tell =
-        tells-each (IsBeside disk files) (passed_line_of (track_at format n)) (λ (s : PassedStream). laws.dump_lines.passed (track_at format n) s.capture s.why)
+        tells-each (IsBeside disk files is.others) (passed_line_of (track_at format n)) (λ (s : PassedStream). laws.dump_lines.passed (track_at format n) s.capture s.why)
         streams_passed (each_passed (length disk.dumps) (omega arith))
 
-    others_tell : Tells (λ number line. IsBeside disk files line) others (length told)
+    others_tell : Tells (λ number line. IsBeside disk files is.others line) others (length told)
     others_tell =
-        tells-each (IsBeside disk files) (other_text ByCaptureAndClock (track_at format n))
+        tells-each (IsBeside disk files is.others) (other_text ByCaptureAndClock (track_at format n))
         (λ (t : OtherTold). laws.dump_lines.other ByCaptureAndClock (track_at format n) t) told
-        (each-all (λ (t : OtherTold). IsBeside disk files (other_text ByCaptureAndClock (track_at format n) t))
-        (λ t. (other_no_sector ByCaptureAndClock (track_at format n) t, inr (other_no_passed ByCaptureAndClock (track_at format n) t))) told)
+        (each-of (λ (t : OtherTold). IsBeside disk files is.others (other_text ByCaptureAndClock (track_at format n) t)) told
+        (λ t has. inr (record { n = n; low = omega (arith, low, is.all.many); name = t; has = told_there t has; line_is = refl })))
 
     sectors_tell : Tells (λ m line. OnTrack (length streams_passed + m) line) sector_lines (count_of n)
     unfolding sector_lines
@@ -233,12 +220,12 @@ module _ (laws : Laws) (disk : DumpDisk) (files : List File) (o : DumpsRead) (is
         subst (λ (text : List ℕ). Tells OnTrack text (lines_on disk files is.others n)) (sym lines_are)
         (subst (Tells OnTrack (passed ++ (sector_lines ++ others))) lines_many
         (tells-append OnTrack passed (sector_lines ++ others) i (count_of n + length told)
-        (tells-map (λ m line. IsBeside disk files line) OnTrack passed i (λ m line below other. inr other) passed_tell)
+        (tells-map (λ m line. IsBeside disk files is.others line) OnTrack passed i (λ m line below other. inr other) passed_tell)
         (tells-append behind sector_lines others (count_of n) (length told) sectors_tell
-        (tells-map (λ m line. IsBeside disk files line) (λ m line. behind (count_of n + m) line) others (length told) (λ m line below other. inr other) others_tell))))
+        (tells-map (λ m line. IsBeside disk files is.others line) (λ m line. behind (count_of n + m) line) others (length told) (λ m line below other. inr other) others_tell))))
 
   abbrev pub OnDisk : ℕ → List ℕ → Type 0
-  OnDisk number line = IsOnDisk format (length is.parts) first_line sector_line number line ⊎ IsBeside disk files line
+  OnDisk number line = IsOnDisk format (length is.parts) first_line sector_line number line ⊎ IsBeside disk files is.others line
 
   -- the line of a track, behind those of the tracks before
   on_disk : (n : ℕ) (low : n < length is.parts) (m : ℕ) (line : List ℕ) → OnTrack n low m line → OnDisk (lines_before n + m) line
@@ -330,7 +317,7 @@ module _ (laws : Laws) (disk : DumpDisk) (files : List File) (o : DumpsRead) (is
       ∙ ap (λ (t : List ℕ). (front ++ ((t ++ rest) ++ more)) ++ end) mine
       ∙ stream_in front earlier text later rest more end in
       let line : (s : PassedStream) → IsOneLine (line_of s) = λ s. laws.dump_lines.passed (track_at format n) s.capture s.why in
-      let before = tells-each (λ (l : List ℕ). Unit {0}) line_of line a.before (each-all (λ (s : PassedStream). Unit {0}) (λ s. tt) a.before) in
+      let before = tells-each (λ (l : List ℕ). Unit {0}) line_of line a.before (each-of (λ (s : PassedStream). Unit {0}) a.before (λ s has. tt)) in
       let skipped : Skips (front ++ earlier) (lines_before n + length a.before) =
       skips-append front earlier (lines_before n) (length a.before) (front_tells n (omega (arith, low))).skips before.skips in (
         lines_before n + length a.before,

@@ -14,6 +14,7 @@ use Rattle.flux_engine.specs.Plans.{AreCaptures, IsPlanned, IsPlannedPart, Plann
 use Rattle.flux_engine.specs.Recordings.{sectors_of, track_at}
 use Rattle.flux_engine.specs.Tracks.{TrackPart, image_bytes, named_part, part_by}
 use Rattle.flux_engine.specs.declared.plan.Plan.{Plan}
+use Rattle.flux_engine.specs.lemmas.PartLaws.{no_part}
 use Rattle.law_captured_disks.specs.Headline.{IsSectorOf}
 use Rattle.law_captured_plans.specs.Said.{IsSaid as IsSaidByPlan, SectorsAreSaid}
 use Rattle.sector_images.specs.declared.format.Format.{Format}
@@ -22,10 +23,9 @@ use Rattle.track_shelf.specs.Files.{File}
 use Rattle.turn_merge.specs.Readings.{NotedReading, verdict}
 use Rattle.turn_merge.specs.declared.verdict.Verdict.{Verdict}
 use Rattle.turn_merge.specs.declared.verdict.Verdict.TheVariants.{Bad, Contradictory, Good, Missing}
-use Rattle.law_captured_dumps.specs.Said.{GoodStaysOrIsContradicted, IsSaid, IsSaidRightly, SaidIsRight, streams_on}
-use Rattle.law_captured_dumps.specs.Told.{line_number}
-use Rattle.law_captured_dumps.proofs.ReportLines.{sector_has_line, Laws as LineLaws}
-use Rattle.law_captured_dumps.proofs.Streams.{no_part}
+use Rattle.law_read_dumps.specs.Said.{GoodStaysOrIsContradicted, IsSaid, IsSaidRightly, SaidIsRight, streams_on}
+use Rattle.law_read_dumps.specs.Lines.{line_number}
+use Rattle.law_read_dumps.proofs.ReportLines.{sector_has_line, Laws as LineLaws}
 
 -- what the crates below promise
 pub record Laws : Type 0 where

@@ -1,0 +1,147 @@
+-- A report of dumps as a whole: what each of its lines is, and how many there are.
+use Rattle.std.specs.Prelude.{◌≡◌, ◌≤◌, ◌<◌, ◌⊎◌, ℕ, zero, suc, ◌+◌, ◌-◌, List, [], ◌∷◌, ◌++◌, length, slice_get, None, Some, refl}
+use Rattle.std.proofs.Common.{ap, sym, subst, ◌∙◌, arith, append-nil, inl, inr}
+use Rattle.std.proofs.Math.Seq.{take-length}
+use Rattle.std.proofs.lemmas.Bool.{cases_lt}
+use Rattle.dump_reading.specs.Outcomes.{DumpDisk, DumpsRead, IsDumpsRead, numbers_of, plan_of}
+use Rattle.dump_reading.specs.Reports.{end_text, read_part}
+use Rattle.dump_reading.specs.declared.totals.DumpTotals.{DumpTotals}
+use Rattle.flux_engine.specs.DiskLaws.{HasLine, lines_in}
+use Rattle.flux_engine.specs.Disks.{lines}
+use Rattle.flux_engine.specs.PlanLaws.{ReadingsInPlansAreOne}
+use Rattle.flux_engine.specs.Plans.{AreCaptures, joined}
+use Rattle.flux_engine.specs.Recordings.{track_at}
+use Rattle.flux_engine.specs.Tracks.{TrackPart}
+use Rattle.flux_engine.specs.lemmas.ReadLaws.{some_same}
+use Rattle.law_captured_disks.specs.Headline.{IsSectorOf}
+use Rattle.sector_report.specs.DumpLines.{unread_text}
+use Rattle.sector_report.specs.LineLaws.{TotalsHaveOneLine, line_ends}
+use Rattle.sector_report.specs.Lines.{named_text, total_text}
+use Rattle.sector_report.specs.declared.naming.Naming.TheVariants.{ByCaptureAndClock}
+use Rattle.track_shelf.specs.Files.{File}
+use Rattle.turn_merge.specs.Readings.{NotedReading, verdict}
+use Rattle.law_read_dumps.specs.Lines.{IsEndLine, IsLineOfReport, IsSectorLine, LinesAreKnown, PassedStreamsAreSaid, ReportsHaveNoOtherLines, SectorsHaveTheirNumbers, line_number}
+use Rattle.law_read_dumps.specs.Said.{EachIsSaid, IsSaid, streams_on}
+use Rattle.law_read_dumps.proofs.Counts.{lines_counted}
+use Rattle.law_read_dumps.proofs.Lines.{Tells, tells-append, tells-line, tells-map}
+use Rattle.law_read_dumps.proofs.ReportLines.{IsOnDisk, OnDisk, first_line, front_tells, lines_before, sector_has_line, sector_line, stream_has_line, Laws as LineLaws}
+use Rattle.law_read_dumps.proofs.Streams.{same_captures}
+
+-- what the crates below promise, and the law before
+pub record Laws : Type 0 where
+  pub lines : LineLaws
+  pub total_one : TotalsHaveOneLine
+  pub readings : ReadingsInPlansAreOne
+  pub said : EachIsSaid
+
+none_some : {X : Type 0} {a : X} → None ≡ Some a → ⊥
+none_some e = cc
+
+-- what stands behind the last line end is empty
+past-all : (m : ℕ) (front : List ℕ) → slice_get (lines_in []) m ≡ Some front → front ≡ []
+past-all zero front is = sym (some_same [] front is)
+past-all (suc m) front is = absurd (none_some is)
+
+module _ (laws : Laws) (disk : DumpDisk) (files : List File) (o : DumpsRead) (is : IsDumpsRead disk (Some files) o) where
+  abbrev totals : DumpTotals
+  totals = numbers_of is.streams is.parts is.others
+
+  abbrev Here : ℕ → List ℕ → Type 0
+  Here number line = OnDisk laws.lines disk files o is number line ⊎ IsEndLine totals line
+
+  -- how many lines the tracks have
+  abbrev all : ℕ
+  all = lines_before laws.lines disk files o is (length is.parts)
+
+  end_tells : Tells (λ m line. Here (all + m) line) (end_text totals) 2
+  end_tells =
+      let unread : List ℕ = unread_text totals.unread totals.others totals.whole in
+      let total : List ℕ = total_text totals.sectors in
+      tells-append (λ m line. Here (all + m) line) unread total 1 1
+      (tells-line (λ m line. Here (all + m) line) unread (laws.lines.dump_lines.unread totals.unread totals.others totals.whole) (inr (inl refl)))
+      (tells-line (λ m line. Here (all + (1 + m)) line) total (laws.total_one totals.sectors) (inr (inr refl)))
+
+  tracks_tell : Tells Here (lines is.parts) all
+  tracks_tell =
+      tells-map (OnDisk laws.lines disk files o is) Here (lines is.parts) all (λ m line below on. inl on)
+      (subst (λ (ps : List TrackPart). Tells (OnDisk laws.lines disk files o is) (lines ps) all) (take-length is.parts)
+      (front_tells laws.lines disk files o is (length is.parts) (omega arith)))
+
+  notes_tell : Tells Here o.notes (all + 2)
+  notes_tell =
+      subst (λ (text : List ℕ). Tells Here text (all + 2)) (sym (ap (λ (d : DumpsRead). d.notes) is.is))
+      (tells-append Here (lines is.parts) (end_text totals) all 2 tracks_tell end_tells)
+
+  -- behind them nothing stands
+  nothing_behind : (number : ℕ) (front : List ℕ) → all + 2 ≤ number → slice_get (lines_in (o.notes ++ [])) number ≡ Some front → front ≡ []
+  nothing_behind number front past at =
+      let m : ℕ = number - (all + 2) in
+      let split : (all + 2) + m ≡ number = omega (arith, past) in
+      past-all m front (sym (notes_tell.skips.skips [] m) ∙ ap (slice_get (lines_in (o.notes ++ []))) split ∙ at)
+
+  count : line_ends o.notes ≡ o.totals.unread + o.totals.sectors.sectors + o.totals.others + 2
+  count =
+      let counted : all ≡ totals.unread + totals.sectors.sectors + totals.others = lines_counted laws.lines disk files o is in
+      notes_tell.skips.ends ∙ ap (λ (k : ℕ). k + 2) counted
+      ∙ sym (ap (λ (d : DumpsRead). d.totals.unread + d.totals.sectors.sectors + d.totals.others + 2) is.is)
+
+  -- whatever list has all readings of each stream
+  captures_same : (n sector : ℕ) (low : n < length is.parts) (said : IsSaid disk files o n sector) → said.captures ≡ (is.all.read.each n low).captures
+  captures_same n sector low said =
+      let captures : List (List NotedReading) = (is.all.read.each n low).captures in
+      let are : AreCaptures (plan_of disk) disk.format (streams_on disk files) n captures =
+      same_captures read_part disk files is.streams is.parts is.all.read n low captures (is.all.read.each n low).many (is.all.read.each n low).each in
+      laws.readings (plan_of disk) disk.format (streams_on disk files) n said.captures captures said.each are (said.many ∙ sym (is.all.read.each n low).many)
+
+  numbered : (n sector : ℕ) → IsSectorOf disk.format n sector → (said : IsSaid disk files o n sector)
+      → HasLine o.notes (named_text ByCaptureAndClock (track_at disk.format n) sector (verdict (joined said.captures) sector)) (line_number disk files is.others n sector)
+  numbered n sector one said =
+      let low : n < length is.parts = omega (arith, one.track, is.all.many) in
+      subst (λ (cs : List (List NotedReading)). HasLine o.notes (named_text ByCaptureAndClock (track_at disk.format n) sector (verdict (joined cs) sector)) (line_number disk files is.others n sector))
+      (sym (captures_same n sector low said)) (sector_has_line laws.lines disk files o is n low sector one)
+
+  module _ (number : ℕ) where
+    of_sector : (line : List ℕ) → IsOnDisk disk.format (length is.parts) (first_line laws.lines disk files o is) (sector_line laws.lines disk files o is) number line
+        → IsSectorLine disk files o is.others number line
+    of_sector line s =
+        let one : IsSectorOf disk.format s.n s.sector = record { track = omega (arith, s.low, is.all.many); known = s.known } in
+        let said = laws.said disk files o is s.n s.sector one in
+        record {
+          n = s.n;
+          sector = s.sector;
+          one = one;
+          said = said;
+          line_is =
+              s.line_is
+              ∙ sym (ap (λ (cs : List (List NotedReading)). named_text ByCaptureAndClock (track_at disk.format s.n) s.sector (verdict (joined cs) s.sector))
+              (captures_same s.n s.sector s.low said));
+          number_is = s.number_is;
+        }
+
+    line_here : (line : List ℕ) → Here number line → IsLineOfReport disk files o is.others number line
+    line_here line (inl (inl s)) = inl (of_sector line s)
+    line_here line (inl (inr (inl passed))) = inr (inl passed)
+    line_here line (inl (inr (inr other))) = inr (inr (inl other))
+    line_here line (inr end) = inr (inr (inr (subst (λ (t : DumpTotals). IsEndLine t line) (sym (ap (λ (d : DumpsRead). d.totals) is.is)) end)))
+
+    known : (line : List ℕ) → HasLine o.notes line number → IsLineOfReport disk files o is.others number line ⊎ ((line ≡ 10 ∷ []) × (line_ends o.notes ≤ number))
+    known line h =
+        let there : slice_get (lines_in (o.notes ++ [])) number ≡ Some h.front = ap (λ (text : List ℕ). slice_get (lines_in text) number) (append-nil o.notes) ∙ h.there in
+        elim (cases_lt number (all + 2)) [
+          | inl low ↦
+              inl (subst (IsLineOfReport disk files o is.others number) (sym h.ends) (line_here (h.front ++ 10 ∷ []) (notes_tell.each [] number h.front low there)))
+          | inr past ↦ inr (h.ends ∙ ap (λ (f : List ℕ). f ++ 10 ∷ []) (nothing_behind number h.front past there), omega (arith, past, notes_tell.skips.ends))
+        ]
+
+pub sectors_have_their_numbers : Laws → SectorsHaveTheirNumbers
+sectors_have_their_numbers laws disk files o is n sector one said = numbered laws disk files o is n sector one said
+
+pub passed_streams_are_said : Laws → PassedStreamsAreSaid
+passed_streams_are_said laws disk files o is n dump why low few is_passed =
+    stream_has_line laws.lines disk files o is n (omega (arith, low, is.all.many)) dump why few is_passed
+
+pub lines_are_known : Laws → LinesAreKnown
+lines_are_known laws disk files o is number line h = known laws disk files o is number line h
+
+pub reports_have_no_other_lines : Laws → ReportsHaveNoOtherLines
+reports_have_no_other_lines laws disk files o is = count laws disk files o is

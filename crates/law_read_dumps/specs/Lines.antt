@@ -1,0 +1,99 @@
+-- The lines of a report of dumps: at which number each sector's stands, what each line is, and how many there are.
+use Rattle.std.specs.Prelude.{◌≡◌, ◌≤◌, ◌<◌, ◌⊎◌, ℕ, ◌+◌, ◌-◌, Contains, List, [], ◌∷◌, get_or, length, sum_by, Some}
+use Rattle.std.specs.List.{range_with_len}
+use Rattle.dump_reading.specs.Outcomes.{DumpDisk, DumpsRead, IsDumpsRead}
+use Rattle.dump_reading.specs.declared.totals.DumpTotals.{DumpTotals}
+use Rattle.flux_engine.specs.DiskLaws.{HasLine}
+use Rattle.flux_engine.specs.Plans.{joined, passed_to}
+use Rattle.flux_engine.specs.Recordings.{sectors_of, track_at}
+use Rattle.law_captured_disks.specs.Headline.{IsSectorOf}
+use Rattle.sector_images.specs.Formats.{row}
+use Rattle.sector_images.specs.Places.{tracks}
+use Rattle.sector_report.specs.DumpLines.{other_text, passed_text, unread_text}
+use Rattle.sector_report.specs.LineLaws.{line_ends}
+use Rattle.sector_report.specs.Lines.{named_text, total_text}
+use Rattle.sector_report.specs.declared.dump_lines.Passed.{Passed}
+use Rattle.sector_report.specs.declared.naming.Naming.TheVariants.{ByCaptureAndClock}
+use Rattle.track_shelf.specs.Files.{File}
+use Rattle.turn_merge.specs.Others.{NotedOther, others_over}
+use Rattle.turn_merge.specs.Readings.{verdict}
+use Rattle.turn_merge.specs.declared.others.OtherTold.{OtherTold}
+use Rattle.law_read_dumps.specs.Said.{IsSaid, streams_on}
+
+-- how many streams of track number n are passed over
+abbrev pub passed_on : DumpDisk → List File → ℕ → ℕ
+passed_on disk files n = length (passed_to (streams_on disk files) n (length disk.dumps))
+
+-- How many lines track number n has: one for each stream that is passed over, one for each sector, and one for each name that is told of
+-- its others.
+abbrev pub lines_on : DumpDisk → List File → (others : List (List NotedOther)) → ℕ → ℕ
+lines_on disk files others n =
+    passed_on disk files n + (sectors_of disk.format (track_at disk.format n)).count + length (others_over (get_or others n []))
+
+-- the lines before that of a sector of track number n: those of all tracks before it, those of the track's streams that are passed over,
+-- and those of the track's sectors of smaller numbers
+abbrev pub line_number : DumpDisk → List File → (others : List (List NotedOther)) → (n sector : ℕ) → ℕ
+line_number disk files others n sector =
+    sum_by (lines_on disk files others) (range_with_len 0 n) + passed_on disk files n + (sector - (row disk.format).first_sector)
+
+-- the report has each sector's line at its number, with the verdict over all readings of its track
+abbrev pub HaveTheirNumbers : DumpDisk → List File → DumpsRead → (others : List (List NotedOther)) → Type 0
+HaveTheirNumbers disk files o others = (n sector : ℕ) → IsSectorOf disk.format n sector → (said : IsSaid disk files o n sector)
+    → HasLine o.notes (named_text ByCaptureAndClock (track_at disk.format n) sector (verdict (joined said.captures) sector)) (line_number disk files others n sector)
+
+abbrev pub SectorsHaveTheirNumbers : Type 0
+SectorsHaveTheirNumbers = (disk : DumpDisk) (files : List File) (o : DumpsRead) (is : IsDumpsRead disk (Some files) o) → HaveTheirNumbers disk files o is.others
+
+-- the report has a line for each stream that is passed over, with the reason
+abbrev pub ArePassedSaid : DumpDisk → List File → DumpsRead → Type 0
+ArePassedSaid disk files o = (n dump : ℕ) (why : Passed) → n < length (tracks disk.format) → dump < length disk.dumps → (streams_on disk files n dump).passed ≡ Some why
+    → (number : ℕ) × HasLine o.notes (passed_text (track_at disk.format n) dump why) number
+
+abbrev pub PassedStreamsAreSaid : Type 0
+PassedStreamsAreSaid = (disk : DumpDisk) (files : List File) (o : DumpsRead) → IsDumpsRead disk (Some files) o → ArePassedSaid disk files o
+
+-- A report has a line for each stream that is passed over, one for each sector, one for each name of others that is told, and the two with
+-- the totals. It has no other.
+abbrev pub ReportsHaveNoOtherLines : Type 0
+ReportsHaveNoOtherLines = (disk : DumpDisk) (files : List File) (o : DumpsRead) → IsDumpsRead disk (Some files) o
+    → line_ends o.notes ≡ o.totals.unread + o.totals.sectors.sectors + o.totals.others + 2
+
+-- the line is that of a sector of the disk, with the verdict over all readings of its track, and stands at its number
+pub record IsSectorLine (disk : DumpDisk) (files : List File) (o : DumpsRead) (others : List (List NotedOther)) (number : ℕ) (line : List ℕ) : Type 0 where
+  pub n : ℕ
+  pub sector : ℕ
+  pub one : IsSectorOf disk.format n sector
+  pub said : IsSaid disk files o n sector
+  pub line_is : line ≡ named_text ByCaptureAndClock (track_at disk.format n) sector (verdict (joined said.captures) sector)
+  pub number_is : number ≡ line_number disk files others n sector
+
+-- it is that of a dump's stream of a track of the disk, which is passed over for this reason
+pub record IsPassedLine (disk : DumpDisk) (files : List File) (line : List ℕ) : Type 0 where
+  pub n : ℕ
+  pub low : n < length (tracks disk.format)
+  pub dump : ℕ
+  pub few : dump < length disk.dumps
+  pub why : Passed
+  pub is : (streams_on disk files n dump).passed ≡ Some why
+  pub line_is : line ≡ passed_text (track_at disk.format n) dump why
+
+-- it is that of a name which is told of the others of a track of the disk
+pub record IsOtherLine (disk : DumpDisk) (others : List (List NotedOther)) (line : List ℕ) : Type 0 where
+  pub n : ℕ
+  pub low : n < length (tracks disk.format)
+  pub name : OtherTold
+  pub has : Contains (others_over (get_or others n [])) name
+  pub line_is : line ≡ other_text ByCaptureAndClock (track_at disk.format n) name
+
+-- it is one of the two at the end
+abbrev pub IsEndLine : DumpTotals → (line : List ℕ) → Type 0
+IsEndLine totals line = (line ≡ unread_text totals.unread totals.others totals.whole) ⊎ (line ≡ total_text totals.sectors)
+
+abbrev pub IsLineOfReport : DumpDisk → List File → DumpsRead → (others : List (List NotedOther)) → (number : ℕ) → (line : List ℕ) → Type 0
+IsLineOfReport disk files o others number line =
+    IsSectorLine disk files o others number line ⊎ IsPassedLine disk files line ⊎ IsOtherLine disk others line ⊎ IsEndLine o.totals line
+
+-- each line of a report is one of these; behind the end of the last one there is but the empty text
+abbrev pub LinesAreKnown : Type 0
+LinesAreKnown = (disk : DumpDisk) (files : List File) (o : DumpsRead) (is : IsDumpsRead disk (Some files) o) → (number : ℕ) (line : List ℕ)
+    → HasLine o.notes line number → IsLineOfReport disk files o is.others number line ⊎ ((line ≡ 10 ∷ []) × (line_ends o.notes ≤ number))

@@ -1,0 +1,57 @@
+//! What dumps come to that are read together.
+
+ghost use Rattle.law_read_dumps.specs.Lines.{LinesAreKnown, PassedStreamsAreSaid, ReportsHaveNoOtherLines, SectorsHaveTheirNumbers};
+ghost use Rattle.law_read_dumps.specs.Said.{AllOfDumpsIsOne, DumpsAreOne, EachIsSaid, GoodStaysOrIsContradicted, SaidIsRight};
+
+use flux_engine::{plans_are_right, rules_are_read};
+use law_captured_plans::planned_sectors_are_said;
+use sector_report::{dumps_have_lines, sectors_have_one_line, totals_have_one_line};
+
+/// The files on the shelf decide what dumps come to.
+pub fn dumps_are_one()
+    ensures { DumpsAreOne }
+{
+    all_of_dumps_is_one()
+}
+
+/// The same whatever becomes of each track and of all: of a report, and of a picture.
+pub fn all_of_dumps_is_one()
+    ensures { AllOfDumpsIsOne }
+{
+    plans_are_right();
+    rules_are_read()
+}
+
+/// Each sector of a disk that is read of its dumps has its line in the report, with the verdict over all that was read of its track, of
+/// all dumps and by both clocks, and at its place in the image the bytes that its good readings hold, or zeros. So it is called good, or
+/// contradictory, only where the dump, the clock and the place that are named hold it. And a sector that one dump's stream makes good by
+/// the strict rule and one clock, as `decode` reads it, is good with the same bytes, or contradictory.
+pub fn dumps_say_each_sector()
+    ensures said { EachIsSaid }
+    ensures right { SaidIsRight }
+    ensures stays { GoodStaysOrIsContradicted }
+{
+    planned_sectors_are_said();
+    plans_are_right();
+    sectors_have_one_line();
+    dumps_have_lines();
+    rules_are_read()
+}
+
+/// In the report each sector's line stands at its number: behind those of all tracks before its own, of the streams of its track that are
+/// passed over, and of the track's sectors of smaller numbers. Each stream that is passed over has its line too. Each line is a sector's
+/// at its number, such a stream's, that of a name which is told of a track's others, or one of the two at the end; and there are as many
+/// lines as the numbers of the report say.
+pub fn dump_reports_have_lines()
+    ensures numbered { SectorsHaveTheirNumbers }
+    ensures passed { PassedStreamsAreSaid }
+    ensures known { LinesAreKnown }
+    ensures count { ReportsHaveNoOtherLines }
+{
+    dumps_say_each_sector();
+    plans_are_right();
+    sectors_have_one_line();
+    totals_have_one_line();
+    dumps_have_lines();
+    rules_are_read()
+}

@@ -1,0 +1,4 @@
+pub mod OtherLines
+pub mod Bounds
+pub mod TrackNumbers
+pub mod Told

@@ -1,0 +1,131 @@
+-- What the lines of a report of dumps tell.
+use Rattle.std.specs.Prelude.{◌≡◌, ◌≤◌, ◌<◌, ℕ, List, length, Some}
+use Rattle.std.proofs.Common.{ap, sym, subst, ◌∙◌, arith, inl, inr}
+use Rattle.dump_reading.specs.Outcomes.{DumpDisk, DumpsRead, IsDumpsRead, plan_of}
+use Rattle.flux_base.specs.declared.track.TrackId.{TrackId}
+use Rattle.flux_engine.specs.DiskLaws.{HasLine}
+use Rattle.flux_engine.specs.PlanLaws.{ReadingsInPlansAreOne}
+use Rattle.flux_engine.specs.Plans.{AreCaptures, joined}
+use Rattle.flux_engine.specs.Recordings.{track_at}
+use Rattle.flux_engine.specs.lemmas.TrackAt.{is_known_at}
+use Rattle.law_captured_disks.specs.Headline.{IsSectorOf}
+use Rattle.law_read_dumps.specs.Lines.{IsLineOfReport, IsPassedLine, IsSectorLine, LinesAreKnown, line_number}
+use Rattle.law_read_dumps.specs.Said.{IsSaid, streams_on}
+use Rattle.sector_report.specs.DumpLines.{PassedLineFits, PassedLinesTell, passed_text}
+use Rattle.sector_report.specs.LineLaws.{LineFits, SectorLinesTell, TotalsAreNoSectors}
+use Rattle.sector_report.specs.Lines.{named_text}
+use Rattle.sector_report.specs.declared.dump_lines.Passed.{Passed}
+use Rattle.sector_report.specs.declared.dump_lines.Passed.TheVariants.{Absent}
+use Rattle.sector_report.specs.declared.naming.Naming.TheVariants.{ByCaptureAndClock}
+use Rattle.track_shelf.specs.Files.{File}
+use Rattle.turn_merge.specs.Readings.{NotedReading, verdict}
+use Rattle.turn_merge.specs.declared.verdict.Verdict.{Verdict}
+use Rattle.law_reported_dumps.specs.Told.{IsPassedTold, IsTold, LinesTell, NoSectorIsToldTwice, PassedLinesAreTold}
+use Rattle.law_reported_dumps.proofs.Bounds.{line_fits, Laws as BoundLaws}
+use Rattle.law_reported_dumps.proofs.OtherLines.{absent_same, end_no_passed, end_no_sector, missing_is_missing, other_no_passed, other_no_sector, passed_no_sector, sector_no_passed, total_no_passed, unread_no_passed, unread_no_sector}
+use Rattle.law_reported_dumps.proofs.TrackNumbers.{one_number, Laws as TrackLaws}
+
+-- what the crates below promise
+pub record Laws : Type 0 where
+  pub known : LinesAreKnown
+  pub tell : SectorLinesTell
+  pub no_total : TotalsAreNoSectors
+  pub passed_tell : PassedLinesTell
+  pub readings : ReadingsInPlansAreOne
+  pub bounds : BoundLaws
+  pub tracks : TrackLaws
+
+module _ (laws : Laws) (disk : DumpDisk) (files : List File) (o : DumpsRead) (is : IsDumpsRead disk (Some files) o) where
+  -- the line of a sector
+  module _ (most : length disk.dumps ≤ 16) (track : TrackId) (sector : ℕ) (outcome : Verdict) (number : ℕ) (fits : LineFits ByCaptureAndClock track sector outcome) where
+    of_sector : IsSectorLine disk files o is.others number (named_text ByCaptureAndClock track sector outcome) → IsTold disk files o is.others track sector outcome number
+    of_sector s =
+        let mine : Verdict = verdict (joined s.said.captures) s.sector in
+        let fits_there : LineFits ByCaptureAndClock (track_at disk.format s.n) s.sector mine =
+        line_fits laws.bounds disk files most s.n s.said.captures s.said.many s.said.each s.sector s.one.track s.one.known in
+        let told = laws.tell ByCaptureAndClock track (track_at disk.format s.n) sector s.sector outcome mine fits fits_there s.line_is in
+        (subst (λ (k : ℕ). (one : IsSectorOf disk.format s.n k) (said : IsSaid disk files o s.n k) → verdict (joined said.captures) k ≡ outcome
+        → number ≡ line_number disk files is.others s.n k → IsTold disk files o is.others track sector outcome number) told.1
+        (λ one said verdict_is number_is. record { n = s.n; track_is = told.0; one = one; said = said; is = verdict_is; number_is = number_is }))
+        s.one s.said (sym told.2) s.number_is
+
+    told_by : IsLineOfReport disk files o is.others number (named_text ByCaptureAndClock track sector outcome) → IsTold disk files o is.others track sector outcome number
+    told_by (inl s) = of_sector s
+    told_by (inr (inl p)) = absurd (passed_no_sector (track_at disk.format p.n) p.dump p.why ByCaptureAndClock track sector outcome fits p.line_is)
+    told_by (inr (inr (inl other))) = absurd (other_no_sector ByCaptureAndClock (track_at disk.format other.n) other.name ByCaptureAndClock track sector outcome fits other.line_is)
+    told_by (inr (inr (inr (inl unread)))) = absurd (unread_no_sector o.totals.unread o.totals.others o.totals.whole ByCaptureAndClock track sector outcome fits unread)
+    told_by (inr (inr (inr (inr total)))) = absurd (laws.no_total ByCaptureAndClock o.totals.sectors track sector outcome fits total)
+
+    told : HasLine o.notes (named_text ByCaptureAndClock track sector outcome) number → IsTold disk files o is.others track sector outcome number
+    told h =
+        elim (laws.known disk files o is number (named_text ByCaptureAndClock track sector outcome) h) [
+          | inl line ↦ told_by line
+          | inr (empty, past) ↦ absurd (end_no_sector ByCaptureAndClock track sector outcome fits empty)
+        ]
+
+  -- two lines of one sector are one
+  module _ (track : TrackId) (sector : ℕ) (outcome other : Verdict) (number another : ℕ)
+      (first : IsTold disk files o is.others track sector outcome number) (second : IsTold disk files o is.others track sector other another) where
+    same_track : first.n ≡ second.n
+    same_track = one_number laws.tracks disk.format first.n second.n first.one.track second.one.track (sym first.track_is ∙ second.track_is)
+
+    same_readings : first.said.captures ≡ second.said.captures
+    same_readings =
+        laws.readings (plan_of disk) disk.format (streams_on disk files) second.n first.said.captures second.said.captures
+        (subst (λ (n : ℕ). AreCaptures (plan_of disk) disk.format (streams_on disk files) n first.said.captures) same_track first.said.each) second.said.each
+        (first.said.many ∙ sym second.said.many)
+
+    once : (outcome ≡ other) × (number ≡ another)
+    once = (
+      sym first.is ∙ ap (λ (cs : List (List NotedReading)). verdict (joined cs) sector) same_readings ∙ second.is,
+      first.number_is ∙ ap (λ (n : ℕ). line_number disk files is.others n sector) same_track ∙ sym second.number_is,
+    )
+
+  -- the line of a stream that is passed over
+  module _ (most : length disk.dumps ≤ 16) (track : TrackId) (dump : ℕ) (why : Passed) (number : ℕ) (fits : PassedLineFits track dump why) where
+    of_stream : IsPassedLine disk files (passed_text track dump why) → IsPassedTold disk files track dump why
+    of_stream p =
+        let named = laws.bounds.numbers disk.format p.n p.low in
+        let bounds = laws.bounds.keep disk.format (track_at disk.format p.n) (is_known_at disk.format p.n named.0 named.1 named.2) in
+        let told = laws.passed_tell track (track_at disk.format p.n) dump p.dump Absent Absent
+        (record { cylinder_fits = fits.cylinder_fits; head_fits = fits.head_fits; dump_fits = fits.dump_fits; why_fits = tt })
+        (record { cylinder_fits = omega (arith, bounds.cylinder); head_fits = omega (arith, bounds.head); dump_fits = omega (arith, p.few, most); why_fits = tt })
+        (absent_same track (track_at disk.format p.n) dump p.dump why p.why p.line_is) in
+        record {
+          n = p.n;
+          low = p.low;
+          track_is = told.0;
+          few = subst (λ (q : ℕ). q < length disk.dumps) (sym told.1) p.few;
+          reason = p.why;
+          is = subst (λ (q : ℕ). (streams_on disk files p.n q).passed ≡ Some p.why) (sym told.1) p.is;
+          text =
+              ap (λ (id : TrackId). passed_text id dump p.why) told.0
+              ∙ ap (λ (q : ℕ). passed_text (track_at disk.format p.n) q p.why) told.1 ∙ sym p.line_is;
+          missing = λ absent. missing_is_missing (track_at disk.format p.n) p.dump p.why track dump (sym p.line_is ∙ ap (passed_text track dump) absent);
+        }
+
+    stream_by : IsLineOfReport disk files o is.others number (passed_text track dump why) → IsPassedTold disk files track dump why
+    stream_by (inl s) =
+        absurd (sector_no_passed ByCaptureAndClock (track_at disk.format s.n) s.sector (verdict (joined s.said.captures) s.sector) track dump why s.line_is)
+    stream_by (inr (inl p)) = of_stream p
+    stream_by (inr (inr (inl other))) = absurd (other_no_passed ByCaptureAndClock (track_at disk.format other.n) other.name track dump why other.line_is)
+    stream_by (inr (inr (inr (inl unread)))) = absurd (unread_no_passed o.totals.unread o.totals.others o.totals.whole track dump why unread)
+    stream_by (inr (inr (inr (inr total)))) = absurd (total_no_passed o.totals.sectors track dump why total)
+
+    stream_told : HasLine o.notes (passed_text track dump why) number → IsPassedTold disk files track dump why
+    stream_told h =
+        elim (laws.known disk files o is number (passed_text track dump why) h) [
+          | inl line ↦ stream_by line
+          | inr (empty, past) ↦ absurd (end_no_passed track dump why empty)
+        ]
+
+pub lines_tell : Laws → LinesTell
+lines_tell laws disk files o is most track sector outcome number fits h = told laws disk files o is most track sector outcome number fits h
+
+pub no_sector_is_told_twice : Laws → NoSectorIsToldTwice
+no_sector_is_told_twice laws disk files o is most track sector outcome other number another fits fits' h h' =
+    once laws disk files o is track sector outcome other number another (told laws disk files o is most track sector outcome number fits h)
+    (told laws disk files o is most track sector other another fits' h')
+
+pub passed_lines_are_told : Laws → PassedLinesAreTold
+passed_lines_are_told laws disk files o is most track dump why number fits h = stream_told laws disk files o is most track dump why number fits h
