@@ -8,6 +8,7 @@ ghost use Rattle.flux_engine.specs.Room.{fresh};
 ghost use Rattle.dump_reading.specs.Blamed.{dumps_blame};
 ghost use Rattle.dump_reading.specs.Outcomes.{disk_of};
 ghost use Rattle.disk_map.specs.Dumps.{SaysOfDrawing, dumps_foot};
+ghost use Rattle.track_shelf.specs.Told.{told_by};
 
 use crate::disk::write_top;
 use crate::field_writer::FieldWriter;
@@ -35,7 +36,7 @@ pub fn map_dumps<H: Shelf, P: Sink>(
     requires fresh { room.old ≡ fresh room.old.format }
     requires few { length dumps.now.names.now ≤ 16 }
     ensures says { SaysOfDrawing (disk_of dumps.now room.old.format) (H.files shelf.old) (P.written picture.old) (P.written picture.new) result }
-    ensures files { H.files shelf.new ≡ H.files shelf.old }
+    ensures kept { told_by H.files H.left H.given shelf.new ≡ told_by H.files H.left H.given shelf.old }
     ensures blames { CountsBy (dumps_blame result)
         (three_counts (counts_of H.faults H.failed shelf.old) (counts_of P.faults P.failed picture.old) no_counts)
         (three_counts (counts_of H.faults H.failed shelf.new) (counts_of P.faults P.failed picture.new) no_counts) }

@@ -7,6 +7,7 @@ ghost use Rattle.flux_base.specs.Moments.{Puts, moment};
 ghost use Rattle.flux_engine.specs.Room.{empty_book, fresh};
 ghost use Rattle.dump_reading.specs.Blamed.{dumps_blame};
 ghost use Rattle.dump_identity.specs.Findings.{ComesTo};
+ghost use Rattle.track_shelf.specs.Told.{told_by};
 ghost use Rattle.dump_identity.specs.Lines.{line_of};
 ghost use Rattle.dump_identity.specs.Outcomes.{CutAtOne, FoundOne, HasTried, SaysOfIdentity};
 
@@ -37,7 +38,7 @@ pub fn identify<H: Shelf, W: Sink>(
     lines: &mut W,
 ) -> Result<Option<Finding>, DumpsFault>
     ensures says { SaysOfIdentity dump.now (H.files shelf.old) (W.written lines.old) (W.written lines.new) result }
-    ensures files { H.files shelf.new ≡ H.files shelf.old }
+    ensures kept { told_by H.files H.left H.given shelf.new ≡ told_by H.files H.left H.given shelf.old }
     ensures blames { CountsBy (dumps_blame result)
         (three_counts (counts_of H.faults H.failed shelf.old) (counts_of W.faults W.failed lines.old) no_counts)
         (three_counts (counts_of H.faults H.failed shelf.new) (counts_of W.faults W.failed lines.new) no_counts) }
@@ -64,7 +65,7 @@ fn try_all<H: Shelf, W: Sink>(
 ) -> Result<Tried, DumpsFault>
     ensures ok { IfOk result (HasTried dump.now (H.files shelf.old) (W.written lines.old) (W.written lines.new)) }
     ensures err { IfErr result (λ fault. SaysOfIdentity dump.now (H.files shelf.old) (W.written lines.old) (W.written lines.new) (Err fault)) }
-    ensures files { H.files shelf.new ≡ H.files shelf.old }
+    ensures kept { told_by H.files H.left H.given shelf.new ≡ told_by H.files H.left H.given shelf.old }
     ensures blames { CountsBy (dumps_blame result)
         (three_counts (counts_of H.faults H.failed shelf.old) (counts_of W.faults W.failed lines.old) no_counts)
         (three_counts (counts_of H.faults H.failed shelf.new) (counts_of W.faults W.failed lines.new) no_counts) }
@@ -91,7 +92,7 @@ fn try_one<H: Shelf, W: Sink>(
     requires { trial.book ≡ empty_book trial.candidate.format }
     ensures ok { IfOk result (FoundOne dump.now (H.files shelf.old) (W.written lines.old) (W.written lines.new) trial.candidate) }
     ensures err { IfErr result (CutAtOne dump.now (H.files shelf.old) (W.written lines.old) (W.written lines.new) trial.candidate) }
-    ensures files { H.files shelf.new ≡ H.files shelf.old }
+    ensures kept { told_by H.files H.left H.given shelf.new ≡ told_by H.files H.left H.given shelf.old }
     ensures blames { CountsBy (dumps_blame result)
         (three_counts (counts_of H.faults H.failed shelf.old) (counts_of W.faults W.failed lines.old) no_counts)
         (three_counts (counts_of H.faults H.failed shelf.new) (counts_of W.faults W.failed lines.new) no_counts) }
@@ -118,7 +119,7 @@ fn read_as<H: Shelf>(
 ) -> Result<Option<DumpTotals>, Failed>
     requires { disk.old ≡ fresh candidate.format }
     ensures ok { IfOk result (ComesTo dump.now (H.files shelf.old) candidate) }
-    ensures files { H.files shelf.new ≡ H.files shelf.old }
+    ensures kept { told_by H.files H.left H.given shelf.new ≡ told_by H.files H.left H.given shelf.old }
     ensures counts { Counts (is_err result) (counts_of H.faults H.failed shelf.old) (counts_of H.faults H.failed shelf.new) }
 {
     let dumps = Dumps {

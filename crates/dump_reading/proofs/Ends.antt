@@ -7,6 +7,7 @@ use Rattle.flux_base.specs.Outside.{AppendsPart}
 use Rattle.sector_images.specs.Places.{tracks}
 use Rattle.sector_report.specs.declared.totals.Totals.{Totals}
 use Rattle.track_shelf.specs.Files.{File}
+use Rattle.track_shelf.specs.Told.{ShelfTold}
 use Rattle.flux_engine.specs.Disks.{images, lines}
 use Rattle.flux_engine.specs.LoopProgress.{EndedBySink, EndedByStream, EndsLoop, HasWritten, WritesFront}
 use Rattle.flux_engine.specs.PlanAnswers.{of_part, of_stream}
@@ -29,23 +30,23 @@ use Rattle.dump_reading.specs.declared.totals.DumpTotals.{DumpTotals}
 abbrev none-seen : Seen
 none-seen = record { fault = None; passed = None; times = []; indexes = [] }
 
-module _ (of : PartOf) (disk : DumpDisk) (told told' : Option (List File)) where
+module _ (of : PartOf) (disk : DumpDisk) (start now : ShelfTold) where
   abbrev pub CameOf : List ℕ → Bool → List Seen → Type 0
-  CameOf held used streams = HaveComeOf disk.stepping disk.dumps (plan_of disk) disk.format told told' streams
+  CameOf held used streams = HaveComeOf disk.stepping disk.dumps (plan_of disk) disk.format start now streams
 
   abbrev pub EndedOf : List Seen → CaptureFault → Type 0
-  EndedOf streams fault = (fault ≡ UnreadCapture) × HaveComeOf disk.stepping disk.dumps (plan_of disk) disk.format told told' streams
+  EndedOf streams fault = (fault ≡ UnreadCapture) × HaveComeOf disk.stepping disk.dumps (plan_of disk) disk.format start now streams
 
   -- the first of some streams are of the dumps too
-  front-of : (before more : List Seen) → AreOfDumps disk.stepping disk.dumps (plan_of disk) disk.format told (before ++ more)
-      → AreOfDumps disk.stepping disk.dumps (plan_of disk) disk.format told before
+  front-of : (before more : List Seen) → AreOfDumps disk.stepping disk.dumps (plan_of disk) disk.format start.files (before ++ more)
+      → AreOfDumps disk.stepping disk.dumps (plan_of disk) disk.format start.files before
   front-of before more are files known n q few below =
       sym (get_or_append_left before more none-seen (n * length disk.dumps + q) below)
       ∙ are files known n q few (omega (arith, below, length-append before more))
 
   module _ (image image' notes notes' : Option (List ℕ)) (room : RoomState) (totals : Totals) where
     pub all-read : HasWritten (plan_of disk) of disk.format CameOf image image' notes notes' room (length (tracks disk.format)) totals
-        → HasTracksBy of disk told image image' notes notes'
+        → HasTracksBy of disk start.files image image' notes notes'
         (record { sectors = totals; unread = room.unread; others = room.told_others; whole = room.whole_others })
     all-read w = record {
       streams = w.streams;
@@ -73,10 +74,10 @@ module _ (of : PartOf) (disk : DumpDisk) (told told' : Option (List File)) where
     abbrev pub Ends : PlanFault → Type 0
     Ends fault = EndsLoop (plan_of disk) of disk.format CameOf EndedOf image image' notes notes' room totals fault
 
-    -- the shelf's files stayed as they were
-    pub files-stayed : (fault : PlanFault) → Ends fault → told' ≡ told
-    files-stayed fault (inl e) = e.ended.ended.1.kept
-    files-stayed fault (inr s) = s.came.kept
+    -- what the shelf tells stayed as it was
+    pub told-stayed : (fault : PlanFault) → Ends fault → now ≡ start
+    told-stayed fault (inl e) = e.ended.ended.1.kept
+    told-stayed fault (inr s) = s.came.kept
 
     read-is-no-image : ReadFault ≡ ImageFault → ⊥
     read-is-no-image same = cc
@@ -100,7 +101,7 @@ module _ (of : PartOf) (disk : DumpDisk) (told told' : Option (List File)) where
     by-stream : (fault : PlanFault) → EndedByStream (plan_of disk) of disk.format EndedOf image image' notes notes' totals fault → ReadFault ≡ fault
     by-stream fault e = sym (e.ended.is ∙ ap (of_stream e.number e.ended.capture) e.ended.ended.0)
 
-    pub front-wrote : Ends ReadFault → WroteFrontBy of disk told image image' notes notes'
+    pub front-wrote : Ends ReadFault → WroteFrontBy of disk start.files image image' notes notes'
     front-wrote (inl e) = record {
       streams = e.streams;
       parts = e.parts;
@@ -111,7 +112,7 @@ module _ (of : PartOf) (disk : DumpDisk) (told told' : Option (List File)) where
     }
     front-wrote (inr s) = by s.cause (s.is)
       where
-        by : (cause : PartFault) → ReadFault ≡ of_part cause → WroteFrontBy of disk told image image' notes notes'
+        by : (cause : PartFault) → ReadFault ≡ of_part cause → WroteFrontBy of disk start.files image image' notes notes'
         by PartImageFault same = absurd (read-is-no-image same)
         by PartNotesFault same = absurd (read-is-no-notes same)
 
@@ -126,11 +127,11 @@ module _ (of : PartOf) (disk : DumpDisk) (told told' : Option (List File)) where
         times-next : (n m : ℕ) → (n + 1) * m ≡ n * m + m
         times-next n m = grind (arith)
 
-    pub image-wrote : Ends ImageFault → WroteIntoImageBy of disk told image image' notes notes'
+    pub image-wrote : Ends ImageFault → WroteIntoImageBy of disk start.files image image' notes notes'
     image-wrote (inl e) = absurd (read-is-no-image (by-stream ImageFault e))
     image-wrote (inr s) = by s.cause s.is s.wrote
       where
-        by : (cause : PartFault) → ImageFault ≡ of_part cause → WritesFront cause s.parts s.next image image' notes notes' → WroteIntoImageBy of disk told image image' notes notes'
+        by : (cause : PartFault) → ImageFault ≡ of_part cause → WritesFront cause s.parts s.next image image' notes notes' → WroteIntoImageBy of disk start.files image image' notes notes'
         by PartImageFault same wrote = record {
           streams = s.streams;
           parts = s.parts;
@@ -142,11 +143,11 @@ module _ (of : PartOf) (disk : DumpDisk) (told told' : Option (List File)) where
         }
         by PartNotesFault same wrote = absurd (image-is-no-notes same)
 
-    pub lines-wrote : Ends NotesFault → WroteIntoLinesBy of disk told image image' notes notes'
+    pub lines-wrote : Ends NotesFault → WroteIntoLinesBy of disk start.files image image' notes notes'
     lines-wrote (inl e) = absurd (read-is-no-notes (by-stream NotesFault e))
     lines-wrote (inr s) = by s.cause s.is s.wrote
       where
-        by : (cause : PartFault) → NotesFault ≡ of_part cause → WritesFront cause s.parts s.next image image' notes notes' → WroteIntoLinesBy of disk told image image' notes notes'
+        by : (cause : PartFault) → NotesFault ≡ of_part cause → WritesFront cause s.parts s.next image image' notes notes' → WroteIntoLinesBy of disk start.files image image' notes notes'
         by PartImageFault same wrote = absurd (image-is-no-notes (sym same))
         by PartNotesFault same wrote = record {
           streams = s.streams;

@@ -14,6 +14,7 @@ use Rattle.sector_report.specs.declared.dump_lines.Passed.TheVariants.{Absent}
 use Rattle.track_shelf.specs.Files.{File, Opens, file_at}
 use Rattle.track_shelf.specs.Names.{path_text}
 use Rattle.track_shelf.specs.Stepping.{file_track}
+use Rattle.track_shelf.specs.Told.{ShelfTold}
 use Rattle.track_shelf.specs.declared.stepping.Stepping.{Stepping}
 use Rattle.flux_engine.specs.LoopProgress.{GivesNext, seen_at, seen_next}
 use Rattle.flux_engine.specs.Plans.{Seen}
@@ -31,18 +32,18 @@ get-last : {X : Type 0} (xs : List X) (x d : X) → get_or (xs ++ x ∷ []) (len
 get-last [] x d = refl
 get-last (y ∷ ys) x d = get-last ys x d
 
-module _ (stepping : Stepping) (dumps : List (List ℕ)) (plan : Plan) (format : Format) (told told' : Option (List File)) (before : List Seen) where
+module _ (stepping : Stepping) (dumps : List (List ℕ)) (plan : Plan) (format : Format) (start now : ShelfTold) (before : List Seen) where
   -- one stream more came
   pub came-next : (number capture : ℕ) → capture < plan.captures → length before ≡ number * plan.captures + capture
-      → HaveComeOf stepping dumps plan format told told' before → (told'' : Option (List File)) → told'' ≡ told' → (here : Seen)
-      → ((files : List File) → told ≡ Some files → here ≡ dump_streams stepping dumps files format number capture)
-      → HaveComeOf stepping dumps plan format told told'' (before ++ here ∷ [])
-  came-next number capture low size came told'' kept here is = record {
+      → HaveComeOf stepping dumps plan format start now before → (next_told : ShelfTold) → next_told ≡ now → (here : Seen)
+      → ((files : List File) → start.files ≡ Some files → here ≡ dump_streams stepping dumps files format number capture)
+      → HaveComeOf stepping dumps plan format start next_told (before ++ here ∷ [])
+  came-next number capture low size came next_told kept here is = record {
     kept = kept ∙ came.kept;
     are = λ files known n q few below. by files known n q few below (cases_lt (n * plan.captures + q) (length before));
   }
     where
-      by : (files : List File) → told ≡ Some files → (n q : ℕ) → q < plan.captures → n * plan.captures + q < length (before ++ here ∷ [])
+      by : (files : List File) → start.files ≡ Some files → (n q : ℕ) → q < plan.captures → n * plan.captures + q < length (before ++ here ∷ [])
           → (n * plan.captures + q < length before) ⊎ (length before ≤ n * plan.captures + q)
           → seen_at (before ++ here ∷ []) (n * plan.captures + q) ≡ dump_streams stepping dumps files format n q
       by files known n q few below (inl less) =
@@ -56,21 +57,21 @@ module _ (stepping : Stepping) (dumps : List (List ℕ)) (plan : Plan) (format :
           ap (seen_at (before ++ here ∷ [])) place ∙ get-last before here none-seen ∙ is files known
           ∙ ap (λ (m : ℕ). dump_streams stepping dumps files format m capture) (sym track) ∙ ap (dump_streams stepping dumps files format n) (sym dump)
 
-  -- the shelf's files stayed
-  pub came-still : HaveComeOf stepping dumps plan format told told' before → (told'' : Option (List File)) → told'' ≡ told'
-      → HaveComeOf stepping dumps plan format told told'' before
-  came-still came told'' kept = record { kept = kept ∙ came.kept; are = came.are }
+  -- what the shelf tells stayed
+  pub came-still : HaveComeOf stepping dumps plan format start now before → (next_told : ShelfTold) → next_told ≡ now
+      → HaveComeOf stepping dumps plan format start next_told before
+  came-still came next_told kept = record { kept = kept ∙ came.kept; are = came.are }
 
   -- one more came, or the next one ended the disk
   pub gives-next : (number capture : ℕ) → capture < plan.captures → length before ≡ number * plan.captures + capture
-      → HaveComeOf stepping dumps plan format told told' before → (told'' : Option (List File)) → told'' ≡ told' → (flux : TrackState) (answer : Result NextStream CaptureFault)
-      → ((files : List File) → told' ≡ Some files → IfOk answer (λ next. seen_next next flux ≡ dump_streams stepping dumps files format number capture))
+      → HaveComeOf stepping dumps plan format start now before → (next_told : ShelfTold) → next_told ≡ now → (flux : TrackState) (answer : Result NextStream CaptureFault)
+      → ((files : List File) → now.files ≡ Some files → IfOk answer (λ next. seen_next next flux ≡ dump_streams stepping dumps files format number capture))
       → IfErr answer (λ fault. fault ≡ ReadFault)
-      → GivesNext (λ streams. HaveComeOf stepping dumps plan format told told'' streams) (λ streams fault. (fault ≡ ReadFault) × HaveComeOf stepping dumps plan format told told'' streams)
+      → GivesNext (λ streams. HaveComeOf stepping dumps plan format start next_told streams) (λ streams fault. (fault ≡ ReadFault) × HaveComeOf stepping dumps plan format start next_told streams)
       before flux answer
-  gives-next number capture low size came told'' kept flux (Ok next) seen failed =
-      came-next number capture low size came told'' kept (seen_next next flux) (λ files known. seen files (came.kept ∙ known))
-  gives-next number capture low size came told'' kept flux (Err fault) seen failed = (failed, came-still came told'' kept)
+  gives-next number capture low size came next_told kept flux (Ok next) seen failed =
+      came-next number capture low size came next_told kept (seen_next next flux) (λ files known. seen files (ap (λ (t : ShelfTold). t.files) came.kept ∙ known))
+  gives-next number capture low size came next_told kept flux (Err fault) seen failed = (failed, came-still came next_told kept)
 
 -- what a dump says of a track of the format
 pub dump-says : (stepping : Stepping) (dumps : List (List ℕ)) (files : List File) (format : Format) (number capture : ℕ) (dump : List ℕ) (track : TrackId)

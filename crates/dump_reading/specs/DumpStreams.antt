@@ -11,6 +11,7 @@ use Rattle.sector_report.specs.declared.dump_lines.Passed.TheVariants.{Absent, R
 use Rattle.track_shelf.specs.Files.{File, file_at}
 use Rattle.track_shelf.specs.Names.{path_text}
 use Rattle.track_shelf.specs.Stepping.{file_track}
+use Rattle.track_shelf.specs.Told.{ShelfTold}
 use Rattle.track_shelf.specs.declared.stepping.Stepping.{Stepping}
 use Rattle.flux_engine.specs.LoopProgress.{seen_at}
 use Rattle.flux_engine.specs.Plans.{Seen, Streams}
@@ -49,12 +50,12 @@ AreOfDumps stepping dumps plan format told came =
     (files : List File) → told ≡ Some files → (n q : ℕ) → q < plan.captures → n * plan.captures + q < length came
     → seen_at came (n * plan.captures + q) ≡ dump_streams stepping dumps files format n q
 
--- they came, and the files of the shelf stayed as they were
-pub record HaveComeOf (stepping : Stepping) (dumps : List (List ℕ)) (plan : Plan) (format : Format) (told told' : Option (List File)) (came : List Seen) : Type 0 where
-  pub kept : told' ≡ told
-  pub are : AreOfDumps stepping dumps plan format told came
+-- they came, and what the shelf tells stayed as it was: its files, and its own bytes as a source, of which none was read
+pub record HaveComeOf (stepping : Stepping) (dumps : List (List ℕ)) (plan : Plan) (format : Format) (start now : ShelfTold) (came : List Seen) : Type 0 where
+  pub kept : now ≡ start
+  pub are : AreOfDumps stepping dumps plan format start.files came
 
 -- at first none came
-pub none_came : (stepping : Stepping) (dumps : List (List ℕ)) (plan : Plan) (format : Format) (told : Option (List File))
-    → HaveComeOf stepping dumps plan format told told []
-none_came stepping dumps plan format told = record { kept = refl; are = λ files is n q low below. absurd (omega (arith, below)) }
+pub none_came : (stepping : Stepping) (dumps : List (List ℕ)) (plan : Plan) (format : Format) (start : ShelfTold)
+    → HaveComeOf stepping dumps plan format start start []
+none_came stepping dumps plan format start = record { kept = refl; are = λ files is n q low below. absurd (omega (arith, below)) }

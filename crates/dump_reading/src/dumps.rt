@@ -9,6 +9,7 @@ ghost use Rattle.flux_engine.specs.LoopProgress.{IsBoundedNext, seen_next};
 ghost use Rattle.kryo_stream.specs.declared.fault.CaptureFault.TheVariants.{ReadFault};
 ghost use Rattle.track_shelf.specs.Files.{File, file_at};
 ghost use Rattle.track_shelf.specs.Names.{path_text};
+ghost use Rattle.track_shelf.specs.Told.{told_by};
 
 use flux_base::{Failed, TrackId, Word};
 use flux_engine::{CaptureFault, NextStream, TrackStreams, read_stream};
@@ -31,9 +32,9 @@ impl<'a, H: Shelf> TrackStreams<H> for Dumps<'a> {
 
     ghost failed = { H.failed };
 
-    ghost came = { λ dumps plan format start now held used before. HaveComeOf dumps.stepping dumps.names.now plan format (H.files start) (H.files now) before };
+    ghost came = { λ dumps plan format start now held used before. HaveComeOf dumps.stepping dumps.names.now plan format (told_by H.files H.left H.given start) (told_by H.files H.left H.given now) before };
 
-    ghost ended = { λ dumps plan format start now before fault. (fault ≡ ReadFault) × HaveComeOf dumps.stepping dumps.names.now plan format (H.files start) (H.files now) before };
+    ghost ended = { λ dumps plan format start now before fault. (fault ≡ ReadFault) × HaveComeOf dumps.stepping dumps.names.now plan format (told_by H.files H.left H.given start) (told_by H.files H.left H.given now) before };
 
     fn next_stream(
         &self,
@@ -52,7 +53,7 @@ impl<'a, H: Shelf> TrackStreams<H> for Dumps<'a> {
         }
     }
 
-    ghost begins = { λ dumps plan format now. none_came dumps.stepping dumps.names.now plan format (H.files now) };
+    ghost begins = { λ dumps plan format now. none_came dumps.stepping dumps.names.now plan format (told_by H.files H.left H.given now) };
 }
 
 /// Reads the file of a track of a dump: the stream at its begin. One that is missing or refused is passed over.
@@ -64,7 +65,7 @@ fn read_dump<H: Shelf>(
 ) -> Result<NextStream, CaptureFault>
     ensures seen { (files : List File) → H.files shelf.old ≡ Some files → IfOk result (λ next. seen_next next stream.new.flux ≡ seen_of (file_at files (path_text dump.now track))) }
     ensures fault { IfErr result (λ fault. fault ≡ ReadFault) }
-    ensures kept { H.files shelf.new ≡ H.files shelf.old }
+    ensures kept { told_by H.files H.left H.given shelf.new ≡ told_by H.files H.left H.given shelf.old }
     ensures bounded { IfOk result (λ next. IsBoundedNext next stream.new.flux) }
     ensures counts { Counts (is_unread result) (counts_of H.faults H.failed shelf.old) (counts_of H.faults H.failed shelf.new) }
 {
@@ -83,7 +84,7 @@ fn read_file<H: Shelf>(
 ) -> Result<NextStream, CaptureFault>
     ensures seen { (bytes : List ℕ) → H.File.left file ≡ Some bytes → IfOk result (λ next. seen_next next stream.new.flux ≡ seen_file bytes) }
     ensures fault { IfErr result (λ fault. fault ≡ ReadFault) }
-    ensures kept { H.files shelf.new ≡ H.files shelf.old }
+    ensures kept { told_by H.files H.left H.given shelf.new ≡ told_by H.files H.left H.given shelf.old }
     ensures bounded { IfOk result (λ next. IsBoundedNext next stream.new.flux) }
     ensures counts { IsFresh (counts_of H.File.faults H.File.failed file) (counts_of H.faults H.failed shelf.old)
         → Counts (is_unread result) (counts_of H.faults H.failed shelf.old) (counts_of H.faults H.failed shelf.new) }

@@ -5,6 +5,7 @@ ghost use Rattle.std.specs.Option.{is_some};
 ghost use Rattle.flux_base.specs.Counts.{Counts, counts_of};
 ghost use Rattle.track_shelf.specs.Files.{File, file_at};
 ghost use Rattle.track_shelf.specs.Names.{path_text};
+ghost use Rattle.track_shelf.specs.Told.{told_by};
 ghost use Rattle.dump_reading.specs.Outcomes.{IsFirstEmpty, disk_of, has_any};
 
 use crate::dumps::Dumps;
@@ -21,7 +22,7 @@ pub fn find_empty<H: Shelf>(
     requires few { length dumps.now.names.now ≤ 16 }
     ensures told { (files : List File) → H.files shelf.old ≡ Some files → IfOk result (IsFirstEmpty (disk_of dumps.now format) files) }
     ensures bound { IfOk result (λ dump. IfSome dump (λ number. number < length dumps.now.names.now)) }
-    ensures kept { H.files shelf.new ≡ H.files shelf.old }
+    ensures kept { told_by H.files H.left H.given shelf.new ≡ told_by H.files H.left H.given shelf.old }
     ensures counts { Counts (is_err result) (counts_of H.faults H.failed shelf.old) (counts_of H.faults H.failed shelf.new) }
 {
     for number in 0..dumps.names.len() {
@@ -42,7 +43,7 @@ fn has_any<H: Shelf>(
     shelf: &mut H,
 ) -> Result<bool, Failed>
     ensures told { (files : List File) → H.files shelf.old ≡ Some files → IfOk result (λ there. there ≡ has_any stepping files format dump.now) }
-    ensures kept { H.files shelf.new ≡ H.files shelf.old }
+    ensures kept { told_by H.files H.left H.given shelf.new ≡ told_by H.files H.left H.given shelf.old }
     ensures counts { Counts (is_err result) (counts_of H.faults H.failed shelf.old) (counts_of H.faults H.failed shelf.new) }
 {
     tracks_keep_bounds();
@@ -60,7 +61,7 @@ fn has_any<H: Shelf>(
 /// Whether a dump has the file of a track.
 fn has_file<H: Shelf>(dump: &[u8], track: TrackId, shelf: &mut H) -> Result<bool, Failed>
     ensures told { (files : List File) → H.files shelf.old ≡ Some files → IfOk result (λ there. there ≡ is_some (file_at files (path_text dump.now track))) }
-    ensures kept { H.files shelf.new ≡ H.files shelf.old }
+    ensures kept { told_by H.files H.left H.given shelf.new ≡ told_by H.files H.left H.given shelf.old }
     ensures counts { Counts (is_err result) (counts_of H.faults H.failed shelf.old) (counts_of H.faults H.failed shelf.new) }
 {
     match shelf.open_file(dump, track) {

@@ -5,6 +5,7 @@ ghost use Rattle.flux_base.specs.Blames.{CountsBy, three_counts};
 ghost use Rattle.flux_base.specs.Counts.{counts_of};
 ghost use Rattle.flux_base.specs.Moments.{Puts, moment};
 ghost use Rattle.flux_engine.specs.Room.{fresh};
+ghost use Rattle.track_shelf.specs.Told.{told_by};
 ghost use Rattle.dump_reading.specs.Blamed.{dumps_blame};
 ghost use Rattle.dump_reading.specs.Outcomes.{HasTracksBy, SaysOfDumps, StopsBy, disk_by, disk_of};
 ghost use Rattle.dump_reading.specs.Reports.{end_text};
@@ -38,7 +39,7 @@ pub fn read_dumps<H: Shelf, W: Sink, N: Sink>(
     requires fresh { room.old ≡ fresh room.old.format }
     requires few { length dumps.now.names.now ≤ 16 }
     ensures says { SaysOfDumps (disk_of dumps.now room.old.format) (H.files shelf.old) (W.written image.old) (W.written image.new) (N.written notes.old) (N.written notes.new) result }
-    ensures files { H.files shelf.new ≡ H.files shelf.old }
+    ensures kept { told_by H.files H.left H.given shelf.new ≡ told_by H.files H.left H.given shelf.old }
     ensures blames { CountsBy (dumps_blame result)
         (three_counts (counts_of H.faults H.failed shelf.old) (counts_of W.faults W.failed image.old) (counts_of N.faults N.failed notes.old))
         (three_counts (counts_of H.faults H.failed shelf.new) (counts_of W.faults W.failed image.new) (counts_of N.faults N.failed notes.new)) }
@@ -58,7 +59,7 @@ pub fn read_dumps_by<H: Shelf, W: Sink, N: Sink>(
     requires fresh { room.old ≡ fresh room.old.format }
     requires few { length dumps.now.names.now ≤ 16 }
     ensures says { SaysOfDumps (disk_by clocks dumps.now room.old.format) (H.files shelf.old) (W.written image.old) (W.written image.new) (N.written notes.old) (N.written notes.new) result }
-    ensures files { H.files shelf.new ≡ H.files shelf.old }
+    ensures kept { told_by H.files H.left H.given shelf.new ≡ told_by H.files H.left H.given shelf.old }
     ensures blames { CountsBy (dumps_blame result)
         (three_counts (counts_of H.faults H.failed shelf.old) (counts_of W.faults W.failed image.old) (counts_of N.faults N.failed notes.old))
         (three_counts (counts_of H.faults H.failed shelf.new) (counts_of W.faults W.failed image.new) (counts_of N.faults N.failed notes.new)) }
@@ -93,7 +94,7 @@ pub fn read_dump_tracks<O: TrackWriter, H: Shelf, W: Sink, N: Sink>(
     requires few { length dumps.now.names.now ≤ 16 }
     ensures ok { IfOk result (HasTracksBy (O.part_of writer.now) (disk_by clocks dumps.now room.old.format) (H.files shelf.old) (W.written image.old) (W.written image.new) (N.written notes.old) (N.written notes.new)) }
     ensures err { IfErr result (StopsBy (O.part_of writer.now) (disk_by clocks dumps.now room.old.format) (H.files shelf.old) (W.written image.old) (W.written image.new) (N.written notes.old) (N.written notes.new)) }
-    ensures files { H.files shelf.new ≡ H.files shelf.old }
+    ensures kept { told_by H.files H.left H.given shelf.new ≡ told_by H.files H.left H.given shelf.old }
     ensures blames { CountsBy (dumps_blame result)
         (three_counts (counts_of H.faults H.failed shelf.old) (counts_of W.faults W.failed image.old) (counts_of N.faults N.failed notes.old))
         (three_counts (counts_of H.faults H.failed shelf.new) (counts_of W.faults W.failed image.new) (counts_of N.faults N.failed notes.new)) }

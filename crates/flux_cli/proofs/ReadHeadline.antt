@@ -21,7 +21,7 @@ use Rattle.flux_cli.specs.ReadHeadline.{GaveDumps, GaveDumpsOrCut, GavePicture, 
 use Rattle.flux_cli.specs.ReadRuns.{IsShown, read_status, read_work}
 use Rattle.flux_cli.specs.Runs.{growth}
 use Rattle.flux_cli.specs.ShelfRuns.{AskOfShelf, OfShelf, a_folder, a_sector, an_identity, some_dumps, Ran, RanBy, Surroundings, on_shelf}
-use Rattle.flux_cli.specs.ShelfWork.{DidOnShelf, FinishedOnShelf}
+use Rattle.flux_cli.specs.ShelfWork.{DidOnShelf, FinishedOnShelf, SaysOnShelf}
 use Rattle.flux_cli.specs.Work.{Got}
 use Rattle.flux_words.specs.declared.dump_words.DumpOptions.{DumpOptions}
 use Rattle.flux_words.specs.declared.dump_words.Shown.{Shown}
@@ -130,7 +130,7 @@ module _ (laws : DumpLaws) {H W N : Type 0} (disk : DumpDisk) (files : List File
             (rw is at f.image_got) (rw is at f.notes_got)
       ]
 
-  pub gave_or_cut : (shown : Shown) (status : Status) → DidOnShelf (read_work shown disk) status before after → GaveDumpsOrCut shown disk files status before after
+  pub gave_or_cut : (shown : Shown) (status : Status) → SaysOnShelf (read_work shown disk) status before after → GaveDumpsOrCut shown disk files status before after
   gave_or_cut shown AllGood says = gave shown AllGood all_refused says
   gave_or_cut shown NotAllGood says = gave shown NotAllGood not_refused says
   gave_or_cut shown Refused f =
@@ -148,7 +148,7 @@ module _ (laws : DumpLaws) {H W N : Type 0} (disk : DumpDisk) (files : List File
 pub reads_as_expected : DumpLaws → WordsBeginWithLetters → WordsNameFormats → {S W N H : Type 0} (words : List (List ℕ)) (status : Status) (before after : Surroundings S W N H)
     → Ran words status before after → ReadsAsExpected words status (on_shelf before) (on_shelf after)
 reads_as_expected laws letters names_formats words status before after ran asked files are can told =
-    gave_or_cut laws (asked_disk asked) files (omega (arith, can.most)) (on_shelf before) (on_shelf after) told (shown_of asked.options) status (by ran.asked ran.asks ran.did)
+    gave_or_cut laws (asked_disk asked) files (omega (arith, can.most)) (on_shelf before) (on_shelf after) told (shown_of asked.options) status (by ran.asked ran.asks ran.did).says
   where
     Read : Asked → Type 0
     Read of = DidOnShelf (read_work (shown_of of.options) (asked_disk of)) status (on_shelf before) (on_shelf after)

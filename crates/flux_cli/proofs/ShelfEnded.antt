@@ -18,7 +18,7 @@ use Rattle.flux_cli.proofs.EndingLaws.{IsEnd, ends-refused, ends-with}
 use Rattle.flux_cli.specs.Endings.{EndsBy, shelf_ending}
 use Rattle.flux_cli.specs.FolderRuns.{OnShelf, ShelfMoment, on}
 use Rattle.flux_cli.specs.Runs.{growth}
-use Rattle.flux_cli.specs.ShelfWork.{CutInEmpty, DidOnShelf, IsEmptyOr, ShelfWork, empty_outcome}
+use Rattle.flux_cli.specs.ShelfWork.{CutInEmpty, IsEmptyOr, SaysOnShelf, ShelfWork, empty_outcome}
 use Rattle.flux_cli.specs.Work.{Got, Growth, Outcome}
 
 -- nothing was written
@@ -36,7 +36,7 @@ kept-nothing (Some xs) (Some ys) kept = kept ∙ sym (append-nil xs)
 -- the work is done by its row
 pub by-row : {H W N : Type 0} (work : ShelfWork) (before after : OnShelf H W N) (o : Outcome) → work.gives before.shelf.files o
     → Got (growth before.image after.image) o.image → Got (growth before.notes after.notes) o.notes → (status : Status) → IsEnd status → status ≡ o.status
-    → DidOnShelf work status before after
+    → SaysOnShelf work status before after
 by-row work before after o is image_got notes_got AllGood end same =
     record { outcome = o; is = is; status_is = same; image_got = image_got; notes_got = notes_got }
 by-row work before after o is image_got notes_got NotAllGood end same =
@@ -77,7 +77,7 @@ module _ (work : ShelfWork) (told : Option (List File)) (image notes : Growth) w
 
 module _ {H W N : Type 0} (work : ShelfWork) (before : OnShelf H W N) (shelf : ShelfMoment H) (image : Moment W) (mid after : Moment N) (status : Status) where
   abbrev Did : Status → Moment N → Type 0
-  Did s n = DidOnShelf work s before (on shelf image n)
+  Did s n = SaysOnShelf work s before (on shelf image n)
 
   pub shelf-ended : {A : Type 0} (by : A → Status) (answer : Result A DumpsFault)
       → Answers work before.shelf.files (growth before.image image) (growth before.notes mid) by answer

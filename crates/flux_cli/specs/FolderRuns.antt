@@ -11,6 +11,7 @@ use Rattle.sector_images.specs.Places.{tracks}
 use Rattle.sector_images.specs.declared.format.Format.{Format}
 use Rattle.track_shelf.specs.Files.{File, LeavesWanted, NamesMissing}
 use Rattle.track_shelf.specs.Names.{missing_text}
+use Rattle.track_shelf.specs.Told.{ShelfTold}
 use Rattle.flux_cli.specs.Runs.{Does, Outside, growth}
 use Rattle.flux_cli.specs.Work.{Got, GotPart}
 use Rattle.flux_words.specs.declared.command.Command.TheVariants.{Decode}
@@ -23,6 +24,14 @@ pub record ShelfMoment (H : Type 0) : Type 0 where
 
 abbrev pub shelf_moment : {H : Type 0} → Moment H → Option (List (List ℕ)) → Option (List File) → ShelfMoment H
 shelf_moment source given files = record { source = source; given = given; files = files }
+
+-- what the shelf tells of itself at that moment
+abbrev pub told_at : {H : Type 0} → ShelfMoment H → ShelfTold
+told_at now = record { files = now.files; left = now.source.bytes; given = now.given }
+
+-- The shelf stayed as it was but for how often it failed: the files that lie on it, its own bytes as a source, and what its reads gave.
+abbrev pub ShelfStays : {H : Type 0} → (before after : ShelfMoment H) → Type 0
+ShelfStays before after = told_at after ≡ told_at before
 
 -- the shelf and both sinks at a moment
 pub record OnShelf (H W N : Type 0) : Type 0 where

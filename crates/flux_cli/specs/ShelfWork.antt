@@ -6,7 +6,7 @@ use Rattle.flux_base.specs.declared.status.Status.{Status}
 use Rattle.flux_base.specs.declared.status.Status.TheVariants.{AllGood, NotAllGood, Refused, Usage, ReadFault, ImageFault, NotesFault, Memory, ShelfFault}
 use Rattle.sector_report.specs.DumpLines.{no_files_text}
 use Rattle.track_shelf.specs.Files.{File}
-use Rattle.flux_cli.specs.FolderRuns.{OnShelf}
+use Rattle.flux_cli.specs.FolderRuns.{OnShelf, ShelfStays}
 use Rattle.flux_cli.specs.Runs.{growth}
 use Rattle.flux_cli.specs.Work.{Got, GotNothing, GotPart, Growth, Outcome}
 
@@ -31,16 +31,22 @@ IsCutOnShelf work status before after = work.cut status before.shelf.files (grow
 
 -- What the status says. All was given that the files come to; or a fault of one object, which that object counted, cut the work; or there was no
 -- memory to begin.
-abbrev pub DidOnShelf : {H W N : Type 0} → ShelfWork → Status → (before after : OnShelf H W N) → Type 0
-DidOnShelf work AllGood before after = FinishedOnShelf work AllGood before after
-DidOnShelf work NotAllGood before after = FinishedOnShelf work NotAllGood before after
-DidOnShelf work Refused before after = FinishedOnShelf work Refused before after
-DidOnShelf work Usage before after = ⊥
-DidOnShelf work ReadFault before after = ⊥
-DidOnShelf work ImageFault before after = IsCutOnShelf work ImageFault before after × Rose before.image.counts.faults after.image.counts.faults
-DidOnShelf work NotesFault before after = IsCutOnShelf work NotesFault before after × Rose before.notes.counts.faults after.notes.counts.faults
-DidOnShelf work Memory before after = after ≡ before
-DidOnShelf work ShelfFault before after = IsCutOnShelf work ShelfFault before after × Rose before.shelf.source.counts.faults after.shelf.source.counts.faults
+abbrev pub SaysOnShelf : {H W N : Type 0} → ShelfWork → Status → (before after : OnShelf H W N) → Type 0
+SaysOnShelf work AllGood before after = FinishedOnShelf work AllGood before after
+SaysOnShelf work NotAllGood before after = FinishedOnShelf work NotAllGood before after
+SaysOnShelf work Refused before after = FinishedOnShelf work Refused before after
+SaysOnShelf work Usage before after = ⊥
+SaysOnShelf work ReadFault before after = ⊥
+SaysOnShelf work ImageFault before after = IsCutOnShelf work ImageFault before after × Rose before.image.counts.faults after.image.counts.faults
+SaysOnShelf work NotesFault before after = IsCutOnShelf work NotesFault before after × Rose before.notes.counts.faults after.notes.counts.faults
+SaysOnShelf work Memory before after = after ≡ before
+SaysOnShelf work ShelfFault before after = IsCutOnShelf work ShelfFault before after × Rose before.shelf.source.counts.faults after.shelf.source.counts.faults
+
+-- What was done over dumps: what the status says; and whatever it says, the shelf stayed as it was but for how often it failed, since the files of dumps are
+-- read apart from it.
+pub record DidOnShelf {H W N : Type 0} (work : ShelfWork) (status : Status) (before after : OnShelf H W N) : Type 0 where
+  pub says : SaysOnShelf work status before after
+  pub stays : ShelfStays before.shelf after.shelf
 
 -- where a dump has none of the wanted files, its number is told
 abbrev pub empty_outcome : ℕ → Outcome

@@ -45,8 +45,8 @@ pub fn run<S: Source, W: Sink, N: Sink, H: Shelf>(
     // command's row states; or there was no memory to begin, and all objects are as they were. The source is
     // read only where the bytes that it gave do not tell what there is to do, so that nothing is awaited on an open pipe
     // that isn't needed. Where the words name a folder, the shelf stands in the source's place, and where a wanted file is
-    // missing, the notes say so and nothing is read; where they name dumps, or ask which disk a dump is of, the files of these are read on the shelf; else the
-    // shelf is not touched.
+    // missing, the notes say so and nothing is read; where they name dumps, or ask which disk a dump is of, the files of these are read on the shelf, which
+    // itself stays as it was but for how often it failed; else the shelf is not touched.
     ensures ran { Ran words.now result
         (surroundings (outside (moment S.left S.faults S.failed source.old) (S.given source.old) (moment W.written W.faults W.failed image.old) (moment N.written N.faults N.failed notes.old))
         (shelf_moment (moment H.left H.faults H.failed shelf.old) (H.given shelf.old) (H.files shelf.old)))

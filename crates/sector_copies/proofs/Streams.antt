@@ -12,6 +12,7 @@ use Rattle.std.proofs.lemmas.Nat.{div-mul-add, mod-mul-add}
 use Rattle.index_turns.specs.Track.{TrackState}
 use Rattle.sector_report.specs.declared.dump_lines.Passed.TheVariants.{Absent}
 use Rattle.track_shelf.specs.Files.{File}
+use Rattle.track_shelf.specs.Told.{ShelfTold}
 use Rattle.turn_merge.specs.Readings.{NotedReading}
 use Rattle.flux_base.specs.Counts.{Counts, FaultCounts}
 use Rattle.flux_engine.specs.Blamed.{is_unread}
@@ -44,12 +45,12 @@ module _ (disk : DumpDisk) where
   unfolding told_streams
   told_are told files is n q = ap (λ (t : Option (List File)). told_streams t n q) is
 
-  module _ (told : Option (List File)) (n q : ℕ) (low : q < length disk.dumps) where
+  module _ (start : ShelfTold) (n q : ℕ) (low : q < length disk.dumps) where
     abbrev count : ℕ
     count = length disk.dumps
 
     abbrev number_of : ℕ → Seen
-    number_of i = told_streams told (i / count) (i % count)
+    number_of i = told_streams start.files (i / count) (i % count)
 
     -- those before one of a track, as they would have come
     pub earlier : List Seen
@@ -59,27 +60,27 @@ module _ (disk : DumpDisk) where
     unfolding earlier
     earlier_many = length-map-range_with_len number_of 0 (n * count + q)
 
-    pub earlier_came : HaveComeOf disk.stepping disk.dumps (dump_plan (length disk.dumps)) disk.format told told earlier
+    pub earlier_came : HaveComeOf disk.stepping disk.dumps (dump_plan (length disk.dumps)) disk.format start start earlier
     unfolding earlier
     earlier_came = record {
       kept = refl;
       are = λ files is m p few below.
           let many = earlier_many in
           get_or-map-range_with_len number_of 0 (n * count + q) (m * count + p) (m * count + p) none_seen (omega (arith, below, many)) (omega arith)
-          ∙ ap (λ (k : ℕ). told_streams told k ((m * count + p) % count)) (div-mul-add m count p few)
-          ∙ ap (told_streams told m) (mod-mul-add m count p few)
-          ∙ told_are told files is m p;
+          ∙ ap (λ (k : ℕ). told_streams start.files k ((m * count + p) % count)) (div-mul-add m count p few)
+          ∙ ap (told_streams start.files m) (mod-mul-add m count p few)
+          ∙ told_are start.files files is m p;
     }
 
     -- the next one is of its dump, and a fault is one of reading
-    module _ (told' : Option (List File)) (flux : TrackState) where
+    module _ (now : ShelfTold) (flux : TrackState) where
       abbrev Came : List Seen → Type 0
-      Came streams = HaveComeOf disk.stepping disk.dumps (dump_plan (length disk.dumps)) disk.format told told' streams
+      Came streams = HaveComeOf disk.stepping disk.dumps (dump_plan (length disk.dumps)) disk.format start now streams
 
       abbrev Ended : List Seen → CaptureFault → Type 0
-      Ended streams fault = (fault ≡ ReadFault) × HaveComeOf disk.stepping disk.dumps (dump_plan (length disk.dumps)) disk.format told told' streams
+      Ended streams fault = (fault ≡ ReadFault) × HaveComeOf disk.stepping disk.dumps (dump_plan (length disk.dumps)) disk.format start now streams
 
-      pub next_is : (next : NextStream) → GivesNext Came Ended earlier flux (Ok next) → IsStreamOf disk told n q (seen_next next flux)
+      pub next_is : (next : NextStream) → GivesNext Came Ended earlier flux (Ok next) → IsStreamOf disk start.files n q (seen_next next flux)
       next_is next came files is =
           let many = earlier_many in
           let size = length-append earlier (seen_next next flux ∷ []) in
@@ -90,13 +91,13 @@ module _ (disk : DumpDisk) where
       -- what was noted of it, and that it was passed over
       pub next_read : (next : NextStream) (old new : SectorRoomState) → GivesNext Came Ended earlier flux (Ok next)
           → NotesOf (AreReadingsOf Controller Both disk.format (track_at disk.format n) (seen_next next flux).times (seen_next next flux).indexes q) old.known new.known
-          → new.passed ≡ old.passed ++ passed_one q (seen_next next flux).passed → HasReadNext disk told n q old new
+          → new.passed ≡ old.passed ++ passed_one q (seen_next next flux).passed → HasReadNext disk start.files n q old new
       next_read next old new came noted passed = record { here = seen_next next flux; is = next_is next came; noted = noted; passed_are = passed }
 
-      pub next_kept : (next : NextStream) → GivesNext Came Ended earlier flux (Ok next) → told' ≡ told
+      pub next_kept : (next : NextStream) → GivesNext Came Ended earlier flux (Ok next) → now ≡ start
       next_kept next came = came.kept
 
-      pub ended_kept : (fault : CaptureFault) → GivesNext Came Ended earlier flux (Err fault) → told' ≡ told
+      pub ended_kept : (fault : CaptureFault) → GivesNext Came Ended earlier flux (Err fault) → now ≡ start
       ended_kept fault ended = ended.1.kept
 
       pub ended_counts : (fault : CaptureFault) (before after : FaultCounts) → GivesNext Came Ended earlier flux (Err fault)

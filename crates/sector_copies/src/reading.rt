@@ -9,6 +9,7 @@ ghost use Rattle.sector_copies.specs.Notes.{SectorStandsFor};
 ghost use Rattle.sector_copies.specs.TrackReadings.{HasReadNext, HasReadTo, IsEmptyRoom, IsSameRoom};
 ghost use Rattle.sector_images.specs.Formats.{row};
 ghost use Rattle.sector_images.specs.Places.{IsSector, sector_place, tracks};
+ghost use Rattle.track_shelf.specs.Told.{told_by};
 ghost use Rattle.turn_merge.specs.Book.{MOST_NOTES};
 ghost use Rattle.turn_merge.specs.Readings.{NotedReading, verdict as verdict_over};
 
@@ -160,7 +161,7 @@ pub fn read_sector<H: Shelf>(
     requires few { length dumps.now.names.now ≤ 16 }
     ensures read { OnOk result (HasReadTo (disk_of dumps.now room.old.format) (H.files shelf.old) room.old.number room.old.known.sector (length dumps.now.names.now) room.new.known room.new.passed) }
     ensures same { IsSameRoom room.old room.new }
-    ensures kept { H.files shelf.new ≡ H.files shelf.old }
+    ensures kept { told_by H.files H.left H.given shelf.new ≡ told_by H.files H.left H.given shelf.old }
     ensures counts { Counts (is_err result) (counts_of H.faults H.failed shelf.old) (counts_of H.faults H.failed shelf.new) }
 {
     for capture in 0..dumps.names.len() {
@@ -186,7 +187,7 @@ fn read_next<H: Shelf>(
     ensures same { IsSameRoom room.old room.new }
     ensures few { room.new.known.book.notes ≤ room.old.known.book.notes + 2 * MOST_READINGS }
     ensures passed { length room.new.passed ≤ length room.old.passed + 1 }
-    ensures kept { H.files shelf.new ≡ H.files shelf.old }
+    ensures kept { told_by H.files H.left H.given shelf.new ≡ told_by H.files H.left H.given shelf.old }
     ensures counts { Counts (is_err result) (counts_of H.faults H.failed shelf.old) (counts_of H.faults H.failed shelf.new) }
 {
     tracks_keep_bounds();

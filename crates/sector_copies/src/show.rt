@@ -11,6 +11,7 @@ ghost use Rattle.flux_engine.specs.Recordings.{track_at};
 ghost use Rattle.sector_copies.specs.Notes.{SectorStandsFor};
 ghost use Rattle.sector_copies.specs.Shown.{SaysOfSector, image_shown, notes_shown};
 ghost use Rattle.sector_copies.specs.Texts.{copies_text, copy_at, line_text, sector_text};
+ghost use Rattle.track_shelf.specs.Told.{told_by};
 
 use crate::copies::SectorCopy;
 use crate::lines::offset_line;
@@ -39,7 +40,7 @@ pub fn show_sector<H: Shelf, W: Sink, N: Sink>(
     requires no_passed { room.old.passed ≡ [] }
     requires few { length dumps.now.names.now ≤ 16 }
     ensures says { SaysOfSector (record { disk = disk_of dumps.now room.old.format; number = room.old.number; sector = room.old.known.sector; alone = alone }) (H.files shelf.old) (W.written image.old) (W.written image.new) (N.written notes.old) (N.written notes.new) result }
-    ensures files { H.files shelf.new ≡ H.files shelf.old }
+    ensures kept { told_by H.files H.left H.given shelf.new ≡ told_by H.files H.left H.given shelf.old }
     ensures blames { CountsBy (dumps_blame result)
         (three_counts (counts_of H.faults H.failed shelf.old) (counts_of W.faults W.failed image.old) (counts_of N.faults N.failed notes.old))
         (three_counts (counts_of H.faults H.failed shelf.new) (counts_of W.faults W.failed image.new) (counts_of N.faults N.failed notes.new)) }

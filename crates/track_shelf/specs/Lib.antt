@@ -1,4 +1,5 @@
 pub mod Names
 pub mod Files
+pub mod Told
 pub mod Stepping
 pub mod Memory

@@ -1,6 +1,7 @@
-use Rattle.std.proofs.Common.{true, false, inl, refl}
+use Rattle.std.proofs.Common.{true, false, inl, refl, ap}
 use Rattle.flux_base.specs.lemmas.Blaming.{CountsBy-image, CountsBy-source, CountsBy-then}
 use Rattle.flux_engine.specs.lemmas.Blamed.{CountsBy-unnoted}
+use Rattle.track_shelf.specs.Told.{ShelfTold}
 use Rattle.dump_reading.specs.Outcomes.{disk_of}
 use Rattle.disk_map.proofs.DrawnDumps.{drawn-all, drawn-stopped, no-foot, no-top}
 use Rattle.disk_map.proofs.dumps.map_dumps.Goals as goal
@@ -17,21 +18,21 @@ pub returns-in-Err-read_dump_tracks-clause-says : goal.returns-in-Err-read_dump_
 returns-in-Err-read_dump_tracks-clause-says g c =
     drawn-stopped (disk_of c.args.dumps.now c.args.room.now.format) (g.H.Shelf.files c.args.shelf.now) (g.P.Sink.written c.args.picture.now) (g.P.Sink.written c.write_top.new.picture)
     (rw c.room_format-format.ensures at c.in-Ok.ensures.ok) (g.P.Sink.written c.read_dump_tracks.new.image) _ _ c.in-Err-read_dump_tracks.fault _ _ _ _
-    (CountsBy-unnoted _ refl c.in-Err-read_dump_tracks.ensures.blames) (rw c.in-Ok-None.ensures.kept at c.in-Err-read_dump_tracks.ensures.err)
+    (CountsBy-unnoted _ refl c.in-Err-read_dump_tracks.ensures.blames) (rw (ap (λ (t : ShelfTold). t.files) c.in-Ok-None.ensures.kept) at c.in-Err-read_dump_tracks.ensures.err)
 
 pub returns-in-Ok-write_foot-clause-says : goal.returns-in-Ok-write_foot-clause-says
 returns-in-Ok-write_foot-clause-says g c = (
   rw (c.room_format-format.ensures, c.in-Ok-None.field-0-is) at c.in-Ok-None.ensures.told,
   drawn-all (disk_of c.args.dumps.now c.args.room.now.format) (g.H.Shelf.files c.args.shelf.now) (g.P.Sink.written c.args.picture.now) (g.P.Sink.written c.write_top.new.picture)
       (rw c.room_format-format.ensures at c.in-Ok.ensures.ok) (g.P.Sink.written c.read_dump_tracks.new.image) _ _ (g.P.Sink.written c.write_foot.new.picture) c.in-Ok-read_dump_tracks.totals
-      (rw c.in-Ok-None.ensures.kept at c.in-Ok-read_dump_tracks.ensures.ok) (rw (c.of_format.ensures, c.room_format-format.ensures) at c.in-Ok-write_foot.ensures.ok),
+      (rw (ap (λ (t : ShelfTold). t.files) c.in-Ok-None.ensures.kept) at c.in-Ok-read_dump_tracks.ensures.ok) (rw (c.of_format.ensures, c.room_format-format.ensures) at c.in-Ok-write_foot.ensures.ok),
 )
 
 pub returns-in-Err-write_foot-clause-says : goal.returns-in-Err-write_foot-clause-says
 returns-in-Err-write_foot-clause-says g c =
     no-foot (disk_of c.args.dumps.now c.args.room.now.format) (g.H.Shelf.files c.args.shelf.now) (g.P.Sink.written c.args.picture.now) (g.P.Sink.written c.write_top.new.picture)
     (rw c.room_format-format.ensures at c.in-Ok.ensures.ok) (g.P.Sink.written c.read_dump_tracks.new.image) _ _ (g.P.Sink.written c.write_foot.new.picture) c.in-Ok-read_dump_tracks.totals
-    (rw c.in-Ok-None.ensures.kept at c.in-Ok-read_dump_tracks.ensures.ok) (rw (c.of_format.ensures, c.room_format-format.ensures) at c.in-Err-write_foot.ensures.err)
+    (rw (ap (λ (t : ShelfTold). t.files) c.in-Ok-None.ensures.kept) at c.in-Ok-read_dump_tracks.ensures.ok) (rw (c.of_format.ensures, c.room_format-format.ensures) at c.in-Err-write_foot.ensures.err)
 
 pub returns-in-Err-clause-blames : goal.returns-in-Err-clause-blames
 returns-in-Err-clause-blames g c = CountsBy-source _ _ true c.in-Err.ensures.counts

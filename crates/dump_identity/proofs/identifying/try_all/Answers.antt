@@ -1,8 +1,8 @@
-use Rattle.std.proofs.Common.{◌≡◌, ◌+◌, [], ◌∷◌, ◌++◌, List, Option, length, map, refl, sym, ap, subst, ◌∙◌, append_assoc, append-nil, arith}
+use Rattle.std.proofs.Common.{◌≡◌, ◌+◌, [], ◌∷◌, ◌++◌, List, length, map, refl, sym, ap, subst, ◌∙◌, append_assoc, append-nil, arith}
 use Rattle.std.proofs.lemmas.Grind.{common_steps}
 use Rattle.std.specs.Vec.Iter.{into_iter_items}
 use Rattle.flux_base.specs.lemmas.Blaming.{CountsBy-none, CountsBy-then}
-use Rattle.track_shelf.specs.Files.{File}
+use Rattle.track_shelf.specs.Told.{ShelfTold}
 use Rattle.dump_identity.specs.Candidates.{candidates}
 use Rattle.dump_identity.specs.Outcomes.{CutAtOne, FoundOne}
 use Rattle.dump_identity.specs.Trials.{trial_of}
@@ -43,9 +43,9 @@ loop-trial-preserved g c =
       left = omega (arith, ap length steps, at.invariant.left, c.in-Some.ensures.steps.1);
       made = made-next c.args.dump.now (g.H.Shelf.files c.args.shelf.now) (g.W.Sink.written c.args.lines.now) at.yielded (g.W.Sink.written at.lines) at.tried at.invariant.made trial
           (g.W.Sink.written c.try_one.new.lines) c.in-Ok.finding c.note.new.self
-          (subst (λ (o : Option (List File)). FoundOne c.args.dump.now o (g.W.Sink.written at.lines) (g.W.Sink.written c.try_one.new.lines) trial.candidate c.in-Ok.finding) at.invariant.kept c.in-Ok.ensures.ok)
+          (subst (λ (t : ShelfTold). FoundOne c.args.dump.now t.files (g.W.Sink.written at.lines) (g.W.Sink.written c.try_one.new.lines) trial.candidate c.in-Ok.finding) at.invariant.kept c.in-Ok.ensures.ok)
           c.note.ensures;
-      kept = c.try_one.ensures.files ∙ at.invariant.kept;
+      kept = c.try_one.ensures.kept ∙ at.invariant.kept;
       blames = CountsBy-then _ at.invariant.blames c.in-Ok.ensures.blames;
     }
 
@@ -65,7 +65,7 @@ returns-in-Err-clause-err g c =
     ap (λ (ts : List Trial). at.yielded ++ ts) (sym steps) ∙ at.invariant.rest in
     made-cut c.args.dump.now (g.H.Shelf.files c.args.shelf.now) (g.W.Sink.written c.args.lines.now) at.yielded (g.W.Sink.written at.lines) at.tried at.invariant.made trial
     (into_iter_items c.next.new.self) whole (g.W.Sink.written c.try_one.new.lines) c.in-Err.fault
-    (subst (λ (o : Option (List File)). CutAtOne c.args.dump.now o (g.W.Sink.written at.lines) (g.W.Sink.written c.try_one.new.lines) trial.candidate c.in-Err.fault) at.invariant.kept c.in-Err.ensures.err)
+    (subst (λ (t : ShelfTold). CutAtOne c.args.dump.now t.files (g.W.Sink.written at.lines) (g.W.Sink.written c.try_one.new.lines) trial.candidate c.in-Err.fault) at.invariant.kept c.in-Err.ensures.err)
 
 pub returns-clause-blames : goal.returns-clause-blames
 returns-clause-blames g c = c.loop-trial.invariant.blames

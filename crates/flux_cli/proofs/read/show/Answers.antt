@@ -13,14 +13,20 @@ pub returns-in-Image-clause-did : goal.returns-in-Image-clause-did
 returns-in-Image-clause-did g c =
     let disk = disk_of c.args.dumps.now c.args.room.now.format in
     let answer = c.read_dumps-answer in
-    rw c.in-Image.is (shelf-ended (read_work Image disk) _ _ _ _ _ c.end_of_dumps.result read_status answer.result
-    (read-answers disk _ _ _ answer.result answer.ensures.says) answer.ensures.blames c.end_of_dumps.ensures)
+    rw c.in-Image.is (record {
+      says = shelf-ended (read_work Image disk) _ _ _ _ _ c.end_of_dumps.result read_status answer.result
+          (read-answers disk _ _ _ answer.result answer.ensures.says) answer.ensures.blames c.end_of_dumps.ensures;
+      stays = answer.ensures.kept;
+    })
 
 pub returns-in-Picture-clause-did : goal.returns-in-Picture-clause-did
 returns-in-Picture-clause-did g c =
     let disk = disk_of c.args.dumps.now c.args.room.now.format in
-    rw c.in-Picture.is (shelf-ended (read_work Picture disk) _ _ _ _ _ c.end_of_dumps-in-Picture.result read_status c.map_dumps.result
-    (draw-answers disk _ _ _ c.map_dumps.result c.map_dumps.ensures.says refl) (CountsBy-noteless _ _ c.map_dumps.ensures.blames) c.end_of_dumps-in-Picture.ensures)
+    rw c.in-Picture.is (record {
+      says = shelf-ended (read_work Picture disk) _ _ _ _ _ c.end_of_dumps-in-Picture.result read_status c.map_dumps.result
+          (draw-answers disk _ _ _ c.map_dumps.result c.map_dumps.ensures.says refl) (CountsBy-noteless _ _ c.map_dumps.ensures.blames) c.end_of_dumps-in-Picture.ensures;
+      stays = c.map_dumps.ensures.kept;
+    })
 
 pub returns-in-Image-clause-blames : goal.returns-in-Image-clause-blames
 returns-in-Image-clause-blames g c =

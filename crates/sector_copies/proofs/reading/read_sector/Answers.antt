@@ -1,5 +1,6 @@
 use Rattle.std.proofs.Common.{ap, arith, length, refl, subst, sym, ◌∙◌}
 use Rattle.sector_images.specs.declared.format.Format.{Format}
+use Rattle.track_shelf.specs.Told.{ShelfTold}
 use Rattle.dump_reading.specs.Outcomes.{disk_of}
 use Rattle.flux_base.specs.lemmas.Counting.{Counts-none, Counts-then}
 use Rattle.sector_copies.specs.TrackReadings.{HasReadNext}
@@ -23,7 +24,7 @@ loop-capture-preserved g c =
     let inv = c.loop-capture.invariant in
     record {
       read = reads_on disk (g.H.Shelf.files c.args.shelf.now) (g.H.Shelf.files c.loop-capture.shelf) c.args.room.now.number c.args.room.now.known.sector c.loop-capture.capture
-          c.loop-capture.room c.read_next.new.room inv.kept inv.same.number inv.same.sector inv.read
+          c.loop-capture.room c.read_next.new.room (ap (λ (t : ShelfTold). t.files) inv.kept) inv.same.number inv.same.sector inv.read
           (subst (λ (f : Format). HasReadNext (disk_of c.args.dumps.now f) (g.H.Shelf.files c.loop-capture.shelf) c.loop-capture.room.number c.loop-capture.capture c.loop-capture.room c.read_next.new.room)
           inv.same.format c.in-Ok.ensures.read);
       same = same_room_on c.args.room.now c.loop-capture.room c.read_next.new.room inv.same c.read_next.ensures.same;

@@ -2,6 +2,7 @@ use Rattle.std.proofs.Common.{◌≡◌, ◌≤◌, ◌*◌, false, length}
 use Rattle.dump_reading.specs.Outcomes.{disk_of}
 use Rattle.flux_base.specs.Counts.{Counts, counts_of}
 use Rattle.flux_engine.specs.Room.{MOST_READINGS}
+use Rattle.track_shelf.specs.Told.{told_by}
 use Rattle.sector_copies.specs.TrackReadings.{HasReadTo, IsSameRoom}
 use Rattle.sector_copies.proofs.reading.read_sector.Given as goal
 
@@ -11,6 +12,6 @@ invariant-loop-capture g l = record {
   same : IsSameRoom l.initial.room l.room;
   few : l.room.known.book.notes ≤ 2 * MOST_READINGS * l.capture;
   passed : length l.room.passed ≤ l.capture;
-  kept : g.H.Shelf.files l.shelf ≡ g.H.Shelf.files l.initial.shelf;
+  kept : told_by g.H.Shelf.files g.H.Source.left g.H.Source.given l.shelf ≡ told_by g.H.Shelf.files g.H.Source.left g.H.Source.given l.initial.shelf;
   counts : Counts false (counts_of g.H.Source.faults g.H.Source.failed l.initial.shelf) (counts_of g.H.Source.faults g.H.Source.failed l.shelf);
 }

@@ -1,4 +1,5 @@
 use Rattle.std.proofs.Common.{arith, refl, sym, ◌∙◌}
+use Rattle.track_shelf.specs.Told.{told_by}
 use Rattle.dump_reading.specs.DumpStreams.{dump_streams}
 use Rattle.dump_reading.proofs.NextStreams.{came-next, dump-says, gives-next, item-none, item-some, none-says, says-same}
 use Rattle.dump_reading.proofs.dumps.DumpsTrackStreams.next_stream.Goals as goal
@@ -14,8 +15,8 @@ returns-in-Some-clause-next g c = λ plan start before few size came.
     let names = c.args.self.now.names.now in
     let look = c.in-Some.ensures.lookup in
     let here = item-some names c.from.result c.args.capture c.in-Some.dump.now c.from.ensures look.3.0 look.1 in
-    gives-next stepping names plan c.args.format (g.H.Shelf.files start) (g.H.Shelf.files c.args.source.now) before c.args.number c.args.capture few size came
-    (g.H.Shelf.files c.read_dump.new.shelf) c.read_dump.ensures.kept c.read_dump.new.stream.flux c.read_dump.result
+    gives-next stepping names plan c.args.format (told_by g.H.Shelf.files g.H.Source.left g.H.Source.given start) (told_by g.H.Shelf.files g.H.Source.left g.H.Source.given c.args.source.now) before c.args.number c.args.capture few size came
+    (told_by g.H.Shelf.files g.H.Source.left g.H.Source.given c.read_dump.new.shelf) c.read_dump.ensures.kept c.read_dump.new.stream.flux c.read_dump.result
     (λ files known.
     says-same c.read_dump.result c.read_dump.new.stream.flux _ (dump_streams stepping names files c.args.format c.args.number c.args.capture)
     (dump-says stepping names files c.args.format c.args.number c.args.capture c.in-Some.dump.now c.track_id.result here c.track_id.ensures.at)
@@ -27,6 +28,6 @@ returns-in-None-clause-next g c = λ plan start before few size came.
     let stepping = c.args.self.now.stepping in
     let names = c.args.self.now.names.now in
     let past = rw c.from.ensures at c.in-None.ensures.lookup.3 in
-    came-next stepping names plan c.args.format (g.H.Shelf.files start) (g.H.Shelf.files c.args.source.now) before c.args.number c.args.capture few size came
-    (g.H.Shelf.files c.args.source.now) refl _
+    came-next stepping names plan c.args.format (told_by g.H.Shelf.files g.H.Source.left g.H.Source.given start) (told_by g.H.Shelf.files g.H.Source.left g.H.Source.given c.args.source.now) before c.args.number c.args.capture few size came
+    (told_by g.H.Shelf.files g.H.Source.left g.H.Source.given c.args.source.now) refl _
     (λ files known. none-says stepping names files c.args.format c.args.number c.args.capture (item-none names c.args.capture past))

@@ -8,9 +8,11 @@ use Rattle.flux_cli.specs.IdentityRuns.{identity_status, identity_work}
 use Rattle.flux_cli.proofs.shelf_task.IdentifyShelfTask.run.Goals as goal
 
 pub returns-in-Ok-clause-did : goal.returns-in-Ok-clause-did
-returns-in-Ok-clause-did g c =
-    shelf-ended (identity_work c.args.self.now.dump.now) _ _ _ _ _ c.end_of_identity.result identity_status c.identify.result
-    (identity-answers c.args.self.now.dump.now _ _ _ c.identify.result c.identify.ensures.says refl) (CountsBy-noteless _ _ c.identify.ensures.blames) c.end_of_identity.ensures
+returns-in-Ok-clause-did g c = record {
+  says = shelf-ended (identity_work c.args.self.now.dump.now) _ _ _ _ _ c.end_of_identity.result identity_status c.identify.result
+      (identity-answers c.args.self.now.dump.now _ _ _ c.identify.result c.identify.ensures.says refl) (CountsBy-noteless _ _ c.identify.ensures.blames) c.end_of_identity.ensures;
+  stays = c.identify.ensures.kept;
+}
 
 pub returns-in-Ok-clause-blames : goal.returns-in-Ok-clause-blames
 returns-in-Ok-clause-blames g c =

@@ -15,8 +15,11 @@ returns-in-Ok-clause-did g c =
     let mine = shown_sector (asked_sector c.args.self.now) in
     let asked : SectorAsked = record { disk = record mine.disk { format = room.format }; number = room.number; sector = room.known.sector; alone = mine.alone } in
     in_sector_room mine.disk mine.number mine.sector mine.alone mine.disk.format room c.end_of_sector.result _ _ c.in-Ok.ensures
-    (shelf-ended (sector_work asked) _ _ _ _ _ c.end_of_sector.result sector_status c.show_sector-answer.result
-    (sector-answers asked _ _ _ c.show_sector-answer.result c.show_sector-answer.ensures.says) c.show_sector-answer.ensures.blames c.end_of_sector.ensures)
+    (record {
+      says = shelf-ended (sector_work asked) _ _ _ _ _ c.end_of_sector.result sector_status c.show_sector-answer.result
+          (sector-answers asked _ _ _ c.show_sector-answer.result c.show_sector-answer.ensures.says) c.show_sector-answer.ensures.blames c.end_of_sector.ensures;
+      stays = c.show_sector-answer.ensures.kept;
+    })
 
 pub returns-in-Ok-clause-blames : goal.returns-in-Ok-clause-blames
 returns-in-Ok-clause-blames g c =
