@@ -1,6 +1,6 @@
 -- What a run did. It finished, and gave all that its input comes to. Or a fault of one object, which that object counted, cut it.
 -- Or there was no memory to begin, and nothing was touched.
-use Rattle.std.specs.Prelude.{◌≡◌, ◌≤◌, ℕ, ◌++◌, List, Option, Some, None, IsSome}
+use Rattle.std.specs.Prelude.{◌≡◌, ◌≤◌, ℕ, ◌++◌, List, Option, Some, None}
 use Rattle.flux_base.specs.Moments.{Moment}
 use Rattle.flux_base.specs.Outside.{Rose}
 use Rattle.flux_base.specs.declared.status.Status.{Status}
@@ -11,6 +11,7 @@ use Rattle.flux_words.specs.Commands.{AskFor}
 use Rattle.flux_cli.specs.Work.{Outcome, Growth, Got, Work}
 use Rattle.flux_cli.specs.Works.{work_for, work_of}
 use Rattle.flux_words.specs.declared.command.Command.{Command}
+use Rattle.flux_words.specs.declared.command.Command.TheVariants.{Tell}
 
 -- the outside at a moment: the source, with what each of its reads so far gave, if it tells that, and both sinks
 pub record Outside (S W N : Type 0) : Type 0 where
@@ -48,6 +49,12 @@ pub record IsCut {S W N : Type 0} (work : Work) (status : Status) (before after 
   pub input : IsInput before.source after.source taken later
   pub place : work.cut status taken later (growth before.image after.image) (growth before.notes after.notes)
 
+-- memory is taken for what is asked: for each command but a page of what the program says of itself
+abbrev pub TakesMemory : Option Command → Type 0
+TakesMemory None = ⊥
+TakesMemory (Some (Tell page)) = ⊥
+TakesMemory (Some command) = Unit {0}
+
 -- what the status says, by the row of what was asked
 abbrev pub SaysBy : {S W N : Type 0} → Work → Option Command → Status → (before after : Outside S W N) → Type 0
 SaysBy work asked AllGood before after = Finished work AllGood before after
@@ -57,7 +64,7 @@ SaysBy work asked Usage before after = Finished work Usage before after
 SaysBy work asked ReadFault before after = IsCut work ReadFault before after × Rose before.source.counts.faults after.source.counts.faults
 SaysBy work asked ImageFault before after = IsCut work ImageFault before after × Rose before.image.counts.faults after.image.counts.faults
 SaysBy work asked NotesFault before after = IsCut work NotesFault before after × Rose before.notes.counts.faults after.notes.counts.faults
-SaysBy work asked Memory before after = IsSome asked × (after ≡ before)
+SaysBy work asked Memory before after = TakesMemory asked × (after ≡ before)
 SaysBy work asked ShelfFault before after = ⊥
 
 abbrev pub Says : {S W N : Type 0} → Command → Status → (before after : Outside S W N) → Type 0

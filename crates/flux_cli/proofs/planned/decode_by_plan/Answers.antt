@@ -2,7 +2,7 @@ use Rattle.std.proofs.Common.{ap, refl}
 use Rattle.flux_engine.specs.Room.{RoomState}
 use Rattle.flux_cli.proofs.Ended.{plan-ended}
 use Rattle.flux_cli.proofs.EndingLaws.{ends-blame, plan-blame}
-use Rattle.flux_cli.proofs.Runs.{out_of_memory}
+use Rattle.flux_cli.proofs.Runs.{out_of_memory, plan-takes}
 use Rattle.flux_cli.specs.Blamed.{source_blame}
 use Rattle.flux_cli.proofs.planned.decode_by_plan.Goals as goal
 
@@ -15,7 +15,7 @@ returns-in-Ok-clause-does g c command by_plan =
     c.decode_planned-answer.result (rw is at e.decoded) e.blames c.end_of_plan.ensures
 
 pub returns-in-Err-clause-does : goal.returns-in-Err-clause-does
-returns-in-Err-clause-does g c command by_plan = out_of_memory command _
+returns-in-Err-clause-does g c command by_plan = out_of_memory command (plan-takes command c.args.plan c.args.format by_plan) _
 
 pub returns-in-Ok-clause-blames : goal.returns-in-Ok-clause-blames
 returns-in-Ok-clause-blames g c =

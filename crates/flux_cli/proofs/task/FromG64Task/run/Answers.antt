@@ -16,7 +16,7 @@ returns-in-Ok-clause-does g c =
     (rw is at e.read) e.cause c.end_of_file.ensures
 
 pub returns-in-Err-clause-does : goal.returns-in-Err-clause-does
-returns-in-Err-clause-does g c = out_of_memory (FromG64 c.args.self.now.disk) _
+returns-in-Err-clause-does g c = out_of_memory (FromG64 c.args.self.now.disk) tt _
 
 pub returns-in-Ok-clause-blames : goal.returns-in-Ok-clause-blames
 returns-in-Ok-clause-blames g c = ends-blame source_blame refl refl _ c.end_of_file.result _ _ (file-blame c.from_g64-answer.result c.from_g64-answer.ensures.blames) c.end_of_file.ensures

@@ -17,7 +17,7 @@ returns-in-Ok-clause-does g c =
     (rw is at e.needed) (rw is at e.mapped) e.blames c.end_of_plan.ensures
 
 pub returns-in-Err-clause-does : goal.returns-in-Err-clause-does
-returns-in-Err-clause-does g c = out_of_memory (Map c.args.self.now.format) _
+returns-in-Err-clause-does g c = out_of_memory (Map c.args.self.now.format) tt _
 
 pub returns-in-Ok-clause-blames : goal.returns-in-Ok-clause-blames
 returns-in-Ok-clause-blames g c =

@@ -19,7 +19,7 @@ returns-in-Ok-clause-does g c =
     (λ x told. image-reads format (rw is at e.needed)) c.to_g64.result (rw is at e.wrote) e.cause c.end_of_image.ensures
 
 pub returns-in-Err-clause-does : goal.returns-in-Err-clause-does
-returns-in-Err-clause-does g c = out_of_memory (ToG64 c.args.self.now.disk) _
+returns-in-Err-clause-does g c = out_of_memory (ToG64 c.args.self.now.disk) tt _
 
 pub returns-in-Ok-clause-blames : goal.returns-in-Ok-clause-blames
 returns-in-Ok-clause-blames g c =

@@ -17,7 +17,7 @@ returns-in-Ok-clause-does g c =
     (λ x told. image-reads format (rw c.in-Ok.ensures at e.needed)) c.write_disk.result (rw c.in-Ok.ensures at e.wrote) e.cause c.end_of_image.ensures
 
 pub returns-in-Err-clause-does : goal.returns-in-Err-clause-does
-returns-in-Err-clause-does g c = out_of_memory (Write c.args.self.now.format) _
+returns-in-Err-clause-does g c = out_of_memory (Write c.args.self.now.format) tt _
 
 pub returns-in-Ok-clause-blames : goal.returns-in-Ok-clause-blames
 returns-in-Ok-clause-blames g c =
