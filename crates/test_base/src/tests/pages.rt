@@ -6,11 +6,21 @@ use std::str;
 use std::test::Fail;
 
 #[test]
-fn the_version_is_one_line(rt: HostRuntime) -> Result<(), Fail> {
+fn the_version_has_a_line_for_the_commit_and_one_for_the_logic(
+    rt: HostRuntime,
+) -> Result<(), Fail> {
     let alloc = rt.alloc();
-    let mut sink = MemorySink::new(alloc, 100, Vec::new(alloc))?;
+    let mut sink = MemorySink::new(alloc, 200, Vec::new(alloc))?;
     assert!(rt; write_page(Page::Version, &mut sink).is_ok());
-    assert_eq!(rt; sink.bytes(), b"flux 0.1.0\n".as_slice());
+    let text = str::from_utf8(sink.bytes()).unwrap_or("");
+    assert_eq!(rt;
+        text,
+        "\
+flux 0.2.0
+commit unknown: built by hand, not of a package
+proved in Rattle, logic dac8208d650f15bf
+"
+    );
     Ok(())
 }
 

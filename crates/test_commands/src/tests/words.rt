@@ -166,7 +166,11 @@ const TRIAL: Row = Row {
 const VERSION: Row = Row {
     name: "version",
     words: &["--version"],
-    image: "flux 0.1.0\n",
+    image: "\
+flux 0.2.0
+commit unknown: built by hand, not of a package
+proved in Rattle, logic dac8208d650f15bf
+",
     ..TRIAL
 };
 
