@@ -10,7 +10,7 @@ DEMO = out/demo
 FIRST = $(PROGRAM) read ibm-720 $(DEMO)/first
 BOTH = $(FIRST) $(DEMO)/second
 
-.PHONY: demo test check wrong install uninstall
+.PHONY: demo test check wrong dist install uninstall
 
 # The program is built only once all of it is proved, so a first build takes long. Later calls start at once.
 demo: $(PROGRAM) $(DEMO)/disk.img
@@ -51,6 +51,10 @@ test:
 # The wrong bodies that the gate does not try, in a copy: make wrong, which takes an hour and more, or make wrong NAME=turn_merge
 wrong:
 	.ci/wrong $(NAME)
+
+# Packages for those who have no toolchain: the same bytes each time that they are made of one commit.
+dist: $(PROGRAM)
+	.ci/packages dist
 
 install: $(PROGRAM)
 	install -D -m 755 $(PROGRAM) $(DESTDIR)$(PREFIX)/bin/flux
