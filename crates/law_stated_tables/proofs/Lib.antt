@@ -1,0 +1,7 @@
+mod Tests
+mod Named
+mod Turns
+mod Rates
+mod Fit
+mod Numbers
+mod Others

@@ -1,0 +1,4 @@
+pub mod Speeds
+pub mod Table
+pub mod Words
+pub mod Laws
