@@ -155,6 +155,11 @@ impl Layout for AmigaMfm {
         read_content(frame, sync, buffer)
     }
 
+    fn has_content(&self, _size: u16, frame: &CellsFrom, sync: usize) -> bool {
+        let mut buffer = SectorBuffer::new();
+        read_content(frame, sync, &mut buffer)
+    }
+
     ghost sizes = { sizes };
 
     ghost counts = { λ r track known. counts r };

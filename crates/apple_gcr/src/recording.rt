@@ -159,6 +159,11 @@ impl Layout for AppleGcr {
         read_field(self.rule, frame, sync, buffer)
     }
 
+    fn has_content(&self, _size: u16, frame: &CellsFrom, sync: usize) -> bool {
+        let mut buffer = SectorBuffer::new();
+        read_field(self.rule, frame, sync, &mut buffer)
+    }
+
     ghost sizes = { sizes };
 
     ghost counts = { λ r track known. (lit≤ tt, lit≤ tt, lit≤ tt) };

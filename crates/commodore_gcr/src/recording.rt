@@ -153,6 +153,11 @@ impl Layout for CommodoreGcr {
         read_block(frame, sync, buffer)
     }
 
+    fn has_content(&self, _size: u16, frame: &CellsFrom, sync: usize) -> bool {
+        let mut buffer = SectorBuffer::new();
+        read_block(frame, sync, &mut buffer)
+    }
+
     ghost sizes = { sizes };
 
     ghost counts = { λ r track known. counts track };

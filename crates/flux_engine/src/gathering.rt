@@ -125,7 +125,7 @@ fn note_found<R: Recording>(
             note_header(recording, cells, header, buffer, &mut gathered.book);
         }
         FoundHeader::Other(name) => {
-            let whole = recording.has_data(cells, at.cell, name, buffer);
+            let whole = recording.has_data(cells, at.cell, name);
             gathered.others.note(name, whole, at.place);
         }
     }

@@ -65,6 +65,11 @@ abbrev pub FirstData : (ℕ → List ℕ → Type 0) → ℕ → Option ℕ → 
 FirstData at from None buffer = (buffer ≡ []) × FirstAt at from None
 FirstData at from (Some place) buffer = FirstAt at from (Some (place, buffer))
 
+-- the same where the bytes are kept in any way: those that are kept are the data's
+abbrev pub FirstKeptData : (List ℕ → Type 0) → (ℕ → List ℕ → Type 0) → ℕ → Option ℕ → Type 0
+FirstKeptData keeps at from None = keeps [] × FirstAt at from None
+FirstKeptData keeps at from (Some place) = (bytes : List ℕ) × keeps bytes × FirstAt at from (Some (place, bytes))
+
 -- a header's sector, and all data that stand after it with their places
 abbrev pub HeaderData : Type 0
 HeaderData = ℕ × List (ℕ × List ℕ)

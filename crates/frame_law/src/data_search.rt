@@ -2,12 +2,12 @@
 
 ghost use Rattle.std.specs.Prelude.{◌≡◌, ℕ, ◌+◌, ◌^◌, ◌<◌, ◌≤◌, ◌↔◌, [], List, false, drop, length, IfNone, IfSome, IsTrue};
 ghost use Rattle.cell_bits.specs.Word.{Stands};
-ghost use Rattle.flux_base.specs.Bounds.{MOST_SECTOR_BYTES};
-ghost use Rattle.frame_law.specs.Controller.{DataStandAt, FirstData, NamedHeaderStands, WholeDataAt};
+ghost use Rattle.frame_law.specs.Controller.{DataStandAt, FirstData, FirstKeptData, NamedHeaderStands, WholeDataAt};
 ghost use Rattle.flux_base.specs.declared.header_name.HeaderName.{HeaderName};
 ghost use Rattle.frame_law.specs.Frames.{DATA_REACH, IsSyncInReach};
 ghost use Rattle.frame_law.specs.Others.{HasNamedData};
 
+use crate::data_reader::{DataReader, NoBytes};
 use crate::frame_reading::{DATA_REACH, whole_header};
 use crate::{CellsFrom, Layout, SectorBuffer};
 use flux_base::HeaderName;
@@ -16,20 +16,20 @@ use flux_base::HeaderName;
 const START_ZEROS: u8 = 31;
 
 /// The first place, at least `from`, at which data of so many bytes of the header at the front of the cells stand. The
-/// buffer then has their bytes, and is else empty.
-fn next_data<L: Layout>(
+/// reader then keeps their bytes, and has else none.
+fn next_data<L: Layout, D: DataReader>(
     layout: &L,
     size: u16,
     frame: &CellsFrom,
     from: usize,
-    buffer: &mut SectorBuffer,
+    reader: &mut D,
 ) -> Option<usize>
-    requires most { size ≤ MOST_SECTOR_BYTES }
+    requires fits { D.fits size }
     ensures { let header = NamedHeaderStands L.CODING.sync L.CODING.sync_cells (L.header_end layout.now) (L.names layout.now) in
-        FirstData (DataStandAt (L.header_end layout.now) (L.data_end layout.now size) (L.is_sync layout.now) (L.hold layout.now size) header frame.now)
-        from result buffer.new.items }
+        FirstKeptData (D.keeps reader.new) (DataStandAt (L.header_end layout.now) (L.data_end layout.now size) (L.is_sync layout.now) (L.hold layout.now size) header frame.now)
+        from result }
 {
-    buffer.clear();
+    reader.clear();
     let header_end = whole_header(layout, frame)?;
     let end = header_end + DATA_REACH;
     let mut start = from.max(header_end);
@@ -40,10 +40,10 @@ fn next_data<L: Layout>(
         if has_header(layout, frame, seen, sync) {
             return None;
         }
-        if stands_at_sync(layout, size, frame, sync, buffer) {
+        if stands_at_sync(layout, size, frame, sync, reader) {
             return Some(sync);
         }
-        buffer.clear();
+        reader.clear();
         seen = sync;
         start = sync + 1;
     }
@@ -104,12 +104,7 @@ pub(crate) fn own_data<L: Layout>(
 }
 
 /// Whether data of the size that the name tells stand after the header at the front of the cells.
-pub(crate) fn has_named_data<L: Layout>(
-    layout: &L,
-    frame: &CellsFrom,
-    name: HeaderName,
-    buffer: &mut SectorBuffer,
-) -> bool
+pub(crate) fn has_named_data<L: Layout>(layout: &L, frame: &CellsFrom, name: HeaderName) -> bool
     ensures { let header = NamedHeaderStands L.CODING.sync L.CODING.sync_cells (L.header_end layout.now) (L.names layout.now) in
         IsTrue result ↔ HasNamedData (L.size_named layout.now name)
         (λ size place bytes. DataStandAt (L.header_end layout.now) (L.data_end layout.now size) (L.is_sync layout.now) (L.hold layout.now size) header frame.now place bytes) }
@@ -117,35 +112,33 @@ pub(crate) fn has_named_data<L: Layout>(
     let Some(size) = layout.size_named(name) else {
         return false;
     };
-    next_data(layout, size, frame, 0, buffer).is_some()
+    next_data(layout, size, frame, 0, &mut NoBytes).is_some()
 }
 
-/// Whether data stand at the sync, but for the headers before it. Then the buffer, which was empty, has their bytes.
-fn stands_at_sync<L: Layout>(
+/// Whether data stand at the sync, but for the headers before it. Then the reader, which had none, keeps their bytes. What
+/// they hold is looked at last: it takes longest.
+fn stands_at_sync<L: Layout, D: DataReader>(
     layout: &L,
     size: u16,
     frame: &CellsFrom,
     sync: usize,
-    buffer: &mut SectorBuffer,
+    reader: &mut D,
 ) -> bool
     requires sync { IsSyncInReach (L.header_end layout.now frame.now) (L.is_sync layout.now frame.now) sync }
     requires near { sync < 2 ^ 31 }
-    requires most { size ≤ MOST_SECTOR_BYTES }
-    requires empty { buffer.old.items ≡ [] }
-    ensures good { IsTrue result → WholeDataAt (L.data_end layout.now size) (L.hold layout.now size) frame.now sync buffer.new.items }
+    requires fits { D.fits size }
+    requires empty { D.keeps reader.old [] }
+    ensures good { IsTrue result → (bytes : List ℕ) × D.keeps reader.new bytes × WholeDataAt (L.data_end layout.now size) (L.hold layout.now size) frame.now sync bytes }
     ensures bad { result ≡ false → (bytes : List ℕ) → ¬ WholeDataAt (L.data_end layout.now size) (L.hold layout.now size) frame.now sync bytes }
 {
     let Some(end) = layout.data_end(size, frame, sync) else {
         return false;
     };
-    if !layout.read_data(size, frame, sync, buffer) {
-        return false;
-    }
     if !frame.unbroken_between(sync, end) {
         return false;
     }
-    match frame.find_word(0, sync, 0, START_ZEROS) {
-        None => true,
-        Some(_start) => false,
+    if let Some(_start) = frame.find_word(0, sync, 0, START_ZEROS) {
+        return false;
     }
+    reader.read(layout, size, frame, sync)
 }

@@ -112,8 +112,7 @@ pub trait Layout {
 
     /// How many bytes there are in the data of a header with this name. None where it tells a size that no data have.
     fn size_named(&self, name: HeaderName) -> Option<u16>
-        ensures is { result ≡ size_named self.now name }
-        ensures most { IfSome result (λ size. size ≤ MOST_SECTOR_BYTES) };
+        ensures { result ≡ size_named self.now name };
 
     /// How many cells the track's ring has.
     fn track_cells(&self, track: TrackId) -> u32
@@ -170,8 +169,7 @@ pub trait Layout {
 
     /// Where the data end that have so many bytes and whose sync stands at the place. None where they are not whole.
     fn data_end(&self, size: u16, frame: &CellsFrom, sync: usize) -> Option<usize>
-        requires sync { IsSyncInReach (header_end self.now frame.now) (is_sync self.now frame.now) sync }
-        requires most { size ≤ MOST_SECTOR_BYTES }
+        requires { IsSyncInReach (header_end self.now frame.now) (is_sync self.now frame.now) sync }
         ensures some { IfSome result (λ end. (end ≡ data_end self.now size frame.now sync) × (end ≤ length frame.now)) }
         ensures none { IfNone result (length frame.now < data_end self.now size frame.now sync) };
 
@@ -189,6 +187,14 @@ pub trait Layout {
         requires whole { data_end self.now size frame.now sync ≤ length frame.now }
         requires empty { buffer.old.items ≡ [] }
         ensures good { IsTrue result → hold self.now size frame.now sync buffer.new.items }
+        ensures bad { result ≡ false → (bytes : List ℕ) → ¬ hold self.now size frame.now sync bytes };
+
+    /// Whether the data that have so many bytes and whose sync stands at the place hold bytes, which may be more than a
+    /// buffer has room for.
+    fn has_content(&self, size: u16, frame: &CellsFrom, sync: usize) -> bool
+        requires sync { IsSyncInReach (header_end self.now frame.now) (is_sync self.now frame.now) sync }
+        requires whole { data_end self.now size frame.now sync ≤ length frame.now }
+        ensures good { IsTrue result → (bytes : List ℕ) × hold self.now size frame.now sync bytes }
         ensures bad { result ≡ false → (bytes : List ℕ) → ¬ hold self.now size frame.now sync bytes };
 
     /// The distances of ones are 1 to 4 cells, a sync has 1 to 32, and a header has four at least.

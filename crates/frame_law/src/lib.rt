@@ -5,6 +5,7 @@
 
 mod cells_from;
 mod coding;
+mod data_reader;
 mod data_search;
 mod frame_reading;
 mod laws;

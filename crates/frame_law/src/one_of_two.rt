@@ -129,14 +129,8 @@ impl<A: Recording, B: Recording> Recording for Either<A, B> {
         for_both!(self, r => r.sector_of_name(track, name))
     }
 
-    fn has_data(
-        &self,
-        cells: &Cells,
-        place: usize,
-        name: HeaderName,
-        buffer: &mut SectorBuffer,
-    ) -> bool {
-        for_both!(self, r => r.has_data(cells, place, name, buffer))
+    fn has_data(&self, cells: &Cells, place: usize, name: HeaderName) -> bool {
+        for_both!(self, r => r.has_data(cells, place, name))
     }
 
     ghost sync_size = { elim [ Left r ↦ A.sync_size r | Right r ↦ B.sync_size r ] };

@@ -173,14 +173,8 @@ pub trait Recording {
         ensures none { IfNone result ((sector : ℕ) → ¬ is_name_of self.now track name sector) };
 
     /// Whether data of the size that the name tells stand by the second rule after the header at the place, which has this
-    /// name. Nothing is said of what the buffer then has.
-    fn has_data(
-        &self,
-        cells: &Cells,
-        place: usize,
-        name: HeaderName,
-        buffer: &mut SectorBuffer,
-    ) -> bool
+    /// name. They may have more bytes than a buffer has room for.
+    fn has_data(&self, cells: &Cells, place: usize, name: HeaderName) -> bool
         ensures { IsTrue result ↔ whole_data_of self.now (drop place cells.now.cells) name };
 
     /// Each header begins with the sync cells.

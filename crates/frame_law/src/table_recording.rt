@@ -156,14 +156,8 @@ impl<L: Layout> Recording for L {
         sector_with_name(self, track, name)
     }
 
-    fn has_data(
-        &self,
-        cells: &Cells,
-        place: usize,
-        name: HeaderName,
-        buffer: &mut SectorBuffer,
-    ) -> bool {
-        has_named_data(self, &CellsFrom::new(cells, place), name, buffer)
+    fn has_data(&self, cells: &Cells, place: usize, name: HeaderName) -> bool {
+        has_named_data(self, &CellsFrom::new(cells, place), name)
     }
 
     ghost sync_size = { λ r. (L.sizes.some_cells, L.sizes.word) };

@@ -1,6 +1,6 @@
 -- The fields of the IBM formats, single density (3740) and double density (System 34): bytes that stand after a mark, and
 -- their check value. A byte takes 16 cells, and is read from its data cells alone.
-use Rattle.std.specs.Prelude.{ℕ, zero, suc, ◌+◌, ◌*◌, ◌/◌, ◌%◌, Bool, List, [], ◌∷◌, Option, Some, None}
+use Rattle.std.specs.Prelude.{ℕ, zero, suc, ◌+◌, ◌*◌, ◌/◌, ◌%◌, ◌^◌, Bool, List, [], ◌∷◌, Option, Some, None, if◌then◌else◌, nat_le}
 use Rattle.flux_base.specs.declared.track.TrackId.{TrackId}
 use Rattle.cell_bits.specs.Bytes.{data_byte}
 use Rattle.flux_base.specs.declared.header_name.HeaderName.{HeaderName}
@@ -33,13 +33,13 @@ address_named (Address cylinder head sector size) = cylinder ∷ head ∷ sector
 address_named (TrackSector track sector) = []
 address_named (TrackSectorSide track sector side format) = []
 
--- the bytes of a sector by the code of its length
+-- the greatest code of a length
+abbrev pub MOST_SIZE_CODE : ℕ
+MOST_SIZE_CODE = 6
+
+-- the bytes of a sector by the code of its length, from 0 on: 128, 256, 512, 1024, 2048, 4096, 8192
 abbrev pub size_of_code : ℕ → Option ℕ
-size_of_code zero = Some 128
-size_of_code (suc zero) = Some 256
-size_of_code (suc (suc zero)) = Some 512
-size_of_code (suc (suc (suc zero))) = Some 1024
-size_of_code (suc (suc (suc (suc code)))) = None
+size_of_code code = if nat_le code MOST_SIZE_CODE then Some (128 * 2 ^ code) else None
 
 -- and by the name of its header. A greater code tells a size that no data are read of
 abbrev pub size_named : HeaderName → Option ℕ

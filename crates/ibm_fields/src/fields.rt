@@ -1,7 +1,9 @@
-ghost use Rattle.std.specs.Prelude.{◌≡◌, ℕ, ◌+◌, ◌*◌, ◌^◌, ◌<◌, ◌≤◌, ◌++◌, [], length, IfSome};
+ghost use Rattle.std.specs.Prelude.{◌≡◌, ℕ, ◌+◌, ◌*◌, ◌^◌, ◌<◌, ◌≤◌, ◌++◌, [], List, length};
+ghost use Rattle.check_values.specs.Crc.{crc};
 ghost use Rattle.flux_base.specs.Bounds.{MOST_SECTOR_BYTES};
 ghost use Rattle.ibm_fields.specs.Fields.{address_named, bytes_at, number_at as number_of_bytes, size_named as bytes_named};
 
+use check_values::crc16;
 use flux_base::HeaderName;
 use frame_law::{CellsFrom, SectorBuffer};
 
@@ -33,19 +35,21 @@ pub fn name_of(address: [u8; 4]) -> HeaderName
     }
 }
 
-/// How many bytes there are in the data of a header with this name, by the code of their size. None where the code is
-/// greater than 3, and where the name has none.
+/// The greatest code of a size, which is that of 8192 bytes.
+const MOST_SIZE_CODE: u8 = 6;
+
+/// How many bytes there are in the data of a header with this name, by the code of their size: 128 to 8192. None where the
+/// code is greater than 6, and where the name has none.
 pub fn size_named(name: HeaderName) -> Option<u16>
-    ensures is { result ≡ bytes_named name }
-    ensures most { IfSome result (λ size. size ≤ MOST_SECTOR_BYTES) }
+    ensures { result ≡ bytes_named name }
 {
-    match name {
-        HeaderName::Address { size_code: 0, .. } => Some(128),
-        HeaderName::Address { size_code: 1, .. } => Some(256),
-        HeaderName::Address { size_code: 2, .. } => Some(512),
-        HeaderName::Address { size_code: 3, .. } => Some(1024),
-        _ => None,
+    let HeaderName::Address { size_code, .. } = name else {
+        return None;
+    };
+    if size_code > MOST_SIZE_CODE {
+        return None;
     }
+    Some(128 << size_code)
 }
 
 /// The two bytes at the offset as a number, high byte first, as check values are written.
@@ -73,6 +77,27 @@ pub fn take_bytes(frame: &CellsFrom, offset: usize, count: u16, buffer: &mut Sec
     for index in 4 * fours..count {
         buffer.push(frame.byte_at(offset + 16 * index));
     }
+}
+
+/// The check value of so many bytes from the offset on, from the register's value `start`. The bytes are kept nowhere.
+pub fn check_of_bytes(frame: &CellsFrom, offset: usize, count: u16, start: u16) -> u16
+    requires near { offset < 2 ^ 32 }
+    requires whole { offset + 16 * count ≤ length frame.now }
+    ensures value { result ≡ crc start (bytes_at frame.now offset count) }
+
+    // Where `start` is the check value of bytes before, the result is that of all of them.
+    ensures joined { (first : ℕ) (before : List ℕ) → start ≡ crc first before → result ≡ crc first (before ++ bytes_at frame.now offset count) }
+{
+    let count = usize::from(count);
+    let fours = count / 4;
+    let mut check = start;
+    for four in 0..fours {
+        check = crc16(check, &frame.bytes_at(offset + 64 * four));
+    }
+    for index in 4 * fours..count {
+        check = crc16(check, &[frame.byte_at(offset + 16 * index)]);
+    }
+    check
 }
 
 /// Appends four bytes.

@@ -6,5 +6,5 @@
 mod fields;
 mod marks;
 
-pub use fields::{address_at, name_of, number_at, size_named, take_bytes};
+pub use fields::{address_at, check_of_bytes, name_of, number_at, size_named, take_bytes};
 pub use marks::{CHECK_START, DATA_BYTE, DELETED_DATA_BYTE, ID_BYTE};

@@ -1,14 +1,17 @@
 ghost use Rattle.std.specs.Prelude.{◌≡◌, ℕ, ◌+◌, ◌^◌, ◌<◌, ◌≤◌, [], List, false, length, IfNone, IfSome, IsTrue, ◌↔◌};
+ghost use Rattle.cell_bits.specs.Bytes.{data_byte};
 ghost use Rattle.cell_bits.specs.Search.{StandsNowhere};
 ghost use Rattle.flux_base.specs.Bounds.{MOST_SECTOR_BYTES};
 ghost use Rattle.frame_law.specs.Frames.{IsFirstSync, NoSync};
-ghost use Rattle.ibm_fm.specs.Sectors.{DATA_CELLS, DataMarkAt, Hold, IsSync, MarkAt};
+ghost use Rattle.ibm_fields.specs.Fields.{bytes_at};
+ghost use Rattle.ibm_fm.specs.Sectors.{DATA_CELLS, DataMarkAt, Hold, IsSync, MarkAt, check_of};
 
 use crate::layout::{CONTENT_PLACE, MARK_CELLS, content_check_place};
 use crate::rows::field_check;
 use cell_bits::{FM_DATA_MARK, FM_DELETED_DATA_MARK, FM_ID_MARK, FM_INDEX_MARK};
+use check_values::crc16;
 use frame_law::{CellsFrom, SectorBuffer};
-use ibm_fields::{number_at, take_bytes};
+use ibm_fields::{CHECK_START, check_of_bytes, number_at, take_bytes};
 
 /// The first mark at a place from `from` to below `to`.
 pub(crate) fn next_sync(frame: &CellsFrom, from: usize, to: usize) -> Option<usize>
@@ -84,6 +87,30 @@ pub(crate) fn read_field(
     take_bytes(frame, sync + CONTENT_PLACE, size, buffer);
     let check = number_at(frame, sync + content_check_place(size));
     field_check(mark, buffer.as_slice()) == check
+}
+
+/// Whether the mark at the place opens data, and they hold so many bytes. These are kept nowhere.
+pub(crate) fn has_field(frame: &CellsFrom, sync: usize, size: u16) -> bool
+    requires near { sync < 2 ^ 31 }
+    requires whole { sync + DATA_CELLS size ≤ length frame.now }
+    ensures good { IsTrue result → (bytes : List ℕ) × Hold size frame.now sync bytes }
+    ensures bad { result ≡ false → (bytes : List ℕ) → ¬ Hold size frame.now sync bytes }
+{
+    if !opens_data(frame, sync) {
+        return false;
+    }
+    let check = number_at(frame, sync + content_check_place(size));
+    content_check(frame, sync, size) == check
+}
+
+/// The check value of data whose mark stands at the place: of its byte, and of so many bytes after it.
+fn content_check(frame: &CellsFrom, sync: usize, size: u16) -> u16
+    requires near { sync < 2 ^ 31 }
+    requires whole { sync + DATA_CELLS size ≤ length frame.now }
+    ensures { result ≡ check_of (data_byte frame.now sync) (bytes_at frame.now (sync + 16) size) }
+{
+    let register = crc16(CHECK_START, &[frame.byte_at(sync)]);
+    check_of_bytes(frame, sync + CONTENT_PLACE, size, register)
 }
 
 /// Whether a mark that opens data stands at the place.

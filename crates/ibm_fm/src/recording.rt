@@ -14,7 +14,7 @@ ghost use Rattle.ibm_fm.specs.Sectors.{DATA_CELLS, Hold, IsSync, Names, NamesSec
 ghost use Rattle.ibm_fm.specs.lemmas.StandLaws.{bytes_held, id_mark_syncs, named_sector, one_name, sizes};
 ghost use Rattle.ibm_fm.specs.lemmas.Syncs.{own_syncs};
 
-use crate::data_field::{next_sync, read_field};
+use crate::data_field::{has_field, next_sync, read_field};
 use crate::header::header_name;
 use crate::layout::{AROUND, CODING, HEADER_CELLS, LEAD_OUT, Row, SECTOR, data_cells, lead_in};
 use crate::rows::push_row;
@@ -166,6 +166,10 @@ impl Layout for IbmFm {
         buffer: &mut SectorBuffer,
     ) -> bool {
         read_field(frame, sync, size, buffer)
+    }
+
+    fn has_content(&self, size: u16, frame: &CellsFrom, sync: usize) -> bool {
+        has_field(frame, sync, size)
     }
 
     ghost sizes = { sizes };

@@ -1,1 +1,2 @@
+pub mod MarksCheck
 pub mod Searches

@@ -1,16 +1,19 @@
 ghost use Rattle.std.specs.Prelude.{◌≡◌, ℕ, ◌+◌, ◌^◌, ◌<◌, ◌≤◌, [], List, false, length, IfNone, IfSome, IsTrue};
+ghost use Rattle.cell_bits.specs.Bytes.{data_byte};
 ghost use Rattle.flux_base.specs.Bounds.{MOST_SECTOR_BYTES};
 ghost use Rattle.frame_law.specs.Frames.{IsFirstSync, NoSync};
-ghost use Rattle.ibm_mfm.specs.Sectors.{DATA_CELLS, Hold};
+ghost use Rattle.ibm_fields.specs.Fields.{bytes_at};
+ghost use Rattle.ibm_mfm.specs.Sectors.{DATA_CELLS, Hold, OpensData, check_of};
 ghost use Rattle.ibm_mfm.specs.Syncs.{SyncAt};
 
 use crate::layout::{
-    CONTENT_PLACE, FIRST_BYTE_PLACE, MARK_CELLS, THIRD_MARK_PLACE, content_check_place,
+    CHECK_START, CONTENT_PLACE, FIRST_BYTE_PLACE, MARK_CELLS, THIRD_MARK_PLACE, content_check_place,
 };
 use crate::rows::field_check;
 use cell_bits::MFM_A1_MARK;
+use check_values::crc16;
 use frame_law::{CellsFrom, SectorBuffer};
-use ibm_fields::{DATA_BYTE, DELETED_DATA_BYTE, number_at, take_bytes};
+use ibm_fields::{DATA_BYTE, DELETED_DATA_BYTE, check_of_bytes, number_at, take_bytes};
 use mfm_coding::CODING;
 
 /// The first three marks at a place from `from` to below `to`.
@@ -44,10 +47,46 @@ pub(crate) fn read_field(
     ensures good { IsTrue result → Hold size frame.now sync buffer.new.items }
     ensures bad { result ≡ false → (bytes : List ℕ) → ¬ Hold size frame.now sync bytes }
 {
-    let first = frame.byte_at(sync + FIRST_BYTE_PLACE);
-    if first != DATA_BYTE && first != DELETED_DATA_BYTE {
+    if !opens_data(frame, sync) {
         return false;
     }
+    let first = frame.byte_at(sync + FIRST_BYTE_PLACE);
     take_bytes(frame, sync + CONTENT_PLACE, size, buffer);
     field_check(first, buffer.as_slice()) == number_at(frame, sync + content_check_place(size))
+}
+
+/// Whether the byte after the sync opens data, and they hold so many bytes. These are kept nowhere.
+pub(crate) fn has_field(frame: &CellsFrom, sync: usize, size: u16) -> bool
+    requires near { sync < 2 ^ 31 }
+    requires whole { sync + DATA_CELLS size ≤ length frame.now }
+    ensures good { IsTrue result → (bytes : List ℕ) × Hold size frame.now sync bytes }
+    ensures bad { result ≡ false → (bytes : List ℕ) → ¬ Hold size frame.now sync bytes }
+{
+    if !opens_data(frame, sync) {
+        return false;
+    }
+    let check = number_at(frame, sync + content_check_place(size));
+    content_check(frame, sync, size) == check
+}
+
+/// Whether the byte after the sync is one that opens data.
+fn opens_data(frame: &CellsFrom, sync: usize) -> bool
+    requires near { sync < 2 ^ 31 }
+    requires whole { sync + 64 ≤ length frame.now }
+    ensures yes { IsTrue result → OpensData (data_byte frame.now (sync + 48)) }
+    ensures no { result ≡ false → ¬ OpensData (data_byte frame.now (sync + 48)) }
+{
+    let first = frame.byte_at(sync + FIRST_BYTE_PLACE);
+    first == DATA_BYTE || first == DELETED_DATA_BYTE
+}
+
+/// The check value of data whose sync stands at the place: of the marks' bytes, of the byte after these, and of so many bytes
+/// after it.
+fn content_check(frame: &CellsFrom, sync: usize, size: u16) -> u16
+    requires near { sync < 2 ^ 31 }
+    requires whole { sync + DATA_CELLS size ≤ length frame.now }
+    ensures { result ≡ check_of (data_byte frame.now (sync + 48)) (bytes_at frame.now (sync + 64) size) }
+{
+    let register = crc16(CHECK_START, &[frame.byte_at(sync + FIRST_BYTE_PLACE)]);
+    check_of_bytes(frame, sync + CONTENT_PLACE, size, register)
 }

@@ -14,7 +14,7 @@ ghost use Rattle.ibm_mfm.specs.lemmas.RowLaws.{row_follows, row_length};
 ghost use Rattle.ibm_mfm.specs.Sectors.{DATA_CELLS, Hold, Names, NamesSector};
 ghost use Rattle.ibm_mfm.specs.Syncs.{SyncAt};
 
-use crate::data_field::{next_sync, read_field};
+use crate::data_field::{has_field, next_sync, read_field};
 use crate::header::header_name;
 use crate::layout::{HEADER_CELLS, LEAD_OUT, Row, SECTOR, around, data_cells, lead_in};
 use crate::rows::push_row;
@@ -192,6 +192,10 @@ impl Layout for IbmMfm {
         buffer: &mut SectorBuffer,
     ) -> bool {
         read_field(frame, sync, size, buffer)
+    }
+
+    fn has_content(&self, size: u16, frame: &CellsFrom, sync: usize) -> bool {
+        has_field(frame, sync, size)
     }
 
     ghost sizes = { sizes };

@@ -160,6 +160,11 @@ impl Layout for MacintoshGcr {
         read_field(frame, sync, buffer)
     }
 
+    fn has_content(&self, _size: u16, frame: &CellsFrom, sync: usize) -> bool {
+        let mut buffer = SectorBuffer::new();
+        read_field(frame, sync, &mut buffer)
+    }
+
     ghost sizes = { sizes };
 
     ghost counts = { λ r track known. counts track };

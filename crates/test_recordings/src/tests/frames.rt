@@ -117,13 +117,12 @@ pub fn assert_others<R: Recording, F: HandMade>(
     requires { R.has_track recording.now track }
 {
     let mut cells = Cells::new(alloc);
-    let mut buffer = SectorBuffer::new();
     for (what, frame, name, whole) in rows {
         cells.clear();
         frame.push(&mut cells)?;
         let found = next_found(recording, &cells, 0, track);
         assert_eq!(rt; found, Some((0, FoundHeader::Other(*name))), "{what}");
-        let has_data = recording.has_data(&cells, 0, *name, &mut buffer);
+        let has_data = recording.has_data(&cells, 0, *name);
         assert_eq!(rt; has_data, *whole, "{what}");
     }
     Ok(())

@@ -10,7 +10,7 @@ invariant-loop-start g l = record {
   before : l.header_end ≤ l.seen;
   behind : l.seen ≤ l.start;
   clear : NoNamed g.L.Layout.CODING.sync g.L.Layout.CODING.sync_cells (g.L.Layout.header_end l.layout) (g.L.Layout.names l.layout) l.frame l.header_end l.seen;
-  empty : l.buffer.items ≡ [];
+  empty : g.D.DataReader.keeps l.reader [];
   none : (place : ℕ) (bytes : List ℕ) → l.fn.from ≤ place → place < l.start
       → ¬ DataStandAt (g.L.Layout.header_end l.layout) (g.L.Layout.data_end l.layout l.size) (g.L.Layout.is_sync l.layout) (g.L.Layout.hold l.layout l.size)
       (NamedHeaderStands g.L.Layout.CODING.sync g.L.Layout.CODING.sync_cells (g.L.Layout.header_end l.layout) (g.L.Layout.names l.layout)) l.frame place bytes;

@@ -72,24 +72,50 @@ const OTHERS: &[Other<Frame>] = &[
         },
         false,
     ),
-    (
-        "code 4, of which no data are read",
-        Frame {
-            size: 4,
-            bytes: 2048,
-            ..PLAIN
-        },
-        HeaderName::Address {
-            cylinder: 0,
-            head: 0,
-            sector: 7,
-            size_code: 4,
-        },
-        false,
-    ),
 ];
 
 #[test]
 fn tells_headers_of_no_sector(rt: HostRuntime) -> Result<(), Fail> {
     assert_others(&rt, rt.alloc(), &DISK, TRACK, OTHERS)
+}
+
+/// The code of a length, so many bytes of data, the cells of the last one, and whether data as long as the code tells stand.
+const LONG_DATA: &[(u8, u16, u32, bool)] = &[
+    (4, 2048, 0x5555, true),
+    (4, 2048, 0x5554, false),
+    (4, 1024, 0x5555, false),
+    (5, 4096, 0x5555, true),
+    (5, 4096, 0x5554, false),
+    (5, 2048, 0x5555, false),
+    (6, 8192, 0x5555, true),
+    (6, 8192, 0x5554, false),
+    (6, 4096, 0x5555, false),
+    (7, 16384, 0x5555, false),
+];
+
+/// Data may have more bytes than any sector of a format, up to 8192. Where one of their cells is another, there are none.
+#[test]
+fn tells_data_longer_than_a_sector(rt: HostRuntime) -> Result<(), Fail> {
+    for (size, bytes, last_cells, whole) in LONG_DATA {
+        let frame = Frame {
+            size: *size,
+            bytes: *bytes,
+            last_cells: *last_cells,
+            ..PLAIN
+        };
+        let name = HeaderName::Address {
+            cylinder: 0,
+            head: 0,
+            sector: 7,
+            size_code: *size,
+        };
+        assert_others(
+            &rt,
+            rt.alloc(),
+            &DISK,
+            TRACK,
+            &[("long data", frame, name, *whole)],
+        )?;
+    }
+    Ok(())
 }

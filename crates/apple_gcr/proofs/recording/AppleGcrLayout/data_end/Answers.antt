@@ -5,4 +5,4 @@ use Rattle.apple_gcr.proofs.recording.AppleGcrLayout.data_end.Goals as goal
 
 pub data_end-requires : goal.data_end-requires
 data_end-requires c =
-    omega (arith, c.requires.sync.near, end-most (zeros_passed c.args.self.now.rule) (zeros-few c.args.self.now.rule) c.args.frame.now 24 8)
+    omega (arith, c.requires.near, end-most (zeros_passed c.args.self.now.rule) (zeros-few c.args.self.now.rule) c.args.frame.now 24 8)
