@@ -10,16 +10,20 @@ use Rattle.ibm_disks.specs.Plans.{density_of}
 use Rattle.ibm_disks.specs.Words.{EndsWith, IsWordOf}
 use Rattle.ibm_disks.specs.declared.disk.IbmDisk.{IbmDisk}
 use Rattle.ibm_disks.specs.declared.word.DiskNumbers.{DiskNumbers}
+use Rattle.sector_images.specs.Formats.{IsWordOfFormat, WordsNameFormats}
+use Rattle.sector_images.specs.declared.format.Format.{Format}
 use Rattle.sector_images.specs.declared.format.Format.TheVariants.{Ibm3740, Ibm360, Ibm720, Ibm1440, Amiga, C1541, C1541Forty, AppleDo, ApplePo, AppleDos33, AppleProdos, Mac400, Mac800, C1571, AmigaHd, Numbered}
-use Rattle.law_stated_tables.specs.Laws.{NoOtherWords}
+use Rattle.law_stated_tables.specs.Laws.{IsStated, IsStatedName, IsStatedWord, NoOtherWords}
 use Rattle.law_stated_tables.specs.Table.{StatedFormat, stated_formats}
-use Rattle.law_stated_tables.specs.Words.{AreNumbers, FitTrack, StatedNumbers, WritesNumbers, bytes_of_turn, numbers_text}
+use Rattle.law_stated_tables.specs.Words.{AreNumbers, FitTrack, StatedNumbers, WritesNumbers, bytes_of_turn, numbers_text, stated_by}
+use Rattle.law_stated_tables.proofs.Named.{names_are_stated}
+use Rattle.law_stated_tables.proofs.Numbers.{numbers_are_stated}
 use Rattle.law_stated_tables.proofs.Fit.{few_sectors, room}
 use Rattle.law_stated_tables.proofs.Rates.{begins, is_listed, of_fit, size_listed, stated_rate}
 
 -- a row of the second table has this word
-abbrev IsStatedName : List ℕ → Type 0
-IsStatedName word = (stated : StatedFormat) × Contains stated_formats stated × (stated.word ≡ word)
+abbrev HasStatedName : List ℕ → Type 0
+HasStatedName word = (stated : StatedFormat) × Contains stated_formats stated × (stated.word ≡ word)
 
 -- the row of a number
 abbrev stated_at : ℕ → StatedFormat
@@ -27,12 +31,12 @@ stated_at k = get_or stated_formats k (record { word = []; cylinders = 0; heads 
 
 -- the names of disks by their numbers, one by one
 abbrev HasName : NamedDisk → Type 0
-HasName row = IsStatedName row.word
+HasName row = HasStatedName row.word
 
 abbrev row_at : ℕ → NamedDisk
 row_at k = get_or named_disks k (record { word = []; label = []; disk = record { cylinders = 40; heads = 1; rate = Double; track = pc_8 } })
 
-name_of : (row : NamedDisk) → Contains named_disks row → IsStatedName row.word
+name_of : (row : NamedDisk) → Contains named_disks row → HasStatedName row.word
 name_of row listed =
     let from_8 = All-cons HasName (row_at 8) (drop 9 named_disks) (stated_at 17, (17, omega arith, refl), refl) (All-nil HasName) in
     let from_7 = All-cons HasName (row_at 7) (drop 8 named_disks) (stated_at 16, (16, omega arith, refl), refl) from_8 in
@@ -95,7 +99,7 @@ are_numbers word disk is =
     }
 
 -- a word of a disk by its numbers is a name, or writes them
-of_disk : (word : List ℕ) (disk : IbmDisk) → IsWordOfDisk word disk → IsStatedName word ⊎ ((n : StatedNumbers) × WritesNumbers word n)
+of_disk : (word : List ℕ) (disk : IbmDisk) → IsWordOfDisk word disk → HasStatedName word ⊎ ((n : StatedNumbers) × WritesNumbers word n)
 of_disk word disk (inl is) =
     let name = name_of is.row is.listed in
     inl (name.0, name.1, name.2 ∙ is.word_is)
@@ -105,20 +109,40 @@ of_disk word disk (inr is) =
       record { are = are_numbers word disk is; word_is = word_is word is.numbers is.written is.written.behind.ends },
     )
 
-pub no_other_words : NoOtherWords
-no_other_words word Ibm3740 is = inl (stated_at 0, (0, omega arith, refl), is)
-no_other_words word Ibm360 is = inl (stated_at 1, (1, omega arith, refl), is)
-no_other_words word Ibm720 is = inl (stated_at 2, (2, omega arith, refl), is)
-no_other_words word Ibm1440 is = inl (stated_at 3, (3, omega arith, refl), is)
-no_other_words word Amiga is = inl (stated_at 4, (4, omega arith, refl), is)
-no_other_words word C1541 is = inl (stated_at 5, (5, omega arith, refl), is)
-no_other_words word C1541Forty is = inl (stated_at 6, (6, omega arith, refl), is)
-no_other_words word AppleDo is = inl (stated_at 7, (7, omega arith, refl), is)
-no_other_words word ApplePo is = inl (stated_at 8, (8, omega arith, refl), is)
-no_other_words word AppleDos33 is = inl (stated_at 18, (18, omega arith, refl), is)
-no_other_words word AppleProdos is = inl (stated_at 19, (19, omega arith, refl), is)
-no_other_words word Mac400 is = inl (stated_at 20, (20, omega arith, refl), is)
-no_other_words word Mac800 is = inl (stated_at 21, (21, omega arith, refl), is)
-no_other_words word C1571 is = inl (stated_at 22, (22, omega arith, refl), is)
-no_other_words word AmigaHd is = inl (stated_at 23, (23, omega arith, refl), is)
-no_other_words word (Numbered disk) is = of_disk word disk is
+stated_word : (word : List ℕ) (format : Format) → IsWordOfFormat word format → HasStatedName word ⊎ ((n : StatedNumbers) × WritesNumbers word n)
+stated_word word Ibm3740 is = inl (stated_at 0, (0, omega arith, refl), is)
+stated_word word Ibm360 is = inl (stated_at 1, (1, omega arith, refl), is)
+stated_word word Ibm720 is = inl (stated_at 2, (2, omega arith, refl), is)
+stated_word word Ibm1440 is = inl (stated_at 3, (3, omega arith, refl), is)
+stated_word word Amiga is = inl (stated_at 4, (4, omega arith, refl), is)
+stated_word word C1541 is = inl (stated_at 5, (5, omega arith, refl), is)
+stated_word word C1541Forty is = inl (stated_at 6, (6, omega arith, refl), is)
+stated_word word AppleDo is = inl (stated_at 7, (7, omega arith, refl), is)
+stated_word word ApplePo is = inl (stated_at 8, (8, omega arith, refl), is)
+stated_word word AppleDos33 is = inl (stated_at 18, (18, omega arith, refl), is)
+stated_word word AppleProdos is = inl (stated_at 19, (19, omega arith, refl), is)
+stated_word word Mac400 is = inl (stated_at 20, (20, omega arith, refl), is)
+stated_word word Mac800 is = inl (stated_at 21, (21, omega arith, refl), is)
+stated_word word C1571 is = inl (stated_at 22, (22, omega arith, refl), is)
+stated_word word AmigaHd is = inl (stated_at 23, (23, omega arith, refl), is)
+stated_word word (Numbered disk) is = of_disk word disk is
+
+-- so the format that it names is the one that has the numbers
+module _ (one : WordsNameFormats) (word : List ℕ) (format : Format) (is : IsWordOfFormat word format) where
+  with_numbers : HasStatedName word ⊎ ((n : StatedNumbers) × WritesNumbers word n) → IsStatedName word format ⊎ IsStatedWord word format
+  with_numbers (inl name) =
+      let stated : StatedFormat = name.0 in
+      let named = names_are_stated stated name.1 in
+      let same : named.0 ≡ format = one word named.0 format (subst (λ (w : List ℕ). IsWordOfFormat w named.0) name.2 named.1) is in
+      inl (stated, name.1, name.2, subst (IsStated stated) same named.2)
+  with_numbers (inr writes) =
+      let n : StatedNumbers = writes.0 in
+      let named = numbers_are_stated word n writes.1 in
+      let same : Numbered named.0 ≡ format = one word (Numbered named.0) format named.1 is in
+      inr (n, writes.1, named.0, sym same, subst (IsStated (stated_by word n)) same named.2, named.3)
+
+  pub no_other_word : IsStatedName word format ⊎ IsStatedWord word format
+  no_other_word = with_numbers (stated_word word format is)
+
+pub no_other_words : WordsNameFormats → NoOtherWords
+no_other_words one word format is = no_other_word one word format is

@@ -14,8 +14,9 @@ use Rattle.law_stated_tables.specs.Speeds.{AreMacintoshCells, IsCell, IsTurn, Sp
 use Rattle.law_stated_tables.specs.Table.{StatedFormat, StatedZone, stands_at, stated_formats}
 use Rattle.law_stated_tables.specs.Words.{IsGap, StatedGaps, StatedNumbers, WritesNumbers, bytes_of_turn, recording as recording_of, stated_by, stated_gaps}
 
--- The nominal cell is the time of one. Where the drive does not turn as fast for all cylinders, captures are made in one that does, 300 times a
--- minute: there a cell is the time of one of five turns of the ring in a second, and in its own drive its cells are as long as elsewhere.
+-- The nominal cell is the time of one. Where the drive does not turn as fast for all cylinders, captures are made in one that does: there the ring
+-- passes 300 times a minute, five times a second, and the nominal cell is the time of one of its cells. In the disk's own drive they are as long
+-- on all cylinders.
 abbrev pub IsNominal : (is_even : Bool) → Speed → (ring nominal : ℕ) → Type 0
 IsNominal true speed ring nominal = IsCell speed.cells speed.seconds nominal
 IsNominal false speed ring nominal = IsCell (5 * ring) 1 nominal × AreMacintoshCells ring speed.turns
@@ -72,11 +73,18 @@ abbrev pub GapsAreStated : Type 0
 GapsAreStated = (stated : StatedGaps) → Contains stated_gaps stated
     → (disk : IbmDisk) × IsWordOfFormat stated.word (Numbered disk) × HasStatedGaps stated disk
 
--- There are no other words: one that names a format stands in the second table, or writes such numbers. Since no word names two formats, each
--- of them has the numbers above.
+-- The word stands in the second table, and the format has the numbers that stand there.
+abbrev pub IsStatedName : List ℕ → Format → Type 0
+IsStatedName word format = (stated : StatedFormat) × Contains stated_formats stated × (stated.word ≡ word) × IsStated stated format
+
+-- The word writes numbers of which there is a disk, and the format is a disk that has them.
+abbrev pub IsStatedWord : List ℕ → Format → Type 0
+IsStatedWord word format =
+    (n : StatedNumbers) × WritesNumbers word n × (disk : IbmDisk) × (format ≡ Numbered disk) × IsStated (stated_by word n) format × HasStatedTrack n disk
+
+-- There are no other words: whatever word names a format is one of these, and the format has the numbers above.
 abbrev pub NoOtherWords : Type 0
-NoOtherWords = (word : List ℕ) (format : Format) → IsWordOfFormat word format
-    → ((stated : StatedFormat) × Contains stated_formats stated × (stated.word ≡ word)) ⊎ ((n : StatedNumbers) × WritesNumbers word n)
+NoOtherWords = (word : List ℕ) (format : Format) → IsWordOfFormat word format → IsStatedName word format ⊎ IsStatedWord word format
 
 -- of each format, named or by its numbers, the ring of each track takes a turn of a drive of 300 turns a minute or of 360
 abbrev pub TracksTakeATurn : Type 0

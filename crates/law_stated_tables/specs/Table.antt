@@ -47,7 +47,7 @@ stated word cylinders heads sectors bytes first kilobits_a_second turns image = 
 }
 
 -- Commodore 1541 and 1571: a clock of 16 MHz is divided by 13 to 16, and again by 4, so that a cell has as many quarters of a microsecond; 300
--- turns a minute. All gaps behind the sectors of a track are one byte of 8 cells wider, or none is.
+-- turns a minute. The gap behind each sector of a track has as many bytes, of 8 cells, so that a ring grows by a byte for all of them at once.
 abbrev pub commodore : (first end sectors quarters : ℕ) → StatedZone
 commodore first end sectors quarters = record {
   first = first;
