@@ -3,3 +3,4 @@ pub mod Parts
 pub mod Knowing
 pub mod Noting
 mod OtherNames
+mod Untold

@@ -67,11 +67,11 @@ turned : (a b : HeaderName) → same_name a b ≡ same_name b a
 turned a b = same_decides b a (same_name a b) (λ is. sym (one_name a b is)) (λ same. subst (λ (n : HeaderName). same_name n b ≡ true) same (name_itself b))
 
 -- whether a header's name was met among others
-abbrev met : List NotedOther → NotedOther → Bool
+abbrev pub met : List NotedOther → NotedOther → Bool
 met others o = list_any (λ (x : NotedOther). same_name x.name o.name) others
 
 -- the header, where its name was not met
-abbrev fresh : Bool → NotedOther → List NotedOther
+abbrev pub fresh : Bool → NotedOther → List NotedOther
 fresh was o = cond was [] (o ∷ [])
 
 kept_fresh : (o : NotedOther) (b m : Bool) → filter (λ (q : NotedOther). not b) (fresh m o) ≡ fresh (b || m) o
@@ -87,7 +87,7 @@ filter_fresh p o false true is = refl
 filter_fresh p o false false is = ap (λ (c : Bool). cond c (o ∷ []) []) is
 
 -- one more header is the first of its name where that was not met
-first_more : (others : List NotedOther) (o : NotedOther) → first_ones (others ++ o ∷ []) ≡ first_ones others ++ fresh (met others o) o
+pub first_more : (others : List NotedOther) (o : NotedOther) → first_ones (others ++ o ∷ []) ≡ first_ones others ++ fresh (met others o) o
 first_more [] o = refl
 first_more (x ∷ xs) o =
     let p : NotedOther → Bool = λ (q : NotedOther). not (has_name x.name q) in
@@ -100,7 +100,7 @@ by_first true any rest same = refl
 by_first false any rest same = same refl
 
 -- a name was met exactly where one of the first headers has it
-met_first : (others : List NotedOther) (o : NotedOther) → met (first_ones others) o ≡ met others o
+pub met_first : (others : List NotedOther) (o : NotedOther) → met (first_ones others) o ≡ met others o
 met_first [] o = refl
 met_first (x ∷ xs) o =
     let test : NotedOther → Bool = λ (q : NotedOther). same_name q.name o.name in
@@ -111,7 +111,7 @@ met_first (x ∷ xs) o =
     (λ q same. ap not (ap (same_name x.name) (one_name q.name o.name same) ∙ differ)) (first_ones xs)
     ∙ met_first xs o)
 
-told_by : HeaderName → ℕ → ℕ → Place → OtherTold
+pub told_by : HeaderName → ℕ → ℕ → Place → OtherTold
 told_by name headers whole place = record { name = name; headers = headers; whole = whole; first = place }
 
 -- how many headers a test passes, with one more
@@ -151,7 +151,7 @@ all_more others o (one ∷ more) =
     ∙ ap (λ (ts : List OtherTold). with_header o.name o.whole (told_of others one) ∷ ts) (all_more others o more)
 
 -- a name that is told is that of one of the first headers
-told_first : (others : List NotedOther) (o : NotedOther) (ones : List NotedOther) → is_told o.name (map (told_of others) ones) ≡ met ones o
+pub told_first : (others : List NotedOther) (o : NotedOther) (ones : List NotedOther) → is_told o.name (map (told_of others) ones) ≡ met ones o
 told_first others o [] = refl
 told_first others o (one ∷ more) = ap (λ (b : Bool). same_name one.name o.name || b) (told_first others o more)
 
@@ -328,40 +328,3 @@ below_push bound ts t all few =
 
 pub below_few : (bound most : ℕ) (ts : List OtherTold) → bound ≤ most → AreBelow bound ts → AreBelow most ts
 below_few bound most ts less all k d within = (let here = all k d within in (omega (arith, here.0, less), omega (arith, here.1, less)))
-
--- What is known after one more header was noted.
-module _ (notes : ℕ) (xs : List OtherTold) (old : OthersKnown) (was : (let k : OthersKnown = record { notes = notes; told = xs } in k) ≡ old)
-    (name : HeaderName) (whole : Bool) (place : Place) (others : List NotedOther) (stands : OthersStandFor old others) where
-  abbrev one : NotedOther
-  one = record { name = name; whole = whole; place = place }
-
-  notes_are : notes + 1 ≡ length (others ++ one ∷ [])
-  notes_are =
-      let before : notes ≡ length others = ap (λ (k : OthersKnown). k.notes) was ∙ stands.notes in
-      let size = length-append others (one ∷ []) in
-      omega (arith, before, size)
-
-  told_are : xs ≡ others_over others
-  told_are = ap (λ (k : OthersKnown). k.told) was ∙ stands.told
-
-  pub stands_again : (ts : List OtherTold) → ts ≡ map (with_header name whole) xs → is_told name xs ≡ true
-      → OthersStandFor (record { notes = notes + 1; told = ts }) (others ++ one ∷ [])
-  stands_again ts is known = record {
-    notes = notes_are;
-    told = is ∙ ap (map (with_header name whole)) told_are ∙ sym (told_again others one (ap (is_told name) (sym told_are) ∙ known));
-  }
-
-  pub stands_full : (ts : List OtherTold) → ts ≡ map (with_header name whole) xs → MOST_TOLD ≤ length xs
-      → OthersStandFor (record { notes = notes + 1; told = ts }) (others ++ one ∷ [])
-  stands_full ts is full = record {
-    notes = notes_are;
-    told = is ∙ ap (map (with_header name whole)) told_are ∙ sym (told_full others one (subst (λ (ys : List OtherTold). MOST_TOLD ≤ length ys) told_are full));
-  }
-
-  pub stands_new : (ts : List OtherTold) → ts ≡ map (with_header name whole) xs ++ record { name = name; headers = 1; whole = cond whole 1 0; first = place } ∷ []
-      → is_told name xs ≡ false → length xs < MOST_TOLD → OthersStandFor (record { notes = notes + 1; told = ts }) (others ++ one ∷ [])
-  stands_new ts is unknown few = record {
-    notes = notes_are;
-    told = is ∙ ap (λ (ys : List OtherTold). map (with_header name whole) ys ++ record { name = name; headers = 1; whole = cond whole 1 0; first = place } ∷ []) told_are
-        ∙ sym (told_new others one (ap (is_told name) (sym told_are) ∙ unknown) (subst (λ (ys : List OtherTold). length ys < MOST_TOLD) told_are few));
-  }

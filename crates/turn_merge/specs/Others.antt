@@ -1,5 +1,5 @@
 -- Headers that name none of a track's sectors: what is told of them, by their names.
-use Rattle.std.specs.Prelude.{◌≡◌, ◌<◌, ℕ, ◌+◌, Bool, false, not, cond, ◌&&◌, List, [], ◌∷◌, ◌++◌, length, take, map, filter, nat_eq, All}
+use Rattle.std.specs.Prelude.{◌≡◌, ◌<◌, ℕ, ◌+◌, Bool, false, not, cond, ◌&&◌, ◌||◌, List, [], ◌∷◌, ◌++◌, length, take, map, filter, nat_eq, nat_lt, All}
 use Rattle.std.specs.List.{list_any}
 use Rattle.flux_base.specs.declared.header_name.HeaderName.{HeaderName}
 use Rattle.flux_base.specs.declared.header_name.HeaderName.TheVariants.{Address, TrackSector, TrackSectorSide}
@@ -54,15 +54,34 @@ MOST_TOLD = 64
 unfoldable pub others_over : List NotedOther → List OtherTold
 others_over others = map (told_of others) (take MOST_TOLD (first_ones others))
 
--- how many headers were noted since the list of names was made or cleared, and what is told of them
+-- a name is among those that are told
+abbrev pub is_told : HeaderName → List OtherTold → Bool
+is_told name told = list_any (λ t. same_name t.name name) told
+
+-- whole data stand after one header of this name at least
+abbrev pub has_data : OtherTold → Bool
+has_data told = nat_lt 0 told.whole
+
+-- whole data stand after a header whose name is not told
+abbrev pub has_untold : List NotedOther → Bool
+has_untold others = list_any (λ o. o.whole && not (is_told o.name (others_over others))) others
+
+-- whole data stand after some header exactly where a name that is told has some, or one that is not
+abbrev pub DataAreKnown : Type 0
+DataAreKnown = (others : List NotedOther) → list_any (λ o. o.whole) others ≡ (list_any has_data (others_over others) || has_untold others)
+
+-- How many headers were noted since the list of names was made or cleared, what is told of them, and whether whole data stand after one
+-- whose name is not told.
 pub record OthersKnown : Type 0 where
   pub notes : ℕ
   pub told : List OtherTold
+  pub untold : Bool
 
 -- what is known stands for this list of headers
 pub record OthersStandFor (known : OthersKnown) (others : List NotedOther) : Type 0 where
   pub notes : known.notes ≡ length others
   pub told : known.told ≡ others_over others
+  pub untold : known.untold ≡ has_untold others
 
 -- a call appends the header to whatever list of headers is stood for
 abbrev pub AppendsOther : OthersKnown → OthersKnown → NotedOther → Type 0
@@ -74,10 +93,6 @@ with_header name whole told =
     cond (same_name told.name name)
     (record { name = told.name; headers = told.headers + 1; whole = told.whole + cond whole 1 0; first = told.first })
     told
-
--- a name is among those that are told
-abbrev pub is_told : HeaderName → List OtherTold → Bool
-is_told name told = list_any (λ t. same_name t.name name) told
 
 -- all numbers are below this one
 abbrev pub AreBelow : ℕ → List OtherTold → Type 0

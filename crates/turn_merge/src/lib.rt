@@ -10,5 +10,5 @@ mod verdict;
 
 pub use book::Book;
 pub use clock::Clock;
-pub use others::{MOST_TOLD, OtherTold, Others};
+pub use others::{MOST_TOLD, OtherTold, Others, data_are_known};
 pub use verdict::{Place, Verdict};

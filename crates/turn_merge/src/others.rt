@@ -2,7 +2,7 @@
 
 ghost use Rattle.std.specs.Prelude.{◌≡◌, ◌+◌, ◌<◌, [], map, cond, IfOk};
 ghost use Rattle.turn_merge.specs.Book.{MOST_NOTES};
-ghost use Rattle.turn_merge.specs.Others.{AppendsOther, AreBelow, OthersStandFor, is_told, same_name, with_header};
+ghost use Rattle.turn_merge.specs.Others.{AppendsOther, AreBelow, DataAreKnown, OthersStandFor, has_data, is_told, same_name, with_header};
 
 use crate::verdict::Place;
 use flux_base::{HeaderName, Memory};
@@ -24,6 +24,15 @@ pub struct OtherTold {
     pub first: Place,
 }
 
+impl OtherTold {
+    /// Whether whole data stand after one of them at least.
+    pub fn has_data(&self) -> bool
+        ensures { result ≡ has_data self.now }
+    {
+        self.whole > 0
+    }
+}
+
 /// What is known of the headers of a track that name none of its sectors. Contracts see what it stands for: a list of
 /// such headers, in the order in which they were noted. Only `new` may answer want of memory.
 #[derive(Debug, Drop)]
@@ -32,6 +41,8 @@ pub struct Others {
     notes: u64,
     /// The names in the order in which they were first met, at most [`MOST_TOLD`].
     told: Vec<OtherTold>,
+    /// Whether whole data stand after a header whose name is not among them.
+    untold: bool,
 }
 
 impl Model for Others {
@@ -40,7 +51,7 @@ impl Model for Others {
 
     ghost Value = { OthersKnown };
 
-    ghost view = { λ o. record { notes = o.notes; told = o.told.items } };
+    ghost view = { λ o. record { notes = o.notes; told = o.told.items; untold = o.untold } };
 
     ghost invariant = { λ o. AreBelow (o.notes + 1) o.told.items × (MOST_TOLD ≤ vec_capacity o.told) };
 }
@@ -53,6 +64,7 @@ impl Others {
         Ok(Others {
             notes: 0,
             told: Vec::with_capacity(alloc, MOST_TOLD)?,
+            untold: false,
         })
     }
 
@@ -62,6 +74,7 @@ impl Others {
     {
         self.told.clear();
         self.notes = 0;
+        self.untold = false;
     }
 
     /// Notes a header of this name, and whether whole data stand after it.
@@ -75,6 +88,7 @@ impl Others {
             return;
         }
         if self.told.len() >= MOST_TOLD {
+            self.untold |= whole;
             return;
         }
         self.told.push_reserved(OtherTold {
@@ -91,7 +105,19 @@ impl Others {
     {
         self.told.as_slice()
     }
+
+    /// Whether whole data stand after a header whose name is not told.
+    pub fn has_untold(&self) -> bool
+        ensures { result ≡ self.now.untold }
+    {
+        self.untold
+    }
 }
+
+/// Whole data stand after some header exactly where a name that is told has some, or one that is not.
+pub fn data_are_known()
+    ensures { DataAreKnown }
+{}
 
 /// Counts one more header of this name where it is among those that are told, and says whether it is.
 fn count_header(told: &mut [OtherTold], name: HeaderName, whole: bool) -> bool

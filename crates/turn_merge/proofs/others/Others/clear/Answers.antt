@@ -4,4 +4,4 @@ use Rattle.turn_merge.proofs.others.Others.clear.Goals as goal
 
 pub returns : goal.returns
 unfolding others_over
-returns c = record { notes = refl; told = c.clear.ensures.items }
+returns c = record { notes = refl; told = c.clear.ensures.items; untold = refl }

@@ -4,4 +4,4 @@ use Rattle.turn_merge.proofs.others.Others.new.Goals as goal
 
 pub returns : goal.returns
 unfolding others_over
-returns c = record { notes = refl; told = c.in_ok-with_capacity.ensures.items }
+returns c = record { notes = refl; told = c.in_ok-with_capacity.ensures.items; untold = refl }
