@@ -13,7 +13,7 @@ use Rattle.turn_merge.specs.declared.verdict.Verdict.{Verdict}
 use Rattle.turn_merge.specs.declared.verdict.Verdict.TheVariants.{Good, Contradictory, Bad, Missing}
 use Rattle.kryo_stream.specs.declared.fault.StreamFault.{StreamFault}
 use Rattle.kryo_stream.specs.declared.fault.StreamFault.TheVariants.{Truncated, UnknownType, BadSize, WrongPosition, DeviceFault, DataAfterEnd, IndexPosition, IndexOrder, NoTurn, TooLong}
-use Rattle.sector_report.specs.DumpLines.{DumpsHaveLines, dump_name, name_text, no_files_text, other_text, passed_text, unread_text}
+use Rattle.sector_report.specs.DumpLines.{DumpsHaveLines, dump_name, name_text, no_files_text, other_text, passed_text, traces_text, unread_text, untold_text}
 use Rattle.sector_report.specs.declared.dump_lines.Passed.{Passed}
 use Rattle.sector_report.specs.declared.dump_lines.Passed.TheVariants.{Absent, Refused}
 use Rattle.sector_report.specs.LineLaws.{IsOneLine, SectorsHaveOneLine, TotalsHaveOneLine, line_ends}
@@ -182,10 +182,22 @@ other-line naming track told =
     }
 
 pub dumps_have_lines : DumpsHaveLines
-unfolding unread_text no_files_text
+unfolding unread_text no_files_text untold_text traces_text
 dumps_have_lines = record {
   passed = passed-line;
   other = other-line;
+  untold = λ track. record {
+    front = two_digits track.cylinder ++ codes "." ++ decimal track.head ++ codes " others not told";
+    ends = refl;
+    once = (none-append (none-number (two_digits track.cylinder) (codes ".") track.head (none-two track.cylinder) refl) (none-codes (codes " others not told") refl)).none;
+  };
+  traces = λ track count. record {
+    front = two_digits track.cylinder ++ codes "." ++ decimal track.head ++ codes " traces " ++ decimal count;
+    ends = refl;
+    once =
+        (none-number (two_digits track.cylinder ++ codes "." ++ decimal track.head) (codes " traces ") count
+        (none-number (two_digits track.cylinder) (codes ".") track.head (none-two track.cylinder) refl) refl).none;
+  };
   unread = λ streams others whole. record {
     front = codes "unread " ++ decimal streams ++ codes " other " ++ decimal others ++ codes " whole " ++ decimal whole;
     ends = refl;

@@ -37,6 +37,14 @@ other_text naming track told =
     two_digits track.cylinder ++ codes "." ++ decimal track.head ++ codes " other" ++ name_text told.name ++ codes " " ++ decimal told.headers
     ++ codes " " ++ decimal told.whole ++ place_text naming told.first ++ codes "\n"
 
+-- that whole data stand after a header of the track whose name is not told
+unfoldable pub untold_text : TrackId → List ℕ
+untold_text track = two_digits track.cylinder ++ codes "." ++ decimal track.head ++ codes " others not told" ++ codes "\n"
+
+-- how many of the names that are told have no whole data
+unfoldable pub traces_text : TrackId → (count : ℕ) → List ℕ
+traces_text track count = two_digits track.cylinder ++ codes "." ++ decimal track.head ++ codes " traces " ++ decimal count ++ codes "\n"
+
 -- how many streams were passed over, how many names of other headers were told, and how many of these have whole data
 unfoldable pub unread_text : (unread others whole : ℕ) → List ℕ
 unread_text unread others whole = codes "unread " ++ decimal unread ++ codes " other " ++ decimal others ++ codes " whole " ++ decimal whole ++ codes "\n"
@@ -49,6 +57,8 @@ no_files_text dump = codes "refused dump " ++ decimal dump ++ codes " no track f
 pub record DumpsHaveLines : Type 0 where
   pub passed : (track : TrackId) (dump : ℕ) (why : Passed) → IsOneLine (passed_text track dump why)
   pub other : (naming : Naming) (track : TrackId) (told : OtherTold) → IsOneLine (other_text naming track told)
+  pub untold : (track : TrackId) → IsOneLine (untold_text track)
+  pub traces : (track : TrackId) (count : ℕ) → IsOneLine (traces_text track count)
   pub unread : (streams others whole : ℕ) → IsOneLine (unread_text streams others whole)
   pub no_files : (dump : ℕ) → IsOneLine (no_files_text dump)
 

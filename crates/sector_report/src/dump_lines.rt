@@ -2,7 +2,7 @@
 
 ghost use Rattle.std.specs.Prelude.{◌≡◌, ◌+◌, ◌≤◌, ◌<◌, ◌++◌, codes, decimal};
 ghost use Rattle.arrayvec.specs.ArrayString.{array_string_len};
-ghost use Rattle.sector_report.specs.DumpLines.{dump_name, name_text, no_files_text, other_text, passed_text, unread_text};
+ghost use Rattle.sector_report.specs.DumpLines.{dump_name, name_text, no_files_text, other_text, passed_text, traces_text, unread_text, untold_text};
 
 use crate::line::{Line, put, put_named, put_u8, put_u32, put_u64};
 use crate::naming::Naming;
@@ -65,6 +65,38 @@ pub fn other_line(naming: Naming, track: TrackId, told: &OtherTold) -> Line
     put(&mut line, " ");
     put_u64(&mut line, told.whole);
     put_place(&mut line, naming, told.first);
+    put(&mut line, "\n");
+    line
+}
+
+/// That whole data stand after a header of a track whose name is that of none of its sectors, and is not told: `CC.H others not
+/// told`. The cylinder is below 100.
+#[tactic(auto, unfolding(crate::specs::DumpLines::untold_text))]
+pub fn untold_line(track: TrackId) -> Line
+    requires { track.cylinder < 100 }
+    ensures { result.bytes ≡ untold_text track }
+{
+    let mut line = Line::new();
+    put_two_digits(&mut line, track.cylinder);
+    put(&mut line, ".");
+    put_u32(&mut line, u32::from(track.head));
+    put(&mut line, " others not told\n");
+    line
+}
+
+/// How many names headers of a track have and none of its sectors, after none of which whole data stand: `CC.H traces N`. The
+/// cylinder is below 100.
+#[tactic(auto, unfolding(crate::specs::DumpLines::traces_text))]
+pub fn traces_line(track: TrackId, count: u64) -> Line
+    requires { track.cylinder < 100 }
+    ensures { result.bytes ≡ traces_text track count }
+{
+    let mut line = Line::new();
+    put_two_digits(&mut line, track.cylinder);
+    put(&mut line, ".");
+    put_u32(&mut line, u32::from(track.head));
+    put(&mut line, " traces ");
+    put_u64(&mut line, count);
     put(&mut line, "\n");
     line
 }

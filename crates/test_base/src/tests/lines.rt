@@ -4,8 +4,8 @@ use kryo_stream::StreamFault;
 use sector_images::Format;
 use sector_report::{
     Naming, Passed, Totals, USAGE, image_line, named_line, no_files_line, other_line, passed_line,
-    refused_line, sector_line, total_line, transitions_line, trial_line, turn_line, unread_line,
-    usage_line,
+    refused_line, sector_line, total_line, traces_line, transitions_line, trial_line, turn_line,
+    unread_line, untold_line, usage_line,
 };
 use track_shelf::{file_name, missing_line};
 use turn_merge::{Clock, OtherTold, Place, Verdict};
@@ -306,6 +306,14 @@ fn lines_of_other_headers(rt: HostRuntime) {
             line
         );
     }
+}
+
+// Two digits of the cylinder, and as many of the count as it has.
+#[test]
+fn lines_of_names_that_are_not_told(rt: HostRuntime) {
+    assert_eq!(rt; untold_line(TRACK).as_str(), "07.1 others not told\n");
+    assert_eq!(rt; traces_line(TRACK, 3).as_str(), "07.1 traces 3\n");
+    assert_eq!(rt; traces_line(TRACK, u64::MAX).as_str(), "07.1 traces 18446744073709551615\n");
 }
 
 #[test]

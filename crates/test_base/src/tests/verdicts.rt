@@ -102,7 +102,35 @@ fn others_as_they_come(rt: HostRuntime) -> Result<(), Fail> {
     assert_eq!(rt; others.told().len(), 64);
     assert_eq!(rt; others.told()[0], third);
     assert_eq!(rt; others.told()[63], last);
+    assert!(rt; others.has_untold());
     others.clear();
-    assert!(rt; others.told().is_empty());
+    assert!(rt; others.told().is_empty() && !others.has_untold());
+    Ok(())
+}
+
+/// So many names without data and a header with data behind them, of this sector. Of which name it is: how many names are told, how many
+/// of these have data, and whether data follow a name that is not told.
+const BEHIND: [(u8, u8, (usize, usize, bool)); 5] = [
+    (0, 0, (1, 1, false)),
+    (63, 63, (64, 1, false)),
+    (64, 64, (64, 0, true)),
+    (70, 70, (64, 0, true)),
+    // A second header of a name that is told.
+    (70, 9, (64, 1, false)),
+];
+
+#[test]
+fn data_behind_the_names_that_are_told(rt: HostRuntime) -> Result<(), Fail> {
+    for (names, sector, known) in BEHIND {
+        let mut others = Others::new(rt.alloc())?;
+        for empty in 0..names {
+            others.note(elsewhere(empty), false, FIRST);
+        }
+        assert!(rt; !others.has_untold());
+        others.note(elsewhere(sector), true, FIRST);
+        let told = others.told();
+        let with_data = told.iter().filter(|name| name.has_data()).count();
+        assert_eq!(rt; (told.len(), with_data, others.has_untold()), known);
+    }
     Ok(())
 }
