@@ -1,5 +1,5 @@
 -- A book without readings for the tracks of a format is one for its first track.
-use Rattle.std.proofs.Common.{◌≡◌, ◌<◌, ◌≤◌, ℕ, Bool, false, List, [], length, Option, None, Some, arith, refl, sym, ap, subst, ◌∙◌}
+use Rattle.std.proofs.Common.{◌≡◌, ◌≤◌, ℕ, Bool, false, List, [], Option, None, Some, arith, refl, sym, ap, subst, ◌∙◌}
 use Rattle.std.specs.Prelude.{slice_get, unwrap_or}
 use Rattle.std.proofs.lemmas.List.{length-replicate}
 use Rattle.std.proofs.lemmas.Option.{slice_get-get_or}
@@ -35,7 +35,7 @@ is-book some bounds format = record {
 }
 
 -- it is started, without a stream
-pub is-started : FormatsHaveTracks → (format : Format) → IsStarted format 0 0 (empty_book format) (record { notes = 0; told = [] })
+pub is-started : FormatsHaveTracks → (format : Format) → IsStarted format 0 0 (empty_book format) (record { notes = 0; told = []; untold = false })
 is-started some format = record {
   low = omega (arith, some format);
   knows = record { first = refl; count = length-replicate (sectors_of format (track_at format 0)).count nothing };
@@ -62,7 +62,7 @@ room-of format held used book passed others = record {
 
 -- a room that holds nothing, with such a book, is a fresh one
 pub fresh-from : (format : Format) (held : List ℕ) (used : Bool) (book : Knowledge) (passed : List PassedStream) (others : OthersKnown) → held ≡ [] → used ≡ false
-    → book ≡ empty_book format → passed ≡ [] → others ≡ record { notes = 0; told = [] } → room-of format held used book passed others ≡ fresh format
+    → book ≡ empty_book format → passed ≡ [] → others ≡ record { notes = 0; told = []; untold = false } → room-of format held used book passed others ≡ fresh format
 fresh-from format held used book passed others none unused empty clean nobody =
     ap (λ (h : List ℕ). room-of format h used book passed others) none ∙ ap (λ (u : Bool). room-of format [] u book passed others) unused
     ∙ ap (λ (b : Knowledge). room-of format [] false b passed others) empty ∙ ap (λ (p : List PassedStream). room-of format [] false (empty_book format) p others) clean

@@ -1,5 +1,5 @@
 -- The steps of the loop over a disk's tracks, wherever the streams come from.
-use Rattle.std.specs.Prelude.{◌≡◌, ◌≤◌, ◌<◌, ℕ, zero, suc, ◌+◌, ◌*◌, Bool, false, List, [], ◌∷◌, ◌++◌, cond, count_by, drop, get_or, is_some, length, sum_by, take, Option, None, Some, Ok, Err, refl}
+use Rattle.std.specs.Prelude.{◌≡◌, ◌≤◌, ◌<◌, ℕ, zero, suc, ◌+◌, ◌*◌, Bool, true, false, List, [], ◌∷◌, ◌++◌, cond, drop, get_or, is_some, length, sum_by, take, Option, None, Some, Ok, Err, refl}
 use Rattle.std.specs.Io.KnownBytes.{Appends}
 use Rattle.std.proofs.Common.{ap, sym, subst, ◌∙◌, add-one, arith, inl, inr, append_assoc, append-nil, length-append}
 use Rattle.std.proofs.KnownBytes.{Appends-nil, Appends-trans}
@@ -20,14 +20,14 @@ use Rattle.sector_images.specs.declared.format.Format.{Format}
 use Rattle.sector_report.specs.declared.dump_lines.Passed.{Passed}
 use Rattle.sector_report.specs.declared.totals.Totals.{Totals}
 use Rattle.turn_merge.specs.Book.{Knowledge, StandsFor}
-use Rattle.turn_merge.specs.Others.{MOST_TOLD, NotedOther, OthersKnown, OthersStandFor, first_ones, others_over, told_of}
+use Rattle.turn_merge.specs.Others.{MOST_TOLD, NotedOther, OthersKnown, OthersStandFor, first_ones, has_data, has_untold, others_over, told_of}
 use Rattle.turn_merge.specs.declared.others.OtherTold.{OtherTold}
 use Rattle.turn_merge.specs.Readings.{NotedReading}
 use Rattle.flux_base.specs.declared.header_name.HeaderName.{HeaderName}
 use Rattle.turn_merge.specs.declared.clock.Clock.{Clock}
 use Rattle.flux_engine.specs.Answers.{AppendsAndPart}
 use Rattle.flux_engine.specs.Captured.{AreOthersOf, AreOthersOfClock, AreReadingsBy, AreReadingsOf, joined_by}
-use Rattle.flux_engine.specs.Counts.{AreCountsBelow, AreOthersOver, CountsTrack, counted, has_data, told_count, whole_count}
+use Rattle.flux_engine.specs.Counts.{AreCountsBelow, AreOthersOver, CountsTrack, counted, names_of, told_count, whole_count, whole_names_of}
 use Rattle.flux_engine.specs.Disks.{images, lines, no_totals, totals_over}
 use Rattle.flux_engine.specs.Gathering.{HasNotedBy}
 use Rattle.flux_engine.specs.LoopProgress.{AreWhole, EndedBySink, EndedInTrack, HasGathered, HasNotedNext, HasTakenNext, HasWritten, WritesFront, passed_count, seen_at, seen_next, streams_over}
@@ -243,8 +243,8 @@ pub counts_track : (old room room' : RoomState) → room.unread ≡ old.unread �
 counts_track old room room' unread told whole is =
     subst (λ (r : RoomState). CountsTrack old r) (sym is) (record {
       unread = ap (λ (k : ℕ). k + length room.passed) unread;
-      told = ap (λ (k : ℕ). k + length (take MOST_TOLD room.others.told)) told;
-      whole = ap (λ (k : ℕ). k + count_by has_data (take MOST_TOLD room.others.told)) whole;
+      told = ap (λ (k : ℕ). k + names_of (take MOST_TOLD room.others.told) room.others.untold) told;
+      whole = ap (λ (k : ℕ). k + whole_names_of (take MOST_TOLD room.others.told) room.others.untold) whole;
     })
 
 -- the counts grow by at most so much a track
@@ -256,11 +256,16 @@ counts_below old new n counts few below =
     let first : List OtherTold = take MOST_TOLD new.others.told in
     let size = length-take MOST_TOLD new.others.told in
     let part = count_by-le-length has_data first in
+    let one = one_at_most new.others.untold in
     record {
       unread = omega (arith, counts.unread, few, below.unread);
-      told = omega (arith, counts.told, size, below.told);
-      whole = omega (arith, counts.whole, part, size, below.whole);
+      told = omega (arith, counts.told, size, one, below.told);
+      whole = omega (arith, counts.whole, part, size, one, below.whole);
     }
+  where
+    one_at_most : (untold : Bool) → cond untold 1 0 ≤ 1
+    one_at_most true = omega arith
+    one_at_most false = omega arith
 
 -- no more names are told than so many
 few_told : (others : List NotedOther) → length (others_over others) ≤ MOST_TOLD
@@ -366,12 +371,14 @@ module _ (plan : Plan) (of : PartOf) (format : Format) (Came Came' : List ℕ �
     many_others = length_push h.others c.others ∙ ap (λ (k : ℕ). k + 1) h.many_others;
     others_are = others-more plan format (streams_over plan (h.streams ++ c.more)) h.others n c.others h.many_others
         (others-longer plan format h.streams c.more h.others (omega (arith, ap (λ (k : ℕ). k * plan.captures) h.many_others, h.all)) h.others_are) c.others_are;
-    told_is = counts.told ∙ ap (λ (k : ℕ). k + length (take MOST_TOLD room'.others.told)) h.told_is
-        ∙ ap (λ (ts : List OtherTold). told_count h.others + length ts) (told_all room'.others c.others c.others_stand)
-        ∙ sym (sum-more (λ (others : List NotedOther). length (others_over others)) h.others c.others);
-    whole_is = counts.whole ∙ ap (λ (k : ℕ). k + count_by has_data (take MOST_TOLD room'.others.told)) h.whole_is
-        ∙ ap (λ (ts : List OtherTold). whole_count h.others + count_by has_data ts) (told_all room'.others c.others c.others_stand)
-        ∙ sym (sum-more (λ (others : List NotedOther). count_by has_data (others_over others)) h.others c.others);
+    told_is = counts.told ∙ ap (λ (k : ℕ). k + names_of (take MOST_TOLD room'.others.told) room'.others.untold) h.told_is
+        ∙ ap (λ (ts : List OtherTold). told_count h.others + names_of ts room'.others.untold) (told_all room'.others c.others c.others_stand)
+        ∙ ap (λ (b : Bool). told_count h.others + names_of (others_over c.others) b) c.others_stand.untold
+        ∙ sym (sum-more (λ (others : List NotedOther). names_of (others_over others) (has_untold others)) h.others c.others);
+    whole_is = counts.whole ∙ ap (λ (k : ℕ). k + whole_names_of (take MOST_TOLD room'.others.told) room'.others.untold) h.whole_is
+        ∙ ap (λ (ts : List OtherTold). whole_count h.others + whole_names_of ts room'.others.untold) (told_all room'.others c.others c.others_stand)
+        ∙ ap (λ (b : Bool). whole_count h.others + whole_names_of (others_over c.others) b) c.others_stand.untold
+        ∙ sym (sum-more (λ (others : List NotedOther). whole_names_of (others_over others) (has_untold others)) h.others c.others);
     sound = sound;
   }
 

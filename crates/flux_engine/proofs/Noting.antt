@@ -1,7 +1,7 @@
 -- What was gathered of a stream is all that can be read on its track.
-use Rattle.std.specs.Prelude.{◌≡◌, ◌≤◌, ◌<◌, ℕ, suc, ◌+◌, ◌-◌, List, [], ◌∷◌, ◌++◌, length, replicate, slice_index_or, Option, None, Ok, Err, refl}
-use Rattle.std.proofs.Common.{ap, append_assoc, sym, subst, ◌∙◌, arith}
-use Rattle.std.specs.Prelude.{Bool}
+use Rattle.std.specs.Prelude.{◌≡◌, ◌<◌, ℕ, suc, ◌+◌, ◌-◌, List, [], ◌∷◌, ◌++◌, length, replicate, slice_index_or, Option, None, Ok, Err, refl}
+use Rattle.std.proofs.Common.{ap, sym, subst, ◌∙◌, arith}
+use Rattle.std.specs.Prelude.{Bool, false}
 use Rattle.flux_base.specs.declared.track.TrackId.{TrackId}
 use Rattle.disk_recordings.specs.Members.{as_controllers_read, data_at, header_at, named_at, sector_at, whole_data_of}
 use Rattle.frame_law.specs.Readings.{AreReadings}
@@ -184,8 +184,9 @@ empty_is book first most size sectors stands shape =
     ∙ ap (λ (fs : List Found). let k : Knowledge = record { first_sector = first; most = most; size = size; notes = 0; found = fs } in k) found
 
 -- nor are others known where none was noted
-pub no_others_is : (known : OthersKnown) → OthersStandFor known [] → known ≡ record { notes = 0; told = [] }
+pub no_others_is : (known : OthersKnown) → OthersStandFor known [] → known ≡ record { notes = 0; told = []; untold = false }
 unfolding others_over
 no_others_is known stands =
-    ap (λ (n : ℕ). let k : OthersKnown = record { notes = n; told = known.told } in k) stands.notes
-    ∙ ap (λ ts. let k : OthersKnown = record { notes = 0; told = ts } in k) stands.told
+    ap (λ (n : ℕ). let k : OthersKnown = record { notes = n; told = known.told; untold = known.untold } in k) stands.notes
+    ∙ ap (λ ts. let k : OthersKnown = record { notes = 0; told = ts; untold = known.untold } in k) stands.told
+    ∙ ap (λ (b : Bool). let k : OthersKnown = record { notes = 0; told = []; untold = b } in k) stands.untold

@@ -53,7 +53,7 @@ fresh format = record {
   book = empty_book format;
   passed = [];
   unread = 0;
-  others = record { notes = 0; told = [] };
+  others = record { notes = 0; told = []; untold = false };
   told_others = 0;
   whole_others = 0;
   failed = false;

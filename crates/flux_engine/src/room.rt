@@ -1,4 +1,4 @@
-ghost use Rattle.std.specs.Prelude.{◌≡◌, ◌+◌, ◌<◌, ◌^◌, [], length, IfOk};
+ghost use Rattle.std.specs.Prelude.{◌≡◌, ◌+◌, ◌<◌, ◌^◌, [], false, length, IfOk};
 ghost use Rattle.flux_engine.specs.Room.{empty_book};
 
 use crate::gathered_track::{Gathered, PassedStreams};
@@ -42,7 +42,7 @@ pub struct DiskRoom {
     pub(crate) captures: u32,
     /// The streams that were passed over of all tracks whose captures were read.
     pub(crate) unread: u32,
-    /// The names that are told of other headers of these tracks.
+    /// The names that are told of other headers of these tracks, and one for each track where data follow a name that is not told.
     pub(crate) told_others: u32,
     /// Those of them that have whole data.
     pub(crate) whole_others: u32,
@@ -125,7 +125,8 @@ impl DiskRoom {
         self.unread
     }
 
-    /// How many names are told of headers that name none of their track's sectors, of all tracks whose captures were read.
+    /// How many names are told of headers that name none of their track's sectors, of all tracks whose captures were read. The names
+    /// of a track that are not told count as one where whole data stand after one of their headers.
     pub fn told_others(&self) -> u32
         ensures { result ≡ self.now.told_others }
     {
@@ -142,8 +143,8 @@ impl DiskRoom {
     /// Counts what was gathered of the started track.
     pub(crate) fn count_track(&mut self)
         requires unread { self.old.unread + length self.old.passed < 2 ^ 32 }
-        requires told { self.old.told_others + 64 < 2 ^ 32 }
-        requires whole { self.old.whole_others + 64 < 2 ^ 32 }
+        requires told { self.old.told_others + 65 < 2 ^ 32 }
+        requires whole { self.old.whole_others + 65 < 2 ^ 32 }
         ensures { self.new ≡ counted self.old }
     {
         let names = name_count(&self.tools.gathered.others);
@@ -163,7 +164,7 @@ impl Tools {
         ensures started { IfOk result (λ tools. IsStarted format 0 0 tools.gathered.book tools.gathered.others) }
         ensures empty { IfOk result (λ tools. tools.gathered.book ≡ empty_book format) }
         ensures none { IfOk result (λ tools. tools.gathered.passed.items ≡ []) }
-        ensures no_others { IfOk result (λ tools. tools.gathered.others ≡ record { notes = 0; told = [] }) }
+        ensures no_others { IfOk result (λ tools. tools.gathered.others ≡ record { notes = 0; told = []; untold = false }) }
     {
         let clock = Loop::new(alloc)?;
         let mut cells = Cells::new(alloc);

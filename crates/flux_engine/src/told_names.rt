@@ -1,7 +1,7 @@
 //! How many names are told of the headers of a track that name none of its sectors.
 
-ghost use Rattle.std.specs.Prelude.{◌≡◌, ◌≤◌, count_by, length, take};
-ghost use Rattle.flux_engine.specs.Counts.{has_data};
+ghost use Rattle.std.specs.Prelude.{◌≡◌, ◌≤◌, ◌+◌, length, take};
+ghost use Rattle.flux_engine.specs.Counts.{names_of, whole_names_of};
 ghost use Rattle.turn_merge.specs.Others.{MOST_TOLD as MOST_NAMES};
 
 use turn_merge::{MOST_TOLD, OtherTold, Others};
@@ -15,19 +15,19 @@ fn told_names(others: &Others) -> &[OtherTold]
     &told[..MOST_TOLD.min(told.len())]
 }
 
-/// How many names are told.
+/// How many names are told, with one for those that are not, where whole data stand after one of their headers.
 pub(crate) fn name_count(others: &Others) -> u32
-    ensures count { result ≡ length (take MOST_NAMES others.now.told) }
-    ensures few { result ≤ MOST_NAMES }
+    ensures count { result ≡ names_of (take MOST_NAMES others.now.told) others.now.untold }
+    ensures few { result ≤ MOST_NAMES + 1 }
 {
-    told_names(others).len() as u32
+    told_names(others).len() as u32 + u32::from(others.has_untold())
 }
 
-/// How many names are told that have whole data after one of their headers at least.
+/// How many of these have whole data after one of their headers at least.
 pub(crate) fn whole_name_count(others: &Others) -> u32
-    ensures count { result ≡ count_by has_data (take MOST_NAMES others.now.told) }
-    ensures few { result ≤ MOST_NAMES }
+    ensures count { result ≡ whole_names_of (take MOST_NAMES others.now.told) others.now.untold }
+    ensures few { result ≤ MOST_NAMES + 1 }
 {
     let names = told_names(others);
-    names.iter().filter(|told| told.whole > 0).count() as u32
+    names.iter().filter(|told| told.whole > 0).count() as u32 + u32::from(others.has_untold())
 }
