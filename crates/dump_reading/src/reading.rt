@@ -25,7 +25,7 @@ use track_shelf::Shelf;
 /// Reads a disk of its dumps, and then writes the last two lines to `notes`. Of each track in order the files of all dumps are
 /// read as controllers read, in the order of the dumps; one that is missing or refused is told and passed over. One verdict for
 /// each sector is given over all readings by both clocks, and the names of headers are told that are those of none of the track's
-/// sectors. No answer is for want of memory.
+/// sectors: one by one where whole data follow them. No answer is for want of memory.
 ///
 /// A dump that has the file of none of the tracks is refused before anything is written. After a fault nothing more is read or
 /// written, and the tracks before are written whole.

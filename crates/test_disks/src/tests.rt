@@ -1,5 +1,6 @@
 mod dumps;
 mod identities;
+mod names;
 mod pictures;
 mod sets;
 mod trials;

@@ -8,7 +8,7 @@ pub returns-in-Ok-write_others-clause-wrote : goal.returns-in-Ok-write_others-cl
 returns-in-Ok-write_others-clause-wrote g c = λ readings others stands stand.
     let e = rw c.sectors_of.ensures at c.in-Ok-write_lines.ensures in
     let passed = rw c.deref.ensures.0 at c.in-Ok-write_passed.ensures.ok in
-    let told = rw (c.told.ensures, stand.told) at c.in-Ok-write_others.ensures.ok in (
+    let told = rw (stand.told, stand.untold) at c.in-Ok-write_others.ensures.ok in (
       c.in-Ok.ensures.ok readings stands,
       Appends-trans (g.N.Sink.written c.args.notes.now) (g.N.Sink.written c.write_passed.new.notes) (g.N.Sink.written c.write_others.new.notes) _ _ passed
           (Appends-trans (g.N.Sink.written c.write_passed.new.notes) (g.N.Sink.written c.write_lines.new.notes) (g.N.Sink.written c.write_others.new.notes) _ _ (e.ok readings stands) told),
@@ -19,7 +19,7 @@ pub returns-in-Err-write_others-clause-wrote : goal.returns-in-Err-write_others-
 returns-in-Err-write_others-clause-wrote g c = λ readings others stands stand.
     let e = rw c.sectors_of.ensures at c.in-Ok-write_lines.ensures in
     let passed = rw c.deref.ensures.0 at c.in-Ok-write_passed.ensures.ok in
-    let told = rw (c.told.ensures, stand.told) at c.in-Err-write_others.ensures.err in (
+    let told = rw (stand.told, stand.untold) at c.in-Err-write_others.ensures.err in (
       c.in-Ok.ensures.ok readings stands,
       AppendsPart-second (g.N.Sink.written c.args.notes.now) (g.N.Sink.written c.write_passed.new.notes) (g.N.Sink.written c.write_others.new.notes) _ _ passed
           (AppendsPart-second (g.N.Sink.written c.write_passed.new.notes) (g.N.Sink.written c.write_lines.new.notes) (g.N.Sink.written c.write_others.new.notes) _ _ (e.ok readings stands) told),
