@@ -5,3 +5,4 @@ mod Rates
 mod Fit
 mod Numbers
 mod Others
+mod Places

@@ -1,5 +1,6 @@
 //! What the tables of formats come to.
 
+ghost use Rattle.law_stated_tables.specs.PlaceLaws.{NumberedPlacesAreStated, PlacesAreStated};
 ghost use Rattle.law_stated_tables.specs.Laws.{GapsAreStated, NamesAreStated, NoOtherWords, NumbersAreStated, TracksTakeATurn};
 
 use sector_images::words_name_formats;
@@ -26,4 +27,10 @@ pub fn words_are_stated()
 /// Cell times ring is one turn of a drive of 300 or 360 turns a minute, on each track of each format, also of those by their numbers.
 pub fn tracks_take_a_turn()
     ensures { TracksTakeATurn }
+{}
+
+/// The sectors of each track begin at the stated places of its ring.
+pub fn places_are_stated()
+    ensures named { PlacesAreStated }
+    ensures numbered { NumberedPlacesAreStated }
 {}

@@ -6,4 +6,6 @@
 
 mod laws;
 
-pub use laws::{names_are_stated, numbers_are_stated, tracks_take_a_turn, words_are_stated};
+pub use laws::{
+    names_are_stated, numbers_are_stated, places_are_stated, tracks_take_a_turn, words_are_stated,
+};
