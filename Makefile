@@ -48,7 +48,7 @@ check:
 test:
 	.ci/run
 
-# The wrong bodies that the gate does not try, in a copy: make wrong, which takes an hour and more, or make wrong NAME=turn_merge
+# The wrong bodies that the gate does not try, in a copy: make wrong, or make wrong NAME=turn_merge (CONTRIBUTING.md says how long they take)
 wrong:
 	.ci/wrong $(NAME)
 
