@@ -3,7 +3,8 @@
 The exit code and the bytes of standard output and standard error have to be the same. Cases are made from a seed and their number,
 so that each can be made again. The smallest input that differs is kept, with both answers.
 
-usage: bench/run compare PROGRAM [--cases N] [--seed S] [--first I] [--processes P] [--keep FOLDER] [--work FOLDER]
+usage: bench/run compare PROGRAM [--cases N] [--seed S] [--first I] [--kind NAME] [--processes P] [--keep FOLDER]
+       [--work FOLDER]
 
 Inputs that the program reads from files lie in a folder of the run's own, below --work or where temporary files are, which goes at its end.
 """
@@ -31,6 +32,7 @@ def options():
     parser.add_argument("--cases", type=int, default=10000)
     parser.add_argument("--seed", type=int, default=1)
     parser.add_argument("--first", type=int, default=0, help="the number of the first case")
+    parser.add_argument("--kind", choices=[row[0] for row in cases.TABLE], help="cases of this kind alone")
     parser.add_argument("--processes", type=int, default=os.cpu_count())
     parser.add_argument("--keep", default="differs")
     parser.add_argument("--work", help="the folder below which temporary files lie")
@@ -39,9 +41,9 @@ def options():
 
 def one(task):
     """Runs a case: its kinds, the answer's kind, and what differs, or None."""
-    program, seed, number, usage, built, work = task
+    program, seed, number, usage, built, work, kind = task
     chance = random.Random(f"{seed} {number}")
-    name, words, data, kinds = cases.make(chance, built)
+    name, words, data, kinds = cases.make(chance, built, kind)
     wanted = plain_commands.outcome(words, data, built, usage)
     got = run(program, words, data, work if number % 2 == 0 or isinstance(data, dict) else None)
     return number, name, kinds, answer_of(words, wanted), (words, data, wanted, got) if wanted != got else None
@@ -57,7 +59,7 @@ def answer_of(words, wanted):
         found.append("refused: " + next((part for part in fault if part[0].isupper()), "image"))
     text = (out if words and words[0] in (b"report", b"map") else notes).decode()
     verdicts = re.findall(r"(?:^|<title>)[0-9]{2}\.[01] [0-9]{2,3} ([a-z]+) ", text, re.MULTILINE)
-    others = re.findall(r"^[0-9]{2}\.[01] (other|dump [0-9] [a-z]+) ", text, re.MULTILINE)
+    others = re.findall(r"^[0-9]{2}\.[01] (other|others not told|traces|dump [0-9] [a-z]+)\b", text, re.MULTILINE)
     return found + sorted({"verdict " + verdict for verdict in verdicts} | {"line " + re.sub("[0-9]", "N", other) for other in others})
 
 
@@ -97,7 +99,7 @@ def compare(args, work):
     names, kinds, answers, slowest = (collections.Counter() for _ in range(4))
     different = collections.Counter()
     first = None
-    tasks = ((args.program, args.seed, number, usage, built, work) for number in range(args.first, args.first + args.cases))
+    tasks = ((args.program, args.seed, number, usage, built, work, args.kind) for number in range(args.first, args.first + args.cases))
     with multiprocessing.Pool(args.processes) as pool:
         for number, name, done, answer, differs in pool.imap_unordered(one, tasks):
             names[name] += 1

@@ -1,9 +1,13 @@
 """Cases for compare.py of files: folders of track files, and one or more dumps of a disk with files that are missing, refused or of another
 disk. An input is the files by their paths, None for a folder in the place of a file."""
+from case_others import others_track
 from case_streams import FILLER, SHORTEST, few_blocks, faulty, one_in, spell
 from case_tracks import noisy_track, track_stream, whole_track
 from plain import FORMATS, any_format
 from plain_dumps import path_of, reaches_all
+from plain_recordings import IbmFm, IbmMfm
+
+IBM_FORMATS = [form for form in FORMATS.values() if isinstance(form.recording, (IbmFm, IbmMfm))]
 
 
 def few(chance, kinds):
@@ -46,7 +50,9 @@ def dump_name(chance, kinds, number):
 
 def one_file(chance, kinds, form, at):
     """A file of a track: mostly of its own, with sectors, else of another track's or of another format, or refused."""
-    roll = chance.randrange(12)
+    roll = chance.randrange(14)
+    if roll > 11:
+        return others_track(chance, kinds, form, at)
     if roll < 5:
         return track_stream(chance, kinds, form, at)
     if roll < 7:
@@ -83,16 +89,16 @@ def lacking(chance, kinds, files):
     return files
 
 
-def dump_files(chance, kinds, form, name, steps, special):
+def dump_files(chance, kinds, form, name, steps, special, made=one_file):
     """The files of a dump, of which those of some tracks are made and all others are fillers."""
     path = lambda track: path_of(name, steps * track[0], track[1])
     files = {path(track): chance.choice([FILLER, SHORTEST]) for track in form.tracks}
     for at in special:
-        files[path(form.tracks[at])] = one_file(chance, kinds, form, at)
+        files[path(form.tracks[at])] = made(chance, kinds, form, at)
     return lacking(chance, kinds, files)
 
 
-def dumps_of(chance, kinds, form, steps, count):
+def dumps_of(chance, kinds, form, steps, count, made=one_file):
     """The names of so many dumps, and all their files. A name may stand twice."""
     special = chance.sample(range(len(form.tracks)), 1 if count > 3 or one_in(chance, 2) else 2)
     names, files = [], {}
@@ -102,7 +108,7 @@ def dumps_of(chance, kinds, form, steps, count):
             names.append(chance.choice(names))
             continue
         names.append(dump_name(chance, kinds, number))
-        files |= dump_files(chance, kinds, form, names[-1], steps, special)
+        files |= dump_files(chance, kinds, form, names[-1], steps, special, made)
     return names, files
 
 
@@ -122,6 +128,15 @@ def case_read(chance, kinds, built):
         kinds.add("words of read that are wrong")
         words = wrong_words(chance, words)
     return words, files
+
+
+def case_others(chance, kinds, built):
+    """One or two dumps with headers that name none of their tracks' sectors."""
+    form = any_format(chance) if one_in(chance, 2) else IBM_FORMATS[chance.randrange(len(IBM_FORMATS))]
+    count = chance.choice([1, 1, 1, 2])
+    kinds |= {f"format {form.word}", f"{count} dumps"}
+    names, files = dumps_of(chance, kinds, form, 1, count, others_track)
+    return [b"read"] + [b"--picture"] * one_in(chance, 8) + [form.word.encode(), *names], files
 
 
 def case_show(chance, kinds, built):
@@ -172,5 +187,6 @@ def case_identify(chance, kinds, built):
     files = dump_files(chance, kinds, form, name, steps, [])
     for at in chance.sample(range(len(form.tracks)), 2):
         cylinder, head = form.tracks[at]
-        files[path_of(name, steps * cylinder, head)] = track_stream(chance, kinds, form, at, chance.choice([1, 2]))
+        made = track_stream(chance, kinds, form, at, chance.choice([1, 2])) if not one_in(chance, 5) else others_track(chance, kinds, form, at)
+        files[path_of(name, steps * cylinder, head)] = made
     return [b"identify", name], files

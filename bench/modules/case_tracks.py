@@ -34,9 +34,9 @@ def gap_of(chance, kinds, cells, unit):
     return (unit * (distance // len(unit) + 1))[:distance]
 
 
-def ibm_names(chance, kinds, cylinder, head, number, size, most):
-    """C, H, R and N, sometimes of no sector of the track."""
-    names = [cylinder, head, number, size]
+def ibm_names(chance, kinds, cylinder, head, number, data, most):
+    """C, H, R and N of a sector with these data, sometimes of no sector of the track."""
+    names = [cylinder, head, number, len(data).bit_length() - 8]
     if one_in(chance, 8):
         field = chance.randrange(4)
         names[field] = chance.choice([names[field] ^ 1, 0, most + 1, 255])
@@ -54,7 +54,7 @@ def off(chance, kinds, name, content):
 
 
 def ibm_fm_sector(chance, kinds, cylinder, head, number, data):
-    names = ibm_names(chance, kinds, cylinder, head, number, len(data) // 256, 26)
+    names = ibm_names(chance, kinds, cylinder, head, number, data, 26)
     out = fm(bytes(6)) + word(0xF57E) + fm(off(chance, kinds, "header", recordings.checked(b"\xfe", names)))
     out += gap_of(chance, kinds, fm(b"\xff" * 11 + bytes(6)), "11")
     byte, mark = data_mark(chance, kinds, [(0xFB, 0xF56F), (0xF8, 0xF56A)], [(0xFE, 0xF57E), (0xFC, 0xF77A)])
@@ -73,7 +73,7 @@ def data_mark(chance, kinds, right, wrong):
 
 
 def ibm_mfm_sector(chance, kinds, cylinder, head, number, data):
-    names = ibm_names(chance, kinds, cylinder, head, number, 2, 18)
+    names = ibm_names(chance, kinds, cylinder, head, number, data, 18)
     out = MfmList().bytes(bytes(12)).mark(0x4489, 3)
     mark = b"\xfe" if not one_in(chance, 20) else bytes([chance.choice([0xFF, 0xFC, 0xFB])])
     if mark != b"\xfe":

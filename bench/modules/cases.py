@@ -3,7 +3,7 @@ import struct
 
 import plain
 import plain_commands
-from case_dumps import case_folder, case_identify, case_read, case_show, few
+from case_dumps import case_folder, case_identify, case_others, case_read, case_show, few
 from case_streams import FILLER, SHORTEST, faulty, few_blocks, one_in, spell, too_long
 from case_tracks import noisy_track, random_data, track_stream, whole_track
 from plain import FORMATS
@@ -239,15 +239,16 @@ TABLE = [
     ("G64 files", 150, case_g64, b"from-g64"),
     ("folders", 200, case_folder, b"decode-folder"),
     ("dumps", 300, case_read, b"read"),
+    ("dumps with headers of others", 60, case_others, b"read"),
     ("sectors of dumps", 100, case_show, b"show"),
     ("dumps to be named", 30, case_identify, b"identify"),
     ("trials", 8, case_trial, b"trial"),
 ]
 
 
-def make(chance, built):
-    """A case: its kind's name, its words, its input and the names of what was done to it."""
-    table = [row for row in TABLE if row[3] is None or row[3] in built]
+def make(chance, built, wanted=None):
+    """A case, of a wanted kind or of any: its kind's name, its words, its input and the names of what was done to it."""
+    table = [row for row in TABLE if (row[3] is None or row[3] in built) and wanted in (None, row[0])]
     name, _, case, _ = chance.choices(table, [row[1] for row in table])[0]
     kinds = set()
     words, data = case(chance, kinds, built)

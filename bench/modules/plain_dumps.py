@@ -76,12 +76,13 @@ def read_by_controllers(form, k, stream, clock, prefix):
 
 def others_told(others):
     """Of each of the first names, in the order in which they are met: how many headers have it, how many of these have data, and the
-    first one's place."""
-    told = {}
-    for place, name, whole in others:
-        headers, wholes, first = told.get(name, (0, 0, place))
-        told[name] = headers + 1, wholes + whole, first
-    return [(name, *numbers) for name, numbers in told.items()][:MOST_TOLD]
+    first one's place; and whether data stand after a header that has none of these names."""
+    first = list(dict.fromkeys(name for _, name, _ in others))[:MOST_TOLD]
+    told = []
+    for name in first:
+        places, wholes = zip(*((place, whole) for place, other, whole in others if other == name))
+        told.append((name, len(places), sum(wholes), places[0]))
+    return told, any(whole for _, name, whole in others if name not in first)
 
 
 class Dumps:
@@ -130,15 +131,21 @@ class DumpAnswer(Answer):
 
     def dump_track(self, k, passed, entries, others):
         cylinder, head = self.form.tracks[k]
-        told = others_told(others)
-        self.lines += [f"{cylinder:02}.{head} {why}\n" for why in passed]
+        told, untold = others_told(others)
+        track = f"{cylinder:02}.{head}"
+        self.lines += [f"{track} {why}\n" for why in passed]
         before = len(self.lines)
         self.track(k, entries)
         self.sectors += self.lines[before:]
-        self.lines += [f"{cylinder:02}.{head} other {' '.join(map(str, name))} {headers} {whole} {first}\n" for name, headers, whole, first in told]
+        # a name has a line where data stand after one of its headers; those without are counted
+        with_data = [other for other in told if other[2] > 0]
+        self.lines += [f"{track} other {' '.join(map(str, name))} {headers} {wholes} {first}\n" for name, headers, wholes, first in with_data]
+        self.lines += [f"{track} others not told\n"] * untold
+        traces = len(told) - len(with_data)
+        self.lines += [f"{track} traces {traces}\n"] * (traces > 0)
         self.unread += len(passed)
-        self.others += len(told)
-        self.whole += sum(whole > 0 for _, _, whole, _ in told)
+        self.others += len(told) + untold
+        self.whole += len(with_data) + untold
 
     def end(self):
         self.lines.append(f"unread {self.unread} other {self.others} whole {self.whole}\n")

@@ -109,7 +109,8 @@ class Recording:
 
 
 def ibm_size(name):
-    return 128 << name[3] if name[3] < 4 else None
+    """128 to 8192 bytes. After a header of a greater code no data are looked for."""
+    return 128 << name[3] if name[3] < 7 else None
 
 
 class IbmFm(Recording):
