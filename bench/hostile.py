@@ -54,13 +54,18 @@ def repeated(cells):
     return lambda form, size: around(form, size, cells_as_flux(form, cells(form)))
 
 
-def header_of(form, other=None):
-    """The cells of the header of a sector of track 0, or of one that is none of the track's sectors, by its number."""
+def has_codes(form):
+    """Whether headers say how many bytes their data have."""
+    return form.word.startswith("ibm")
+
+
+def header_of(form, other=None, code=3):
+    """The cells of the header of a sector of track 0, or of one that is none of the track's sectors, by its number, of which there are 39936, and
+    more where a name has a head; an IBM one tells data of 1024 bytes, or of as many as another code says."""
     first = form.recording.first
-    high, low = divmod(other or 0, 64)
-    if form.word.startswith("ibm"):
-        # (an other has data of 1024 bytes)
-        names = bytes([0, 0, first, 0 if form.word == "ibm-3740" else 2] if other is None else [100 + high, 0, low, 3])
+    high, low = (other or 0) // 256 % 156, (other or 0) % 256
+    if has_codes(form):
+        names = bytes([0, 0, first, form.recording.code] if other is None else [100 + high, other // 39936, low, code])
         if form.word == "ibm-3740":
             return word(0xF57E) + fm(recordings.checked(b"\xfe", names))
         return MfmList().mark(0x4489, 3).bytes(recordings.checked(b"\xa1" * 3, b"\xfe" + names)).cells()
@@ -106,11 +111,27 @@ SYNCS_WITH_MARKS = {
 }
 
 
-def data_syncs_after_headers(form):
-    """Headers of others, each with data syncs in all of the 1024 cells behind it: at each of these data are tried, as many bytes as a header
-    can ask for."""
+def data_syncs_after_headers(form, code=3):
+    """Headers of others, each with data syncs in all of the 1024 cells behind it: at each of these data are tried, up to the last byte."""
     unit = SYNCS_WITH_MARKS[form.word]
-    return header_of(form, 1) + unit * (1024 // len(unit)) + between(form, 16)
+    return header_of(form, 1, code) + unit * (1024 // len(unit)) + between(form, 16)
+
+
+def longest_data_after_headers(form):
+    """The same, with as many bytes as a header can ask for, 8192."""
+    return data_syncs_after_headers(form, 6)
+
+
+def headers_of_names(form, size):
+    """As many names that are none of the track's as there is room for, each once where there are so many; at 4 MiB some tens of thousands."""
+    parts, room = [], size - 100
+    while True:
+        numbers = range(500 * len(parts), 500 * len(parts) + 500)
+        part = cells_as_flux(form, "".join(header_of(form, number) + between(form, 16) for number in numbers))
+        if len(part) > room:
+            return around(form, size, b"".join(parts))
+        parts.append(part)
+        room -= len(part)
 
 
 def sectors_of_another_check(form):
@@ -197,6 +218,9 @@ RETRIED = [
     ("data syncs after headers", repeated(data_syncs_after_headers)),
     ("headers of many names", repeated(headers_of_many_names)),
 ]
+# The same where headers say how many bytes their data have, and names of which few are told.
+LONGEST = ("8192 bytes after headers", repeated(longest_data_after_headers))
+NAMES = ("headers of names that are not told", headers_of_names)
 
 
 def g64_of(size, cells):
@@ -291,12 +315,12 @@ def measured(table, wanted):
                     table.row([command, form.word], name, *(make(form, size) for size in SIZES))
     if "read" in wanted:
         for form in (FORMATS[name] for name in USED):
-            for name, make in RETRIED + TRACKS + STREAMS:
+            for name, make in [LONGEST] * has_codes(form) + [NAMES] + RETRIED + TRACKS + STREAMS:
                 table.row(["read", form.word], name, *(make(form, size) for size in SIZES), dumps=1)
             table.row(["read", form.word], "8 dumps of " + RETRIED[0][0], *(RETRIED[0][1](form, size) for size in SIZES), dumps=8)
     if "identify" in wanted:
         for form in (FORMATS[name] for name in USED):
-            for name, make in RETRIED + TRACKS[:1]:
+            for name, make in [LONGEST] * has_codes(form) + RETRIED + TRACKS[:1]:
                 table.row(["identify"], f"{name}, {form.word}", *(make(form, size) for size in SIZES), dumps=1)
     if "decode-set" in wanted:
         for form in (FORMATS[name] for name in USED):
