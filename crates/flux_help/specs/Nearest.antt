@@ -1,5 +1,5 @@
 -- Which format's word is nearest to a word that is none.
-use Rattle.std.specs.Prelude.{ℕ, ◌+◌, ◌-◌, ◌*◌, Bool, List, cond, count_by, length, nat_eq, nat_lt, slice_index, take}
+use Rattle.std.specs.Prelude.{ℕ, ◌+◌, ◌-◌, ◌*◌, ◌++◌, Bool, List, codes, cond, count_by, length, nat_eq, nat_lt, slice_index, take}
 use Rattle.std.specs.List.{best_of, range_with_len}
 use Rattle.sector_images.specs.Formats.{formats, row}
 use Rattle.sector_images.specs.declared.format.Format.{Format}
@@ -32,3 +32,7 @@ nearer word best format = cond (is_nearer word format best) format best
 -- the format whose word differs least, and of several the first of the table
 unfoldable pub nearest : List ℕ → Format
 nearest word = best_of (is_nearer word) Ibm3740 formats
+
+-- the end of a line that names it
+unfoldable pub nearest_text : List ℕ → List ℕ
+nearest_text word = codes "; nearest: " ++ (row (nearest word)).word ++ codes "\n"

@@ -55,8 +55,9 @@ verb_row Show = record {
       codes "\n"
       ++ codes "Reads the files of one track as read does, and prints each distinct content that good readings of the sector hold, at most 16:\n"
       ++ codes "how many hold it, the place of the first one, and its bytes, with > before rows that differ from the first content's. TRACK and\n"
-      ++ codes "SECTOR are words of the report. With --copy N the bytes of content N alone go to standard output, and can be put into the image\n"
-      ++ codes "at the offset that the first line tells. The exit code is 0 where there is one content.\n"
+      ++ codes "SECTOR are words of the report, or the same without zeros in front, as 5.1 and 4. With --copy N the bytes of content N alone go\n"
+      ++ codes "to standard output, and can be put into the image at the offset that the first line tells. The exit code is 0 where there is one\n"
+      ++ codes "content.\n"
       ++ codes "\n"
       ++ codes "Example:\n"
       ++ codes "   flux show amiga 32.1 10 dump second\n";

@@ -1,14 +1,18 @@
 -- What is told of words that are no command.
-use Rattle.std.specs.Prelude.{ℕ, List, [], ◌∷◌, ◌++◌, ◌&&◌, ◌||◌, Bool, false, codes, if◌then◌else◌, nat_eq, not, Option, Some, None, is_some}
+use Rattle.std.specs.Prelude.{ℕ, List, [], ◌∷◌, ◌++◌, ◌&&◌, Bool, false, codes, if◌then◌else◌, nat_eq, not, Option, Some, None, is_some}
 use Rattle.std.specs.List.{position_from, slice_get}
 use Rattle.std.specs.Option.{option_and_then}
 use Rattle.std.specs.Str.{bytes_eq}
 use Rattle.ibm_disks.specs.Words.{begins_numbers}
+use Rattle.ibm_disks.specs.declared.word.DiskNumbers.{DiskNumbers}
 use Rattle.sector_images.specs.Formats.{formats, row}
 use Rattle.sector_images.specs.declared.format.Format.{Format}
 use Rattle.sector_report.specs.Lines.{usage_text}
-use Rattle.flux_help.specs.Nearest.{nearest}
+use Rattle.flux_help.specs.Meanings.{no_format_ending}
+use Rattle.flux_help.specs.Unfit.{first_unfit, unfit_text}
 use Rattle.flux_help.specs.Verbs.{asks_format, is_own, verb_of, verb_row}
+use Rattle.flux_help.specs.WrittenNumbers.{written_numbers}
+use Rattle.flux_help.specs.declared.unfit.Unfit.{Unfit}
 use Rattle.flux_help.specs.declared.verb.Verb.{Verb}
 
 -- what follows the first word where it is one of those that the usage line does not name; else the usage line
@@ -24,17 +28,23 @@ wants_format (Some verb) = is_own verb && asks_format verb
 abbrev pub has_format_word : List ℕ → Format → Bool
 has_format_word word format = bytes_eq (row format).word word
 
--- a format has this word, or it begins as those do that write a disk's numbers
-abbrev pub names_format : List ℕ → Bool
-names_format word = is_some (position_from (has_format_word word) 0 formats) || begins_numbers word
+-- a format has this word
+abbrev pub is_named : List ℕ → Bool
+is_named word = is_some (position_from (has_format_word word) 0 formats)
 
--- the format whose word is nearest to this one
-unfoldable pub nearest_text : List ℕ → List ℕ
-nearest_text word = codes "; nearest: " ++ (row (nearest word)).word ++ codes "\n"
+-- the end of the line on a word that begins as those do that write a disk's numbers: which of its numbers does not fit
+abbrev pub unfit_ending : DiskNumbers → Option Unfit → Option (List ℕ)
+unfit_ending n None = None
+unfit_ending n (Some number) = Some (codes "; " ++ (unfit_text number n ++ codes "\n"))
 
--- no format has this word
-abbrev pub no_format_text : List ℕ → List ℕ
-no_format_text word = codes "no format " ++ (word ++ nearest_text word)
+abbrev pub numbers_ending : Option DiskNumbers → Option (List ℕ)
+numbers_ending None = None
+numbers_ending (Some n) = unfit_ending n (first_unfit n)
+
+-- the end of the line on a word that no format has: what it means, or else the nearest
+abbrev pub ending_of : List ℕ → Option (List ℕ)
+ending_of word =
+    if is_named word then None else (if begins_numbers word then numbers_ending (written_numbers word) else Some (no_format_ending word))
 
 -- an option begins with a minus
 abbrev pub is_option : List ℕ → Bool
@@ -45,10 +55,19 @@ is_option (byte ∷ bytes) = nat_eq byte 45
 abbrev pub format_word : List (List ℕ) → Option (List ℕ)
 format_word words = option_and_then (slice_get words) (position_from (λ word. not (is_option word)) 0 words)
 
+-- the end of what is told of it where a format's word should stand
+abbrev pub ending_behind : Option Verb → List ℕ → Option (List ℕ)
+ending_behind verb word = if wants_format verb then ending_of word else None
+
+-- no format has this word
+abbrev pub no_format_text : Option Verb → List ℕ → Option (List ℕ) → List ℕ
+no_format_text verb word None = usage_by verb
+no_format_text verb word (Some ending) = codes "no format " ++ (word ++ ending)
+
 -- by the command of the first word, and by the word in a format's place
 abbrev pub told_by : Option Verb → Option (List ℕ) → List ℕ
 told_by verb None = usage_by verb
-told_by verb (Some word) = if wants_format verb && not (names_format word) then no_format_text word else usage_by verb
+told_by verb (Some word) = no_format_text verb word (ending_behind verb word)
 
 abbrev pub wrong_text : List (List ℕ) → List ℕ
 wrong_text [] = usage_text

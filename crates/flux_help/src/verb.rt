@@ -94,7 +94,7 @@ impl Verb {
     }
 
     /// Whether it is one of those that the usage line does not name.
-    pub(crate) fn is_own(self) -> bool
+    pub fn is_own(self) -> bool
         ensures { result ≡ is_own self }
     {
         matches!(
@@ -154,8 +154,9 @@ Example:
                 about: "
 Reads the files of one track as read does, and prints each distinct content that good readings of the sector hold, at most 16:
 how many hold it, the place of the first one, and its bytes, with > before rows that differ from the first content's. TRACK and
-SECTOR are words of the report. With --copy N the bytes of content N alone go to standard output, and can be put into the image
-at the offset that the first line tells. The exit code is 0 where there is one content.
+SECTOR are words of the report, or the same without zeros in front, as 5.1 and 4. With --copy N the bytes of content N alone go
+to standard output, and can be put into the image at the offset that the first line tells. The exit code is 0 where there is one
+content.
 
 Example:
    flux show amiga 32.1 10 dump second

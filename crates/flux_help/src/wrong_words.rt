@@ -1,12 +1,16 @@
-ghost use Rattle.std.specs.Prelude.{◌≡◌, ◌++◌, ◌&&◌, Some, not};
+ghost use Rattle.std.specs.Prelude.{◌≡◌, ◌≤◌, ◌++◌, Some, codes, length, not};
 ghost use Rattle.std.specs.List.{position_from};
 ghost use Rattle.std.specs.Option.{option_map};
 ghost use Rattle.flux_base.specs.Moments.{Puts, moment};
 ghost use Rattle.ibm_disks.specs.Words.{begins_numbers};
 ghost use Rattle.sector_images.specs.Formats.{formats};
-ghost use Rattle.flux_help.specs.WrongWords.{format_word, has_format_word, is_option, names_format, nearest_text, no_format_text, told_by, usage_by, wants_format, wrong_text};
+ghost use Rattle.flux_help.specs.Meanings.{no_format_ending};
+ghost use Rattle.flux_help.specs.Nearest.{nearest_text};
+ghost use Rattle.flux_help.specs.WrongWords.{ending_behind, ending_of, format_word, has_format_word, is_named, is_option, told_by, usage_by, wants_format, wrong_text};
 
+use crate::meanings::meaning_of;
 use crate::nearest::nearest_format;
+use crate::unfit::numbers_ending;
 use crate::verb::Verb;
 use flux_base::{Failed, Sink, Word, write_whole};
 use sector_images::{Format, all_formats};
@@ -60,19 +64,29 @@ fn is_option(word: &[u8]) -> bool
 fn write_by<N: Sink>(verb: Option<Verb>, word: &[u8], notes: &mut N) -> Result<(), Failed>
     ensures { Puts (moment N.written N.faults N.failed notes.old) (moment N.written N.faults N.failed notes.new) (told_by verb (Some word.now)) result }
 {
-    if is_no_format(verb, word) {
-        write_no_format(word, notes)
-    } else {
-        write_whole(notes, usage_of(verb).as_bytes())
+    match ending_behind(verb, word) {
+        Some(ending) => write_no_format(word, &ending, notes),
+        None => write_whole(notes, usage_of(verb).as_bytes()),
     }
 }
 
-/// Whether the word stands in a format's place and is none's.
-fn is_no_format(verb: Option<Verb>, word: &[u8]) -> bool
-    ensures { result ≡ (wants_format verb && not (names_format word.now)) }
+/// The end of the line on a word where a format's should stand, and none has it.
+fn ending_behind(verb: Option<Verb>, word: &[u8]) -> Option<Line>
+    ensures { option_map (λ line. line.bytes) result ≡ ending_behind verb word.now }
+{
+    if wants_format(verb) {
+        ending_of(word)
+    } else {
+        None
+    }
+}
+
+/// Whether a format follows a command's word that the usage line does not name.
+fn wants_format(verb: Option<Verb>) -> bool
+    ensures { result ≡ wants_format verb }
 {
     match verb {
-        Some(verb) => verb.is_own() && verb.asks_format() && !names_format(word),
+        Some(verb) => verb.is_own() && verb.asks_format(),
         None => false,
     }
 }
@@ -93,13 +107,24 @@ fn usage_of(verb: Option<Verb>) -> &'static str
     }
 }
 
-/// Whether a format has this word, or it begins as those do that write a disk's numbers.
-fn names_format(word: &[u8]) -> bool
-    ensures { result ≡ names_format word.now }
+/// The end of the line on a word that no format has.
+fn ending_of(word: &[u8]) -> Option<Line>
+    ensures { option_map (λ line. line.bytes) result ≡ ending_of word.now }
 {
-    let named = format_place(word).is_some();
-    let numbered = begins_numbers(word);
-    named || numbered
+    if is_named(word) {
+        None
+    } else if begins_numbers(word) {
+        numbers_ending(word)
+    } else {
+        Some(no_format_ending(word))
+    }
+}
+
+/// Whether a format has this word.
+fn is_named(word: &[u8]) -> bool
+    ensures { result ≡ is_named word.now }
+{
+    format_place(word).is_some()
 }
 
 /// Whether a word begins as those do that write a disk's numbers.
@@ -129,24 +154,44 @@ fn has_word(format: Format, word: &[u8]) -> bool
     format.word().as_str().as_bytes() == word
 }
 
-/// Writes that no format has this word, and the one whose word is nearest.
-fn write_no_format<N: Sink>(word: &[u8], notes: &mut N) -> Result<(), Failed>
-    ensures { Puts (moment N.written N.faults N.failed notes.old) (moment N.written N.faults N.failed notes.new) (no_format_text word.now) result }
+/// Writes that no format has this word, and the end of the line.
+fn write_no_format<N: Sink>(word: &[u8], ending: &Line, notes: &mut N) -> Result<(), Failed>
+    ensures { Puts (moment N.written N.faults N.failed notes.old) (moment N.written N.faults N.failed notes.new) (codes "no format " ++ (word.now ++ ending.now.bytes)) result }
 {
     match write_whole(notes, "no format ".as_bytes()) {
-        Ok(()) => write_word(word, notes),
+        Ok(()) => write_word(word, ending, notes),
         Err(failed) => Err(failed),
     }
 }
 
-/// Writes a word, and the format whose word is nearest.
-fn write_word<N: Sink>(word: &[u8], notes: &mut N) -> Result<(), Failed>
-    ensures { Puts (moment N.written N.faults N.failed notes.old) (moment N.written N.faults N.failed notes.new) (word.now ++ nearest_text word.now) result }
+/// Writes a word, and the end of the line.
+fn write_word<N: Sink>(word: &[u8], ending: &Line, notes: &mut N) -> Result<(), Failed>
+    ensures { Puts (moment N.written N.faults N.failed notes.old) (moment N.written N.faults N.failed notes.new) (word.now ++ ending.now.bytes) result }
 {
     match write_whole(notes, word) {
-        Ok(()) => write_line(notes, &nearest_line(word)),
+        Ok(()) => write_line(notes, ending),
         Err(failed) => Err(failed),
     }
+}
+
+/// What a word means that no format has, or else the format whose word is nearest.
+fn no_format_ending(word: &[u8]) -> Line
+    ensures { result.bytes ≡ no_format_ending word.now }
+{
+    match meaning_of(word) {
+        Some(meaning) => line_of(meaning.ending),
+        None => nearest_line(word),
+    }
+}
+
+/// A text of at most 100 bytes as a line.
+fn line_of(text: &str) -> Line
+    requires { length text.now ≤ 100 }
+    ensures { result.bytes ≡ text.now }
+{
+    let mut line = Line::new();
+    put(&mut line, text);
+    line
 }
 
 /// The end of a line that names the format whose word is nearest.

@@ -1,2 +1,3 @@
 pub mod DumpWords
 pub mod SectorWords
+pub mod PeoplesWords

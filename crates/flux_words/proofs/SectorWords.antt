@@ -1,8 +1,6 @@
 -- What the words of `show` ask for.
 use Rattle.std.specs.Bool.{Decides, then_some}
-use Rattle.std.specs.Str.{bytes_eq}
-use Rattle.std.proofs.lemmas.Slice.Eq.{bytes_eq-Decides}
-use Rattle.std.proofs.Common.{true, false, Bool, if◌then◌else◌, ◌≡◌, ◌≢◌, ◌<◌, ◌≤◌, ◌+◌, ◌-◌, ℕ, List, [], ◌∷◌, ◌++◌, codes, decimal, drop, get_or, length, take, Option, Some, None, arith, inl, inr, refl, sym, ap, ◌∙◌, subst}
+use Rattle.std.proofs.Common.{true, false, Bool, if◌then◌else◌, ◌≡◌, ◌≢◌, ◌<◌, ◌≤◌, ◌+◌, ◌-◌, ℕ, List, [], ◌∷◌, ◌++◌, codes, drop, get_or, length, take, Option, Some, None, arith, inl, inr, refl, sym, ap, ◌∙◌, subst}
 use Rattle.std.proofs.lemmas.Bool.{cases_lt}
 use Rattle.disk_recordings.specs.TrackSectors.{sectors_of, track_at}
 use Rattle.sector_images.specs.Formats.{IsWordOfFormat, WordsBeginWithLetters, WordsNameFormats}
@@ -11,16 +9,16 @@ use Rattle.track_shelf.specs.declared.stepping.Stepping.{Stepping}
 use Rattle.track_shelf.specs.declared.stepping.Stepping.TheVariants.{Single, Double}
 use Rattle.flux_words.specs.DumpParts.{IsNotFirst}
 use Rattle.flux_words.specs.DumpWords.{AreReadable, double_step_word}
-use Rattle.flux_words.specs.SectorWords.{AreCopyWords, AskedSector, CanBeShown, HasNumber, HasOptions, HasSteps, HasStepsBehind, IsAlone, MOST_COPY_NUMBERS, NamesBehind, NamesBy, NamesCopy, NamesCopyFirst, NamesNumber, NamesPlace, NamesSector, NamesShow, NamesStepped, NamesTrack, PlaceParts, ShowParts, behind_words, copy_first_words, copy_words, place_words, step_words, stepped_words}
+use Rattle.flux_words.specs.SectorWords.{AreCopyWords, AskedSector, CanBeShown, HasNumber, HasOptions, HasSteps, HasStepsBehind, IsAlone, IsFirst, NamesBehind, NamesBy, NamesCopy, NamesCopyFirst, NamesCopyNumber, NamesPlace, NamesSector, NamesShow, NamesStepped, NamesTrack, PlaceParts, ShowParts, behind_words, copy_first_words, copy_words, place_words, step_words, stepped_words}
 use Rattle.flux_words.specs.lemmas.Options.{head-same, no_option, tail-same}
 use Rattle.flux_words.proofs.DumpWords.{slice-rest}
 
 abbrev copy_word : List ℕ
 copy_word = codes "--copy"
 
--- a number is one by its text
-one_number : (bound : ℕ) (text : ℕ → List ℕ) (word : List ℕ) (n m : ℕ) → NamesNumber bound text word (Some n) → NamesNumber bound text word (Some m) → n ≡ m
-one_number bound text word n m a b =
+-- one number is the first
+one_number : (bound : ℕ) (Holds : ℕ → Type 0) (n m : ℕ) → IsFirst bound Holds (Some n) → IsFirst bound Holds (Some m) → n ≡ m
+one_number bound Holds n m a b =
     elim (cases_lt n m) [
       | inl less ↦ absurd (b.2 n less a.1)
       | inr least ↦ elim (cases_lt m n) [
@@ -55,7 +53,7 @@ module _ (words : List (List ℕ)) where
       ap (λ (c : List (List ℕ)). c ++ later) none
 
   alone_some : (later : List (List ℕ)) (asked : AskedSector) (parts : ShowParts asked) (number : ℕ) → asked.alone ≡ Some number
-      → (word : List ℕ) × NamesNumber MOST_COPY_NUMBERS decimal word (Some number) × (parts.copy ++ later ≡ copy_word ∷ word ∷ later)
+      → (word : List ℕ) × NamesCopyNumber word (Some number) × (parts.copy ++ later ≡ copy_word ∷ word ∷ later)
   alone_some later asked parts number is =
       let some = subst (λ (a : Option ℕ). AreCopyWords a parts.copy) is parts.copy_is in
       (some.0, some.1, ap (λ (c : List (List ℕ)). c ++ later) some.2)
@@ -150,7 +148,7 @@ module _ (words : List (List ℕ)) where
     -- its number follows its word
     behind_copy : (others : List (List ℕ)) → words ≡ copy_word ∷ others → (asked : AskedSector) (parts : ShowParts asked) (number : ℕ) → asked.alone ≡ Some number
         → words ≡ parts.copy ++ later asked parts.place
-        → (word : List ℕ) × NamesNumber MOST_COPY_NUMBERS decimal word (Some number) × (others ≡ word ∷ later asked parts.place)
+        → (word : List ℕ) × NamesCopyNumber word (Some number) × (others ≡ word ∷ later asked parts.place)
     behind_copy others at asked parts number same is =
         let some = alone_some (later asked parts.place) asked parts number same in
         (some.0, some.1, tail-same _ _ _ _ (sym at ∙ is ∙ some.2))
@@ -179,7 +177,7 @@ module _ (words : List (List ℕ)) where
               let some = behind_copy others at asked parts other same is in
               let both : has.0 ∷ rest ≡ some.0 ∷ later asked parts.place = sym has.2 ∙ some.2 in
               let one : other ≡ number =
-              one_number MOST_COPY_NUMBERS decimal has.0 other number (subst (λ (w : List ℕ). NamesNumber MOST_COPY_NUMBERS decimal w (Some other)) (sym (head-same _ _ _ _ both)) some.1) has.1 in
+              one_number _ _ other number (subst (λ (w : List ℕ). NamesCopyNumber w (Some other)) (sym (head-same _ _ _ _ both)) some.1) has.1 in
               none asked fits can (same ∙ ap Some one) parts.place (tail-same _ _ _ _ both)
 
   -- words from a format's on do not begin with the copy's word
@@ -194,7 +192,7 @@ module _ (words : List (List ℕ)) where
   no_copy_at_steps letters asked (inr some) none place rest same = absurd (some none)
 
   -- the words of the copy
-  the_copy : (asked : AskedSector) (number : ℕ) → asked.alone ≡ Some number → (word : List ℕ) → NamesNumber MOST_COPY_NUMBERS decimal word (Some number)
+  the_copy : (asked : AskedSector) (number : ℕ) → asked.alone ≡ Some number → (word : List ℕ) → NamesCopyNumber word (Some number)
       → AreCopyWords asked.alone (copy_word ∷ word ∷ [])
   the_copy asked number same word is = subst (λ (a : Option ℕ). AreCopyWords a (copy_word ∷ word ∷ [])) (sym same) (word, is, refl)
 
@@ -304,7 +302,7 @@ module _ (words : List (List ℕ)) where
 
         module _ (number : ℕ) (track_is : NamesTrack format track (Some number)) where
           is_number : (asked : AskedSector) (parts : PlaceParts asked) → words ≡ place_words asked parts → asked.number ≡ number
-          is_number asked parts is = one_number _ _ track asked.number number (track_of asked parts is) track_is
+          is_number asked parts is = one_number _ _ asked.number number (track_of asked parts is) track_is
 
           sector_of : (asked : AskedSector) (parts : PlaceParts asked) → words ≡ place_words asked parts → NamesSector format number sector (Some parts.index)
           sector_of asked parts is =
@@ -345,7 +343,7 @@ module _ (words : List (List ℕ)) where
                 parts.at
                 ∙ ap (λ (f : Format). (sectors_of f (track_at f asked.number)).first + parts.index) (is_format asked parts is)
                 ∙ ap (λ (n : ℕ). (sectors_of format (track_at format n)).first + parts.index) (is_number asked parts is)
-                ∙ ap (λ (n : ℕ). (sectors_of format (track_at format number)).first + n) (one_number _ _ sector parts.index index (sector_of asked parts is) sector_is) in
+                ∙ ap (λ (n : ℕ). (sectors_of format (track_at format number)).first + n) (one_number _ _ parts.index index (sector_of asked parts is) sector_is) in
                 ap (λ (s : Stepping). record asked { stepping = s }) fits.0
                 ∙ ap (λ (d : List (List ℕ)). record asked { stepping = stepping; dumps = d }) (are_dumps asked parts is)
                 ∙ ap (λ (f : Format). record asked { stepping = stepping; dumps = dumps; format = f }) (is_format asked parts is)
@@ -391,18 +389,19 @@ three_first (x ∷ (y ∷ (z ∷ rest))) a b c some is_a is_b is_c =
     ap (λ (w : List ℕ). w ∷ y ∷ z ∷ rest) (sym is_a) ∙ ap (λ (w : List ℕ). a ∷ w ∷ z ∷ rest) (sym is_b) ∙ ap (λ (w : List ℕ). a ∷ b ∷ w ∷ rest) (sym is_c)
     ∙ ap (λ (ws : List (List ℕ)). a ∷ b ∷ c ∷ ws) (sym (slice-rest (x ∷ y ∷ z ∷ rest) 3))
 
--- the first number whose text a word is, found by looking at one after another
-pub next-number : (text : ℕ → List ℕ) (word : List ℕ) (n : ℕ) → ((k : ℕ) → k < n → text k ≢ word) → bytes_eq (text n) word ≡ false → (k : ℕ) → k < n + 1 → text k ≢ word
-next-number text word n before other k low = elim (cases_lt k n) [
+-- the first number of which something holds, found by looking at one after another
+pub next-number : (Holds : ℕ → Type 0) (n : ℕ) → ((k : ℕ) → k < n → ¬ Holds k) → ¬ Holds n → (k : ℕ) → k < n + 1 → ¬ Holds k
+next-number Holds n before other k low = elim (cases_lt k n) [
   | inl less ↦ before k less
-  | inr least ↦ λ same. (
-      let at : n ≡ k = omega (arith, low, least) in
-      let is : bytes_eq (text n) word ≡ true = (bytes_eq-Decides (text n) word).1 (ap text at ∙ same) in
-      true_false (sym is ∙ other))
+  | inr least ↦ λ holds. (let at : k ≡ n = omega (arith, low, least) in other (subst Holds at holds))
 ]
+
+-- what decides whether something holds
+pub holds : (b : Bool) (P : Type 0) → Decides b P → b ≡ true → P
+holds b P decides is = decides.0 is
+
+pub fails : (b : Bool) (P : Type 0) → Decides b P → b ≡ false → ¬ P
+fails b P decides is_not is = true_false (sym (decides.1 is) ∙ is_not)
   where
     true_false : true ≡ false → ⊥
     true_false wrong = cc
-
-pub this-number : (bound : ℕ) (text : ℕ → List ℕ) (word : List ℕ) (n : ℕ) → n < bound → ((k : ℕ) → k < n → text k ≢ word) → bytes_eq (text n) word ≡ true → NamesNumber bound text word (Some n)
-this-number bound text word n low before is = (low, (bytes_eq-Decides (text n) word).0 is, before)

@@ -1,5 +1,6 @@
 -- The words that ask to show a sector of dumps.
-use Rattle.std.specs.Prelude.{◌≡◌, ◌≢◌, ◌<◌, ◌⊎◌, ℕ, ◌+◌, Bool, if◌then◌else◌, List, [], ◌∷◌, ◌++◌, length, codes, decimal, Option, Some, None}
+use Rattle.std.specs.Prelude.{◌≡◌, ◌≢◌, ◌<◌, ◌≤◌, ◌⊎◌, ℕ, ◌+◌, Bool, if◌then◌else◌, List, [], ◌∷◌, ◌++◌, length, codes, decimal, Option, Some, None}
+use Rattle.std.specs.Str.Parse.{IsNumeral, digits_value}
 use Rattle.flux_base.specs.declared.track.TrackId.{TrackId}
 use Rattle.disk_recordings.specs.TrackSectors.{sectors_of, track_at}
 use Rattle.sector_images.specs.Formats.{IsWordOfFormat}
@@ -39,27 +40,49 @@ step_words Double = double_step_word ∷ []
 abbrev pub MOST_COPY_NUMBERS : ℕ
 MOST_COPY_NUMBERS = 16
 
--- The number below a bound whose text a word is: the first such one, or none.
-abbrev pub NamesNumber : (bound : ℕ) → (text : ℕ → List ℕ) → (word : List ℕ) → Option ℕ → Type 0
-NamesNumber bound text word (Some n) = (n < bound) × (text n ≡ word) × ((k : ℕ) → k < n → text k ≢ word)
-NamesNumber bound text word None = (k : ℕ) → k < bound → text k ≢ word
+-- the first number below a bound of which something holds, or none
+abbrev pub IsFirst : (bound : ℕ) → (Holds : ℕ → Type 0) → Option ℕ → Type 0
+IsFirst bound Holds (Some n) = (n < bound) × Holds n × ((k : ℕ) → k < n → ¬ Holds k)
+IsFirst bound Holds None = (k : ℕ) → k < bound → ¬ Holds k
 
--- a track as a report names it
-abbrev pub track_word : TrackId → List ℕ
-track_word track = two_digits track.cylinder ++ codes "." ++ decimal track.head
+-- the number of a content, as it is printed
+abbrev pub NamesCopyNumber : (word : List ℕ) → Option ℕ → Type 0
+NamesCopyNumber word number = IsFirst MOST_COPY_NUMBERS (λ k. decimal k ≡ word) number
 
+-- digits that write a number, at most so many of them: zeros may stand first
+pub record AreDigitsOf (number most : ℕ) (word : List ℕ) : Type 0 where
+  pub digits : IsNumeral 10 word
+  pub few : length word ≤ most
+  pub value : digits_value 10 word ≡ number
+
+-- a track as people write it: one or two digits of the cylinder, a dot, and the head
+pub record IsTrackWord (track : TrackId) (word : List ℕ) : Type 0 where
+  pub cylinder : List ℕ
+  pub is : word ≡ cylinder ++ (codes "." ++ decimal track.head)
+  pub writes : AreDigitsOf track.cylinder 2 cylinder
+
+-- and a sector: one to three digits
+abbrev pub IsSectorWord : (sector : ℕ) → (word : List ℕ) → Type 0
+IsSectorWord sector word = AreDigitsOf sector 3 word
+
+-- what reports print of tracks and sectors are such words
+pub record ReportsNameThem : Type 0 where
+  pub tracks_named : (track : TrackId) → track.cylinder < 100 → IsTrackWord track (two_digits track.cylinder ++ codes "." ++ decimal track.head)
+  pub sectors_named : (sector : ℕ) → sector < 1000 → IsSectorWord sector (two_digits sector)
+
+-- the track of the format that a word names, by its number
 abbrev pub NamesTrack : Format → (word : List ℕ) → Option ℕ → Type 0
-NamesTrack format word n = NamesNumber (length (tracks format)) (λ k. track_word (track_at format k)) word n
+NamesTrack format word number = IsFirst (length (tracks format)) (λ k. IsTrackWord (track_at format k) word) number
 
--- a sector of the track, by its number among the track's sectors from the first on, as a report names it
+-- the sector of the track that a word names, by its number among the track's sectors from the first on
 abbrev pub NamesSector : Format → (number : ℕ) → (word : List ℕ) → Option ℕ → Type 0
 NamesSector format number word index =
-    NamesNumber (sectors_of format (track_at format number)).count (λ k. two_digits ((sectors_of format (track_at format number)).first + k)) word index
+    IsFirst (sectors_of format (track_at format number)).count (λ k. IsSectorWord ((sectors_of format (track_at format number)).first + k) word) index
 
 -- the words of the content that is asked for alone
 abbrev pub AreCopyWords : Option ℕ → List (List ℕ) → Type 0
 AreCopyWords None words = words ≡ []
-AreCopyWords (Some number) words = (word : List ℕ) × NamesNumber MOST_COPY_NUMBERS decimal word (Some number) × (words ≡ codes "--copy" ∷ word ∷ [])
+AreCopyWords (Some number) words = (word : List ℕ) × NamesCopyNumber word (Some number) × (words ≡ codes "--copy" ∷ word ∷ [])
 
 -- the words that name the format, the track and the sector
 pub record PlaceParts (asked : AskedSector) : Type 0 where
@@ -140,8 +163,8 @@ NamesStepped alone words asked = NamesBy stepped_words (IsAlone alone) words ask
 
 -- the number of a content, and the words behind it
 abbrev pub HasNumber : List (List ℕ) → Option (ℕ × List (List ℕ)) → Type 0
-HasNumber words (Some (number, others)) = (word : List ℕ) × NamesNumber MOST_COPY_NUMBERS decimal word (Some number) × (words ≡ word ∷ others)
-HasNumber words None = (word : List ℕ) (others : List (List ℕ)) → words ≡ word ∷ others → NamesNumber MOST_COPY_NUMBERS decimal word None
+HasNumber words (Some (number, others)) = (word : List ℕ) × NamesCopyNumber word (Some number) × (words ≡ word ∷ others)
+HasNumber words None = (word : List ℕ) (others : List (List ℕ)) → words ≡ word ∷ others → NamesCopyNumber word None
 
 -- and those from the format's on
 abbrev pub HasOptions : Stepping → Option ℕ → AskedSector → Type 0

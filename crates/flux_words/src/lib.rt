@@ -15,4 +15,4 @@ pub use dump_words::{DumpOptions, DumpsAsked, Shown, dumps_of};
 pub use folder_words::folder_of;
 pub use g64_disk::G64Disk;
 pub use identity_words::identity_of;
-pub use sector_words::{ShowAsked, sector_of};
+pub use sector_words::{ShowAsked, reports_name_them, sector_of};

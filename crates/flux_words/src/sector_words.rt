@@ -1,22 +1,28 @@
 //! The words that ask to show a sector of dumps.
 
-ghost use Rattle.std.specs.Prelude.{◌≡◌, ◌<◌, ◌≤◌, ◌-◌, IfSome, Some, decimal, length};
+ghost use Rattle.std.specs.Prelude.{◌≡◌, ◌≢◌, ◌<◌, ◌≤◌, ◌-◌, ◌++◌, ℕ, IfSome, List, MatchOption, Some, decimal, length};
+ghost use Rattle.std.specs.Bool.{Decides};
 ghost use Rattle.std.specs.Option.{option_map};
-ghost use Rattle.std.specs.Str.{bytes_eq};
-ghost use Rattle.flux_words.specs.SectorWords.{HasNumber, MOST_COPY_NUMBERS, NamesBehind, NamesCopy, NamesCopyFirst, NamesNumber, NamesPlace, NamesSector, NamesShow, NamesStepped, NamesTrack, asked_sector, track_word};
+ghost use Rattle.flux_words.specs.SectorWords.{AreDigitsOf, HasNumber, IsSectorWord, IsTrackWord, NamesBehind, NamesCopy, NamesCopyFirst, NamesCopyNumber, NamesPlace, NamesSector, NamesShow, NamesStepped, NamesTrack, ReportsNameThem, asked_sector};
 ghost use Rattle.disk_recordings.specs.TrackSectors.{sectors_of as sectors_in, track_at};
 ghost use Rattle.sector_images.specs.Places.{tracks};
-ghost use Rattle.sector_report.specs.Lines.{two_digits};
 
 use crate::dump_words::{are_readable, behind};
+use crate::seed::number_of;
 use disk_recordings::sectors_of;
 use flux_base::{TrackId, Word};
 use sector_images::{Format, track_count, track_id, tracks_keep_bounds, words_name_formats};
-use sector_report::{Line, put, put_two_digits, put_u32};
+use sector_report::{Line, put, put_u32};
 use track_shelf::Stepping;
 
 /// How many contents are kept of a sector at most.
 const MOST_COPIES: u32 = 16;
+
+/// The most digits of a cylinder.
+const CYLINDER_DIGITS: usize = 2;
+
+/// The most digits of a sector.
+const SECTOR_DIGITS: usize = 3;
 
 /// What is asked of one sector of dumps.
 #[derive(Clone, Copy)]
@@ -33,7 +39,7 @@ pub struct ShowAsked<'a> {
 }
 
 /// What the words ask of a sector, if they ask for that: `show [--double-step] [--copy N] FORMAT TRACK SECTOR DUMP...`, with the options in
-/// either order, and the track and the sector as reports name them.
+/// either order, and the track and the sector as people write them: `5.1` or `05.1`, and `4`, `04` or `004`.
 pub fn sector_of(words: &[Word]) -> Option<ShowAsked<'_>>
     ensures { NamesShow words.now (option_map asked_sector result) }
 {
@@ -135,7 +141,7 @@ fn asked_of_disk(stepping: Stepping, alone: Option<u32>, words: &[Word]) -> Opti
 
 /// The number of a content that a word is.
 fn copy_number(word: &[u8]) -> Option<u32>
-    ensures { NamesNumber MOST_COPY_NUMBERS decimal word.now result }
+    ensures { NamesCopyNumber word.now result }
 {
     for number in 0..MOST_COPIES {
         if is_decimal(number, word) {
@@ -147,14 +153,14 @@ fn copy_number(word: &[u8]) -> Option<u32>
 
 /// Whether a word is a number.
 fn is_decimal(number: u32, word: &[u8]) -> bool
-    ensures { result ≡ bytes_eq (decimal number) word.now }
+    ensures { Decides result (decimal number ≡ word.now) }
 {
     let mut line = Line::new();
     put_u32(&mut line, number);
     line.as_str().as_bytes() == word
 }
 
-/// The number of the track that a word names as reports do.
+/// The number of the track that a word names.
 fn track_number(format: Format, word: &[u8]) -> Option<u32>
     ensures { NamesTrack format word.now result }
 {
@@ -167,19 +173,27 @@ fn track_number(format: Format, word: &[u8]) -> Option<u32>
     None
 }
 
-/// Whether a word names a track as reports do.
+/// Whether a word names a track: one or two digits of its cylinder, a dot, and its head.
 fn is_track_word(track: TrackId, word: &[u8]) -> bool
-    requires { track.cylinder < 100 }
-    ensures { result ≡ bytes_eq (track_word track) word.now }
+    ensures { Decides result (IsTrackWord track word.now) }
 {
-    let mut line = Line::new();
-    put_two_digits(&mut line, track.cylinder);
-    put(&mut line, ".");
-    put_u32(&mut line, u32::from(track.head));
-    line.as_str().as_bytes() == word
+    let mut head = Line::new();
+    put(&mut head, ".");
+    put_u32(&mut head, u32::from(track.head));
+    match before(head.as_str().as_bytes(), word) {
+        Some(cylinder) => are_digits_of(u32::from(track.cylinder), CYLINDER_DIGITS, cylinder),
+        None => false,
+    }
 }
 
-/// The sector of a track that a word names as reports do.
+/// What stands before an ending, where a word has it.
+fn before<'a>(ending: &[u8], word: &'a [u8]) -> Option<&'a [u8]>
+    ensures { MatchOption result ((front : List ℕ) → word.now ≢ front ++ ending.now) (λ front. word.now ≡ front.now ++ ending.now) }
+{
+    word.strip_suffix(ending)
+}
+
+/// The sector of a track that a word names.
 fn sector_number(format: Format, number: u32, word: &[u8]) -> Option<u8>
     requires { number < length (tracks format) }
     ensures names { NamesSector format number word.now (option_map (λ sector. sector - (sectors_in format (track_at format number)).first) result) }
@@ -195,11 +209,24 @@ fn sector_number(format: Format, number: u32, word: &[u8]) -> Option<u8>
     None
 }
 
-/// Whether a word names a sector as reports do.
+/// Whether a word names a sector: one to three digits.
 fn is_sector_word(sector: u8, word: &[u8]) -> bool
-    ensures { result ≡ bytes_eq (two_digits sector) word.now }
+    ensures { Decides result (IsSectorWord sector word.now) }
 {
-    let mut line = Line::new();
-    put_two_digits(&mut line, sector);
-    line.as_str().as_bytes() == word
+    are_digits_of(u32::from(sector), SECTOR_DIGITS, word)
 }
+
+/// Whether digits, at most so many, write a number.
+fn are_digits_of(number: u32, most: usize, word: &[u8]) -> bool
+    ensures { Decides result (AreDigitsOf number most word.now) }
+{
+    match number_of(word) {
+        Some(written) => written == number && word.len() <= most,
+        None => false,
+    }
+}
+
+/// What reports print of tracks and sectors is taken.
+pub fn reports_name_them()
+    ensures { ReportsNameThem }
+{}

@@ -1,7 +1,9 @@
 //! Pages of the program, as they are written.
-use flux_base::{MemorySink, Word};
+use flux_base::{Memory, MemorySink, Word};
 use flux_help::{Page, Verb, nearest_format, write_page, write_wrong_words};
 use sector_images::Format;
+use std::alloc::Global;
+use std::process::Abort;
 use std::str;
 use std::test::Fail;
 
@@ -85,18 +87,98 @@ fn the_nearest_format(rt: HostRuntime) -> Result<(), Fail> {
     Ok(())
 }
 
+/// Words behind a command in a format's place, and the line that they get: one that is spelled wrong, those that people have for files and disks,
+/// and numbers of which one is no disk's.
+const TOLD: &[(&str, &str)] = &[
+    ("ibm720", "no format ibm720; nearest: ibm-720\n"),
+    ("adf", "no format adf; try: amiga\n"),
+    ("ADF", "no format ADF; try: amiga\n"),
+    ("St", "no format St; try: ibm-720\n"),
+    ("d64", "no format d64; try: c1541\n"),
+    ("d71", "no format d71; try: c1571\n"),
+    (
+        "D81",
+        "no format D81; a Commodore 1581's disks have none yet\n",
+    ),
+    ("do", "no format do; try: apple-dos33\n"),
+    ("dsk", "no format dsk; try: apple-dos33\n"),
+    ("po", "no format po; try: apple-prodos\n"),
+    ("ssd", "no format ssd; try: acorn-dfs-80\n"),
+    ("PC98", "no format PC98; try: mfm-hd360-77x2x8x1024\n"),
+    ("720K", "no format 720K; try: ibm-720\n"),
+    ("1.44", "no format 1.44; try: ibm-1440\n"),
+    ("360k", "no format 360k; try: ibm-360\n"),
+    ("mac", "no format mac; try: mac-800\n"),
+    // A part of a word that people have is none.
+    ("ad", "no format ad; nearest: amiga\n"),
+    (
+        "mfm-dd-77x2x8x1024",
+        "no format mfm-dd-77x2x8x1024; 8 sectors of 1024 bytes do not fit on a track of 6250\n",
+    ),
+    (
+        "fm-sd8-40x1x32x128@0",
+        "no format fm-sd8-40x1x32x128@0; 32 sectors of 128 bytes do not fit on a track of 5208\n",
+    ),
+    (
+        "mfm-dd-100x2x9x512",
+        "no format mfm-dd-100x2x9x512; cylinders are 1 to 99, not 100\n",
+    ),
+    (
+        "mfm-hd-80x3x9x512",
+        "no format mfm-hd-80x3x9x512; heads are 1 or 2, not 3\n",
+    ),
+    (
+        "mfm-dd-80x2x0x512",
+        "no format mfm-dd-80x2x0x512; sectors are 1 to 32, not 0\n",
+    ),
+    (
+        "fm-sd-80x2x33x128",
+        "no format fm-sd-80x2x33x128; sectors are 1 to 32, not 33\n",
+    ),
+    (
+        "mfm-dd-80x2x9x500",
+        "no format mfm-dd-80x2x9x500; bytes of a sector are 128, 256, 512 or 1024, not 500\n",
+    ),
+    (
+        "mfm-dd-80x2x9x512@250",
+        "no format mfm-dd-80x2x9x512@250; the last sector is 255 at most, not 258\n",
+    ),
+    // Of several the first is named.
+    (
+        "mfm-dd-0x0x0x0",
+        "no format mfm-dd-0x0x0x0; cylinders are 1 to 99, not 0\n",
+    ),
+    // Numbers of a disk, and words that write none.
+    ("mfm-dd-80x2x9x512@247", "usage: flux map FORMAT\n"),
+    ("mfm-dd-80x2x9", "usage: flux map FORMAT\n"),
+    ("mfm-dd-80x2x9x512x", "usage: flux map FORMAT\n"),
+    ("mfm-dd-080x2x9x500", "usage: flux map FORMAT\n"),
+    ("mfm-dd-12345x2x9x512", "usage: flux map FORMAT\n"),
+    ("fm-dd-100x2x9x512", "usage: flux map FORMAT\n"),
+    ("amiga", "usage: flux map FORMAT\n"),
+];
+
 #[test]
 fn wrong_words_are_told(rt: HostRuntime) -> Result<(), Fail> {
-    let alloc = rt.alloc();
+    for (word, line) in TOLD {
+        is_told(&rt, &told_of(rt.alloc(), word)?, line);
+    }
+    Ok(())
+}
+
+/// What is told of a word in a format's place.
+fn told_of(alloc: Global, word: &str) -> Result<MemorySink, Memory> {
     let mut sink = MemorySink::new(alloc, 4096, Vec::new(alloc))?;
     let words = vec![in alloc;
         Word::new("map".to_string(alloc)?),
-        Word::new("ibm720".to_string(alloc)?),
+        Word::new(word.to_string(alloc)?),
     ]?;
-    assert!(rt; write_wrong_words(&words, &mut sink).is_ok());
-    assert_eq!(rt;
-        sink.bytes(),
-        b"no format ibm720; nearest: ibm-720\n".as_slice()
-    );
-    Ok(())
+    match write_wrong_words(&words, &mut sink) {
+        Ok(()) => Ok(sink),
+        Err(_) => Err(Memory),
+    }
+}
+
+fn is_told(rt: &impl Abort, sink: &MemorySink, line: &str) {
+    assert_eq!(rt; sink.bytes(), line.as_bytes());
 }

@@ -91,6 +91,15 @@ const TOLD: &[(&[&str], &str, u64)] = &[
     (&["show"], SHOW, 1),
     (&["show", "ibm-3740", "00.0", "27", "a"], SHOW, 1),
     (&["show", "ibm-3740", "77.0", "01", "a"], SHOW, 1),
+    (&["show", "ibm-3740", "000.0", "01", "a"], SHOW, 1),
+    (&["show", "ibm-3740", "0.1", "1", "a"], SHOW, 1),
+    (&["show", "ibm-3740", "0.00", "1", "a"], SHOW, 1),
+    (&["show", "ibm-3740", "0", "1", "a"], SHOW, 1),
+    (&["show", "ibm-3740", ".0", "1", "a"], SHOW, 1),
+    (&["show", "ibm-3740", "+1.0", "1", "a"], SHOW, 1),
+    (&["show", "ibm-3740", "0.0", "0001", "a"], SHOW, 1),
+    (&["show", "ibm-3740", "0.0", "0", "a"], SHOW, 1),
+    (&["show", "ibm-3740", "0.0", "", "a"], SHOW, 1),
     (
         &["show", "--copy", "16", "ibm-3740", "00.0", "01", "a"],
         SHOW,
@@ -109,6 +118,14 @@ const TOLD: &[(&[&str], &str, u64)] = &[
         "no format ibm180; nearest: ibm-180\n",
         3,
     ),
+    // Words that people have, and numbers of no disk.
+    (&["read", "ADF", "dump"], "no format ADF; try: amiga\n", 3),
+    (
+        &["rescue", "mfm-dd-77x2x8x1024"],
+        "no format mfm-dd-77x2x8x1024; 8 sectors of 1024 bytes do not fit on a track of 6250\n",
+        3,
+    ),
+    (&["read", "mfm-dd-80x2x9x512"], READ, 1),
     (
         &["read", "--picture", "amigo"],
         "no format amigo; nearest: amiga\n",
@@ -197,6 +214,13 @@ const NO_FILES: Row = Row {
     ..TURNS
 };
 
+/// The same of a sector, whose track and number are named as people write them.
+const NO_SECTOR: Row = Row {
+    name: "a sector of dumps without files",
+    words: &["show", "ibm-3740", "5.0", "4", "dump"],
+    ..NO_FILES
+};
+
 /// The same of a dump whose disk is asked for.
 const NO_DISK: Row = Row {
     name: "which disk a dump without files is of",
@@ -207,6 +231,11 @@ const NO_DISK: Row = Row {
 const ROWS: &[Row] = &[
     NO_DISK,
     NO_FILES,
+    NO_SECTOR,
+    Row {
+        words: &["show", "ibm-3740", "05.0", "004", "dump"],
+        ..NO_SECTOR
+    },
     Row {
         failing: Failing {
             notes: Some(0),

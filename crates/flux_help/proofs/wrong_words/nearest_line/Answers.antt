@@ -1,5 +1,5 @@
 use Rattle.std.proofs.Common.{refl}
-use Rattle.flux_help.specs.WrongWords.{nearest_text}
+use Rattle.flux_help.specs.Nearest.{nearest_text}
 use Rattle.flux_help.proofs.wrong_words.nearest_line.Goals as goal
 
 pub returns : goal.returns

@@ -1,5 +1,5 @@
-use Rattle.std.proofs.Common.{◌∷◌, ℕ, List, ap, subst, sym, ◌∙◌, decimal, None}
-use Rattle.flux_words.specs.SectorWords.{MOST_COPY_NUMBERS, NamesNumber}
+use Rattle.std.proofs.Common.{◌∷◌, ℕ, List, ap, subst, sym, ◌∙◌, None}
+use Rattle.flux_words.specs.SectorWords.{NamesCopyNumber}
 use Rattle.flux_words.specs.lemmas.Options.{head-same}
 use Rattle.flux_words.proofs.sector_words.numbered.Goals as goal
 
@@ -9,5 +9,5 @@ returns-in-Some-copy_number c =
 
 pub returns-in-None : goal.returns-in-None
 returns-in-None c = λ word others is.
-    subst (λ (w : List ℕ). NamesNumber MOST_COPY_NUMBERS decimal w None)
+    subst (λ (w : List ℕ). NamesCopyNumber w None)
     (c.bytes.ensures ∙ head-same _ _ _ _ (sym c.in-Some.ensures.cases.0 ∙ is)) c.in-None.ensures
