@@ -1,16 +1,11 @@
 -- A stream that spells any times, with its index blocks before all of them: each is counted from the begin, so that index times may lie
 -- anywhere, and behind the last transition too.
-use Rattle.std.proofs.Common.{◌≡◌, ◌≤◌, ◌<◌, ◌+◌, ◌-◌, ◌*◌, ◌/◌, ◌%◌, ◌++◌, ◌&&◌, ◌||◌, ◌↔◌, ℕ, zero, suc, Bool, true, false, List, [], ◌∷◌, length, refl, ap, sym, ◌∙◌, subst, arith, append_assoc, append-nil, length-append, if◌then◌else◌, nat_le, nat_lt}
+use Rattle.std.proofs.Common.{◌≡◌, ◌≤◌, ◌<◌, ◌+◌, ◌-◌, ◌*◌, ◌/◌, ◌%◌, ◌++◌, ◌&&◌, ℕ, zero, suc, Bool, true, false, List, [], ◌∷◌, length, refl, ap, sym, ◌∙◌, subst, arith, length-append, if◌then◌else◌, nat_le, nat_lt, slice_index}
 use Rattle.std.specs.List.Sorted.{IsStrictlyIncreasing}
-use Rattle.std.proofs.lemmas.List.{map-append}
-use Rattle.std.proofs.lemmas.List.Folds.{list_any-append}
-use Rattle.std.proofs.lemmas.List.Sums.{sum_by-append, sum_by-cons}
 use Rattle.kryo_stream.specs.declared.block.Block.{Block}
 use Rattle.kryo_stream.specs.declared.block.Block.TheVariants.{Flux, Index, StreamEnd, End}
-use Rattle.kryo_stream.specs.Bench.{stream_step}
-use Rattle.kryo_stream.specs.Sequence.{AreInOrder, IsStreamOf, StandsBetween, TurnsAre, IsTurnAt, all_spelled, spelled, spellings, transitions_from}
-use Rattle.kryo_stream.specs.Spelling.{IsWritable, flux_spelling}
-use Rattle.kryo_stream.specs.Stream.{has_ended, in_stream_bytes, is_end, is_stream_end}
+use Rattle.kryo_stream.specs.Sequence.{AreInOrder, IsStreamOf, TurnsAre, IsTurnAt, spellings, transitions_from}
+use Rattle.kryo_stream.specs.Spelling.{flux_spelling}
 use Rattle.kryo_stream.specs.lemmas.Standing.{Stand, Stand-each, is_empty}
 
 -- from each time to the next there are fewer than 2^16 ticks, and the first is so soon after this one
@@ -130,11 +125,12 @@ abbrev pub BlocksLaw : Type 0
 BlocksLaw = (blocks : List Block) (turns : List ℕ) → AreInOrder blocks turns → IsStreamOf (spellings blocks) (transitions_from 0 blocks) turns
 
 pub spells : BlocksLaw → (times : List ℕ) (first second : ℕ) → 0 < length times → Steps 0 times → length times ≤ 1300000 → first < second → second < 4294967296
-    → (x : List ℕ) × IsStreamOf x times (first ∷ second ∷ [])
+    → (x : List ℕ) × IsStreamOf x times (first ∷ second ∷ []) × (slice_index x 0 ≡ 13)
 spells law [] first second some steps few less fits = absurd (omega (arith, some))
 spells law (time ∷ times) first second some steps few less fits = (
   spellings (blocks time times first second),
   subst (λ (ts : List ℕ). IsStreamOf (spellings (blocks time times first second)) ts (first ∷ second ∷ []))
       (times_of_fluxes 0 (time ∷ times) (position time times first second) steps)
       (law (blocks time times first second) (first ∷ second ∷ []) (in_order time times first second steps few less fits)),
+  refl,
 )

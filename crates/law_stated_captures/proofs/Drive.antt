@@ -1,6 +1,6 @@
 -- A drive of a steady speed, whose transitions are each displaced as far as may be, late or early.
 use Rattle.std.specs.Prelude.{◌≡◌, ◌<◌, ◌≤◌, ℕ, ◌+◌, ◌-◌, ◌*◌, ◌/◌, pos, ◌-ℤ◌, nat_abs, Bool, true, false}
-use Rattle.std.proofs.Common.{arith, ap, ◌∙◌}
+use Rattle.std.proofs.Common.{arith}
 use Rattle.std.proofs.lemmas.Int.{ints}
 use Rattle.std.proofs.Math.Nat.{mul-le-mul_right}
 use Rattle.law_stated_captures.specs.Reaching.{IsFurthest}
@@ -53,16 +53,6 @@ close_time false false off ideal further most from close = omega arith
 pub time_to : (late : Bool) (off ideal : ℕ) → off ≤ 16384 → 1024 * time_of late off ideal ≤ ideal + 17408
 time_to true off ideal most = omega arith
 time_to false off ideal most = omega arith
-
--- so many cells from the first place on
-pub further : (first here next period : ℕ) → first ≤ here → here ≤ next
-    → (next - first) * period ≡ (here - first) * period + (next - here) * period
-further first here next period from to =
-    let a : ℕ = here - first in
-    let b : ℕ = next - here in
-    let both : next - first ≡ a + b = omega (arith, from, to) in
-    let parts : (a + b) * period ≡ a * period + b * period = omega arith in
-    ap (λ (n : ℕ). n * period) both ∙ parts
 
 -- one to four cells at a local period
 pub steps_from : (steps period : ℕ) → 1 ≤ steps → period ≤ steps * period

@@ -6,6 +6,7 @@ pub mod Blocks
 pub mod Listed
 pub mod Driven
 pub mod Turns
+pub mod Speeds
 pub mod Reached
 pub mod ReachedPieces
 pub mod Tracks

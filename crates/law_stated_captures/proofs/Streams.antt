@@ -1,13 +1,14 @@
 -- Streams of such times are captures, whole and in pieces, and no others are.
-use Rattle.std.specs.Prelude.{◌≡◌, ◌<◌, ◌≤◌, ℕ, ◌+◌, ◌-◌, ◌*◌, All, Bool, List, [], ◌∷◌, ◌++◌, flat_map, length, refl, slice_index}
+use Rattle.std.specs.Prelude.{◌≡◌, ◌<◌, ◌≤◌, ◌↔◌, ℕ, ◌+◌, ◌-◌, ◌*◌, All, Bool, List, [], ◌∷◌, ◌++◌, flat_map, length, refl, slice_index}
 use Rattle.std.specs.Int.{abs_diff}
 use Rattle.std.proofs.Common.{arith, ap, sym, subst}
 use Rattle.std.proofs.lemmas.List.Elements.{All-cons, All-head, All-nil, All-tail}
 use Rattle.kryo_stream.specs.Stream.{indexes, times}
-use Rattle.phase_loop.specs.Pieces.{AreApart, IsPiece, Piece}
-use Rattle.flux_engine.specs.Captures.{ErasedCapture}
-use Rattle.law_stated_captures.specs.Laws.{CapturesAreStated, ErasedCapturesAreStated, StatedCapturesAreCaptures, StatedErasedCapturesAreErased}
-use Rattle.law_stated_captures.specs.Streams.{IsStatedPiece, StartsAt, StatedErasedCapture, first_mean, last_of}
+use Rattle.phase_loop.specs.Pieces.{AreApart, EachKeepsSpeed, IsPiece, Piece}
+use Rattle.phase_loop.specs.Carried.{KeepsSpeed}
+use Rattle.flux_engine.specs.Captures.{Capture, ErasedCapture, IsSteady, IsSteadyErased}
+use Rattle.law_stated_captures.specs.Laws.{CapturesAreStated, ErasedCapturesAreStated, StatedCapturesAreCaptures, StatedErasedCapturesAreErased, StatedSpeedsAreKept}
+use Rattle.law_stated_captures.specs.Streams.{IsStatedPiece, IsStatedSteady, IsStatedSteadyErased, KeepsMean, StartsAt, StatedCapture, StatedErasedCapture, first_mean, last_of}
 use Rattle.law_stated_captures.proofs.Times.{carried, differ, kept_by}
 
 starts : (mean nominal : ℕ) (periods : List ℕ) → StartsAt mean nominal periods → 64 * abs_diff mean (slice_index periods 0) ≤ nominal
@@ -153,3 +154,57 @@ no_other_erased x ring nominal some capture =
       },
       refl,
     )
+
+module _ (mean nominal : ℕ) where
+  keeps_speed : (periods : List ℕ) → KeepsMean mean nominal periods → KeepsSpeed nominal mean periods
+  keeps_speed periods keeps i within = subst (λ (m : ℕ). 45 * m ≤ nominal) (differ mean (slice_index periods i)) (keeps i within)
+
+  keeps_mean : (periods : List ℕ) → KeepsSpeed nominal mean periods → KeepsMean mean nominal periods
+  keeps_mean periods keeps i within = subst (λ (m : ℕ). 45 * m ≤ nominal) (sym (differ mean (slice_index periods i))) (keeps i within)
+
+  -- the same of each piece, wherever it stands
+  abbrev EachKeepsMean : List Piece → Type 0
+  EachKeepsMean pieces = (before : List Piece) (piece : Piece) (behind : List Piece) → before ++ piece ∷ behind ≡ pieces → KeepsMean mean nominal piece.periods
+
+  abbrev Keeps : Piece → Type 0
+  Keeps piece = KeepsSpeed nominal mean piece.periods
+
+  each_speed : (pieces : List Piece) → EachKeepsMean pieces → EachKeepsSpeed nominal mean pieces
+  each_speed [] each = All-nil Keeps
+  each_speed (piece ∷ pieces) each =
+      All-cons Keeps piece pieces (keeps_speed piece.periods (each [] piece pieces refl))
+      (each_speed pieces (λ before one behind is. each (piece ∷ before) one behind (ap (λ (ps : List Piece). piece ∷ ps) is)))
+
+  same_piece : (a b : Piece) (xs ys : List Piece) → a ∷ xs ≡ b ∷ ys → a ≡ b
+  same_piece a b xs ys is = cc
+
+  none_here : (piece : Piece) (before behind : List Piece) → before ++ piece ∷ behind ≡ [] → ⊥
+  none_here piece [] behind is = cc
+  none_here piece (b ∷ before) behind is = cc
+
+  each_mean : (pieces : List Piece) → EachKeepsSpeed nominal mean pieces → EachKeepsMean pieces
+  each_mean [] all before piece behind is = absurd (none_here piece before behind is)
+  each_mean (first ∷ pieces) all [] piece behind is =
+      subst (λ (p : Piece). KeepsMean mean nominal p.periods) (sym (same_piece piece first behind pieces is))
+      (keeps_mean first.periods (All-head Keeps first pieces all))
+  each_mean (first ∷ pieces) all (b ∷ before) piece behind is =
+      each_mean pieces (All-tail Keeps first pieces all) before piece behind (same_rest b first (before ++ piece ∷ behind) pieces is)
+
+steady : (x : List ℕ) (ring : List Bool) (nominal : ℕ) (capture : Capture x ring nominal) (stated : StatedCapture x ring nominal)
+    → stated.periods ≡ capture.periods → IsStatedSteady x ring nominal stated ↔ IsSteady x ring nominal capture
+steady x ring nominal capture stated same =
+    let mean : ℕ = first_mean (indexes x) (length ring) in (
+      λ keeps. keeps_speed mean nominal capture.periods (subst (KeepsMean mean nominal) same keeps),
+      λ keeps. subst (KeepsMean mean nominal) (sym same) (keeps_mean mean nominal capture.periods keeps),
+    )
+
+steady_erased : (x : List ℕ) (ring : List Bool) (nominal : ℕ) (capture : ErasedCapture x ring nominal) (stated : StatedErasedCapture x ring nominal)
+    → stated.pieces ≡ capture.first ∷ capture.later → IsStatedSteadyErased x ring nominal stated ↔ IsSteadyErased x ring nominal capture
+steady_erased x ring nominal capture stated same =
+    let mean : ℕ = first_mean (indexes x) (length ring) in (
+      λ keeps. each_speed mean nominal (capture.first ∷ capture.later) (subst (EachKeepsMean mean nominal) same keeps),
+      λ keeps. subst (EachKeepsMean mean nominal) (sym same) (each_mean mean nominal (capture.first ∷ capture.later) keeps),
+    )
+
+pub speeds_are_kept : StatedSpeedsAreKept
+speeds_are_kept = record { whole = steady; erased = steady_erased }

@@ -33,16 +33,16 @@ module _ (rings : ImagesHaveRings) (names : NumbersNameTracks) (keep : TracksKee
       }
 
   pub tracks_reach : RingsReachBounds → TracksReachBounds
-  tracks_reach reach format image k place period mean index late is below speed early =
+  tracks_reach reach format image k place speed mean index late is below fast early =
       let turned = is_turned format image k is below in
       let one = one_from (ring_of format image k) turned.spaced place in
-      let made = reach (ring_of format image k) (nominal_of format k) one.0.place period mean index late turned one.0.is speed early in
+      let made = reach (ring_of format image k) (nominal_of format k) one.0.place speed mean index late turned one.0.is fast early in
       (one.0.place, one.1, one.2, made.0, made.1)
 
   pub track_pieces_reach : PiecesReachBounds → TrackPiecesReachBounds
-  track_pieces_reach reach format image k place many place' many' period mean index is below some some' few speed early =
+  track_pieces_reach reach format image k place many speed place' many' speed' mean index is below some some' few fast fast' early =
       let turned = is_turned format image k is below in
       let one = one_from (ring_of format image k) turned.spaced place in
       let two = one_from (ring_of format image k) turned.spaced place' in
-      let made = reach (ring_of format image k) (nominal_of format k) one.0.place many two.0.place many' period mean index turned one.0.is two.0.is some some' few speed early in
+      let made = reach (ring_of format image k) (nominal_of format k) one.0.place many speed two.0.place many' speed' mean index turned one.0.is two.0.is some some' few fast fast' early in
       (one.0.place, one.1, one.2, two.0.place, two.1, two.2, made.0, made.1)

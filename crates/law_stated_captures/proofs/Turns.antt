@@ -6,19 +6,11 @@ use Rattle.std.proofs.lemmas.Int.{ints}
 use Rattle.std.proofs.Math.Nat.{le-div_iff_mul-le, mul-le-mul_right}
 use Rattle.kryo_stream.specs.Sequence.{IsStreamOf}
 use Rattle.kryo_stream.specs.Stream.{indexes}
-use Rattle.law_stated_captures.specs.Reached.{BoundsAreSpeeds, IsTurned}
+use Rattle.law_stated_captures.specs.Reached.{IsTurned}
 use Rattle.law_stated_captures.specs.Reaching.{IsSpeed}
 use Rattle.law_stated_captures.specs.Streams.{StartsAt, first_mean}
 use Rattle.law_stated_captures.proofs.Blocks.{BlocksLaw, Steps, spells}
 use Rattle.law_stated_captures.proofs.Driven.{Bounded}
-
-pub bounds_are_speeds : BoundsAreSpeeds
-bounds_are_speeds nominal least = (
-  record { fastest = omega arith; slowest = omega (arith, least); near = omega (arith, ints) },
-  record { fastest = omega arith; slowest = omega (arith, least); near = omega (arith, ints) },
-  record { fastest = omega (arith, least); slowest = omega arith; near = omega (arith, ints) },
-  record { fastest = omega (arith, least); slowest = omega arith; near = omega (arith, ints) },
-)
 
 -- the ticks of a turn whose mean cell is this one
 pub turn_of : (cells mean : ℕ) → ℕ
@@ -51,13 +43,14 @@ turn_bounds cells mean many few some short =
     let most : mean * cells ≤ 149504 * cells = mul-le-mul_right cells short in
     (omega (arith, least, many), omega (arith, most, few))
 
-module _ (law : BlocksLaw) (ring : List Bool) (nominal period mean index : ℕ) (turned : IsTurned ring nominal) (speed : IsSpeed nominal period mean) (early : index < 2147483648) where
-  pub bounded : (begin : ℕ) → 32 ≤ begin → Bounded nominal period begin
+module _ (law : BlocksLaw) (ring : List Bool) (nominal : ℕ) (speed : ℕ → ℕ) (mean index : ℕ) (turned : IsTurned ring nominal) (is : IsSpeed nominal speed mean) (early : index < 2147483648) where
+  pub bounded : (begin : ℕ) → 32 ≤ begin → Bounded nominal speed begin
   bounded begin begun = record {
     shortest = turned.shortest_cell;
     longest = turned.longest_cell;
-    fastest = speed.fastest;
-    slowest = speed.slowest;
+    fastest = is.fastest;
+    slowest = is.slowest;
+    drift = is.drift;
     begun = begun;
   }
 
@@ -66,12 +59,12 @@ module _ (law : BlocksLaw) (ring : List Bool) (nominal period mean index : ℕ) 
 
   mean_bounds : (1 ≤ mean) × (mean ≤ 149504)
   mean_bounds =
-      let near = speed.near in
-      let fast = speed.fastest in
-      let slow = speed.slowest in
+      let near = is.near in
+      let fast = is.fastest 0 in
+      let slow = is.slowest 0 in
       let short = turned.shortest_cell in
       let long = turned.longest_cell in
-      (means_from nominal period mean short long fast slow near)
+      (means_from nominal (speed 0) mean short long fast slow near)
     where
       means_from : (nominal period mean : ℕ) → 16384 ≤ nominal → nominal ≤ 131072 → 7 * nominal ≤ 8 * period → 8 * period ≤ 9 * nominal
           → 64 * nat_abs (pos mean -ℤ pos period) ≤ nominal → (1 ≤ mean) × (mean ≤ 149504)
@@ -80,7 +73,7 @@ module _ (law : BlocksLaw) (ring : List Bool) (nominal period mean index : ℕ) 
   turns : (0 < turn) × (turn < 100000000)
   turns = turn_bounds (length ring) mean turned.shortest_ring turned.longest_ring mean_bounds.0 mean_bounds.1
 
-  pub stream_of : (ts : List ℕ) → 0 < length ts → Steps 0 ts → length ts ≤ 1300000 → (x : List ℕ) × IsStreamOf x ts (index ∷ (index + turn) ∷ [])
+  pub stream_of : (ts : List ℕ) → 0 < length ts → Steps 0 ts → length ts ≤ 1300000 → (x : List ℕ) × IsStreamOf x ts (index ∷ (index + turn) ∷ []) × (slice_index x 0 ≡ 13)
   stream_of ts some steps few =
       let t = turns in
       spells law ts index (index + turn) some steps few (omega (arith, t)) (omega (arith, t, early))
@@ -95,5 +88,5 @@ module _ (law : BlocksLaw) (ring : List Bool) (nominal period mean index : ℕ) 
     pub index_is : slice_index (indexes x) 0 ≡ index
     index_is = ap (λ (xs : List ℕ). slice_index xs 0) stream.turns_are
 
-    pub starts_at : (periods : List ℕ) → slice_index periods 0 ≡ period → StartsAt (first_mean (indexes x) (length ring)) nominal periods
-    starts_at periods is = rw (mean_is, is) speed.near
+    pub starts_at : (periods : List ℕ) → slice_index periods 0 ≡ speed 0 → StartsAt (first_mean (indexes x) (length ring)) nominal periods
+    starts_at periods first = rw (mean_is, first) is.near

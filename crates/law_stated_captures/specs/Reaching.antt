@@ -13,32 +13,40 @@ IsFurthest false nominal time ideal = nominal < 8 * nat_abs (pos (1024 * time) -
 abbrev pub AreFurthest : (ℕ → Bool) → (nominal : ℕ) → List ℕ → (ℕ → ℤ) → Type 0
 AreFurthest late nominal times ideal = (i : ℕ) → i < length times → IsFurthest (late i) nominal (slice_index times i) (ideal i)
 
--- the local periods are all this one
-abbrev pub AreSteady : ℕ → List ℕ → Type 0
-AreSteady period periods = (i : ℕ) → i < length periods → slice_index periods i ≡ period
+-- the local periods are those of a drive with this speed, by the number of the transition
+abbrev pub HaveSpeed : (ℕ → ℕ) → List ℕ → Type 0
+HaveSpeed speed periods = (i : ℕ) → i < length periods → slice_index periods i ≡ speed i
 
--- a local period within its bounds, and a mean of the first turn within its own
-pub record IsSpeed (nominal period mean : ℕ) : Type 0 where
-  pub fastest : 7 * nominal ≤ 8 * period
-  pub slowest : 8 * period ≤ 9 * nominal
-  pub near : 64 * nat_abs (pos mean -ℤ pos period) ≤ nominal
+-- Local periods within their bounds, each so near the one before as it is to be, and a mean of the first turn within its own.
+pub record IsSpeed (nominal : ℕ) (speed : ℕ → ℕ) (mean : ℕ) : Type 0 where
+  pub fastest : (i : ℕ) → 7 * nominal ≤ 8 * speed i
+  pub slowest : (i : ℕ) → 8 * speed i ≤ 9 * nominal
+  pub drift : (i : ℕ) → 16384 * nat_abs (pos (speed (i + 1)) -ℤ pos (speed i)) ≤ nominal
+  pub near : 64 * nat_abs (pos mean -ℤ pos (speed 0)) ≤ nominal
 
--- A capture at each bound at once: from this place of the repeated ring over exactly two rings, at one local period, with each transition
--- displaced to the bound, and with this mean of the first turn, which begins at this index time. All transitions are before 2^30 ticks, so
+-- A speed that keeps to its mean, and from transition number 256 on is as far from it as may be.
+pub record IsFurthestSpeed (nominal : ℕ) (speed : ℕ → ℕ) (mean : ℕ) : Type 0 where
+  pub is : IsSpeed nominal speed mean
+  pub keeps : (i : ℕ) → 45 * nat_abs (pos mean -ℤ pos (speed i)) ≤ nominal
+  pub furthest : (i : ℕ) → 256 ≤ i → nominal < 45 * (nat_abs (pos mean -ℤ pos (speed i)) + 1)
+
+-- A capture at each bound at once: from this place of the repeated ring over exactly two rings, at these local periods, with each transition
+-- displaced to the bound, and with this mean of the first turn, which begins at this index time. Its first block is out of band. All transitions are before 2^30 ticks, so
 -- that with a later index time all turns lie behind the last of them.
-pub record IsAtBounds (x : List ℕ) (ring : List Bool) (nominal from period mean index : ℕ) (late : ℕ → Bool) : Type 0 where
+pub record IsAtBounds (x : List ℕ) (ring : List Bool) (nominal from : ℕ) (speed : ℕ → ℕ) (mean index : ℕ) (late : ℕ → Bool) : Type 0 where
   pub stated : StatedCapture x ring nominal
   pub begins : slice_index stated.places 0 ≡ from
   pub ends : last_of stated.places ≡ from + 2 * length ring
-  pub steady : AreSteady period stated.periods
+  pub speed_is : HaveSpeed speed stated.periods
   pub furthest : AreFurthest late nominal (times x) stated.kept.ideal
   pub mean_is : first_mean (indexes x) (length ring) ≡ mean
   pub index_is : slice_index (indexes x) 0 ≡ index
   pub early : last_of (times x) < 1073741824
+  pub out_of_band : slice_index x 0 ≡ 13
 
 -- Two pieces as near as they may be in whole ticks: a tick less from the one to the other, and it would be less than 48 nominal cells. Each
--- begins at its place of the repeated ring and has so many transitions; the speed and the turns are as above.
-pub record AreAtGap (x : List ℕ) (ring : List Bool) (nominal from many from' many' period mean index : ℕ) : Type 0 where
+-- begins at its place of the repeated ring, has so many transitions and a speed of its own; the turns are as above.
+pub record AreAtGap (x : List ℕ) (ring : List Bool) (nominal from many : ℕ) (speed : ℕ → ℕ) (from' many' : ℕ) (speed' : ℕ → ℕ) (mean index : ℕ) : Type 0 where
   pub stated : StatedErasedCapture x ring nominal
   pub first : Piece
   pub second : Piece
@@ -47,8 +55,9 @@ pub record AreAtGap (x : List ℕ) (ring : List Bool) (nominal from many from' m
   pub begins' : slice_index second.places 0 ≡ from'
   pub size : length first.times ≡ many
   pub size' : length second.times ≡ many'
-  pub steady : AreSteady period first.periods
-  pub steady' : AreSteady period second.periods
+  pub speed_is : HaveSpeed speed first.periods
+  pub speed_is' : HaveSpeed speed' second.periods
   pub nearest : 1024 * slice_index second.times 0 < 1024 * last_of first.times + 48 * nominal + 1024
   pub mean_is : first_mean (indexes x) (length ring) ≡ mean
   pub index_is : slice_index (indexes x) 0 ≡ index
+  pub out_of_band : slice_index x 0 ≡ 13

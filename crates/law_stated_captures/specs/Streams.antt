@@ -27,6 +27,14 @@ pub record StatedCapture (x : List ℕ) (ring : List Bool) (nominal : ℕ) : Typ
   pub two_rings : slice_index places 0 + 2 * length ring ≤ last_of places
   pub speed : StartsAt (first_mean (indexes x) (length ring)) nominal periods
 
+-- the drive keeps its speed: each local period differs from a mean by at most one part in 45 of the nominal cell
+abbrev pub KeepsMean : (mean nominal : ℕ) → List ℕ → Type 0
+KeepsMean mean nominal periods = (i : ℕ) → i < length periods → 45 * nat_abs (pos mean -ℤ pos (slice_index periods i)) ≤ nominal
+
+-- that of the first turn, over the whole capture
+abbrev pub IsStatedSteady : (x : List ℕ) (ring : List Bool) (nominal : ℕ) → StatedCapture x ring nominal → Type 0
+IsStatedSteady x ring nominal stated = KeepsMean (first_mean (indexes x) (length ring)) nominal stated.periods
+
 -- a piece of the transitions, which is not empty, keeps the bounds by itself
 pub record IsStatedPiece (mean : ℕ) (ring : List Bool) (nominal : ℕ) (piece : Piece) : Type 0 where
   pub some : 0 < length piece.times
@@ -44,3 +52,8 @@ pub record StatedErasedCapture (x : List ℕ) (ring : List Bool) (nominal : ℕ)
   pub kept : All (IsStatedPiece (first_mean (indexes x) (length ring)) ring nominal) pieces
   pub apart : (before : List Piece) (piece next : Piece) (behind : List Piece) → before ++ piece ∷ next ∷ behind ≡ pieces
       → 1024 * last_of piece.times + 48 * nominal ≤ 1024 * slice_index next.times 0
+
+-- the drive keeps the speed of the first turn in each piece
+abbrev pub IsStatedSteadyErased : (x : List ℕ) (ring : List Bool) (nominal : ℕ) → StatedErasedCapture x ring nominal → Type 0
+IsStatedSteadyErased x ring nominal stated = (before : List Piece) (piece : Piece) (behind : List Piece) → before ++ piece ∷ behind ≡ stated.pieces
+    → KeepsMean (first_mean (indexes x) (length ring)) nominal piece.periods

@@ -2,7 +2,7 @@ use Rattle.law_stated_captures.specs.Reached.{PiecesReachBounds, RingsReachBound
 use Rattle.law_stated_captures.proofs.Reached.{rings_reach}
 use Rattle.law_stated_captures.proofs.ReachedPieces.{pieces_reach}
 use Rattle.law_stated_captures.proofs.Tracks.{track_pieces_reach, tracks_reach}
-use Rattle.law_stated_captures.proofs.Turns.{bounds_are_speeds}
+use Rattle.law_stated_captures.proofs.Speeds.{bounds_are_speeds, steady_bounds_are_speeds}
 use Rattle.law_stated_captures.proofs.laws.captures_reach_each_bound.Goals as goal
 
 pub returns : goal.returns
@@ -18,4 +18,5 @@ returns c =
       tracks = tracks_reach have names keep rings;
       track_pieces = track_pieces_reach have names keep pieces;
       speeds = bounds_are_speeds;
+      steady_speeds = steady_bounds_are_speeds;
     }
