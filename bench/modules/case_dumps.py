@@ -155,7 +155,12 @@ def case_show(chance, kinds, built):
         options += [[b"--copy", b"%d" % chance.choice([0, 0, 1, 2, 15])]]
     options = sum(chance.sample(options, len(options)), [])
     cylinder, head = form.tracks[k]
-    words = [b"show"] + options + [form.word.encode(), b"%02d.%d" % (cylinder, head), b"%02d" % chance.choice(list(form.sector_numbers(k))), *names]
+    sector = chance.choice(list(form.sector_numbers(k)))
+    named = [b"%02d.%d" % (cylinder, head), b"%02d" % sector]
+    if one_in(chance, 4):
+        kinds.add("a track and a sector with other zeros in front")
+        named = [chance.choice([b"%d.%d", b"%03d.%d"]) % (cylinder, head), chance.choice([b"%d", b"%03d", b"%04d"]) % sector]
+    words = [b"show"] + options + [form.word.encode(), *named, *names]
     if one_in(chance, 20):
         kinds.add("words of show that are wrong")
         words = words[:-1] if one_in(chance, 2) else words[:1] + [word[1:] for word in words[1:]]

@@ -138,6 +138,13 @@ def case_write(chance, kinds, built):
     return [chance.choice(commands), form.word.encode()], random_data(chance, form.image_bytes)
 
 
+def numbers_of_no_disk(chance):
+    """Numbers of a disk, of which some do not fit."""
+    pick = lambda least, most: chance.choice([least, most, chance.randrange(least, most + 1), 0, most + 1, 9999])
+    word = f"{chance.choice(list(plain.RATES))}-{pick(1, 99)}x{pick(1, 2)}x{pick(1, 32)}x{chance.choice([128, 512, 512, 1024, 1024, 0, 500, 2048])}"
+    return (word + chance.choice(["", "", "@0", "@1", "@255", "@250", "@9999"])).encode()
+
+
 def case_words(chance, kinds, built):
     """Words that are no command, or almost none."""
     kinds.add("words")
@@ -150,6 +157,8 @@ def case_words(chance, kinds, built):
         [], [command], [command, form], [command, form, number], [command, form, b"16", b"1"], [b"turns", form], [b"turns", b""],
         [command, form.upper()], [command, form + b" "], [command, form[:-1]], [command, form + b"0"], [command, b"ibm-" + form], [form],
         [command, b""], [form, command], [command + b" " + form], [command + b"s", form], [command[:-1], form], [command, b"amiga\n"],
+        [command, chance.choice(list(plain_commands.MEANINGS))], [command, chance.choice(list(plain_commands.MEANINGS)).upper(), b"dump"],
+        [command, numbers_of_no_disk(chance)], [command, numbers_of_no_disk(chance), b"dump"],
         [command, "amig\u00e4".encode()], [command, b"\xff"], [b"\x80turns"], [command, form, b"\xc3"]])
     if not all(map(plain_commands.is_text, words)):
         kinds.add("words that are no text")

@@ -85,6 +85,26 @@ def numbered(name):
     return recording and Format(printed, recording, cylinders, heads, always(nominal), always(cells))
 
 
+def unfit(name):
+    """Of a word that writes numbers which are no disk's, the first number that does not fit; an empty text of any other word."""
+    matched = NUMBERED.fullmatch(name)
+    if not matched or numbered(name):
+        return ""
+    rate, *numbers = matched.groups()
+    cylinders, heads, count, size, first = (1 if number is None else int(number) for number in numbers)
+    if not 1 <= cylinders <= 99:
+        return f"cylinders are 1 to 99, not {cylinders}"
+    if not 1 <= heads <= 2:
+        return f"heads are 1 or 2, not {heads}"
+    if not 1 <= count <= 32:
+        return f"sectors are 1 to 32, not {count}"
+    if size not in (128, 256, 512, 1024):
+        return f"bytes of a sector are 128, 256, 512 or 1024, not {size}"
+    if first + count > 256:
+        return f"the last sector is 255 at most, not {first + count - 1}"
+    return f"{count} sectors of {size} bytes do not fit on a track of {RATES[rate][1] // 16}"
+
+
 def made_track(double, total, count, first, size):
     """The recording of so many sectors in so many bytes; None where they do not fit."""
     code = size.bit_length() - 8

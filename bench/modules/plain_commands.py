@@ -2,10 +2,11 @@
 
 `outcome(words, data, ..)` is that of any words, over an input's bytes or over the files of a folder by their paths.
 """
+import re
 from collections import Counter
 
 import plain_dumps
-from plain import FORMATS, decoded, from_g64, g64_file, stream_of, trial_line
+from plain import FORMATS, decoded, from_g64, g64_file, stream_of, trial_line, unfit
 from plain_dumps import Dumps, Shelf
 from plain_map import picture
 from plain_streams import Refused, Stream
@@ -127,7 +128,7 @@ def dumps_asked(words):
 
 def sector_asked(words):
     """What words ask of a sector of dumps, if they ask for it: the steps that the drive made for one, the content that is asked for alone, the
-    format, the number of the track, the sector and the dumps' names. Track and sector are words of reports."""
+    format, the number of the track, the sector and the dumps' names."""
     if words[:1] != [b"show"]:
         return None
     rest, steps, alone = words[1:], 1, None
@@ -142,16 +143,19 @@ def sector_asked(words):
     form = FORMATS.get(rest[0].decode()) if rest else None
     if not form or len(rest) < 3:
         return None
-    names, tracks = rest[3:], [b"%02d.%d" % track for track in form.tracks]
-    if rest[1] not in tracks:
-        return None
-    k = tracks.index(rest[1])
-    sectors = {b"%02d" % sector: sector for sector in form.sector_numbers(k)}
-    if rest[2] not in sectors:
+    names, k = rest[3:], track_named(form, rest[1])
+    if k is None or not re.fullmatch(rb"[0-9]{1,3}", rest[2]) or int(rest[2]) not in form.sector_numbers(k):
         return None
     if not 1 <= len(names) <= plain_dumps.MOST_DUMPS or b"" in names or steps == 2 and not plain_dumps.reaches_all(form):
         return None
-    return steps, alone, form, k, sectors[rest[2]], names
+    return steps, alone, form, k, int(rest[2]), names
+
+
+def track_named(form, word):
+    """The number of the track that a word of a report names, or one without zeros in front."""
+    matched = re.fullmatch(rb"([0-9]{1,2})\.([01])", word)
+    track = matched and tuple(map(int, matched.groups()))
+    return form.tracks.index(track) if track in form.tracks else None
 
 
 # What is told of words that are none, by their first one; of any other it is the usage line. Where a format's word has to follow at once, another
@@ -162,6 +166,14 @@ OWN_USAGES = {
     b"rescue": b"usage: flux rescue FORMAT", b"map": b"usage: flux map FORMAT",
 }
 ASK_FORMATS = b"read", b"rescue", b"map"
+
+# What people call a disk or the file of its image, in letters of any case.
+MEANINGS = {
+    b"adf": b"try: amiga", b"st": b"try: ibm-720", b"d64": b"try: c1541", b"d71": b"try: c1571", b"do": b"try: apple-dos33",
+    b"dsk": b"try: apple-dos33", b"po": b"try: apple-prodos", b"ssd": b"try: acorn-dfs-80", b"pc98": b"try: mfm-hd360-77x2x8x1024",
+    b"720k": b"try: ibm-720", b"1.44": b"try: ibm-1440", b"360k": b"try: ibm-360", b"mac": b"try: mac-800",
+    b"d81": b"a Commodore 1581's disks have none yet",
+}
 
 
 def names_format(name):
@@ -180,10 +192,12 @@ def wrong_words(words, built, usage):
     if first not in OWN_USAGES or first not in built:
         return usage
     word = next((word for word in words[1:] if not word.startswith(b"-")), None)
-    if first in ASK_FORMATS and word is not None and not names_format(word.decode()):
-        nearest = min(FORMATS, key=lambda name: differing(name.encode(), word))
-        return b"no format " + word + b"; nearest: " + nearest.encode()
-    return OWN_USAGES[first]
+    if first not in ASK_FORMATS or word is None or FORMATS.get(word.decode()):
+        return OWN_USAGES[first]
+    why = MEANINGS.get(word.lower()) or unfit(word.decode()).encode()
+    if not why and not names_format(word.decode()):
+        why = b"nearest: " + min(FORMATS, key=lambda name: differing(name.encode(), word)).encode()
+    return b"no format " + word + b"; " + why if why else OWN_USAGES[first]
 
 
 def outcome(words, data, built, usage):
