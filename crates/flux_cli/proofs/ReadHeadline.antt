@@ -8,7 +8,7 @@ use Rattle.flux_base.specs.declared.status.Status.{Status}
 use Rattle.flux_base.specs.declared.status.Status.TheVariants.{AllGood, NotAllGood, Refused, Usage, ReadFault, ImageFault, NotesFault, Memory, ShelfFault}
 use Rattle.law_captured_dumps.specs.Headline.{CapturedDumpsAreNeverWrong, SteadyDumpsAreReadWell}
 use Rattle.law_read_dumps.specs.Lines.{PassedStreamsAreSaid, ReportsHaveNoOtherLines, SectorsHaveTheirNumbers}
-use Rattle.law_read_dumps.specs.Said.{EachIsSaid, SaidIsRight}
+use Rattle.law_read_dumps.specs.Said.{EachIsSaid, GoodStaysOrIsContradicted, SaidIsRight}
 use Rattle.law_reported_dumps.specs.Told.{LinesTell, NoSectorIsToldTwice, PassedLinesAreTold}
 use Rattle.sector_images.specs.Formats.{IsWordOfFormat, WordsBeginWithLetters, WordsNameFormats}
 use Rattle.sector_images.specs.declared.format.Format.{Format}
@@ -39,6 +39,7 @@ pub record DumpLaws : Type 0 where
   pub passed : PassedStreamsAreSaid
   pub passed_told : PassedLinesAreTold
   pub count : ReportsHaveNoOtherLines
+  pub stays : GoodStaysOrIsContradicted
   pub whole : CapturedDumpsAreNeverWrong
   pub steady : SteadyDumpsAreReadWell
   pub pictures : PicturesOfDumpsShowReports
@@ -79,6 +80,7 @@ of_dumps laws disk files few d read = record {
   passed = laws.passed disk files d read;
   passed_told = laws.passed_told disk files d read few;
   count = laws.count disk files d read;
+  stays = laws.stays disk files d;
   whole = λ image is. laws.whole disk files image d is read;
   steady = λ image is. laws.steady disk files image d is read;
 }

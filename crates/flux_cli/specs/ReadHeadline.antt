@@ -11,7 +11,7 @@ use Rattle.law_captured_disks.specs.Headline.{IsSectorOf}
 use Rattle.law_captured_dumps.specs.Headline.{IsReadRightly, IsReadWell}
 use Rattle.law_captured_dumps.specs.Inputs.{HasWhole, IsSteadyOrPassed}
 use Rattle.law_read_dumps.specs.Lines.{ArePassedSaid, HaveTheirNumbers}
-use Rattle.law_read_dumps.specs.Said.{IsSaid, IsSaidRightly}
+use Rattle.law_read_dumps.specs.Said.{IsSaid, IsSaidRightly, StaysOrIsContradicted}
 use Rattle.law_reported_dumps.specs.Told.{ArePassedTold, AreTold, TellsOnce}
 use Rattle.sector_report.specs.LineLaws.{line_ends}
 use Rattle.track_shelf.specs.Files.{File}
@@ -27,8 +27,9 @@ use Rattle.flux_words.specs.declared.dump_words.Shown.TheVariants.{Image, Pictur
 
 -- Each sector's line and its bytes in the image are those that all readings of the dumps bear out. Each line of the report that has the text
 -- of a sector's line is that one, at its number, and no sector is told twice. Each stream that is passed over is told, and each line that has
--- the text of such a stream's is true; there are as many lines as the numbers say. A sector that one dump has whole is never wrong unsaid,
--- whatever the other files are; where these are captures too or passed over, and the drives kept their speed, it is good with its own bytes.
+-- the text of such a stream's is true; there are as many lines as the numbers say. A sector that is good by the strict rule in one dump, by one
+-- clock, is never wrong unsaid, whatever the files are: it is good with the same bytes, or contradictory. So is one that a dump has whole, with
+-- its own bytes; where the other files are captures too or passed over, and the drives kept their speed, it is good with them.
 pub record OfDumps (disk : DumpDisk) (files : List File) (d : DumpsRead) : Type 0 where
   pub is : IsDumpsRead disk (Some files) d
   pub said : (n sector : ℕ) → IsSectorOf disk.format n sector → IsSaid disk files d n sector
@@ -39,6 +40,7 @@ pub record OfDumps (disk : DumpDisk) (files : List File) (d : DumpsRead) : Type 
   pub passed : ArePassedSaid disk files d
   pub passed_told : ArePassedTold disk files d
   pub count : line_ends d.notes ≡ d.totals.unread + d.totals.sectors.sectors + d.totals.others + 2
+  pub stays : (n sector : ℕ) (said : IsSaid disk files d n sector) → StaysOrIsContradicted disk files d n sector said
   pub whole : (image : List ℕ) → IsImage disk.format image → (n sector : ℕ) → IsSectorOf disk.format n sector
       → (dump : ℕ) → dump < length disk.dumps → HasWhole disk files image n dump sector → IsReadRightly disk files image d n sector
   pub steady : (image : List ℕ) → IsImage disk.format image → (n sector : ℕ) → IsSectorOf disk.format n sector

@@ -91,9 +91,10 @@ pub fn run<S: Source, W: Sink, N: Sink, H: Shelf>(
         (on (shelf_moment (moment H.left H.faults H.failed shelf.new) (H.given shelf.new) (H.files shelf.new)) (moment W.written W.faults W.failed image.new) (moment N.written N.faults N.failed notes.new)) }
 
     // Of `read`, where the shelf tells its files: each sector's line and its bytes are those that all readings of the dumps bear out, and
-    // each line that has the text of a sector's line, or of a stream's that is passed over, is that one. A sector that one dump has whole
-    // is good with its own bytes or contradictory, and good where the other files are captures too or passed over and the drives kept
-    // their speed. A picture of them is that of such a report.
+    // each line that has the text of a sector's line, or of a stream's that is passed over, is that one. A sector that is good by the
+    // strict rule in one dump is good with the same bytes or contradictory, and so is one that a dump has whole, with its own bytes; it is
+    // good where the other files are captures too or passed over and the drives kept their speed. A picture of them is that of such a
+    // report.
     ensures dumps { ReadsAsExpected words.now result
         (on (shelf_moment (moment H.left H.faults H.failed shelf.old) (H.given shelf.old) (H.files shelf.old)) (moment W.written W.faults W.failed image.old) (moment N.written N.faults N.failed notes.old))
         (on (shelf_moment (moment H.left H.faults H.failed shelf.new) (H.given shelf.new) (H.files shelf.new)) (moment W.written W.faults W.failed image.new) (moment N.written N.faults N.failed notes.new)) }

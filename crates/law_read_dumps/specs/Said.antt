@@ -72,12 +72,16 @@ SaidIsRight = (disk : DumpDisk) (files : List File) (o : DumpsRead) (n sector : 
 
 -- What is good by the strict rule over what one clock reads of one dump, as `decode` reads by the first clock, is good over all that is
 -- read of the dumps, with the same bytes, or contradictory.
-abbrev pub GoodStaysOrIsContradicted : Type 0
-GoodStaysOrIsContradicted = (disk : DumpDisk) (files : List File) (o : DumpsRead) (n sector : ℕ) (said : IsSaid disk files o n sector)
-    → (q : ℕ) → q < length disk.dumps → (clock : Clock) → IsUsed (plan_of disk).clocks clock → (found : List Found)
+abbrev pub StaysOrIsContradicted : (disk : DumpDisk) (files : List File) (o : DumpsRead) (n sector : ℕ) → IsSaid disk files o n sector → Type 0
+StaysOrIsContradicted disk files o n sector said = (q : ℕ) → q < length disk.dumps → (clock : Clock) → IsUsed (plan_of disk).clocks clock → (found : List Found)
     → AreReadings (header_at disk.format (track_at disk.format n)) (sector_at disk.format (track_at disk.format n))
     (cells_in disk.format (streams_on disk files) n q clock) 0 found
     → let strict = readings_in q clock (streams_on disk files n q).times (streams_on disk files n q).indexes
     (cells_in disk.format (streams_on disk files) n q clock) found in
     (good bad : ℕ) (first : Place) → verdict strict sector ≡ Good good bad first
     → IsGoodTooOrContradicted strict (joined said.captures) sector
+
+-- so it is with each sector, whatever the files are
+abbrev pub GoodStaysOrIsContradicted : Type 0
+GoodStaysOrIsContradicted = (disk : DumpDisk) (files : List File) (o : DumpsRead) (n sector : ℕ) (said : IsSaid disk files o n sector)
+    → StaysOrIsContradicted disk files o n sector said

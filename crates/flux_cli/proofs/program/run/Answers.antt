@@ -54,6 +54,7 @@ returns-clause-dumps g c =
       passed = lines.passed;
       passed_told = told.passed_told;
       count = lines.count;
+      stays = said.stays;
       whole = read.never_wrong;
       steady = read.well;
       pictures = c.dumps_are_drawn_as_reported.ensures;
