@@ -7,6 +7,7 @@ use Rattle.dump_reading.specs.Totals.{is_complete}
 use Rattle.flux_base.specs.declared.status.Status.{Status}
 use Rattle.flux_base.specs.declared.status.Status.TheVariants.{AllGood, NotAllGood, Refused, Usage, ReadFault, ImageFault, NotesFault, Memory, ShelfFault}
 use Rattle.law_captured_dumps.specs.Headline.{CapturedDumpsAreNeverWrong, SteadyDumpsAreReadWell}
+use Rattle.law_read_dumps.specs.Complete.{CompleteIsAll}
 use Rattle.law_read_dumps.specs.Lines.{PassedStreamsAreSaid, ReportsHaveNoOtherLines, SectorsHaveTheirNumbers}
 use Rattle.law_read_dumps.specs.Said.{EachIsSaid, GoodStaysOrIsContradicted, SaidIsRight}
 use Rattle.law_reported_dumps.specs.Told.{LinesTell, NoSectorIsToldTwice, PassedLinesAreTold}
@@ -39,6 +40,7 @@ pub record DumpLaws : Type 0 where
   pub passed : PassedStreamsAreSaid
   pub passed_told : PassedLinesAreTold
   pub count : ReportsHaveNoOtherLines
+  pub complete : CompleteIsAll
   pub stays : GoodStaysOrIsContradicted
   pub whole : CapturedDumpsAreNeverWrong
   pub steady : SteadyDumpsAreReadWell
@@ -80,6 +82,7 @@ of_dumps laws disk files few d read = record {
   passed = laws.passed disk files d read;
   passed_told = laws.passed_told disk files d read few;
   count = laws.count disk files d read;
+  complete = laws.complete disk files d read;
   stays = laws.stays disk files d;
   whole = λ image is. laws.whole disk files image d is read;
   steady = λ image is. laws.steady disk files image d is read;

@@ -1,7 +1,8 @@
 -- What is known of what `read` gives, the image and the report or a picture, where the shelf tells its files.
-use Rattle.std.specs.Prelude.{◌≡◌, ◌<◌, ℕ, ◌+◌, List, [], length, Some}
+use Rattle.std.specs.Prelude.{◌≡◌, ◌<◌, ◌↔◌, IsTrue, ℕ, List, [], length, Some}
 use Rattle.disk_map.specs.Dumps.{IsDumpsDrawn, ShowsReport}
 use Rattle.dump_reading.specs.Outcomes.{DumpDisk, DumpsRead, IsDumpsRead, IsFirstEmpty}
+use Rattle.dump_reading.specs.Totals.{is_complete}
 use Rattle.flux_base.specs.Outside.{Rose}
 use Rattle.flux_base.specs.declared.status.Status.{Status}
 use Rattle.flux_base.specs.declared.status.Status.TheVariants.{AllGood, NotAllGood, Refused, Usage, ReadFault, ImageFault, NotesFault, Memory, ShelfFault}
@@ -10,10 +11,10 @@ use Rattle.flux_engine.specs.Rings.{IsImage}
 use Rattle.law_captured_disks.specs.Headline.{IsSectorOf}
 use Rattle.law_captured_dumps.specs.Headline.{IsReadRightly, IsReadWell}
 use Rattle.law_captured_dumps.specs.Inputs.{HasWhole, IsSteadyOrPassed}
-use Rattle.law_read_dumps.specs.Lines.{ArePassedSaid, HaveTheirNumbers}
+use Rattle.law_read_dumps.specs.Complete.{IsAllRead}
+use Rattle.law_read_dumps.specs.Lines.{ArePassedSaid, HasNoOtherLines, HaveTheirNumbers}
 use Rattle.law_read_dumps.specs.Said.{IsSaid, IsSaidRightly, StaysOrIsContradicted}
 use Rattle.law_reported_dumps.specs.Told.{ArePassedTold, AreTold, TellsOnce}
-use Rattle.sector_report.specs.LineLaws.{line_ends}
 use Rattle.track_shelf.specs.Files.{File}
 use Rattle.turn_merge.specs.Readings.{verdict}
 use Rattle.flux_words.specs.DumpWords.{AreReadWords, Asked, CanBeRead, shown_of}
@@ -27,9 +28,11 @@ use Rattle.flux_words.specs.declared.dump_words.Shown.TheVariants.{Image, Pictur
 
 -- Each sector's line and its bytes in the image are those that all readings of the dumps bear out. Each line of the report that has the text
 -- of a sector's line is that one, at its number, and no sector is told twice. Each stream that is passed over is told, and each line that has
--- the text of such a stream's is true; there are as many lines as the numbers say. A sector that is good by the strict rule in one dump, by one
--- clock, is never wrong unsaid, whatever the files are: it is good with the same bytes, or contradictory. So is one that a dump has whole, with
--- its own bytes; where the other files are captures too or passed over, and the drives kept their speed, it is good with them.
+-- the text of such a stream's is true; there are as many lines as the numbers say. The numbers call all of it complete exactly where every
+-- sector is good and, in the cells of no stream that was read, whole data stand after a header that names none of its track's sectors.
+-- A sector that is good by the strict rule in one dump, by one clock, is never wrong unsaid, whatever the files are: it is good with the same
+-- bytes, or contradictory. So is one that a dump has whole, with its own bytes; where the other files are captures too or passed over, and the
+-- drives kept their speed, it is good with them.
 pub record OfDumps (disk : DumpDisk) (files : List File) (d : DumpsRead) : Type 0 where
   pub is : IsDumpsRead disk (Some files) d
   pub said : (n sector : ℕ) → IsSectorOf disk.format n sector → IsSaid disk files d n sector
@@ -39,7 +42,8 @@ pub record OfDumps (disk : DumpDisk) (files : List File) (d : DumpsRead) : Type 
   pub once : TellsOnce d.notes
   pub passed : ArePassedSaid disk files d
   pub passed_told : ArePassedTold disk files d
-  pub count : line_ends d.notes ≡ d.totals.unread + d.totals.sectors.sectors + d.totals.others + 2
+  pub count : HasNoOtherLines d is.others
+  pub complete : IsTrue (is_complete d.totals) ↔ IsAllRead disk files d
   pub stays : (n sector : ℕ) (said : IsSaid disk files d n sector) → StaysOrIsContradicted disk files d n sector said
   pub whole : (image : List ℕ) → IsImage disk.format image → (n sector : ℕ) → IsSectorOf disk.format n sector
       → (dump : ℕ) → dump < length disk.dumps → HasWhole disk files image n dump sector → IsReadRightly disk files image d n sector

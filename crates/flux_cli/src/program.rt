@@ -25,7 +25,7 @@ use law_captured_dumps::captured_dumps_are_read;
 use law_captured_plans::planned_lines_tell;
 use law_captured_rescues::{captured_disks_are_rescued, steady_disks_are_rescued};
 use law_captured_sets::captured_sets_decode;
-use law_read_dumps::{dump_reports_have_lines, dumps_say_each_sector};
+use law_read_dumps::{complete_dumps_are_all_read, dump_reports_have_lines, dumps_say_each_sector};
 use law_reported_dumps::dump_lines_tell;
 use sector_images::words_name_formats;
 use std::alloc::Global;
@@ -91,10 +91,11 @@ pub fn run<S: Source, W: Sink, N: Sink, H: Shelf>(
         (on (shelf_moment (moment H.left H.faults H.failed shelf.new) (H.given shelf.new) (H.files shelf.new)) (moment W.written W.faults W.failed image.new) (moment N.written N.faults N.failed notes.new)) }
 
     // Of `read`, where the shelf tells its files: each sector's line and its bytes are those that all readings of the dumps bear out, and
-    // each line that has the text of a sector's line, or of a stream's that is passed over, is that one. A sector that is good by the
-    // strict rule in one dump is good with the same bytes or contradictory, and so is one that a dump has whole, with its own bytes; it is
-    // good where the other files are captures too or passed over and the drives kept their speed. A picture of them is that of such a
-    // report.
+    // each line that has the text of a sector's line, or of a stream's that is passed over, is that one. All is good exactly where each
+    // sector is and no header that names none of its track's sectors has whole data, at any place of any stream that was read. A sector
+    // that is good by the strict rule in one dump is good with the same bytes or contradictory, and so is one that a dump has whole, with
+    // its own bytes; it is good where the other files are captures too or passed over and the drives kept their speed. A picture of
+    // them is that of such a report.
     ensures dumps { ReadsAsExpected words.now result
         (on (shelf_moment (moment H.left H.faults H.failed shelf.old) (H.given shelf.old) (H.files shelf.old)) (moment W.written W.faults W.failed image.old) (moment N.written N.faults N.failed notes.old))
         (on (shelf_moment (moment H.left H.faults H.failed shelf.new) (H.given shelf.new) (H.files shelf.new)) (moment W.written W.faults W.failed image.new) (moment N.written N.faults N.failed notes.new)) }
@@ -113,6 +114,7 @@ pub fn run<S: Source, W: Sink, N: Sink, H: Shelf>(
     good_is_right_in_files();
     dumps_say_each_sector();
     dump_reports_have_lines();
+    complete_dumps_are_all_read();
     dump_lines_tell();
     captured_dumps_are_read();
     dumps_are_drawn_as_reported();

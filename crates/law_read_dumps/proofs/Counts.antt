@@ -1,13 +1,14 @@
 -- How many lines the tracks have in a report of dumps: as many as its numbers say.
-use Rattle.std.specs.Prelude.{◌≡◌, ◌≤◌, ◌<◌, ℕ, zero, suc, ◌+◌, ◌*◌, cond, is_some, List, [], get_or, length, sum_by, take, Option, None, Some, refl}
+use Rattle.std.specs.Prelude.{◌≡◌, ◌≤◌, ◌<◌, ℕ, zero, suc, ◌+◌, ◌*◌, cond, is_some, List, [], ◌∷◌, get_or, length, sum_by, take, Option, None, Some, refl}
 use Rattle.std.proofs.Common.{ap, sym, ◌∙◌, arith, length-append}
 use Rattle.std.proofs.Math.Nat.{suc-mul}
 use Rattle.std.proofs.Math.Seq.{take-length}
 use Rattle.std.proofs.lemmas.List.{length-map}
 use Rattle.std.proofs.lemmas.List.FromFn.{length-range_with_len}
-use Rattle.std.proofs.lemmas.List.Sums.{sum_by_more}
+use Rattle.std.proofs.lemmas.List.Sums.{sum_by-cons, sum_by_more}
 use Rattle.dump_reading.specs.Outcomes.{DumpDisk, DumpsRead, IsDumpsRead, numbers_of, plan_of}
 use Rattle.dump_reading.specs.Reports.{read_part}
+use Rattle.flux_engine.specs.Counts.{whole_names_of}
 use Rattle.flux_engine.specs.Disks.{part_at}
 use Rattle.flux_engine.specs.LoopProgress.{passed_count, seen_at, streams_over}
 use Rattle.flux_engine.specs.Plans.{Seen, Streams, joined, passed_one, passed_to}
@@ -16,15 +17,26 @@ use Rattle.flux_engine.specs.Tracks.{TrackPart, numbers}
 use Rattle.flux_engine.specs.lemmas.PartLaws.{no_part}
 use Rattle.sector_report.specs.declared.dump_lines.Passed.{Passed}
 use Rattle.track_shelf.specs.Files.{File}
-use Rattle.turn_merge.specs.Others.{NotedOther, others_over}
+use Rattle.turn_merge.specs.Others.{NotedOther, has_untold, others_over}
 use Rattle.turn_merge.specs.Readings.{verdict}
-use Rattle.law_read_dumps.specs.Lines.{passed_on}
+use Rattle.law_read_dumps.specs.Lines.{has_traces, other_lines_of, passed_on, traced_count}
 use Rattle.law_read_dumps.proofs.ReportLines.{Laws, before_more, lines_before, passed_many}
 use Rattle.law_read_dumps.proofs.Streams.{none_seen, number_low}
 
 one-passed : (q : ℕ) (why : Option Passed) → length (passed_one q why) ≡ cond (is_some why) 1 0
 one-passed q None = refl
 one-passed q (Some why) = refl
+
+-- a sum of sums
+sums_added : {X : Type 0} (f g : X → ℕ) (xs : List X) → sum_by (λ (x : X). f x + g x) xs ≡ sum_by f xs + sum_by g xs
+sums_added f g [] = refl
+sums_added f g (x ∷ xs) =
+    let rest = sums_added f g xs in
+    let both : sum_by (λ x. f x + g x) (x ∷ xs) ≡ f x + g x + sum_by (λ x. f x + g x) xs = sum_by-cons (λ x. f x + g x) x xs in
+    omega (arith, both, rest, sum_by-cons f x xs, sum_by-cons g x xs)
+
+abbrev whole_lines_of : List NotedOther → ℕ
+whole_lines_of others = whole_names_of (others_over others) (has_untold others)
 
 module _ (laws : Laws) (disk : DumpDisk) (files : List File) (o : DumpsRead) (is : IsDumpsRead disk (Some files) o) where
   abbrev many : ℕ
@@ -58,12 +70,9 @@ module _ (laws : Laws) (disk : DumpDisk) (files : List File) (o : DumpsRead) (is
       ∙ length-map (numbers (sectors_of disk.format (track_at disk.format n))) (verdict (joined at.captures))
       ∙ length-range_with_len (sectors_of disk.format (track_at disk.format n)).first (sectors_of disk.format (track_at disk.format n)).count
 
-  abbrev told_on : List NotedOther → ℕ
-  told_on others = length (others_over others)
-
   so_far : (n : ℕ) → n ≤ length is.parts
       → lines_before laws disk files o is n
-      ≡ passed_count (take (n * many) is.streams) + sum_by (λ (p : TrackPart). p.totals.sectors) (take n is.parts) + sum_by told_on (take n is.others)
+      ≡ passed_count (take (n * many) is.streams) + sum_by (λ (p : TrackPart). p.totals.sectors) (take n is.parts) + sum_by other_lines_of (take n is.others)
   so_far zero low = (let none : 0 * many ≡ 0 = omega arith in sym (ap (λ (k : ℕ). passed_count (take k is.streams) + 0 + 0) none))
   so_far (suc n) low =
       let within : n < length is.parts = omega (arith, low) in
@@ -78,17 +87,26 @@ module _ (laws : Laws) (disk : DumpDisk) (files : List File) (o : DumpsRead) (is
       ap (λ (k : ℕ). sum_by (λ (p : TrackPart). p.totals.sectors) (take k is.parts)) (sym next)
       ∙ sum_by_more (λ (p : TrackPart). p.totals.sectors) is.parts n no_part within
       ∙ ap (λ (k : ℕ). sum_by (λ (p : TrackPart). p.totals.sectors) (take n is.parts) + k) (sectors_many n within) in
-      let told : sum_by told_on (take (suc n) is.others) ≡ sum_by told_on (take n is.others) + told_on (get_or is.others n []) =
-      ap (λ (k : ℕ). sum_by told_on (take k is.others)) (sym next) ∙ sum_by_more told_on is.others n [] (omega (arith, within, is.all.many, is.all.many_others)) in
+      let told : sum_by other_lines_of (take (suc n) is.others) ≡ sum_by other_lines_of (take n is.others) + other_lines_of (get_or is.others n []) =
+      ap (λ (k : ℕ). sum_by other_lines_of (take k is.others)) (sym next) ∙ sum_by_more other_lines_of is.others n [] (omega (arith, within, is.all.many, is.all.many_others)) in
       omega (arith, before, step, passed, sectors, told)
 
-  pub lines_counted : lines_before laws disk files o is (length is.parts)
-      ≡ (numbers_of is.streams is.parts is.others).unread + (numbers_of is.streams is.parts is.others).sectors.sectors + (numbers_of is.streams is.parts is.others).others
-  lines_counted =
+  all_counted : lines_before laws disk files o is (length is.parts)
+      ≡ (numbers_of is.streams is.parts is.others).unread + (numbers_of is.streams is.parts is.others).sectors.sectors + sum_by other_lines_of is.others
+  all_counted =
       let same : length is.parts ≡ length is.others = omega (arith, is.all.many, is.all.many_others) in
       so_far (length is.parts) (omega arith)
-      ∙ ap (λ (ss : List Seen). passed_count ss + sum_by (λ (p : TrackPart). p.totals.sectors) (take (length is.parts) is.parts) + sum_by told_on (take (length is.parts) is.others))
+      ∙ ap (λ (ss : List Seen). passed_count ss + sum_by (λ (p : TrackPart). p.totals.sectors) (take (length is.parts) is.parts) + sum_by other_lines_of (take (length is.parts) is.others))
       (ap (λ (k : ℕ). take k is.streams) (sym is.all.read.all) ∙ take-length is.streams)
-      ∙ ap (λ (ps : List TrackPart). passed_count is.streams + sum_by (λ (p : TrackPart). p.totals.sectors) ps + sum_by told_on (take (length is.parts) is.others)) (take-length is.parts)
-      ∙ ap (λ (os : List (List NotedOther)). passed_count is.streams + sum_by (λ (p : TrackPart). p.totals.sectors) is.parts + sum_by told_on os)
+      ∙ ap (λ (ps : List TrackPart). passed_count is.streams + sum_by (λ (p : TrackPart). p.totals.sectors) ps + sum_by other_lines_of (take (length is.parts) is.others)) (take-length is.parts)
+      ∙ ap (λ (os : List (List NotedOther)). passed_count is.streams + sum_by (λ (p : TrackPart). p.totals.sectors) is.parts + sum_by other_lines_of os)
       (ap (λ (k : ℕ). take k is.others) same ∙ take-length is.others)
+
+  -- of others as many as names with whole data, and tracks with names that have none
+  pub lines_counted : lines_before laws disk files o is (length is.parts)
+      ≡ (numbers_of is.streams is.parts is.others).unread + (numbers_of is.streams is.parts is.others).sectors.sectors
+      + (numbers_of is.streams is.parts is.others).whole + traced_count is.others
+  lines_counted =
+      let split : sum_by other_lines_of is.others ≡ (numbers_of is.streams is.parts is.others).whole + traced_count is.others =
+      sums_added whole_lines_of (λ (others : List NotedOther). cond (has_traces others) 1 0) is.others in
+      omega (arith, all_counted, split)

@@ -4,3 +4,7 @@ pub mod ReportLines
 pub mod Counts
 pub mod Said
 pub mod Reports
+pub mod GoodTotals
+pub mod OtherData
+pub mod WholeCounts
+pub mod Complete

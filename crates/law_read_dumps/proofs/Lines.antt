@@ -1,5 +1,5 @@
 -- The lines of a text: what each of them is, by its number, and the number of one that stands behind others.
-use Rattle.std.specs.Prelude.{◌≡◌, ◌<◌, ℕ, zero, suc, ◌+◌, ◌-◌, List, [], ◌∷◌, ◌++◌, flat_map, length, slice_get, Some, refl}
+use Rattle.std.specs.Prelude.{◌≡◌, ◌<◌, ℕ, zero, suc, ◌+◌, ◌-◌, Bool, true, false, cond, List, [], ◌∷◌, ◌++◌, flat_map, length, slice_get, Some, refl}
 use Rattle.std.specs.List.{range_with_len}
 use Rattle.std.proofs.Common.{ap, sym, subst, ◌∙◌, arith, inl, inr, append-nil, append_assoc}
 use Rattle.std.proofs.lemmas.Bool.{cases_lt}
@@ -80,6 +80,11 @@ tells-each P f each (x ∷ xs) holds =
     let more : 1 + length xs ≡ suc (length xs) = omega arith in
     subst (Tells (λ number line. P line) (flat_map f (x ∷ xs))) more
     (tells-append (λ number line. P line) (f x) (flat_map f xs) 1 (length xs) (tells-line (λ number line. P line) (f x) (each x) holds.0) (tells-each P f each xs holds.1))
+
+-- a line where it is wanted
+pub tells-if : (P : List ℕ → Type 0) (wanted : Bool) (line : List ℕ) → IsOneLine line → (wanted ≡ true → P line) → Tells (λ number l. P l) (cond wanted line []) (cond wanted 1 0)
+tells-if P true line one holds = tells-line (λ number l. P l) line one (holds refl)
+tells-if P false line one holds = tells-nil (λ number l. P l)
 
 -- a line behind so many others is a line of the text
 pub has_line : (text before line after : List ℕ) (number : ℕ) → text ≡ before ++ (line ++ after) → Skips before number → IsOneLine line → HasLine text line number

@@ -1,13 +1,13 @@
 -- The lines of the tracks in a report of dumps, one behind another: what each of them is, and at which numbers those of sectors stand.
-use Rattle.std.specs.Prelude.{◌≡◌, ◌≤◌, ◌<◌, ◌⊎◌, ℕ, zero, suc, ◌+◌, ◌-◌, Contains, List, [], ◌∷◌, ◌++◌, drop, flat_map, get_or, length, sum_by, take, Option, None, Some, refl}
+use Rattle.std.specs.Prelude.{◌≡◌, ◌≤◌, ◌<◌, ◌⊎◌, ℕ, zero, suc, ◌+◌, ◌-◌, Bool, true, Contains, List, [], ◌∷◌, ◌++◌, cond, drop, filter, flat_map, get_or, length, sum_by, take, Option, None, Some, refl}
 use Rattle.std.specs.List.{range_with_len}
 use Rattle.std.proofs.Common.{ap, sym, subst, ◌∙◌, arith, append-nil, append_assoc, inl, inr}
 use Rattle.std.proofs.Math.Seq.{take-suc}
 use Rattle.std.proofs.lemmas.Bool.{cases_lt}
 use Rattle.std.proofs.lemmas.List.Concat.{flat_map-append}
-use Rattle.std.proofs.lemmas.List.Sums.{sum_by_push}
+use Rattle.std.proofs.lemmas.List.Sums.{length-filter, sum_by_push}
 use Rattle.dump_reading.specs.Outcomes.{DumpDisk, DumpsRead, IsDumpsRead, numbers_of, plan_of}
-use Rattle.dump_reading.specs.Reports.{end_text, other_lines, passed_line_of, passed_lines, read_part}
+use Rattle.dump_reading.specs.Reports.{data_lines, end_text, other_lines, passed_line_of, passed_lines, read_part, trace_count, traces_lines, untold_lines}
 use Rattle.flux_engine.specs.DiskLaws.{HasLine}
 use Rattle.flux_engine.specs.Disks.{lines, part_at}
 use Rattle.flux_engine.specs.LoopProgress.{streams_over}
@@ -16,7 +16,7 @@ use Rattle.flux_engine.specs.Recordings.{sectors_of, track_at}
 use Rattle.flux_engine.specs.Rules.{RulesAreRead}
 use Rattle.flux_engine.specs.Tracks.{TrackPart, line_by, lines_by}
 use Rattle.flux_engine.specs.declared.gathered_track.PassedStream.{PassedStream}
-use Rattle.flux_engine.specs.lemmas.Each.{Each, each-append, each-of}
+use Rattle.flux_engine.specs.lemmas.Each.{Each, each-append, each-filter, each-map, each-of}
 use Rattle.flux_engine.specs.lemmas.LineNumbers.{Skips, skips-append, skips-lines}
 use Rattle.flux_engine.specs.lemmas.OneParts.{one_others_to}
 use Rattle.flux_engine.specs.lemmas.PartLaws.{lines_split, no_part}
@@ -25,17 +25,17 @@ use Rattle.law_captured_disks.specs.Headline.{IsSectorOf}
 use Rattle.sector_images.specs.Formats.{row}
 use Rattle.sector_images.specs.Places.{IsSector}
 use Rattle.sector_images.specs.declared.format.Format.{Format}
-use Rattle.sector_report.specs.DumpLines.{DumpsHaveLines, other_text, passed_text}
+use Rattle.sector_report.specs.DumpLines.{DumpsHaveLines, other_text, passed_text, traces_text, untold_text}
 use Rattle.sector_report.specs.LineLaws.{IsOneLine, SectorsHaveOneLine}
 use Rattle.sector_report.specs.declared.dump_lines.Passed.{Passed}
 use Rattle.sector_report.specs.declared.naming.Naming.TheVariants.{ByCaptureAndClock}
 use Rattle.track_shelf.specs.Files.{File}
-use Rattle.turn_merge.specs.Others.{NotedOther, others_over}
+use Rattle.turn_merge.specs.Others.{NotedOther, has_data, has_untold, others_over}
 use Rattle.turn_merge.specs.Readings.{NotedReading, verdict}
 use Rattle.turn_merge.specs.declared.others.OtherTold.{OtherTold}
 use Rattle.law_read_dumps.specs.Said.{streams_on}
-use Rattle.law_read_dumps.specs.Lines.{IsOtherLine, IsPassedLine, line_number, lines_on, passed_on}
-use Rattle.law_read_dumps.proofs.Lines.{Tells, has_line, tells-append, tells-each, tells-map, tells-nil, tells-range}
+use Rattle.law_read_dumps.specs.Lines.{IsOtherLine, IsPassedLine, IsTracesLine, IsUntoldLine, has_traces, line_number, lines_on, other_lines_of, passed_on}
+use Rattle.law_read_dumps.proofs.Lines.{Tells, has_line, tells-append, tells-each, tells-if, tells-map, tells-nil, tells-range}
 use Rattle.law_read_dumps.proofs.Streams.{same_stream}
 
 -- what the crates below promise
@@ -62,7 +62,7 @@ pub record IsOnDisk (format : Format) (many : ℕ) (before : ℕ → ℕ) (line_
 
 -- the line stands beside those of the sectors
 abbrev pub IsBeside : DumpDisk → List File → (others : List (List NotedOther)) → List ℕ → Type 0
-IsBeside disk files others line = IsPassedLine disk files line ⊎ IsOtherLine disk others line
+IsBeside disk files others line = IsPassedLine disk files line ⊎ IsOtherLine disk others line ⊎ IsUntoldLine disk others line ⊎ IsTracesLine disk others line
 
 -- streams that are the same are passed over alike
 passed-same : (a b : Streams) (n count : ℕ) → ((q : ℕ) → q < count → a n q ≡ b n q) → (k : ℕ) → k ≤ count → passed_to a n k ≡ passed_to b n k
@@ -143,7 +143,7 @@ module _ (laws : Laws) (disk : DumpDisk) (files : List File) (o : DumpsRead) (is
     told = others_over at.others
 
     abbrev others : List ℕ
-    others = other_lines (track_at format n) told
+    others = other_lines (track_at format n) told (has_untold at.others)
 
     sector_lines : List ℕ
     sector_lines = flat_map sector_line (range_with_len (row format).first_sector (count_of n))
@@ -164,12 +164,9 @@ module _ (laws : Laws) (disk : DumpDisk) (files : List File) (o : DumpsRead) (is
         one_others_to laws.rules (plan_of disk) format came n (length disk.dumps) at.others (get_or is.others n []) at.others_are
         (is.all.others_are n (omega (arith, low, is.all.many, is.all.many_others)))
 
-    told_there : (name : OtherTold) → Contains told name → Contains (others_over (get_or is.others n [])) name
-    told_there name has = subst (λ (os : List NotedOther). Contains (others_over os) name) others_same has
-
-    lines_many : length streams_passed + (count_of n + length told) ≡ lines_on disk files is.others n
+    lines_many : length streams_passed + (count_of n + other_lines_of at.others) ≡ lines_on disk files is.others n
     lines_many =
-        let same : length told ≡ length (others_over (get_or is.others n [])) = ap (λ (os : List NotedOther). length (others_over os)) others_same in
+        let same : other_lines_of at.others ≡ other_lines_of (get_or is.others n []) = ap other_lines_of others_same in
         omega (arith, passed_many, same)
 
     one_line : (sector : ℕ) → IsOneLine (sector_line sector)
@@ -198,12 +195,68 @@ module _ (laws : Laws) (disk : DumpDisk) (files : List File) (o : DumpsRead) (is
         tells-each (IsBeside disk files is.others) (passed_line_of (track_at format n)) (λ (s : PassedStream). laws.dump_lines.passed (track_at format n) s.capture s.why)
         streams_passed (each_passed (length disk.dumps) (omega arith))
 
-    others_tell : Tells (λ number line. IsBeside disk files is.others line) others (length told)
-    others_tell =
+    -- the lines of others: of names with whole data, of those that are not told, and of those without
+    abbrev Beside : ℕ → List ℕ → Type 0
+    Beside number line = IsBeside disk files is.others line
+
+    abbrev DataLine : OtherTold → Type 0
+    DataLine t = IsBeside disk files is.others (other_text ByCaptureAndClock (track_at format n) t)
+
+    data_line : (os : List NotedOther) → os ≡ get_or is.others n [] → (t : OtherTold) → Contains (others_over os) t → has_data t ≡ true → DataLine t
+    data_line os same t has whole =
+        inr (inl (record {
+          n = n;
+          low = omega (arith, low, is.all.many);
+          name = t;
+          has = subst (λ (all : List NotedOther). Contains (others_over all) t) same has;
+          whole = whole;
+          line_is = refl;
+        }))
+
+    each_data : Each DataLine (filter has_data told)
+    each_data =
+        each-map (λ (t : OtherTold). Contains told t × (has_data t ≡ true)) DataLine (λ t both. data_line at.others others_same t both.0 both.1) (filter has_data told)
+        (each-filter has_data (λ (t : OtherTold). Contains told t) told (each-of (λ (t : OtherTold). Contains told t) told (λ t has. has)))
+
+    data_tell : Tells Beside (data_lines (track_at format n) told) (length (filter has_data told))
+    data_tell =
         tells-each (IsBeside disk files is.others) (other_text ByCaptureAndClock (track_at format n))
-        (λ (t : OtherTold). laws.dump_lines.other ByCaptureAndClock (track_at format n) t) told
-        (each-of (λ (t : OtherTold). IsBeside disk files is.others (other_text ByCaptureAndClock (track_at format n) t)) told
-        (λ t has. inr (record { n = n; low = omega (arith, low, is.all.many); name = t; has = told_there t has; line_is = refl })))
+        (λ (t : OtherTold). laws.dump_lines.other ByCaptureAndClock (track_at format n) t) (filter has_data told) each_data
+
+    untold_tells : Tells Beside (untold_lines (track_at format n) (has_untold at.others)) (cond (has_untold at.others) 1 0)
+    untold_tells =
+        tells-if (IsBeside disk files is.others) (has_untold at.others) (untold_text (track_at format n)) (laws.dump_lines.untold (track_at format n))
+        (λ wanted.
+        inr (inr (inl (record {
+          n = n;
+          low = omega (arith, low, is.all.many);
+          untold = subst (λ (os : List NotedOther). has_untold os ≡ true) others_same wanted;
+          line_is = refl;
+        }))))
+
+    traces_tell : Tells Beside (traces_lines (track_at format n) told) (cond (has_traces at.others) 1 0)
+    traces_tell =
+        tells-if (IsBeside disk files is.others) (has_traces at.others) (traces_text (track_at format n) (trace_count told))
+        (laws.dump_lines.traces (track_at format n) (trace_count told))
+        (λ wanted.
+        inr (inr (inr (record {
+          n = n;
+          low = omega (arith, low, is.all.many);
+          some = subst (λ (os : List NotedOther). has_traces os ≡ true) others_same wanted;
+          line_is = ap (λ (os : List NotedOther). traces_text (track_at format n) (trace_count (others_over os))) others_same;
+        }))))
+
+    others_tell : Tells Beside others (other_lines_of at.others)
+    others_tell =
+        let first : ℕ = length (filter has_data told) in
+        let second : ℕ = cond (has_untold at.others) 1 0 in
+        let third : ℕ = cond (has_traces at.others) 1 0 in
+        let many = length-filter has_data told in
+        let all : first + (second + third) ≡ other_lines_of at.others = omega (arith, many) in
+        subst (Tells Beside others) all
+        (tells-append Beside (data_lines (track_at format n) told) (untold_lines (track_at format n) (has_untold at.others) ++ traces_lines (track_at format n) told) first (second + third)
+        data_tell
+        (tells-append Beside (untold_lines (track_at format n) (has_untold at.others)) (traces_lines (track_at format n) told) second third untold_tells traces_tell))
 
     sectors_tell : Tells (λ m line. OnTrack (length streams_passed + m) line) sector_lines (count_of n)
     unfolding sector_lines
@@ -219,10 +272,10 @@ module _ (laws : Laws) (disk : DumpDisk) (files : List File) (o : DumpsRead) (is
         let behind : ℕ → List ℕ → Type 0 = λ m line. OnTrack (i + m) line in
         subst (λ (text : List ℕ). Tells OnTrack text (lines_on disk files is.others n)) (sym lines_are)
         (subst (Tells OnTrack (passed ++ (sector_lines ++ others))) lines_many
-        (tells-append OnTrack passed (sector_lines ++ others) i (count_of n + length told)
+        (tells-append OnTrack passed (sector_lines ++ others) i (count_of n + other_lines_of at.others)
         (tells-map (λ m line. IsBeside disk files is.others line) OnTrack passed i (λ m line below other. inr other) passed_tell)
-        (tells-append behind sector_lines others (count_of n) (length told) sectors_tell
-        (tells-map (λ m line. IsBeside disk files is.others line) (λ m line. behind (count_of n + m) line) others (length told) (λ m line below other. inr other) others_tell))))
+        (tells-append behind sector_lines others (count_of n) (other_lines_of at.others) sectors_tell
+        (tells-map (λ m line. IsBeside disk files is.others line) (λ m line. behind (count_of n + m) line) others (other_lines_of at.others) (λ m line below other. inr other) others_tell))))
 
   abbrev pub OnDisk : ℕ → List ℕ → Type 0
   OnDisk number line = IsOnDisk format (length is.parts) first_line sector_line number line ⊎ IsBeside disk files is.others line

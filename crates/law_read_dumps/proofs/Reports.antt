@@ -3,13 +3,13 @@ use Rattle.std.specs.Prelude.{◌≡◌, ◌≤◌, ◌<◌, ◌⊎◌, ℕ, zer
 use Rattle.std.proofs.Common.{ap, sym, subst, ◌∙◌, arith, append-nil, inl, inr}
 use Rattle.std.proofs.Math.Seq.{take-length}
 use Rattle.std.proofs.lemmas.Bool.{cases_lt}
-use Rattle.dump_reading.specs.Outcomes.{DumpDisk, DumpsRead, IsDumpsRead, numbers_of, plan_of}
-use Rattle.dump_reading.specs.Reports.{end_text, read_part}
+use Rattle.dump_reading.specs.Outcomes.{DumpDisk, DumpsRead, IsDumpsRead, numbers_of}
+use Rattle.dump_reading.specs.Reports.{end_text}
 use Rattle.dump_reading.specs.declared.totals.DumpTotals.{DumpTotals}
 use Rattle.flux_engine.specs.DiskLaws.{HasLine, lines_in}
 use Rattle.flux_engine.specs.Disks.{lines}
 use Rattle.flux_engine.specs.PlanLaws.{ReadingsInPlansAreOne}
-use Rattle.flux_engine.specs.Plans.{AreCaptures, joined}
+use Rattle.flux_engine.specs.Plans.{joined}
 use Rattle.flux_engine.specs.Recordings.{track_at}
 use Rattle.flux_engine.specs.Tracks.{TrackPart}
 use Rattle.flux_engine.specs.lemmas.ReadLaws.{some_same}
@@ -20,12 +20,12 @@ use Rattle.sector_report.specs.Lines.{named_text, total_text}
 use Rattle.sector_report.specs.declared.naming.Naming.TheVariants.{ByCaptureAndClock}
 use Rattle.track_shelf.specs.Files.{File}
 use Rattle.turn_merge.specs.Readings.{NotedReading, verdict}
-use Rattle.law_read_dumps.specs.Lines.{IsEndLine, IsLineOfReport, IsSectorLine, LinesAreKnown, PassedStreamsAreSaid, ReportsHaveNoOtherLines, SectorsHaveTheirNumbers, line_number}
-use Rattle.law_read_dumps.specs.Said.{EachIsSaid, IsSaid, streams_on}
+use Rattle.law_read_dumps.specs.Lines.{HasNoOtherLines, IsEndLine, IsLineOfReport, IsSectorLine, LinesAreKnown, PassedStreamsAreSaid, ReportsHaveNoOtherLines, SectorsHaveTheirNumbers, line_number, traced_count}
+use Rattle.law_read_dumps.specs.Said.{EachIsSaid, IsSaid}
 use Rattle.law_read_dumps.proofs.Counts.{lines_counted}
 use Rattle.law_read_dumps.proofs.Lines.{Tells, tells-append, tells-line, tells-map}
 use Rattle.law_read_dumps.proofs.ReportLines.{IsOnDisk, OnDisk, first_line, front_tells, lines_before, sector_has_line, sector_line, stream_has_line, Laws as LineLaws}
-use Rattle.law_read_dumps.proofs.Streams.{same_captures}
+use Rattle.law_read_dumps.proofs.Streams.{captures_are}
 
 -- what the crates below promise, and the law before
 pub record Laws : Type 0 where
@@ -79,26 +79,18 @@ module _ (laws : Laws) (disk : DumpDisk) (files : List File) (o : DumpsRead) (is
       let split : (all + 2) + m ≡ number = omega (arith, past) in
       past-all m front (sym (notes_tell.skips.skips [] m) ∙ ap (slice_get (lines_in (o.notes ++ []))) split ∙ at)
 
-  count : line_ends o.notes ≡ o.totals.unread + o.totals.sectors.sectors + o.totals.others + 2
+  count : HasNoOtherLines o is.others
   count =
-      let counted : all ≡ totals.unread + totals.sectors.sectors + totals.others = lines_counted laws.lines disk files o is in
+      let counted : all ≡ totals.unread + totals.sectors.sectors + totals.whole + traced_count is.others = lines_counted laws.lines disk files o is in
       notes_tell.skips.ends ∙ ap (λ (k : ℕ). k + 2) counted
-      ∙ sym (ap (λ (d : DumpsRead). d.totals.unread + d.totals.sectors.sectors + d.totals.others + 2) is.is)
-
-  -- whatever list has all readings of each stream
-  captures_same : (n sector : ℕ) (low : n < length is.parts) (said : IsSaid disk files o n sector) → said.captures ≡ (is.all.read.each n low).captures
-  captures_same n sector low said =
-      let captures : List (List NotedReading) = (is.all.read.each n low).captures in
-      let are : AreCaptures (plan_of disk) disk.format (streams_on disk files) n captures =
-      same_captures read_part disk files is.streams is.parts is.all.read n low captures (is.all.read.each n low).many (is.all.read.each n low).each in
-      laws.readings (plan_of disk) disk.format (streams_on disk files) n said.captures captures said.each are (said.many ∙ sym (is.all.read.each n low).many)
+      ∙ sym (ap (λ (d : DumpsRead). d.totals.unread + d.totals.sectors.sectors + d.totals.whole + traced_count is.others + 2) is.is)
 
   numbered : (n sector : ℕ) → IsSectorOf disk.format n sector → (said : IsSaid disk files o n sector)
       → HasLine o.notes (named_text ByCaptureAndClock (track_at disk.format n) sector (verdict (joined said.captures) sector)) (line_number disk files is.others n sector)
   numbered n sector one said =
       let low : n < length is.parts = omega (arith, one.track, is.all.many) in
       subst (λ (cs : List (List NotedReading)). HasLine o.notes (named_text ByCaptureAndClock (track_at disk.format n) sector (verdict (joined cs) sector)) (line_number disk files is.others n sector))
-      (sym (captures_same n sector low said)) (sector_has_line laws.lines disk files o is n low sector one)
+      (sym (captures_are laws.readings disk files o is n sector low said)) (sector_has_line laws.lines disk files o is n low sector one)
 
   module _ (number : ℕ) where
     of_sector : (line : List ℕ) → IsOnDisk disk.format (length is.parts) (first_line laws.lines disk files o is) (sector_line laws.lines disk files o is) number line
@@ -114,15 +106,17 @@ module _ (laws : Laws) (disk : DumpDisk) (files : List File) (o : DumpsRead) (is
           line_is =
               s.line_is
               ∙ sym (ap (λ (cs : List (List NotedReading)). named_text ByCaptureAndClock (track_at disk.format s.n) s.sector (verdict (joined cs) s.sector))
-              (captures_same s.n s.sector s.low said));
+              (captures_are laws.readings disk files o is s.n s.sector s.low said));
           number_is = s.number_is;
         }
 
     line_here : (line : List ℕ) → Here number line → IsLineOfReport disk files o is.others number line
     line_here line (inl (inl s)) = inl (of_sector line s)
     line_here line (inl (inr (inl passed))) = inr (inl passed)
-    line_here line (inl (inr (inr other))) = inr (inr (inl other))
-    line_here line (inr end) = inr (inr (inr (subst (λ (t : DumpTotals). IsEndLine t line) (sym (ap (λ (d : DumpsRead). d.totals) is.is)) end)))
+    line_here line (inl (inr (inr (inl other)))) = inr (inr (inl other))
+    line_here line (inl (inr (inr (inr (inl untold))))) = inr (inr (inr (inl untold)))
+    line_here line (inl (inr (inr (inr (inr traces))))) = inr (inr (inr (inr (inl traces))))
+    line_here line (inr end) = inr (inr (inr (inr (inr (subst (λ (t : DumpTotals). IsEndLine t line) (sym (ap (λ (d : DumpsRead). d.totals) is.is)) end)))))
 
     known : (line : List ℕ) → HasLine o.notes line number → IsLineOfReport disk files o is.others number line ⊎ ((line ≡ 10 ∷ []) × (line_ends o.notes ≤ number))
     known line h =

@@ -4,7 +4,8 @@ use Rattle.std.proofs.Common.{ap, sym, subst, ◌∙◌, arith}
 use Rattle.std.proofs.Math.Nat.{div-lt_iff_lt-mul, mod-lt, mul_comm}
 use Rattle.std.proofs.lemmas.List.{ext_get_or}
 use Rattle.std.proofs.lemmas.Nat.{div-add-mod', mul-add-lt}
-use Rattle.dump_reading.specs.Outcomes.{AreTracksBy, DumpDisk, DumpsRead, IsReadBy, numbers_of, plan_of}
+use Rattle.dump_reading.specs.Outcomes.{AreTracksBy, DumpDisk, DumpsRead, IsDumpsRead, IsReadBy, numbers_of, plan_of}
+use Rattle.dump_reading.specs.Reports.{read_part}
 use Rattle.dump_reading.specs.declared.totals.DumpTotals.{DumpTotals}
 use Rattle.flux_engine.specs.Captured.{AreReadingsOf}
 use Rattle.flux_engine.specs.Counts.{AreOthersOver}
@@ -20,7 +21,7 @@ use Rattle.sector_images.specs.declared.format.Format.{Format}
 use Rattle.track_shelf.specs.Files.{File}
 use Rattle.turn_merge.specs.Others.{NotedOther}
 use Rattle.turn_merge.specs.Readings.{NotedReading}
-use Rattle.law_read_dumps.specs.Said.{AllOfDumpsIsOne, streams_on}
+use Rattle.law_read_dumps.specs.Said.{AllOfDumpsIsOne, IsSaid, streams_on}
 
 abbrev pub none_seen : Seen
 none_seen = record { fault = None; passed = None; times = []; indexes = [] }
@@ -104,3 +105,11 @@ module _ (read : RulesAreRead) where
 
 pub all_is_one : RulesAreRead → ReadingsInPlansAreOne → AllOfDumpsIsOne
 all_is_one read one of whole disk files a b p q = one_read read one of whole disk files a b p q
+
+-- whatever list has all readings of each stream of a track
+pub captures_are : ReadingsInPlansAreOne → (disk : DumpDisk) (files : List File) (o : DumpsRead) (is : IsDumpsRead disk (Some files) o) (n sector : ℕ) (low : n < length is.parts)
+    (said : IsSaid disk files o n sector) → said.captures ≡ (is.all.read.each n low).captures
+captures_are one disk files o is n sector low said =
+    let at = is.all.read.each n low in
+    let are : AreCaptures (plan_of disk) disk.format (streams_on disk files) n at.captures = same_captures read_part disk files is.streams is.parts is.all.read n low at.captures at.many at.each in
+    one (plan_of disk) disk.format (streams_on disk files) n said.captures at.captures said.each are (said.many ∙ sym at.many)

@@ -1,21 +1,23 @@
 -- The lines of a report of dumps: at which number each sector's stands, what each line is, and how many there are.
-use Rattle.std.specs.Prelude.{◌≡◌, ◌≤◌, ◌<◌, ◌⊎◌, ℕ, ◌+◌, ◌-◌, Contains, List, [], ◌∷◌, get_or, length, sum_by, Some}
+use Rattle.std.specs.Prelude.{◌≡◌, ◌≤◌, ◌<◌, ◌⊎◌, IsTrue, ℕ, ◌+◌, ◌-◌, Bool, cond, Contains, List, [], ◌∷◌, count_by, get_or, length, nat_lt, sum_by, Some}
 use Rattle.std.specs.List.{range_with_len}
 use Rattle.dump_reading.specs.Outcomes.{DumpDisk, DumpsRead, IsDumpsRead}
+use Rattle.dump_reading.specs.Reports.{trace_count}
 use Rattle.dump_reading.specs.declared.totals.DumpTotals.{DumpTotals}
+use Rattle.flux_engine.specs.Counts.{whole_names_of}
 use Rattle.flux_engine.specs.DiskLaws.{HasLine}
 use Rattle.flux_engine.specs.Plans.{joined, passed_to}
 use Rattle.flux_engine.specs.Recordings.{sectors_of, track_at}
 use Rattle.law_captured_disks.specs.Headline.{IsSectorOf}
 use Rattle.sector_images.specs.Formats.{row}
 use Rattle.sector_images.specs.Places.{tracks}
-use Rattle.sector_report.specs.DumpLines.{other_text, passed_text, unread_text}
+use Rattle.sector_report.specs.DumpLines.{other_text, passed_text, traces_text, unread_text, untold_text}
 use Rattle.sector_report.specs.LineLaws.{line_ends}
 use Rattle.sector_report.specs.Lines.{named_text, total_text}
 use Rattle.sector_report.specs.declared.dump_lines.Passed.{Passed}
 use Rattle.sector_report.specs.declared.naming.Naming.TheVariants.{ByCaptureAndClock}
 use Rattle.track_shelf.specs.Files.{File}
-use Rattle.turn_merge.specs.Others.{NotedOther, others_over}
+use Rattle.turn_merge.specs.Others.{NotedOther, has_data, has_untold, others_over}
 use Rattle.turn_merge.specs.Readings.{verdict}
 use Rattle.turn_merge.specs.declared.others.OtherTold.{OtherTold}
 use Rattle.law_read_dumps.specs.Said.{IsSaid, streams_on}
@@ -24,11 +26,19 @@ use Rattle.law_read_dumps.specs.Said.{IsSaid, streams_on}
 abbrev pub passed_on : DumpDisk → List File → ℕ → ℕ
 passed_on disk files n = length (passed_to (streams_on disk files) n (length disk.dumps))
 
--- How many lines track number n has: one for each stream that is passed over, one for each sector, and one for each name that is told of
--- its others.
+-- a name of a track's others is told that has no whole data
+abbrev pub has_traces : List NotedOther → Bool
+has_traces others = nat_lt 0 (trace_count (others_over others))
+
+-- How many lines tell of a track's others: one for each name that is told and has whole data, one where such data follow a name that is not
+-- told, and one where a name that is told has none.
+abbrev pub other_lines_of : List NotedOther → ℕ
+other_lines_of others = whole_names_of (others_over others) (has_untold others) + cond (has_traces others) 1 0
+
+-- How many lines track number n has: one for each stream that is passed over, one for each sector, and those of its others.
 abbrev pub lines_on : DumpDisk → List File → (others : List (List NotedOther)) → ℕ → ℕ
 lines_on disk files others n =
-    passed_on disk files n + (sectors_of disk.format (track_at disk.format n)).count + length (others_over (get_or others n []))
+    passed_on disk files n + (sectors_of disk.format (track_at disk.format n)).count + other_lines_of (get_or others n [])
 
 -- the lines before that of a sector of track number n: those of all tracks before it, those of the track's streams that are passed over,
 -- and those of the track's sectors of smaller numbers
@@ -52,11 +62,18 @@ ArePassedSaid disk files o = (n dump : ℕ) (why : Passed) → n < length (track
 abbrev pub PassedStreamsAreSaid : Type 0
 PassedStreamsAreSaid = (disk : DumpDisk) (files : List File) (o : DumpsRead) → IsDumpsRead disk (Some files) o → ArePassedSaid disk files o
 
--- A report has a line for each stream that is passed over, one for each sector, one for each name of others that is told, and the two with
--- the totals. It has no other.
+-- on how many tracks a name of others is told that has no whole data
+abbrev pub traced_count : List (List NotedOther) → ℕ
+traced_count tracks = count_by has_traces tracks
+
+-- As many lines as there are streams that are passed over, sectors, and names of others that have whole data, those of a track that are not
+-- told as one; one more for each track with a name that has none, and the two with the totals.
+abbrev pub HasNoOtherLines : DumpsRead → (others : List (List NotedOther)) → Type 0
+HasNoOtherLines o others = line_ends o.notes ≡ o.totals.unread + o.totals.sectors.sectors + o.totals.whole + traced_count others + 2
+
+-- a report has so many, and no other
 abbrev pub ReportsHaveNoOtherLines : Type 0
-ReportsHaveNoOtherLines = (disk : DumpDisk) (files : List File) (o : DumpsRead) → IsDumpsRead disk (Some files) o
-    → line_ends o.notes ≡ o.totals.unread + o.totals.sectors.sectors + o.totals.others + 2
+ReportsHaveNoOtherLines = (disk : DumpDisk) (files : List File) (o : DumpsRead) (is : IsDumpsRead disk (Some files) o) → HasNoOtherLines o is.others
 
 -- the line is that of a sector of the disk, with the verdict over all readings of its track, and stands at its number
 pub record IsSectorLine (disk : DumpDisk) (files : List File) (o : DumpsRead) (others : List (List NotedOther)) (number : ℕ) (line : List ℕ) : Type 0 where
@@ -77,13 +94,28 @@ pub record IsPassedLine (disk : DumpDisk) (files : List File) (line : List ℕ) 
   pub is : (streams_on disk files n dump).passed ≡ Some why
   pub line_is : line ≡ passed_text (track_at disk.format n) dump why
 
--- it is that of a name which is told of the others of a track of the disk
+-- it is that of a name of others of a track of the disk which is told and has whole data
 pub record IsOtherLine (disk : DumpDisk) (others : List (List NotedOther)) (line : List ℕ) : Type 0 where
   pub n : ℕ
   pub low : n < length (tracks disk.format)
   pub name : OtherTold
   pub has : Contains (others_over (get_or others n [])) name
+  pub whole : IsTrue (has_data name)
   pub line_is : line ≡ other_text ByCaptureAndClock (track_at disk.format n) name
+
+-- it tells that whole data stand after a name of others of a track of the disk which is not told
+pub record IsUntoldLine (disk : DumpDisk) (others : List (List NotedOther)) (line : List ℕ) : Type 0 where
+  pub n : ℕ
+  pub low : n < length (tracks disk.format)
+  pub untold : IsTrue (has_untold (get_or others n []))
+  pub line_is : line ≡ untold_text (track_at disk.format n)
+
+-- it tells how many names of others of a track of the disk are told that have no whole data
+pub record IsTracesLine (disk : DumpDisk) (others : List (List NotedOther)) (line : List ℕ) : Type 0 where
+  pub n : ℕ
+  pub low : n < length (tracks disk.format)
+  pub some : IsTrue (has_traces (get_or others n []))
+  pub line_is : line ≡ traces_text (track_at disk.format n) (trace_count (others_over (get_or others n [])))
 
 -- it is one of the two at the end
 abbrev pub IsEndLine : DumpTotals → (line : List ℕ) → Type 0
@@ -91,7 +123,8 @@ IsEndLine totals line = (line ≡ unread_text totals.unread totals.others totals
 
 abbrev pub IsLineOfReport : DumpDisk → List File → DumpsRead → (others : List (List NotedOther)) → (number : ℕ) → (line : List ℕ) → Type 0
 IsLineOfReport disk files o others number line =
-    IsSectorLine disk files o others number line ⊎ IsPassedLine disk files line ⊎ IsOtherLine disk others line ⊎ IsEndLine o.totals line
+    IsSectorLine disk files o others number line ⊎ IsPassedLine disk files line
+    ⊎ IsOtherLine disk others line ⊎ IsUntoldLine disk others line ⊎ IsTracesLine disk others line ⊎ IsEndLine o.totals line
 
 -- each line of a report is one of these; behind the end of the last one there is but the empty text
 abbrev pub LinesAreKnown : Type 0

@@ -1,11 +1,13 @@
 //! What dumps come to that are read together.
 
+ghost use Rattle.law_read_dumps.specs.Complete.{CompleteIsAll};
 ghost use Rattle.law_read_dumps.specs.Lines.{LinesAreKnown, PassedStreamsAreSaid, ReportsHaveNoOtherLines, SectorsHaveTheirNumbers};
 ghost use Rattle.law_read_dumps.specs.Said.{AllOfDumpsIsOne, DumpsAreOne, EachIsSaid, GoodStaysOrIsContradicted, SaidIsRight};
 
 use flux_engine::{plans_are_right, rules_are_read};
 use law_captured_plans::planned_sectors_are_said;
 use sector_report::{dumps_have_lines, sectors_have_one_line, totals_have_one_line};
+use turn_merge::data_are_known;
 
 /// The files on the shelf decide what dumps come to.
 pub fn dumps_are_one()
@@ -40,8 +42,8 @@ pub fn dumps_say_each_sector()
 
 /// In the report each sector's line stands at its number: behind those of all tracks before its own, of the streams of its track that are
 /// passed over, and of the track's sectors of smaller numbers. Each stream that is passed over has its line too. Each line is a sector's
-/// at its number, such a stream's, that of a name which is told of a track's others, or one of the two at the end; and there are as many
-/// lines as the numbers of the report say.
+/// at its number, such a stream's, that of a name of a track's others that has whole data, one that tells of data after a name that is not told or of
+/// names without data, or one of the two at the end; and there are as many lines as the numbers of the report say.
 pub fn dump_reports_have_lines()
     ensures numbered { SectorsHaveTheirNumbers }
     ensures passed { PassedStreamsAreSaid }
@@ -54,4 +56,15 @@ pub fn dump_reports_have_lines()
     totals_have_one_line();
     dumps_have_lines();
     rules_are_read()
+}
+
+/// The numbers call dumps complete exactly where each sector is good over all that was read of its track, and nowhere in the cells of any
+/// stream, by any clock that was used, whole data stand after a header that names none of the track's sectors, however many such
+/// headers there are.
+pub fn complete_dumps_are_all_read()
+    ensures { CompleteIsAll }
+{
+    dumps_say_each_sector();
+    plans_are_right();
+    data_are_known()
 }

@@ -13,7 +13,7 @@ use Rattle.std.proofs.lemmas.List.Splits.{slice_split_at}
 use Rattle.flux_base.specs.declared.header_name.HeaderName.{HeaderName}
 use Rattle.flux_base.specs.declared.header_name.HeaderName.TheVariants.{Address, TrackSector, TrackSectorSide}
 use Rattle.flux_base.specs.declared.track.TrackId.{TrackId}
-use Rattle.sector_report.specs.DumpLines.{dump_name, name_text, other_text, passed_text, unread_text}
+use Rattle.sector_report.specs.DumpLines.{dump_name, name_text, other_text, passed_text, traces_text, unread_text, untold_text}
 use Rattle.sector_report.specs.LineLaws.{LineFits}
 use Rattle.sector_report.specs.Lines.{fault_text, named_text, place_text, sector_name, total_text, two_digits, verdict_text}
 use Rattle.kryo_stream.specs.declared.fault.StreamFault.{StreamFault}
@@ -93,6 +93,16 @@ word-unread =
 word-total : IsWord (codes "total")
 word-total =
     word-cons 116 (codes "otal") refl (word-cons 111 (codes "tal") refl (word-cons 116 (codes "al") refl (word-cons 97 (codes "l") refl (word-cons 108 [] refl word-end))))
+
+word-others : IsWord (codes "others")
+word-others =
+    word-cons 111 (codes "thers") refl (word-cons 116 (codes "hers") refl (word-cons 104 (codes "ers") refl (word-cons 101 (codes "rs") refl
+    (word-cons 114 (codes "s") refl (word-cons 115 [] refl word-end)))))
+
+word-traces : IsWord (codes "traces")
+word-traces =
+    word-cons 116 (codes "races") refl (word-cons 114 (codes "aces") refl (word-cons 97 (codes "ces") refl (word-cons 99 (codes "es") refl
+    (word-cons 101 (codes "s") refl (word-cons 115 [] refl word-end)))))
 
 word-other : IsWord (codes "other")
 word-other =
@@ -271,6 +281,35 @@ other_no_sector naming track told = other_word (codes "other") (other_text namin
 
 pub other_no_passed : (naming : Naming) (track : TrackId) (told : OtherTold) → IsNoPassed (other_text naming track told)
 other_no_passed naming track told = other_than_dump (other_text naming track told) 114 (ap last_of (other_second naming track told)) (inr (lit< tt))
+
+-- that others are not told, and how many names have no data
+untold_shape : (c h : List ℕ) → c ++ codes "." ++ h ++ codes " others not told" ++ codes "\n" ≡ (c ++ codes "." ++ h) ++ 32 ∷ (codes "others" ++ 32 ∷ codes "not told\n")
+untold_shape c h = simp append_assoc
+
+untold_second : (track : TrackId) → second_word (untold_text track) ≡ codes "others"
+unfolding untold_text
+untold_second track =
+    ap second_word (untold_shape (two_digits track.cylinder) (decimal track.head)) ∙ behind_name track (codes "others") (codes "not told\n") word-others
+
+pub untold_no_sector : (track : TrackId) → IsNoSector (untold_text track)
+untold_no_sector track = other_word (codes "others") (untold_text track) (untold_second track) (lit< tt)
+
+pub untold_no_passed : (track : TrackId) → IsNoPassed (untold_text track)
+untold_no_passed track = other_than_dump (untold_text track) 115 (ap last_of (untold_second track)) (inr (lit< tt))
+
+traces_shape : (c h count : List ℕ) → c ++ codes "." ++ h ++ codes " traces " ++ count ++ codes "\n" ≡ (c ++ codes "." ++ h) ++ 32 ∷ (codes "traces" ++ 32 ∷ (count ++ codes "\n"))
+traces_shape c h count = simp append_assoc
+
+traces_second : (track : TrackId) (count : ℕ) → second_word (traces_text track count) ≡ codes "traces"
+unfolding traces_text
+traces_second track count =
+    ap second_word (traces_shape (two_digits track.cylinder) (decimal track.head) (decimal count)) ∙ behind_name track (codes "traces") (decimal count ++ codes "\n") word-traces
+
+pub traces_no_sector : (track : TrackId) (count : ℕ) → IsNoSector (traces_text track count)
+traces_no_sector track count = other_word (codes "traces") (traces_text track count) (traces_second track count) (lit< tt)
+
+pub traces_no_passed : (track : TrackId) (count : ℕ) → IsNoPassed (traces_text track count)
+traces_no_passed track count = other_than_dump (traces_text track count) 115 (ap last_of (traces_second track count)) (inr (lit< tt))
 
 -- a sector's line begins with a digit
 two-is : (n : ℕ) → n < 100 → two_digits n ≡ (48 + n / 10) ∷ (48 + n % 10) ∷ []

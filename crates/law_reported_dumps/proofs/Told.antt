@@ -1,7 +1,8 @@
 -- What the lines of a report of dumps tell.
-use Rattle.std.specs.Prelude.{◌≡◌, ◌≤◌, ◌<◌, ℕ, List, length, Some}
+use Rattle.std.specs.Prelude.{◌≡◌, ◌≤◌, ◌<◌, ℕ, List, [], get_or, length, Some}
 use Rattle.std.proofs.Common.{ap, sym, subst, ◌∙◌, arith, inl, inr}
 use Rattle.dump_reading.specs.Outcomes.{DumpDisk, DumpsRead, IsDumpsRead, plan_of}
+use Rattle.dump_reading.specs.Reports.{trace_count}
 use Rattle.flux_base.specs.declared.track.TrackId.{TrackId}
 use Rattle.flux_engine.specs.DiskLaws.{HasLine}
 use Rattle.flux_engine.specs.PlanLaws.{ReadingsInPlansAreOne}
@@ -18,11 +19,12 @@ use Rattle.sector_report.specs.declared.dump_lines.Passed.{Passed}
 use Rattle.sector_report.specs.declared.dump_lines.Passed.TheVariants.{Absent}
 use Rattle.sector_report.specs.declared.naming.Naming.TheVariants.{ByCaptureAndClock}
 use Rattle.track_shelf.specs.Files.{File}
+use Rattle.turn_merge.specs.Others.{others_over}
 use Rattle.turn_merge.specs.Readings.{NotedReading, verdict}
 use Rattle.turn_merge.specs.declared.verdict.Verdict.{Verdict}
 use Rattle.law_reported_dumps.specs.Told.{IsPassedTold, IsTold, LinesTell, NoSectorIsToldTwice, PassedLinesAreTold}
 use Rattle.law_reported_dumps.proofs.Bounds.{line_fits, Laws as BoundLaws}
-use Rattle.law_reported_dumps.proofs.OtherLines.{absent_same, end_no_passed, end_no_sector, missing_is_missing, other_no_passed, other_no_sector, passed_no_sector, sector_no_passed, total_no_passed, unread_no_passed, unread_no_sector}
+use Rattle.law_reported_dumps.proofs.OtherLines.{absent_same, end_no_passed, end_no_sector, missing_is_missing, other_no_passed, other_no_sector, passed_no_sector, sector_no_passed, total_no_passed, traces_no_passed, traces_no_sector, unread_no_passed, unread_no_sector, untold_no_passed, untold_no_sector}
 use Rattle.law_reported_dumps.proofs.TrackNumbers.{one_number, Laws as TrackLaws}
 
 -- what the crates below promise
@@ -53,8 +55,11 @@ module _ (laws : Laws) (disk : DumpDisk) (files : List File) (o : DumpsRead) (is
     told_by (inl s) = of_sector s
     told_by (inr (inl p)) = absurd (passed_no_sector (track_at disk.format p.n) p.dump p.why ByCaptureAndClock track sector outcome fits p.line_is)
     told_by (inr (inr (inl other))) = absurd (other_no_sector ByCaptureAndClock (track_at disk.format other.n) other.name ByCaptureAndClock track sector outcome fits other.line_is)
-    told_by (inr (inr (inr (inl unread)))) = absurd (unread_no_sector o.totals.unread o.totals.others o.totals.whole ByCaptureAndClock track sector outcome fits unread)
-    told_by (inr (inr (inr (inr total)))) = absurd (laws.no_total ByCaptureAndClock o.totals.sectors track sector outcome fits total)
+    told_by (inr (inr (inr (inl untold)))) = absurd (untold_no_sector (track_at disk.format untold.n) ByCaptureAndClock track sector outcome fits untold.line_is)
+    told_by (inr (inr (inr (inr (inl traces))))) =
+        absurd (traces_no_sector (track_at disk.format traces.n) (trace_count (others_over (get_or is.others traces.n []))) ByCaptureAndClock track sector outcome fits traces.line_is)
+    told_by (inr (inr (inr (inr (inr (inl unread)))))) = absurd (unread_no_sector o.totals.unread o.totals.others o.totals.whole ByCaptureAndClock track sector outcome fits unread)
+    told_by (inr (inr (inr (inr (inr (inr total)))))) = absurd (laws.no_total ByCaptureAndClock o.totals.sectors track sector outcome fits total)
 
     told : HasLine o.notes (named_text ByCaptureAndClock track sector outcome) number → IsTold disk files o is.others track sector outcome number
     told h =
@@ -109,8 +114,11 @@ module _ (laws : Laws) (disk : DumpDisk) (files : List File) (o : DumpsRead) (is
         absurd (sector_no_passed ByCaptureAndClock (track_at disk.format s.n) s.sector (verdict (joined s.said.captures) s.sector) track dump why s.line_is)
     stream_by (inr (inl p)) = of_stream p
     stream_by (inr (inr (inl other))) = absurd (other_no_passed ByCaptureAndClock (track_at disk.format other.n) other.name track dump why other.line_is)
-    stream_by (inr (inr (inr (inl unread)))) = absurd (unread_no_passed o.totals.unread o.totals.others o.totals.whole track dump why unread)
-    stream_by (inr (inr (inr (inr total)))) = absurd (total_no_passed o.totals.sectors track dump why total)
+    stream_by (inr (inr (inr (inl untold)))) = absurd (untold_no_passed (track_at disk.format untold.n) track dump why untold.line_is)
+    stream_by (inr (inr (inr (inr (inl traces))))) =
+        absurd (traces_no_passed (track_at disk.format traces.n) (trace_count (others_over (get_or is.others traces.n []))) track dump why traces.line_is)
+    stream_by (inr (inr (inr (inr (inr (inl unread)))))) = absurd (unread_no_passed o.totals.unread o.totals.others o.totals.whole track dump why unread)
+    stream_by (inr (inr (inr (inr (inr (inr total)))))) = absurd (total_no_passed o.totals.sectors track dump why total)
 
     stream_told : HasLine o.notes (passed_text track dump why) number → IsPassedTold disk files track dump why
     stream_told h =

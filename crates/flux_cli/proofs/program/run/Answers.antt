@@ -54,6 +54,7 @@ returns-clause-dumps g c =
       passed = lines.passed;
       passed_told = told.passed_told;
       count = lines.count;
+      complete = c.complete_dumps_are_all_read.ensures;
       stays = said.stays;
       whole = read.never_wrong;
       steady = read.well;
