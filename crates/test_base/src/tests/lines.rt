@@ -313,7 +313,10 @@ fn lines_of_other_headers(rt: HostRuntime) {
 fn lines_of_names_that_are_not_told(rt: HostRuntime) {
     assert_eq!(rt; untold_line(TRACK).as_str(), "07.1 others not told\n");
     assert_eq!(rt; traces_line(TRACK, 3).as_str(), "07.1 traces 3\n");
-    assert_eq!(rt; traces_line(TRACK, u64::MAX).as_str(), "07.1 traces 18446744073709551615\n");
+    assert_eq!(rt;
+        traces_line(TRACK, u64::MAX).as_str(),
+        "07.1 traces 18446744073709551615\n"
+    );
 }
 
 #[test]

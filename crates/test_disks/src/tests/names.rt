@@ -71,11 +71,7 @@ fn dump_of(rt: &impl Abort, alloc: Global, turn: &Cells) -> Result<Vec<ShelfFile
         head: 0,
     };
     let mut files = Vec::new(alloc);
-    files.push(ShelfFile::new(
-        b"a".to_vec(alloc)?,
-        track,
-        stream.bytes().to_vec(alloc)?,
-    ))?;
+    files.push(ShelfFile::new(b"a".to_vec(alloc)?, track, stream.bytes().to_vec(alloc)?))?;
     Ok(files)
 }
 
@@ -102,12 +98,7 @@ const ROWS: [Row; 6] = [
         "00.0 others not told\n00.0 traces 64\n",
         "unread 159 other 65 whole 1",
     ),
-    (
-        71,
-        false,
-        "00.0 traces 64\n",
-        "unread 159 other 64 whole 0",
-    ),
+    (71, false, "00.0 traces 64\n", "unread 159 other 64 whole 0"),
 ];
 
 /// The last line of the track's sectors, and the first one of the next track.
@@ -131,7 +122,10 @@ fn is_told(rt: &impl Abort, alloc: Global, row: Row) -> Result<(), Fail> {
     assert!(rt; answer.is_ok());
     let text = str::from_utf8(notes.bytes()).unwrap_or("");
     let track = text.split_once(BEFORE).map_or("", |(_, rest)| rest);
-    assert_eq!(rt; track.split_once(BEHIND).map_or("none", |(told, _)| told), lines);
+    assert_eq!(rt;
+        track.split_once(BEHIND).map_or("none", |(told, _)| told),
+        lines
+    );
     assert!(rt; text.contains(counts), "{counts}");
     Ok(())
 }
