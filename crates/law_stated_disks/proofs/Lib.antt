@@ -1,0 +1,6 @@
+pub mod Joined
+pub mod Lies
+pub mod Disks
+pub mod Wide
+pub mod Late
+pub mod Fit
