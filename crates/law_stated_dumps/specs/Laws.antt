@@ -1,0 +1,30 @@
+-- What dumps have of a disk's tracks is what is stated, and nothing else.
+use Rattle.std.specs.Prelude.{◌≡◌, ◌<◌, ◌⊎◌, ◌↔◌, ℕ, List, length, Some, None}
+use Rattle.dump_reading.specs.Outcomes.{DumpDisk}
+use Rattle.law_captured_dumps.specs.Inputs.{Begins, HasWhole, IsPassedOver, IsSteadyOrPassed, file_on}
+use Rattle.law_stated_dumps.specs.Dumps.{HasStream, IsFileOf, IsWholeIn, KeptItsSpeedIn, LacksFile, SaysNothing}
+use Rattle.sector_images.specs.Places.{tracks}
+use Rattle.track_shelf.specs.Files.{File}
+
+-- the file of a track in a dump, and that there is none
+pub record FilesAreStated : Type 0 where
+  pub there : (disk : DumpDisk) (files : List File) (n dump : ℕ) (file : File) → IsFileOf disk files n dump file ↔ (file_on disk files n dump ≡ Some file)
+  pub missing : (disk : DumpDisk) (files : List File) (n dump : ℕ) → LacksFile disk files n dump ↔ (file_on disk files n dump ≡ None)
+
+-- a file that begins with a stream
+abbrev pub StreamsOfFilesAreStated : Type 0
+StreamsOfFilesAreStated = (disk : DumpDisk) (files : List File) (n dump : ℕ) (stream : List ℕ) → HasStream disk files n dump stream ↔ Begins disk files n dump stream
+
+-- a dump has a sector whole exactly where the sector is whole in it
+abbrev pub WholeSectorsAreStated : Type 0
+WholeSectorsAreStated = (disk : DumpDisk) (files : List File) (image : List ℕ) (n dump sector : ℕ) → n < length (tracks disk.format)
+    → IsWholeIn disk files image n dump sector ↔ HasWhole disk files image n dump sector
+
+-- a file is passed over exactly where it is missing or damaged
+abbrev pub PassedFilesAreStated : Type 0
+PassedFilesAreStated = (disk : DumpDisk) (files : List File) (n dump : ℕ) → SaysNothing disk files n dump ↔ IsPassedOver disk files n dump
+
+-- and what is asked of the other dumps is one of these
+abbrev pub SteadyDumpsAreStated : Type 0
+SteadyDumpsAreStated = (disk : DumpDisk) (files : List File) (image : List ℕ) (n dump : ℕ) → n < length (tracks disk.format)
+    → (KeptItsSpeedIn disk files image n dump ⊎ SaysNothing disk files n dump) ↔ IsSteadyOrPassed disk files image n dump

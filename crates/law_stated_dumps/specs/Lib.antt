@@ -1,0 +1,3 @@
+pub mod Dumps
+pub mod Laws
+pub mod Reached
