@@ -1,4 +1,4 @@
-# For a newcomer: `make demo` builds the program and reads a disk with it, `make test` runs the gate.
+# For a newcomer: `make demo` builds the program and reads a disk with it, `make test` runs the gate. definitions
 PREFIX ?= /usr/local
 
 PROGRAM = crates/flux/out/flux
@@ -10,7 +10,7 @@ DEMO = out/demo
 FIRST = $(PROGRAM) read ibm-720 $(DEMO)/first
 BOTH = $(FIRST) $(DEMO)/second
 
-.PHONY: demo test check wrong dist install uninstall
+.PHONY: demo test check wrong dist install uninstall definitions
 
 # The program is built only once all of it is proved, so a first build takes long. Later calls start at once.
 demo: $(PROGRAM) $(DEMO)/disk.img
@@ -47,6 +47,11 @@ check:
 
 test:
 	.ci/run
+
+# The definitions that are to be believed, in the order of docs/READING.md, for a person to read.
+definitions:
+	mkdir -p out
+	.ci/definitions > out/definitions.md
 
 # The wrong bodies that the gate does not try, in a copy: make wrong, or make wrong NAME=turn_merge (CONTRIBUTING.md says how long they take)
 wrong:
