@@ -1,4 +1,4 @@
-# For a newcomer: `make demo` builds the program and reads a disk with it, `make test` runs the gate. definitions
+# For a newcomer: `make demo` builds the program and reads a disk with it, `make test` runs the gate.
 PREFIX ?= /usr/local
 
 PROGRAM = crates/flux/out/flux
