@@ -25,6 +25,8 @@ _flux()
     case $((COMP_CWORD - at)),$verb in
         -1,*) part='/^Commands:/,/^$/' ;;
         0,help) part='/^Commands:/,/^$/' ;;
+        # The disks that emulators keep as G64 files.
+        0,to-g64 | 0,from-g64) part='/^   c1541/' ;;
         # Of a disk by its numbers the word's beginning: what follows are the numbers.
         0,*) part='/^Formats:/,/^$/' numbers="mfm-dd- mfm-hd- mfm-hd360- fm-sd- fm-sd8-" ;;
         *) return ;;
