@@ -2,7 +2,7 @@
 use Rattle.std.specs.Prelude.{if◌then◌else◌, Bool, true, false}
 use Rattle.std.proofs.Common.{◌≡◌, ℕ, List, refl, subst, arith}
 use Rattle.flux_base.specs.Blames.{Blame, CountsBy, OutsideCounts, no_counts, no_one, the_source, the_image, the_notes, three_counts}
-use Rattle.flux_base.specs.Counts.{Counts, FaultCounts}
+use Rattle.flux_base.specs.Counts.{FaultCounts}
 use Rattle.flux_base.specs.declared.status.Status.{Status}
 use Rattle.flux_base.specs.declared.status.Status.TheVariants.{AllGood, NotAllGood, Refused, Usage, ReadFault, ImageFault, NotesFault, Memory, ShelfFault}
 use Rattle.flux_base.specs.lemmas.Counting.{Counts-none}
@@ -46,7 +46,7 @@ other_blames ShelfFault unread other counts = absurd (other refl)
 module _ {source source' shelf image image' notes notes' : FaultCounts} where
   -- a run over the source, which does not touch the shelf
   pub run-of-source : (status : Status) → (status ≡ ShelfFault → ⊥) → CountsBy (source_blame status) (three_counts source image notes) (three_counts source' image' notes')
-      → CountsOfRun status (all_counts source shelf image notes) (all_counts source' shelf image' notes')
+      → CountsOfRun false status (all_counts source shelf image notes) (all_counts source' shelf image' notes')
   run-of-source AllGood other c = record { source = c.source; shelf = Counts-none shelf; image = c.image; notes = c.notes }
   run-of-source NotAllGood other c = record { source = c.source; shelf = Counts-none shelf; image = c.image; notes = c.notes }
   run-of-source Refused other c = record { source = c.source; shelf = Counts-none shelf; image = c.image; notes = c.notes }
@@ -60,7 +60,7 @@ module _ {source source' shelf image image' notes notes' : FaultCounts} where
 module _ {source shelf shelf' image image' notes notes' : FaultCounts} where
   -- one over the shelf, which does not touch the source
   pub run-of-shelf : (status : Status) → (status ≡ ReadFault → ⊥) → CountsBy (shelf_blame status) (three_counts shelf image notes) (three_counts shelf' image' notes')
-      → CountsOfRun status (all_counts source shelf image notes) (all_counts source shelf' image' notes')
+      → CountsOfRun false status (all_counts source shelf image notes) (all_counts source shelf' image' notes')
   run-of-shelf AllGood other c = record { source = Counts-none source; shelf = c.source; image = c.image; notes = c.notes }
   run-of-shelf NotAllGood other c = record { source = Counts-none source; shelf = c.source; image = c.image; notes = c.notes }
   run-of-shelf Refused other c = record { source = Counts-none source; shelf = c.source; image = c.image; notes = c.notes }

@@ -21,3 +21,4 @@ pub mod ReadHeadline
 pub mod Blaming
 pub mod EndingLaws
 pub mod Ended
+pub mod Telling

@@ -1,5 +1,5 @@
 -- What a command does that reads a disk by a plan, by what the reading says.
-use Rattle.std.proofs.Common.{◌==◌, ◌≤◌, ℕ, ◌+◌, ◌*◌, ◌++◌, Bool, true, false, if◌then◌else◌, inl, inr, List, [], take, length, None, Some, Ok, Err, refl, sym, ap, ◌∙◌, subst, append-nil, arith}
+use Rattle.std.proofs.Common.{◌==◌, ◌≤◌, ℕ, ◌*◌, ◌++◌, Bool, true, false, if◌then◌else◌, inl, inr, List, [], take, length, None, Some, Ok, Err, refl, sym, ap, ◌∙◌, subst, append-nil, arith}
 use Rattle.std.proofs.KnownBytes.{Appends-trans}
 use Rattle.flux_base.specs.Moments.{Moment}
 use Rattle.flux_base.specs.Outside.{Rose}

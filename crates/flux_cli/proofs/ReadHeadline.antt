@@ -18,7 +18,7 @@ use Rattle.flux_words.specs.DumpParts.{options_in}
 use Rattle.flux_words.specs.DumpWords.{AreReadWords, Asked, option_words, shown_of}
 use Rattle.flux_cli.specs.AskedDisks.{asked_disk}
 use Rattle.flux_cli.specs.FolderRuns.{OnShelf}
-use Rattle.flux_cli.specs.ReadHeadline.{GaveDumps, GaveDumpsOrCut, GavePicture, GaveShown, OfDumps, ReadsAsExpected}
+use Rattle.flux_cli.specs.ReadHeadline.{GaveDumpsOrCut, GavePicture, GaveShown, OfDumps, ReadsAsExpected}
 use Rattle.flux_cli.specs.ReadRuns.{IsShown, read_status, read_work}
 use Rattle.flux_cli.specs.Runs.{growth}
 use Rattle.flux_cli.specs.ShelfRuns.{AskOfShelf, OfShelf, a_folder, a_sector, an_identity, some_dumps, Ran, RanBy, Surroundings, on_shelf}

@@ -21,6 +21,7 @@ pub mod SectorRuns
 pub mod IdentityRuns
 pub mod Endings
 pub mod ShelfRuns
+pub mod OutputTold
 pub mod ReadHeadline
 pub mod Captured
 pub mod Headlines

@@ -1,5 +1,5 @@
 -- The work of `map`.
-use Rattle.std.specs.Prelude.{◌≡◌, ℕ, ◌++◌, List, [], Option, Some}
+use Rattle.std.specs.Prelude.{◌≡◌, ℕ, ◌++◌, List, Some}
 use Rattle.disk_map.specs.Answers.{DrewFront, StoppedInPicture}
 use Rattle.disk_map.specs.Maps.{IsMapped, Mapped}
 use Rattle.flux_base.specs.declared.status.Status.{Status}

@@ -7,6 +7,7 @@ mod endings;
 mod folder;
 mod identity;
 mod laws;
+mod output_told;
 mod planned;
 mod program;
 mod read;

@@ -1,3 +1,4 @@
+ghost use Rattle.std.specs.Prelude.{false};
 ghost use Rattle.flux_base.specs.Blames.{CountsBy, three_counts};
 ghost use Rattle.flux_base.specs.Counts.{counts_of};
 ghost use Rattle.flux_cli.specs.Blamed.{CountsOfRun, all_counts, source_blame};
@@ -7,8 +8,10 @@ ghost use Rattle.flux_cli.specs.FolderRuns.{on, shelf_moment};
 ghost use Rattle.flux_cli.specs.Headlines.{RunsAsExpected};
 ghost use Rattle.flux_cli.specs.ReadHeadline.{ReadsAsExpected};
 ghost use Rattle.flux_cli.specs.Runs.{RanOverSource, outside};
+ghost use Rattle.flux_cli.specs.OutputTold.{RanAndTold, is_told};
 ghost use Rattle.flux_cli.specs.ShelfRuns.{Ran, surroundings};
 
+use crate::output_told::tell_output;
 use crate::shelf_task::{DecodeFolder, Identify, ShelfTask};
 use crate::task::{
     DecodeSet, Decoding, FromG64, Map, Rescue, Task, Tell, ToG64, Trial, Turns, Write,
@@ -47,15 +50,16 @@ pub fn run<S: Source, W: Sink, N: Sink, H: Shelf>(
     // that isn't needed. Where the words name a folder, the shelf stands in the source's place, and where a wanted file is
     // missing, the notes say so and nothing is read; where they name dumps, or ask which disk a dump is of, the files of these are read on the shelf, which
     // itself stays as it was but for how often it failed; else the shelf is not touched.
-    ensures ran { Ran words.now result
+    // Behind a fault of the output, under words that the usage line does not name, the notes got one line more, or a front of it.
+    ensures ran { RanAndTold words.now result
         (surroundings (outside (moment S.left S.faults S.failed source.old) (S.given source.old) (moment W.written W.faults W.failed image.old) (moment N.written N.faults N.failed notes.old))
         (shelf_moment (moment H.left H.faults H.failed shelf.old) (H.given shelf.old) (H.files shelf.old)))
         (surroundings (outside (moment S.left S.faults S.failed source.new) (S.given source.new) (moment W.written W.faults W.failed image.new) (moment N.written N.faults N.failed notes.new))
         (shelf_moment (moment H.left H.faults H.failed shelf.new) (H.given shelf.new) (H.files shelf.new))) }
 
     // A fault of one object is told where that object failed once, in the last call of all that could, and no other one failed; and a run that finished
-    // had no fault.
-    ensures counts { CountsOfRun result
+    // had no fault. Where the notes got a line behind a fault of the output, they may have failed once too, in that line.
+    ensures counts { CountsOfRun (is_told words.now result) result
         (all_counts (counts_of S.faults S.failed source.old) (counts_of H.faults H.failed shelf.old) (counts_of W.faults W.failed image.old) (counts_of N.faults N.failed notes.old))
         (all_counts (counts_of S.faults S.failed source.new) (counts_of H.faults H.failed shelf.new) (counts_of W.faults W.failed image.new) (counts_of N.faults N.failed notes.new)) }
 
@@ -118,7 +122,9 @@ pub fn run<S: Source, W: Sink, N: Sink, H: Shelf>(
     dump_lines_tell();
     captured_dumps_are_read();
     dumps_are_drawn_as_reported();
-    run_words(alloc, words, source, image, notes, shelf)
+    let status = run_words(alloc, words, source, image, notes, shelf);
+    tell_output(words, status, notes);
+    status
 }
 
 /// Does what the words ask for, over the shelf where they name a folder.
@@ -135,7 +141,7 @@ fn run_words<S: Source, W: Sink, N: Sink, H: Shelf>(
         (shelf_moment (moment H.left H.faults H.failed shelf.old) (H.given shelf.old) (H.files shelf.old)))
         (surroundings (outside (moment S.left S.faults S.failed source.new) (S.given source.new) (moment W.written W.faults W.failed image.new) (moment N.written N.faults N.failed notes.new))
         (shelf_moment (moment H.left H.faults H.failed shelf.new) (H.given shelf.new) (H.files shelf.new))) }
-    ensures counts { CountsOfRun result
+    ensures counts { CountsOfRun false result
         (all_counts (counts_of S.faults S.failed source.old) (counts_of H.faults H.failed shelf.old) (counts_of W.faults W.failed image.old) (counts_of N.faults N.failed notes.old))
         (all_counts (counts_of S.faults S.failed source.new) (counts_of H.faults H.failed shelf.new) (counts_of W.faults W.failed image.new) (counts_of N.faults N.failed notes.new)) }
 {

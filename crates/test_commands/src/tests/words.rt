@@ -191,7 +191,7 @@ proved in Rattle, logic dac8208d650f15bf
     ..TRIAL
 };
 
-/// A sink that fails leaves nothing.
+/// A sink that fails leaves nothing, and under a word of the usage line nothing is told of it.
 const FIRST_WRITE_FAILS: Row = Row {
     name: "the first write fails",
     failing: Failing {
@@ -201,6 +201,15 @@ const FIRST_WRITE_FAILS: Row = Row {
     status: Status::ImageFault,
     image: "",
     ..TRIAL
+};
+
+/// Under a word that the usage line does not name it is told in one line.
+const TOLD_FAULT: Row = Row {
+    name: "the first write fails under a word of our own",
+    words: &["--version"],
+    notes: "failed output\n",
+    calls: Some((0, 1, 1)),
+    ..FIRST_WRITE_FAILS
 };
 
 /// The shelf has no files.
@@ -258,9 +267,20 @@ const ROWS: &[Row] = &[
     TRIAL,
     FIRST_WRITE_FAILS,
     VERSION,
+    TOLD_FAULT,
     Row {
-        words: &["--version"],
-        ..FIRST_WRITE_FAILS
+        words: &["help", "map"],
+        ..TOLD_FAULT
+    },
+    // Where the line fails too, the status is the same.
+    Row {
+        failing: Failing {
+            image: Some(0),
+            notes: Some(0),
+            ..NONE
+        },
+        notes: "",
+        ..TOLD_FAULT
     },
 ];
 

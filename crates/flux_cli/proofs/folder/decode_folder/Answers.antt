@@ -1,5 +1,5 @@
-use Rattle.std.proofs.Common.{true, false, ◌≡◌, arith, Ok, Some, None, refl, ap, ◌∙◌, subst}
-use Rattle.flux_base.specs.declared.status.Status.TheVariants.{ReadFault, Memory}
+use Rattle.std.proofs.Common.{true, false, arith, Ok, refl, ap, ◌∙◌, subst}
+use Rattle.flux_base.specs.declared.status.Status.TheVariants.{ReadFault}
 use Rattle.flux_base.specs.lemmas.Blaming.{CountsBy-source, CountsBy-then}
 use Rattle.flux_cli.proofs.Blaming.{other_blames}
 use Rattle.flux_cli.proofs.Ended.{missing-refused}

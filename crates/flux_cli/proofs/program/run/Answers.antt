@@ -1,10 +1,12 @@
+use Rattle.flux_base.specs.Moments.{Moment, moment}
 use Rattle.flux_cli.proofs.Captured.{folder_captured, folder_erased, runs_captured, runs_erased}
 use Rattle.flux_cli.proofs.Headlines.{Laws, runs_as_expected}
 use Rattle.flux_cli.proofs.ReadHeadline.{reads_as_expected}
+use Rattle.flux_cli.proofs.Telling.{captured-told, counts-told, dumps-told, erased-told, expected-told, folder-captured-told, folder-erased-told, ran-told}
 use Rattle.flux_cli.proofs.program.run.Given.{Over}
 use Rattle.flux_cli.proofs.program.run.Goals as goal
 
-laws : (g : Over) (c : goal.After-run_words g) → Laws
+laws : (g : Over) (c : goal.After-tell_output g) → Laws
 laws g c = record {
   names = c.words_name_formats.ensures.one;
   disks = c.captured_disks_decode.ensures.whole;
@@ -24,20 +26,35 @@ laws g c = record {
   trials = c.whole_trials_have_one_line.ensures;
 }
 
+-- the notes at the end
+abbrev behind : (g : Over) (c : goal.After-tell_output g) → Moment g.row.N.Denot
+behind g c = moment g.N.Sink.written g.N.Sink.faults g.N.Sink.failed c.tell_output.new.notes
+
+pub returns-clause-ran : goal.returns-clause-ran
+returns-clause-ran g c = ran-told c.run_words-status.ensures.ran (behind g c) c.tell_output.ensures
+
+pub returns-clause-counts : goal.returns-clause-counts
+returns-clause-counts g c = counts-told c.args.words.now _ (behind g c) _ _ _ _ _ _ _ c.run_words-status.result c.tell_output.ensures c.run_words-status.ensures.counts
+
 pub returns-clause-captured : goal.returns-clause-captured
-returns-clause-captured g c = runs_captured (laws g c) _ _ _ _ c.run_words.ensures.ran
+returns-clause-captured g c =
+    captured-told c.run_words-status.ensures.ran (behind g c) c.tell_output.ensures (runs_captured (laws g c) _ _ _ _ c.run_words-status.ensures.ran)
 
 pub returns-clause-erased : goal.returns-clause-erased
-returns-clause-erased g c = runs_erased (laws g c) _ _ _ _ c.run_words.ensures.ran
+returns-clause-erased g c =
+    erased-told c.run_words-status.ensures.ran (behind g c) c.tell_output.ensures (runs_erased (laws g c) _ _ _ _ c.run_words-status.ensures.ran)
 
 pub returns-clause-expected : goal.returns-clause-expected
-returns-clause-expected g c = runs_as_expected (laws g c) _ _ _ _ c.run_words.ensures.ran
+returns-clause-expected g c =
+    expected-told c.run_words-status.ensures.ran (behind g c) c.tell_output.ensures (runs_as_expected (laws g c) _ _ _ _ c.run_words-status.ensures.ran)
 
 pub returns-clause-folder_captured : goal.returns-clause-folder_captured
-returns-clause-folder_captured g c = folder_captured (laws g c) _ _ _ _ c.run_words.ensures.ran
+returns-clause-folder_captured g c =
+    folder-captured-told c.run_words-status.ensures.ran (behind g c) c.tell_output.ensures (folder_captured (laws g c) _ _ _ _ c.run_words-status.ensures.ran)
 
 pub returns-clause-folder_erased : goal.returns-clause-folder_erased
-returns-clause-folder_erased g c = folder_erased (laws g c) _ _ _ _ c.run_words.ensures.ran
+returns-clause-folder_erased g c =
+    folder-erased-told c.run_words-status.ensures.ran (behind g c) c.tell_output.ensures (folder_erased (laws g c) _ _ _ _ c.run_words-status.ensures.ran)
 
 pub returns-clause-dumps : goal.returns-clause-dumps
 returns-clause-dumps g c =
@@ -45,7 +62,7 @@ returns-clause-dumps g c =
     let lines = c.dump_reports_have_lines.ensures in
     let told = c.dump_lines_tell.ensures in
     let read = c.captured_dumps_are_read.ensures in
-    reads_as_expected (record {
+    dumps-told c.run_words-status.ensures.ran (behind g c) c.tell_output.ensures (reads_as_expected (record {
       said = said.said;
       right = said.right;
       numbered = lines.numbered;
@@ -59,4 +76,4 @@ returns-clause-dumps g c =
       whole = read.never_wrong;
       steady = read.well;
       pictures = c.dumps_are_drawn_as_reported.ensures;
-    }) c.words_name_formats.ensures.letters c.words_name_formats.ensures.one _ _ _ _ c.run_words.ensures.ran
+    }) c.words_name_formats.ensures.letters c.words_name_formats.ensures.one _ _ _ _ c.run_words-status.ensures.ran)
