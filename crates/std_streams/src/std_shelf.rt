@@ -8,10 +8,13 @@ ghost use Rattle.sector_images.specs.Places.{tracks};
 use crate::standard::StdSource;
 use flux_base::{Failed, Source, TrackId};
 use sector_images::{Format, track_count, track_id};
-use std::fs;
-use std::io::ErrorKind;
+use std::io::{ErrorKind, Read};
 use std::rt::Files;
-use track_shelf::{Path, Shelf, TrackPath};
+use std::{fs, io};
+use track_shelf::{DumpKind, Path, Shelf, TrackPath, names_file};
+
+/// How many bytes of a folder's names are read at once. A name has at most 255.
+const READ_SIZE: usize = 4096;
 
 /// The wanted files of a folder: those of the format's tracks from a number on.
 #[derive(Debug, Drop)]
@@ -22,7 +25,9 @@ struct Wanted {
 }
 
 /// The files of the system as a shelf. No memory is taken. Each error of std is counted as a fault, save where `begin` and
-/// `open_file` do not find a file; so is a name that is no text, and a path of more than 4096 bytes. A folder in the place of a track's file fails when it is read. It tells no bytes and no files.
+/// `open_file` do not find a file, and where it is only looked what something is; so is a name that is no text, and
+/// a path of more than 4096 bytes. To `open_file` a file whose folder is a file is not there. A folder in the place of a
+/// track's file fails when it is read. It tells no bytes and no files.
 #[derive(Drop)]
 pub struct StdShelf<'a, R: Files> {
     files: &'a R,
@@ -138,6 +143,61 @@ fn open_path<R: Files>(files: &R, path: &TrackPath) -> Result<Option<R::File>, F
     }
 }
 
+/// The file of a track of a dump, opened; None where it is not there. Nor is it where its folder is a file.
+fn open_track<R: Files>(files: &R, path: &TrackPath) -> Result<Option<R::File>, Failed> {
+    let Some(text) = path.text() else {
+        return Err(Failed);
+    };
+    match fs::open(files, text.as_str()) {
+        Ok(file) => Ok(Some(file)),
+        Err(error) if is_missing(&error) => Ok(None),
+        Err(_) => Err(Failed),
+    }
+}
+
+/// Whether nothing lies there.
+fn is_missing(error: &io::Error) -> bool {
+    error.kind() == ErrorKind::NotFound || error.kind() == ErrorKind::NotADirectory
+}
+
+/// What a folder is by the names of what lies in it.
+fn kind_of_folder<R: Files>(files: &R, path: Path) -> DumpKind {
+    let mut path = path;
+    // The slash makes the system follow a link to a folder.
+    if path.try_push_str("/").is_err() {
+        return DumpKind::Unknown;
+    }
+    match files.open_dir(path.as_str()) {
+        Ok(folder) => kind_by_names(folder),
+        Err(_) => DumpKind::Unknown,
+    }
+}
+
+/// The same, where the names are read, each with a byte 0 behind it. No read ends inside a name.
+fn kind_by_names<D: Read + Drop>(folder: D) -> DumpKind {
+    let mut folder = folder;
+    let mut kind = DumpKind::NoFiles;
+    let mut buffer = [0; READ_SIZE];
+    for _ in 0..u32::MAX {
+        match folder.read(&mut buffer) {
+            Ok(0) => return kind,
+            Ok(count) => kind = with_names(kind, &buffer[..count]),
+            Err(error) if error.kind() == ErrorKind::Interrupted => {}
+            Err(_) => break,
+        }
+    }
+    DumpKind::Unknown
+}
+
+/// The same, with these names more.
+fn with_names(kind: DumpKind, names: &[u8]) -> DumpKind {
+    let mut kind = kind;
+    for name in names.split(|byte| *byte == 0) {
+        kind = kind.with_name(name);
+    }
+    kind
+}
+
 /// Looks for all wanted files. The answer is the number of the first track whose file is not found, if one is not.
 fn first_missing<R: Files>(files: &R, folder: &[u8], format: Format) -> Result<Option<u32>, Failed>
     ensures { IfOk result (λ missing. IfSome missing (λ number. number < length (tracks format))) }
@@ -188,12 +248,25 @@ impl<'a, R: Files> Shelf for StdShelf<'a, R> {
         answer
     }
 
+    fn kind_of(&self, dump: &[u8]) -> DumpKind {
+        let Ok(path) = path_of(dump) else {
+            return DumpKind::Unknown;
+        };
+        match fs::metadata(self.files, path.as_str()) {
+            Ok(_) if names_file(dump) => DumpKind::OtherTracks,
+            Ok(found) if found.is_dir() => kind_of_folder(self.files, path),
+            Ok(_) => DumpKind::AFile,
+            Err(error) if is_missing(&error) => DumpKind::NotThere,
+            Err(_) => DumpKind::Unknown,
+        }
+    }
+
     fn open_file(
         &mut self,
         dump: &[u8],
         track: TrackId,
     ) -> Result<Option<StdSource<R::File>>, Failed> {
-        match open_path(self.files, &TrackPath::of_dump(dump, track)) {
+        match open_track(self.files, &TrackPath::of_dump(dump, track)) {
             Ok(Some(file)) => Ok(Some(StdSource::new(file))),
             Ok(None) => Ok(None),
             Err(failed) => {

@@ -1,4 +1,5 @@
 mod files;
+mod kinds;
 mod shelf;
 mod streams;
 

@@ -1,5 +1,5 @@
 -- The faults of a file that is closed, with those of its shelf.
-use Rattle.std.proofs.Common.{◌≡◌, ◌≤◌, ◌+◌, ℕ, zero, suc, min, Some, arith, ap, sym}
+use Rattle.std.proofs.Common.{◌≡◌, ◌≤◌, ◌+◌, ℕ, zero, suc, min, arith}
 use Rattle.flux_base.specs.Outside.{GREATEST_COUNT}
 use Rattle.track_shelf.specs.Files.{risen_by}
 

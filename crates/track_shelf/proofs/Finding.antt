@@ -1,7 +1,7 @@
 -- Which files are there, and where.
 use Rattle.std.proofs.Common.{◌≡◌, ◌<◌, ◌≤◌, ◌+◌, ◌⊎◌, ℕ, zero, suc, Bool, true, false, inl, inr, List, [], ◌∷◌, ◌++◌, take, map, Option, Some, None, length, arith, refl, sym, ◌∙◌, ap, subst, cond}
 use Rattle.std.specs.List.{find, position_from, slice_get}
-use Rattle.std.specs.Option.{is_none}
+use Rattle.std.specs.Option.{is_none, is_some}
 use Rattle.std.proofs.lemmas.Bool.{cases_lt}
 use Rattle.std.proofs.lemmas.Option.{get_or_from_slice_get, slice_get_within}
 use Rattle.std.proofs.lemmas.List.{map-append, take_more}
@@ -18,7 +18,7 @@ some_none x same = cc
 none_some : {X : Type 0} (x : X) → None ≡ Some x → ⊥
 none_some x same = cc
 
-some_same : {X : Type 0} (x y : X) → Some x ≡ Some y → x ≡ y
+pub some_same : {X : Type 0} (x y : X) → Some x ≡ Some y → x ≡ y
 some_same x y same = cc
 
 module _ {X : Type 0} (p : X → Bool) where
@@ -142,3 +142,13 @@ module _ (files : List File) (folder : List ℕ) where
     unfolding first_missing
     none-missing there =
         none-passes (λ id. is_none (file_of files folder id)) 0 (tracks format) (λ k id at. there k id (slice_get_within (tracks format) k id at) at)
+
+-- a place is found where an item is
+pub is_some-place : {X : Type 0} (p : X → Bool) (i : ℕ) (xs : List X) → is_some (position_from p i xs) ≡ is_some (find p xs)
+is_some-place p i [] = refl
+is_some-place p i (x ∷ xs) = by (p x) (is_some-place p (i + 1) xs)
+  where
+    by : (b : Bool) → is_some (position_from p (i + 1) xs) ≡ is_some (find p xs)
+        → is_some (cond b (Some i) (position_from p (i + 1) xs)) ≡ is_some (cond b (Some x) (find p xs))
+    by true later = refl
+    by false later = later

@@ -4,3 +4,4 @@ pub mod Paths
 pub mod Joins
 pub mod Reaching
 pub mod Closing
+pub mod DumpKinds

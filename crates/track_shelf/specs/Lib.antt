@@ -3,3 +3,4 @@ pub mod Files
 pub mod Told
 pub mod Stepping
 pub mod Memory
+pub mod DumpKinds

@@ -1,7 +1,8 @@
 //! The track files of dumps, as they lie on the disk: the trait [`Shelf`], a shelf in memory, the names and the paths
-//! of the files, and the line for one that is missing.
+//! of the files, what lies under the name of a dump, and the line for a file that is missing.
 #![tactic(auto)]
 
+mod kind;
 mod laws;
 mod memory;
 mod names;
@@ -9,9 +10,10 @@ mod path;
 mod shelf;
 mod stepping;
 
+pub use kind::{DumpKind, Prefix};
 pub use laws::{files_name_dumps, folder_paths_tell};
 pub use memory::{MemoryShelf, ShelfFile};
 pub use names::{file_name, missing_line};
-pub use path::{Path, TrackPath};
+pub use path::{Path, TrackPath, names_file};
 pub use shelf::Shelf;
 pub use stepping::Stepping;

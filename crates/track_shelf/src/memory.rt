@@ -1,16 +1,19 @@
-ghost use Rattle.std.specs.Prelude.{◌≡◌, ◌<◌, ◌≤◌, ◌++◌, [], false, true, Some, Ok, get_or, length, is_err, map, min, take, IfOk, IfSome, IfErr, IfNone, OnErr, OnOk, None};
+ghost use Rattle.std.specs.Prelude.{◌≡◌, ℕ, List, ◌<◌, ◌≤◌, ◌++◌, [], false, true, Some, Ok, get_or, length, is_err, map, option_map, drop, min, take, IfOk, IfSome, IfErr, IfNone, OnErr, OnOk, None};
 ghost use Rattle.std.specs.Io.{ReadsAtMost};
 ghost use Rattle.std.specs.Io.KnownBytes.{ReadConsumes};
-ghost use Rattle.std.specs.List.{concat, position_from};
+ghost use Rattle.std.specs.List.{concat, cons_option, position_from};
 ghost use Rattle.std.specs.Bool.{Decides};
+ghost use Rattle.std.specs.Option.{is_some};
 ghost use Rattle.flux_base.specs.Memory.{is_failing};
 ghost use Rattle.flux_base.specs.Outside.{GivesPiece, IsCounted, Rose, risen};
 ghost use Rattle.sector_images.specs.Places.{tracks};
 ghost use Rattle.track_shelf.specs.Files.{CountsFromNone, LeavesWanted, NamesMissing, NoneFailed, Opens, file_at, first_missing, has_path, taken_over, track_bytes};
+ghost use Rattle.track_shelf.specs.DumpKinds.{kind_in, kind_of_folder, name_in, names_in};
 ghost use Rattle.track_shelf.specs.Memory.{ShelfState, after_begin, after_close, after_fault, after_open, after_read, ahead_from, begin_of, bytes_at, cut_first, first_piece, open_of, pieces_of, read_of, with_bytes};
 ghost use Rattle.track_shelf.specs.Names.{folder_path, path_text};
 
-use crate::path::{TrackPath, folder_end};
+use crate::kind::{DumpKind, Prefix};
+use crate::path::{TrackPath, folder_end, names_file};
 use crate::shelf::Shelf;
 use arrayvec::ArrayVec;
 use flux_base::{Failed, Source, TrackId, copy_front};
@@ -67,11 +70,42 @@ impl ShelfFile {
         are_same(&self.front, self.back.as_str().as_bytes(), front, back)
     }
 
+    /// Whether this is its path.
+    fn is_named(&self, path: &[u8]) -> bool
+        ensures { result ≡ has_path path.now self.now }
+    {
+        are_same(&self.front, self.back.as_str().as_bytes(), path, &[])
+    }
+
+    /// What stands in its path behind a folder and a slash, in two parts. None where it does not lie in the folder.
+    fn name_in(&self, folder: &[u8]) -> Option<(&[u8], &[u8])>
+        ensures { option_map (λ parts. parts.0.now ++ parts.1.now) result ≡ name_in folder.now self.now.path }
+    {
+        let (front, after) = cut(&self.front, folder.len() + 1);
+        let (back, behind) = cut(
+            self.back.as_str().as_bytes(),
+            folder.len() + 1 - front.len(),
+        );
+        if are_same(front, back, folder, b"/") {
+            Some((after, behind))
+        } else {
+            None
+        }
+    }
+
     fn bytes(&self) -> &[u8]
         ensures { result.now ≡ self.now.bytes }
     {
         &self.bytes
     }
+}
+
+/// The first bytes, so many or all of them, and the rest.
+fn cut(bytes: &[u8], count: usize) -> (&[u8], &[u8])
+    ensures front { result.0.now ≡ take count bytes.now }
+    ensures back { result.1.now ≡ drop count bytes.now }
+{
+    bytes.split_at(bytes.len().min(count))
 }
 
 /// Whether two texts are the same, each of which comes in two parts.
@@ -109,6 +143,61 @@ fn place_of(files: &[ShelfFile], path: &TrackPath) -> Option<usize>
     ensures { result ≡ position_from (has_path path.now) 0 files.now }
 {
     files.iter().position(|file| file.is_at(path))
+}
+
+/// Where the file of this path lies among the files.
+fn place_at(files: &[ShelfFile], path: &[u8]) -> Option<usize>
+    ensures { result ≡ position_from (has_path path.now) 0 files.now }
+{
+    files.iter().position(|file| file.is_named(path))
+}
+
+/// Whether a file has this path.
+fn is_there(files: &[ShelfFile], path: &[u8]) -> bool
+    ensures { result ≡ is_some (file_at files.now path.now) }
+{
+    place_at(files, path).is_some()
+}
+
+/// What lies under a dump's name.
+#[tactic(auto, unfolding(crate::specs::DumpKinds::kind_in))]
+fn kind_in(files: &[ShelfFile], dump: &[u8]) -> DumpKind
+    ensures { result ≡ kind_in files.now dump.now }
+{
+    let is_there = is_there(files, dump);
+    if names_file(dump) {
+        if is_there {
+            DumpKind::OtherTracks
+        } else {
+            DumpKind::NotThere
+        }
+    } else if is_there {
+        DumpKind::AFile
+    } else {
+        kind_of_folder(files, dump)
+    }
+}
+
+/// What a folder is by the files that lie in it.
+fn kind_of_folder(files: &[ShelfFile], folder: &[u8]) -> DumpKind
+    ensures { result ≡ kind_of_folder (names_in files.now folder.now) }
+{
+    let mut kind = DumpKind::NotThere;
+    for file in files {
+        kind = with_file(kind, file, folder);
+    }
+    kind
+}
+
+/// The same with one file more.
+fn with_file(kind: DumpKind, file: &ShelfFile, folder: &[u8]) -> DumpKind
+    ensures { (names : List (List ℕ)) → kind ≡ kind_of_folder names
+        → result ≡ kind_of_folder (names ++ cons_option (name_in folder.now file.now.path) []) }
+{
+    match file.name_in(folder) {
+        Some((front, back)) => kind.with_prefix(Prefix::of_parts(front, back)),
+        None => kind,
+    }
 }
 
 /// More than a format has tracks.
@@ -230,6 +319,7 @@ pub struct MemoryShelf<'a> {
 
 impl<'a> Model for MemoryShelf<'a> {
     ghost use Rattle.std.specs.Prelude.{◌<◌};
+    ghost use Rattle.track_shelf.specs.DumpKinds.{kind_in, kind_of_folder, name_in, names_in};
     ghost use Rattle.track_shelf.specs.Memory.{ShelfState, ahead_from};
 
     ghost Value = { ShelfState };
@@ -353,6 +443,10 @@ impl<'a> Shelf for MemoryShelf<'a> {
             }
             Err(number) => Ok(Some(number)),
         }
+    }
+
+    fn kind_of(&self, dump: &[u8]) -> DumpKind {
+        kind_in(self.files, dump)
     }
 
     fn open_file(&mut self, dump: &[u8], track: TrackId) -> Result<Option<MemoryShelf<'a>>, Failed>

@@ -12,7 +12,7 @@ use std::marker::Model;
 pub type Path = ArrayString<4096>;
 
 /// How many bytes the ending of a file's name has, `CC.H.raw`.
-const ENDING_SIZE: usize = 8;
+pub(crate) const ENDING_SIZE: usize = 8;
 
 /// The path of a track's file, which takes no memory of its own: a part of the dump's name, and what the track adds to it.
 #[derive(Debug, Drop)]
@@ -98,9 +98,9 @@ pub(crate) fn folder_end(track: TrackId) -> Line
     end
 }
 
-/// Whether a dump is named by one of its files.
+/// Whether a dump is named by one of its files: whether its name ends like that of a track's file, with something before that.
 #[tactic(auto, unfolding(crate::specs::Names::names_file))]
-fn names_file(dump: &[u8]) -> bool
+pub fn names_file(dump: &[u8]) -> bool
     ensures { result ≡ names_file dump.now }
 {
     if dump.len() <= ENDING_SIZE {

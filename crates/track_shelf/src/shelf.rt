@@ -2,8 +2,10 @@ ghost use Rattle.std.specs.Prelude.{◌≡◌, ℕ, ◌<◌, ◌≤◌, List, No
 ghost use Rattle.flux_base.specs.Outside.{IsCounted, Rose};
 ghost use Rattle.sector_images.specs.Places.{tracks};
 ghost use Rattle.track_shelf.specs.Files.{CountsFromNone, File, LeavesWanted, NamesMissing, NoneFailed, Opens, taken_over};
+ghost use Rattle.track_shelf.specs.DumpKinds.{IsKindOf};
 ghost use Rattle.track_shelf.specs.Names.{path_text};
 
+use crate::kind::DumpKind;
 use flux_base::{Failed, Source, TrackId};
 use sector_images::Format;
 
@@ -31,6 +33,11 @@ pub trait Shelf: Source {
         ensures later { Self.faults self.old ≤ Self.faults self.new }
         ensures cause { OnErr result (Rose (Self.faults self.old) (Self.faults self.new)) }
         ensures counted { IsCounted (is_err result) (Self.failed self.old) (Self.failed self.new) };
+
+    /// What lies under a dump's name, of which none of the wanted files is there. Nothing fails: what cannot be looked at is
+    /// `Unknown`.
+    fn kind_of(&self, dump: &[u8]) -> DumpKind
+        ensures { IsKindOf (files self.now) dump.now result };
 
     /// Opens the file of a track of a dump, which is a folder, or is named by one of its files. None where there is no such
     /// file. What is done with the file touches nothing of the shelf. No memory is taken.

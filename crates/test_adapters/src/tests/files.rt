@@ -48,16 +48,26 @@ impl Record {
     }
 }
 
-/// The system's files: each one's path and bytes.
+/// The system's files: each one's path and bytes. Of the folders that are listed each one's path, with a slash behind it, and the names in it,
+/// with a byte 0 behind each.
 #[derive(Drop)]
 pub struct StandIn<'a> {
     pub files: &'a [(&'a str, &'a [u8])],
+    pub folders: &'a [(&'a str, &'a [u8])],
     pub record: &'a Record,
 }
 
 /// A file that is open: its path, and the bytes that are still to come.
 #[derive(Drop)]
 pub struct Opened<'a> {
+    path: &'a str,
+    left: &'a [u8],
+    record: &'a Record,
+}
+
+/// A folder that is open: its path, and the names that are still to come. A read gives one name.
+#[derive(Drop)]
+pub struct Listed<'a> {
     path: &'a str,
     left: &'a [u8],
     record: &'a Record,
@@ -71,7 +81,7 @@ fn unsupported<T>() -> io::Result<T> {
 impl<'a> Files for StandIn<'a> {
     type File = Opened<'a>;
 
-    type Dir = Opened<'a>;
+    type Dir = Listed<'a>;
 
     fn open_file(&self, how: &OpenOptions, path: &str) -> io::Result<Opened<'a>> {
         how.check()?;
@@ -89,12 +99,33 @@ impl<'a> Files for StandIn<'a> {
         Err(io::Error::from(ErrorKind::NotFound))
     }
 
-    fn open_dir(&self, _path: &str) -> io::Result<Opened<'a>> {
-        unsupported()
+    fn open_dir(&self, path: &str) -> io::Result<Listed<'a>> {
+        self.record.call("list", path)?;
+        for (name, names) in self.folders {
+            if *name == path {
+                return Ok(Listed {
+                    path: name,
+                    left: names,
+                    record: self.record,
+                });
+            }
+        }
+        Err(io::Error::from(ErrorKind::NotFound))
     }
 
-    fn metadata(&self, _path: &str) -> io::Result<Metadata> {
-        unsupported()
+    fn metadata(&self, path: &str) -> io::Result<Metadata> {
+        self.record.call("look", path)?;
+        for (name, bytes) in self.files {
+            if *name == path {
+                return Ok(Metadata::of_file(bytes.len() as u64));
+            }
+        }
+        for (name, _) in self.folders {
+            if name.strip_suffix('/') == Some(path) {
+                return Ok(Metadata::of_dir());
+            }
+        }
+        Err(io::Error::from(ErrorKind::NotFound))
     }
 
     fn symlink_metadata(&self, _path: &str) -> io::Result<Metadata> {
@@ -130,6 +161,16 @@ impl<'a> Read for Opened<'a> {
     fn read(&mut self, buffer: &mut [u8]) -> io::Result<usize> {
         self.record.call("read", self.path)?;
         let count = copy_front(self.left, buffer);
+        self.left = &self.left[count..];
+        Ok(count)
+    }
+}
+
+impl<'a> Read for Listed<'a> {
+    fn read(&mut self, buffer: &mut [u8]) -> io::Result<usize> {
+        self.record.call("names", self.path)?;
+        let name = self.left.split_inclusive(|byte| *byte == 0).next();
+        let count = copy_front(name.unwrap_or(&[]), buffer);
         self.left = &self.left[count..];
         Ok(count)
     }

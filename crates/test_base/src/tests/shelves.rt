@@ -3,7 +3,7 @@ use flux_base::{Failed, Source, TrackId};
 use std::alloc::{AllocError, Global};
 use std::process::Abort;
 use std::test::Fail;
-use track_shelf::{MemoryShelf, Shelf, ShelfFile, TrackPath};
+use track_shelf::{DumpKind, MemoryShelf, Shelf, ShelfFile, TrackPath};
 
 /// A dump, a cylinder and a head, and the path of that track's file in the dump.
 const PATHS: [(&str, u8, u8, &str); 12] = [
@@ -128,5 +128,82 @@ fn gives(rt: &impl Abort, file: &mut MemoryShelf, piece: Option<&[u8]>) {
             assert!(rt; buffer.starts_with(piece));
         }
         None => assert_eq!(rt; read, Err(Failed)),
+    }
+}
+
+/// The paths of files, and a dump's name; what lies under it, and of files of another name what they begin with.
+const KINDS: [(&str, &str, &str); 14] = [
+    ("dump", "tracks", ""),
+    ("dump/track05.1.raw", "tracks", ""),
+    // It is seen whether this very file is there.
+    ("dump/track05.0.raw", "not there", ""),
+    ("img", "named", "disk "),
+    ("img/disk 83.1.raw", "tracks", ""),
+    ("both", "tracks", ""),
+    ("other", "no files", ""),
+    ("other/read.me", "a file", ""),
+    ("a.zip", "a file", ""),
+    ("a.zip/", "not there", ""),
+    ("dum", "not there", ""),
+    ("dump/", "not there", ""),
+    ("", "not there", ""),
+    // What lies in a folder of the folder does not count, but the folder is there.
+    ("deep", "no files", ""),
+];
+
+/// No name of these in `other` is that of a track's file: nothing stands before, a third head, a control character, no text.
+const LYING: [&[u8]; 12] = [
+    b"dump/track05.1.raw",
+    b"a.zip",
+    b"img/disk 83.1.raw",
+    b"img/later00.0.raw",
+    b"both/disk00.0.raw",
+    b"both/track00.0.raw",
+    b"other/read.me",
+    b"other/00.0.raw",
+    b"other/disk00.2.raw",
+    b"other/a\nb00.0.raw",
+    b"other/\xFF00.0.raw",
+    b"deep/down/disk00.0.raw",
+];
+
+#[test]
+fn what_lies_under_a_dumps_name_is_told(rt: HostRuntime) -> Result<(), Fail> {
+    let alloc = rt.alloc();
+    let mut files = Vec::new(alloc);
+    for path in LYING {
+        files.push(ShelfFile::at(path.to_vec(alloc)?, Vec::new(alloc)))?;
+    }
+    files.push(ShelfFile::new(b"f".to_vec(alloc)?, first(1), Vec::new(alloc)))?;
+    let shelf = MemoryShelf::new(&files, 1, &[]);
+    for (dump, kind, prefix) in KINDS {
+        assert!(rt;
+            is_kind(&shelf.kind_of(dump.as_bytes()), kind, prefix),
+            "{dump}"
+        );
+    }
+    // Its path comes in two parts.
+    for (dump, kind) in [
+        ("f", "tracks"),
+        ("f/track01.0.raw", "tracks"),
+        ("f/t", "not there"),
+    ] {
+        assert!(rt;
+            is_kind(&shelf.kind_of(dump.as_bytes()), kind, ""),
+            "{dump}"
+        );
+    }
+    Ok(())
+}
+
+/// Whether these words say it.
+fn is_kind(kind: &DumpKind, word: &str, begin: &str) -> bool {
+    match kind {
+        DumpKind::NotThere => word == "not there",
+        DumpKind::AFile => word == "a file",
+        DumpKind::NoFiles => word == "no files",
+        DumpKind::OtherTracks => word == "tracks",
+        DumpKind::Named(prefix) => word == "named" && prefix.as_str() == begin,
+        DumpKind::Unknown => word == "unknown",
     }
 }

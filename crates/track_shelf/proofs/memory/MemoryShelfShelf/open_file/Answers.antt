@@ -1,5 +1,4 @@
-use Rattle.std.proofs.Common.{◌≡◌, Some, List, ℕ, map, sym, ap, ◌∙◌}
-use Rattle.std.specs.List.{concat}
+use Rattle.std.proofs.Common.{◌≡◌, map, ap, ◌∙◌}
 use Rattle.track_shelf.specs.Files.{file_at}
 use Rattle.track_shelf.specs.Memory.{ShelfState, bytes_at, pieces_of, with_bytes}
 use Rattle.track_shelf.specs.Names.{path_text}

@@ -1,4 +1,4 @@
-use Rattle.std.proofs.Common.{◌≡◌, ◌≤◌, length, arith, sym}
+use Rattle.std.proofs.Common.{◌≤◌, length, arith}
 use Rattle.sector_images.specs.Places.{tracks}
 use Rattle.track_shelf.proofs.Reaching.{all-reached, not-reached, reached-more}
 use Rattle.track_shelf.proofs.stepping.Stepping.reaches_all.Goals as goal
