@@ -25,7 +25,7 @@ struct Wanted {
 }
 
 /// The files of the system as a shelf. No memory is taken. Each error of std is counted as a fault, save where `begin` and
-/// `open_file` do not find a file, and where it is only looked what something is; so is a name that is no text, and
+/// `open_file` do not find a file, and where it is only looked whether or what something is; so is a name that is no text, and
 /// a path of more than 4096 bytes. To `open_file` a file whose folder is a file is not there. A folder in the place of a
 /// track's file fails when it is read. It tells no bytes and no files.
 #[derive(Drop)]
@@ -248,6 +248,16 @@ impl<'a, R: Files> Shelf for StdShelf<'a, R> {
         answer
     }
 
+    fn holds(&self, dump: &[u8], track: TrackId) -> bool {
+        let Some(path) = TrackPath::of_dump(dump, track).text() else {
+            return true;
+        };
+        match fs::metadata(self.files, path.as_str()) {
+            Ok(_) => true,
+            Err(error) => !is_missing(&error),
+        }
+    }
+
     fn kind_of(&self, dump: &[u8]) -> DumpKind {
         let Ok(path) = path_of(dump) else {
             return DumpKind::Unknown;
@@ -279,4 +289,6 @@ impl<'a, R: Files> Shelf for StdShelf<'a, R> {
     fn close_file(&mut self, file: StdSource<R::File>) {
         self.faults = self.faults.saturating_add(file.faults());
     }
+
+    ghost tells = { λ _. tt };
 }

@@ -1,5 +1,6 @@
 pub mod Names
 pub mod Files
+pub mod Handled
 pub mod Told
 pub mod Stepping
 pub mod Memory

@@ -445,6 +445,10 @@ impl<'a> Shelf for MemoryShelf<'a> {
         }
     }
 
+    fn holds(&self, dump: &[u8], track: TrackId) -> bool {
+        place_of(self.files, &TrackPath::of_dump(dump, track)).is_some()
+    }
+
     fn kind_of(&self, dump: &[u8]) -> DumpKind {
         kind_in(self.files, dump)
     }
@@ -480,4 +484,6 @@ impl<'a> Shelf for MemoryShelf<'a> {
         self.calls = self.calls.max(file.calls);
         self.faults = self.faults.saturating_add(file.faults);
     }
+
+    ghost tells = { λ _. tt };
 }

@@ -1,7 +1,8 @@
-ghost use Rattle.std.specs.Prelude.{◌≡◌, ℕ, ◌<◌, ◌≤◌, List, None, Some, Option, length, is_err, IfOk, IfSome, OnErr};
+ghost use Rattle.std.specs.Prelude.{◌≡◌, ℕ, ◌<◌, ◌≤◌, List, None, Some, Option, length, is_err, is_some, option_map, IfOk, IfSome, OnErr};
 ghost use Rattle.flux_base.specs.Outside.{IsCounted, Rose};
 ghost use Rattle.sector_images.specs.Places.{tracks};
-ghost use Rattle.track_shelf.specs.Files.{CountsFromNone, File, LeavesWanted, NamesMissing, NoneFailed, Opens, taken_over};
+ghost use Rattle.track_shelf.specs.Files.{CountsFromNone, File, LeavesWanted, NamesMissing, NoneFailed, Opens, file_at, taken_over};
+ghost use Rattle.track_shelf.specs.Handled.{CountsToo, Handled, handled_close, handled_open, has_failed};
 ghost use Rattle.track_shelf.specs.DumpKinds.{IsKindOf};
 ghost use Rattle.track_shelf.specs.Names.{path_text};
 
@@ -18,6 +19,9 @@ pub trait Shelf: Source {
     /// The files that lie on the shelf, where the object tells them.
     ghost files: { Self → Option (List File) } = { λ _. None };
 
+    /// Which of them are open, and which have failed, where the object tells it.
+    ghost handled: { Self → Option Handled } = { λ _. None };
+
     /// Looks for the file of each of the format's tracks in a folder. Where all are there, the bytes still to come
     /// are from now on those of these files, in the order of the tracks' numbers. Else the answer is the number of
     /// the first track whose file is missing. No memory is taken.
@@ -29,10 +33,16 @@ pub trait Shelf: Source {
         // Where a file is missing, and after `Failed`, the bytes still to come are as they were.
         ensures left { LeavesWanted (files self.old) folder.now format result (Self.left self.old) (Self.left self.new) }
         ensures kept { files self.new ≡ files self.old }
+        ensures unhandled { handled self.new ≡ handled self.old }
         ensures unread { Self.given self.new ≡ Self.given self.old }
         ensures later { Self.faults self.old ≤ Self.faults self.new }
         ensures cause { OnErr result (Rose (Self.faults self.old) (Self.faults self.new)) }
         ensures counted { IsCounted (is_err result) (Self.failed self.old) (Self.failed self.new) };
+
+    /// Whether the file of a track of a dump is there. Nothing fails: a file that cannot be looked at is there, and fails as
+    /// it is opened.
+    fn holds(&self, dump: &[u8], track: TrackId) -> bool
+        ensures { (told : List File) → files self.now ≡ Some told → result ≡ is_some (file_at told (path_text dump.now track)) };
 
     /// What lies under a dump's name, of which none of the wanted files is there. Nothing fails: what cannot be looked at is
     /// `Unknown`.
@@ -43,6 +53,7 @@ pub trait Shelf: Source {
     /// file. What is done with the file touches nothing of the shelf. No memory is taken.
     fn open_file(&mut self, dump: &[u8], track: TrackId) -> Result<Option<Self::File>, Failed>
         ensures opened { Opens Self.File.left (files self.old) (path_text dump.now track) result }
+        ensures handles { handled self.new ≡ option_map (handled_open (path_text dump.now track) result) (handled self.old) }
         ensures sound { NoneFailed Self.File.faults result }
         ensures fresh { CountsFromNone Self.File.failed (Self.failed self.old) result }
         ensures left { Self.left self.new ≡ Self.left self.old }
@@ -52,12 +63,16 @@ pub trait Shelf: Source {
         ensures cause { OnErr result (Rose (Self.faults self.old) (Self.faults self.new)) }
         ensures counted { IsCounted (is_err result) (Self.failed self.old) (Self.failed self.new) };
 
-    /// Takes an open file back. How often it failed is counted with the shelf's own faults.
+    /// Takes the file back that was opened last. How often it failed is counted with the shelf's own faults.
     fn close_file(&mut self, file: Self::File)
+        ensures handles { handled self.new ≡ option_map (handled_close (has_failed (Self.File.failed file))) (handled self.old) }
         ensures cause { Rose 0 (Self.File.faults file) → Rose (Self.faults self.old) (Self.faults self.new) }
         ensures left { Self.left self.new ≡ Self.left self.old }
         ensures kept { files self.new ≡ files self.old }
         ensures unread { Self.given self.new ≡ Self.given self.old }
         ensures later { Self.faults self.old ≤ Self.faults self.new }
         ensures counted { Self.failed self.new ≡ taken_over (Self.File.failed file) (Self.failed self.old) };
+
+    /// Where it tells which files failed, it tells how many calls did.
+    ghost tells: { (shelf : Self) → CountsToo (handled shelf) (Self.failed shelf) };
 }

@@ -252,6 +252,46 @@ fn a_file_is_opened_by_its_path_alone(rt: HostRuntime) -> Result<(), Fail> {
     Ok(())
 }
 
+/// Whether a track's file is there, and the calls. A folder lies in the place of one of the tracks' files.
+fn look_for(dump: &str, track: TrackId, record: Record) -> (bool, String) {
+    let files = StandIn {
+        files: FILES.as_slice(),
+        folders: &[("dump/track39.1.raw/", b"")],
+        record: &record,
+    };
+    let answer = StdShelf::new(&files).holds(dump.as_bytes(), track);
+    (answer, record.lines())
+}
+
+// It is looked at by its path alone. What cannot be looked at is there, but for what is not found.
+#[test]
+fn a_file_is_looked_for(rt: HostRuntime) -> Result<(), Fail> {
+    let alloc = rt.alloc();
+    for (dump, cylinder, head, path, bytes) in SINGLE {
+        let track = TrackId { cylinder, head };
+        let look = format!(in alloc; "look {path}\n")?;
+        let (there, calls) = look_for(dump, track, Record::new(alloc, NONE, ErrorKind::Other));
+        assert_eq!(rt; (there, calls.as_str()), (bytes.is_some(), look.as_str()));
+        let (there, calls) = look_for(dump, track, Record::new(alloc, 0, ErrorKind::NotFound));
+        assert_eq!(rt; (there, calls.as_str()), (false, look.as_str()));
+        for kind in FAULTS {
+            let (there, calls) = look_for(dump, track, Record::new(alloc, 0, kind));
+            assert_eq!(rt;
+                (there, calls.as_str()),
+                (kind != ErrorKind::NotADirectory, look.as_str()),
+                "{kind:?}"
+            );
+        }
+    }
+    let folder = TrackId {
+        cylinder: 39,
+        head: 1,
+    };
+    let (there, _) = look_for("dump", folder, Record::new(alloc, NONE, ErrorKind::Other));
+    assert!(rt; there);
+    Ok(())
+}
+
 /// Reads a file that is open to its end, and compares its bytes.
 fn has_bytes<S: Source>(rt: &impl Abort, file: &mut S, bytes: &[u8]) {
     for byte in bytes {

@@ -102,6 +102,12 @@ fn a_shelf_opens_one_file_after_another(rt: HostRuntime) -> Result<(), Fail> {
     let files = files(rt.alloc())?;
     let mut shelf = MemoryShelf::new(&files, 2, &FAILING);
     for (dump, cylinder, there, pieces) in OPENS {
+        // To look is no call, and never fails.
+        assert_eq!(rt;
+            shelf.holds(dump.as_bytes(), first(cylinder)),
+            there != Ok(false),
+            "{dump}"
+        );
         let opened = shelf.open_file(dump.as_bytes(), first(cylinder));
         match opened {
             Ok(Some(mut file)) => {
