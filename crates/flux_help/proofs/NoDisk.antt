@@ -1,6 +1,7 @@
 -- The numbers that do not fit are just those of no disk.
-use Rattle.std.specs.Prelude.{◌≡◌, ℕ, ◌+◌, ◌≤◌, ◌&&◌, Bool, true, false, if◌then◌else◌, is_some, nat_le, Option, Some, None, IfSome, refl}
-use Rattle.std.proofs.Common.{ap, sym, subst}
+use Rattle.std.specs.Prelude.{◌≡◌, ℕ, ◌+◌, ◌≤◌, ◌&&◌, Bool, true, false, cond, not, if◌then◌else◌, is_some, nat_le, Option, Some, None, IfSome, refl}
+use Rattle.std.specs.Option.{option_and_then}
+use Rattle.std.proofs.Common.{ap, arith, sym, subst, ◌∙◌}
 use Rattle.std.proofs.lemmas.Bool.{and_from, and_parts, le-leb, leb-true}
 use Rattle.ibm_disks.specs.Disks.{HasTrack, IsDiskOf, sound, track_of_disk}
 use Rattle.ibm_disks.specs.Plans.{FillsTrackOf, density_of, track_at, track_of}
@@ -11,8 +12,9 @@ use Rattle.ibm_disks.specs.declared.rate.Rate.{Rate}
 use Rattle.ibm_disks.specs.declared.sector_size.SectorSize.{SectorSize}
 use Rattle.ibm_disks.specs.declared.track_numbers.TrackNumbers.{TrackNumbers}
 use Rattle.ibm_disks.specs.declared.word.DiskNumbers.{DiskNumbers}
-use Rattle.flux_help.specs.Unfit.{UnfitIsNoDisk, first_unfit, size_with, unfit_by, within}
-use Rattle.flux_help.specs.declared.unfit.Unfit.TheVariants.{Cylinders, Heads, Sectors, LastSector, Track}
+use Rattle.flux_help.specs.Unfit.{UnfitIsNoDisk, first_unfit, fits, last_sector, size_with, within}
+use Rattle.flux_help.specs.declared.unfit.Unfit.{Unfit}
+use Rattle.flux_help.specs.declared.unfit.Unfit.TheVariants.{Cylinders, Heads, Sectors, SectorBytes, LastSector, Track}
 use Rattle.flux_help.proofs.Sizes.{size-has, size-some}
 
 -- a choice that was made passed its test
@@ -35,6 +37,31 @@ fills rate sectors first size track is =
     (track_at (density_of rate) (record { rate = rate; sectors = sectors; first_sector = first; size = size })) track is in
     subst (λ (o : Option TrackNumbers). IfSome o (FillsTrackOf rate)) tests.3
     (filled (record { rate = rate; sectors = sectors; first_sector = first; size = size }) (leb-true _ _ tests.0) (leb-true _ _ tests.2) (density_of rate))
+
+-- six tests, the first of which that fails is told
+abbrev unfit-of : (a b c d e f : Bool) → Option Unfit
+unfit-of a b c d e f =
+    cond (not a) (Some Cylinders)
+    (cond (not b) (Some Heads)
+    (cond (not c) (Some Sectors) (cond (not d) (Some SectorBytes) (cond (not e) (Some LastSector) (cond (not f) (Some Track) None)))))
+
+all-fit : (a b c d e f : Bool) → unfit-of a b c d e f ≡ None → (a ≡ true) × (b ≡ true) × (c ≡ true) × (d ≡ true) × (e ≡ true) × (f ≡ true)
+all-fit true true true true true true is = (refl, refl, refl, refl, refl, refl)
+all-fit false b c d e f is = absurd (cc)
+all-fit true false c d e f is = absurd (cc)
+all-fit true true false d e f is = absurd (cc)
+all-fit true true true false e f is = absurd (cc)
+all-fit true true true true false f is = absurd (cc)
+all-fit true true true true true false is = absurd (cc)
+
+none-unfit : (a b c d e f : Bool) → a ≡ true → b ≡ true → c ≡ true → d ≡ true → e ≡ true → f ≡ true → unfit-of a b c d e f ≡ None
+none-unfit true true true true true true is_a is_b is_c is_d is_e is_f = refl
+none-unfit false b c d e f is_a is_b is_c is_d is_e is_f = absurd (cc)
+none-unfit true false c d e f is_a is_b is_c is_d is_e is_f = absurd (cc)
+none-unfit true true false d e f is_a is_b is_c is_d is_e is_f = absurd (cc)
+none-unfit true true true false e f is_a is_b is_c is_d is_e is_f = absurd (cc)
+none-unfit true true true true false f is_a is_b is_c is_d is_e is_f = absurd (cc)
+none-unfit true true true true true false is_a is_b is_c is_d is_e is_f = absurd (cc)
 
 module _ (n : DiskNumbers) where
   -- a disk of these numbers
@@ -60,52 +87,33 @@ module _ (n : DiskNumbers) where
       let has = is.track in
       let tests = chosen (nat_le 1 n.sectors) (nat_le n.sectors 32) (nat_le (n.first_sector + n.sectors) 256)
       (track_at (density_of n.rate) (record { rate = n.rate; sectors = n.sectors; first_sector = n.first_sector; size = has.size })) (track_of_disk disk) has.is in
-      rw (
-        within-is 1 99 n.cylinders is.some_cylinders is.few_cylinders,
-        within-is 1 2 n.heads is.some_heads is.few_heads,
-        and_from _ _ tests.0 tests.1,
-        size-some n.sector_bytes has.size has.bytes,
-        has.is,
-        tests.2,
-      ) refl
+      let sized : size_with n.sector_bytes ≡ Some has.size = size-some n.sector_bytes has.size has.bytes in
+      none-unfit (fits n Cylinders) (fits n Heads) (fits n Sectors) (fits n SectorBytes) (fits n LastSector) (fits n Track)
+      (within-is 1 99 n.cylinders is.some_cylinders is.few_cylinders) (within-is 1 2 n.heads is.some_heads is.few_heads) (and_from _ _ tests.0 tests.1)
+      (ap is_some sized) (le-leb _ _ (last-few (leb-true _ _ tests.2)))
+      (ap (λ (o : Option SectorSize). is_some (option_and_then (track_of n.rate n.sectors n.first_sector) o)) sized ∙ ap is_some has.is)
+    where
+      last-few : n.first_sector + n.sectors ≤ 256 → last_sector n ≤ 255
+      last-few few = omega (arith, few)
 
   -- and where each does, there is one
   fits-disk : first_unfit n ≡ None → (disk : IbmDisk) × IsDiskOf n disk
-  fits-disk is = by_cylinders (within 1 99 n.cylinders) refl is
+  fits-disk is =
+      let all = all-fit (fits n Cylinders) (fits n Heads) (fits n Sectors) (fits n SectorBytes) (fits n LastSector) (fits n Track) is in
+      by_size (is-within 1 99 n.cylinders all.0) (is-within 1 2 n.heads all.1) (size_with n.sector_bytes) refl all.5
     where
-      by_track : (size : SectorSize) (o : Option TrackNumbers) → (1 ≤ n.cylinders) × (n.cylinders ≤ 99) → (1 ≤ n.heads) × (n.heads ≤ 2) → size_with n.sector_bytes ≡ Some size
-          → track_of n.rate n.sectors n.first_sector size ≡ o → (if is_some o then None else Some Track) ≡ None → (disk : IbmDisk) × IsDiskOf n disk
-      by_track size (Some track) cylinders heads sized at same = (
+      by_track : (1 ≤ n.cylinders) × (n.cylinders ≤ 99) → (1 ≤ n.heads) × (n.heads ≤ 2) → (size : SectorSize) (o : Option TrackNumbers) → size_with n.sector_bytes ≡ Some size
+          → track_of n.rate n.sectors n.first_sector size ≡ o → is_some o ≡ true → (disk : IbmDisk) × IsDiskOf n disk
+      by_track cylinders heads size (Some track) sized at some = (
         record { cylinders = n.cylinders; heads = n.heads; rate = n.rate; track = track },
         the_disk track cylinders.0 cylinders.1 heads.0 heads.1 (record { size = size; bytes = size-has n.sector_bytes size sized; is = at }),
       )
-      by_track size None cylinders heads sized at same = absurd (cc)
+      by_track cylinders heads size None sized at some = absurd (cc)
 
-      by_last : (size : SectorSize) (b : Bool) → (1 ≤ n.cylinders) × (n.cylinders ≤ 99) → (1 ≤ n.heads) × (n.heads ≤ 2) → size_with n.sector_bytes ≡ Some size
-          → (if b then (if is_some (track_of n.rate n.sectors n.first_sector size) then None else Some Track) else Some LastSector) ≡ None → (disk : IbmDisk) × IsDiskOf n disk
-      by_last size true cylinders heads sized same = by_track size (track_of n.rate n.sectors n.first_sector size) cylinders heads sized refl same
-      by_last size false cylinders heads sized same = absurd (cc)
-
-      by_size : (o : Option SectorSize) → (1 ≤ n.cylinders) × (n.cylinders ≤ 99) → (1 ≤ n.heads) × (n.heads ≤ 2) → size_with n.sector_bytes ≡ o → unfit_by n o ≡ None
-          → (disk : IbmDisk) × IsDiskOf n disk
-      by_size (Some size) cylinders heads sized same = by_last size (nat_le (n.first_sector + n.sectors) 256) cylinders heads sized same
-      by_size None cylinders heads sized same = absurd (cc)
-
-      by_sectors : (b : Bool) → (1 ≤ n.cylinders) × (n.cylinders ≤ 99) → (1 ≤ n.heads) × (n.heads ≤ 2) → (if b then unfit_by n (size_with n.sector_bytes) else Some Sectors) ≡ None
-          → (disk : IbmDisk) × IsDiskOf n disk
-      by_sectors true cylinders heads same = by_size (size_with n.sector_bytes) cylinders heads refl same
-      by_sectors false cylinders heads same = absurd (cc)
-
-      by_heads : (b : Bool) → within 1 2 n.heads ≡ b → (1 ≤ n.cylinders) × (n.cylinders ≤ 99)
-          → (if b then (if within 1 32 n.sectors then unfit_by n (size_with n.sector_bytes) else Some Sectors) else Some Heads) ≡ None → (disk : IbmDisk) × IsDiskOf n disk
-      by_heads true at cylinders same = by_sectors (within 1 32 n.sectors) cylinders (is-within 1 2 n.heads at) same
-      by_heads false at cylinders same = absurd (cc)
-
-      by_cylinders : (b : Bool) → within 1 99 n.cylinders ≡ b
-          → (if b then (if within 1 2 n.heads then (if within 1 32 n.sectors then unfit_by n (size_with n.sector_bytes) else Some Sectors) else Some Heads) else Some Cylinders) ≡ None
-          → (disk : IbmDisk) × IsDiskOf n disk
-      by_cylinders true at same = by_heads (within 1 2 n.heads) refl (is-within 1 99 n.cylinders at) same
-      by_cylinders false at same = absurd (cc)
+      by_size : (1 ≤ n.cylinders) × (n.cylinders ≤ 99) → (1 ≤ n.heads) × (n.heads ≤ 2) → (o : Option SectorSize) → size_with n.sector_bytes ≡ o
+          → is_some (option_and_then (track_of n.rate n.sectors n.first_sector) o) ≡ true → (disk : IbmDisk) × IsDiskOf n disk
+      by_size cylinders heads (Some size) sized some = by_track cylinders heads size (track_of n.rate n.sectors n.first_sector size) sized refl some
+      by_size cylinders heads None sized some = absurd (cc)
 
 pub unfit_no_disk : UnfitIsNoDisk
 unfit_no_disk n = (fits-disk n, λ has. disk-fits n has.0 has.1)

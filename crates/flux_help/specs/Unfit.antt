@@ -1,5 +1,6 @@
 -- Why numbers are no disk's (own): the first of them that does not fit.
-use Rattle.std.specs.Prelude.{◌≡◌, ◌↔◌, ℕ, ◌+◌, ◌-◌, ◌&&◌, Bool, if◌then◌else◌, is_some, nat_eq, nat_le, List, [], ◌∷◌, ◌++◌, codes, decimal, find, Option, Some, None}
+use Rattle.std.specs.Prelude.{◌≡◌, ◌↔◌, ℕ, ◌+◌, ◌-◌, ◌&&◌, Bool, not, is_some, nat_eq, nat_le, List, [], ◌∷◌, ◌++◌, codes, decimal, find, Option, None}
+use Rattle.std.specs.Option.{option_and_then}
 use Rattle.ibm_disks.specs.Disks.{IsDiskOf}
 use Rattle.ibm_disks.specs.Numbers.{size_of}
 use Rattle.ibm_disks.specs.Plans.{track_bytes, track_of}
@@ -17,17 +18,26 @@ within low high number = nat_le low number && nat_le number high
 abbrev pub size_with : ℕ → Option SectorSize
 size_with bytes = find (λ size. nat_eq (size_of size) bytes) (Bytes128 ∷ Bytes256 ∷ Bytes512 ∷ Bytes1024 ∷ [])
 
--- of a track with 1 to 32 sectors: its size, the number of its last sector, and whether so many fill a track of the rate
-abbrev pub unfit_by : DiskNumbers → Option SectorSize → Option Unfit
-unfit_by n None = Some SectorBytes
-unfit_by n (Some size) =
-    if nat_le (n.first_sector + n.sectors) 256 then (if is_some (track_of n.rate n.sectors n.first_sector size) then None else Some Track) else Some LastSector
+-- the number of the last sector
+abbrev pub last_sector : DiskNumbers → ℕ
+last_sector n = n.first_sector + n.sectors - 1
 
+-- a number fits
+abbrev pub fits : DiskNumbers → Unfit → Bool
+fits n Cylinders = within 1 99 n.cylinders
+fits n Heads = within 1 2 n.heads
+fits n Sectors = within 1 32 n.sectors
+fits n SectorBytes = is_some (size_with n.sector_bytes)
+fits n LastSector = nat_le (last_sector n) 255
+fits n Track = is_some (option_and_then (track_of n.rate n.sectors n.first_sector) (size_with n.sector_bytes))
+
+-- the first of some that does not
+abbrev pub first_of : List Unfit → DiskNumbers → Option Unfit
+first_of numbers n = find (λ number. not (fits n number)) numbers
+
+-- in the order in which a word has them, and last whether a track has room for its sectors
 abbrev pub first_unfit : DiskNumbers → Option Unfit
-first_unfit n =
-    if within 1 99 n.cylinders
-    then (if within 1 2 n.heads then (if within 1 32 n.sectors then unfit_by n (size_with n.sector_bytes) else Some Sectors) else Some Heads)
-    else Some Cylinders
+first_unfit n = first_of (Cylinders ∷ Heads ∷ Sectors ∷ SectorBytes ∷ LastSector ∷ Track ∷ []) n
 
 -- each number fits just where the numbers are a disk's
 abbrev pub UnfitIsNoDisk : Type 0
@@ -35,11 +45,12 @@ UnfitIsNoDisk = (n : DiskNumbers) → first_unfit n ≡ None ↔ ((disk : IbmDis
 
 -- what is said of it
 abbrev pub last_sector_text : DiskNumbers → List ℕ
-last_sector_text n = codes "the last sector is 255 at most, not " ++ decimal (n.first_sector + n.sectors - 1)
+last_sector_text n = codes "the last sector is 255 at most, not " ++ decimal (last_sector n)
 
 abbrev pub track_text : DiskNumbers → List ℕ
 track_text n =
-    decimal n.sectors ++ codes " sectors of " ++ decimal n.sector_bytes ++ codes " bytes do not fit on a track of " ++ decimal (track_bytes n.rate)
+    decimal n.sectors ++ codes " sectors of " ++ decimal n.sector_bytes ++ codes " bytes do not fit on a track of "
+    ++ decimal (track_bytes n.rate)
 
 abbrev pub unfit_text : Unfit → DiskNumbers → List ℕ
 unfit_text Cylinders n = codes "cylinders are 1 to 99, not " ++ decimal n.cylinders

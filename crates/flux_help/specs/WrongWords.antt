@@ -44,7 +44,8 @@ numbers_ending (Some n) = unfit_ending n (first_unfit n)
 -- the end of the line on a word that no format has: what it means, or else the nearest
 abbrev pub ending_of : List ℕ → Option (List ℕ)
 ending_of word =
-    if is_named word then None else (if begins_numbers word then numbers_ending (written_numbers word) else Some (no_format_ending word))
+    if is_named word then None
+    else (if begins_numbers word then numbers_ending (written_numbers word) else Some (no_format_ending word))
 
 -- an option begins with a minus
 abbrev pub is_option : List ℕ → Bool

@@ -1,12 +1,13 @@
 //! Why the numbers that a word writes are no disk's.
 
-ghost use Rattle.std.specs.Prelude.{◌≡◌, ◌+◌, ◌≤◌, ◌++◌, Some, codes, decimal, length};
+ghost use Rattle.std.specs.Prelude.{◌≡◌, ◌+◌, ◌≤◌, ◌++◌, ◌∷◌, [], Some, codes, decimal, length};
 ghost use Rattle.std.specs.Option.{option_map};
 ghost use Rattle.arrayvec.specs.ArrayString.{array_string_len};
 ghost use Rattle.ibm_disks.specs.Plans.{IsCountOfSectors};
-ghost use Rattle.flux_help.specs.Unfit.{UnfitIsNoDisk, first_unfit, last_sector_text, size_with, track_text, unfit_by, unfit_text, within};
+ghost use Rattle.flux_help.specs.Unfit.{UnfitIsNoDisk, first_of, first_unfit, last_sector_text, size_with, track_text, unfit_text, within};
 ghost use Rattle.flux_help.specs.WrittenNumbers.{written_numbers};
 ghost use Rattle.flux_help.specs.WrongWords.{numbers_ending, unfit_ending};
+ghost use Rattle.flux_help.specs.declared.unfit.Unfit.TheVariants.{LastSector, Track};
 
 use ibm_disks::{DiskNumbers, SectorSize, TrackNumbers};
 use sector_report::{Line, put, put_named, put_u32};
@@ -28,8 +29,8 @@ pub(crate) enum Unfit {
     Track,
 }
 
-/// The end of the line on a word that begins as those do that write a disk's numbers: which of its numbers does not fit. None where each does, or
-/// the word writes none.
+/// The end of the line on a word that begins as those do that write a disk's numbers: which of its numbers does not
+/// fit. None where each does, or the word writes none.
 pub(crate) fn numbers_ending(word: &[u8]) -> Option<Line>
     ensures { option_map (λ line. line.bytes) result ≡ numbers_ending (written_numbers word.now) }
 {
@@ -91,8 +92,9 @@ fn size_with(bytes: u16) -> Option<SectorSize>
 
 /// What does not fit of a track's numbers: that of its last sector, or their count.
 fn unfit_track(numbers: DiskNumbers, size: SectorSize) -> Option<Unfit>
-    requires { IsCountOfSectors numbers.sectors }
-    ensures { result ≡ unfit_by numbers (Some size) }
+    requires count { IsCountOfSectors numbers.sectors }
+    requires size { size_with numbers.sector_bytes ≡ Some size }
+    ensures { result ≡ first_of (LastSector ∷ Track ∷ []) numbers }
 {
     if u32::from(numbers.first_sector) + u32::from(numbers.sectors) > 256 {
         return Some(Unfit::LastSector);
