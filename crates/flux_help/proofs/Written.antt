@@ -1,87 +1,101 @@
 -- The numbers that a word writes are those that are read from its digits.
-use Rattle.std.specs.Prelude.{◌≡◌, ℕ, ◌+◌, ◌*◌, ◌<◌, ◌^◌, ◌&&◌, Bool, true, false, if◌then◌else◌, List, [], ◌∷◌, ◌++◌, decimal, drop, length, nat_eq, nat_lt, Option, Some, None, IfNone, IfSome, refl, unwrap_or}
+use Rattle.std.specs.Prelude.{◌≡◌, ℕ, ◌<◌, ◌^◌, ◌&&◌, Bool, true, false, cond, not, take, List, [], ◌∷◌, ◌++◌, decimal, drop, find, is_some, length, map, nat_eq, nat_lt, Option, Some, None, IfNone, IfSome, refl, unwrap_or}
 use Rattle.std.specs.Char.{digit_value}
-use Rattle.std.specs.Option.{option_and_then}
+use Rattle.std.specs.List.{onto_first, slice_split}
 use Rattle.std.specs.Str.{bytes_eq}
-use Rattle.std.specs.Str.Parse.{AllDigits, digits_value_after}
-use Rattle.std.proofs.Common.{ap, arith, inl, inr, subst, sym, ◌∙◌}
+use Rattle.std.specs.Str.Parse.{AllDigits, digits_value}
+use Rattle.std.proofs.Common.{ap, arith, inl, inr, sym, ◌∙◌}
 use Rattle.std.proofs.lemmas.Bool.{and_from, and_parts, eq-eqb, eqb-true, lt-ltb, ltb-true, or_cases, or_left, or_right}
 use Rattle.std.proofs.lemmas.Fmt.{decimal_is_IsNumeral}
+use Rattle.std.proofs.lemmas.List.Splits.{slice_split-cons_no, slice_split-cons_yes}
 use Rattle.std.proofs.lemmas.Slice.Eq.{bytes_eq-Decides}
 use Rattle.ibm_disks.specs.Words.{AreShort, EndsWith, IsWordOf, density_word, rate_word}
 use Rattle.ibm_disks.specs.declared.rate.Rate.{Rate}
 use Rattle.ibm_disks.specs.declared.rate.Rate.TheVariants.{Double, High, HighAt360, Single, SingleAt360}
 use Rattle.ibm_disks.specs.declared.word.DiskNumbers.{DiskNumbers}
-use Rattle.flux_help.specs.WrittenNumbers.{are_short, if_written, numbers_as, numbers_behind, numbers_in, rate_front, rate_in, word_with, writes, written_numbers}
+use Rattle.flux_help.specs.WrittenNumbers.{are_short, is_no_digit, numbers_as, numbers_in, rate_front, rates, read_at, word_with, writes, written_numbers}
 
 -- digits, and what ends them
-digits-end : (ds : List ℕ) → AllDigits 10 ds → (n stop : ℕ) → nat_lt (digit_value stop) 10 ≡ false → (rest : List ℕ)
-    → numbers_in n (ds ++ stop ∷ rest) ≡ digits_value_after 10 n ds ∷ numbers_in 0 rest
-digits-end [] all n stop ends rest = ap (λ (b : Bool). if b then numbers_in (n * 10 + digit_value stop) rest else n ∷ numbers_in 0 rest) ends
-digits-end (c ∷ cs) all n stop ends rest =
-    ap (λ (b : Bool). if b then numbers_in (n * 10 + digit_value c) (cs ++ stop ∷ rest) else n ∷ numbers_in 0 (cs ++ stop ∷ rest)) (lt-ltb _ _ all.0)
-    ∙ digits-end cs all.1 (n * 10 + digit_value c) stop ends rest
+digit-no : (c : ℕ) → digit_value c < 10 → is_no_digit c ≡ false
+digit-no c is = ap not (lt-ltb _ _ is)
 
-digits-last : (ds : List ℕ) → AllDigits 10 ds → (n : ℕ) → numbers_in n ds ≡ digits_value_after 10 n ds ∷ []
-digits-last [] all n = refl
-digits-last (c ∷ cs) all n =
-    ap (λ (b : Bool). if b then numbers_in (n * 10 + digit_value c) cs else n ∷ numbers_in 0 cs) (lt-ltb _ _ all.0)
-    ∙ digits-last cs all.1 (n * 10 + digit_value c)
+digits-end : (ds : List ℕ) → AllDigits 10 ds → (stop : ℕ) → is_no_digit stop ≡ true → (rest : List ℕ)
+    → slice_split is_no_digit (ds ++ stop ∷ rest) ≡ ds ∷ slice_split is_no_digit rest
+digits-end [] all stop ends rest = slice_split-cons_yes is_no_digit stop rest ends
+digits-end (c ∷ cs) all stop ends rest =
+    slice_split-cons_no is_no_digit c (cs ++ stop ∷ rest) (digit-no c all.0) ∙ ap (onto_first c) (digits-end cs all.1 stop ends rest)
+
+digits-last : (ds : List ℕ) → AllDigits 10 ds → slice_split is_no_digit ds ≡ ds ∷ []
+digits-last [] all = refl
+digits-last (c ∷ cs) all = slice_split-cons_no is_no_digit c cs (digit-no c all.0) ∙ ap (onto_first c) (digits-last cs all.1)
 
 module _ (m : ℕ) (small : m < 10000) where
   wide : m < 2 ^ 64
   wide = omega (arith, small)
 
-  number-end : (stop : ℕ) → nat_lt (digit_value stop) 10 ≡ false → (rest : List ℕ) → numbers_in 0 (decimal m ++ stop ∷ rest) ≡ m ∷ numbers_in 0 rest
+  number-end : (stop : ℕ) → is_no_digit stop ≡ true → (rest : List ℕ) → numbers_in (decimal m ++ stop ∷ rest) ≡ m ∷ numbers_in rest
   number-end stop ends rest =
       let is = decimal_is_IsNumeral m wide in
-      digits-end (decimal m) is.0.1 0 stop ends rest ∙ ap (λ (n : ℕ). n ∷ numbers_in 0 rest) is.1
+      ap (map (digits_value 10)) (digits-end (decimal m) is.0.1 stop ends rest) ∙ ap (λ (n : ℕ). n ∷ numbers_in rest) is.1
 
-  number-last : numbers_in 0 (decimal m) ≡ m ∷ []
-  number-last = (let is = decimal_is_IsNumeral m wide in digits-last (decimal m) is.0.1 0 ∙ ap (λ (n : ℕ). n ∷ []) is.1)
+  number-last : numbers_in (decimal m) ≡ m ∷ []
+  number-last =
+      let is = decimal_is_IsNumeral m wide in
+      ap (map (digits_value 10)) (digits-last (decimal m) is.0.1) ∙ ap (λ (n : ℕ). n ∷ []) is.1
 
--- the rate of a word that begins with it
-rate-is : (rate : Rate) (rest : List ℕ) → rate_in (density_word rate ++ 45 ∷ (rate_word rate ++ 45 ∷ rest)) ≡ Some rate
-rate-is Double rest = refl
-rate-is High rest = refl
-rate-is HighAt360 rest = refl
-rate-is Single rest = refl
-rate-is SingleAt360 rest = refl
+-- how words of a rate begin
+front-is : (rate : Rate) (rest : List ℕ) → rate_front rate ++ rest ≡ density_word rate ++ 45 ∷ (rate_word rate ++ 45 ∷ rest)
+front-is Double rest = refl
+front-is High rest = refl
+front-is HighAt360 rest = refl
+front-is Single rest = refl
+front-is SingleAt360 rest = refl
 
-behind-is : (rate : Rate) (rest : List ℕ) → drop (length (rate_front rate)) (density_word rate ++ 45 ∷ (rate_word rate ++ 45 ∷ rest)) ≡ rest
+behind-is : (rate : Rate) (rest : List ℕ) → drop (length (rate_front rate)) (rate_front rate ++ rest) ≡ rest
 behind-is Double rest = refl
 behind-is High rest = refl
 behind-is HighAt360 rest = refl
 behind-is Single rest = refl
 behind-is SingleAt360 rest = refl
 
+-- the rate of a word that begins with it
+abbrev rate_in : List ℕ → Option Rate
+rate_in word = find (λ rate. bytes_eq (take (length (rate_front rate)) word) (rate_front rate)) rates
+
+rate-is : (rate : Rate) (rest : List ℕ) → rate_in (rate_front rate ++ rest) ≡ Some rate
+rate-is Double rest = refl
+rate-is High rest = refl
+rate-is HighAt360 rest = refl
+rate-is Single rest = refl
+rate-is SingleAt360 rest = refl
+
 module _ (n : DiskNumbers) (short : AreShort n) where
   -- three numbers and what follows
   three : (last : List ℕ)
-      → numbers_in 0 (decimal n.cylinders ++ 120 ∷ (decimal n.heads ++ 120 ∷ (decimal n.sectors ++ 120 ∷ last)))
-      ≡ n.cylinders ∷ n.heads ∷ n.sectors ∷ numbers_in 0 last
+      → numbers_in (decimal n.cylinders ++ 120 ∷ (decimal n.heads ++ 120 ∷ (decimal n.sectors ++ 120 ∷ last)))
+      ≡ n.cylinders ∷ n.heads ∷ n.sectors ∷ numbers_in last
   three last =
       number-end n.cylinders short.cylinders 120 refl (decimal n.heads ++ 120 ∷ (decimal n.sectors ++ 120 ∷ last))
       ∙ ap (λ (rest : List ℕ). n.cylinders ∷ rest) (number-end n.heads short.heads 120 refl (decimal n.sectors ++ 120 ∷ last))
       ∙ ap (λ (rest : List ℕ). n.cylinders ∷ n.heads ∷ rest) (number-end n.sectors short.sectors 120 refl last)
 
   -- the numbers that are read of a word with these last
-  read : (last : List ℕ) → numbers_behind (word_with n last) n.rate ≡ numbers_as n.rate (n.cylinders ∷ n.heads ∷ n.sectors ∷ numbers_in 0 last)
+  read : (last : List ℕ) → read_at (word_with n last) n.rate ≡ numbers_as n.rate (n.cylinders ∷ n.heads ∷ n.sectors ∷ numbers_in last)
   read last =
-      ap (λ (text : List ℕ). numbers_as n.rate (numbers_in 0 text)) (behind-is n.rate (decimal n.cylinders ++ 120 ∷ (decimal n.heads ++ 120 ∷ (decimal n.sectors ++ 120 ∷ last))))
+      ap (λ (text : List ℕ). numbers_as n.rate (numbers_in text)) (behind-is n.rate (decimal n.cylinders ++ 120 ∷ (decimal n.heads ++ 120 ∷ (decimal n.sectors ++ 120 ∷ last))))
       ∙ ap (numbers_as n.rate) (three last)
 
-  ends : (last : List ℕ) → EndsWith last n.sector_bytes n.first_sector → numbers_behind (word_with n last) n.rate ≡ Some n
+  ends : (last : List ℕ) → EndsWith last n.sector_bytes n.first_sector → read_at (word_with n last) n.rate ≡ n
   ends last (inl both) =
-      ap (λ (text : List ℕ). numbers_behind (word_with n text) n.rate) both
+      ap (λ (text : List ℕ). read_at (word_with n text) n.rate) both
       ∙ read (decimal n.sector_bytes ++ 64 ∷ decimal n.first_sector)
       ∙ ap (λ (rest : List ℕ). numbers_as n.rate (n.cylinders ∷ n.heads ∷ n.sectors ∷ rest))
       (number-end n.sector_bytes short.sector_bytes 64 refl (decimal n.first_sector) ∙ ap (λ (rest : List ℕ). n.sector_bytes ∷ rest) (number-last n.first_sector short.first_sector))
   ends last (inr one) =
-      ap (λ (text : List ℕ). numbers_behind (word_with n text) n.rate) one.0
+      ap (λ (text : List ℕ). read_at (word_with n text) n.rate) one.0
       ∙ read (decimal n.sector_bytes)
       ∙ ap (λ (rest : List ℕ). numbers_as n.rate (n.cylinders ∷ n.heads ∷ n.sectors ∷ rest)) (number-last n.sector_bytes short.sector_bytes)
-      ∙ ap (λ (first : ℕ). Some (record n { first_sector = first })) (sym one.1)
+      ∙ ap (λ (first : ℕ). record n { first_sector = first }) (sym one.1)
 
   shorts : are_short n ≡ true
   shorts =
@@ -92,8 +106,8 @@ module _ (n : DiskNumbers) (short : AreShort n) where
     -- the word, with what ends it
     the_word : word ≡ word_with n is.behind.behind_sectors
     the_word =
-        is.is
-        ∙ ap (λ (rest : List ℕ). density_word n.rate ++ 45 ∷ (rate_word n.rate ++ 45 ∷ rest))
+        is.is ∙ sym (front-is n.rate is.rest)
+        ∙ ap (λ (rest : List ℕ). rate_front n.rate ++ rest)
         (is.behind.cylinders
         ∙ ap (λ (rest : List ℕ). decimal n.cylinders ++ 120 ∷ rest) (is.behind.heads ∙ ap (λ (rest : List ℕ). decimal n.heads ++ 120 ∷ rest) is.behind.sectors))
 
@@ -103,13 +117,15 @@ module _ (n : DiskNumbers) (short : AreShort n) where
     is_written (inr one) =
         or_right _ _ (and_from _ _ (eq-eqb _ _ one.1) ((bytes_eq-Decides _ _).1 (the_word ∙ ap (word_with n) one.0)))
 
-    pub read-written : written_numbers word ≡ Some n
-    read-written =
-        ap (λ (w : List ℕ). option_and_then (if_written word) (option_and_then (numbers_behind w) (rate_in w))) the_word
-        ∙ ap (λ (o : Option Rate). option_and_then (if_written word) (option_and_then (numbers_behind (word_with n is.behind.behind_sectors)) o))
-        (rate-is n.rate (decimal n.cylinders ++ 120 ∷ (decimal n.heads ++ 120 ∷ (decimal n.sectors ++ 120 ∷ is.behind.behind_sectors))))
-        ∙ ap (option_and_then (if_written word)) (ends is.behind.behind_sectors is.behind.ends)
-        ∙ ap (λ (b : Bool). if b then Some n else None) (and_from _ _ shorts (is_written is.behind.ends))
+    -- and read at its rate it is these numbers, as at no other
+    reads : read_at word n.rate ≡ n
+    reads = ap (λ (w : List ℕ). read_at w n.rate) the_word ∙ ends is.behind.behind_sectors is.behind.ends
+
+    rated : rate_in word ≡ Some n.rate
+    rated = ap rate_in the_word ∙ rate-is n.rate (decimal n.cylinders ++ 120 ∷ (decimal n.heads ++ 120 ∷ (decimal n.sectors ++ 120 ∷ is.behind.behind_sectors)))
+
+    passes : (are_short n && writes word n) ≡ true
+    passes = and_from _ _ shorts (is_written is.behind.ends)
 
 -- what is read of a word is what it writes
 shorts-are : (n : DiskNumbers) → are_short n ≡ true → AreShort n
@@ -128,7 +144,7 @@ shorts-are n is =
 word-of : (word : List ℕ) (n : DiskNumbers) (last : List ℕ) → EndsWith last n.sector_bytes n.first_sector → word ≡ word_with n last → IsWordOf word n
 word-of word n last ends is = record {
   rest = decimal n.cylinders ++ 120 ∷ (decimal n.heads ++ 120 ∷ (decimal n.sectors ++ 120 ∷ last));
-  is = is;
+  is = is ∙ front-is n.rate (decimal n.cylinders ++ 120 ∷ (decimal n.heads ++ 120 ∷ (decimal n.sectors ++ 120 ∷ last)));
   behind = record {
     same = refl;
     behind_cylinders = decimal n.heads ++ 120 ∷ (decimal n.sectors ++ 120 ∷ last);
@@ -150,25 +166,58 @@ writes-is word n is =
           word-of word n (decimal n.sector_bytes) (inr (refl, eqb-true _ _ parts.0)) ((bytes_eq-Decides _ _).0 parts.1))
     ]
 
-pub written-is : (word : List ℕ) (n : DiskNumbers) → written_numbers word ≡ Some n → AreShort n × IsWordOf word n
-written-is word n is = by (option_and_then (numbers_behind word) (rate_in word)) is
-  where
-    tested : (m : DiskNumbers) (b : Bool) → (are_short m && writes word m) ≡ b → (if b then Some m else None) ≡ Some n → AreShort n × IsWordOf word n
-    tested m true passed same =
-        let parts = and_parts (are_short m) (writes word m) passed in
-        subst (λ (k : DiskNumbers). AreShort k × IsWordOf word k) (ap (λ (o : Option DiskNumbers). unwrap_or o m) same) (shorts-are m parts.0, writes-is word m parts.1)
-    tested m false passed same = absurd (cc)
+-- what is found passed its test, and what passes it is found
+passed-or : {X : Type 0} (test : X → Bool) (x : X) (o : Option X) (b : Bool) → test x ≡ b → IfSome o (λ y. test y ≡ true) → IfSome (cond b (Some x) o) (λ y. test y ≡ true)
+passed-or test x o true is others = is
+passed-or test x o false is others = others
 
-    by : (o : Option DiskNumbers) → option_and_then (if_written word) o ≡ Some n → AreShort n × IsWordOf word n
-    by (Some m) same = tested m (are_short m && writes word m) refl same
-    by None same = absurd (cc)
+found-passes : {X : Type 0} (test : X → Bool) (xs : List X) → IfSome (find test xs) (λ x. test x ≡ true)
+found-passes test [] = tt
+found-passes test (x ∷ xs) = passed-or test x (find test xs) (test x) refl (found-passes test xs)
+
+later : {X : Type 0} (b : Bool) (x : X) (o : Option X) → is_some o ≡ true → is_some (cond b (Some x) o) ≡ true
+later true x o is = refl
+later false x o is = is
+
+found-some : {X : Type 0} (test : X → Bool) (xs ys : List X) (x : X) → test x ≡ true → is_some (find test (xs ++ x ∷ ys)) ≡ true
+found-some test [] ys x is = ap (λ (b : Bool). is_some (cond b (Some x) (find test ys))) is
+found-some test (y ∷ xs) ys x is = later (test y) y (find test (xs ++ x ∷ ys)) (found-some test xs ys x is)
+
+at-rate : {X : Type 0} (f : Rate → X) (test : X → Bool) (rate : Rate) → test (f rate) ≡ true → is_some (find test (map f rates)) ≡ true
+at-rate f test Double is = found-some test [] (f High ∷ f HighAt360 ∷ f Single ∷ f SingleAt360 ∷ []) (f Double) is
+at-rate f test High is = found-some test (f Double ∷ []) (f HighAt360 ∷ f Single ∷ f SingleAt360 ∷ []) (f High) is
+at-rate f test HighAt360 is = found-some test (f Double ∷ f High ∷ []) (f Single ∷ f SingleAt360 ∷ []) (f HighAt360) is
+at-rate f test Single is = found-some test (f Double ∷ f High ∷ f HighAt360 ∷ []) (f SingleAt360 ∷ []) (f Single) is
+at-rate f test SingleAt360 is = found-some test (f Double ∷ f High ∷ f HighAt360 ∷ f Single ∷ []) [] (f SingleAt360) is
+
+-- a word writes one disk's numbers
+one-written : (word : List ℕ) (m n : DiskNumbers) → AreShort m → AreShort n → IsWordOf word m → IsWordOf word n → m ≡ n
+one-written word m n short_m short_n is_m is_n =
+    let same : m.rate ≡ n.rate = ap (λ (o : Option Rate). unwrap_or o m.rate) (sym (rated m short_m word is_m) ∙ rated n short_n word is_n) in
+    sym (reads m short_m word is_m) ∙ ap (read_at word) same ∙ reads n short_n word is_n
 
 -- so a search that finds what a word writes finds this
 pub numbers-are : (word : List ℕ) (o : Option DiskNumbers) → IfSome o (IsWordOf word) → IfSome o AreShort → IfNone o ((n : DiskNumbers) → AreShort n → ¬ IsWordOf word n)
     → o ≡ written_numbers word
-numbers-are word (Some n) is short none = sym (read-written n short word is)
-numbers-are word None is short none = by (written_numbers word) refl
+numbers-are word o is short none = by o (written_numbers word) is short none (found-passes test (map (read_at word) rates)) found
   where
-    by : (o : Option DiskNumbers) → written_numbers word ≡ o → None ≡ o
-    by None at = refl
-    by (Some n) at = (let there = written-is word n at in absurd (none n there.0 there.1))
+    test : DiskNumbers → Bool
+    test n = are_short n && writes word n
+
+    found : IfSome o (λ n. is_some (written_numbers word) ≡ true)
+    found = at o is short
+      where
+        at : (p : Option DiskNumbers) → IfSome p (IsWordOf word) → IfSome p AreShort → IfSome p (λ n. is_some (written_numbers word) ≡ true)
+        at None is short = tt
+        at (Some n) is short = at-rate (read_at word) test n.rate (ap test (reads n short word is) ∙ passes n short word is)
+
+    by : (p q : Option DiskNumbers) → IfSome p (IsWordOf word) → IfSome p AreShort → IfNone p ((n : DiskNumbers) → AreShort n → ¬ IsWordOf word n)
+        → IfSome q (λ m. test m ≡ true) → IfSome p (λ n. is_some q ≡ true) → p ≡ q
+    by None None is short none passed has = refl
+    by None (Some m) is short none passed has =
+        let parts = and_parts (are_short m) (writes word m) passed in
+        absurd (none m (shorts-are m parts.0) (writes-is word m parts.1))
+    by (Some n) None is short none passed has = absurd (cc)
+    by (Some n) (Some m) is short none passed has =
+        let parts = and_parts (are_short m) (writes word m) passed in
+        ap Some (one-written word n m short (shorts-are m parts.0) is (writes-is word m parts.1))
