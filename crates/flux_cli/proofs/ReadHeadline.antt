@@ -9,7 +9,7 @@ use Rattle.flux_base.specs.declared.status.Status.TheVariants.{AllGood, NotAllGo
 use Rattle.law_captured_dumps.specs.Headline.{CapturedDumpsAreNeverWrong, SteadyDumpsAreReadWell}
 use Rattle.law_read_dumps.specs.Complete.{CompleteIsAll}
 use Rattle.law_read_dumps.specs.Lines.{PassedStreamsAreSaid, ReportsHaveNoOtherLines, SectorsHaveTheirNumbers}
-use Rattle.law_read_dumps.specs.Said.{EachIsSaid, GoodStaysOrIsContradicted, SaidIsRight}
+use Rattle.law_read_dumps.specs.Said.{EachIsSaid, GoodStaysOrIsContradicted, SaidIsRight, StreamsAreOfFiles, came_in}
 use Rattle.law_reported_dumps.specs.Told.{LinesTell, NoSectorIsToldTwice, PassedLinesAreTold}
 use Rattle.sector_images.specs.Formats.{IsWordOfFormat, WordsBeginWithLetters, WordsNameFormats}
 use Rattle.sector_images.specs.declared.format.Format.{Format}
@@ -33,6 +33,7 @@ use Rattle.flux_cli.proofs.Outcomes.{dumps_no_identity, dumps_no_show, folder_no
 -- what the laws of dumps promise
 pub record DumpLaws : Type 0 where
   pub said : EachIsSaid
+  pub of_files : StreamsAreOfFiles
   pub right : SaidIsRight
   pub numbered : SectorsHaveTheirNumbers
   pub told : LinesTell
@@ -74,16 +75,17 @@ module _ (letters : WordsBeginWithLetters) (names : WordsNameFormats) where
 of_dumps : DumpLaws → (disk : DumpDisk) (files : List File) → length disk.dumps ≤ 16 → (d : DumpsRead) → IsDumpsRead disk (Some files) d → OfDumps disk files d
 of_dumps laws disk files few d read = record {
   is = read;
-  said = laws.said disk files d read;
-  right = laws.right disk files d;
-  numbered = laws.numbered disk files d read;
+  of_files = laws.of_files disk files d read;
+  said = laws.said disk (Some files) d read;
+  right = laws.right disk (came_in read) d;
+  numbered = laws.numbered disk (Some files) d read;
   told = laws.told disk files d read few;
   once = laws.once disk files d read few;
-  passed = laws.passed disk files d read;
+  passed = laws.passed disk (Some files) d read;
   passed_told = laws.passed_told disk files d read few;
-  count = laws.count disk files d read;
-  complete = laws.complete disk files d read;
-  stays = laws.stays disk files d;
+  count = laws.count disk (Some files) d read;
+  complete = laws.complete disk (Some files) d read;
+  stays = laws.stays disk (came_in read) d;
   whole = λ image is. laws.whole disk files image d is read;
   steady = λ image is. laws.steady disk files image d is read;
 }

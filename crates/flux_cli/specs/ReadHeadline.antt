@@ -13,7 +13,7 @@ use Rattle.law_captured_dumps.specs.Headline.{IsReadRightly, IsReadWell}
 use Rattle.law_captured_dumps.specs.Inputs.{HasWhole, IsSteadyOrPassed}
 use Rattle.law_read_dumps.specs.Complete.{IsAllRead}
 use Rattle.law_read_dumps.specs.Lines.{ArePassedSaid, HasNoOtherLines, HaveTheirNumbers}
-use Rattle.law_read_dumps.specs.Said.{IsSaid, IsSaidRightly, StaysOrIsContradicted}
+use Rattle.law_read_dumps.specs.Said.{AreOfFiles, IsSaid, IsSaidRightly, StaysOrIsContradicted, came_in}
 use Rattle.law_reported_dumps.specs.Told.{ArePassedTold, AreTold, TellsOnce}
 use Rattle.track_shelf.specs.Files.{File}
 use Rattle.turn_merge.specs.Readings.{verdict}
@@ -35,21 +35,22 @@ use Rattle.flux_words.specs.declared.dump_words.Shown.TheVariants.{Image, Pictur
 -- drives kept their speed, it is good with them.
 pub record OfDumps (disk : DumpDisk) (files : List File) (d : DumpsRead) : Type 0 where
   pub is : IsDumpsRead disk (Some files) d
-  pub said : (n sector : ℕ) → IsSectorOf disk.format n sector → IsSaid disk files d n sector
-  pub right : (n sector : ℕ) (said : IsSaid disk files d n sector) → IsSaidRightly disk files d n sector (verdict (joined said.captures) sector)
-  pub numbered : HaveTheirNumbers disk files d is.others
-  pub told : AreTold disk files d is.others
+  pub of_files : AreOfFiles disk (came_in is) files
+  pub said : (n sector : ℕ) → IsSectorOf disk.format n sector → IsSaid disk (came_in is) d n sector
+  pub right : (n sector : ℕ) (said : IsSaid disk (came_in is) d n sector) → IsSaidRightly disk (came_in is) d n sector (verdict (joined said.captures) sector)
+  pub numbered : HaveTheirNumbers disk (came_in is) d is.others
+  pub told : AreTold disk (came_in is) d is.others
   pub once : TellsOnce d.notes
-  pub passed : ArePassedSaid disk files d
-  pub passed_told : ArePassedTold disk files d
+  pub passed : ArePassedSaid disk (came_in is) d
+  pub passed_told : ArePassedTold disk (came_in is) d
   pub count : HasNoOtherLines d is.others
-  pub complete : IsTrue (is_complete d.totals) ↔ IsAllRead disk files d
-  pub stays : (n sector : ℕ) (said : IsSaid disk files d n sector) → StaysOrIsContradicted disk files d n sector said
+  pub complete : IsTrue (is_complete d.totals) ↔ IsAllRead disk (came_in is) d
+  pub stays : (n sector : ℕ) (said : IsSaid disk (came_in is) d n sector) → StaysOrIsContradicted disk (came_in is) d n sector said
   pub whole : (image : List ℕ) → IsImage disk.format image → (n sector : ℕ) → IsSectorOf disk.format n sector
-      → (dump : ℕ) → dump < length disk.dumps → HasWhole disk files image n dump sector → IsReadRightly disk files image d n sector
+      → (dump : ℕ) → dump < length disk.dumps → HasWhole disk files image n dump sector → IsReadRightly disk (came_in is) image d n sector
   pub steady : (image : List ℕ) → IsImage disk.format image → (n sector : ℕ) → IsSectorOf disk.format n sector
       → (dump : ℕ) → dump < length disk.dumps → HasWhole disk files image n dump sector
-      → ((other : ℕ) → other < length disk.dumps → IsSteadyOrPassed disk files image n other) → IsReadWell disk files image d n sector
+      → ((other : ℕ) → other < length disk.dumps → IsSteadyOrPassed disk (came_in is) files image n other) → IsReadWell disk (came_in is) image d n sector
 
 -- the sinks got the image and the report of the dumps
 pub record GaveDumps {H W N : Type 0} (disk : DumpDisk) (files : List File) (status : Status) (before after : OnShelf H W N) : Type 0 where

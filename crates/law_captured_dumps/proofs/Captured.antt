@@ -1,5 +1,5 @@
 -- From what stands in the streams of dumps to what they come to.
-use Rattle.std.specs.Prelude.{◌≡◌, ◌<◌, ℕ, Bool, true, ◌&&◌, List, [], length, replicate, unwrap_or, Option, refl}
+use Rattle.std.specs.Prelude.{◌≡◌, ◌<◌, ℕ, Bool, true, ◌&&◌, List, [], length, replicate, unwrap_or, Option, Some, refl}
 use Rattle.std.proofs.Common.{ap, sym, subst, ◌∙◌, arith}
 use Rattle.std.proofs.lemmas.Bool.{eq-eqb}
 use Rattle.dump_reading.specs.Outcomes.{DumpDisk, DumpsRead, plan_of}
@@ -34,7 +34,7 @@ use Rattle.turn_merge.specs.declared.verdict.Verdict.{Verdict}
 use Rattle.turn_merge.specs.declared.verdict.Verdict.TheVariants.{Bad, Contradictory, Good, Missing}
 use Rattle.law_captured_dumps.specs.Headline.{CapturedDumpsAreNeverWrong, IsReadRightly, IsReadWell, SteadyDumpsAreReadWell}
 use Rattle.law_captured_dumps.specs.Inputs.{HasWhole, IsSteadyOrPassed}
-use Rattle.law_read_dumps.specs.Said.{EachIsSaid, IsRightlyGood, IsSaid, IsSaidRightly, SaidIsRight, streams_on}
+use Rattle.law_read_dumps.specs.Said.{AreOfFiles, EachIsSaid, IsRightlyGood, IsSaid, IsSaidRightly, SaidIsRight, StreamsAreOfFiles, came_in}
 use Rattle.law_captured_dumps.proofs.Owning.{HoldsOwn, Laws as OwnLaws, holds, mine, stands, tracks_written}
 
 -- what the crates below promise, and the laws before
@@ -42,13 +42,14 @@ pub record Laws : Type 0 where
   pub own : OwnLaws
   pub rules : RulesAreRead
   pub said : EachIsSaid
+  pub of_files : StreamsAreOfFiles
   pub right : SaidIsRight
 
 following_used : (clocks : Clocks) → IsUsed clocks Following
 following_used FollowingAlone = tt
 following_used Both = tt
 
-module _ (laws : Laws) (disk : DumpDisk) (files : List File) (image : List ℕ) (o : DumpsRead) (is : IsImage disk.format image) where
+module _ (laws : Laws) (disk : DumpDisk) (came : Streams) (files : List File) (of : AreOfFiles disk came files) (image : List ℕ) (o : DumpsRead) (is : IsImage disk.format image) where
   abbrev format : Format
   format = disk.format
 
@@ -56,7 +57,7 @@ module _ (laws : Laws) (disk : DumpDisk) (files : List File) (image : List ℕ) 
   plan = plan_of disk
 
   abbrev streams : Streams
-  streams = streams_on disk files
+  streams = came
 
   abbrev own : (n sector : ℕ) → List ℕ
   own n sector = sector_bytes format (track_at format n) image sector
@@ -83,7 +84,7 @@ module _ (laws : Laws) (disk : DumpDisk) (files : List File) (image : List ℕ) 
       at.0
 
   -- a sector that stands is not bad or missing
-  not_lost : (n sector : ℕ) (said : IsSaid disk files o n sector) (q : ℕ) (clock : Clock) (place : ℕ) (bytes : List ℕ) → q < length disk.dumps
+  not_lost : (n sector : ℕ) (said : IsSaid disk came o n sector) (q : ℕ) (clock : Clock) (place : ℕ) (bytes : List ℕ) → q < length disk.dumps
       → IsUsed plan.clocks clock → StandsIn Controller format streams n q clock place sector bytes → IsBadOrMissing (verdict (joined said.captures) sector) → ⊥
   unfolding verdict
   not_lost n sector said q clock place bytes low used here lost =
@@ -95,24 +96,24 @@ module _ (laws : Laws) (disk : DumpDisk) (files : List File) (image : List ℕ) 
       (ap (λ (b : Bool). b && true) (eq-eqb sector sector refl))
 
   -- a sector that one dump has whole
-  module _ (n sector : ℕ) (one : IsSectorOf format n sector) (said : IsSaid disk files o n sector) (dump : ℕ) (low : dump < length disk.dumps)
+  module _ (n sector : ℕ) (one : IsSectorOf format n sector) (said : IsSaid disk came o n sector) (dump : ℕ) (low : dump < length disk.dumps)
       (whole : HasWhole disk files image n dump sector) where
     abbrev used : IsUsed plan.clocks Following
     used = following_used plan.clocks
 
-    there : (place : ℕ) × StandsIn Controller format streams n dump Following place sector (mine laws.own disk files image is n sector)
-    there = stands laws.own disk files image is n dump one.track sector one whole
+    there : (place : ℕ) × StandsIn Controller format streams n dump Following place sector (mine laws.own disk came files of image is n sector)
+    there = stands laws.own disk came files of image is n dump one.track low sector one whole
 
     never_lost : IsBadOrMissing (verdict (joined said.captures) sector) → ⊥
-    never_lost = not_lost n sector said dump Following there.0 (mine laws.own disk files image is n sector) low used there.1
+    never_lost = not_lost n sector said dump Following there.0 (mine laws.own disk came files of image is n sector) low used there.1
 
     -- good means its own bytes
-    good_is_own : (first : Place) → IsRightlyGood disk files o n sector first → held n sector ≡ own n sector
+    good_is_own : (first : Place) → IsRightlyGood disk came o n sector first → held n sector ≡ own n sector
     good_is_own first right =
-        right.in_image ∙ sym (right.agreed dump Following there.0 (mine laws.own disk files image is n sector) low used there.1)
-        ∙ (tracks_written laws.own disk files image is).content n sector one
+        right.in_image ∙ sym (right.agreed dump Following there.0 (mine laws.own disk came files of image is n sector) low used there.1)
+        ∙ (tracks_written laws.own disk came files of image is).content n sector one
 
-    rightly_by : (v : Verdict) → verdict (joined said.captures) sector ≡ v → IsSaidRightly disk files o n sector v → IsOwnOrContradictory format (own n sector) (held n sector) v
+    rightly_by : (v : Verdict) → verdict (joined said.captures) sector ≡ v → IsSaidRightly disk came o n sector v → IsOwnOrContradictory format (own n sector) (held n sector) v
     rightly_by (Good g b first) same right = good_is_own first right
     rightly_by (Contradictory g b first other) same right =
         said.held
@@ -121,14 +122,14 @@ module _ (laws : Laws) (disk : DumpDisk) (files : List File) (image : List ℕ) 
     rightly_by (Bad b first) same right = never_lost (subst IsBadOrMissing (sym same) tt)
     rightly_by Missing same right = never_lost (subst IsBadOrMissing (sym same) tt)
 
-    pub rightly : IsReadRightly disk files image o n sector
-    rightly = record { said = said; is = rightly_by (verdict (joined said.captures) sector) refl (laws.right disk files o n sector said) }
+    pub rightly : IsReadRightly disk came image o n sector
+    rightly = record { said = said; is = rightly_by (verdict (joined said.captures) sector) refl (laws.right disk came o n sector said) }
 
-    module _ (steady : (other : ℕ) → other < length disk.dumps → IsSteadyOrPassed disk files image n other) where
-      holds_at : (q : ℕ) → q < length disk.dumps → (clock : Clock) → HoldsOwn laws.own disk files image is n q clock
-      holds_at q few clock = holds laws.own disk files image is n q one.track (steady q few) clock
+    module _ (steady : (other : ℕ) → other < length disk.dumps → IsSteadyOrPassed disk came files image n other) where
+      holds_at : (q : ℕ) → q < length disk.dumps → (clock : Clock) → HoldsOwn laws.own disk came files of image is n q clock
+      holds_at q few clock = holds laws.own disk came files of image is n q one.track few (steady q few) clock
 
-      well_by : (v : Verdict) → verdict (joined said.captures) sector ≡ v → IsSaidRightly disk files o n sector v → IsReadWell disk files image o n sector
+      well_by : (v : Verdict) → verdict (joined said.captures) sector ≡ v → IsSaidRightly disk came o n sector v → IsReadWell disk came image o n sector
       well_by (Good g b first) same right =
           record { said = said; good = g; bad = b; first = first; is = same; own = good_is_own first right }
       well_by (Contradictory g b first other) same right =
@@ -140,13 +141,13 @@ module _ (laws : Laws) (disk : DumpDisk) (files : List File) (image : List ℕ) 
       well_by (Bad b first) same right = absurd (never_lost (subst IsBadOrMissing (sym same) tt))
       well_by Missing same right = absurd (never_lost (subst IsBadOrMissing (sym same) tt))
 
-      pub well : IsReadWell disk files image o n sector
-      well = well_by (verdict (joined said.captures) sector) refl (laws.right disk files o n sector said)
+      pub well : IsReadWell disk came image o n sector
+      well = well_by (verdict (joined said.captures) sector) refl (laws.right disk came o n sector said)
 
 pub never_wrong : Laws → CapturedDumpsAreNeverWrong
 never_wrong laws disk files image o is read n sector one dump low whole =
-    rightly laws disk files image o is n sector one (laws.said disk files o read n sector one) dump low whole
+    rightly laws disk (came_in read) files (laws.of_files disk files o read) image o is n sector one (laws.said disk (Some files) o read n sector one) dump low whole
 
 pub read_well : Laws → SteadyDumpsAreReadWell
 read_well laws disk files image o is read n sector one dump low whole steady =
-    well laws disk files image o is n sector one (laws.said disk files o read n sector one) dump low whole steady
+    well laws disk (came_in read) files (laws.of_files disk files o read) image o is n sector one (laws.said disk (Some files) o read n sector one) dump low whole steady

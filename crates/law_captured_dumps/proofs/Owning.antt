@@ -36,7 +36,7 @@ use Rattle.track_shelf.specs.declared.stepping.Stepping.{Stepping}
 use Rattle.turn_merge.specs.declared.clock.Clock.{Clock}
 use Rattle.turn_merge.specs.declared.clock.Clock.TheVariants.{Following}
 use Rattle.law_captured_dumps.specs.Inputs.{Begins, Captures, CapturesInPart, HasWhole, IsPassedOver, IsSteadyOrPassed}
-use Rattle.law_read_dumps.specs.Said.{streams_on}
+use Rattle.law_read_dumps.specs.Said.{AreOfFiles, streams_on}
 
 -- what the crates below promise
 pub record Laws : Type 0 where
@@ -91,12 +91,12 @@ no_cells : (clock : Clock) (format : Format) (track : TrackId) (ts is : List ℕ
 unfolding recovered
 no_cells clock format track ts is none = ap (recovered (start_by clock (start_of format track is))) none
 
-module _ (laws : Laws) (disk : DumpDisk) (files : List File) (image : List ℕ) (is : IsImage disk.format image) where
+module _ (laws : Laws) (disk : DumpDisk) (came : Streams) (files : List File) (of : AreOfFiles disk came files) (image : List ℕ) (is : IsImage disk.format image) where
   abbrev format : Format
   format = disk.format
 
   abbrev streams : Streams
-  streams = streams_on disk files
+  streams = came
 
   -- a sector's own bytes
   abbrev pub mine : (n sector : ℕ) → List ℕ
@@ -110,10 +110,12 @@ module _ (laws : Laws) (disk : DumpDisk) (files : List File) (image : List ℕ) 
   HoldsOwn n q clock = (place sector : ℕ) (bytes : List ℕ) → StandsIn Controller format streams n q clock place sector bytes → bytes ≡ mine n sector
 
   -- of a stream that is passed over nothing stands
-  passed_holds : (n q : ℕ) (clock : Clock) → n < length (tracks format) → IsPassedOver disk files n q → HoldsOwn n q clock
-  passed_holds n q clock known passed place sector bytes here =
+  passed_holds : (n q : ℕ) (clock : Clock) → n < length (tracks format) → q < length disk.dumps → IsPassedOver came n q → HoldsOwn n q clock
+  passed_holds n q clock known few passed place sector bytes here =
+      let told : is_some (streams_on disk files n q).passed ≡ true = subst (λ (s : Seen). is_some s.passed ≡ true) (of n q known few) passed in
       let none : cells_in format streams n q clock ≡ [] =
-      no_cells clock format (track_at format n) (streams n q).times (streams n q).indexes (passed_times disk.stepping files (track_at format n) (slice_get disk.dumps q) passed) in
+      no_cells clock format (track_at format n) (streams n q).times (streams n q).indexes
+      (ap (λ (s : Seen). s.times) (of n q known few) ∙ passed_times disk.stepping files (track_at format n) (slice_get disk.dumps q) told) in
       let alone = (laws.own format image n is known).alone (drop place (cells_in format streams n q clock)) sector bytes here in
       let empty : length (cells_in format streams n q clock) ≡ 0 = ap length none in
       let rest = length-drop place (cells_in format streams n q clock) in
@@ -123,7 +125,7 @@ module _ (laws : Laws) (disk : DumpDisk) (files : List File) (image : List ℕ) 
   abbrev AreOfPieces : (n q : ℕ) → Clock → RingPiece → List RingPiece → Type 0
   AreOfPieces n q clock first later = cells_in format streams n q clock ≡ cells_of_ring_pieces (ring_of format image n) first later
 
-  module _ (n q : ℕ) (known : n < length (tracks format)) where
+  module _ (n q : ℕ) (known : n < length (tracks format)) (few : q < length disk.dumps) where
     abbrev track : TrackId
     track = track_at format n
 
@@ -158,7 +160,7 @@ module _ (laws : Laws) (disk : DumpDisk) (files : List File) (image : List ℕ) 
     stream_is : (stream : List ℕ) → Begins disk files n q stream → first_fault stream ≡ None
         → streams n q ≡ record { fault = None; passed = None; times = times stream; indexes = indexes stream }
     stream_is stream begins sound =
-        file_seen disk.stepping files track (slice_get disk.dumps q) begins.file begins.there
+        of n q known few ∙ file_seen disk.stepping files track (slice_get disk.dumps q) begins.file begins.there
         ∙ begin_seen laws.stay stream begins.later begins.file.bytes begins.is sound
 
     cells_are : (clock : Clock) (stream : List ℕ) → Begins disk files n q stream → first_fault stream ≡ None
@@ -215,7 +217,7 @@ module _ (laws : Laws) (disk : DumpDisk) (files : List File) (image : List ℕ) 
     stands sector one (inr part) = part_stands part.0 sector one part.1
 
     -- and all that stands has its own bytes
-    pub holds : IsSteadyOrPassed disk files image n q → (clock : Clock) → HoldsOwn n q clock
+    pub holds : IsSteadyOrPassed disk came files image n q → (clock : Clock) → HoldsOwn n q clock
     holds (inl steady) clock = whole_holds steady.0 steady.1 clock
     holds (inr (inl steady)) clock = part_holds steady.0 steady.1 clock
-    holds (inr (inr passed)) clock = passed_holds n q clock known passed
+    holds (inr (inr passed)) clock = passed_holds n q clock known few passed

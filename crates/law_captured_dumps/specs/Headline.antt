@@ -2,7 +2,7 @@
 use Rattle.std.specs.Prelude.{◌≡◌, ◌<◌, ℕ, List, length, Some}
 use Rattle.dump_reading.specs.Outcomes.{DumpDisk, DumpsRead, IsDumpsRead}
 use Rattle.flux_engine.specs.DiskLaws.{bytes_at}
-use Rattle.flux_engine.specs.Plans.{joined}
+use Rattle.flux_engine.specs.Plans.{Streams, joined}
 use Rattle.flux_engine.specs.Recordings.{track_at}
 use Rattle.flux_engine.specs.Rings.{IsImage, sector_bytes}
 use Rattle.law_captured_disks.specs.Headline.{IsSectorOf}
@@ -12,22 +12,22 @@ use Rattle.turn_merge.specs.Readings.{verdict}
 use Rattle.turn_merge.specs.declared.verdict.Place.{Place}
 use Rattle.turn_merge.specs.declared.verdict.Verdict.TheVariants.{Good}
 use Rattle.law_captured_dumps.specs.Inputs.{HasWhole, IsSteadyOrPassed}
-use Rattle.law_read_dumps.specs.Said.{IsSaid}
+use Rattle.law_read_dumps.specs.Said.{IsSaid, came_in}
 
 -- a sector of track number n, in the report and in the image, is good with its own bytes, or contradictory
-pub record IsReadRightly (disk : DumpDisk) (files : List File) (image : List ℕ) (o : DumpsRead) (n sector : ℕ) : Type 0 where
-  pub said : IsSaid disk files o n sector
+pub record IsReadRightly (disk : DumpDisk) (came : Streams) (image : List ℕ) (o : DumpsRead) (n sector : ℕ) : Type 0 where
+  pub said : IsSaid disk came o n sector
   pub is : IsOwnOrContradictory disk.format (sector_bytes disk.format (track_at disk.format n) image sector) (bytes_at disk.format o.image (track_at disk.format n) sector) (verdict (joined said.captures) sector)
 
 -- A sector that one dump has whole is never wrong unsaid, whatever the other files are: it is good with its own bytes, or contradictory.
 abbrev pub CapturedDumpsAreNeverWrong : Type 0
 CapturedDumpsAreNeverWrong = (disk : DumpDisk) (files : List File) (image : List ℕ) (o : DumpsRead) → IsImage disk.format image
-    → IsDumpsRead disk (Some files) o → (n sector : ℕ) → IsSectorOf disk.format n sector
-    → (dump : ℕ) → dump < length disk.dumps → HasWhole disk files image n dump sector → IsReadRightly disk files image o n sector
+    → (read : IsDumpsRead disk (Some files) o) → (n sector : ℕ) → IsSectorOf disk.format n sector
+    → (dump : ℕ) → dump < length disk.dumps → HasWhole disk files image n dump sector → IsReadRightly disk (came_in read) image o n sector
 
 -- a sector of track number n is good, with its own bytes
-pub record IsReadWell (disk : DumpDisk) (files : List File) (image : List ℕ) (o : DumpsRead) (n sector : ℕ) : Type 0 where
-  pub said : IsSaid disk files o n sector
+pub record IsReadWell (disk : DumpDisk) (came : Streams) (image : List ℕ) (o : DumpsRead) (n sector : ℕ) : Type 0 where
+  pub said : IsSaid disk came o n sector
   pub good : ℕ
   pub bad : ℕ
   pub first : Place
@@ -38,6 +38,6 @@ pub record IsReadWell (disk : DumpDisk) (files : List File) (image : List ℕ) (
 -- with its own bytes. So dumps that each lack tracks come back whole.
 abbrev pub SteadyDumpsAreReadWell : Type 0
 SteadyDumpsAreReadWell = (disk : DumpDisk) (files : List File) (image : List ℕ) (o : DumpsRead) → IsImage disk.format image
-    → IsDumpsRead disk (Some files) o → (n sector : ℕ) → IsSectorOf disk.format n sector
+    → (read : IsDumpsRead disk (Some files) o) → (n sector : ℕ) → IsSectorOf disk.format n sector
     → (dump : ℕ) → dump < length disk.dumps → HasWhole disk files image n dump sector
-    → ((other : ℕ) → other < length disk.dumps → IsSteadyOrPassed disk files image n other) → IsReadWell disk files image o n sector
+    → ((other : ℕ) → other < length disk.dumps → IsSteadyOrPassed disk (came_in read) files image n other) → IsReadWell disk (came_in read) image o n sector

@@ -4,6 +4,7 @@ use Rattle.std.specs.Prelude.{◌≡◌, ◌⊎◌, ℕ, ◌∷◌, ◌++◌, Li
 use Rattle.std.specs.List.{slice_get}
 use Rattle.dump_reading.specs.Outcomes.{DumpDisk}
 use Rattle.flux_engine.specs.Captures.{Capture, ErasedCapture, IsSteady, IsSteadyErased}
+use Rattle.flux_engine.specs.Plans.{Streams}
 use Rattle.flux_engine.specs.Recordings.{track_at}
 use Rattle.flux_engine.specs.Rings.{nominal_of, ring_of}
 use Rattle.law_captured_disks.specs.Frames.{ring_piece, written_track}
@@ -12,7 +13,6 @@ use Rattle.law_decoded_rings.specs.Verdicts.{LiesInOnePiece}
 use Rattle.track_shelf.specs.Files.{File, file_at}
 use Rattle.track_shelf.specs.Names.{path_text}
 use Rattle.track_shelf.specs.Stepping.{file_track}
-use Rattle.law_read_dumps.specs.Said.{streams_on}
 
 -- the file of track number n in the dump of this number, if it is there
 abbrev pub file_on : DumpDisk → List File → (n dump : ℕ) → Option File
@@ -49,13 +49,13 @@ HasWhole disk files image n dump sector =
     Captures disk files image n dump
     ⊎ ((c : CapturesInPart disk files image n dump) × LiesInOnePiece (written_track disk.format image n) (pieces_in disk files image n dump c) sector)
 
--- the file is not there, or its stream is refused
-abbrev pub IsPassedOver : (disk : DumpDisk) (files : List File) (n dump : ℕ) → Type 0
-IsPassedOver disk files n dump = is_some (streams_on disk files n dump).passed ≡ true
+-- of the streams that came, that of track number n in this dump is passed over: its file is not there, or it is refused
+abbrev pub IsPassedOver : Streams → (n dump : ℕ) → Type 0
+IsPassedOver came n dump = is_some (came n dump).passed ≡ true
 
 -- A dump's file captures track number n, whole or in part, and the drive kept its speed; or it is passed over.
-abbrev pub IsSteadyOrPassed : (disk : DumpDisk) (files : List File) (image : List ℕ) (n dump : ℕ) → Type 0
-IsSteadyOrPassed disk files image n dump =
+abbrev pub IsSteadyOrPassed : (disk : DumpDisk) → Streams → (files : List File) (image : List ℕ) (n dump : ℕ) → Type 0
+IsSteadyOrPassed disk came files image n dump =
     ((c : Captures disk files image n dump) × IsSteady c.stream (ring_of disk.format image n) (nominal_of disk.format n) c.capture)
     ⊎ ((c : CapturesInPart disk files image n dump) × IsSteadyErased c.stream (ring_of disk.format image n) (nominal_of disk.format n) c.capture)
-    ⊎ IsPassedOver disk files n dump
+    ⊎ IsPassedOver came n dump

@@ -1,5 +1,5 @@
 -- Dumps that the numbers call complete, and what is read of them.
-use Rattle.std.specs.Prelude.{◌≡◌, ◌==◌, ◌&&◌, ◌≤◌, ◌<◌, ℕ, ◌+◌, Bool, true, false, IsTrue, count_by, get_or, length, List, [], map, Some, refl}
+use Rattle.std.specs.Prelude.{◌≡◌, ◌==◌, ◌&&◌, ◌≤◌, ◌<◌, ℕ, ◌+◌, Bool, true, false, IsTrue, count_by, get_or, length, List, [], map, Option, refl}
 use Rattle.std.proofs.Common.{ap, sym, subst, ◌∙◌, arith}
 use Rattle.std.proofs.lemmas.Bool.{and_from, and_parts, eq-eqb, eqb-true}
 use Rattle.std.proofs.lemmas.List.Sums.{count_by-le-length}
@@ -10,8 +10,8 @@ use Rattle.dump_reading.specs.declared.totals.DumpTotals.{DumpTotals}
 use Rattle.flux_engine.specs.Disks.{part_at}
 use Rattle.flux_engine.specs.LoopProgress.{streams_over}
 use Rattle.flux_engine.specs.PlanLaws.{ReadingsInPlansAreOne}
-use Rattle.flux_engine.specs.Plans.{IsPlannedPart, Seen, Streams, joined}
-use Rattle.flux_engine.specs.Recordings.{cells_by, sectors_of, track_at}
+use Rattle.flux_engine.specs.Plans.{IsPlannedPart, Streams, joined}
+use Rattle.flux_engine.specs.Recordings.{sectors_of, track_at}
 use Rattle.flux_engine.specs.Tracks.{TrackPart, is_good, numbers}
 use Rattle.flux_engine.specs.lemmas.Each.{Each}
 use Rattle.law_captured_disks.specs.Headline.{IsSectorOf}
@@ -23,11 +23,11 @@ use Rattle.turn_merge.specs.Readings.{NotedReading, verdict}
 use Rattle.turn_merge.specs.declared.clock.Clock.{Clock}
 use Rattle.turn_merge.specs.declared.verdict.Verdict.{Verdict}
 use Rattle.turn_merge.specs.declared.verdict.Verdict.TheVariants.{Bad, Contradictory, Good, Missing}
-use Rattle.law_read_dumps.specs.Complete.{CompleteIsAll, HasOtherData, IsAllRead, IsSaidGood}
-use Rattle.law_read_dumps.specs.Said.{EachIsSaid, IsSaid, streams_on}
+use Rattle.law_read_dumps.specs.Complete.{CompleteIsAll, IsAllRead, IsSaidGood}
+use Rattle.law_read_dumps.specs.Said.{EachIsSaid, IsSaid}
 use Rattle.law_read_dumps.proofs.GoodTotals.{each_counted, each_part}
 use Rattle.law_read_dumps.proofs.OtherData.{IsBare, NoneIn, bare_in, none_in}
-use Rattle.law_read_dumps.proofs.Streams.{captures_are, same_stream}
+use Rattle.law_read_dumps.proofs.Streams.{captures_are}
 use Rattle.law_read_dumps.proofs.WholeCounts.{none-whole, whole-none}
 
 -- what the crates below promise, and the law before
@@ -37,14 +37,14 @@ pub record Laws : Type 0 where
   pub known : DataAreKnown
 
 -- a verdict that is good
-good_by : (disk : DumpDisk) (files : List File) (o : DumpsRead) (n sector : ℕ) (said : IsSaid disk files o n sector)
-    → (v : Verdict) → verdict (joined said.captures) sector ≡ v → is_good v ≡ true → IsSaidGood disk files o n sector
-good_by disk files o n sector said (Good g b place) same good = record { said = said; good = g; bad = b; first = place; is = same }
-good_by disk files o n sector said (Contradictory g b first other) same good = absurd (cc)
-good_by disk files o n sector said (Bad b first) same good = absurd (cc)
-good_by disk files o n sector said Missing same good = absurd (cc)
+good_by : (disk : DumpDisk) (came : Streams) (o : DumpsRead) (n sector : ℕ) (said : IsSaid disk came o n sector)
+    → (v : Verdict) → verdict (joined said.captures) sector ≡ v → is_good v ≡ true → IsSaidGood disk came o n sector
+good_by disk came o n sector said (Good g b place) same good = record { said = said; good = g; bad = b; first = place; is = same }
+good_by disk came o n sector said (Contradictory g b first other) same good = absurd (cc)
+good_by disk came o n sector said (Bad b first) same good = absurd (cc)
+good_by disk came o n sector said Missing same good = absurd (cc)
 
-module _ (laws : Laws) (disk : DumpDisk) (files : List File) (o : DumpsRead) (is : IsDumpsRead disk (Some files) o) where
+module _ (laws : Laws) (disk : DumpDisk) (shelf : Option (List File)) (o : DumpsRead) (is : IsDumpsRead disk shelf o) where
   abbrev format : Format
   format = disk.format
 
@@ -74,50 +74,39 @@ module _ (laws : Laws) (disk : DumpDisk) (files : List File) (o : DumpsRead) (is
     part_few = omega (arith, good_is, sectors_is, count_by-le-length is_good verdicts)
 
     -- as many as there are
-    part_good : (part n).totals.good ≡ (part n).totals.sectors → (sector : ℕ) → IsSectorOf format n sector → IsSaidGood disk files o n sector
+    part_good : (part n).totals.good ≡ (part n).totals.sectors → (sector : ℕ) → IsSectorOf format n sector → IsSaidGood disk came o n sector
     part_good all sector one =
-        let said = laws.said disk files o is n sector one in
+        let said = laws.said disk shelf o is n sector one in
         let good : is_good (verdict_of sector) ≡ true =
         each_counted verdict_of (sectors_of format (track_at format n)).first (sectors_of format (track_at format n)).count (sym good_is ∙ all ∙ sectors_is) sector one.known.0 one.known.1 in
         let same : verdict (joined said.captures) sector ≡ verdict_of sector =
-        ap (λ (cs : List (List NotedReading)). verdict (joined cs) sector) (captures_are laws.readings disk files o is n sector low said) in
-        good_by disk files o n sector said (verdict_of sector) same good
+        ap (λ (cs : List (List NotedReading)). verdict (joined cs) sector) (captures_are laws.readings disk shelf o is n sector low said) in
+        good_by disk came o n sector said (verdict_of sector) same good
 
-    good_part : ((sector : ℕ) → IsSectorOf format n sector → IsSaidGood disk files o n sector) → (part n).totals.good ≡ (part n).totals.sectors
+    good_part : ((sector : ℕ) → IsSectorOf format n sector → IsSaidGood disk came o n sector) → (part n).totals.good ≡ (part n).totals.sectors
     good_part each =
         good_is
         ∙ all_counted verdict_of (sectors_of format (track_at format n)).first (sectors_of format (track_at format n)).count
         (λ sector least most.
         let here = each sector (record { track = omega (arith, low, is.all.many); known = (least, most) }) in
         let same : verdict_of sector ≡ verdict (joined here.said.captures) sector =
-        sym (ap (λ (cs : List (List NotedReading)). verdict (joined cs) sector) (captures_are laws.readings disk files o is n sector low here.said)) in
+        sym (ap (λ (cs : List (List NotedReading)). verdict (joined cs) sector) (captures_are laws.readings disk shelf o is n sector low here.said)) in
         ap is_good (same ∙ here.is))
         ∙ sym sectors_is
-
-    -- the streams that came are those of the files
-    on_shelf : NoneIn disk came n (length disk.dumps) → NoneIn disk (streams_on disk files) n (length disk.dumps)
-    on_shelf none q few clock used =
-        subst (λ (s : Seen). HasOtherData format n (cells_by clock format (track_at format n) s.times s.indexes) → ⊥)
-        (same_stream read_part disk files is.streams is.parts is.all.read n q low few) (none q few clock used)
-
-    as_came : NoneIn disk (streams_on disk files) n (length disk.dumps) → NoneIn disk came n (length disk.dumps)
-    as_came none q few clock used =
-        subst (λ (s : Seen). HasOtherData format n (cells_by clock format (track_at format n) s.times s.indexes) → ⊥)
-        (sym (same_stream read_part disk files is.streams is.parts is.all.read n q low few)) (none q few clock used)
 
     abbrev others : List NotedOther
     others = get_or is.others n []
 
-    none_on : Each IsBare others → NoneIn disk (streams_on disk files) n (length disk.dumps)
-    none_on bare = on_shelf (none_in disk came n (length disk.dumps) others (is.all.others_are n (omega (arith, low, is.all.many, is.all.many_others))) bare)
+    none_on : Each IsBare others → NoneIn disk came n (length disk.dumps)
+    none_on bare = none_in disk came n (length disk.dumps) others (is.all.others_are n (omega (arith, low, is.all.many, is.all.many_others))) bare
 
-    all_bare : NoneIn disk (streams_on disk files) n (length disk.dumps) → Each IsBare others
-    all_bare none = bare_in disk came n (length disk.dumps) others (is.all.others_are n (omega (arith, low, is.all.many, is.all.many_others))) (as_came none)
+    all_bare : NoneIn disk came n (length disk.dumps) → Each IsBare others
+    all_bare none = bare_in disk came n (length disk.dumps) others (is.all.others_are n (omega (arith, low, is.all.many, is.all.many_others))) none
 
   abbrev totals : DumpTotals
   totals = numbers_of is.streams is.parts is.others
 
-  all_read : IsTrue (is_complete totals) → IsAllRead disk files o
+  all_read : IsTrue (is_complete totals) → IsAllRead disk came o
   all_read complete =
       let both = and_parts (totals.sectors.good == totals.sectors.sectors) (totals.whole == 0) complete in
       let good = eqb-true totals.sectors.good totals.sectors.sectors both.0 in
@@ -131,7 +120,7 @@ module _ (laws : Laws) (disk : DumpDisk) (files : List File) (o : DumpsRead) (is
             none_on n low (whole-none laws.known is.others whole n (omega (arith, low, is.all.many, is.all.many_others))) q dump clock used);
       }
 
-  complete : IsAllRead disk files o → IsTrue (is_complete totals)
+  complete : IsAllRead disk came o → IsTrue (is_complete totals)
   complete all =
       let good : totals.sectors.good ≡ totals.sectors.sectors = totals_good is.parts (λ n low. good_part n low (all.good n)) in
       let whole : totals.whole ≡ 0 =
@@ -142,8 +131,8 @@ module _ (laws : Laws) (disk : DumpDisk) (files : List File) (o : DumpsRead) (is
       and_from (totals.sectors.good == totals.sectors.sectors) (totals.whole == 0) (eq-eqb totals.sectors.good totals.sectors.sectors good) (eq-eqb totals.whole 0 whole)
 
 pub complete_is_all : Laws → CompleteIsAll
-complete_is_all laws disk files o is =
+complete_is_all laws disk shelf o is =
     let totals_are : o.totals ≡ numbers_of is.streams is.parts is.others = ap (λ (d : DumpsRead). d.totals) is.is in (
-      λ complete. all_read laws disk files o is (subst (λ (t : DumpTotals). IsTrue (is_complete t)) totals_are complete),
-      λ all. subst (λ (t : DumpTotals). IsTrue (is_complete t)) (sym totals_are) (complete laws disk files o is all),
+      λ complete. all_read laws disk shelf o is (subst (λ (t : DumpTotals). IsTrue (is_complete t)) totals_are complete),
+      λ all. subst (λ (t : DumpTotals). IsTrue (is_complete t)) (sym totals_are) (complete laws disk shelf o is all),
     )

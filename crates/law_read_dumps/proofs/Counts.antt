@@ -38,7 +38,7 @@ sums_added f g (x ∷ xs) =
 abbrev whole_lines_of : List NotedOther → ℕ
 whole_lines_of others = whole_names_of (others_over others) (has_untold others)
 
-module _ (laws : Laws) (disk : DumpDisk) (files : List File) (o : DumpsRead) (is : IsDumpsRead disk (Some files) o) where
+module _ (laws : Laws) (disk : DumpDisk) (shelf : Option (List File)) (o : DumpsRead) (is : IsDumpsRead disk shelf o) where
   abbrev many : ℕ
   many = length disk.dumps
 
@@ -57,7 +57,7 @@ module _ (laws : Laws) (disk : DumpDisk) (files : List File) (o : DumpsRead) (is
       let next : n * many + suc q ≡ i + 1 = omega arith in
       let here : Seen = seen_at is.streams i in
       let more : passed_count (take (i + 1) is.streams) ≡ passed_count (take i is.streams) + cond (is_some here.passed) 1 0 =
-      sum_by_more (λ (s : Seen). cond (is_some s.passed) 1 0) is.streams i none_seen (number_low read_part disk files is.streams is.parts is.all.read n q low (omega (arith, few))) in
+      sum_by_more (λ (s : Seen). cond (is_some s.passed) 1 0) is.streams i none_seen (number_low read_part disk shelf is.streams is.parts is.all.read n q low (omega (arith, few))) in
       let both : length (passed_to came n (suc q)) ≡ length (passed_to came n q) + length (passed_one q here.passed) = length-append (passed_to came n q) (passed_one q here.passed) in
       let before = passed_so_far n low q (omega (arith, few)) in
       let one = one-passed q here.passed in
@@ -71,17 +71,17 @@ module _ (laws : Laws) (disk : DumpDisk) (files : List File) (o : DumpsRead) (is
       ∙ length-range_with_len (sectors_of disk.format (track_at disk.format n)).first (sectors_of disk.format (track_at disk.format n)).count
 
   so_far : (n : ℕ) → n ≤ length is.parts
-      → lines_before laws disk files o is n
+      → lines_before laws disk shelf o is n
       ≡ passed_count (take (n * many) is.streams) + sum_by (λ (p : TrackPart). p.totals.sectors) (take n is.parts) + sum_by other_lines_of (take n is.others)
   so_far zero low = (let none : 0 * many ≡ 0 = omega arith in sym (ap (λ (k : ℕ). passed_count (take k is.streams) + 0 + 0) none))
   so_far (suc n) low =
       let within : n < length is.parts = omega (arith, low) in
       let next : n + 1 ≡ suc n = omega arith in
       let before = so_far n (omega (arith, low)) in
-      let step = before_more laws disk files o is n in
-      let passed : passed_count (take (suc n * many) is.streams) ≡ passed_count (take (n * many) is.streams) + passed_on disk files n =
+      let step = before_more laws disk shelf o is n in
+      let passed : passed_count (take (suc n * many) is.streams) ≡ passed_count (take (n * many) is.streams) + passed_on disk came n =
       ap (λ (k : ℕ). passed_count (take k is.streams)) (suc-mul n many) ∙ passed_so_far n within many (omega arith)
-      ∙ ap (λ (k : ℕ). passed_count (take (n * many) is.streams) + k) (passed_many laws disk files o is n within) in
+      ∙ ap (λ (k : ℕ). passed_count (take (n * many) is.streams) + k) (passed_many laws disk shelf o is n within) in
       let sectors : sum_by (λ (p : TrackPart). p.totals.sectors) (take (suc n) is.parts)
       ≡ sum_by (λ (p : TrackPart). p.totals.sectors) (take n is.parts) + (sectors_of disk.format (track_at disk.format n)).count =
       ap (λ (k : ℕ). sum_by (λ (p : TrackPart). p.totals.sectors) (take k is.parts)) (sym next)
@@ -91,7 +91,7 @@ module _ (laws : Laws) (disk : DumpDisk) (files : List File) (o : DumpsRead) (is
       ap (λ (k : ℕ). sum_by other_lines_of (take k is.others)) (sym next) ∙ sum_by_more other_lines_of is.others n [] (omega (arith, within, is.all.many, is.all.many_others)) in
       omega (arith, before, step, passed, sectors, told)
 
-  all_counted : lines_before laws disk files o is (length is.parts)
+  all_counted : lines_before laws disk shelf o is (length is.parts)
       ≡ (numbers_of is.streams is.parts is.others).unread + (numbers_of is.streams is.parts is.others).sectors.sectors + sum_by other_lines_of is.others
   all_counted =
       let same : length is.parts ≡ length is.others = omega (arith, is.all.many, is.all.many_others) in
@@ -103,7 +103,7 @@ module _ (laws : Laws) (disk : DumpDisk) (files : List File) (o : DumpsRead) (is
       (ap (λ (k : ℕ). take k is.others) same ∙ take-length is.others)
 
   -- of others as many as names with whole data, and tracks with names that have none
-  pub lines_counted : lines_before laws disk files o is (length is.parts)
+  pub lines_counted : lines_before laws disk shelf o is (length is.parts)
       ≡ (numbers_of is.streams is.parts is.others).unread + (numbers_of is.streams is.parts is.others).sectors.sectors
       + (numbers_of is.streams is.parts is.others).whole + traced_count is.others
   lines_counted =

@@ -33,10 +33,8 @@ use Rattle.track_shelf.specs.Files.{File}
 use Rattle.turn_merge.specs.Others.{NotedOther, has_data, has_untold, others_over}
 use Rattle.turn_merge.specs.Readings.{NotedReading, verdict}
 use Rattle.turn_merge.specs.declared.others.OtherTold.{OtherTold}
-use Rattle.law_read_dumps.specs.Said.{streams_on}
 use Rattle.law_read_dumps.specs.Lines.{IsOtherLine, IsPassedLine, IsTracesLine, IsUntoldLine, has_traces, line_number, lines_on, other_lines_of, passed_on}
 use Rattle.law_read_dumps.proofs.Lines.{Tells, has_line, tells-append, tells-each, tells-if, tells-map, tells-nil, tells-range}
-use Rattle.law_read_dumps.proofs.Streams.{same_stream}
 
 -- what the crates below promise
 pub record Laws : Type 0 where
@@ -61,15 +59,8 @@ pub record IsOnDisk (format : Format) (many : ℕ) (before : ℕ → ℕ) (line_
   pub number_is : number ≡ before n + (sector - (row format).first_sector)
 
 -- the line stands beside those of the sectors
-abbrev pub IsBeside : DumpDisk → List File → (others : List (List NotedOther)) → List ℕ → Type 0
-IsBeside disk files others line = IsPassedLine disk files line ⊎ IsOtherLine disk others line ⊎ IsUntoldLine disk others line ⊎ IsTracesLine disk others line
-
--- streams that are the same are passed over alike
-passed-same : (a b : Streams) (n count : ℕ) → ((q : ℕ) → q < count → a n q ≡ b n q) → (k : ℕ) → k ≤ count → passed_to a n k ≡ passed_to b n k
-passed-same a b n count same zero low = refl
-passed-same a b n count same (suc k) low =
-    ap (λ (ps : List PassedStream). ps ++ passed_one k (a n k).passed) (passed-same a b n count same k (omega (arith, low)))
-    ∙ ap (λ (s : Seen). passed_to b n k ++ passed_one k s.passed) (same k (omega (arith, low)))
+abbrev pub IsBeside : DumpDisk → Streams → (others : List (List NotedOther)) → List ℕ → Type 0
+IsBeside disk came others line = IsPassedLine disk came line ⊎ IsOtherLine disk others line ⊎ IsUntoldLine disk others line ⊎ IsTracesLine disk others line
 
 -- a stream that is passed over is among those of its track that are
 record IsAmong (streams : Streams) (n k dump : ℕ) (why : Passed) : Type 0 where
@@ -105,7 +96,7 @@ line_in : (front passed earlier line later others rest end : List ℕ)
     ≡ (front ++ (passed ++ earlier)) ++ (line ++ (later ++ (others ++ (rest ++ end))))
 line_in front passed earlier line later others rest end = simp append_assoc
 
-module _ (laws : Laws) (disk : DumpDisk) (files : List File) (o : DumpsRead) (is : IsDumpsRead disk (Some files) o) where
+module _ (laws : Laws) (disk : DumpDisk) (shelf : Option (List File)) (o : DumpsRead) (is : IsDumpsRead disk shelf o) where
   abbrev format : Format
   format = disk.format
 
@@ -117,11 +108,11 @@ module _ (laws : Laws) (disk : DumpDisk) (files : List File) (o : DumpsRead) (is
 
   -- the lines of the tracks before one
   abbrev pub lines_before : ℕ → ℕ
-  lines_before n = sum_by (lines_on disk files is.others) (range_with_len 0 n)
+  lines_before n = sum_by (lines_on disk came is.others) (range_with_len 0 n)
 
   -- the number of the line of a track's first sector
   abbrev pub first_line : ℕ → ℕ
-  first_line n = lines_before n + passed_on disk files n
+  first_line n = lines_before n + passed_on disk came n
 
   module _ (n : ℕ) (low : n < length is.parts) where
     abbrev at : IsPlannedPart (plan_of disk) read_part format came n (part_at is.parts n)
@@ -153,18 +144,15 @@ module _ (laws : Laws) (disk : DumpDisk) (files : List File) (o : DumpsRead) (is
     lines_are = ap (λ (p : TrackPart). p.lines) at.is
 
     -- as many as are counted
-    pub passed_many : length streams_passed ≡ passed_on disk files n
-    passed_many =
-        ap (λ (ps : List PassedStream). length ps)
-        (passed-same came (streams_on disk files) n (length disk.dumps) (λ q few. same_stream read_part disk files is.streams is.parts is.all.read n q low few)
-        (length disk.dumps) (omega arith))
+    pub passed_many : length streams_passed ≡ passed_on disk came n
+    passed_many = refl
 
     others_same : at.others ≡ get_or is.others n []
     others_same =
         one_others_to laws.rules (plan_of disk) format came n (length disk.dumps) at.others (get_or is.others n []) at.others_are
         (is.all.others_are n (omega (arith, low, is.all.many, is.all.many_others)))
 
-    lines_many : length streams_passed + (count_of n + other_lines_of at.others) ≡ lines_on disk files is.others n
+    lines_many : length streams_passed + (count_of n + other_lines_of at.others) ≡ lines_on disk came is.others n
     lines_many =
         let same : other_lines_of at.others ≡ other_lines_of (get_or is.others n []) = ap other_lines_of others_same in
         omega (arith, passed_many, same)
@@ -173,12 +161,12 @@ module _ (laws : Laws) (disk : DumpDisk) (files : List File) (o : DumpsRead) (is
     one_line sector = laws.one ByCaptureAndClock (track_at format n) sector (verdict readings sector)
 
     abbrev OnTrack : ℕ → List ℕ → Type 0
-    OnTrack number line = IsOnTrack format n (length streams_passed) sector_line number line ⊎ IsBeside disk files is.others line
+    OnTrack number line = IsOnTrack format n (length streams_passed) sector_line number line ⊎ IsBeside disk came is.others line
 
     abbrev PassedHere : PassedStream → Type 0
-    PassedHere s = IsBeside disk files is.others (passed_line_of (track_at format n) s)
+    PassedHere s = IsBeside disk came is.others (passed_line_of (track_at format n) s)
 
-    passed_here : (k : ℕ) → k < length disk.dumps → (why : Option Passed) → (streams_on disk files n k).passed ≡ why → Each PassedHere (passed_one k why)
+    passed_here : (k : ℕ) → k < length disk.dumps → (why : Option Passed) → (came n k).passed ≡ why → Each PassedHere (passed_one k why)
     passed_here k few None is_passed = tt
     passed_here k few (Some why) is_passed =
         (inl (record { n = n; low = omega (arith, low, is.all.many); dump = k; few = few; why = why; is = is_passed; line_is = refl }), tt)
@@ -188,19 +176,19 @@ module _ (laws : Laws) (disk : DumpDisk) (files : List File) (o : DumpsRead) (is
     each_passed (suc k) few =
         let within : k < length disk.dumps = omega (arith, few) in
         each-append PassedHere (passed_to came n k) (passed_one k (came n k).passed) (each_passed k (omega (arith, few)))
-        (passed_here k within (came n k).passed (ap (λ (s : Seen). s.passed) (sym (same_stream read_part disk files is.streams is.parts is.all.read n k low within))))
+        (passed_here k within (came n k).passed refl)
 
-    passed_tell : Tells (λ number line. IsBeside disk files is.others line) passed (length streams_passed)
+    passed_tell : Tells (λ number line. IsBeside disk came is.others line) passed (length streams_passed)
     passed_tell =
-        tells-each (IsBeside disk files is.others) (passed_line_of (track_at format n)) (λ (s : PassedStream). laws.dump_lines.passed (track_at format n) s.capture s.why)
+        tells-each (IsBeside disk came is.others) (passed_line_of (track_at format n)) (λ (s : PassedStream). laws.dump_lines.passed (track_at format n) s.capture s.why)
         streams_passed (each_passed (length disk.dumps) (omega arith))
 
     -- the lines of others: of names with whole data, of those that are not told, and of those without
     abbrev Beside : ℕ → List ℕ → Type 0
-    Beside number line = IsBeside disk files is.others line
+    Beside number line = IsBeside disk came is.others line
 
     abbrev DataLine : OtherTold → Type 0
-    DataLine t = IsBeside disk files is.others (other_text ByCaptureAndClock (track_at format n) t)
+    DataLine t = IsBeside disk came is.others (other_text ByCaptureAndClock (track_at format n) t)
 
     data_line : (os : List NotedOther) → os ≡ get_or is.others n [] → (t : OtherTold) → Contains (others_over os) t → has_data t ≡ true → DataLine t
     data_line os same t has whole =
@@ -220,12 +208,12 @@ module _ (laws : Laws) (disk : DumpDisk) (files : List File) (o : DumpsRead) (is
 
     data_tell : Tells Beside (data_lines (track_at format n) told) (length (filter has_data told))
     data_tell =
-        tells-each (IsBeside disk files is.others) (other_text ByCaptureAndClock (track_at format n))
+        tells-each (IsBeside disk came is.others) (other_text ByCaptureAndClock (track_at format n))
         (λ (t : OtherTold). laws.dump_lines.other ByCaptureAndClock (track_at format n) t) (filter has_data told) each_data
 
     untold_tells : Tells Beside (untold_lines (track_at format n) (has_untold at.others)) (cond (has_untold at.others) 1 0)
     untold_tells =
-        tells-if (IsBeside disk files is.others) (has_untold at.others) (untold_text (track_at format n)) (laws.dump_lines.untold (track_at format n))
+        tells-if (IsBeside disk came is.others) (has_untold at.others) (untold_text (track_at format n)) (laws.dump_lines.untold (track_at format n))
         (λ wanted.
         inr (inr (inl (record {
           n = n;
@@ -236,7 +224,7 @@ module _ (laws : Laws) (disk : DumpDisk) (files : List File) (o : DumpsRead) (is
 
     traces_tell : Tells Beside (traces_lines (track_at format n) told) (cond (has_traces at.others) 1 0)
     traces_tell =
-        tells-if (IsBeside disk files is.others) (has_traces at.others) (traces_text (track_at format n) (trace_count told))
+        tells-if (IsBeside disk came is.others) (has_traces at.others) (traces_text (track_at format n) (trace_count told))
         (laws.dump_lines.traces (track_at format n) (trace_count told))
         (λ wanted.
         inr (inr (inr (record {
@@ -266,19 +254,19 @@ module _ (laws : Laws) (disk : DumpDisk) (files : List File) (o : DumpsRead) (is
         (λ m line below same. inl (record { sector = first + m; known = (omega arith, omega (arith, below)); line_is = same; number_is = omega arith }))
         (tells-range sector_line one_line first (count_of n))
 
-    track_tells : Tells OnTrack (part_at is.parts n).lines (lines_on disk files is.others n)
+    track_tells : Tells OnTrack (part_at is.parts n).lines (lines_on disk came is.others n)
     track_tells =
         let i : ℕ = length streams_passed in
         let behind : ℕ → List ℕ → Type 0 = λ m line. OnTrack (i + m) line in
-        subst (λ (text : List ℕ). Tells OnTrack text (lines_on disk files is.others n)) (sym lines_are)
+        subst (λ (text : List ℕ). Tells OnTrack text (lines_on disk came is.others n)) (sym lines_are)
         (subst (Tells OnTrack (passed ++ (sector_lines ++ others))) lines_many
         (tells-append OnTrack passed (sector_lines ++ others) i (count_of n + other_lines_of at.others)
-        (tells-map (λ m line. IsBeside disk files is.others line) OnTrack passed i (λ m line below other. inr other) passed_tell)
+        (tells-map (λ m line. IsBeside disk came is.others line) OnTrack passed i (λ m line below other. inr other) passed_tell)
         (tells-append behind sector_lines others (count_of n) (other_lines_of at.others) sectors_tell
-        (tells-map (λ m line. IsBeside disk files is.others line) (λ m line. behind (count_of n + m) line) others (other_lines_of at.others) (λ m line below other. inr other) others_tell))))
+        (tells-map (λ m line. IsBeside disk came is.others line) (λ m line. behind (count_of n + m) line) others (other_lines_of at.others) (λ m line below other. inr other) others_tell))))
 
   abbrev pub OnDisk : ℕ → List ℕ → Type 0
-  OnDisk number line = IsOnDisk format (length is.parts) first_line sector_line number line ⊎ IsBeside disk files is.others line
+  OnDisk number line = IsOnDisk format (length is.parts) first_line sector_line number line ⊎ IsBeside disk came is.others line
 
   -- the line of a track, behind those of the tracks before
   on_disk : (n : ℕ) (low : n < length is.parts) (m : ℕ) (line : List ℕ) → OnTrack n low m line → OnDisk (lines_before n + m) line
@@ -287,14 +275,14 @@ module _ (laws : Laws) (disk : DumpDisk) (files : List File) (o : DumpsRead) (is
       inl (record { n = n; low = low; sector = s.sector; known = s.known; line_is = s.line_is; number_is = omega (arith, s.number_is, many) })
   on_disk n low m line (inr other) = inr other
 
-  pub before_more : (n : ℕ) → lines_before n + lines_on disk files is.others n ≡ lines_before (suc n)
+  pub before_more : (n : ℕ) → lines_before n + lines_on disk came is.others n ≡ lines_before (suc n)
   before_more n =
       let next : n + 1 ≡ suc n = omega arith in
       let here : 0 + n ≡ n = omega arith in
       sym (ap (λ (k : ℕ). lines_before k) (sym next)
-      ∙ ap (sum_by (lines_on disk files is.others)) (range-more 0 n)
-      ∙ sum_by_push (lines_on disk files is.others) (range_with_len 0 n) (0 + n)
-      ∙ ap (λ (k : ℕ). lines_before n + lines_on disk files is.others k) here)
+      ∙ ap (sum_by (lines_on disk came is.others)) (range-more 0 n)
+      ∙ sum_by_push (lines_on disk came is.others) (range_with_len 0 n) (0 + n)
+      ∙ ap (λ (k : ℕ). lines_before n + lines_on disk came is.others k) here)
 
   -- the lines of the first tracks
   pub front_tells : (n : ℕ) → n ≤ length is.parts → Tells OnDisk (lines (take n is.parts)) (lines_before n)
@@ -307,14 +295,14 @@ module _ (laws : Laws) (disk : DumpDisk) (files : List File) (o : DumpsRead) (is
       ∙ ap (λ (l : List ℕ). lines (take n is.parts) ++ l) (append-nil (part_at is.parts n).lines)) in
       subst (λ (l : List ℕ). Tells OnDisk l (lines_before (suc n))) text
       (subst (Tells OnDisk (lines (take n is.parts) ++ (part_at is.parts n).lines)) (before_more n)
-      (tells-append OnDisk (lines (take n is.parts)) (part_at is.parts n).lines (lines_before n) (lines_on disk files is.others n)
+      (tells-append OnDisk (lines (take n is.parts)) (part_at is.parts n).lines (lines_before n) (lines_on disk came is.others n)
       (front_tells n (omega (arith, within)))
-      (tells-map (OnTrack n within) (λ m line. OnDisk (lines_before n + m) line) (part_at is.parts n).lines (lines_on disk files is.others n)
+      (tells-map (OnTrack n within) (λ m line. OnDisk (lines_before n + m) line) (part_at is.parts n).lines (lines_on disk came is.others n)
       (λ m line below here. on_disk n within m line here) (track_tells n within))))
 
   -- so each sector has its line, at its number
   pub sector_has_line : (n : ℕ) (low : n < length is.parts) (sector : ℕ) → IsSectorOf format n sector
-      → HasLine o.notes (sector_line n low sector) (line_number disk files is.others n sector)
+      → HasLine o.notes (sector_line n low sector) (line_number disk came is.others n sector)
   unfolding sector_lines
   sector_has_line n low sector one =
       let first : ℕ = (row format).first_sector in
@@ -336,11 +324,11 @@ module _ (laws : Laws) (disk : DumpDisk) (files : List File) (o : DumpsRead) (is
       ∙ ap (λ (t : List ℕ). (front ++ ((passed n low ++ (t ++ others n low)) ++ rest)) ++ end) mine
       ∙ line_in front (passed n low) earlier text later (others n low) rest end in
       let many = passed_many n low in
-      let number : lines_before n + (length (streams_passed n low) + i) ≡ line_number disk files is.others n sector = omega (arith, many) in
+      let number : lines_before n + (length (streams_passed n low) + i) ≡ line_number disk came is.others n sector = omega (arith, many) in
       let skipped : Skips (front ++ (passed n low ++ earlier)) (lines_before n + (length (streams_passed n low) + i)) =
       skips-append front (passed n low ++ earlier) (lines_before n) (length (streams_passed n low) + i) (front_tells n (omega (arith, low))).skips
       (skips-append (passed n low) earlier (length (streams_passed n low)) i (passed_tell n low).skips (skips-lines (sector_line n low) (one_line n low) first i)) in
-      has_line o.notes (front ++ (passed n low ++ earlier)) text (later ++ (others n low ++ (rest ++ end))) (line_number disk files is.others n sector) split
+      has_line o.notes (front ++ (passed n low ++ earlier)) text (later ++ (others n low ++ (rest ++ end))) (line_number disk came is.others n sector) split
       (subst (Skips (front ++ (passed n low ++ earlier))) number skipped) (one_line n low sector)
 
   -- and each stream that is passed over has its line
@@ -348,11 +336,10 @@ module _ (laws : Laws) (disk : DumpDisk) (files : List File) (o : DumpsRead) (is
       → (front ++ (((earlier ++ (line ++ later)) ++ rest) ++ more)) ++ end ≡ (front ++ earlier) ++ (line ++ (later ++ (rest ++ (more ++ end))))
   stream_in front earlier line later rest more end = simp append_assoc
 
-  pub stream_has_line : (n : ℕ) (low : n < length is.parts) (dump : ℕ) (why : Passed) → dump < length disk.dumps → (streams_on disk files n dump).passed ≡ Some why
+  pub stream_has_line : (n : ℕ) (low : n < length is.parts) (dump : ℕ) (why : Passed) → dump < length disk.dumps → (came n dump).passed ≡ Some why
       → (number : ℕ) × HasLine o.notes (passed_text (track_at format n) dump why) number
   stream_has_line n low dump why few is_passed =
-      let same = same_stream read_part disk files is.streams is.parts is.all.read n dump low few in
-      let a = among came n (length disk.dumps) dump why few (ap (λ (s : Seen). s.passed) same ∙ is_passed) in
+      let a = among came n (length disk.dumps) dump why few is_passed in
       let line_of : PassedStream → List ℕ = passed_line_of (track_at format n) in
       let text : List ℕ = passed_text (track_at format n) dump why in
       let earlier : List ℕ = flat_map line_of a.before in

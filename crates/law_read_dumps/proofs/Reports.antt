@@ -1,5 +1,5 @@
 -- A report of dumps as a whole: what each of its lines is, and how many there are.
-use Rattle.std.specs.Prelude.{◌≡◌, ◌≤◌, ◌<◌, ◌⊎◌, ℕ, zero, suc, ◌+◌, ◌-◌, List, [], ◌∷◌, ◌++◌, length, slice_get, None, Some, refl}
+use Rattle.std.specs.Prelude.{◌≡◌, ◌≤◌, ◌<◌, ◌⊎◌, ℕ, zero, suc, ◌+◌, ◌-◌, List, [], ◌∷◌, ◌++◌, length, slice_get, Option, None, Some, refl}
 use Rattle.std.proofs.Common.{ap, sym, subst, ◌∙◌, arith, append-nil, inl, inr}
 use Rattle.std.proofs.Math.Seq.{take-length}
 use Rattle.std.proofs.lemmas.Bool.{cases_lt}
@@ -21,7 +21,7 @@ use Rattle.sector_report.specs.declared.naming.Naming.TheVariants.{ByCaptureAndC
 use Rattle.track_shelf.specs.Files.{File}
 use Rattle.turn_merge.specs.Readings.{NotedReading, verdict}
 use Rattle.law_read_dumps.specs.Lines.{HasNoOtherLines, IsEndLine, IsLineOfReport, IsSectorLine, LinesAreKnown, PassedStreamsAreSaid, ReportsHaveNoOtherLines, SectorsHaveTheirNumbers, line_number, traced_count}
-use Rattle.law_read_dumps.specs.Said.{EachIsSaid, IsSaid}
+use Rattle.law_read_dumps.specs.Said.{EachIsSaid, IsSaid, came_in}
 use Rattle.law_read_dumps.proofs.Counts.{lines_counted}
 use Rattle.law_read_dumps.proofs.Lines.{Tells, tells-append, tells-line, tells-map}
 use Rattle.law_read_dumps.proofs.ReportLines.{IsOnDisk, OnDisk, first_line, front_tells, lines_before, sector_has_line, sector_line, stream_has_line, Laws as LineLaws}
@@ -42,16 +42,16 @@ past-all : (m : ℕ) (front : List ℕ) → slice_get (lines_in []) m ≡ Some f
 past-all zero front is = sym (some_same [] front is)
 past-all (suc m) front is = absurd (none_some is)
 
-module _ (laws : Laws) (disk : DumpDisk) (files : List File) (o : DumpsRead) (is : IsDumpsRead disk (Some files) o) where
+module _ (laws : Laws) (disk : DumpDisk) (shelf : Option (List File)) (o : DumpsRead) (is : IsDumpsRead disk shelf o) where
   abbrev totals : DumpTotals
   totals = numbers_of is.streams is.parts is.others
 
   abbrev Here : ℕ → List ℕ → Type 0
-  Here number line = OnDisk laws.lines disk files o is number line ⊎ IsEndLine totals line
+  Here number line = OnDisk laws.lines disk shelf o is number line ⊎ IsEndLine totals line
 
   -- how many lines the tracks have
   abbrev all : ℕ
-  all = lines_before laws.lines disk files o is (length is.parts)
+  all = lines_before laws.lines disk shelf o is (length is.parts)
 
   end_tells : Tells (λ m line. Here (all + m) line) (end_text totals) 2
   end_tells =
@@ -63,9 +63,9 @@ module _ (laws : Laws) (disk : DumpDisk) (files : List File) (o : DumpsRead) (is
 
   tracks_tell : Tells Here (lines is.parts) all
   tracks_tell =
-      tells-map (OnDisk laws.lines disk files o is) Here (lines is.parts) all (λ m line below on. inl on)
-      (subst (λ (ps : List TrackPart). Tells (OnDisk laws.lines disk files o is) (lines ps) all) (take-length is.parts)
-      (front_tells laws.lines disk files o is (length is.parts) (omega arith)))
+      tells-map (OnDisk laws.lines disk shelf o is) Here (lines is.parts) all (λ m line below on. inl on)
+      (subst (λ (ps : List TrackPart). Tells (OnDisk laws.lines disk shelf o is) (lines ps) all) (take-length is.parts)
+      (front_tells laws.lines disk shelf o is (length is.parts) (omega arith)))
 
   notes_tell : Tells Here o.notes (all + 2)
   notes_tell =
@@ -81,23 +81,23 @@ module _ (laws : Laws) (disk : DumpDisk) (files : List File) (o : DumpsRead) (is
 
   count : HasNoOtherLines o is.others
   count =
-      let counted : all ≡ totals.unread + totals.sectors.sectors + totals.whole + traced_count is.others = lines_counted laws.lines disk files o is in
+      let counted : all ≡ totals.unread + totals.sectors.sectors + totals.whole + traced_count is.others = lines_counted laws.lines disk shelf o is in
       notes_tell.skips.ends ∙ ap (λ (k : ℕ). k + 2) counted
       ∙ sym (ap (λ (d : DumpsRead). d.totals.unread + d.totals.sectors.sectors + d.totals.whole + traced_count is.others + 2) is.is)
 
-  numbered : (n sector : ℕ) → IsSectorOf disk.format n sector → (said : IsSaid disk files o n sector)
-      → HasLine o.notes (named_text ByCaptureAndClock (track_at disk.format n) sector (verdict (joined said.captures) sector)) (line_number disk files is.others n sector)
+  numbered : (n sector : ℕ) → IsSectorOf disk.format n sector → (said : IsSaid disk (came_in is) o n sector)
+      → HasLine o.notes (named_text ByCaptureAndClock (track_at disk.format n) sector (verdict (joined said.captures) sector)) (line_number disk (came_in is) is.others n sector)
   numbered n sector one said =
       let low : n < length is.parts = omega (arith, one.track, is.all.many) in
-      subst (λ (cs : List (List NotedReading)). HasLine o.notes (named_text ByCaptureAndClock (track_at disk.format n) sector (verdict (joined cs) sector)) (line_number disk files is.others n sector))
-      (sym (captures_are laws.readings disk files o is n sector low said)) (sector_has_line laws.lines disk files o is n low sector one)
+      subst (λ (cs : List (List NotedReading)). HasLine o.notes (named_text ByCaptureAndClock (track_at disk.format n) sector (verdict (joined cs) sector)) (line_number disk (came_in is) is.others n sector))
+      (sym (captures_are laws.readings disk shelf o is n sector low said)) (sector_has_line laws.lines disk shelf o is n low sector one)
 
   module _ (number : ℕ) where
-    of_sector : (line : List ℕ) → IsOnDisk disk.format (length is.parts) (first_line laws.lines disk files o is) (sector_line laws.lines disk files o is) number line
-        → IsSectorLine disk files o is.others number line
+    of_sector : (line : List ℕ) → IsOnDisk disk.format (length is.parts) (first_line laws.lines disk shelf o is) (sector_line laws.lines disk shelf o is) number line
+        → IsSectorLine disk (came_in is) o is.others number line
     of_sector line s =
         let one : IsSectorOf disk.format s.n s.sector = record { track = omega (arith, s.low, is.all.many); known = s.known } in
-        let said = laws.said disk files o is s.n s.sector one in
+        let said = laws.said disk shelf o is s.n s.sector one in
         record {
           n = s.n;
           sector = s.sector;
@@ -106,11 +106,11 @@ module _ (laws : Laws) (disk : DumpDisk) (files : List File) (o : DumpsRead) (is
           line_is =
               s.line_is
               ∙ sym (ap (λ (cs : List (List NotedReading)). named_text ByCaptureAndClock (track_at disk.format s.n) s.sector (verdict (joined cs) s.sector))
-              (captures_are laws.readings disk files o is s.n s.sector s.low said));
+              (captures_are laws.readings disk shelf o is s.n s.sector s.low said));
           number_is = s.number_is;
         }
 
-    line_here : (line : List ℕ) → Here number line → IsLineOfReport disk files o is.others number line
+    line_here : (line : List ℕ) → Here number line → IsLineOfReport disk (came_in is) o is.others number line
     line_here line (inl (inl s)) = inl (of_sector line s)
     line_here line (inl (inr (inl passed))) = inr (inl passed)
     line_here line (inl (inr (inr (inl other)))) = inr (inr (inl other))
@@ -118,24 +118,24 @@ module _ (laws : Laws) (disk : DumpDisk) (files : List File) (o : DumpsRead) (is
     line_here line (inl (inr (inr (inr (inr traces))))) = inr (inr (inr (inr (inl traces))))
     line_here line (inr end) = inr (inr (inr (inr (inr (subst (λ (t : DumpTotals). IsEndLine t line) (sym (ap (λ (d : DumpsRead). d.totals) is.is)) end)))))
 
-    known : (line : List ℕ) → HasLine o.notes line number → IsLineOfReport disk files o is.others number line ⊎ ((line ≡ 10 ∷ []) × (line_ends o.notes ≤ number))
+    known : (line : List ℕ) → HasLine o.notes line number → IsLineOfReport disk (came_in is) o is.others number line ⊎ ((line ≡ 10 ∷ []) × (line_ends o.notes ≤ number))
     known line h =
         let there : slice_get (lines_in (o.notes ++ [])) number ≡ Some h.front = ap (λ (text : List ℕ). slice_get (lines_in text) number) (append-nil o.notes) ∙ h.there in
         elim (cases_lt number (all + 2)) [
           | inl low ↦
-              inl (subst (IsLineOfReport disk files o is.others number) (sym h.ends) (line_here (h.front ++ 10 ∷ []) (notes_tell.each [] number h.front low there)))
+              inl (subst (IsLineOfReport disk (came_in is) o is.others number) (sym h.ends) (line_here (h.front ++ 10 ∷ []) (notes_tell.each [] number h.front low there)))
           | inr past ↦ inr (h.ends ∙ ap (λ (f : List ℕ). f ++ 10 ∷ []) (nothing_behind number h.front past there), omega (arith, past, notes_tell.skips.ends))
         ]
 
 pub sectors_have_their_numbers : Laws → SectorsHaveTheirNumbers
-sectors_have_their_numbers laws disk files o is n sector one said = numbered laws disk files o is n sector one said
+sectors_have_their_numbers laws disk shelf o is n sector one said = numbered laws disk shelf o is n sector one said
 
 pub passed_streams_are_said : Laws → PassedStreamsAreSaid
-passed_streams_are_said laws disk files o is n dump why low few is_passed =
-    stream_has_line laws.lines disk files o is n (omega (arith, low, is.all.many)) dump why few is_passed
+passed_streams_are_said laws disk shelf o is n dump why low few is_passed =
+    stream_has_line laws.lines disk shelf o is n (omega (arith, low, is.all.many)) dump why few is_passed
 
 pub lines_are_known : Laws → LinesAreKnown
-lines_are_known laws disk files o is number line h = known laws disk files o is number line h
+lines_are_known laws disk shelf o is number line h = known laws disk shelf o is number line h
 
 pub reports_have_no_other_lines : Laws → ReportsHaveNoOtherLines
-reports_have_no_other_lines laws disk files o is = count laws disk files o is
+reports_have_no_other_lines laws disk shelf o is = count laws disk shelf o is

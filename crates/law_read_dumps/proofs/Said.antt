@@ -1,5 +1,5 @@
 -- What dumps that were read say of each sector.
-use Rattle.std.specs.Prelude.{◌≡◌, ◌≤◌, ◌<◌, ◌⊎◌, ℕ, zero, suc, ◌+◌, map, List, [], ◌∷◌, ◌++◌, get_or, length, None, Some, refl}
+use Rattle.std.specs.Prelude.{◌≡◌, ◌≤◌, ◌<◌, ◌⊎◌, ℕ, zero, suc, ◌+◌, map, List, [], ◌∷◌, ◌++◌, get_or, length, Option, None, Some, refl}
 use Rattle.std.specs.List.{range_with_len}
 use Rattle.std.proofs.Common.{ap, sym, subst, ◌∙◌, arith, inl, inr}
 use Rattle.std.proofs.lemmas.Bool.{cases_lt}
@@ -10,7 +10,7 @@ use Rattle.flux_engine.specs.DiskLaws.{bytes_at}
 use Rattle.flux_engine.specs.Disks.{images, part_at, report_over}
 use Rattle.flux_engine.specs.LoopProgress.{streams_over}
 use Rattle.flux_engine.specs.PlanLaws.{ContradictionsAreNamedInPlans, GoodIsRightInPlans, ReadingsInPlansAreOne, StrictGoodStays}
-use Rattle.flux_engine.specs.Plans.{AreCaptures, IsPlanned, IsPlannedPart, Planned, Streams, joined}
+use Rattle.flux_engine.specs.Plans.{IsPlanned, IsPlannedPart, Planned, Streams, joined}
 use Rattle.flux_engine.specs.Recordings.{sectors_of, track_at}
 use Rattle.flux_engine.specs.Tracks.{TrackPart, image_bytes, named_part, part_by}
 use Rattle.flux_engine.specs.declared.plan.Plan.{Plan}
@@ -23,7 +23,7 @@ use Rattle.track_shelf.specs.Files.{File}
 use Rattle.turn_merge.specs.Readings.{NotedReading, verdict}
 use Rattle.turn_merge.specs.declared.verdict.Verdict.{Verdict}
 use Rattle.turn_merge.specs.declared.verdict.Verdict.TheVariants.{Bad, Contradictory, Good, Missing}
-use Rattle.law_read_dumps.specs.Said.{GoodStaysOrIsContradicted, IsSaid, IsSaidRightly, SaidIsRight, streams_on}
+use Rattle.law_read_dumps.specs.Said.{GoodStaysOrIsContradicted, IsSaid, IsSaidRightly, SaidIsRight, came_in}
 use Rattle.law_read_dumps.specs.Lines.{line_number}
 use Rattle.law_read_dumps.proofs.ReportLines.{sector_has_line, Laws as LineLaws}
 
@@ -54,7 +54,7 @@ images_one (p ∷ ps) (q ∷ qs) same each =
     ap (λ (image : List ℕ). image ++ images ps) (each 0 (omega arith))
     ∙ ap (λ (rest : List ℕ). q.image ++ rest) (images_one ps qs (omega (arith, same)) (λ n low. each (suc n) (omega (arith, low))))
 
-module _ (laws : Laws) (disk : DumpDisk) (files : List File) (o : DumpsRead) (is : IsDumpsRead disk (Some files) o) where
+module _ (laws : Laws) (disk : DumpDisk) (shelf : Option (List File)) (o : DumpsRead) (is : IsDumpsRead disk shelf o) where
   abbrev format : Format
   format = disk.format
 
@@ -141,11 +141,8 @@ module _ (laws : Laws) (disk : DumpDisk) (files : List File) (o : DumpsRead) (is
       ap (λ (p : TrackPart). p.image) (plain_is n known) ∙ image_of_one n known (cases_lt n (length parts)))
       ∙ sym (ap (λ (d : DumpsRead). d.image) is.is)
 
-  pub each_said : (n sector : ℕ) → IsSectorOf format n sector
-      → ((known : n < length parts) (captures : List (List NotedReading)) → length captures ≡ length disk.dumps → AreCaptures plan format came n captures
-      → AreCaptures plan format (streams_on disk files) n captures)
-      → IsSaid disk files o n sector
-  each_said n sector one moved =
+  pub each_said : (n sector : ℕ) → IsSectorOf format n sector → IsSaid disk (came_in is) o n sector
+  each_said n sector one =
       let known : n < length parts = omega (arith, one.track, is.all.many) in
       let here = at n known in
       let said : IsSaidByPlan plan format came planned n sector = laws.said plan format came planned is_planned n sector one.track one.known in
@@ -153,9 +150,9 @@ module _ (laws : Laws) (disk : DumpDisk) (files : List File) (o : DumpsRead) (is
       record {
         captures = here.captures;
         many = here.many;
-        each = moved known here.captures here.many here.each;
-        number = line_number disk files is.others n sector;
-        line = sector_has_line laws.lines disk files o is n known sector one;
+        each = here.each;
+        number = line_number disk came is.others n sector;
+        line = sector_has_line laws.lines disk shelf o is n known sector one;
         held =
             ap (λ (image : List ℕ). bytes_at format image (track n) sector) (sym image_is)
             ∙ said.held
@@ -164,11 +161,11 @@ module _ (laws : Laws) (disk : DumpDisk) (files : List File) (o : DumpsRead) (is
 
 -- what a line says is right
 pub said_is_right : GoodIsRightInPlans → ContradictionsAreNamedInPlans → SaidIsRight
-said_is_right good contradicted disk files o n sector said = by (verdict (joined said.captures) sector) refl
+said_is_right good contradicted disk came o n sector said = by (verdict (joined said.captures) sector) refl
   where
-    by : (v : Verdict) → verdict (joined said.captures) sector ≡ v → IsSaidRightly disk files o n sector v
+    by : (v : Verdict) → verdict (joined said.captures) sector ≡ v → IsSaidRightly disk came o n sector v
     by (Good g b first) is =
-        let right = good (plan_of disk) disk.format (streams_on disk files) n said.captures said.many said.each sector g b first is in
+        let right = good (plan_of disk) disk.format came n said.captures said.many said.each sector g b first is in
         record {
           bytes = right.bytes;
           named = right.named;
@@ -176,10 +173,10 @@ said_is_right good contradicted disk files o n sector said = by (verdict (joined
           agreed = right.agreed;
         }
     by (Contradictory g b first other) is =
-        contradicted (plan_of disk) disk.format (streams_on disk files) n said.captures said.many said.each sector g b first other is
+        contradicted (plan_of disk) disk.format came n said.captures said.many said.each sector g b first other is
     by (Bad b first) is = tt
     by Missing is = tt
 
 pub good_stays : StrictGoodStays → GoodStaysOrIsContradicted
-good_stays stays disk files o n sector said q low clock used found all good bad first is =
-    stays (plan_of disk) disk.format (streams_on disk files) n said.captures said.many said.each q low clock used found all sector good bad first is
+good_stays stays disk came o n sector said q low clock used found all good bad first is =
+    stays (plan_of disk) disk.format came n said.captures said.many said.each q low clock used found all sector good bad first is

@@ -1,5 +1,5 @@
 -- The streams that came of dumps are those of their files, and the files decide what they come to.
-use Rattle.std.specs.Prelude.{◌≡◌, ◌<◌, ℕ, zero, suc, ◌+◌, ◌*◌, ◌/◌, ◌%◌, List, [], get_or, length, None, Some, refl}
+use Rattle.std.specs.Prelude.{◌≡◌, ◌<◌, ℕ, zero, suc, ◌+◌, ◌*◌, ◌/◌, ◌%◌, List, [], get_or, length, Option, None, Some, refl}
 use Rattle.std.proofs.Common.{ap, sym, subst, ◌∙◌, arith}
 use Rattle.std.proofs.Math.Nat.{div-lt_iff_lt-mul, mod-lt, mul_comm}
 use Rattle.std.proofs.lemmas.List.{ext_get_or}
@@ -21,7 +21,7 @@ use Rattle.sector_images.specs.declared.format.Format.{Format}
 use Rattle.track_shelf.specs.Files.{File}
 use Rattle.turn_merge.specs.Others.{NotedOther}
 use Rattle.turn_merge.specs.Readings.{NotedReading}
-use Rattle.law_read_dumps.specs.Said.{AllOfDumpsIsOne, IsSaid, streams_on}
+use Rattle.law_read_dumps.specs.Said.{AllOfDumpsIsOne, IsSaid, StreamsAreOfFiles, came_in, streams_on}
 
 abbrev pub none_seen : Seen
 none_seen = record { fault = None; passed = None; times = []; indexes = [] }
@@ -31,25 +31,20 @@ some_of : (i a count : ℕ) → i < a * count → 0 < count
 some_of i a zero low = (let none : a * 0 ≡ 0 = omega arith in absurd (omega (arith, low, none)))
 some_of i a (suc count) low = omega arith
 
+-- the stream of a track and a dump is among those that came
+pub number_low : (of : PartOf) (disk : DumpDisk) (shelf : Option (List File)) (streams : List Seen) (parts : List TrackPart) → AreTracksBy of disk shelf streams parts
+    → (n q : ℕ) → n < length parts → q < length disk.dumps → n * length disk.dumps + q < length streams
+number_low of disk shelf streams parts read n q known low =
+    let many : ℕ = length disk.dumps in
+    let below : n * many + q < many * length parts = mul-add-lt n many q (length parts) known low in
+    omega (arith, below, mul_comm many (length parts), read.all)
+
 module _ (of : PartOf) (disk : DumpDisk) (files : List File) (streams : List Seen) (parts : List TrackPart) (read : AreTracksBy of disk (Some files) streams parts) where
   abbrev many : ℕ
   many = length disk.dumps
 
-  -- the stream of a track and a dump is among those that came
-  pub number_low : (n q : ℕ) → n < length parts → q < many → n * many + q < length streams
-  number_low n q known low =
-      let below : n * many + q < many * length parts = mul-add-lt n many q (length parts) known low in
-      omega (arith, below, mul_comm many (length parts), read.all)
-
   pub same_stream : (n q : ℕ) → n < length parts → q < many → seen_at streams (n * many + q) ≡ streams_on disk files n q
-  same_stream n q known low = read.are files refl n q low (number_low n q known low)
-
-  -- so the readings of a track are those of the files
-  pub same_captures : (n : ℕ) → n < length parts → (captures : List (List NotedReading)) → length captures ≡ many
-      → AreCaptures (plan_of disk) disk.format (streams_over (plan_of disk) streams) n captures → AreCaptures (plan_of disk) disk.format (streams_on disk files) n captures
-  same_captures n known captures all each q low =
-      subst (λ (s : Seen). AreReadingsOf (plan_of disk).rule (plan_of disk).clocks disk.format (track_at disk.format n) s.times s.indexes q (get_or captures q []))
-      (same_stream n q known (omega (arith, low, all))) (each q low)
+  same_stream n q known low = read.are files refl n q low (number_low of disk (Some files) streams parts read n q known low)
 
   -- and each of them has its place among those that came
   pub at_place : (i : ℕ) → i < length streams → seen_at streams i ≡ streams_on disk files (i / many) (i % many)
@@ -106,10 +101,13 @@ module _ (read : RulesAreRead) where
 pub all_is_one : RulesAreRead → ReadingsInPlansAreOne → AllOfDumpsIsOne
 all_is_one read one of whole disk files a b p q = one_read read one of whole disk files a b p q
 
+-- each stream that came is what its file says
+pub streams_are_of_files : StreamsAreOfFiles
+streams_are_of_files disk files o is n dump low few = same_stream read_part disk files is.streams is.parts is.all.read n dump (omega (arith, low, is.all.many)) few
+
 -- whatever list has all readings of each stream of a track
-pub captures_are : ReadingsInPlansAreOne → (disk : DumpDisk) (files : List File) (o : DumpsRead) (is : IsDumpsRead disk (Some files) o) (n sector : ℕ) (low : n < length is.parts)
-    (said : IsSaid disk files o n sector) → said.captures ≡ (is.all.read.each n low).captures
-captures_are one disk files o is n sector low said =
+pub captures_are : ReadingsInPlansAreOne → (disk : DumpDisk) (told : Option (List File)) (o : DumpsRead) (is : IsDumpsRead disk told o) (n sector : ℕ) (low : n < length is.parts)
+    (said : IsSaid disk (came_in is) o n sector) → said.captures ≡ (is.all.read.each n low).captures
+captures_are one disk told o is n sector low said =
     let at = is.all.read.each n low in
-    let are : AreCaptures (plan_of disk) disk.format (streams_on disk files) n at.captures = same_captures read_part disk files is.streams is.parts is.all.read n low at.captures at.many at.each in
-    one (plan_of disk) disk.format (streams_on disk files) n said.captures at.captures said.each are (said.many ∙ sym at.many)
+    one (plan_of disk) disk.format (came_in is) n said.captures at.captures said.each at.each (said.many ∙ sym at.many)

@@ -1,12 +1,12 @@
 -- The lines of a report of dumps: at which number each sector's stands, what each line is, and how many there are.
-use Rattle.std.specs.Prelude.{◌≡◌, ◌≤◌, ◌<◌, ◌⊎◌, IsTrue, ℕ, ◌+◌, ◌-◌, Bool, cond, Contains, List, [], ◌∷◌, count_by, get_or, length, nat_lt, sum_by, Some}
+use Rattle.std.specs.Prelude.{◌≡◌, ◌≤◌, ◌<◌, ◌⊎◌, IsTrue, ℕ, ◌+◌, ◌-◌, Bool, cond, Contains, List, [], ◌∷◌, count_by, get_or, length, nat_lt, sum_by, Option, Some}
 use Rattle.std.specs.List.{range_with_len}
 use Rattle.dump_reading.specs.Outcomes.{DumpDisk, DumpsRead, IsDumpsRead}
 use Rattle.dump_reading.specs.Reports.{trace_count}
 use Rattle.dump_reading.specs.declared.totals.DumpTotals.{DumpTotals}
 use Rattle.flux_engine.specs.Counts.{whole_names_of}
 use Rattle.flux_engine.specs.DiskLaws.{HasLine}
-use Rattle.flux_engine.specs.Plans.{joined, passed_to}
+use Rattle.flux_engine.specs.Plans.{Streams, joined, passed_to}
 use Rattle.flux_engine.specs.Recordings.{sectors_of, track_at}
 use Rattle.law_captured_disks.specs.Headline.{IsSectorOf}
 use Rattle.sector_images.specs.Formats.{row}
@@ -20,11 +20,11 @@ use Rattle.track_shelf.specs.Files.{File}
 use Rattle.turn_merge.specs.Others.{NotedOther, has_data, has_untold, others_over}
 use Rattle.turn_merge.specs.Readings.{verdict}
 use Rattle.turn_merge.specs.declared.others.OtherTold.{OtherTold}
-use Rattle.law_read_dumps.specs.Said.{IsSaid, streams_on}
+use Rattle.law_read_dumps.specs.Said.{IsSaid, came_in}
 
 -- how many streams of track number n are passed over
-abbrev pub passed_on : DumpDisk → List File → ℕ → ℕ
-passed_on disk files n = length (passed_to (streams_on disk files) n (length disk.dumps))
+abbrev pub passed_on : DumpDisk → Streams → ℕ → ℕ
+passed_on disk came n = length (passed_to came n (length disk.dumps))
 
 -- a name of a track's others is told that has no whole data
 abbrev pub has_traces : List NotedOther → Bool
@@ -36,31 +36,31 @@ abbrev pub other_lines_of : List NotedOther → ℕ
 other_lines_of others = whole_names_of (others_over others) (has_untold others) + cond (has_traces others) 1 0
 
 -- How many lines track number n has: one for each stream that is passed over, one for each sector, and those of its others.
-abbrev pub lines_on : DumpDisk → List File → (others : List (List NotedOther)) → ℕ → ℕ
-lines_on disk files others n =
-    passed_on disk files n + (sectors_of disk.format (track_at disk.format n)).count + other_lines_of (get_or others n [])
+abbrev pub lines_on : DumpDisk → Streams → (others : List (List NotedOther)) → ℕ → ℕ
+lines_on disk came others n =
+    passed_on disk came n + (sectors_of disk.format (track_at disk.format n)).count + other_lines_of (get_or others n [])
 
 -- the lines before that of a sector of track number n: those of all tracks before it, those of the track's streams that are passed over,
 -- and those of the track's sectors of smaller numbers
-abbrev pub line_number : DumpDisk → List File → (others : List (List NotedOther)) → (n sector : ℕ) → ℕ
-line_number disk files others n sector =
-    sum_by (lines_on disk files others) (range_with_len 0 n) + passed_on disk files n + (sector - (row disk.format).first_sector)
+abbrev pub line_number : DumpDisk → Streams → (others : List (List NotedOther)) → (n sector : ℕ) → ℕ
+line_number disk came others n sector =
+    sum_by (lines_on disk came others) (range_with_len 0 n) + passed_on disk came n + (sector - (row disk.format).first_sector)
 
 -- the report has each sector's line at its number, with the verdict over all readings of its track
-abbrev pub HaveTheirNumbers : DumpDisk → List File → DumpsRead → (others : List (List NotedOther)) → Type 0
-HaveTheirNumbers disk files o others = (n sector : ℕ) → IsSectorOf disk.format n sector → (said : IsSaid disk files o n sector)
-    → HasLine o.notes (named_text ByCaptureAndClock (track_at disk.format n) sector (verdict (joined said.captures) sector)) (line_number disk files others n sector)
+abbrev pub HaveTheirNumbers : DumpDisk → Streams → DumpsRead → (others : List (List NotedOther)) → Type 0
+HaveTheirNumbers disk came o others = (n sector : ℕ) → IsSectorOf disk.format n sector → (said : IsSaid disk came o n sector)
+    → HasLine o.notes (named_text ByCaptureAndClock (track_at disk.format n) sector (verdict (joined said.captures) sector)) (line_number disk came others n sector)
 
 abbrev pub SectorsHaveTheirNumbers : Type 0
-SectorsHaveTheirNumbers = (disk : DumpDisk) (files : List File) (o : DumpsRead) (is : IsDumpsRead disk (Some files) o) → HaveTheirNumbers disk files o is.others
+SectorsHaveTheirNumbers = (disk : DumpDisk) (told : Option (List File)) (o : DumpsRead) (is : IsDumpsRead disk told o) → HaveTheirNumbers disk (came_in is) o is.others
 
 -- the report has a line for each stream that is passed over, with the reason
-abbrev pub ArePassedSaid : DumpDisk → List File → DumpsRead → Type 0
-ArePassedSaid disk files o = (n dump : ℕ) (why : Passed) → n < length (tracks disk.format) → dump < length disk.dumps → (streams_on disk files n dump).passed ≡ Some why
+abbrev pub ArePassedSaid : DumpDisk → Streams → DumpsRead → Type 0
+ArePassedSaid disk came o = (n dump : ℕ) (why : Passed) → n < length (tracks disk.format) → dump < length disk.dumps → (came n dump).passed ≡ Some why
     → (number : ℕ) × HasLine o.notes (passed_text (track_at disk.format n) dump why) number
 
 abbrev pub PassedStreamsAreSaid : Type 0
-PassedStreamsAreSaid = (disk : DumpDisk) (files : List File) (o : DumpsRead) → IsDumpsRead disk (Some files) o → ArePassedSaid disk files o
+PassedStreamsAreSaid = (disk : DumpDisk) (told : Option (List File)) (o : DumpsRead) (is : IsDumpsRead disk told o) → ArePassedSaid disk (came_in is) o
 
 -- on how many tracks a name of others is told that has no whole data
 abbrev pub traced_count : List (List NotedOther) → ℕ
@@ -73,25 +73,25 @@ HasNoOtherLines o others = line_ends o.notes ≡ o.totals.unread + o.totals.sect
 
 -- a report has so many, and no other
 abbrev pub ReportsHaveNoOtherLines : Type 0
-ReportsHaveNoOtherLines = (disk : DumpDisk) (files : List File) (o : DumpsRead) (is : IsDumpsRead disk (Some files) o) → HasNoOtherLines o is.others
+ReportsHaveNoOtherLines = (disk : DumpDisk) (told : Option (List File)) (o : DumpsRead) (is : IsDumpsRead disk told o) → HasNoOtherLines o is.others
 
 -- the line is that of a sector of the disk, with the verdict over all readings of its track, and stands at its number
-pub record IsSectorLine (disk : DumpDisk) (files : List File) (o : DumpsRead) (others : List (List NotedOther)) (number : ℕ) (line : List ℕ) : Type 0 where
+pub record IsSectorLine (disk : DumpDisk) (came : Streams) (o : DumpsRead) (others : List (List NotedOther)) (number : ℕ) (line : List ℕ) : Type 0 where
   pub n : ℕ
   pub sector : ℕ
   pub one : IsSectorOf disk.format n sector
-  pub said : IsSaid disk files o n sector
+  pub said : IsSaid disk came o n sector
   pub line_is : line ≡ named_text ByCaptureAndClock (track_at disk.format n) sector (verdict (joined said.captures) sector)
-  pub number_is : number ≡ line_number disk files others n sector
+  pub number_is : number ≡ line_number disk came others n sector
 
 -- it is that of a dump's stream of a track of the disk, which is passed over for this reason
-pub record IsPassedLine (disk : DumpDisk) (files : List File) (line : List ℕ) : Type 0 where
+pub record IsPassedLine (disk : DumpDisk) (came : Streams) (line : List ℕ) : Type 0 where
   pub n : ℕ
   pub low : n < length (tracks disk.format)
   pub dump : ℕ
   pub few : dump < length disk.dumps
   pub why : Passed
-  pub is : (streams_on disk files n dump).passed ≡ Some why
+  pub is : (came n dump).passed ≡ Some why
   pub line_is : line ≡ passed_text (track_at disk.format n) dump why
 
 -- it is that of a name of others of a track of the disk which is told and has whole data
@@ -121,12 +121,12 @@ pub record IsTracesLine (disk : DumpDisk) (others : List (List NotedOther)) (lin
 abbrev pub IsEndLine : DumpTotals → (line : List ℕ) → Type 0
 IsEndLine totals line = (line ≡ unread_text totals.unread totals.others totals.whole) ⊎ (line ≡ total_text totals.sectors)
 
-abbrev pub IsLineOfReport : DumpDisk → List File → DumpsRead → (others : List (List NotedOther)) → (number : ℕ) → (line : List ℕ) → Type 0
-IsLineOfReport disk files o others number line =
-    IsSectorLine disk files o others number line ⊎ IsPassedLine disk files line
+abbrev pub IsLineOfReport : DumpDisk → Streams → DumpsRead → (others : List (List NotedOther)) → (number : ℕ) → (line : List ℕ) → Type 0
+IsLineOfReport disk came o others number line =
+    IsSectorLine disk came o others number line ⊎ IsPassedLine disk came line
     ⊎ IsOtherLine disk others line ⊎ IsUntoldLine disk others line ⊎ IsTracesLine disk others line ⊎ IsEndLine o.totals line
 
 -- each line of a report is one of these; behind the end of the last one there is but the empty text
 abbrev pub LinesAreKnown : Type 0
-LinesAreKnown = (disk : DumpDisk) (files : List File) (o : DumpsRead) (is : IsDumpsRead disk (Some files) o) → (number : ℕ) (line : List ℕ)
-    → HasLine o.notes line number → IsLineOfReport disk files o is.others number line ⊎ ((line ≡ 10 ∷ []) × (line_ends o.notes ≤ number))
+LinesAreKnown = (disk : DumpDisk) (told : Option (List File)) (o : DumpsRead) (is : IsDumpsRead disk told o) → (number : ℕ) (line : List ℕ)
+    → HasLine o.notes line number → IsLineOfReport disk (came_in is) o is.others number line ⊎ ((line ≡ 10 ∷ []) × (line_ends o.notes ≤ number))

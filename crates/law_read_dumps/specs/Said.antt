@@ -1,17 +1,19 @@
 -- What dumps that were read say of each sector of the disk, in the report and in the image.
-use Rattle.std.specs.Prelude.{◌≡◌, ◌<◌, ℕ, List, length, Some}
+use Rattle.std.specs.Prelude.{◌≡◌, ◌<◌, ℕ, List, length, Option, Some}
 use Rattle.disk_recordings.specs.Members.{header_at, sector_at}
 use Rattle.dump_reading.specs.DumpStreams.{dump_streams}
 use Rattle.dump_reading.specs.Outcomes.{DumpDisk, DumpsRead, IsDumpsRead, IsReadBy, plan_of}
 use Rattle.dump_reading.specs.declared.totals.DumpTotals.{DumpTotals}
 use Rattle.flux_engine.specs.Captured.{IsUsed}
 use Rattle.flux_engine.specs.DiskLaws.{HasLine, bytes_at}
+use Rattle.flux_engine.specs.LoopProgress.{streams_over}
 use Rattle.flux_engine.specs.PlanLaws.{IsGoodTooOrContradicted, IsNamedIn, IsRightlyContradictoryIn, StandsIn, cells_in}
 use Rattle.flux_engine.specs.Plans.{AreCaptures, PartOf, Streams, joined}
 use Rattle.flux_engine.specs.Recordings.{sectors_of, track_at}
 use Rattle.flux_engine.specs.Tracks.{Found, TrackPart, image_bytes, readings_in}
 use Rattle.frame_law.specs.Readings.{AreReadings}
 use Rattle.law_captured_disks.specs.Headline.{IsSectorOf}
+use Rattle.sector_images.specs.Places.{tracks}
 use Rattle.sector_report.specs.Lines.{named_text}
 use Rattle.sector_report.specs.declared.naming.Naming.TheVariants.{ByCaptureAndClock}
 use Rattle.track_shelf.specs.Files.{File}
@@ -21,9 +23,20 @@ use Rattle.turn_merge.specs.declared.verdict.Place.{Place}
 use Rattle.turn_merge.specs.declared.verdict.Verdict.{Verdict}
 use Rattle.turn_merge.specs.declared.verdict.Verdict.TheVariants.{Contradictory, Good}
 
--- the streams of the disk, by the files on the shelf
+-- the streams of the disk that came
+abbrev pub came_in : {of : PartOf} {whole : List TrackPart → DumpTotals → DumpsRead} {disk : DumpDisk} {told : Option (List File)} {o : DumpsRead} → IsReadBy of whole disk told o → Streams
+came_in {of} {whole} {disk} is = streams_over (plan_of disk) is.streams
+
+-- what the files on the shelf say of them
 abbrev pub streams_on : DumpDisk → List File → Streams
 streams_on disk files = dump_streams disk.stepping disk.dumps files disk.format
+
+-- each stream that came is what its file says
+abbrev pub AreOfFiles : DumpDisk → Streams → List File → Type 0
+AreOfFiles disk came files = (n dump : ℕ) → n < length (tracks disk.format) → dump < length disk.dumps → came n dump ≡ streams_on disk files n dump
+
+abbrev pub StreamsAreOfFiles : Type 0
+StreamsAreOfFiles = (disk : DumpDisk) (files : List File) (o : DumpsRead) (is : IsDumpsRead disk (Some files) o) → AreOfFiles disk (came_in is) files
 
 -- the files decide what the dumps come to
 abbrev pub DumpsAreOne : Type 0
@@ -36,52 +49,52 @@ AllOfDumpsIsOne = (of : PartOf) (whole : List TrackPart → DumpTotals → Dumps
 
 -- The report has the sector's line, with the verdict over all readings of its track, of all dumps and by both clocks. At its place in
 -- the image stand the bytes that all good readings hold, where no two differ, and else zeros.
-pub record IsSaid (disk : DumpDisk) (files : List File) (o : DumpsRead) (n sector : ℕ) : Type 0 where
+pub record IsSaid (disk : DumpDisk) (came : Streams) (o : DumpsRead) (n sector : ℕ) : Type 0 where
   pub captures : List (List NotedReading)
   pub many : length captures ≡ length disk.dumps
-  pub each : AreCaptures (plan_of disk) disk.format (streams_on disk files) n captures
+  pub each : AreCaptures (plan_of disk) disk.format came n captures
   pub number : ℕ
   pub line : HasLine o.notes (named_text ByCaptureAndClock (track_at disk.format n) sector (verdict (joined captures) sector)) number
   pub held : bytes_at disk.format o.image (track_at disk.format n) sector ≡ image_bytes (sectors_of disk.format (track_at disk.format n)) (joined captures) sector
 
 -- so it is with each sector of the disk
 abbrev pub EachIsSaid : Type 0
-EachIsSaid = (disk : DumpDisk) (files : List File) (o : DumpsRead) → IsDumpsRead disk (Some files) o
-    → (n sector : ℕ) → IsSectorOf disk.format n sector → IsSaid disk files o n sector
+EachIsSaid = (disk : DumpDisk) (told : Option (List File)) (o : DumpsRead) (is : IsDumpsRead disk told o)
+    → (n sector : ℕ) → IsSectorOf disk.format n sector → IsSaid disk (came_in is) o n sector
 
 -- A sector that is said to be good: the stream of the dump that the line names has, by the clock that it names, the header and the data
 -- with these bytes at the place that it names; the image has them; and no place of any dump and clock holds others.
-pub record IsRightlyGood (disk : DumpDisk) (files : List File) (o : DumpsRead) (n sector : ℕ) (first : Place) : Type 0 where
+pub record IsRightlyGood (disk : DumpDisk) (came : Streams) (o : DumpsRead) (n sector : ℕ) (first : Place) : Type 0 where
   pub bytes : List ℕ
-  pub named : IsNamedIn (plan_of disk) disk.format (streams_on disk files) n first sector bytes
+  pub named : IsNamedIn (plan_of disk) disk.format came n first sector bytes
   pub in_image : bytes_at disk.format o.image (track_at disk.format n) sector ≡ bytes
   pub agreed : (q : ℕ) (clock : Clock) (place : ℕ) (others : List ℕ) → q < length disk.dumps → IsUsed (plan_of disk).clocks clock
-      → StandsIn (plan_of disk).rule disk.format (streams_on disk files) n q clock place sector others → others ≡ bytes
+      → StandsIn (plan_of disk).rule disk.format came n q clock place sector others → others ≡ bytes
 
 -- what the sector's line says is right: where it says good; and where it says contradictory, both places that it names hold the sector, with
 -- other bytes
-abbrev pub IsSaidRightly : (disk : DumpDisk) (files : List File) (o : DumpsRead) (n sector : ℕ) → Verdict → Type 0
-IsSaidRightly disk files o n sector (Good good bad first) = IsRightlyGood disk files o n sector first
-IsSaidRightly disk files o n sector (Contradictory good bad first other) =
-    IsRightlyContradictoryIn (plan_of disk) disk.format (streams_on disk files) n sector first other
-IsSaidRightly disk files o n sector _ = Unit {0}
+abbrev pub IsSaidRightly : (disk : DumpDisk) (came : Streams) (o : DumpsRead) (n sector : ℕ) → Verdict → Type 0
+IsSaidRightly disk came o n sector (Good good bad first) = IsRightlyGood disk came o n sector first
+IsSaidRightly disk came o n sector (Contradictory good bad first other) =
+    IsRightlyContradictoryIn (plan_of disk) disk.format came n sector first other
+IsSaidRightly disk came o n sector _ = Unit {0}
 
 abbrev pub SaidIsRight : Type 0
-SaidIsRight = (disk : DumpDisk) (files : List File) (o : DumpsRead) (n sector : ℕ) (said : IsSaid disk files o n sector)
-    → IsSaidRightly disk files o n sector (verdict (joined said.captures) sector)
+SaidIsRight = (disk : DumpDisk) (came : Streams) (o : DumpsRead) (n sector : ℕ) (said : IsSaid disk came o n sector)
+    → IsSaidRightly disk came o n sector (verdict (joined said.captures) sector)
 
 -- What is good by the strict rule over what one clock reads of one dump, as `decode` reads by the first clock, is good over all that is
 -- read of the dumps, with the same bytes, or contradictory.
-abbrev pub StaysOrIsContradicted : (disk : DumpDisk) (files : List File) (o : DumpsRead) (n sector : ℕ) → IsSaid disk files o n sector → Type 0
-StaysOrIsContradicted disk files o n sector said = (q : ℕ) → q < length disk.dumps → (clock : Clock) → IsUsed (plan_of disk).clocks clock → (found : List Found)
+abbrev pub StaysOrIsContradicted : (disk : DumpDisk) (came : Streams) (o : DumpsRead) (n sector : ℕ) → IsSaid disk came o n sector → Type 0
+StaysOrIsContradicted disk came o n sector said = (q : ℕ) → q < length disk.dumps → (clock : Clock) → IsUsed (plan_of disk).clocks clock → (found : List Found)
     → AreReadings (header_at disk.format (track_at disk.format n)) (sector_at disk.format (track_at disk.format n))
-    (cells_in disk.format (streams_on disk files) n q clock) 0 found
-    → let strict = readings_in q clock (streams_on disk files n q).times (streams_on disk files n q).indexes
-    (cells_in disk.format (streams_on disk files) n q clock) found in
+    (cells_in disk.format came n q clock) 0 found
+    → let strict = readings_in q clock (came n q).times (came n q).indexes
+    (cells_in disk.format came n q clock) found in
     (good bad : ℕ) (first : Place) → verdict strict sector ≡ Good good bad first
     → IsGoodTooOrContradicted strict (joined said.captures) sector
 
 -- so it is with each sector, whatever the files are
 abbrev pub GoodStaysOrIsContradicted : Type 0
-GoodStaysOrIsContradicted = (disk : DumpDisk) (files : List File) (o : DumpsRead) (n sector : ℕ) (said : IsSaid disk files o n sector)
-    → StaysOrIsContradicted disk files o n sector said
+GoodStaysOrIsContradicted = (disk : DumpDisk) (came : Streams) (o : DumpsRead) (n sector : ℕ) (said : IsSaid disk came o n sector)
+    → StaysOrIsContradicted disk came o n sector said

@@ -2,7 +2,7 @@
 
 ghost use Rattle.law_read_dumps.specs.Complete.{CompleteIsAll};
 ghost use Rattle.law_read_dumps.specs.Lines.{LinesAreKnown, PassedStreamsAreSaid, ReportsHaveNoOtherLines, SectorsHaveTheirNumbers};
-ghost use Rattle.law_read_dumps.specs.Said.{AllOfDumpsIsOne, DumpsAreOne, EachIsSaid, GoodStaysOrIsContradicted, SaidIsRight};
+ghost use Rattle.law_read_dumps.specs.Said.{AllOfDumpsIsOne, DumpsAreOne, EachIsSaid, GoodStaysOrIsContradicted, SaidIsRight, StreamsAreOfFiles};
 
 use flux_engine::{plans_are_right, rules_are_read};
 use law_captured_plans::planned_sectors_are_said;
@@ -27,11 +27,13 @@ pub fn all_of_dumps_is_one()
 /// Each sector of a disk that is read of its dumps has its line in the report, with the verdict over all that was read of its track, of
 /// all dumps and by both clocks, and at its place in the image the bytes that its good readings hold, or zeros. So it is called good, or
 /// contradictory, only where the dump, the clock and the place that are named hold it. And a sector that one dump's stream makes good by
-/// the strict rule and one clock, as `decode` reads it, is good with the same bytes, or contradictory.
+/// the strict rule and one clock, as `decode` reads it, is good with the same bytes, or contradictory. All of this is said of the streams that
+/// came; where the shelf tells its files, each stream is what its file says.
 pub fn dumps_say_each_sector()
     ensures said { EachIsSaid }
     ensures right { SaidIsRight }
     ensures stays { GoodStaysOrIsContradicted }
+    ensures of_files { StreamsAreOfFiles }
 {
     planned_sectors_are_said();
     plans_are_right();

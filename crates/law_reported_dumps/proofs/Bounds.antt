@@ -13,7 +13,7 @@ use Rattle.dump_reading.specs.DumpStreams.{seen_in, seen_of, seen_unless}
 use Rattle.dump_reading.specs.Outcomes.{DumpDisk, plan_of}
 use Rattle.flux_base.specs.declared.track.TrackId.{TrackId}
 use Rattle.flux_engine.specs.Captured.{AreReadingsBy, IsUsed, joined_by}
-use Rattle.flux_engine.specs.Plans.{AreCaptures, Seen, joined}
+use Rattle.flux_engine.specs.Plans.{AreCaptures, Seen, Streams, joined}
 use Rattle.flux_engine.specs.Recordings.{cells_by, start_by, start_of, track_at}
 use Rattle.flux_engine.specs.Tracks.{Found, place_in, readings_at, readings_in, time_of_place}
 use Rattle.flux_engine.specs.declared.plan.Clocks.{Clocks}
@@ -28,7 +28,7 @@ use Rattle.frame_law.specs.declared.reading.Reading.TheVariants.{Good}
 use Rattle.kryo_stream.specs.Growth.{StreamsAreShort}
 use Rattle.kryo_stream.specs.Stream.{first_fault}
 use Rattle.kryo_stream.specs.declared.fault.StreamFault.{StreamFault}
-use Rattle.law_read_dumps.specs.Said.{streams_on}
+use Rattle.law_read_dumps.specs.Said.{AreOfFiles}
 use Rattle.phase_loop.specs.Sizes.{CellsAreFew}
 use Rattle.sector_images.specs.Places.{IsSector, NumbersNameTracks, TracksKeepBounds, tracks}
 use Rattle.sector_images.specs.declared.format.Format.{Format}
@@ -219,7 +219,7 @@ module _ (laws : Laws) where
       }
 
   -- what came of a file has few transitions
-  abbrev IsShort : Seen → Type 0
+  abbrev pub IsShort : Seen → Type 0
   IsShort s = (length s.times ≤ 4194304) × (length s.indexes ≤ 4194304)
 
   short_unless : (bytes : List ℕ) (fault : Option (ℕ × StreamFault)) → first_fault bytes ≡ fault → IsShort (seen_unless bytes fault)
@@ -234,18 +234,24 @@ module _ (laws : Laws) where
   short_in stepping files None track = (omega arith, omega arith)
   short_in stepping files (Some dump) track = short_of (file_at files (path_text dump (file_track stepping track)))
 
-  module _ (disk : DumpDisk) (files : List File) (most : length disk.dumps ≤ 16) (n : ℕ) (captures : List (List NotedReading)) (many : length captures ≡ length disk.dumps)
-      (each : AreCaptures (plan_of disk) disk.format (streams_on disk files) n captures) where
+  -- the streams of a track that are those of its files
+  pub short_came : (disk : DumpDisk) (came : Streams) (files : List File) → AreOfFiles disk came files → (n : ℕ) → n < length (tracks disk.format) → (q : ℕ) → q < length disk.dumps
+      → IsShort (came n q)
+  short_came disk came files of n low q few = subst IsShort (sym (of n q low few)) (short_in disk.stepping files (slice_get disk.dumps q) (track_at disk.format n))
+
+  module _ (disk : DumpDisk) (came : Streams) (most : length disk.dumps ≤ 16) (n : ℕ) (short : (q : ℕ) → q < length disk.dumps → IsShort (came n q))
+      (captures : List (List NotedReading)) (many : length captures ≡ length disk.dumps)
+      (each : AreCaptures (plan_of disk) disk.format came n captures) where
     capture_few : (q : ℕ) → q < length captures → AreFew 36028797018963968 (get_or captures q [])
     capture_few q low =
         let limit : 16 < 2 ^ 64 = lit< tt in
-        let short = short_in disk.stepping files (slice_get disk.dumps q) (track_at disk.format n) in
+        let here = short q (omega (arith, low, many)) in
         let noted = each q low in
         subst (AreFew 36028797018963968) (sym noted.are)
         (few_by_clocks disk.clocks noted.by_clock
         (λ clock used.
-        few_by_clock clock disk.format (track_at disk.format n) (streams_on disk files n q).times (streams_on disk files n q).indexes q (noted.by_clock clock)
-        (omega (arith, low, many, most, limit)) short.0 short.1 (noted.each clock used)))
+        few_by_clock clock disk.format (track_at disk.format n) (came n q).times (came n q).indexes q (noted.by_clock clock)
+        (omega (arith, low, many, most, limit)) here.0 here.1 (noted.each clock used)))
 
     all_few : length (joined captures) ≤ 576460752303423488
     all_few =

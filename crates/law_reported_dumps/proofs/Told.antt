@@ -6,12 +6,12 @@ use Rattle.dump_reading.specs.Reports.{trace_count}
 use Rattle.flux_base.specs.declared.track.TrackId.{TrackId}
 use Rattle.flux_engine.specs.DiskLaws.{HasLine}
 use Rattle.flux_engine.specs.PlanLaws.{ReadingsInPlansAreOne}
-use Rattle.flux_engine.specs.Plans.{AreCaptures, joined}
+use Rattle.flux_engine.specs.Plans.{AreCaptures, Streams, joined}
 use Rattle.flux_engine.specs.Recordings.{track_at}
 use Rattle.flux_engine.specs.lemmas.TrackAt.{is_known_at}
 use Rattle.law_captured_disks.specs.Headline.{IsSectorOf}
 use Rattle.law_read_dumps.specs.Lines.{IsLineOfReport, IsPassedLine, IsSectorLine, LinesAreKnown, line_number}
-use Rattle.law_read_dumps.specs.Said.{IsSaid, streams_on}
+use Rattle.law_read_dumps.specs.Said.{IsSaid, StreamsAreOfFiles, came_in}
 use Rattle.sector_report.specs.DumpLines.{PassedLineFits, PassedLinesTell, passed_text}
 use Rattle.sector_report.specs.LineLaws.{LineFits, SectorLinesTell, TotalsAreNoSectors}
 use Rattle.sector_report.specs.Lines.{named_text}
@@ -23,13 +23,14 @@ use Rattle.turn_merge.specs.Others.{others_over}
 use Rattle.turn_merge.specs.Readings.{NotedReading, verdict}
 use Rattle.turn_merge.specs.declared.verdict.Verdict.{Verdict}
 use Rattle.law_reported_dumps.specs.Told.{IsPassedTold, IsTold, LinesTell, NoSectorIsToldTwice, PassedLinesAreTold}
-use Rattle.law_reported_dumps.proofs.Bounds.{line_fits, Laws as BoundLaws}
+use Rattle.law_reported_dumps.proofs.Bounds.{line_fits, short_came, Laws as BoundLaws}
 use Rattle.law_reported_dumps.proofs.OtherLines.{absent_same, end_no_passed, end_no_sector, missing_is_missing, other_no_passed, other_no_sector, passed_no_sector, sector_no_passed, total_no_passed, traces_no_passed, traces_no_sector, unread_no_passed, unread_no_sector, untold_no_passed, untold_no_sector}
 use Rattle.law_reported_dumps.proofs.TrackNumbers.{one_number, Laws as TrackLaws}
 
 -- what the crates below promise
 pub record Laws : Type 0 where
   pub known : LinesAreKnown
+  pub of_files : StreamsAreOfFiles
   pub tell : SectorLinesTell
   pub no_total : TotalsAreNoSectors
   pub passed_tell : PassedLinesTell
@@ -38,20 +39,24 @@ pub record Laws : Type 0 where
   pub tracks : TrackLaws
 
 module _ (laws : Laws) (disk : DumpDisk) (files : List File) (o : DumpsRead) (is : IsDumpsRead disk (Some files) o) where
+  abbrev came : Streams
+  came = came_in is
+
   -- the line of a sector
   module _ (most : length disk.dumps ≤ 16) (track : TrackId) (sector : ℕ) (outcome : Verdict) (number : ℕ) (fits : LineFits ByCaptureAndClock track sector outcome) where
-    of_sector : IsSectorLine disk files o is.others number (named_text ByCaptureAndClock track sector outcome) → IsTold disk files o is.others track sector outcome number
+    of_sector : IsSectorLine disk came o is.others number (named_text ByCaptureAndClock track sector outcome) → IsTold disk came o is.others track sector outcome number
     of_sector s =
         let mine : Verdict = verdict (joined s.said.captures) s.sector in
         let fits_there : LineFits ByCaptureAndClock (track_at disk.format s.n) s.sector mine =
-        line_fits laws.bounds disk files most s.n s.said.captures s.said.many s.said.each s.sector s.one.track s.one.known in
+        line_fits laws.bounds disk came most s.n (short_came laws.bounds disk came files (laws.of_files disk files o is) s.n s.one.track) s.said.captures s.said.many s.said.each
+        s.sector s.one.track s.one.known in
         let told = laws.tell ByCaptureAndClock track (track_at disk.format s.n) sector s.sector outcome mine fits fits_there s.line_is in
-        (subst (λ (k : ℕ). (one : IsSectorOf disk.format s.n k) (said : IsSaid disk files o s.n k) → verdict (joined said.captures) k ≡ outcome
-        → number ≡ line_number disk files is.others s.n k → IsTold disk files o is.others track sector outcome number) told.1
+        (subst (λ (k : ℕ). (one : IsSectorOf disk.format s.n k) (said : IsSaid disk came o s.n k) → verdict (joined said.captures) k ≡ outcome
+        → number ≡ line_number disk came is.others s.n k → IsTold disk came o is.others track sector outcome number) told.1
         (λ one said verdict_is number_is. record { n = s.n; track_is = told.0; one = one; said = said; is = verdict_is; number_is = number_is }))
         s.one s.said (sym told.2) s.number_is
 
-    told_by : IsLineOfReport disk files o is.others number (named_text ByCaptureAndClock track sector outcome) → IsTold disk files o is.others track sector outcome number
+    told_by : IsLineOfReport disk came o is.others number (named_text ByCaptureAndClock track sector outcome) → IsTold disk came o is.others track sector outcome number
     told_by (inl s) = of_sector s
     told_by (inr (inl p)) = absurd (passed_no_sector (track_at disk.format p.n) p.dump p.why ByCaptureAndClock track sector outcome fits p.line_is)
     told_by (inr (inr (inl other))) = absurd (other_no_sector ByCaptureAndClock (track_at disk.format other.n) other.name ByCaptureAndClock track sector outcome fits other.line_is)
@@ -61,34 +66,34 @@ module _ (laws : Laws) (disk : DumpDisk) (files : List File) (o : DumpsRead) (is
     told_by (inr (inr (inr (inr (inr (inl unread)))))) = absurd (unread_no_sector o.totals.unread o.totals.others o.totals.whole ByCaptureAndClock track sector outcome fits unread)
     told_by (inr (inr (inr (inr (inr (inr total)))))) = absurd (laws.no_total ByCaptureAndClock o.totals.sectors track sector outcome fits total)
 
-    told : HasLine o.notes (named_text ByCaptureAndClock track sector outcome) number → IsTold disk files o is.others track sector outcome number
+    told : HasLine o.notes (named_text ByCaptureAndClock track sector outcome) number → IsTold disk came o is.others track sector outcome number
     told h =
-        elim (laws.known disk files o is number (named_text ByCaptureAndClock track sector outcome) h) [
+        elim (laws.known disk (Some files) o is number (named_text ByCaptureAndClock track sector outcome) h) [
           | inl line ↦ told_by line
           | inr (empty, past) ↦ absurd (end_no_sector ByCaptureAndClock track sector outcome fits empty)
         ]
 
   -- two lines of one sector are one
   module _ (track : TrackId) (sector : ℕ) (outcome other : Verdict) (number another : ℕ)
-      (first : IsTold disk files o is.others track sector outcome number) (second : IsTold disk files o is.others track sector other another) where
+      (first : IsTold disk came o is.others track sector outcome number) (second : IsTold disk came o is.others track sector other another) where
     same_track : first.n ≡ second.n
     same_track = one_number laws.tracks disk.format first.n second.n first.one.track second.one.track (sym first.track_is ∙ second.track_is)
 
     same_readings : first.said.captures ≡ second.said.captures
     same_readings =
-        laws.readings (plan_of disk) disk.format (streams_on disk files) second.n first.said.captures second.said.captures
-        (subst (λ (n : ℕ). AreCaptures (plan_of disk) disk.format (streams_on disk files) n first.said.captures) same_track first.said.each) second.said.each
+        laws.readings (plan_of disk) disk.format came second.n first.said.captures second.said.captures
+        (subst (λ (n : ℕ). AreCaptures (plan_of disk) disk.format came n first.said.captures) same_track first.said.each) second.said.each
         (first.said.many ∙ sym second.said.many)
 
     once : (outcome ≡ other) × (number ≡ another)
     once = (
       sym first.is ∙ ap (λ (cs : List (List NotedReading)). verdict (joined cs) sector) same_readings ∙ second.is,
-      first.number_is ∙ ap (λ (n : ℕ). line_number disk files is.others n sector) same_track ∙ sym second.number_is,
+      first.number_is ∙ ap (λ (n : ℕ). line_number disk came is.others n sector) same_track ∙ sym second.number_is,
     )
 
   -- the line of a stream that is passed over
   module _ (most : length disk.dumps ≤ 16) (track : TrackId) (dump : ℕ) (why : Passed) (number : ℕ) (fits : PassedLineFits track dump why) where
-    of_stream : IsPassedLine disk files (passed_text track dump why) → IsPassedTold disk files track dump why
+    of_stream : IsPassedLine disk came (passed_text track dump why) → IsPassedTold disk came track dump why
     of_stream p =
         let named = laws.bounds.numbers disk.format p.n p.low in
         let bounds = laws.bounds.keep disk.format (track_at disk.format p.n) (is_known_at disk.format p.n named.0 named.1 named.2) in
@@ -102,14 +107,14 @@ module _ (laws : Laws) (disk : DumpDisk) (files : List File) (o : DumpsRead) (is
           track_is = told.0;
           few = subst (λ (q : ℕ). q < length disk.dumps) (sym told.1) p.few;
           reason = p.why;
-          is = subst (λ (q : ℕ). (streams_on disk files p.n q).passed ≡ Some p.why) (sym told.1) p.is;
+          is = subst (λ (q : ℕ). (came p.n q).passed ≡ Some p.why) (sym told.1) p.is;
           text =
               ap (λ (id : TrackId). passed_text id dump p.why) told.0
               ∙ ap (λ (q : ℕ). passed_text (track_at disk.format p.n) q p.why) told.1 ∙ sym p.line_is;
           missing = λ absent. missing_is_missing (track_at disk.format p.n) p.dump p.why track dump (sym p.line_is ∙ ap (passed_text track dump) absent);
         }
 
-    stream_by : IsLineOfReport disk files o is.others number (passed_text track dump why) → IsPassedTold disk files track dump why
+    stream_by : IsLineOfReport disk came o is.others number (passed_text track dump why) → IsPassedTold disk came track dump why
     stream_by (inl s) =
         absurd (sector_no_passed ByCaptureAndClock (track_at disk.format s.n) s.sector (verdict (joined s.said.captures) s.sector) track dump why s.line_is)
     stream_by (inr (inl p)) = of_stream p
@@ -120,9 +125,9 @@ module _ (laws : Laws) (disk : DumpDisk) (files : List File) (o : DumpsRead) (is
     stream_by (inr (inr (inr (inr (inr (inl unread)))))) = absurd (unread_no_passed o.totals.unread o.totals.others o.totals.whole track dump why unread)
     stream_by (inr (inr (inr (inr (inr (inr total)))))) = absurd (total_no_passed o.totals.sectors track dump why total)
 
-    stream_told : HasLine o.notes (passed_text track dump why) number → IsPassedTold disk files track dump why
+    stream_told : HasLine o.notes (passed_text track dump why) number → IsPassedTold disk came track dump why
     stream_told h =
-        elim (laws.known disk files o is number (passed_text track dump why) h) [
+        elim (laws.known disk (Some files) o is number (passed_text track dump why) h) [
           | inl line ↦ stream_by line
           | inr (empty, past) ↦ absurd (end_no_passed track dump why empty)
         ]

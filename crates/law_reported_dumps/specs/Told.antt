@@ -3,11 +3,11 @@ use Rattle.std.specs.Prelude.{◌≡◌, ◌≤◌, ◌<◌, ℕ, List, length, 
 use Rattle.dump_reading.specs.Outcomes.{DumpDisk, DumpsRead, IsDumpsRead}
 use Rattle.flux_base.specs.declared.track.TrackId.{TrackId}
 use Rattle.flux_engine.specs.DiskLaws.{HasLine}
-use Rattle.flux_engine.specs.Plans.{joined}
+use Rattle.flux_engine.specs.Plans.{Streams, joined}
 use Rattle.flux_engine.specs.Recordings.{track_at}
 use Rattle.law_captured_disks.specs.Headline.{IsSectorOf}
 use Rattle.law_read_dumps.specs.Lines.{line_number}
-use Rattle.law_read_dumps.specs.Said.{IsSaid, streams_on}
+use Rattle.law_read_dumps.specs.Said.{IsSaid, came_in}
 use Rattle.sector_images.specs.Places.{tracks}
 use Rattle.sector_report.specs.DumpLines.{PassedLineFits, passed_text}
 use Rattle.sector_report.specs.LineLaws.{LineFits}
@@ -22,22 +22,22 @@ use Rattle.turn_merge.specs.declared.verdict.Verdict.{Verdict}
 
 -- The line is that of this sector of the disk and stands at its number, and the verdict, with the dumps, the clocks and the places that it
 -- names, is the one over all readings of the sector's track.
-pub record IsTold (disk : DumpDisk) (files : List File) (o : DumpsRead) (others : List (List NotedOther)) (track : TrackId) (sector : ℕ) (outcome : Verdict) (number : ℕ) : Type 0 where
+pub record IsTold (disk : DumpDisk) (came : Streams) (o : DumpsRead) (others : List (List NotedOther)) (track : TrackId) (sector : ℕ) (outcome : Verdict) (number : ℕ) : Type 0 where
   pub n : ℕ
   pub track_is : track ≡ track_at disk.format n
   pub one : IsSectorOf disk.format n sector
-  pub said : IsSaid disk files o n sector
+  pub said : IsSaid disk came o n sector
   pub is : verdict (joined said.captures) sector ≡ outcome
-  pub number_is : number ≡ line_number disk files others n sector
+  pub number_is : number ≡ line_number disk came others n sector
 
 -- so it is with each line of a report that has the text of a sector's line, of whatever numbers that fit in it
-abbrev pub AreTold : DumpDisk → List File → DumpsRead → (others : List (List NotedOther)) → Type 0
-AreTold disk files o others = (track : TrackId) (sector : ℕ) (outcome : Verdict) (number : ℕ) → LineFits ByCaptureAndClock track sector outcome
-    → HasLine o.notes (named_text ByCaptureAndClock track sector outcome) number → IsTold disk files o others track sector outcome number
+abbrev pub AreTold : DumpDisk → Streams → DumpsRead → (others : List (List NotedOther)) → Type 0
+AreTold disk came o others = (track : TrackId) (sector : ℕ) (outcome : Verdict) (number : ℕ) → LineFits ByCaptureAndClock track sector outcome
+    → HasLine o.notes (named_text ByCaptureAndClock track sector outcome) number → IsTold disk came o others track sector outcome number
 
 abbrev pub LinesTell : Type 0
 LinesTell = (disk : DumpDisk) (files : List File) (o : DumpsRead) (is : IsDumpsRead disk (Some files) o) → length disk.dumps ≤ 16
-    → AreTold disk files o is.others
+    → AreTold disk (came_in is) o is.others
 
 -- a report tells no sector twice: two lines that have the texts of lines of one sector are one line, with one verdict
 abbrev pub TellsOnce : (notes : List ℕ) → Type 0
@@ -51,20 +51,20 @@ NoSectorIsToldTwice = (disk : DumpDisk) (files : List File) (o : DumpsRead) → 
 
 -- The line is that of this dump's stream of a track of the disk, which is passed over, for a reason that is told by the same text. Where the
 -- line says that the file is missing, it is.
-pub record IsPassedTold (disk : DumpDisk) (files : List File) (track : TrackId) (dump : ℕ) (why : Passed) : Type 0 where
+pub record IsPassedTold (disk : DumpDisk) (came : Streams) (track : TrackId) (dump : ℕ) (why : Passed) : Type 0 where
   pub n : ℕ
   pub low : n < length (tracks disk.format)
   pub track_is : track ≡ track_at disk.format n
   pub few : dump < length disk.dumps
   pub reason : Passed
-  pub is : (streams_on disk files n dump).passed ≡ Some reason
+  pub is : (came n dump).passed ≡ Some reason
   pub text : passed_text track dump reason ≡ passed_text track dump why
   pub missing : why ≡ Absent → reason ≡ Absent
 
 -- so it is with each line of a report that has the text of such a stream's line
-abbrev pub ArePassedTold : DumpDisk → List File → DumpsRead → Type 0
-ArePassedTold disk files o = (track : TrackId) (dump : ℕ) (why : Passed) (number : ℕ) → PassedLineFits track dump why
-    → HasLine o.notes (passed_text track dump why) number → IsPassedTold disk files track dump why
+abbrev pub ArePassedTold : DumpDisk → Streams → DumpsRead → Type 0
+ArePassedTold disk came o = (track : TrackId) (dump : ℕ) (why : Passed) (number : ℕ) → PassedLineFits track dump why
+    → HasLine o.notes (passed_text track dump why) number → IsPassedTold disk came track dump why
 
 abbrev pub PassedLinesAreTold : Type 0
-PassedLinesAreTold = (disk : DumpDisk) (files : List File) (o : DumpsRead) → IsDumpsRead disk (Some files) o → length disk.dumps ≤ 16 → ArePassedTold disk files o
+PassedLinesAreTold = (disk : DumpDisk) (files : List File) (o : DumpsRead) (is : IsDumpsRead disk (Some files) o) → length disk.dumps ≤ 16 → ArePassedTold disk (came_in is) o

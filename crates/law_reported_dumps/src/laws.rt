@@ -5,7 +5,7 @@ ghost use Rattle.law_reported_dumps.specs.Told.{LinesTell, NoSectorIsToldTwice, 
 use disk_recordings::{headers_have_names, rewritten_tracks_are_read};
 use flux_engine::plans_are_right;
 use kryo_stream::growth_law;
-use law_read_dumps::dump_reports_have_lines;
+use law_read_dumps::{dump_reports_have_lines, dumps_say_each_sector};
 use phase_loop::cells_are_few;
 use sector_images::{sectors_lie_in_images, tracks_fill_images, tracks_keep_bounds};
 use sector_report::{dumps_have_lines, sector_lines_tell};
@@ -18,6 +18,7 @@ pub fn dump_lines_tell()
     ensures passed_told { PassedLinesAreTold }
 {
     dump_reports_have_lines();
+    dumps_say_each_sector();
     plans_are_right();
     growth_law();
     cells_are_few();

@@ -1,5 +1,5 @@
 -- What dumps have of a track is what is stated.
-use Rattle.std.specs.Prelude.{◌≡◌, ◌≢◌, ◌<◌, ℕ, Bool, true, List, is_some, length, refl, slice_get, unwrap_or, Option, Some, None, option_and_then}
+use Rattle.std.specs.Prelude.{◌≡◌, ◌≢◌, ◌<◌, ◌↔◌, ℕ, Bool, true, List, is_some, length, refl, slice_get, unwrap_or, Option, Some, None, option_and_then}
 use Rattle.std.proofs.Common.{arith, ap, sym, subst, ◌∙◌, inl, inr}
 use Rattle.dump_reading.specs.DumpStreams.{seen_in, seen_of, seen_unless}
 use Rattle.dump_reading.specs.Outcomes.{DumpDisk}
@@ -9,7 +9,7 @@ use Rattle.flux_engine.specs.Recordings.{track_at}
 use Rattle.flux_engine.specs.Rings.{nominal_of, ring_of}
 use Rattle.kryo_stream.specs.Stream.{first_fault}
 use Rattle.kryo_stream.specs.declared.fault.StreamFault.{StreamFault}
-use Rattle.law_captured_dumps.specs.Inputs.{file_on}
+use Rattle.law_captured_dumps.specs.Inputs.{IsPassedOver, file_on}
 use Rattle.law_read_dumps.specs.Said.{streams_on}
 use Rattle.law_stated_captures.specs.Laws.{CapturesAreStated, ErasedCapturesAreStated, StatedCapturesAreCaptures, StatedErasedCapturesAreErased, StatedSpeedsAreKept}
 use Rattle.law_stated_disks.specs.Laws.{SectorsLieInPieces}
@@ -86,8 +86,8 @@ faulty bytes None passed is = absurd (never passed)
     never is = cc
 faulty bytes (Some fault) passed is = cc
 
-pub passed : PassedFilesAreStated
-passed disk files n dump = (
+by_files : (disk : DumpDisk) (files : List File) (n dump : ℕ) → SaysNothing disk files n dump ↔ IsPassedOver (streams_on disk files) n dump
+by_files disk files n dump = (
   λ nothing. elim nothing [
     | inl gone ↦ ap (λ (s : Seen). is_some s.passed) (seen_by_file disk files n dump ∙ ap seen_of (missing disk files n dump gone))
     | inr damaged ↦ ap (λ (s : Seen). is_some s.passed) (seen_by_file disk files n dump ∙ ap seen_of (there disk files n dump damaged.file damaged.is))
@@ -104,8 +104,16 @@ passed disk files n dump = (
       fault = faulty file.bytes (first_fault file.bytes) (sym (ap (λ (s : Seen). is_some s.passed) (seen_by_file disk files n dump ∙ ap seen_of is)) ∙ over);
     })
 
+pub passed : PassedFilesAreStated
+passed disk came files are n dump below few =
+    let same : is_some (came n dump).passed ≡ is_some (streams_on disk files n dump).passed = ap (λ (s : Seen). is_some s.passed) (are n dump below few) in
+    let stated = by_files disk files n dump in (
+      λ nothing. same ∙ stated.0 nothing,
+      λ over. stated.1 (sym same ∙ over),
+    )
+
 pub steady : CaptureLaws → SteadyDumpsAreStated
-steady law disk files image n dump below =
+steady law disk came files are image n dump below few =
     let ring : List Bool = ring_of disk.format image n in
     let nominal : ℕ = nominal_of disk.format n in (
       λ some. elim some [
@@ -116,7 +124,7 @@ steady law disk files image n dump below =
               | inr one ↦ (let made = law.erased is.stream ring nominal one.0 in
                   inr (inl (record { stream = is.stream; begins = begins; capture = made.0 }, (law.steady.erased is.stream ring nominal made.0 one.0 (sym made.1)).0 one.1)))
             ])
-        | inr nothing ↦ inr (inr ((passed disk files n dump).0 nothing))
+        | inr nothing ↦ inr (inr ((passed disk came files are n dump below few).0 nothing))
       ],
       λ some. elim some [
         | inl one ↦ (let made = law.no_others one.0.stream ring nominal one.0.capture in
@@ -132,7 +140,7 @@ steady law disk files image n dump below =
                 has = (streams_are disk files n dump one.0.stream).1 one.0.begins;
                 kept = inr (made.0, (law.steady.erased one.0.stream ring nominal one.0.capture made.0 made.1).1 one.1);
               }))
-          | inr over ↦ inr ((passed disk files n dump).1 over)
+          | inr over ↦ inr ((passed disk came files are n dump below few).1 over)
         ]
       ],
     )

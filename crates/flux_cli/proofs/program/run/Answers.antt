@@ -64,6 +64,7 @@ returns-clause-dumps g c =
     let read = c.captured_dumps_are_read.ensures in
     dumps-told c.run_words-status.ensures.ran (behind g c) c.tell_output.ensures (reads_as_expected (record {
       said = said.said;
+      of_files = said.of_files;
       right = said.right;
       numbered = lines.numbered;
       told = told.told;

@@ -47,6 +47,7 @@ laws c = record {
   };
   rules = c.rules_are_read.ensures;
   said = c.dumps_say_each_sector.ensures.said;
+  of_files = c.dumps_say_each_sector.ensures.of_files;
   right = c.dumps_say_each_sector.ensures.right;
 }
 

@@ -1,6 +1,5 @@
-use Rattle.dump_reading.specs.Reports.{read_part}
 use Rattle.law_read_dumps.proofs.Said.{Laws, each_said, good_stays, said_is_right}
-use Rattle.law_read_dumps.proofs.Streams.{same_captures}
+use Rattle.law_read_dumps.proofs.Streams.{streams_are_of_files}
 use Rattle.law_read_dumps.proofs.laws.dumps_say_each_sector.Goals as goal
 
 laws : (c : goal.After-rules_are_read) → Laws
@@ -15,11 +14,13 @@ laws c = record {
 }
 
 pub returns-clause-said : goal.returns-clause-said
-returns-clause-said c disk files o is n sector one =
-    each_said (laws c) disk files o is n sector one (same_captures read_part disk files is.streams is.parts is.all.read n)
+returns-clause-said c disk shelf o is n sector one = each_said (laws c) disk shelf o is n sector one
 
 pub returns-clause-right : goal.returns-clause-right
 returns-clause-right c = said_is_right c.plans_are_right.ensures.good c.plans_are_right.ensures.contradictory
 
 pub returns-clause-stays : goal.returns-clause-stays
 returns-clause-stays c = good_stays c.plans_are_right.ensures.strict
+
+pub returns-clause-of_files : goal.returns-clause-of_files
+returns-clause-of_files c = streams_are_of_files

@@ -4,6 +4,7 @@ use Rattle.law_reported_dumps.proofs.laws.dump_lines_tell.Goals as goal
 laws : (c : goal.After-tracks_fill_images) → Laws
 laws c = record {
   known = c.dump_reports_have_lines.ensures.known;
+  of_files = c.dumps_say_each_sector.ensures.of_files;
   tell = c.sector_lines_tell.ensures.sectors;
   no_total = c.sector_lines_tell.ensures.totals;
   passed_tell = c.dumps_have_lines.ensures.tell;
