@@ -9,7 +9,7 @@ use Rattle.kryo_stream.specs.declared.fault.StreamFault.TheVariants.{Truncated, 
 use Rattle.sector_report.specs.DumpLines.{FaultFits, PassedFits, PassedLinesTell, dump_name, passed_text}
 use Rattle.sector_report.specs.Lines.{fault_text, two_digits}
 use Rattle.sector_report.specs.declared.dump_lines.Passed.{Passed}
-use Rattle.sector_report.specs.declared.dump_lines.Passed.TheVariants.{Absent, Refused}
+use Rattle.sector_report.specs.declared.dump_lines.Passed.TheVariants.{Absent, Failed, Refused}
 use Rattle.sector_report.proofs.LineWords.{IsWord, next, two-same, word-codes, word-decimal, word-two, word_at, words}
 
 -- a number that is read back
@@ -93,13 +93,17 @@ fault-back TooLong fits = refl
 -- the words of the reason, and the reason of these words
 abbrev why_words : Passed → List (List ℕ)
 why_words Absent = codes "missing" ∷ [] ∷ []
+why_words Failed = codes "failed" ∷ [] ∷ []
 why_words (Refused block fault) = codes "refused" ∷ codes "block" ∷ decimal block ∷ fault_words fault
 
 abbrev why_of : List (List ℕ) → Passed
-why_of ws = if get_or (word_at ws 0) 0 0 == 109 then Absent else Refused (digits_value 10 (word_at ws 2)) (fault_of (drop 3 ws))
+why_of ws =
+    if get_or (word_at ws 0) 0 0 == 109 then Absent else
+    if get_or (word_at ws 0) 0 0 == 102 then Failed else Refused (digits_value 10 (word_at ws 2)) (fault_of (drop 3 ws))
 
 why-back : (why : Passed) → PassedFits why → why_of (why_words why) ≡ why
 why-back Absent fits = refl
+why-back Failed fits = refl
 why-back (Refused block fault) fits =
     ap (λ n. Refused n (fault_of (fault_words fault))) (number-is block fits.0) ∙ ap (Refused block) (fault-back fault fits.1)
 
@@ -119,6 +123,9 @@ dump_words track dump rest =
     ∙ ap (λ ws. c ∷ h ∷ ws) (next (codes "dump") (d ++ 32 ∷ rest) 32 (word-codes (codes "dump") refl) refl)
     ∙ ap (λ ws. c ∷ h ∷ codes "dump" ∷ ws) (next d rest 32 (word-decimal dump) refl)
 
+failed_shape : (name : List ℕ) → (name ++ codes "failed") ++ codes "\n" ≡ name ++ codes "failed\n"
+failed_shape name = simp append_assoc
+
 absent_shape : (name : List ℕ) → (name ++ codes "missing") ++ codes "\n" ≡ name ++ codes "missing\n"
 absent_shape name = simp append_assoc
 
@@ -130,6 +137,7 @@ passed_words : (track : TrackId) (dump : ℕ) (why : Passed)
     → words (passed_text track dump why) ≡ two_digits track.cylinder ∷ decimal track.head ∷ codes "dump" ∷ decimal dump ∷ why_words why
 unfolding passed_text
 passed_words track dump Absent = ap words (absent_shape (dump_name track dump)) ∙ dump_words track dump (codes "missing\n")
+passed_words track dump Failed = ap words (failed_shape (dump_name track dump)) ∙ dump_words track dump (codes "failed\n")
 passed_words track dump (Refused block fault) =
     let end : List ℕ = fault_text fault ++ codes "\n" in
     ap words (refused_shape (dump_name track dump) (decimal block) (fault_text fault))

@@ -15,7 +15,7 @@ use Rattle.kryo_stream.specs.declared.fault.StreamFault.{StreamFault}
 use Rattle.kryo_stream.specs.declared.fault.StreamFault.TheVariants.{Truncated, UnknownType, BadSize, WrongPosition, DeviceFault, DataAfterEnd, IndexPosition, IndexOrder, NoTurn, TooLong}
 use Rattle.sector_report.specs.DumpLines.{DumpsHaveLines, dump_name, name_text, no_files_text, other_text, passed_text, traces_text, unread_text, untold_text}
 use Rattle.sector_report.specs.declared.dump_lines.Passed.{Passed}
-use Rattle.sector_report.specs.declared.dump_lines.Passed.TheVariants.{Absent, Refused}
+use Rattle.sector_report.specs.declared.dump_lines.Passed.TheVariants.{Absent, Failed, Refused}
 use Rattle.sector_report.specs.LineLaws.{IsOneLine, SectorsHaveOneLine, TotalsHaveOneLine, line_ends}
 use Rattle.sector_report.specs.Lines.{fault_text, named_text, number_of_clock, place_text, sector_name, source_text, total_text, two_digits, verdict_text}
 use Rattle.sector_report.specs.declared.naming.Naming.{Naming}
@@ -144,6 +144,11 @@ passed-line track dump Absent = record {
   front = dump_name track dump ++ codes "missing";
   ends = refl;
   once = (none-append (none-dump track dump) (none-codes (codes "missing") refl)).none;
+}
+passed-line track dump Failed = record {
+  front = dump_name track dump ++ codes "failed";
+  ends = refl;
+  once = (none-append (none-dump track dump) (none-codes (codes "failed") refl)).none;
 }
 passed-line track dump (Refused block fault) = record {
   front = dump_name track dump ++ (codes "refused block " ++ decimal block) ++ codes " " ++ fault_text fault;

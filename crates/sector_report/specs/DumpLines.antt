@@ -10,7 +10,7 @@ use Rattle.sector_report.specs.Lines.{fault_text, place_text, two_digits}
 use Rattle.sector_report.specs.declared.naming.Naming.{Naming}
 use Rattle.turn_merge.specs.declared.others.OtherTold.{OtherTold}
 use Rattle.sector_report.specs.declared.dump_lines.Passed.{Passed}
-use Rattle.sector_report.specs.declared.dump_lines.Passed.TheVariants.{Absent, Refused}
+use Rattle.sector_report.specs.declared.dump_lines.Passed.TheVariants.{Absent, Failed, Refused}
 
 -- a track, and a dump of it
 unfoldable pub dump_name : TrackId → (dump : ℕ) → List ℕ
@@ -19,6 +19,7 @@ dump_name track dump = two_digits track.cylinder ++ codes "." ++ decimal track.h
 -- that a stream was passed over, and why
 unfoldable pub passed_text : TrackId → (dump : ℕ) → Passed → List ℕ
 passed_text track dump Absent = dump_name track dump ++ codes "missing" ++ codes "\n"
+passed_text track dump Failed = dump_name track dump ++ codes "failed" ++ codes "\n"
 passed_text track dump (Refused block fault) =
     dump_name track dump ++ (codes "refused block " ++ decimal block) ++ codes " " ++ fault_text fault ++ codes "\n"
 
@@ -72,6 +73,7 @@ FaultFits fault = Unit {0}
 
 abbrev pub PassedFits : Passed → Type 0
 PassedFits Absent = Unit {0}
+PassedFits Failed = Unit {0}
 PassedFits (Refused block fault) = (block < 2 ^ 64) × FaultFits fault
 
 -- all numbers of a line of a stream that was passed over do

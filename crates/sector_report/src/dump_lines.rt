@@ -4,10 +4,10 @@ ghost use Rattle.std.specs.Prelude.{◌≡◌, ◌+◌, ◌≤◌, ◌<◌, ◌+
 ghost use Rattle.arrayvec.specs.ArrayString.{array_string_len};
 ghost use Rattle.sector_report.specs.DumpLines.{dump_name, name_text, no_files_text, other_text, passed_text, traces_text, unread_text, untold_text};
 
-use crate::line::{Line, put, put_named, put_u8, put_u32, put_u64};
+use crate::line::{Line, put, put_named, put_u8, put_u64};
 use crate::naming::Naming;
 use crate::refused::put_fault;
-use crate::sector_lines::{put_number, put_place, put_two_digits};
+use crate::sector_lines::{put_number, put_place, put_track};
 use flux_base::{HeaderName, TrackId};
 use kryo_stream::StreamFault;
 use turn_merge::OtherTold;
@@ -17,6 +17,8 @@ use turn_merge::OtherTold;
 pub enum Passed {
     /// The dump has no file of the track.
     Absent,
+    /// The file could not be opened, or not be read up to the stream's End.
+    Failed,
     /// The stream is refused.
     Refused {
         /// The block's number from 0 in the stream.
@@ -25,8 +27,8 @@ pub enum Passed {
     },
 }
 
-/// That a dump's stream of a track was passed over, and why: `CC.H dump D missing`, or `CC.H dump D refused block B` and the
-/// fault with its numbers. The cylinder is below 100.
+/// That a dump's stream of a track was passed over, and why: `CC.H dump D missing`, `CC.H dump D failed`, or
+/// `CC.H dump D refused block B` and the fault with its numbers. The cylinder is below 100.
 #[tactic(auto, unfolding(crate::specs::DumpLines::passed_text))]
 pub fn passed_line(track: TrackId, dump: u8, passed: &Passed) -> Line
     requires { track.cylinder < 100 }
@@ -36,6 +38,7 @@ pub fn passed_line(track: TrackId, dump: u8, passed: &Passed) -> Line
     put_dump(&mut line, track, dump);
     match *passed {
         Passed::Absent => put(&mut line, "missing"),
+        Passed::Failed => put(&mut line, "failed"),
         Passed::Refused { block, fault } => {
             put_named(&mut line, "refused block ", block);
             put(&mut line, " ");
@@ -55,9 +58,7 @@ pub fn other_line(naming: Naming, track: TrackId, told: &OtherTold) -> Line
     ensures { result.bytes ≡ other_text naming track told.now }
 {
     let mut line = Line::new();
-    put_two_digits(&mut line, track.cylinder);
-    put(&mut line, ".");
-    put_u32(&mut line, u32::from(track.head));
+    put_track(&mut line, track);
     put(&mut line, " other");
     put_name(&mut line, told.name);
     put(&mut line, " ");
@@ -77,9 +78,7 @@ pub fn untold_line(track: TrackId) -> Line
     ensures { result.bytes ≡ untold_text track }
 {
     let mut line = Line::new();
-    put_two_digits(&mut line, track.cylinder);
-    put(&mut line, ".");
-    put_u32(&mut line, u32::from(track.head));
+    put_track(&mut line, track);
     put(&mut line, " others not told\n");
     line
 }
@@ -92,9 +91,7 @@ pub fn traces_line(track: TrackId, count: u64) -> Line
     ensures { result.bytes ≡ traces_text track count }
 {
     let mut line = Line::new();
-    put_two_digits(&mut line, track.cylinder);
-    put(&mut line, ".");
-    put_u32(&mut line, u32::from(track.head));
+    put_track(&mut line, track);
     put(&mut line, " traces ");
     put_u64(&mut line, count);
     put(&mut line, "\n");
@@ -134,9 +131,7 @@ fn put_dump(line: &mut Line, track: TrackId, dump: u8)
     ensures bytes { line.new.bytes ≡ line.old.bytes ++ dump_name track dump }
     ensures len { array_string_len line.new ≤ array_string_len line.old + 60 }
 {
-    put_two_digits(line, track.cylinder);
-    put(line, ".");
-    put_u32(line, u32::from(track.head));
+    put_track(line, track);
     put(line, " dump ");
     put_u8(line, dump);
     put(line, " ");

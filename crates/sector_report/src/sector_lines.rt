@@ -54,12 +54,21 @@ fn put_sector(line: &mut Line, track: TrackId, sector: u8)
     ensures bytes { line.new.bytes ≡ line.old.bytes ++ sector_name track sector }
     ensures len { array_string_len line.new ≤ array_string_len line.old + 53 }
 {
-    put_two_digits(line, track.cylinder);
-    put(line, ".");
-    put_u32(line, u32::from(track.head));
+    put_track(line, track);
     put(line, " ");
     put_two_digits(line, sector);
     put(line, " ");
+}
+
+/// Appends `CC.H` for a track.
+pub(crate) fn put_track(line: &mut Line, track: TrackId)
+    requires { array_string_len line.old + 31 ≤ 192 }
+    ensures bytes { line.new.bytes ≡ line.old.bytes ++ (two_digits track.cylinder ++ codes "." ++ decimal track.head) }
+    ensures len { array_string_len line.new ≤ array_string_len line.old + 31 }
+{
+    put_two_digits(line, track.cylinder);
+    put(line, ".");
+    put_u32(line, u32::from(track.head));
 }
 
 /// Appends a number in two digits, or in three where it has so many.

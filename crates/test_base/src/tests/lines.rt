@@ -213,8 +213,9 @@ fn lines_of_totals_and_trials(rt: HostRuntime) {
 }
 
 /// Why the stream of a dump was passed over, and the line.
-const PASSED: [(Passed, &str); 3] = [
+const PASSED: [(Passed, &str); 4] = [
     (Passed::Absent, "07.1 dump 2 missing\n"),
+    (Passed::Failed, "07.1 dump 2 failed\n"),
     (
         Passed::Refused {
             block: 40017,
