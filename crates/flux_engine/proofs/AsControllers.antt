@@ -1,5 +1,5 @@
 -- The format as which controllers read another has its tracks and sectors.
-use Rattle.std.specs.Prelude.{◌≡◌, ℕ, length, refl}
+use Rattle.std.specs.Prelude.{◌≡◌, ℕ, refl}
 use Rattle.std.proofs.Common.{sym, subst, ◌∙◌}
 use Rattle.disk_recordings.specs.Agreement.{Agrees}
 use Rattle.disk_recordings.specs.Members.{as_controllers_read}

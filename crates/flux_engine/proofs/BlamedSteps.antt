@@ -1,11 +1,11 @@
 -- The counts of the outside over the steps of a disk.
-use Rattle.std.specs.Prelude.{ℕ, Ok, Err}
+use Rattle.std.specs.Prelude.{◌≡◌, ℕ, Ok, Err, refl}
 use Rattle.std.proofs.Common.{arith}
-use Rattle.flux_base.specs.Blames.{CountsBy, OutsideCounts, three_counts}
+use Rattle.flux_base.specs.Blames.{CountsBy, OutsideCounts, no_one, three_counts}
 use Rattle.flux_base.specs.Counts.{Counts, FaultCounts}
 use Rattle.flux_base.specs.lemmas.Counting.{Counts-none}
 use Rattle.flux_engine.specs.Answers.{Answer, CaptureAnswer, CaptureCause, EngineCause, Stayed, of_capture, of_sink}
-use Rattle.flux_engine.specs.Blamed.{engine_blame, is_unread, part_blame, plan_blame}
+use Rattle.flux_engine.specs.Blamed.{engine_blame, is_unread, part_blame, plan_blame, sink_blame}
 use Rattle.flux_engine.specs.PlanAnswers.{IsFinished, PlanAnswer, engine_answer, of_part, of_stream}
 use Rattle.kryo_stream.specs.declared.fault.CaptureFault.{CaptureFault}
 use Rattle.kryo_stream.specs.declared.fault.CaptureFault.TheVariants.{ReadFault as UnreadCapture, Refused as RefusedCapture}
@@ -39,12 +39,10 @@ is_finished (Err ReadFault) counts source image notes = omega (arith, counts.sou
 is_finished (Err ImageFault) counts source image notes = omega (arith, counts.image.cause, image.0, image.1)
 is_finished (Err NotesFault) counts source image notes = omega (arith, counts.notes.cause, notes.0, notes.1)
 
--- a stream of a plan was not read
-pub stream_blames : (A B : Type 0) {source source' : FaultCounts} (image notes : FaultCounts) (number capture : ℕ) (fault : CaptureFault)
-    → Counts (is_unread {A = A} (Err fault)) source source'
-    → CountsBy (plan_blame {A = B} (Err (of_stream number capture fault))) (three_counts source image notes) (three_counts source' image notes)
-stream_blames A B image notes number capture UnreadCapture counts = record { source = counts; image = Counts-none image; notes = Counts-none notes }
-stream_blames A B image notes number capture (RefusedCapture block fault) counts = record { source = counts; image = Counts-none image; notes = Counts-none notes }
+-- a stream of a plan was not read: no sink failed
+pub stream_blames : (A : Type 0) (number capture : ℕ) (fault : CaptureFault) → sink_blame {A = A} (Err (of_stream number capture fault)) ≡ no_one
+stream_blames A number capture UnreadCapture = refl
+stream_blames A number capture (RefusedCapture block fault) = refl
 
 -- the one stream of a track was not read
 pub track_blames : (A B : Type 0) {source source' : FaultCounts} (image notes : FaultCounts) (number : ℕ) (fault : CaptureFault)
@@ -55,7 +53,7 @@ track_blames A B image notes number (RefusedCapture block fault) counts = record
 
 -- a sink failed as a track was written
 pub sink_blames : (A B : Type 0) {before after : OutsideCounts} (fault : PartFault) → CountsBy (part_blame {A = A} (Err fault)) before after
-    → CountsBy (plan_blame {A = B} (Err (of_part fault))) before after
+    → CountsBy (sink_blame {A = B} (Err (of_part fault))) before after
 sink_blames A B PartImageFault counts = counts
 sink_blames A B PartNotesFault counts = counts
 

@@ -1,16 +1,16 @@
 -- By either rule the cells of a track tell all that can be read in them.
-use Rattle.std.specs.Prelude.{◌≡◌, ◌↔◌, ℕ, zero, suc, ◌+◌, ◌<◌, Bool, Contains, List, [], ◌∷◌, ◌++◌, drop, flat_map, length, map, refl}
-use Rattle.std.proofs.Common.{ap, sym, subst, ◌∙◌, arith, inl, inr, ◌⊎◌}
+use Rattle.std.specs.Prelude.{◌≡◌, ◌↔◌, ℕ, Bool, Contains, List, [], ◌∷◌, drop, flat_map, length, map}
+use Rattle.std.proofs.Common.{ap, sym, subst, ◌∙◌, arith, inl, inr}
 use Rattle.std.proofs.lemmas.List.Elements.{Contains-append_cases, Contains-append_left, Contains-append_right}
 use Rattle.disk_recordings.specs.Laws.{DataAreRead, TracksAreRead}
-use Rattle.disk_recordings.specs.Members.{as_controllers_read, data_at, header_at, sector_at}
+use Rattle.disk_recordings.specs.Members.{as_controllers_read, data_at, header_at, named_at, sector_at, whole_data_of}
+use Rattle.flux_base.specs.declared.header_name.HeaderName.{HeaderName}
 use Rattle.flux_base.specs.declared.track.TrackId.{TrackId}
-use Rattle.frame_law.specs.Controller.{AreAllAt, HasHeaderData, HeaderData, SectorStandsBy, readings_of}
-use Rattle.frame_law.specs.declared.reading.Reading.{Reading as Frame}
+use Rattle.frame_law.specs.Controller.{HasHeaderData, HeaderData, SectorStandsBy, readings_of}
 use Rattle.frame_law.specs.declared.reading.Reading.TheVariants.{Bad as BadFrame, Good as GoodFrame}
 use Rattle.sector_images.specs.Formats.{row}
 use Rattle.sector_images.specs.declared.format.Format.{Format}
-use Rattle.flux_engine.specs.Rules.{AreAllBy, AreOthersBy, AreReadByControllers, OtherFound, RulesAreRead, StandsBy}
+use Rattle.flux_engine.specs.Rules.{AreAllBy, AreNamesIn, AreOthersBy, AreOthersIn, AreReadByControllers, OtherFound, RulesAreRead, StandsBy, no_header}
 use Rattle.flux_engine.specs.Tracks.{Found}
 use Rattle.flux_engine.specs.declared.plan.Rule.{Rule}
 use Rattle.flux_engine.specs.declared.plan.Rule.TheVariants.{Strict, Controller}
@@ -103,6 +103,13 @@ module _ (header : List Bool → ℕ → Type 0) (data_stand : List Bool → ℕ
       subst (λ (fs : List Found). Contains fs (place, GoodFrame sector, bytes)) (sym all.are)
       (joined_has readings_of h (let f : Found = (place, GoodFrame sector, bytes) in f) all.headers one.1 (good_has place sector (let d : ℕ × List ℕ = (begin, bytes) in d) one.0 has))
 
+-- all others that stand in the cells are one list
+alike : (named : List Bool → HeaderName → Type 0) (header : List Bool → ℕ → Type 0) (whole_data : List Bool → HeaderName → Type 0) (cells : List Bool)
+    (others more : List (ℕ × OtherFound)) → AreOthersIn named header whole_data cells others → AreOthersIn named header whole_data cells more → others ≡ more
+alike named header whole_data cells others more a b =
+    same_members others more a.all.rise b.all.rise
+    (λ f has. (b.all.each f.0 f.1).1 ((a.all.each f.0 f.1).0 has)) (λ f has. (a.all.each f.0 f.1).1 ((b.all.each f.0 f.1).0 has))
+
 module _ (read : TracksAreRead) (rewritten : DataAreRead) where
   one_list : (rule : Rule) (format : Format) (track : TrackId) (cells : List Bool) (found others : List Found)
       → AreAllBy rule format track cells found → AreAllBy rule format track cells others → found ≡ others
@@ -135,8 +142,13 @@ module _ (read : TracksAreRead) (rewritten : DataAreRead) where
       → AreOthersBy rule format track cells others → AreOthersBy rule format track cells more → others ≡ more
   others_one Strict format track cells others more a b = a ∙ sym b
   others_one Controller format track cells others more a b =
-      same_members others more a.all.rise b.all.rise
-      (λ f has. (b.all.each f.0 f.1).1 ((a.all.each f.0 f.1).0 has)) (λ f has. (a.all.each f.0 f.1).1 ((b.all.each f.0 f.1).0 has))
+      let by : Format = as_controllers_read format in
+      alike (named_at by) (header_at by track) (whole_data_of by) cells others more a b
+
+  names_one : (format : Format) (cells : List Bool) (names more : List (ℕ × OtherFound)) → AreNamesIn format cells names → AreNamesIn format cells more → names ≡ more
+  names_one format cells names more a b =
+      let by : Format = as_controllers_read format in
+      alike (named_at by) no_header (whole_data_of by) cells names more a b
 
   pub rules_are_read : RulesAreRead
-  rules_are_read = record { one = one_list; good = good_one; size = size_of; strict = strict_too; one_others = others_one }
+  rules_are_read = record { one = one_list; good = good_one; size = size_of; strict = strict_too; one_others = others_one; one_names = names_one }

@@ -3,11 +3,11 @@ use Rattle.std.specs.Prelude.{◌≡◌, ◌<◌, ◌≤◌, ℕ, suc, ◌+◌, 
 use Rattle.std.specs.Int.{abs_diff}
 use Rattle.std.proofs.Common.{arith, ap, sym, subst, ◌∙◌, inl, inr, add-one}
 use Rattle.std.proofs.lemmas.Bool.{cases_lt}
-use Rattle.std.proofs.lemmas.List.{get_or-map, length-map}
+use Rattle.std.proofs.lemmas.List.{length-map}
 use Rattle.std.proofs.Math.Nat.{div-mul-le_self, lt-div-mul-add, le-div_iff_mul-le, mul-le-mul_right}
 use Rattle.flux_writer.specs.Reading.{HasEarlyOne, IsStreamOf}
 use Rattle.flux_writer.specs.Written.{cell_time, ones_of, quarter, stream_of, track_cells, track_turns}
-use Rattle.track_rings.specs.Rings.{AreNeighbours, cell_of, last_in}
+use Rattle.track_rings.specs.Rings.{cell_of, last_in}
 use Rattle.flux_engine.specs.Captures.{Capture, IsSteady, mean_cell}
 use Rattle.phase_loop.specs.Carried.{AreClose, Carried, DRIFT, OFF_MEAN, OFF_SPEED, OFF_START}
 use Rattle.track_rings.specs.lemmas.Near.{own_cell, same_later}

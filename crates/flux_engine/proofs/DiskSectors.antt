@@ -1,5 +1,5 @@
 -- The sectors of a decoded disk.
-use Rattle.std.specs.Prelude.{◌≡◌, ◌<◌, ℕ, suc, ◌+◌, ◌-◌, ◌*◌, false, List, length, take, drop, replicate, unwrap_or, Option, if◌then◌else◌, refl}
+use Rattle.std.specs.Prelude.{◌≡◌, ◌<◌, ℕ, suc, ◌+◌, ◌-◌, ◌*◌, false, List, length, take, drop, replicate, unwrap_or, Option, refl}
 use Rattle.std.proofs.Common.{ap, sym, subst, ◌∙◌, arith}
 use Rattle.flux_base.specs.declared.track.TrackId.{TrackId}
 use Rattle.kryo_stream.specs.Stream.{times, indexes}
@@ -8,7 +8,7 @@ use Rattle.sector_images.specs.Places.{SectorsFillTracks, TracksJoin, place_of, 
 use Rattle.sector_images.specs.declared.format.Format.{Format}
 use Rattle.sector_report.specs.LineLaws.{SectorsHaveOneLine}
 use Rattle.sector_report.specs.Lines.{sector_text}
-use Rattle.turn_merge.specs.Readings.{NotedReading, agreed, verdict}
+use Rattle.turn_merge.specs.Readings.{NotedReading, verdict}
 use Rattle.turn_merge.specs.declared.verdict.Place.{Place}
 use Rattle.turn_merge.specs.declared.verdict.Verdict.{Verdict}
 use Rattle.turn_merge.specs.declared.verdict.Verdict.TheVariants.{Good}

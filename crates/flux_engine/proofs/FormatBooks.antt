@@ -54,6 +54,7 @@ room-of format held used book passed others = record {
   book = book;
   passed = passed;
   unread = 0;
+  lost = 0;
   others = others;
   told_others = 0;
   whole_others = 0;

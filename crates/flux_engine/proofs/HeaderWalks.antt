@@ -1,5 +1,5 @@
 -- The steps of the walk as controllers read: over a track's headers, and over the data of each.
-use Rattle.std.specs.Prelude.{◌≡◌, ◌≤◌, ◌<◌, ℕ, zero, suc, ◌+◌, ◌*◌, Bool, Contains, List, [], ◌∷◌, ◌++◌, drop, flat_map, length, map, take, Some, None, refl}
+use Rattle.std.specs.Prelude.{◌≡◌, ◌≤◌, ◌<◌, ℕ, ◌+◌, Bool, Contains, List, [], ◌∷◌, ◌++◌, drop, flat_map, length, map, take, Some, None, refl}
 use Rattle.std.proofs.Common.{ap, sym, subst, ◌∙◌, arith, append_assoc, append-nil, inl, inr}
 use Rattle.std.proofs.lemmas.Bool.{cases_lt}
 use Rattle.std.proofs.lemmas.List.{map-append}
@@ -16,7 +16,7 @@ use Rattle.flux_engine.specs.Captured.{AppendsReadings}
 use Rattle.flux_engine.specs.Gathering.{Gathers, HeadersBefore, IsDataWalk, IsWalk, NotesData, NotesHeader, header_readings}
 use Rattle.flux_engine.specs.Room.{MOST_CELLS}
 use Rattle.flux_engine.specs.Rules.{AreReadByControllers}
-use Rattle.flux_engine.specs.Tracks.{Found, place_in, readings_at, readings_in}
+use Rattle.flux_engine.specs.Tracks.{Found, place_in, readings_in}
 use Rattle.flux_engine.proofs.Walks.{appends_none, appends_on, is_met, met_at, same_shape, shape_on, walk_end, walk_start, walk_step}
 
 module _ (data_stand : ℕ → List ℕ → Type 0) (sector : ℕ) (place : Place) (limit : ℕ) where

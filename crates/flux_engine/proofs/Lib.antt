@@ -2,6 +2,7 @@ pub mod Walks
 pub mod HeaderWalks
 pub mod Rising
 pub mod OtherWalks
+pub mod NameWalks
 pub mod AsControllers
 pub mod ByRules
 pub mod Zeros
@@ -12,10 +13,13 @@ pub mod Decoding
 pub mod BlamedSteps
 pub mod Noting
 pub mod Counting
+pub mod CountedStreams
 pub mod PlanParts
 pub mod PlanDecoding
 pub mod PlanTelling
 pub mod LoopSteps
+pub mod PassedStreams
+pub mod TakenNames
 pub mod SourceLoop
 pub mod DecodedPlans
 pub mod Outcomes

@@ -1,5 +1,5 @@
 -- The steps of the loop over a disk's tracks, wherever the streams come from.
-use Rattle.std.specs.Prelude.{◌≡◌, ◌≤◌, ◌<◌, ℕ, zero, suc, ◌+◌, ◌*◌, Bool, true, false, List, [], ◌∷◌, ◌++◌, cond, drop, get_or, is_some, length, sum_by, take, Option, None, Some, Ok, Err, refl}
+use Rattle.std.specs.Prelude.{◌≡◌, ◌≤◌, ◌<◌, ℕ, zero, suc, ◌+◌, ◌*◌, Bool, true, false, List, [], ◌∷◌, ◌++◌, cond, get_or, is_some, length, sum_by, take, Option, None, Some, Ok, Err, refl}
 use Rattle.std.specs.Io.KnownBytes.{Appends}
 use Rattle.std.proofs.Common.{ap, sym, subst, ◌∙◌, add-one, arith, inl, inr, append_assoc, append-nil, length-append}
 use Rattle.std.proofs.KnownBytes.{Appends-nil, Appends-trans}
@@ -10,49 +10,32 @@ use Rattle.std.proofs.lemmas.List.{get_or_append_left, length-map, length-take, 
 use Rattle.std.proofs.lemmas.List.Sums.{count_by-le-length, sum_by-append}
 use Rattle.std.proofs.lemmas.Nat.{mul-add-lt}
 use Rattle.flux_base.specs.Outside.{AppendsPart}
-use Rattle.flux_base.specs.declared.track.TrackId.{TrackId}
-use Rattle.disk_recordings.specs.Laws.{NamesAreTold, StandAlone}
-use Rattle.disk_recordings.specs.Members.{as_controllers_read, header_at, named_at}
-use Rattle.index_turns.specs.Track.{TrackState}
-use Rattle.phase_loop.specs.Rows.{recovered}
-use Rattle.sector_images.specs.Places.{IsTrack, tracks}
+use Rattle.sector_images.specs.Places.{tracks}
 use Rattle.sector_images.specs.declared.format.Format.{Format}
 use Rattle.sector_report.specs.declared.dump_lines.Passed.{Passed}
 use Rattle.sector_report.specs.declared.totals.Totals.{Totals}
-use Rattle.turn_merge.specs.Book.{Knowledge, StandsFor}
+use Rattle.turn_merge.specs.Book.{StandsFor}
 use Rattle.turn_merge.specs.Others.{MOST_TOLD, NotedOther, OthersKnown, OthersStandFor, first_ones, has_data, has_untold, others_over, told_of}
 use Rattle.turn_merge.specs.declared.others.OtherTold.{OtherTold}
 use Rattle.turn_merge.specs.Readings.{NotedReading}
-use Rattle.flux_base.specs.declared.header_name.HeaderName.{HeaderName}
-use Rattle.turn_merge.specs.declared.clock.Clock.{Clock}
 use Rattle.flux_engine.specs.Answers.{AppendsAndPart}
-use Rattle.flux_engine.specs.Captured.{AreOthersOf, AreOthersOfClock, AreReadingsBy, AreReadingsOf, joined_by}
-use Rattle.flux_engine.specs.Counts.{AreCountsBelow, AreOthersOver, CountsTrack, counted, names_of, told_count, whole_count, whole_names_of}
+use Rattle.flux_engine.specs.Captured.{AreOthersOf, AreReadingsOf}
+use Rattle.flux_engine.specs.Counts.{AreCountsBelow, AreOthersOver, CountsTrack, counted, lost_in, names_of, told_count, whole_count, whole_names_of}
 use Rattle.flux_engine.specs.Disks.{images, lines, no_totals, totals_over}
-use Rattle.flux_engine.specs.Gathering.{HasNotedBy}
-use Rattle.flux_engine.specs.LoopProgress.{AreWhole, EndedBySink, EndedInTrack, HasGathered, HasNotedNext, HasTakenNext, HasWritten, WritesFront, passed_count, seen_at, seen_next, streams_over}
+use Rattle.flux_engine.specs.LoopProgress.{AreWhole, EndedBySink, EndedInTrack, HasGathered, HasTakenNext, HasWritten, WritesFront, lost_count, passed_count, seen_at, streams_over}
 use Rattle.flux_engine.specs.PlanAnswers.{of_part, of_stream}
-use Rattle.flux_engine.specs.Plans.{AreCaptures, AreOthersTo, ArePlannedParts, PartOf, Seen, Streams, joined, passed_one, passed_to}
+use Rattle.flux_engine.specs.Plans.{AreCaptures, AreOthersTo, ArePlannedParts, PartOf, Seen, Streams, is_failed, joined, passed_one, passed_to}
 use Rattle.flux_engine.specs.Recordings.{track_at}
 use Rattle.flux_engine.specs.Room.{RoomState, fresh}
-use Rattle.flux_engine.specs.Rules.{AreAllBy, AreOthersBy}
 use Rattle.flux_engine.specs.TrackParts.{WritesPart}
 use Rattle.flux_engine.specs.Tracks.{TrackPart, track_notes}
 use Rattle.flux_engine.specs.Writing.{sum_of}
 use Rattle.kryo_stream.specs.declared.fault.CaptureFault.{CaptureFault}
 use Rattle.flux_engine.specs.declared.gathered_track.PassedStream.{PassedStream}
-use Rattle.flux_engine.specs.declared.plan.Clocks.{Clocks}
-use Rattle.flux_engine.specs.declared.plan.Clocks.TheVariants.{Both, FollowingAlone}
 use Rattle.flux_engine.specs.declared.plan.Plan.{Plan}
-use Rattle.flux_engine.specs.declared.plan.Rule.{Rule}
-use Rattle.flux_engine.specs.declared.plan.Rule.TheVariants.{Controller, Strict}
 use Rattle.flux_engine.specs.declared.track_part.PartFault.{PartFault}
 use Rattle.flux_engine.specs.declared.track_part.PartFault.TheVariants.{ImageFault, NotesFault}
-use Rattle.flux_engine.specs.declared.track_streams.NextStream.{NextStream}
-use Rattle.flux_engine.specs.declared.track_streams.NextStream.TheVariants.{PassedOver, Read}
 use Rattle.flux_engine.specs.lemmas.PartLaws.{images-more, lines-more, totals-more}
-use Rattle.flux_engine.proofs.AsControllers.{known_too}
-use Rattle.flux_engine.proofs.OtherWalks.{appends_no_others}
 use Rattle.flux_engine.proofs.PlanParts.{IsCapture, captures-more, joined-more, parts-more}
 
 no_seen : Seen
@@ -80,6 +63,20 @@ whole-more xs x whole here = λ (i : ℕ) below.
 -- how many of more streams are passed over
 count-more : (xs ys : List Seen) → passed_count (xs ++ ys) ≡ passed_count xs + passed_count ys
 count-more xs ys = sum_by-append (λ (s : Seen). cond (is_some s.passed) 1 0) xs ys
+
+-- so do those whose files failed
+lost-more : (xs ys : List Seen) → lost_count (xs ++ ys) ≡ lost_count xs + lost_count ys
+lost-more xs ys = sum_by-append (λ (s : Seen). cond (is_failed s.passed) 1 0) xs ys
+
+lost-append : (ps qs : List PassedStream) → lost_in (ps ++ qs) ≡ lost_in ps + lost_in qs
+lost-append ps qs = sum_by-append (λ (p : PassedStream). cond (is_failed (Some p.why)) 1 0) ps qs
+
+one-lost : (q : ℕ) (here : Seen) → lost_in (passed_one q here.passed) ≡ lost_count (here ∷ [])
+one-lost q here = by here.passed
+  where
+    by : (passed : Option Passed) → lost_in (passed_one q passed) ≡ 0 + cond (is_failed passed) 1 0
+    by None = refl
+    by (Some why) = refl
 
 one-passed : (q : ℕ) (here : Seen) → length (passed_one q here.passed) ≡ passed_count (here ∷ [])
 one-passed q here = by here.passed
@@ -153,6 +150,7 @@ gathered_none plan format n Came before room came whole empty none no_others = r
   stands = empty;
   passed_are = none;
   passed_many = ap (λ (ps : List PassedStream). length ps) none;
+  lost_many = ap lost_in none;
   others = [];
   others_are = refl;
   others_stand = no_others;
@@ -194,6 +192,8 @@ module _ (plan : Plan) (format : Format) (n : ℕ) (Came Came' : List ℕ → Bo
             (captures-more plan format (streams_over plan longer) n h.captures q t.readings h.many earlier now);
         stands = subst (StandsFor room'.book) (sym (joined-more h.captures t.readings)) (t.noted (joined h.captures) h.stands);
         passed_are = subst (λ (xs : List Seen). room'.passed ≡ passed_to (streams_over plan xs) n (q + 1)) joint passed;
+        lost_many = ap lost_in t.passed_are ∙ lost-append room.passed (passed_one q t.here.passed)
+            ∙ ap (λ (k : ℕ). k + lost_in (passed_one q t.here.passed)) h.lost_many ∙ ap (λ (k : ℕ). lost_count h.more + k) (one-lost q t.here) ∙ sym (lost-more h.more (t.here ∷ []));
         passed_many = ap (λ (ps : List PassedStream). length ps) t.passed_are ∙ length-append room.passed (passed_one q t.here.passed)
             ∙ ap (λ (k : ℕ). k + length (passed_one q t.here.passed)) h.passed_many ∙ ap (λ (k : ℕ). passed_count h.more + k) (one-passed q t.here) ∙ sym (count-more h.more (t.here ∷ []));
         others = h.others ++ t.others;
@@ -232,24 +232,26 @@ gathered_counted plan format n Came before room room' q is h =
       stands = h.stands;
       passed_are = h.passed_are;
       passed_many = h.passed_many;
+      lost_many = h.lost_many;
       others = h.others;
       others_are = h.others_are;
       others_stand = h.others_stand;
     })
 
 -- by a room that had the counts of another
-pub counts_track : (old room room' : RoomState) → room.unread ≡ old.unread → room.told_others ≡ old.told_others → room.whole_others ≡ old.whole_others
+pub counts_track : (old room room' : RoomState) → room.unread ≡ old.unread → room.lost ≡ old.lost → room.told_others ≡ old.told_others → room.whole_others ≡ old.whole_others
     → room' ≡ counted room → CountsTrack old room'
-counts_track old room room' unread told whole is =
+counts_track old room room' unread lost told whole is =
     subst (λ (r : RoomState). CountsTrack old r) (sym is) (record {
       unread = ap (λ (k : ℕ). k + length room.passed) unread;
+      lost = ap (λ (k : ℕ). k + lost_in room.passed) lost;
       told = ap (λ (k : ℕ). k + names_of (take MOST_TOLD room.others.told) room.others.untold) told;
       whole = ap (λ (k : ℕ). k + whole_names_of (take MOST_TOLD room.others.told) room.others.untold) whole;
     })
 
 -- the counts grow by at most so much a track
 pub counts_start : (room : RoomState) (format : Format) → room ≡ fresh format → AreCountsBelow room 0
-counts_start room format is = subst (λ (r : RoomState). AreCountsBelow r 0) (sym is) (record { unread = omega arith; told = omega arith; whole = omega arith })
+counts_start room format is = subst (λ (r : RoomState). AreCountsBelow r 0) (sym is) (record { unread = omega arith; lost = omega arith; told = omega arith; whole = omega arith })
 
 pub counts_below : (old new : RoomState) (n : ℕ) → CountsTrack old new → length new.passed ≤ 16 → AreCountsBelow old n → AreCountsBelow new (n + 1)
 counts_below old new n counts few below =
@@ -259,6 +261,7 @@ counts_below old new n counts few below =
     let one = one_at_most new.others.untold in
     record {
       unread = omega (arith, counts.unread, few, below.unread);
+      lost = (let most = count_by-le-length (λ (p : PassedStream). is_failed (Some p.why)) new.passed in omega (arith, counts.lost, most, few, below.lost));
       told = omega (arith, counts.told, size, one, below.told);
       whole = omega (arith, counts.whole, part, size, one, below.whole);
     }
@@ -322,6 +325,7 @@ written_start plan of format Came image notes room totals is none came = record 
   others = [];
   many_others = refl;
   others_are = λ k low. absurd (omega (arith, low));
+  lost_is = ap (λ (r : RoomState). r.lost) is;
   told_is = ap (λ (r : RoomState). r.told_others) is;
   whole_is = ap (λ (r : RoomState). r.whole_others) is;
   sound = ap (λ (r : RoomState). r.failed) is;
@@ -367,6 +371,7 @@ module _ (plan : Plan) (of : PartOf) (format : Format) (Came Came' : List ℕ �
     totals_are = sum ∙ ap (λ (t : Totals). sum_of t more_totals) h.totals_are ∙ ap (sum_of (totals_over h.parts)) wrote.2 ∙ sym (totals-more h.parts part);
     format_is = same ∙ h.format_is;
     unread_is = counts.unread ∙ ap (λ (k : ℕ). k + length room'.passed) h.unread_is ∙ ap (λ (k : ℕ). passed_count h.streams + k) c.passed_many ∙ sym (count-more h.streams c.more);
+    lost_is = counts.lost ∙ ap (λ (k : ℕ). k + lost_in room'.passed) h.lost_is ∙ ap (λ (k : ℕ). lost_count h.streams + k) c.lost_many ∙ sym (lost-more h.streams c.more);
     others = h.others ++ c.others ∷ [];
     many_others = length_push h.others c.others ∙ ap (λ (k : ℕ). k + 1) h.many_others;
     others_are = others-more plan format (streams_over plan (h.streams ++ c.more)) h.others n c.others h.many_others
@@ -405,101 +410,4 @@ module _ (plan : Plan) (of : PartOf) (format : Format) (Came Came' : List ℕ �
     cause = fault;
     wrote = front fault wrote;
     is = refl;
-  }
-
--- what a stream says that came does not end the disk
-pub seen-whole : (next : NextStream) (flux : TrackState) → (seen_next next flux).fault ≡ None
-seen-whole Read flux = refl
-seen-whole (PassedOver why) flux = refl
-
--- of a stream that is passed over nothing is read
-module _ (alone : StandAlone) (names : NamesAreTold) (format : Format) (track : TrackId) (known : IsTrack format track) (capture : ℕ) where
-  none-left : (place : ℕ) → drop {A = Bool} place [] ≡ []
-  none-left zero = refl
-  none-left (suc place) = refl
-
-  -- in no cells nothing stands, by either rule
-  nothing_all : (rule : Rule) → AreAllBy rule format track [] []
-  nothing_all Strict = (refl, λ to place s from below. subst (λ (cells : List Bool). ¬ header_at format track cells s) (sym (none-left place)) ((alone format track known).no_header 0 s))
-  nothing_all Controller =
-      let by : Format = as_controllers_read format in
-      let none : (place s : ℕ) → ¬ header_at by track (drop {A = Bool} place []) s =
-      λ place s. subst (λ (cells : List Bool). ¬ header_at by track cells s) (sym (none-left place)) ((alone by track (known_too format track known)).no_header 0 s) in
-      record {
-        headers = [];
-        all = record {
-          rise = λ k within. absurd (omega (arith, within));
-          each = λ place x. (λ has. absurd (omega (arith, has.1)), λ here. absurd (none place x.0 here.1.stands));
-        };
-        each = λ place s here. absurd (none place s here);
-        are = refl;
-      }
-
-  nothing_by : (rule : Rule) (clock : Clock) → AreReadingsBy rule clock format track [] [] capture []
-  unfolding recovered
-  nothing_by rule clock = record { found = []; all = nothing_all rule; are = refl }
-
-  no_others_all : (rule : Rule) → AreOthersBy rule format track [] []
-  no_others_all Strict = refl
-  no_others_all Controller =
-      let by : Format = as_controllers_read format in
-      let none : (place : ℕ) (name : HeaderName) → ¬ named_at by (drop {A = Bool} place []) name =
-      λ place name here. (let one = (names.told by track).alone [] name (subst (λ (cells : List Bool). named_at by cells name) (none-left place) here) in omega (arith, one.some, one.within)) in
-      record {
-        all = record {
-          rise = λ k within. absurd (omega (arith, within));
-          each = λ place x. (λ has. absurd (omega (arith, has.1)), λ here. absurd (none place x.0 here.1.0.0));
-        };
-        each = λ place name here. absurd (none place name here.0);
-      }
-
-  no_others_by : (rule : Rule) (clock : Clock) → AreOthersOfClock rule clock format track [] [] capture []
-  unfolding recovered
-  no_others_by rule clock = record { found = []; all = no_others_all rule; are = refl }
-
-  joined_nothing : {X : Type 0} (clocks : Clocks) → (let none : List X = [] in none) ≡ joined_by clocks (λ (clock : Clock). [])
-  joined_nothing FollowingAlone = refl
-  joined_nothing Both = refl
-
-  pub nothing_of : (rule : Rule) (clocks : Clocks) → AreReadingsOf rule clocks format track [] [] capture []
-  nothing_of rule clocks = record { by_clock = λ clock. []; each = λ clock used. nothing_by rule clock; are = joined_nothing clocks }
-
-  pub no_others_of : (rule : Rule) (clocks : Clocks) → AreOthersOf rule clocks format track [] [] capture []
-  no_others_of rule clocks = record { by_clock = λ clock. []; each = λ clock used. no_others_by rule clock; are = joined_nothing clocks }
-
-module _ (rule : Rule) (clocks : Clocks) (format : Format) (track : TrackId) (flux : TrackState) (capture : ℕ) where
-  pub noted_read : (old new : Knowledge) (passed passed' : List PassedStream) (before after : OthersKnown)
-      → HasNotedBy rule clocks format track flux.times flux.indexes capture old new before after → passed' ≡ passed
-      → HasNotedNext Read rule clocks format track flux capture old new passed passed' before after
-  noted_read old new passed passed' before after n same = record {
-    readings = n.readings;
-    are = n.are;
-    noted = n.noted;
-    passed_are = same ∙ sym (append-nil passed);
-    shape = n.shape;
-    few = n.few;
-    others = n.others;
-    others_are = n.others_are;
-    others_noted = n.others_noted;
-    few_others = n.few_others;
-  }
-
-  pub noted_passed : StandAlone → NamesAreTold → IsTrack format track → (why : Passed) (old new : Knowledge) (passed passed' : List PassedStream) (known : OthersKnown) → new ≡ old
-      → passed' ≡ passed ++ record { capture = capture; why = why } ∷ [] → HasNotedNext (PassedOver why) rule clocks format track flux capture old new passed passed' known known
-  noted_passed alone names known why old new passed passed' others same more = record {
-    readings = [];
-    are = nothing_of alone names format track known capture rule clocks;
-    noted = λ readings stands. subst (StandsFor new) (sym (append-nil readings)) (subst (λ (b : Knowledge). StandsFor b readings) (sym same) stands);
-    passed_are = more;
-    shape = record {
-      first_is = ap (λ (b : Knowledge). b.first_sector) same;
-      most_is = ap (λ (b : Knowledge). b.most) same;
-      size_is = ap (λ (b : Knowledge). b.size) same;
-      sectors_are = ap (λ (b : Knowledge). length b.found) same;
-    };
-    few = (let notes : new.notes ≡ old.notes = ap (λ (b : Knowledge). b.notes) same in omega (arith, notes));
-    others = [];
-    others_are = no_others_of alone names format track known capture rule clocks;
-    others_noted = appends_no_others others;
-    few_others = omega arith;
   }

@@ -1,7 +1,7 @@
 -- The steps of the walk as controllers read that concern other headers.
-use Rattle.std.specs.Prelude.{◌≡◌, ◌≤◌, ◌<◌, ◌↔◌, ℕ, ◌+◌, ◌*◌, Bool, true, false, Contains, IsTrue, List, [], ◌∷◌, ◌++◌, drop, length, map, take, Some, None, refl}
+use Rattle.std.specs.Prelude.{◌≡◌, ◌≤◌, ◌<◌, ℕ, ◌+◌, Bool, true, false, Contains, List, [], ◌∷◌, ◌++◌, drop, length, map, take, Some, None, refl}
 use Rattle.std.specs.List.Sorted.{IsStrictlyIncreasing}
-use Rattle.std.proofs.Common.{ap, sym, subst, ◌∙◌, arith, append-nil, inl, inr}
+use Rattle.std.proofs.Common.{ap, sym, subst, arith, append-nil, inl, inr}
 use Rattle.std.proofs.lemmas.Bool.{cases_lt}
 use Rattle.std.proofs.lemmas.List.{map-append}
 use Rattle.std.proofs.lemmas.List.Elements.{Contains-append_cases, Contains-append_left, Contains-append_right}
@@ -16,7 +16,7 @@ use Rattle.turn_merge.specs.Others.{NotedOther, OthersKnown, OthersStandFor}
 use Rattle.turn_merge.specs.declared.clock.Clock.{Clock}
 use Rattle.turn_merge.specs.declared.verdict.Place.{Place}
 use Rattle.flux_engine.specs.Captured.{AppendsOthers, noted_other}
-use Rattle.flux_engine.specs.Gathering.{Gathers, GathersOthers, HeadersBefore, IsControllerWalk, IsWalk, NotesFound, OthersBefore}
+use Rattle.flux_engine.specs.Gathering.{Gathers, GathersOthers, HeadersBefore, IsControllerWalk, NotesFound, OthersBefore}
 use Rattle.flux_engine.specs.Room.{MOST_CELLS}
 use Rattle.flux_engine.specs.Rules.{AreReadByControllers, IsOtherAt, OtherFound}
 use Rattle.flux_engine.specs.Tracks.{Found, place_in}

@@ -1,5 +1,5 @@
 -- What the verdicts over all readings of a track say, where it is read by a plan.
-use Rattle.std.specs.Prelude.{◌≡◌, ◌<◌, ◌≤◌, ℕ, zero, suc, Bool, true, false, not, ◌&&◌, List, [], ◌∷◌, ◌++◌, get_or, is_some, length, nat_eq, replicate, unwrap_or, Option, Some, refl}
+use Rattle.std.specs.Prelude.{◌≡◌, ◌<◌, ◌≤◌, ℕ, Bool, true, false, not, ◌&&◌, List, [], ◌∷◌, ◌++◌, get_or, is_some, length, nat_eq, replicate, unwrap_or, Option, Some, refl}
 use Rattle.std.specs.Str.{bytes_eq}
 use Rattle.std.proofs.Common.{ap, sym, subst, ◌∙◌, arith, append_assoc}
 use Rattle.std.proofs.lemmas.Bool.{eqb-true, eq-eqb}
@@ -21,7 +21,7 @@ use Rattle.flux_engine.specs.declared.plan.Clocks.{Clocks}
 use Rattle.flux_engine.specs.declared.plan.Clocks.TheVariants.{Both, FollowingAlone}
 use Rattle.flux_engine.specs.Rules.{RulesAreRead, StandsBy}
 use Rattle.flux_engine.specs.declared.plan.Plan.{Plan}
-use Rattle.flux_engine.specs.lemmas.Each.{Each, each-append, each-at, each-filter, each-flat, each-left, each-map, each-right, each-unfilter, each-unflat}
+use Rattle.flux_engine.specs.lemmas.Each.{Each, each-at, each-filter, each-map, each-unfilter, each-unflat}
 use Rattle.flux_engine.specs.lemmas.GoodSectors.{Head, Named, agreed_head, and_both, each_named, head_of, is_good_of, of_found, same_bytes, some_bytes}
 use Rattle.flux_engine.specs.lemmas.JoinedReadings.{each_by_clocks, each_capture, each_clock, each_joined}
 use Rattle.flux_engine.proofs.Clashes.{Clash, clash_of, each-found, not_true, stays}

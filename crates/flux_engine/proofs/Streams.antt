@@ -1,5 +1,5 @@
 -- From what reading a stream answers to what decoding its track says of the input.
-use Rattle.std.specs.Prelude.{◌≡◌, ◌≤◌, ◌<◌, ℕ, ◌+◌, ◌-◌, ◌^◌, Bool, true, false, All, List, [], ◌++◌, length, slice_get, nat_lt, Option, Some, None, Ok, Err, if◌then◌else◌, OnOk}
+use Rattle.std.specs.Prelude.{◌≡◌, ◌≤◌, ℕ, ◌+◌, ◌-◌, Bool, true, false, List, [], ◌++◌, length, slice_get, nat_lt, Option, Some, None, Ok, Err, if◌then◌else◌, OnOk}
 use Rattle.std.specs.Option.{option_or}
 use Rattle.std.proofs.Common.{ap, sym, subst, ◌∙◌, arith, inl, inr, append-nil}
 use Rattle.std.proofs.lemmas.Bool.{cases_lt, lt-ltb}

@@ -1,5 +1,5 @@
 -- What is good by the strict rule is good by the rule of a plan, or contradictory.
-use Rattle.std.specs.Prelude.{◌≡◌, ◌<◌, ◌⊎◌, ℕ, Bool, true, ◌&&◌, List, [], ◌∷◌, drop, length, Option, Some, None, refl}
+use Rattle.std.specs.Prelude.{◌≡◌, ◌⊎◌, ℕ, Bool, true, ◌&&◌, List, [], ◌∷◌, drop, length, Option, Some, None, refl}
 use Rattle.std.proofs.Common.{ap, sym, subst, ◌∙◌, inl, inr}
 use Rattle.std.proofs.lemmas.Bool.{eq-eqb}
 use Rattle.disk_recordings.specs.Laws.{TracksAreRead}
@@ -7,14 +7,13 @@ use Rattle.disk_recordings.specs.Members.{header_at, sector_at}
 use Rattle.flux_base.specs.declared.track.TrackId.{TrackId}
 use Rattle.sector_images.specs.Formats.{row}
 use Rattle.turn_merge.specs.Readings.{NotedReading, agreed, bad_ones, bytes_of, first_other, good_ones, verdict, verdict_of, verdict_with}
-use Rattle.turn_merge.specs.declared.clock.Clock.{Clock}
 use Rattle.turn_merge.specs.declared.verdict.Place.{Place}
 use Rattle.turn_merge.specs.declared.verdict.Verdict.TheVariants.{Contradictory, Good}
-use Rattle.flux_engine.specs.PlanLaws.{IsGoodTooOrContradicted, StandsIn, StrictGoodStays, cells_in}
+use Rattle.flux_engine.specs.PlanLaws.{StandsIn, StrictGoodStays, cells_in}
 use Rattle.flux_engine.specs.Plans.{joined}
 use Rattle.flux_engine.specs.Recordings.{track_at}
 use Rattle.flux_engine.specs.Rules.{RulesAreRead}
-use Rattle.flux_engine.specs.Tracks.{Found, readings_in}
+use Rattle.flux_engine.specs.Tracks.{readings_in}
 use Rattle.flux_engine.specs.lemmas.Each.{Each, each-unfilter}
 use Rattle.flux_engine.specs.lemmas.GoodSectors.{agreed_head, head_holds, head_of, is_good_of, strict_good}
 use Rattle.flux_engine.proofs.PlanSectors.{agrees, stands_has}

@@ -28,6 +28,12 @@ plan_blame (Err ImageFault) = the_image
 plan_blame (Err NotesFault) = the_notes
 plan_blame _ = no_one
 
+-- the same of the sinks alone, where it is not known of what object the streams come
+abbrev pub sink_blame : {A : Type 0} → Result A PlanFault → Blame
+sink_blame (Err ImageFault) = the_image
+sink_blame (Err NotesFault) = the_notes
+sink_blame _ = no_one
+
 abbrev pub engine_blame : {A : Type 0} → Result A EngineFault → Blame
 engine_blame (Err EngineReadFault) = the_source
 engine_blame (Err EngineImageFault) = the_image

@@ -10,7 +10,7 @@ use Rattle.flux_engine.specs.declared.plan.Clocks.{Clocks}
 use Rattle.flux_engine.specs.declared.plan.Clocks.TheVariants.{FollowingAlone, Both}
 use Rattle.flux_engine.specs.declared.plan.Rule.{Rule}
 use Rattle.flux_engine.specs.declared.plan.Rule.TheVariants.{Strict}
-use Rattle.flux_engine.specs.Rules.{AreAllBy, AreOthersBy, OtherFound}
+use Rattle.flux_engine.specs.Rules.{AreAllBy, AreNamesIn, AreOthersBy, OtherFound}
 use Rattle.flux_engine.specs.Tracks.{Found, place_in, readings_in}
 use Rattle.turn_merge.specs.declared.clock.Clock.{Clock}
 use Rattle.turn_merge.specs.declared.clock.Clock.TheVariants.{Following, Held}
@@ -57,17 +57,28 @@ abbrev pub noted_other : ℕ → Clock → List ℕ → List ℕ → List Bool �
 noted_other capture clock times indexes cells other =
     record { name = other.1.0; whole = other.1.1; place = place_in capture clock times indexes cells other.0 }
 
--- these are all others by a rule in the cells that the clock recovers
-pub record AreOthersOfClock (rule : Rule) (clock : Clock) (format : Format) (track : TrackId) (times indexes : List ℕ) (capture : ℕ) (others : List NotedOther) : Type 0 where
+-- these are all that are so in the cells that the clock recovers
+pub record AreNotedBy (AreAll : List Bool → List (ℕ × OtherFound) → Type 0) (clock : Clock) (format : Format) (track : TrackId) (times indexes : List ℕ) (capture : ℕ) (others : List NotedOther) : Type 0 where
   pub found : List (ℕ × OtherFound)
-  pub all : AreOthersBy rule format track (cells_by clock format track times indexes) found
+  pub all : AreAll (cells_by clock format track times indexes) found
   pub are : others ≡ map (noted_other capture clock times indexes (cells_by clock format track times indexes)) found
 
 -- and these are all of a capture by these clocks
-pub record AreOthersOf (rule : Rule) (clocks : Clocks) (format : Format) (track : TrackId) (times indexes : List ℕ) (capture : ℕ) (others : List NotedOther) : Type 0 where
+pub record AreNotedOf (AreAll : List Bool → List (ℕ × OtherFound) → Type 0) (clocks : Clocks) (format : Format) (track : TrackId) (times indexes : List ℕ) (capture : ℕ) (others : List NotedOther) : Type 0 where
   pub by_clock : Clock → List NotedOther
-  pub each : (clock : Clock) → IsUsed clocks clock → AreOthersOfClock rule clock format track times indexes capture (by_clock clock)
+  pub each : (clock : Clock) → IsUsed clocks clock → AreNotedBy AreAll clock format track times indexes capture (by_clock clock)
   pub are : others ≡ joined_by clocks by_clock
+
+-- all others on a track by a rule
+abbrev pub AreOthersOfClock : Rule → Clock → Format → TrackId → (times indexes : List ℕ) → (capture : ℕ) → List NotedOther → Type 0
+AreOthersOfClock rule clock format track times indexes capture others = AreNotedBy (AreOthersBy rule format track) clock format track times indexes capture others
+
+abbrev pub AreOthersOf : Rule → Clocks → Format → TrackId → (times indexes : List ℕ) → (capture : ℕ) → List NotedOther → Type 0
+AreOthersOf rule clocks format track times indexes capture others = AreNotedOf (AreOthersBy rule format track) clocks format track times indexes capture others
+
+-- all headers of any name on a track that is none of the format's, by the cells of this one of its tracks
+abbrev pub AreNamesOf : Clocks → Format → (near : TrackId) → (times indexes : List ℕ) → (capture : ℕ) → List NotedOther → Type 0
+AreNamesOf clocks format near times indexes capture others = AreNotedOf (AreNamesIn format) clocks format near times indexes capture others
 
 -- a call appends these others, in their order, to whatever list of them is stood for
 abbrev pub AppendsOthers : OthersKnown → OthersKnown → List NotedOther → Type 0

@@ -25,3 +25,4 @@ pub mod LoopProgress
 pub mod SourceStreams
 pub mod PlanLaws
 pub mod lemmas
+pub mod Names

@@ -11,10 +11,10 @@ use Rattle.turn_merge.specs.Others.{NotedOther, OthersKnown, OthersStandFor}
 use Rattle.turn_merge.specs.Readings.{NotedReading}
 use Rattle.flux_engine.specs.Answers.{AppendsAndPart}
 use Rattle.flux_engine.specs.Captured.{AppendsOthers, AppendsReadings, AreOthersOf, AreReadingsOf, count_of_clocks}
-use Rattle.flux_engine.specs.Counts.{AreOthersOver, told_count, whole_count}
+use Rattle.flux_engine.specs.Counts.{AreOthersOver, lost_in, told_count, whole_count}
 use Rattle.flux_engine.specs.Disks.{images, lines, totals_over}
 use Rattle.flux_engine.specs.PlanAnswers.{of_part, of_stream}
-use Rattle.flux_engine.specs.Plans.{AreCaptures, AreOthersTo, ArePlannedParts, PartOf, Seen, Streams, joined, passed_one, passed_to}
+use Rattle.flux_engine.specs.Plans.{AreCaptures, AreOthersTo, ArePlannedParts, PartOf, Seen, Streams, is_failed, joined, passed_one, passed_to}
 use Rattle.flux_engine.specs.Reading.{IsBounded}
 use Rattle.flux_engine.specs.Room.{MOST_READINGS, RoomState}
 use Rattle.flux_engine.specs.Tracks.{TrackPart}
@@ -40,6 +40,10 @@ streams_over plan came n q = seen_at came (n * plan.captures + q)
 -- how many of them are passed over
 abbrev pub passed_count : List Seen → ℕ
 passed_count came = count_by (λ s. is_some s.passed) came
+
+-- and how many of these since their files failed
+abbrev pub lost_count : List Seen → ℕ
+lost_count came = count_by (λ s. is_failed s.passed) came
 
 -- none of them ends the disk
 abbrev pub AreWhole : List Seen → Type 0
@@ -107,6 +111,7 @@ pub record HasGathered (plan : Plan) (format : Format) (n : ℕ) (Came : List �
   pub stands : StandsFor room.book (joined captures)
   pub passed_are : room.passed ≡ passed_to (streams_over plan (before ++ more)) n q
   pub passed_many : length room.passed ≡ passed_count more
+  pub lost_many : lost_in room.passed ≡ lost_count more
   pub others : List NotedOther
   pub others_are : AreOthersTo plan format (streams_over plan (before ++ more)) n q others
   pub others_stand : OthersStandFor room.others others
@@ -143,6 +148,7 @@ pub record HasWritten (plan : Plan) (of : PartOf) (format : Format) (Came : List
   pub totals_are : totals ≡ totals_over parts
   pub format_is : room.format ≡ format
   pub unread_is : room.unread ≡ passed_count streams
+  pub lost_is : room.lost ≡ lost_count streams
   pub others : List (List NotedOther)
   pub many_others : length others ≡ n
   pub others_are : AreOthersOver plan format (streams_over plan streams) others

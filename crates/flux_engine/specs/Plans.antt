@@ -1,5 +1,5 @@
 -- What a disk comes to that is read by a plan: so many streams of each track, each by these clocks.
-use Rattle.std.specs.Prelude.{◌≡◌, ◌<◌, ◌⊎◌, ℕ, zero, suc, ◌+◌, ◌*◌, List, [], ◌∷◌, ◌++◌, length, flat_map, get_or, Option, Some, None}
+use Rattle.std.specs.Prelude.{◌≡◌, ◌<◌, ◌⊎◌, ℕ, zero, suc, ◌+◌, ◌*◌, Bool, true, false, List, [], ◌∷◌, ◌++◌, length, flat_map, get_or, Option, Some, None}
 use Rattle.flux_base.specs.declared.track.TrackId.{TrackId}
 use Rattle.kryo_stream.specs.Stream.{first_fault, times, indexes}
 use Rattle.kryo_stream.specs.declared.fault.StreamFault.{StreamFault}
@@ -7,11 +7,12 @@ use Rattle.kryo_stream.specs.declared.fault.StreamFault.TheVariants.{Truncated}
 use Rattle.sector_images.specs.Places.{tracks}
 use Rattle.sector_images.specs.declared.format.Format.{Format}
 use Rattle.sector_report.specs.declared.dump_lines.Passed.{Passed}
+use Rattle.sector_report.specs.declared.dump_lines.Passed.TheVariants.{Failed}
 use Rattle.sector_report.specs.declared.naming.Naming.TheVariants.{Unnamed}
 use Rattle.turn_merge.specs.Others.{NotedOther}
 use Rattle.turn_merge.specs.Readings.{NotedReading}
-use Rattle.flux_engine.specs.Captured.{AreOthersOf, AreReadingsOf}
-use Rattle.flux_engine.specs.Disks.{DiskReport, lines, part_at, report_over}
+use Rattle.flux_engine.specs.Captured.{AreNamesOf, AreOthersOf, AreReadingsOf}
+use Rattle.flux_engine.specs.Disks.{DiskReport, part_at, report_over}
 use Rattle.flux_engine.specs.Recordings.{track_at}
 use Rattle.flux_engine.specs.Streams.{stream_at}
 use Rattle.flux_engine.specs.Tracks.{TrackNotes, TrackPart, track_notes}
@@ -55,6 +56,11 @@ abbrev pub passed_one : ℕ → Option Passed → List PassedStream
 passed_one q None = []
 passed_one q (Some why) = record { capture = q; why = why } ∷ []
 
+-- it is passed over since its file failed
+abbrev pub is_failed : Option Passed → Bool
+is_failed (Some Failed) = true
+is_failed _ = false
+
 -- which of the first captures of track number n are passed over, in order
 abbrev pub passed_to : Streams → (n : ℕ) → ℕ → List PassedStream
 passed_to streams n zero = []
@@ -66,6 +72,14 @@ AreOthersTo plan format streams n zero others = others ≡ []
 AreOthersTo plan format streams n (suc q) others =
     (before now : List NotedOther) × AreOthersTo plan format streams n q before
     × AreOthersOf plan.rule plan.clocks format (track_at format n) (streams n q).times (streams n q).indexes q now × (others ≡ before ++ now)
+
+-- All headers of the first captures of a track that is none of the format's, capture by capture: each is an other.
+-- They are read with the cells of the format's track that is nearest.
+abbrev pub AreNamesTo : Plan → Format → (near : TrackId) → (captures : ℕ → Seen) → ℕ → List NotedOther → Type 0
+AreNamesTo plan format near captures zero others = others ≡ []
+AreNamesTo plan format near captures (suc q) others =
+    (before now : List NotedOther) × AreNamesTo plan format near captures q before
+    × AreNamesOf plan.clocks format near (captures q).times (captures q).indexes q now × (others ≡ before ++ now)
 
 -- what becomes of what was gathered of a track: its part of the image, what is said of it, and its totals
 abbrev pub PartOf : Type 0

@@ -13,9 +13,11 @@ use Rattle.flux_engine.specs.Writing.{Knows}
 use Rattle.flux_engine.specs.declared.gathered_track.PassedStream.{PassedStream}
 
 -- the format, the bytes that were taken from a source and not used yet, whether a stream was read, the number of the
--- next track, the number of the track that was started, how many streams came since (one that is read by both clocks counts twice), what the book knows of its
--- sectors by them, which of them were passed over, what is known of other headers, how many streams of all tracks
--- that were counted were passed over, how many names of others are told of them and how many of these have whole data, and whether a call answered a fault
+-- next track, the number of the track that was started, how many streams came since (one that is read by both clocks
+-- counts twice), what the book knows of its sectors by them, which of them were passed over, what is known of other
+-- headers, how many streams of all tracks that were counted were passed over, how many of these since their files
+-- failed, how many names of others are told of them and how many of these have whole data, and whether a call
+-- answered a fault
 pub record RoomState : Type 0 where
   pub format : Format
   pub held : List ℕ
@@ -26,6 +28,7 @@ pub record RoomState : Type 0 where
   pub book : Knowledge
   pub passed : List PassedStream
   pub unread : ℕ
+  pub lost : ℕ
   pub others : OthersKnown
   pub told_others : ℕ
   pub whole_others : ℕ
@@ -53,6 +56,7 @@ fresh format = record {
   book = empty_book format;
   passed = [];
   unread = 0;
+  lost = 0;
   others = record { notes = 0; told = []; untold = false };
   told_others = 0;
   whole_others = 0;

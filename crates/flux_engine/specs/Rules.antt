@@ -27,6 +27,10 @@ AreAllBy Strict format track cells found = AreReadings (header_at format track) 
 AreAllBy Controller format track cells found =
     AreReadByControllers (header_at (as_controllers_read format) track) (data_at (as_controllers_read format)) cells found
 
+-- no header is one of a sector
+abbrev pub no_header : List Bool → ℕ → Type 0
+no_header cells sector = ⊥
+
 -- an other as it is found: its name, and whether whole data stand after it
 abbrev pub OtherFound : Type 0
 OtherFound = HeaderName × Bool
@@ -41,6 +45,10 @@ module _ (named : List Bool → HeaderName → Type 0) (header : List Bool → �
     pub all : AreAllAt IsOtherAt 0 others
     pub each : (place : ℕ) (name : HeaderName) → IsOther named header (drop place cells) name → (whole : Bool) × Contains others (place, (name, whole))
 
+-- all headers that stand in the cells, read as controllers read, where none of them is one of a track's sectors
+abbrev pub AreNamesIn : Format → List Bool → List (ℕ × OtherFound) → Type 0
+AreNamesIn format cells others = AreOthersIn (named_at (as_controllers_read format)) no_header (whole_data_of (as_controllers_read format)) cells others
+
 -- all others that stand on a track by a rule; the strict rule knows none
 abbrev pub AreOthersBy : Rule → Format → TrackId → List Bool → List (ℕ × OtherFound) → Type 0
 AreOthersBy Strict format track cells others = others ≡ []
@@ -53,8 +61,9 @@ StandsBy Strict format track cells sector bytes = sector_at format track cells s
 StandsBy Controller format track cells sector bytes =
     SectorStandsBy (header_at (as_controllers_read format) track) (data_at (as_controllers_read format)) cells sector bytes
 
--- By either rule: all that can be read on a track is one list, which has each sector that stands, and no other as good; such a sector
--- has the format's bytes in number; what stands by the strict rule stands by either; and all others are one list.
+-- By either rule: all that can be read on a track is one list, which has each sector that stands, and no other as
+-- good; such a sector has the format's bytes in number; what stands by the strict rule stands by either; and all
+-- others are one list, and so are all headers of any name.
 pub record RulesAreRead : Type 0 where
   pub one : (rule : Rule) (format : Format) (track : TrackId) (cells : List Bool) (found others : List Found)
       → AreAllBy rule format track cells found → AreAllBy rule format track cells others → found ≡ others
@@ -66,3 +75,4 @@ pub record RulesAreRead : Type 0 where
       → sector_at format track cells sector bytes → StandsBy rule format track cells sector bytes
   pub one_others : (rule : Rule) (format : Format) (track : TrackId) (cells : List Bool) (others more : List (ℕ × OtherFound))
       → AreOthersBy rule format track cells others → AreOthersBy rule format track cells more → others ≡ more
+  pub one_names : (format : Format) (cells : List Bool) (names more : List (ℕ × OtherFound)) → AreNamesIn format cells names → AreNamesIn format cells more → names ≡ more

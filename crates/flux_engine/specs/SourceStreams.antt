@@ -1,11 +1,13 @@
 -- Streams that follow one another in a source, as those of a disk.
-use Rattle.std.specs.Prelude.{◌≡◌, ◌<◌, ℕ, Bool, List, [], ◌++◌, length, Some, Err}
+use Rattle.std.specs.Prelude.{◌≡◌, ◌<◌, ℕ, Bool, false, List, [], ◌++◌, length, Some, Err}
 use Rattle.std.specs.Io.KnownBytes.{Consumes, IsAtEnd}
+use Rattle.flux_base.specs.Counts.{Counts, FaultCounts}
 use Rattle.kryo_stream.specs.Reads.{SourceMoment}
 use Rattle.kryo_stream.specs.Stream.{first_fault}
 use Rattle.kryo_stream.specs.declared.fault.StreamFault.TheVariants.{Truncated}
 use Rattle.sector_images.specs.declared.format.Format.{Format}
 use Rattle.flux_engine.specs.Answers.{IsOfCaptureAtHand, IsTakenBehind, IsTruncatedCapture}
+use Rattle.flux_engine.specs.Blamed.{is_unread}
 use Rattle.flux_engine.specs.LoopProgress.{seen_at}
 use Rattle.flux_engine.specs.Needed.{ReadsWhereOpen}
 use Rattle.flux_engine.specs.PlanAnswers.{MOST_OF_STREAM}
@@ -46,3 +48,11 @@ pub record HaveEnded (plan : Plan) (format : Format) (start now : SourceMoment) 
   pub behind : (later : List ℕ) → IsTakenBehind (taken ++ later) later (length streams) MOST_OF_STREAM
   pub ended : IsTruncatedCapture (Err fault) → IsAtEnd now.left
   pub needed : WasNeeded plan format start now
+
+-- the source did not fail in between; or it did where the fault is one of reading it
+abbrev pub HaveComeCounted : Plan → Format → (start now : SourceMoment) → (before after : FaultCounts) → (held : List ℕ) → (used : Bool) → List Seen → Type 0
+HaveComeCounted plan format start now before after held used streams = HaveCome plan format start now held used streams × Counts false before after
+
+abbrev pub HaveEndedCounted : Plan → Format → (start now : SourceMoment) → (before after : FaultCounts) → List Seen → CaptureFault → Type 0
+HaveEndedCounted plan format start now before after streams fault =
+    HaveEnded plan format start now streams fault × Counts (is_unread {A = Unit {0}} (Err fault)) before after

@@ -25,6 +25,7 @@ ghost use Rattle.turn_merge.specs.Book.{IsKnown, MOST_NOTES, SameShape, StandsFo
 ghost use Rattle.turn_merge.specs.Others.{NotedOther, OthersStandFor};
 ghost use Rattle.turn_merge.specs.Readings.{NotedReading, agreed, verdict as verdict_over};
 
+use crate::gathered_track::Gathered;
 use crate::gathering::{gather, gather_as_controller};
 use crate::plan::{Clocks, Rule};
 use crate::room::{DiskRoom, Tools};
@@ -173,6 +174,15 @@ pub fn room_format(room: &DiskRoom) -> Format
     ensures { result ≡ room.now.format }
 {
     room.format
+}
+
+/// What was gathered of the started track.
+pub fn room_gathered(room: &DiskRoom) -> &Gathered
+    ensures book { result.now.book ≡ room.now.book }
+    ensures passed { result.now.passed.items ≡ room.now.passed }
+    ensures others { result.now.others ≡ room.now.others }
+{
+    &room.tools.gathered
 }
 
 /// What the readings of a sector of the started track say together.

@@ -88,8 +88,9 @@ pub fn lines_tell_verdicts()
     sectors_lie_in_images()
 }
 
-/// By either rule the cells of a track tell all that can be read in them, as one list: each sector that stands by the rule, and no
-/// other as good. What stands by the strict rule stands by either.
+/// By either rule the cells of a track tell all that can be read in them, as one list: each sector that stands by the
+/// rule, and no other as good. What stands by the strict rule stands by either. Headers of other names are one list,
+/// and so are all headers by their names.
 pub fn rules_are_read()
     ensures { RulesAreRead }
 {

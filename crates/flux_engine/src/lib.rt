@@ -17,6 +17,7 @@ mod fault;
 mod gathered_track;
 mod gathering;
 mod laws;
+mod names;
 mod plan;
 mod planned;
 mod ring_making;
@@ -33,8 +34,8 @@ mod write_room;
 mod writing;
 
 pub use capture::{
-    bytes, read_by_clocks, read_capture, read_stream, recover_cells, room_format, start_track,
-    verdict,
+    bytes, read_by_clocks, read_capture, read_stream, recover_cells, room_format, room_gathered,
+    start_track, verdict,
 };
 pub use disk::{add_totals, decode_disk};
 pub use disk_recordings::{Sectors, sectors_of};
@@ -47,6 +48,7 @@ pub use laws::{
     good_is_right, good_is_right_on_disks, lines_tell_verdicts, outcomes_are_one,
     parts_fill_images, parts_stay, plans_are_right, rules_are_read,
 };
+pub use names::{NamedStreams, count_names, take_names};
 pub use plan::{Clocks, Plan, Rule};
 pub use planned::{decode_planned, decode_planned_tracks, decode_tracks};
 pub use ring_making::track_ring;

@@ -1,10 +1,11 @@
 //! Disks that are read by a plan: one loop over the tracks.
 
 ghost use Rattle.std.specs.Prelude.{◌≡◌, ◌≤◌, ℕ, List, Some, length, IfErr, OnErr, OnOk};
-ghost use Rattle.flux_base.specs.Blames.{CountsBy, three_counts};
+ghost use Rattle.flux_base.specs.Blames.{CountsBy, no_counts, three_counts};
 ghost use Rattle.flux_base.specs.Counts.{counts_of};
 ghost use Rattle.flux_engine.specs.Answers.{Stayed};
-ghost use Rattle.flux_engine.specs.Blamed.{plan_blame};
+ghost use Rattle.flux_engine.specs.Blamed.{plan_blame, sink_blame};
+ghost use Rattle.flux_engine.specs.Counts.{AreCountsBelow};
 ghost use Rattle.flux_engine.specs.Disks.{no_totals};
 ghost use Rattle.flux_engine.specs.LoopProgress.{EndsLoop, HasWritten};
 ghost use Rattle.flux_engine.specs.Needed.{ReadsWhereOpen};
@@ -129,9 +130,14 @@ pub fn decode_tracks<T: TrackStreams<S>, O: TrackWriter, S, W: Sink, N: Sink>(
     requires few { plan.captures ≤ 16 }
     ensures ok { OnOk result (HasWritten plan (O.part_of writer.now) room.old.format (T.came streams.now plan room.old.format source.old source.new) (W.written image.old) (W.written image.new) (N.written notes.old) (N.written notes.new) room.new (length (tracks room.old.format)) totals.new) }
     ensures err { IfErr result (EndsLoop plan (O.part_of writer.now) room.old.format (T.came streams.now plan room.old.format source.old source.new) (T.ended streams.now plan room.old.format source.old source.new) (W.written image.old) (W.written image.new) (N.written notes.old) (N.written notes.new) room.new totals.new) }
-    ensures blames { CountsBy (plan_blame result)
-        (three_counts (counts_of T.faults T.failed source.old) (counts_of W.faults W.failed image.old) (counts_of N.faults N.failed notes.old))
-        (three_counts (counts_of T.faults T.failed source.new) (counts_of W.faults W.failed image.new) (counts_of N.faults N.failed notes.new)) }
+
+    // What was counted, so that tracks behind the last one can be counted too.
+    ensures few { OnOk result (AreCountsBelow room.new (length (tracks room.old.format))) }
+
+    // What the streams' object did is in what came of it.
+    ensures blames { CountsBy (sink_blame result)
+        (three_counts no_counts (counts_of W.faults W.failed image.old) (counts_of N.faults N.failed notes.old))
+        (three_counts no_counts (counts_of W.faults W.failed image.new) (counts_of N.faults N.failed notes.new)) }
 {
     tracks_keep_bounds();
     sectors_lie_in_images();

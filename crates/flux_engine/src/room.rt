@@ -1,7 +1,8 @@
-ghost use Rattle.std.specs.Prelude.{◌≡◌, ◌+◌, ◌<◌, ◌^◌, [], false, length, IfOk};
+ghost use Rattle.std.specs.Prelude.{◌≡◌, ◌+◌, ◌≤◌, ◌<◌, ◌^◌, [], false, length, IfOk};
+ghost use Rattle.flux_engine.specs.Counts.{lost_in};
 ghost use Rattle.flux_engine.specs.Room.{empty_book};
 
-use crate::gathered_track::{Gathered, PassedStreams};
+use crate::gathered_track::{Gathered, PassedStream, PassedStreams};
 use crate::told_names::{name_count, whole_name_count};
 use cell_bits::Cells;
 use disk_recordings::sectors_of;
@@ -9,6 +10,7 @@ use flux_base::Memory;
 use kryo_stream::{MOST_TIMES, StreamRoom};
 use phase_loop::Loop;
 use sector_images::{Format, track_id, tracks_keep_bounds};
+use sector_report::Passed;
 use std::alloc::Global;
 use std::marker::Model;
 use turn_merge::{Book, Others};
@@ -26,10 +28,11 @@ pub(crate) struct Tools {
 
 /// All that decoding a disk of one format needs, less than 128 MiB: no answer of a call on it is for want of memory.
 ///
-/// Contracts see the format, the bytes that were taken from the source and not used yet, whether a stream was
-/// read, the number of the next track, the track whose readings are gathered, how many of its streams came, what its
-/// book knows, which of them were passed over and what is known of other headers; of all tracks that were read how many streams
-/// were passed over, how many names of others are told and how many of these have whole data; and whether a call answered a fault.
+/// Contracts see the format, the bytes that were taken from the source and not used yet, whether a stream was read,
+/// the number of the next track, the track whose readings are gathered, how many of its streams came, what its book
+/// knows, which of them were passed over and what is known of other headers; of all tracks that were read how many
+/// streams were passed over and how many of these since their files failed, how many names of others are told and how
+/// many of these have whole data; and whether a call answered a fault.
 #[derive(Drop)]
 pub struct DiskRoom {
     pub(crate) format: Format,
@@ -42,6 +45,8 @@ pub struct DiskRoom {
     pub(crate) captures: u32,
     /// The streams that were passed over of all tracks whose captures were read.
     pub(crate) unread: u32,
+    /// Those of them whose files failed.
+    pub(crate) lost: u32,
     /// The names that are told of other headers of these tracks, and one for each track where data follow a name that is not told.
     pub(crate) told_others: u32,
     /// Those of them that have whole data.
@@ -64,6 +69,7 @@ impl Model for DiskRoom {
       book = a.tools.gathered.book;
       passed = a.tools.gathered.passed.items;
       unread = a.unread;
+      lost = a.lost;
       others = a.tools.gathered.others;
       told_others = a.told_others;
       whole_others = a.whole_others;
@@ -91,6 +97,7 @@ impl DiskRoom {
             started: 0,
             captures: 0,
             unread: 0,
+            lost: 0,
             told_others: 0,
             whole_others: 0,
             failed: false,
@@ -113,6 +120,7 @@ impl DiskRoom {
         self.started = 0;
         self.captures = 0;
         self.unread = 0;
+        self.lost = 0;
         self.told_others = 0;
         self.whole_others = 0;
         self.failed = false;
@@ -123,6 +131,13 @@ impl DiskRoom {
         ensures { result ≡ self.now.unread }
     {
         self.unread
+    }
+
+    /// How many of these since their files failed.
+    pub fn lost(&self) -> u32
+        ensures { result ≡ self.now.lost }
+    {
+        self.lost
     }
 
     /// How many names are told of headers that name none of their track's sectors, of all tracks whose captures were read. The names
@@ -143,6 +158,7 @@ impl DiskRoom {
     /// Counts what was gathered of the started track.
     pub(crate) fn count_track(&mut self)
         requires unread { self.old.unread + length self.old.passed < 2 ^ 32 }
+        requires lost { self.old.lost + length self.old.passed < 2 ^ 32 }
         requires told { self.old.told_others + 65 < 2 ^ 32 }
         requires whole { self.old.whole_others + 65 < 2 ^ 32 }
         ensures { self.new ≡ counted self.old }
@@ -150,9 +166,22 @@ impl DiskRoom {
         let names = name_count(&self.tools.gathered.others);
         let with_data = whole_name_count(&self.tools.gathered.others);
         self.unread += self.tools.gathered.passed.len() as u32;
+        self.lost += lost_count(&self.tools.gathered.passed);
         self.told_others += names;
         self.whole_others += with_data;
     }
+}
+
+/// How many of these streams are passed over since their files failed.
+fn lost_count(passed: &[PassedStream]) -> u32
+    requires { length passed.now < 2 ^ 32 }
+    ensures count { result ≡ lost_in passed.now }
+    ensures few { result ≤ length passed.now }
+{
+    passed
+        .iter()
+        .filter(|stream| matches!(stream.why, Passed::Failed))
+        .count() as u32
 }
 
 impl Tools {

@@ -1,9 +1,8 @@
 //! The captures of a track, wherever they come from.
 
 ghost use Rattle.std.specs.Prelude.{◌≡◌, ◌+◌, ◌*◌, ◌≤◌, ◌<◌, List, length, OnOk, false, true};
-ghost use Rattle.flux_base.specs.Blames.{CountsBy, no_counts, three_counts};
-ghost use Rattle.flux_base.specs.Counts.{Counts, counts_of};
-ghost use Rattle.flux_engine.specs.Blamed.{is_unread, plan_blame};
+ghost use Rattle.flux_base.specs.Blames.{no_one};
+ghost use Rattle.flux_engine.specs.Blamed.{sink_blame};
 ghost use Rattle.flux_engine.specs.Captured.{count_of_clocks};
 ghost use Rattle.flux_engine.specs.Counts.{AreCountsBelow, CountsTrack};
 ghost use Rattle.flux_engine.specs.LoopProgress.{AreWhole, GathersTrack, HasNotedNext, IsBoundedNext, TakesNext};
@@ -52,9 +51,7 @@ pub(crate) fn read_captures<T: TrackStreams<S>, S>(
     ensures counts { OnOk result (CountsTrack room.old room.new) }
     ensures few { OnOk result (AreCountsBelow room.new (number + 1)) }
 
-    ensures blames { CountsBy (plan_blame result)
-        (three_counts (counts_of T.faults T.failed source.old) no_counts no_counts)
-        (three_counts (counts_of T.faults T.failed source.new) no_counts no_counts) }
+    ensures blames { sink_blame result ≡ no_one }
 {
     tracks_keep_bounds();
     start_track(room, number);
@@ -103,11 +100,10 @@ fn take_next<T: TrackStreams<S>, S>(
     ensures captures { OnOk result (room.new.captures ≡ room.old.captures + count_of_clocks clocks) }
     ensures passed { OnOk result (length room.new.passed ≤ length room.old.passed + 1) }
     ensures unread { room.new.unread ≡ room.old.unread }
+    ensures lost { room.new.lost ≡ room.old.lost }
     ensures told_others { room.new.told_others ≡ room.old.told_others }
     ensures whole_others { room.new.whole_others ≡ room.old.whole_others }
     ensures sound { OnOk result (room.new.failed ≡ false) }
-
-    ensures counts { Counts (is_unread result) (counts_of T.faults T.failed source.old) (counts_of T.faults T.failed source.new) }
 {
     tracks_keep_bounds();
     let track = track_id(room.format, number);

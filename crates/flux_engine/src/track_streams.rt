@@ -1,11 +1,11 @@
 //! Where the streams of a disk's tracks come from.
 
-ghost use Rattle.std.specs.Prelude.{◌≡◌, ◌+◌, ◌*◌, ◌<◌, ℕ, Bool, false, List, [], length, None, Option, IfOk};
-ghost use Rattle.flux_base.specs.Counts.{Counts, counts_of};
-ghost use Rattle.flux_engine.specs.Blamed.{is_unread};
+ghost use Rattle.std.specs.Prelude.{◌≡◌, ◌+◌, ◌*◌, ◌<◌, ℕ, Bool, false, List, [], length, IfOk};
+ghost use Rattle.flux_base.specs.Counts.{counts_of};
+ghost use Rattle.flux_base.specs.lemmas.Counting.{Counts-none};
 ghost use Rattle.flux_engine.specs.LoopProgress.{GivesNext, IsBoundedNext};
 ghost use Rattle.flux_engine.specs.Plans.{Seen};
-ghost use Rattle.flux_engine.specs.SourceStreams.{HaveCome, HaveEnded};
+ghost use Rattle.flux_engine.specs.SourceStreams.{HaveComeCounted, HaveEndedCounted};
 ghost use Rattle.kryo_stream.specs.declared.fault.CaptureFault.{CaptureFault};
 ghost use Rattle.flux_engine.specs.declared.plan.Plan.{Plan};
 ghost use Rattle.flux_engine.specs.lemmas.Coming.{none_came};
@@ -32,14 +32,9 @@ pub enum NextStream {
 ///
 /// The ghost members are what is known of the object from one moment to another.
 pub trait TrackStreams<S> {
-    /// How often the object has failed.
-    ghost faults: { S → ℕ };
-
-    /// How many calls have failed, where the object tells it.
-    ghost failed: { S → Option ℕ } = { λ _. None };
-
-    /// From one moment to another these streams came, in the order of a plan, of a disk of this format, and none ended the disk.
-    /// The stream room holds these bytes that were taken and not used, and whether a stream was read in it.
+    /// From one moment to another these streams came, in the order of a plan, of a disk of this format, and none
+    /// ended the disk. The stream room holds these bytes that were taken and not used, and whether a stream was read
+    /// in it. How often the object failed in between is said here too.
     ghost came: { Self → Plan → Format → S → S → List ℕ → Bool → List Seen → Type 0 };
 
     /// From one moment to another these streams came, and the next one ended the disk with this fault.
@@ -59,8 +54,7 @@ pub trait TrackStreams<S> {
         ensures next { (plan : Plan) (start : S) (before : List Seen) → capture < plan.captures → length before ≡ number * plan.captures + capture
             → came self.now plan format start source.old stream.old.held stream.old.used before
             → GivesNext (came self.now plan format start source.new stream.new.held stream.new.used) (ended self.now plan format start source.new) before stream.new.flux result }
-        ensures bounded { IfOk result (λ next. IsBoundedNext next stream.new.flux) }
-        ensures counts { Counts (is_unread result) (counts_of faults failed source.old) (counts_of faults failed source.new) };
+        ensures bounded { IfOk result (λ next. IsBoundedNext next stream.new.flux) };
 
     /// At first none came.
     ghost begins: { (streams : Self) (plan : Plan) (format : Format) (now : S) → came streams plan format now now [] false [] };
@@ -72,13 +66,9 @@ pub trait TrackStreams<S> {
 pub struct OneAfterAnother;
 
 impl<S: Source> TrackStreams<S> for OneAfterAnother {
-    ghost faults = { S.faults };
+    ghost came = { λ streams plan format start now held used before. HaveComeCounted plan format (source_at S.left S.given S.faults start) (source_at S.left S.given S.faults now) (counts_of S.faults S.failed start) (counts_of S.faults S.failed now) held used before };
 
-    ghost failed = { S.failed };
-
-    ghost came = { λ streams plan format start now held used before. HaveCome plan format (source_at S.left S.given S.faults start) (source_at S.left S.given S.faults now) held used before };
-
-    ghost ended = { λ streams plan format start now before fault. HaveEnded plan format (source_at S.left S.given S.faults start) (source_at S.left S.given S.faults now) before fault };
+    ghost ended = { λ streams plan format start now before fault. HaveEndedCounted plan format (source_at S.left S.given S.faults start) (source_at S.left S.given S.faults now) (counts_of S.faults S.failed start) (counts_of S.faults S.failed now) before fault };
 
     fn next_stream(
         &self,
@@ -94,5 +84,5 @@ impl<S: Source> TrackStreams<S> for OneAfterAnother {
         }
     }
 
-    ghost begins = { λ streams plan format now. none_came plan format (source_at S.left S.given S.faults now) };
+    ghost begins = { λ streams plan format now. (none_came plan format (source_at S.left S.given S.faults now), Counts-none (counts_of S.faults S.failed now)) };
 }

@@ -1,5 +1,6 @@
 mod decoding;
 mod disturbance;
+mod names;
 mod plans;
 mod streams;
 mod writing;

@@ -1,5 +1,5 @@
 -- Where no other is read of the captures of a track: by the strict rule, or where none stands in their cells.
-use Rattle.std.specs.Prelude.{◌≡◌, ◌<◌, ℕ, zero, suc, ◌+◌, Bool, Contains, List, [], ◌∷◌, ◌++◌, length, map, refl}
+use Rattle.std.specs.Prelude.{◌≡◌, ◌<◌, ℕ, zero, suc, Bool, Contains, List, [], ◌∷◌, ◌++◌, map, refl}
 use Rattle.std.proofs.Common.{ap, sym, subst, ◌∙◌, arith}
 use Rattle.disk_recordings.specs.Members.{as_controllers_read, header_at, named_at}
 use Rattle.flux_base.specs.declared.track.TrackId.{TrackId}

@@ -1,13 +1,11 @@
 -- The endlessly repeated ring, and the cells of it that are written.
-use Rattle.std.specs.Prelude.{◌≡◌, ◌<◌, ◌≤◌, ℕ, zero, suc, ◌+◌, ◌-◌, ◌*◌, Bool, true, false, List, ◌++◌, length, take, drop, filter, get_or, slice_index, refl}
-use Rattle.std.specs.List.{range_with_len}
+use Rattle.std.specs.Prelude.{◌≡◌, ◌<◌, ◌≤◌, ℕ, ◌+◌, ◌-◌, ◌*◌, Bool, false, List, ◌++◌, length, take, drop, get_or, refl}
 use Rattle.std.proofs.Common.{arith, ap, sym, subst, ◌∙◌, inl, inr, length-append, length-drop}
 use Rattle.std.proofs.lemmas.Bool.{cases_lt}
 use Rattle.std.proofs.lemmas.List.{get_or-drop, get_or-take, get_or_append_left, get_or-append_right, length-take-le}
-use Rattle.std.proofs.Math.Nat.{add-mod_right, mod-eq_of_lt}
 use Rattle.flux_writer.specs.Reading.{HasEarlyOne}
 use Rattle.flux_writer.specs.Written.{quarter, track_cells}
-use Rattle.track_rings.specs.Rings.{AreNeighbours, IsSpaced, cell_of}
+use Rattle.track_rings.specs.Rings.{IsSpaced, cell_of}
 use Rattle.track_rings.specs.lemmas.Near.{one_near, own_cell, same_later}
 
 module _ (ring : List Bool) where

@@ -1,4 +1,3 @@
-use Rattle.std.proofs.Common.{rules}
 use Rattle.flux_engine.proofs.AsControllers.{book_too, has_track_too}
 use Rattle.flux_engine.proofs.Noting.{has_noted, has_noted_too}
 use Rattle.flux_engine.proofs.capture.note_readings.Goals as goal

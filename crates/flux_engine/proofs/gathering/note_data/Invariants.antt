@@ -1,4 +1,4 @@
-use Rattle.std.proofs.Common.{length, drop, ◌-◌, ◌+◌}
+use Rattle.std.proofs.Common.{length, drop, ◌-◌}
 use Rattle.flux_engine.specs.Gathering.{IsDataWalk}
 use Rattle.flux_engine.proofs.gathering.note_data.Given as goal
 

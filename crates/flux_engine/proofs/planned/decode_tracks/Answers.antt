@@ -1,9 +1,8 @@
 use Rattle.std.proofs.Common.{◌≡◌, ◌<◌, ◌+◌, ℕ, length, Ok, Err, ap, inl, inr, refl, subst, sym, ◌∙◌, arith}
-use Rattle.flux_base.specs.lemmas.Blaming.{CountsBy-none, CountsBy-sinks, CountsBy-then}
+use Rattle.flux_base.specs.lemmas.Blaming.{CountsBy-none, CountsBy-then}
 use Rattle.sector_images.specs.Places.{tracks}
 use Rattle.sector_images.specs.declared.format.Format.{Format}
 use Rattle.sector_report.specs.declared.totals.Totals.{Totals}
-use Rattle.flux_engine.specs.lemmas.Blamed.{CountsBy-streams}
 use Rattle.flux_engine.specs.LoopProgress.{EndedInTrack, HasGathered}
 use Rattle.flux_engine.specs.Plans.{joined}
 use Rattle.flux_engine.specs.Recordings.{track_at}
@@ -108,14 +107,13 @@ loop-number-preserved g c =
       sum = c.add_totals.ensures.sum;
       few = omega (arith, e.few, sum, i.few);
       counts = c.in-Ok.ensures.few;
-      blames = CountsBy-then _ (CountsBy-then _ i.blames (CountsBy-streams _ _ _ c.in-Ok.ensures.blames)) (CountsBy-sinks _ _ e.blames);
+      blames = CountsBy-then _ i.blames e.blames;
     }
 
 pub returns-in-Err-clause-blames : goal.returns-in-Err-clause-blames
-returns-in-Err-clause-blames g c = CountsBy-then _ c.loop-number.invariant.blames (CountsBy-streams _ _ _ c.in-Err.ensures.blames)
+returns-in-Err-clause-blames g c = rw c.in-Err.ensures.blames c.loop-number.invariant.blames
 
 pub returns-in-Err-write_started-clause-blames : goal.returns-in-Err-write_started-clause-blames
 returns-in-Err-write_started-clause-blames g c =
     rw c.of_part.ensures
-    (CountsBy-then _ (CountsBy-then _ c.loop-number.invariant.blames (CountsBy-streams _ _ _ c.in-Ok.ensures.blames))
-    (sink_blames Totals (Unit {0}) c.in-Err-write_started.fault (CountsBy-sinks _ _ c.in-Err-write_started.ensures.blames)))
+    (CountsBy-then _ c.loop-number.invariant.blames (sink_blames Totals (Unit {0}) c.in-Err-write_started.fault c.in-Err-write_started.ensures.blames))

@@ -1,5 +1,5 @@
 use Rattle.std.proofs.Common.{◌≤◌, ◌*◌}
-use Rattle.flux_base.specs.Blames.{CountsBy, no_one, three_counts}
+use Rattle.flux_base.specs.Blames.{CountsBy, no_counts, no_one, three_counts}
 use Rattle.flux_base.specs.Counts.{counts_of}
 use Rattle.flux_engine.specs.Counts.{AreCountsBelow}
 use Rattle.flux_engine.specs.LoopProgress.{HasWritten}
@@ -15,6 +15,6 @@ invariant-loop-number g l = record {
   sum : IsSum l.totals;
   few : l.totals.sectors ≤ 100 * l.number;
   counts : AreCountsBelow l.room l.number;
-  blames : CountsBy no_one (three_counts (counts_of g.T.TrackStreams.faults g.T.TrackStreams.failed l.initial.source) (counts_of g.W.Sink.faults g.W.Sink.failed l.initial.image) (counts_of g.N.Sink.faults g.N.Sink.failed l.initial.notes))
-      (three_counts (counts_of g.T.TrackStreams.faults g.T.TrackStreams.failed l.source) (counts_of g.W.Sink.faults g.W.Sink.failed l.image) (counts_of g.N.Sink.faults g.N.Sink.failed l.notes));
+  blames : CountsBy no_one (three_counts no_counts (counts_of g.W.Sink.faults g.W.Sink.failed l.initial.image) (counts_of g.N.Sink.faults g.N.Sink.failed l.initial.notes))
+      (three_counts no_counts (counts_of g.W.Sink.faults g.W.Sink.failed l.image) (counts_of g.N.Sink.faults g.N.Sink.failed l.notes));
 }

@@ -1,5 +1,5 @@
 use Rattle.std.proofs.Common.{ap, refl}
-use Rattle.flux_engine.proofs.LoopSteps.{noted_passed, noted_read}
+use Rattle.flux_engine.proofs.PassedStreams.{noted_passed, noted_read}
 use Rattle.flux_engine.proofs.track_captures.note_next.Goals as goal
 
 pub returns-in-Read-clause-noted : goal.returns-in-Read-clause-noted

@@ -1,12 +1,8 @@
-use Rattle.std.proofs.Common.{◌≡◌, ◌<◌, ◌+◌, ◌++◌, ℕ, false, length, ap, refl, subst, sym, ◌∙◌, arith}
+use Rattle.std.proofs.Common.{◌≡◌, ◌<◌, ◌+◌, ◌++◌, ℕ, length, ap, refl, subst, sym, ◌∙◌, arith}
 use Rattle.std.proofs.Math.Nat.{zero-mul}
-use Rattle.flux_base.specs.Blames.{no_counts}
-use Rattle.flux_base.specs.lemmas.Blaming.{CountsBy-source}
-use Rattle.flux_base.specs.lemmas.Counting.{Counts-none, Counts-then}
 use Rattle.sector_images.specs.declared.format.Format.{Format}
 use Rattle.flux_engine.specs.Captured.{count_of_clocks}
 use Rattle.flux_engine.specs.LoopProgress.{HasGathered, HasTakenNext}
-use Rattle.flux_engine.specs.PlanAnswers.{of_stream}
 use Rattle.flux_engine.specs.Recordings.{track_at}
 use Rattle.flux_engine.specs.Room.{RoomState}
 use Rattle.flux_engine.proofs.BlamedSteps.{stream_blames}
@@ -28,10 +24,10 @@ loop-capture-init g c =
       captures = ap (λ (r : RoomState). r.captures) started ∙ sym (zero-mul (count_of_clocks c.args.plan.clocks));
       passed = (let size = ap length none in omega (arith, size));
       unread = refl;
+      lost = refl;
       told_others = refl;
       whole_others = refl;
       sound = ap (λ (r : RoomState). r.failed) started ∙ c.requires.sound;
-      counts = Counts-none _;
     }
 
 pub take_next-requires-clause-few : goal.take_next-requires-clause-few
@@ -65,8 +61,7 @@ returns-in-Err-clause-read g c = λ start before size whole came.
 
 pub returns-in-Err-clause-blames : goal.returns-in-Err-clause-blames
 returns-in-Err-clause-blames g c =
-    rw c.of_stream.ensures
-    (stream_blames (Unit {0}) (Unit {0}) no_counts no_counts c.args.number c.from.result c.in-Err.fault (Counts-then _ c.loop-capture.invariant.counts c.in-Err.ensures.counts))
+    rw c.of_stream.ensures (stream_blames (Unit {0}) c.args.number c.from.result c.in-Err.fault)
 
 pub loop-capture-preserved : goal.loop-capture-preserved
 loop-capture-preserved g c =
@@ -94,10 +89,10 @@ loop-capture-preserved g c =
       captures = e.captures ∙ ap (λ (k : ℕ). k + count_of_clocks plan.clocks) i.captures ∙ one_more_source plan.clocks q;
       passed = omega (arith, e.passed, i.passed);
       unread = e.unread ∙ i.unread;
+      lost = e.lost ∙ i.lost;
       told_others = e.told_others ∙ i.told_others;
       whole_others = e.whole_others ∙ i.whole_others;
       sound = e.sound;
-      counts = Counts-then _ i.counts e.counts;
     }
 
 -- the room before the track was counted has as many as at the begin
@@ -106,6 +101,12 @@ count_track-requires-clause-unread g c =
     let i = c.loop-capture.invariant in
     let first : c.start_track.new.room.unread ≡ c.args.room.now.unread = ap (λ (r : RoomState). r.unread) c.start_track.ensures.started in
     omega (arith, i.unread, i.passed, first, c.requires.counted.unread, c.requires.few, c.requires.track, c.tracks_keep_bounds.ensures.few c.args.room.now.format)
+
+pub count_track-requires-clause-lost : goal.count_track-requires-clause-lost
+count_track-requires-clause-lost g c =
+    let i = c.loop-capture.invariant in
+    let first : c.start_track.new.room.lost ≡ c.args.room.now.lost = ap (λ (r : RoomState). r.lost) c.start_track.ensures.started in
+    omega (arith, i.lost, i.passed, first, c.requires.counted.lost, c.requires.few, c.requires.track, c.tracks_keep_bounds.ensures.few c.args.room.now.format)
 
 pub count_track-requires-clause-told : goal.count_track-requires-clause-told
 count_track-requires-clause-told g c =
@@ -123,6 +124,7 @@ returns-clause-counts g c =
     let started = c.start_track.ensures.started in
     counts_track c.args.room.now c.loop-capture.room c.count_track.new.self
     (i.unread ∙ ap (λ (r : RoomState). r.unread) started)
+    (i.lost ∙ ap (λ (r : RoomState). r.lost) started)
     (i.told_others ∙ ap (λ (r : RoomState). r.told_others) started)
     (i.whole_others ∙ ap (λ (r : RoomState). r.whole_others) started) c.count_track.ensures
 
@@ -132,6 +134,7 @@ returns-clause-few g c =
     let started = c.start_track.ensures.started in
     let counts = counts_track c.args.room.now c.loop-capture.room c.count_track.new.self
     (i.unread ∙ ap (λ (r : RoomState). r.unread) started)
+    (i.lost ∙ ap (λ (r : RoomState). r.lost) started)
     (i.told_others ∙ ap (λ (r : RoomState). r.told_others) started)
     (i.whole_others ∙ ap (λ (r : RoomState). r.whole_others) started) c.count_track.ensures in
     let same = ap (λ (r : RoomState). length r.passed) c.count_track.ensures in
@@ -151,6 +154,3 @@ returns-clause-read g c = λ start before size whole came.
     (subst (λ (q : ℕ). HasGathered plan c.args.room.now.format c.args.number (g.T.TrackStreams.came c.args.streams.now plan c.args.room.now.format start c.loop-capture.source) before room q) all
     (subst (λ (f : Format). HasGathered plan f c.args.number (g.T.TrackStreams.came c.args.streams.now plan f start c.loop-capture.source) before room c.loop-capture.capture)
     (ap (λ (r : RoomState). r.format) started) (i.read start before size whole came')))
-
-pub returns-clause-blames : goal.returns-clause-blames
-returns-clause-blames g c = CountsBy-source no_counts no_counts false c.loop-capture.invariant.counts

@@ -1,5 +1,4 @@
 use Rattle.std.proofs.Common.{◌≡◌, ◌≤◌, ◌*◌, false, length, List}
-use Rattle.flux_base.specs.Counts.{Counts, counts_of}
 use Rattle.flux_engine.specs.Captured.{count_of_clocks}
 use Rattle.flux_engine.specs.LoopProgress.{AreWhole, HasGathered}
 use Rattle.flux_engine.specs.Plans.{Seen}
@@ -15,8 +14,8 @@ invariant-loop-capture g l = record {
   captures : l.room.captures ≡ l.capture * count_of_clocks l.plan.clocks;
   passed : length l.room.passed ≤ l.capture;
   unread : l.room.unread ≡ l.initial.room.unread;
+  lost : l.room.lost ≡ l.initial.room.lost;
   told_others : l.room.told_others ≡ l.initial.room.told_others;
   whole_others : l.room.whole_others ≡ l.initial.room.whole_others;
   sound : l.room.failed ≡ false;
-  counts : Counts false (counts_of g.T.TrackStreams.faults g.T.TrackStreams.failed l.initial.source) (counts_of g.T.TrackStreams.faults g.T.TrackStreams.failed l.source);
 }

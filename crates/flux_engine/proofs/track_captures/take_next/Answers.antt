@@ -7,7 +7,7 @@ use Rattle.flux_engine.specs.Recordings.{track_at}
 use Rattle.flux_engine.specs.Room.{RoomState}
 use Rattle.flux_engine.specs.declared.plan.Plan.{Plan}
 use Rattle.flux_engine.specs.lemmas.TrackAt.{track_is}
-use Rattle.flux_engine.proofs.LoopSteps.{seen-whole}
+use Rattle.flux_engine.proofs.PassedStreams.{seen-whole}
 use Rattle.flux_engine.proofs.track_captures.take_next.Goals as goal
 
 pub returns-clause-taken : goal.returns-clause-taken
@@ -27,6 +27,7 @@ returns-clause-taken g c =
       book = gathered.book;
       passed = gathered.passed.items;
       unread = inside.unread;
+      lost = inside.lost;
       others = gathered.others;
       told_others = inside.told_others;
       whole_others = inside.whole_others;
