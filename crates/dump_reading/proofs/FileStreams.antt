@@ -1,17 +1,16 @@
 -- What reading the stream at a file's begin says of the file.
-use Rattle.std.proofs.Common.{◌≡◌, ◌++◌, ℕ, Bool, true, false, List, [], Option, Some, None, Ok, Err, refl, sym, ap, subst, ◌∙◌}
+use Rattle.std.proofs.Common.{◌≡◌, ◌++◌, ℕ, Bool, false, List, [], Option, Some, None, Ok, Err, refl, sym, ap, subst, ◌∙◌}
 use Rattle.std.specs.Io.KnownBytes.{Consumes, IsAtEnd}
 use Rattle.index_turns.specs.Track.{TrackState}
 use Rattle.kryo_stream.specs.Outcome.{input_of}
-use Rattle.kryo_stream.specs.Stream.{first_fault, times, indexes}
+use Rattle.kryo_stream.specs.Stream.{times}
 use Rattle.kryo_stream.specs.declared.fault.StreamFault.{StreamFault}
 use Rattle.sector_report.specs.declared.dump_lines.Passed.TheVariants.{Refused}
 use Rattle.flux_engine.specs.Answers.{CaptureAnswer, IsOfCaptureAtHand, ReadsStream, SaysOfCapture}
 use Rattle.flux_engine.specs.LoopProgress.{seen_next}
-use Rattle.flux_engine.specs.Plans.{Seen}
 use Rattle.kryo_stream.specs.declared.fault.CaptureFault.TheVariants.{Refused as RefusedCapture}
 use Rattle.flux_engine.specs.declared.track_streams.NextStream.TheVariants.{Read, PassedOver}
-use Rattle.dump_reading.specs.DumpStreams.{passed_over, seen_file, seen_unless}
+use Rattle.dump_reading.specs.DumpStreams.{seen_file, seen_unless}
 
 module _ (bytes : List ℕ) (left : Option (List ℕ)) (told : left ≡ Some bytes) (left' : Option (List ℕ)) (used : Bool) (fresh : used ≡ false) (held : List ℕ) (nothing : held ≡ [])
     (held' : List ℕ) (flux : TrackState) where

@@ -1,5 +1,5 @@
 -- Which dumps have files, one after another.
-use Rattle.std.proofs.Common.{◌≡◌, ◌<◌, ◌≤◌, ◌+◌, ◌||◌, ◌⊎◌, inl, inr, ℕ, Bool, true, false, List, [], length, take, get_or, Some, arith, sym, ap, subst, ◌∙◌}
+use Rattle.std.proofs.Common.{◌≡◌, ◌<◌, ◌≤◌, ◌+◌, ◌||◌, ◌⊎◌, inl, inr, ℕ, true, false, List, length, take, get_or, Some, arith, sym, ap, ◌∙◌}
 use Rattle.std.specs.List.{list_any, slice_get}
 use Rattle.std.proofs.lemmas.Bool.{cases_lt}
 use Rattle.std.proofs.lemmas.List.{take_all}
@@ -10,7 +10,7 @@ use Rattle.sector_images.specs.Places.{tracks}
 use Rattle.sector_images.specs.declared.format.Format.{Format}
 use Rattle.track_shelf.specs.Files.{File}
 use Rattle.track_shelf.specs.declared.stepping.Stepping.{Stepping}
-use Rattle.dump_reading.specs.Outcomes.{DumpDisk, IsFirstEmpty, has_any, has_file, has_files}
+use Rattle.dump_reading.specs.Outcomes.{DumpDisk, has_any, has_file, has_files}
 
 module _ (stepping : Stepping) (files : List File) (format : Format) (dump : List ℕ) (number : ℕ) where
   module _ (track : TrackId) (at : slice_get (tracks format) number ≡ Some track) where

@@ -1,107 +1,118 @@
--- The streams of dumps, one after another.
-use Rattle.std.proofs.Common.{◌≡◌, ◌<◌, ◌≤◌, ◌+◌, ◌*◌, ◌/◌, ◌%◌, ◌⊎◌, inl, inr, ℕ, zero, suc, List, [], ◌∷◌, ◌++◌, length, length-append, get_or, arith, Option, Some, None, Ok, Err, refl, sym, ap, subst, ◌∙◌, append-nil}
-use Rattle.std.specs.Prelude.{Result, IfErr, IfOk, unwrap_or}
+-- What the file of a dump says of its track's stream, and what the shelf then tells.
+use Rattle.std.proofs.Common.{◌≡◌, ◌<◌, ◌≤◌, ℕ, zero, suc, Bool, true, false, cond, List, [], ◌∷◌, length, get_or, arith, Option, Some, None, Ok, option_map, refl, sym, ap, subst, ◌∙◌}
 use Rattle.std.specs.List.{slice_get}
-use Rattle.std.proofs.lemmas.Nat.{div-mul-add, mod-mul-add}
-use Rattle.std.proofs.lemmas.Bool.{cases_lt}
-use Rattle.std.proofs.lemmas.List.{get_or_append_left}
-use Rattle.std.proofs.lemmas.Option.{slice_get-get_or}
+use Rattle.std.specs.Prelude.{unwrap_or}
+use Rattle.std.proofs.lemmas.Option.{get_or_from_slice_get, slice_get-get_or}
+use Rattle.flux_base.specs.Counts.{Counts, FaultCounts}
+use Rattle.flux_base.specs.lemmas.Counting.{Counts-none}
 use Rattle.flux_base.specs.declared.track.TrackId.{TrackId}
+use Rattle.flux_base.specs.Outside.{one_more}
 use Rattle.index_turns.specs.Track.{TrackState}
+use Rattle.track_shelf.specs.Files.{File, Opens, file_at, none_yet}
+use Rattle.track_shelf.specs.Names.{path_text}
+use Rattle.track_shelf.specs.Stepping.{file_track}
+use Rattle.track_shelf.specs.Told.{with_failed}
+use Rattle.track_shelf.specs.declared.stepping.Stepping.{Stepping}
+use Rattle.track_shelf.specs.Handled.{CountsToo, Handled, handled_close, has_failed}
 use Rattle.sector_images.specs.Places.{tracks}
 use Rattle.sector_images.specs.declared.format.Format.{Format}
 use Rattle.sector_report.specs.declared.dump_lines.Passed.TheVariants.{Absent}
-use Rattle.track_shelf.specs.Files.{File, Opens, file_at}
-use Rattle.track_shelf.specs.Names.{path_text}
-use Rattle.track_shelf.specs.Stepping.{file_track}
-use Rattle.track_shelf.specs.Told.{ShelfTold}
-use Rattle.track_shelf.specs.declared.stepping.Stepping.{Stepping}
-use Rattle.flux_engine.specs.LoopProgress.{GivesNext, seen_at, seen_next}
-use Rattle.flux_engine.specs.Plans.{Seen}
+use Rattle.flux_engine.specs.LoopProgress.{seen_next}
+use Rattle.flux_engine.specs.Plans.{Seen, is_failed}
 use Rattle.flux_engine.specs.Recordings.{track_at}
-use Rattle.kryo_stream.specs.declared.fault.CaptureFault.{CaptureFault}
-use Rattle.kryo_stream.specs.declared.fault.CaptureFault.TheVariants.{ReadFault}
-use Rattle.flux_engine.specs.declared.plan.Plan.{Plan}
 use Rattle.flux_engine.specs.declared.track_streams.NextStream.{NextStream}
-use Rattle.dump_reading.specs.DumpStreams.{HaveComeOf, dump_streams, passed_over, seen_file, seen_in, seen_of}
-
-abbrev none-seen : Seen
-none-seen = record { fault = None; passed = None; times = []; indexes = [] }
-
-get-last : {X : Type 0} (xs : List X) (x d : X) → get_or (xs ++ x ∷ []) (length xs) d ≡ x
-get-last [] x d = refl
-get-last (y ∷ ys) x d = get-last ys x d
-
-module _ (stepping : Stepping) (dumps : List (List ℕ)) (plan : Plan) (format : Format) (start now : ShelfTold) (before : List Seen) where
-  -- one stream more came
-  pub came-next : (number capture : ℕ) → capture < plan.captures → length before ≡ number * plan.captures + capture
-      → HaveComeOf stepping dumps plan format start now before → (next_told : ShelfTold) → next_told ≡ now → (here : Seen)
-      → ((files : List File) → start.files ≡ Some files → here ≡ dump_streams stepping dumps files format number capture)
-      → HaveComeOf stepping dumps plan format start next_told (before ++ here ∷ [])
-  came-next number capture low size came next_told kept here is = record {
-    kept = kept ∙ came.kept;
-    are = λ files known n q few below. by files known n q few below (cases_lt (n * plan.captures + q) (length before));
-  }
-    where
-      by : (files : List File) → start.files ≡ Some files → (n q : ℕ) → q < plan.captures → n * plan.captures + q < length (before ++ here ∷ [])
-          → (n * plan.captures + q < length before) ⊎ (length before ≤ n * plan.captures + q)
-          → seen_at (before ++ here ∷ []) (n * plan.captures + q) ≡ dump_streams stepping dumps files format n q
-      by files known n q few below (inl less) =
-          get_or_append_left before (here ∷ []) none-seen (n * plan.captures + q) less ∙ came.are files known n q few less
-      by files known n q few below (inr more) =
-          let long : length (before ++ here ∷ []) ≡ length before + 1 = length-append before (here ∷ []) in
-          let place : n * plan.captures + q ≡ length before = omega (arith, below, more, long) in
-          let same : n * plan.captures + q ≡ number * plan.captures + capture = place ∙ size in
-          let track : n ≡ number = sym (div-mul-add n plan.captures q few) ∙ ap (λ (i : ℕ). i / plan.captures) same ∙ div-mul-add number plan.captures capture low in
-          let dump : q ≡ capture = sym (mod-mul-add n plan.captures q few) ∙ ap (λ (i : ℕ). i % plan.captures) same ∙ mod-mul-add number plan.captures capture low in
-          ap (seen_at (before ++ here ∷ [])) place ∙ get-last before here none-seen ∙ is files known
-          ∙ ap (λ (m : ℕ). dump_streams stepping dumps files format m capture) (sym track) ∙ ap (dump_streams stepping dumps files format n) (sym dump)
-
-  -- what the shelf tells stayed
-  pub came-still : HaveComeOf stepping dumps plan format start now before → (next_told : ShelfTold) → next_told ≡ now
-      → HaveComeOf stepping dumps plan format start next_told before
-  came-still came next_told kept = record { kept = kept ∙ came.kept; are = came.are }
-
-  -- one more came, or the next one ended the disk
-  pub gives-next : (number capture : ℕ) → capture < plan.captures → length before ≡ number * plan.captures + capture
-      → HaveComeOf stepping dumps plan format start now before → (next_told : ShelfTold) → next_told ≡ now → (flux : TrackState) (answer : Result NextStream CaptureFault)
-      → ((files : List File) → now.files ≡ Some files → IfOk answer (λ next. seen_next next flux ≡ dump_streams stepping dumps files format number capture))
-      → IfErr answer (λ fault. fault ≡ ReadFault)
-      → GivesNext (λ streams. HaveComeOf stepping dumps plan format start next_told streams) (λ streams fault. (fault ≡ ReadFault) × HaveComeOf stepping dumps plan format start next_told streams)
-      before flux answer
-  gives-next number capture low size came next_told kept flux (Ok next) seen failed =
-      came-next number capture low size came next_told kept (seen_next next flux) (λ files known. seen files (ap (λ (t : ShelfTold). t.files) came.kept ∙ known))
-  gives-next number capture low size came next_told kept flux (Err fault) seen failed = (failed, came-still came next_told kept)
-
--- what a dump says of a track of the format
-pub dump-says : (stepping : Stepping) (dumps : List (List ℕ)) (files : List File) (format : Format) (number capture : ℕ) (dump : List ℕ) (track : TrackId)
-    → slice_get dumps capture ≡ Some dump → slice_get (tracks format) number ≡ Some track
-    → seen_of (file_at files (path_text dump (file_track stepping track))) ≡ dump_streams stepping dumps files format number capture
-dump-says stepping dumps files format number capture dump track here at =
-    sym (ap (λ (o : Option (List ℕ)). seen_in stepping files o (track_at format number)) here
-    ∙ ap (λ (t : Option TrackId). seen_of (file_at files (path_text dump (file_track stepping (unwrap_or t (record { cylinder = 0; head = 0 })))))) at)
-
--- there is no such dump
-pub none-says : (stepping : Stepping) (dumps : List (List ℕ)) (files : List File) (format : Format) (number capture : ℕ) → slice_get dumps capture ≡ None
-    → passed_over Absent ≡ dump_streams stepping dumps files format number capture
-none-says stepping dumps files format number capture gone = sym (ap (λ (o : Option (List ℕ)). seen_in stepping files o (track_at format number)) gone)
+use Rattle.flux_engine.specs.declared.track_streams.NextStream.TheVariants.{PassedOver, Read}
+use Rattle.dump_reading.specs.DumpStreams.{GaveOf, IsOrFailed, is_lost, lost_path, passed_over, path_in, seen_file, seen_of}
+use Rattle.dump_reading.specs.Files.{IsFresh, ShelfNow}
+use Rattle.dump_reading.specs.lemmas.Coming.{none-failed}
 
 -- what an open file says
 pub opened-seen : {F : Type 0} (left : F → Option (List ℕ)) (told : Option (List File)) (path : List ℕ) (opened : F) → Opens left told path (Ok (Some opened))
-    → (answer : Result NextStream CaptureFault) (flux : TrackState)
-    → ((bytes : List ℕ) → left opened ≡ Some bytes → IfOk answer (λ next. seen_next next flux ≡ seen_file bytes))
-    → (files : List File) → told ≡ Some files → IfOk answer (λ next. seen_next next flux ≡ seen_of (file_at files path))
-opened-seen left None path opened opens answer flux seen files is = absurd (none-some files is)
+    → (here : Seen) → ((bytes : List ℕ) → left opened ≡ Some bytes → IsOrFailed here (seen_file bytes))
+    → (files : List File) → told ≡ Some files → IsOrFailed here (seen_of (file_at files path))
+opened-seen left None path opened opens here seen files is = absurd (none-some files is)
   where
     none-some : (fs : List File) → None ≡ Some fs → ⊥
     none-some fs same = cc
-opened-seen left (Some files') path opened opens answer flux seen files is =
+opened-seen left (Some files') path opened opens here seen files is =
     let same : files' ≡ files = some-same files' files is in
     let at : file_at files path ≡ Some opens.0 = ap (λ (fs : List File). file_at fs path) (sym same) ∙ opens.1 in
-    subst (λ (o : Option File). IfOk answer (λ next. seen_next next flux ≡ seen_of o)) (sym at) (seen opens.0.bytes opens.2)
+    subst (λ (o : Option File). IsOrFailed here (seen_of o)) (sym at) (seen opens.0.bytes opens.2)
   where
     some-same : (a b : List File) → Some a ≡ Some b → a ≡ b
     some-same a b same = cc
+
+-- there is no such file
+pub absent-seen : {F : Type 0} (left : F → Option (List ℕ)) (told : Option (List File)) (path : List ℕ) → Opens left told path (Ok None)
+    → (files : List File) → told ≡ Some files → file_at files path ≡ None
+absent-seen left None path opens files is = absurd (none-some files is)
+  where
+    none-some : (fs : List File) → None ≡ Some fs → ⊥
+    none-some fs same = cc
+absent-seen left (Some files') path opens files is = ap (λ (fs : List File). file_at fs path) (sym (some-same files' files is)) ∙ opens
+  where
+    some-same : (a b : List File) → Some a ≡ Some b → a ≡ b
+    some-same a b same = cc
+
+-- of a file that was read, by its own count, a call failed or none
+failed-one : (count : ℕ) → has_failed (one_more (Some 0)) ≡ true
+failed-one count = refl
+
+closed-by : (fails : Bool) (file' : Option ℕ) (handled : Option Handled) (shelf : Option ℕ) → CountsToo handled shelf → file' ≡ cond fails (one_more (none_yet shelf)) (none_yet shelf)
+    → option_map (handled_close (has_failed file')) handled ≡ option_map (handled_close fails) handled
+closed-by fails file' None shelf counts is = refl
+closed-by fails file' (Some handled) None counts is = absurd counts
+closed-by true file' (Some handled) (Some count) counts is = ap (λ (f : Option ℕ). option_map (handled_close (has_failed f)) (Some handled)) is
+closed-by false file' (Some handled) (Some count) counts is = ap (λ (f : Option ℕ). option_map (handled_close (has_failed f)) (Some handled)) is
+
+-- the file was fresh, and what it counted is what it failed
+pub closed-told : (fails : Bool) (handled : Option Handled) {file file' shelf : FaultCounts} → CountsToo handled shelf.failed → IsFresh file shelf → Counts fails file file'
+    → option_map (handled_close (has_failed file'.failed)) handled ≡ option_map (handled_close fails) handled
+closed-told true handled {file} {file'} {shelf} counts fresh read =
+    closed-by true file'.failed handled shelf.failed counts (read.counted ∙ ap one_more fresh.none_failed)
+closed-told false handled {file} {file'} {shelf} counts fresh read =
+    closed-by false file'.failed handled shelf.failed counts (read.counted ∙ fresh.none_failed)
+
+-- One file of a dump was read, or there is no such dump.
+module _ (stepping : Stepping) (dumps : List (List ℕ)) (track : TrackId) (dump : ℕ) (start now : ShelfNow) where
+  pub read-gave : (next : NextStream) (flux : TrackState) → (name : List ℕ) → slice_get dumps dump ≡ Some name
+      → ((files : List File) → start.told.files ≡ Some files → IsOrFailed (seen_next next flux) (seen_of (file_at files (path_text name (file_track stepping track)))))
+      → now.told ≡ with_failed (lost_path (path_text name (file_track stepping track)) next) start.told
+      → Counts (is_lost next) start.counts now.counts
+      → GaveOf stepping dumps track dump start now (seen_next next flux)
+  read-gave next flux name at seen told counts = by next seen told counts
+    where
+      named : name ≡ get_or dumps dump []
+      named = sym (get_or_from_slice_get dumps dump name [] at)
+
+      path : path_text name (file_track stepping track) ≡ path_in stepping dumps track dump
+      path = ap (λ (n : List ℕ). path_text n (file_track stepping track)) named
+
+      says : (here : Seen) → ((files : List File) → start.told.files ≡ Some files → IsOrFailed here (seen_of (file_at files (path_text name (file_track stepping track)))))
+          → (files : List File) → start.told.files ≡ Some files → dump < length dumps → IsOrFailed here (seen_of (file_at files (path_in stepping dumps track dump)))
+      says here before files is few = subst (λ (p : List ℕ). IsOrFailed here (seen_of (file_at files p))) path (before files is)
+
+      by : (n : NextStream) → ((files : List File) → start.told.files ≡ Some files → IsOrFailed (seen_next n flux) (seen_of (file_at files (path_text name (file_track stepping track)))))
+          → now.told ≡ with_failed (lost_path (path_text name (file_track stepping track)) n) start.told → Counts (is_lost n) start.counts now.counts
+          → GaveOf stepping dumps track dump start now (seen_next n flux)
+      by Read seen' told' counts' = record { told = told'; counts = counts'; is = says _ seen' }
+      by (PassedOver why) seen' told' counts' = record {
+        told = told' ∙ ap (λ (p : List ℕ). with_failed (cond (is_failed (Some why)) (p ∷ []) []) start.told) path;
+        counts = counts';
+        is = says _ seen';
+      }
+
+  pub none-gave : slice_get dumps dump ≡ None → now ≡ start → GaveOf stepping dumps track dump start now (passed_over Absent)
+  none-gave gone same = record {
+    told = ap (λ (s : ShelfNow). s.told) same ∙ none-failed start.told;
+    counts = subst (λ (s : ShelfNow). Counts false start.counts s.counts) (sym same) (Counts-none start.counts);
+    is = λ files is few. absurd (gone-past dumps dump few gone);
+  }
+    where
+      gone-past : {X : Type 0} (xs : List X) (i : ℕ) → i < length xs → slice_get xs i ≡ None → ⊥
+      gone-past [] i low same = absurd (omega (arith, low))
+      gone-past (x ∷ xs) zero low same = cc
+      gone-past (x ∷ xs) (suc i) low same = gone-past xs i (omega (arith, low)) same
 
 -- the item of this number, and that there is none
 pub item-some : {X : Type 0} (xs : List X) (i j : ℕ) (x : X) → i ≡ j → i < length xs → x ≡ get_or xs i x → slice_get xs j ≡ Some x
@@ -112,6 +123,6 @@ item-none [] j past = refl
 item-none (x ∷ xs) zero past = absurd (omega (arith, past))
 item-none (x ∷ xs) (suc j) past = item-none xs j (omega (arith, past))
 
-pub says-same : (answer : Result NextStream CaptureFault) (flux : TrackState) (one other : Seen) → one ≡ other
-    → IfOk answer (λ next. seen_next next flux ≡ one) → IfOk answer (λ next. seen_next next flux ≡ other)
-says-same answer flux one other same says = subst (λ (s : Seen). IfOk answer (λ next. seen_next next flux ≡ s)) same says
+-- the format's track of this number
+pub track-is : (format : Format) (number : ℕ) (track : TrackId) → slice_get (tracks format) number ≡ Some track → track_at format number ≡ track
+track-is format number track at = ap (λ (t : Option TrackId). unwrap_or t (record { cylinder = 0; head = 0 })) at

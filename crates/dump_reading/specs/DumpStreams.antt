@@ -1,22 +1,24 @@
--- What the files of dumps say of a disk's tracks.
-use Rattle.std.specs.Prelude.{◌≡◌, ◌<◌, ℕ, ◌+◌, ◌*◌, List, [], length, Option, Some, None, refl}
-use Rattle.std.specs.List.{slice_get}
-use Rattle.std.proofs.Common.{arith}
+-- What came of the files of dumps: what each of them says, or that it failed.
+use Rattle.std.specs.Prelude.{◌≡◌, ◌<◌, ◌⊎◌, ℕ, ◌+◌, ◌*◌, ◌/◌, ◌%◌, Bool, false, cond, flat_map, get_or, List, [], ◌∷◌, length, Option, Some, None}
+use Rattle.std.specs.List.{range_with_len}
+use Rattle.flux_base.specs.Counts.{Counts}
 use Rattle.flux_base.specs.declared.track.TrackId.{TrackId}
 use Rattle.kryo_stream.specs.Stream.{first_fault, times, indexes}
 use Rattle.kryo_stream.specs.declared.fault.StreamFault.{StreamFault}
-use Rattle.sector_images.specs.declared.format.Format.{Format}
 use Rattle.sector_report.specs.declared.dump_lines.Passed.{Passed}
-use Rattle.sector_report.specs.declared.dump_lines.Passed.TheVariants.{Absent, Refused}
+use Rattle.sector_report.specs.declared.dump_lines.Passed.TheVariants.{Absent, Failed, Refused}
+use Rattle.sector_images.specs.declared.format.Format.{Format}
 use Rattle.track_shelf.specs.Files.{File, file_at}
 use Rattle.track_shelf.specs.Names.{path_text}
 use Rattle.track_shelf.specs.Stepping.{file_track}
-use Rattle.track_shelf.specs.Told.{ShelfTold}
+use Rattle.track_shelf.specs.Told.{with_failed}
 use Rattle.track_shelf.specs.declared.stepping.Stepping.{Stepping}
-use Rattle.flux_engine.specs.LoopProgress.{seen_at}
-use Rattle.flux_engine.specs.Plans.{Seen, Streams}
+use Rattle.flux_engine.specs.LoopProgress.{lost_count, seen_at}
+use Rattle.flux_engine.specs.Plans.{Seen, is_failed}
 use Rattle.flux_engine.specs.Recordings.{track_at}
-use Rattle.flux_engine.specs.declared.plan.Plan.{Plan}
+use Rattle.flux_engine.specs.declared.track_streams.NextStream.{NextStream}
+use Rattle.flux_engine.specs.declared.track_streams.NextStream.TheVariants.{PassedOver, Read}
+use Rattle.dump_reading.specs.Files.{CountsMany, ShelfNow}
 
 -- a stream that is passed over
 abbrev pub passed_over : Passed → Seen
@@ -35,27 +37,64 @@ abbrev pub seen_of : Option File → Seen
 seen_of None = passed_over Absent
 seen_of (Some file) = seen_file file.bytes
 
--- what a dump says of a track, if there is such a dump
-abbrev pub seen_in : Stepping → List File → Option (List ℕ) → TrackId → Seen
-seen_in stepping files None track = passed_over Absent
-seen_in stepping files (Some dump) track = seen_of (file_at files (path_text dump (file_track stepping track)))
+-- what came of a file is what it says; or it failed as it was opened or read, and is passed over
+abbrev pub IsOrFailed : (came says : Seen) → Type 0
+IsOrFailed came says = (came ≡ says) ⊎ (came ≡ passed_over Failed)
 
--- the streams of a disk in its dumps: of each track that of the first dump, and of the next one
-abbrev pub dump_streams : Stepping → (dumps : List (List ℕ)) → List File → Format → Streams
-dump_streams stepping dumps files format n q = seen_in stepping files (slice_get dumps q) (track_at format n)
+-- the same files failed
+abbrev pub FailedAlike : (a b : List Seen) → Type 0
+FailedAlike a b = (i : ℕ) → is_failed (seen_at a i).passed ≡ is_failed (seen_at b i).passed
 
--- these streams came of the dumps, where the files are told: the captures of the first track, and then those of the next
-abbrev pub AreOfDumps : Stepping → (dumps : List (List ℕ)) → Plan → Format → (told : Option (List File)) → List Seen → Type 0
-AreOfDumps stepping dumps plan format told came =
-    (files : List File) → told ≡ Some files → (n q : ℕ) → q < plan.captures → n * plan.captures + q < length came
-    → seen_at came (n * plan.captures + q) ≡ dump_streams stepping dumps files format n q
+-- the path of the file of a track in the dump of this number
+abbrev pub path_in : Stepping → (dumps : List (List ℕ)) → TrackId → (dump : ℕ) → List ℕ
+path_in stepping dumps track dump = path_text (get_or dumps dump []) (file_track stepping track)
 
--- they came, and what the shelf tells stayed as it was: its files, and its own bytes as a source, of which none was read
-pub record HaveComeOf (stepping : Stepping) (dumps : List (List ℕ)) (plan : Plan) (format : Format) (start now : ShelfTold) (came : List Seen) : Type 0 where
-  pub kept : now ≡ start
-  pub are : AreOfDumps stepping dumps plan format start.files came
+-- Some tracks of dumps, by their numbers: how the drive stepped, the dumps, how many streams each track has, and which tracks they are.
+pub record DumpTracks : Type 0 where
+  pub stepping : Stepping
+  pub dumps : List (List ℕ)
+  pub count : ℕ
+  pub track_of : ℕ → TrackId
 
--- at first none came
-pub none_came : (stepping : Stepping) (dumps : List (List ℕ)) (plan : Plan) (format : Format) (start : ShelfTold)
-    → HaveComeOf stepping dumps plan format start start []
-none_came stepping dumps plan format start = record { kept = refl; are = λ files is n q low below. absurd (omega (arith, below)) }
+-- those of a format
+abbrev pub of_disk : Stepping → (dumps : List (List ℕ)) → (count : ℕ) → Format → DumpTracks
+of_disk stepping dumps count format = record { stepping = stepping; dumps = dumps; count = count; track_of = track_at format }
+
+-- the path of the file of stream number i, where the streams of each track follow one another
+abbrev pub path_at : DumpTracks → (i : ℕ) → List ℕ
+path_at of i = path_in of.stepping of.dumps (of.track_of (i / of.count)) (i % of.count)
+
+-- the paths of the files that failed, in the order in which they were read
+abbrev pub failed_path : DumpTracks → List Seen → (i : ℕ) → List (List ℕ)
+failed_path of came i = cond (is_failed (seen_at came i).passed) (path_at of i ∷ []) []
+
+abbrev pub failed_paths : DumpTracks → List Seen → List (List ℕ)
+failed_paths of came = flat_map (failed_path of came) (range_with_len 0 (length came))
+
+-- these streams came of the files, where they are told
+abbrev pub AreOfDumps : DumpTracks → (told : Option (List File)) → List Seen → Type 0
+AreOfDumps of told came =
+    (files : List File) → told ≡ Some files → (n dump : ℕ) → dump < length of.dumps → dump < of.count → n * of.count + dump < length came
+    → IsOrFailed (seen_at came (n * of.count + dump)) (seen_of (file_at files (path_in of.stepping of.dumps (of.track_of n) dump)))
+
+-- They came. What the shelf tells of itself stayed as it was, but that these files failed: its files, of which none is open that was not, and
+-- its own bytes as a source, of which none was read. As many calls failed as files did.
+pub record HaveComeOf (of : DumpTracks) (start now : ShelfNow) (came : List Seen) : Type 0 where
+  pub told : now.told ≡ with_failed (failed_paths of came) start.told
+  pub counts : CountsMany (lost_count came) start.counts now.counts
+  pub are : AreOfDumps of start.told.files came
+
+-- a stream is passed over since its file failed
+abbrev pub is_lost : NextStream → Bool
+is_lost Read = false
+is_lost (PassedOver why) = is_failed (Some why)
+
+-- the path of the file of such a stream
+abbrev pub lost_path : (path : List ℕ) → NextStream → List (List ℕ)
+lost_path path next = cond (is_lost next) (path ∷ []) []
+
+-- One file of a track was read between two moments of the shelf.
+pub record GaveOf (stepping : Stepping) (dumps : List (List ℕ)) (track : TrackId) (dump : ℕ) (start now : ShelfNow) (here : Seen) : Type 0 where
+  pub told : now.told ≡ with_failed (cond (is_failed here.passed) (path_in stepping dumps track dump ∷ []) []) start.told
+  pub counts : Counts (is_failed here.passed) start.counts now.counts
+  pub is : (files : List File) → start.told.files ≡ Some files → dump < length dumps → IsOrFailed here (seen_of (file_at files (path_in stepping dumps track dump)))

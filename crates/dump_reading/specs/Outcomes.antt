@@ -1,5 +1,5 @@
 -- What reading a disk of its dumps may answer, and what that says of the dumps and of the bytes that were written.
-use Rattle.std.specs.Prelude.{◌≡◌, ◌<◌, ◌≤◌, ◌⊎◌, ℕ, ◌*◌, Bool, true, false, List, [], ◌∷◌, ◌++◌, get_or, length, Option, Some, None, Result, Ok, Err}
+use Rattle.std.specs.Prelude.{◌≡◌, ◌<◌, ◌⊎◌, ℕ, ◌*◌, Bool, true, false, List, [], ◌∷◌, ◌++◌, get_or, length, Option, Some, None, Result, Ok, Err}
 use Rattle.std.specs.Io.KnownBytes.{Appends}
 use Rattle.std.specs.List.{list_any}
 use Rattle.std.specs.Option.{is_some}
@@ -10,22 +10,24 @@ use Rattle.turn_merge.specs.Others.{NotedOther}
 use Rattle.track_shelf.specs.Files.{File, file_at}
 use Rattle.track_shelf.specs.Names.{path_text}
 use Rattle.track_shelf.specs.Stepping.{file_track}
+use Rattle.track_shelf.specs.Told.{with_failed}
 use Rattle.track_shelf.specs.declared.stepping.Stepping.{Stepping}
 use Rattle.flux_engine.specs.Answers.{AppendsAndPart}
 use Rattle.flux_engine.specs.Counts.{AreOthersOver, told_count, whole_count}
 use Rattle.flux_engine.specs.Disks.{images, lines, totals_over}
-use Rattle.flux_engine.specs.LoopProgress.{passed_count, streams_over}
+use Rattle.flux_engine.specs.LoopProgress.{lost_count, passed_count, streams_over}
 use Rattle.flux_engine.specs.Plans.{ArePlannedParts, PartOf, Seen}
 use Rattle.flux_engine.specs.Tracks.{TrackPart}
 use Rattle.flux_engine.specs.declared.plan.Clocks.{Clocks}
 use Rattle.flux_engine.specs.declared.plan.Clocks.TheVariants.{Both}
 use Rattle.flux_engine.specs.declared.plan.Plan.{Plan}
-use Rattle.dump_reading.specs.DumpStreams.{AreOfDumps}
+use Rattle.dump_reading.specs.DumpStreams.{AreOfDumps, failed_paths, of_disk}
+use Rattle.dump_reading.specs.Files.{CountsMany, ShelfNow}
 use Rattle.dump_reading.specs.Reports.{end_text, plan_by, read_part}
 use Rattle.dump_reading.specs.declared.dumps.Dumps.{Dumps}
 use Rattle.dump_reading.specs.declared.fault.DumpsFault.{DumpsFault}
 use Rattle.dump_reading.specs.declared.totals.DumpTotals.{DumpTotals}
-use Rattle.dump_reading.specs.declared.fault.DumpsFault.TheVariants.{NoFiles, ShelfFault, ImageFault, NotesFault}
+use Rattle.dump_reading.specs.declared.fault.DumpsFault.TheVariants.{NoFiles, ImageFault, NotesFault}
 
 -- a dump has the file of a track
 abbrev pub has_file : Stepping → List File → (dump : List ℕ) → TrackId → Bool
@@ -74,27 +76,25 @@ pub record DumpsRead : Type 0 where
 -- The first streams of the dumps, in order, and what becomes of the tracks of which these are all the streams: so many tracks.
 pub record AreTracksBy (of : PartOf) (disk : DumpDisk) (told : Option (List File)) (streams : List Seen) (parts : List TrackPart) : Type 0 where
   pub all : length streams ≡ length parts * length disk.dumps
-  pub are : AreOfDumps disk.stepping disk.dumps (plan_of disk) disk.format told streams
+  pub are : AreOfDumps (of_disk disk.stepping disk.dumps (length disk.dumps) disk.format) told streams
   pub each : ArePlannedParts (plan_of disk) of disk.format (streams_over (plan_of disk) streams) parts
 
--- the same of the report
-abbrev pub AreReadTracks : DumpDisk → Option (List File) → List Seen → List TrackPart → Type 0
-AreReadTracks disk told streams parts = AreTracksBy read_part disk told streams parts
-
--- The streams of the dumps, in order, what becomes of all tracks, and the other headers of each track.
+-- The streams of the dumps, in order, what becomes of all tracks of the format, and the other headers of each.
 pub record AreAllBy (of : PartOf) (disk : DumpDisk) (told : Option (List File)) (streams : List Seen) (parts : List TrackPart) (others : List (List NotedOther)) : Type 0 where
   pub many : length parts ≡ length (tracks disk.format)
   pub read : AreTracksBy of disk told streams parts
   pub many_others : length others ≡ length (tracks disk.format)
   pub others_are : AreOthersOver (plan_of disk) disk.format (streams_over (plan_of disk) streams) others
 
-abbrev pub AreAllTracks : DumpDisk → Option (List File) → List Seen → List TrackPart → List (List NotedOther) → Type 0
-AreAllTracks disk told streams parts others = AreAllBy read_part disk told streams parts others
-
 -- the numbers that these come to
-abbrev pub numbers_of : List Seen → List TrackPart → List (List NotedOther) → DumpTotals
-numbers_of streams parts others =
-    record { sectors = totals_over parts; unread = passed_count streams; others = told_count others; whole = whole_count others }
+abbrev pub numbers_of : (streams : List Seen) → List TrackPart → (others : List (List NotedOther)) → DumpTotals
+numbers_of streams parts others = record {
+  sectors = totals_over parts;
+  unread = passed_count streams;
+  lost = lost_count streams;
+  others = told_count others;
+  whole = whole_count others;
+}
 
 -- What the dumps come to, by the files that are told: what becomes of each track, and how that of all tracks makes up the bytes of both sinks.
 pub record IsReadBy (of : PartOf) (whole : List TrackPart → DumpTotals → DumpsRead) (disk : DumpDisk) (told : Option (List File)) (o : DumpsRead) : Type 0 where
@@ -111,86 +111,75 @@ report_of parts totals = record { image = images parts; notes = lines parts ++ e
 abbrev pub IsDumpsRead : DumpDisk → Option (List File) → DumpsRead → Type 0
 IsDumpsRead disk told o = IsReadBy read_part report_of disk told o
 
+-- What the shelf did meanwhile. Of what it tells of itself nothing changed, but that the files of these streams failed which are passed over for
+-- that, in the order in which they were read: none is open that was not. As many of its calls failed, and no other.
+pub record FilesFailed (disk : DumpDisk) (start now : ShelfNow) (streams : List Seen) : Type 0 where
+  pub told : now.told ≡ with_failed (failed_paths (of_disk disk.stepping disk.dumps (length disk.dumps) disk.format) streams) start.told
+  pub counts : CountsMany (lost_count streams) start.counts now.counts
+
 -- what becomes of all tracks was written
-pub record HasTracksBy (of : PartOf) (disk : DumpDisk) (told : Option (List File)) (image image' notes notes' : Option (List ℕ)) (totals : DumpTotals) : Type 0 where
+pub record HasTracksBy (of : PartOf) (disk : DumpDisk) (start now : ShelfNow) (image image' notes notes' : Option (List ℕ)) (totals : DumpTotals) : Type 0 where
   pub streams : List Seen
   pub parts : List TrackPart
   pub others : List (List NotedOther)
-  pub all : AreAllBy of disk told streams parts others
+  pub all : AreAllBy of disk start.told.files streams parts others
+  pub shelf : FilesFailed disk start now streams
   pub image_grew : Appends image image' (images parts)
   pub notes_grew : Appends notes notes' (lines parts)
   pub totals_are : totals ≡ numbers_of streams parts others
 
 -- all of it was written
-pub record WroteDumps (disk : DumpDisk) (told : Option (List File)) (image image' notes notes' : Option (List ℕ)) (totals : DumpTotals) : Type 0 where
+pub record WroteDumps (disk : DumpDisk) (start now : ShelfNow) (image image' notes notes' : Option (List ℕ)) (totals : DumpTotals) : Type 0 where
   pub outcome : DumpsRead
-  pub is : IsDumpsRead disk told outcome
+  pub is : IsDumpsRead disk start.told.files outcome
+  pub shelf : FilesFailed disk start now is.streams
   pub image_grew : Appends image image' outcome.image
   pub notes_grew : Appends notes notes' outcome.notes
   pub totals_are : totals ≡ outcome.totals
 
--- what becomes of the first tracks was written
-pub record WroteFrontBy (of : PartOf) (disk : DumpDisk) (told : Option (List File)) (image image' notes notes' : Option (List ℕ)) : Type 0 where
-  pub streams : List Seen
-  pub parts : List TrackPart
-  pub few : length parts ≤ length (tracks disk.format)
-  pub read : AreTracksBy of disk told streams parts
-  pub image_grew : Appends image image' (images parts)
-  pub notes_grew : Appends notes notes' (lines parts)
-
--- the same, and of the next track a part of its part of the image that is shorter than it
-pub record WroteIntoImageBy (of : PartOf) (disk : DumpDisk) (told : Option (List File)) (image image' notes notes' : Option (List ℕ)) : Type 0 where
+-- what becomes of the first tracks was written, and of the next track a part of its part of the image that is shorter than it
+pub record WroteIntoImageBy (of : PartOf) (disk : DumpDisk) (start now : ShelfNow) (image image' notes notes' : Option (List ℕ)) : Type 0 where
   pub streams : List Seen
   pub parts : List TrackPart
   pub next : TrackPart
   pub few : length parts < length (tracks disk.format)
-  pub read : AreTracksBy of disk told streams (parts ++ next ∷ [])
+  pub read : AreTracksBy of disk start.told.files streams (parts ++ next ∷ [])
+  pub shelf : FilesFailed disk start now streams
   pub image_grew : AppendsAndPart image image' (images parts) next.image
   pub notes_grew : Appends notes notes' (lines parts)
 
 -- the same, and of the next track its part of the image, and a part of its lines that is shorter than they are
-pub record WroteIntoLinesBy (of : PartOf) (disk : DumpDisk) (told : Option (List File)) (image image' notes notes' : Option (List ℕ)) : Type 0 where
+pub record WroteIntoLinesBy (of : PartOf) (disk : DumpDisk) (start now : ShelfNow) (image image' notes notes' : Option (List ℕ)) : Type 0 where
   pub streams : List Seen
   pub parts : List TrackPart
   pub next : TrackPart
   pub few : length parts < length (tracks disk.format)
-  pub read : AreTracksBy of disk told streams (parts ++ next ∷ [])
+  pub read : AreTracksBy of disk start.told.files streams (parts ++ next ∷ [])
+  pub shelf : FilesFailed disk start now streams
   pub image_grew : Appends image image' (images (parts ++ next ∷ []))
   pub notes_grew : AppendsAndPart notes notes' (lines parts) next.lines
 
--- what was written of the tracks where reading them stopped; a dump without files was told before
-abbrev pub StopsBy : PartOf → DumpDisk → Option (List File) → (image image' notes notes' : Option (List ℕ)) → DumpsFault → Type 0
-StopsBy of disk told image image' notes notes' (NoFiles dump) = ⊥
-StopsBy of disk told image image' notes notes' ShelfFault = WroteFrontBy of disk told image image' notes notes'
-StopsBy of disk told image image' notes notes' ImageFault = WroteIntoImageBy of disk told image image' notes notes'
-StopsBy of disk told image image' notes notes' NotesFault = WroteIntoLinesBy of disk told image image' notes notes'
-
--- the same of the report
-abbrev pub WroteFront : DumpDisk → Option (List File) → (image image' notes notes' : Option (List ℕ)) → Type 0
-WroteFront disk told image image' notes notes' = WroteFrontBy read_part disk told image image' notes notes'
-
-abbrev pub WroteIntoImage : DumpDisk → Option (List File) → (image image' notes notes' : Option (List ℕ)) → Type 0
-WroteIntoImage disk told image image' notes notes' = WroteIntoImageBy read_part disk told image image' notes notes'
-
-abbrev pub WroteIntoLines : DumpDisk → Option (List File) → (image image' notes notes' : Option (List ℕ)) → Type 0
-WroteIntoLines disk told image image' notes notes' = WroteIntoLinesBy read_part disk told image image' notes notes'
+-- what was written of the tracks where reading them stopped: a fault of a sink alone stops it; a dump without files was told before
+abbrev pub StopsBy : PartOf → DumpDisk → (start now : ShelfNow) → (image image' notes notes' : Option (List ℕ)) → DumpsFault → Type 0
+StopsBy of disk start now image image' notes notes' (NoFiles dump) = ⊥
+StopsBy of disk start now image image' notes notes' ImageFault = WroteIntoImageBy of disk start now image image' notes notes'
+StopsBy of disk start now image image' notes notes' NotesFault = WroteIntoLinesBy of disk start now image image' notes notes'
 
 -- all was written but the last two lines: of them a part that is shorter than they are
-pub record WroteIntoEnd (disk : DumpDisk) (told : Option (List File)) (image image' notes notes' : Option (List ℕ)) : Type 0 where
+pub record WroteIntoEnd (disk : DumpDisk) (start now : ShelfNow) (image image' notes notes' : Option (List ℕ)) : Type 0 where
   pub streams : List Seen
   pub parts : List TrackPart
   pub others : List (List NotedOther)
-  pub all : AreAllTracks disk told streams parts others
+  pub all : AreAllBy read_part disk start.told.files streams parts others
+  pub shelf : FilesFailed disk start now streams
   pub image_grew : Appends image image' (images parts)
   pub notes_grew : AppendsAndPart notes notes' (lines parts) (end_text (numbers_of streams parts others))
 
--- What an answer says. A dump without files is told before anything is read or written; after a fault of the shelf the tracks before
--- are written whole.
-abbrev pub SaysOfDumps : DumpDisk → Option (List File) → (image image' notes notes' : Option (List ℕ)) → Result DumpTotals DumpsFault → Type 0
-SaysOfDumps disk told image image' notes notes' (Ok totals) = IsToldEmpty disk told None × WroteDumps disk told image image' notes notes' totals
-SaysOfDumps disk told image image' notes notes' (Err (NoFiles dump)) =
-    (dump < length disk.dumps) × IsToldEmpty disk told (Some dump) × (image' ≡ image) × (notes' ≡ notes)
-SaysOfDumps disk told image image' notes notes' (Err ShelfFault) = WroteFront disk told image image' notes notes'
-SaysOfDumps disk told image image' notes notes' (Err ImageFault) = WroteIntoImage disk told image image' notes notes'
-SaysOfDumps disk told image image' notes notes' (Err NotesFault) =
-    WroteIntoLines disk told image image' notes notes' ⊎ WroteIntoEnd disk told image image' notes notes'
+-- What an answer says. A dump without files is told before anything is read or written; a file that fails ends nothing.
+abbrev pub SaysOfDumps : DumpDisk → (start now : ShelfNow) → (image image' notes notes' : Option (List ℕ)) → Result DumpTotals DumpsFault → Type 0
+SaysOfDumps disk start now image image' notes notes' (Ok totals) = IsToldEmpty disk start.told.files None × WroteDumps disk start now image image' notes notes' totals
+SaysOfDumps disk start now image image' notes notes' (Err (NoFiles dump)) =
+    (dump < length disk.dumps) × IsToldEmpty disk start.told.files (Some dump) × (now ≡ start) × (image' ≡ image) × (notes' ≡ notes)
+SaysOfDumps disk start now image image' notes notes' (Err ImageFault) = WroteIntoImageBy read_part disk start now image image' notes notes'
+SaysOfDumps disk start now image image' notes notes' (Err NotesFault) =
+    StopsBy read_part disk start now image image' notes notes' NotesFault ⊎ WroteIntoEnd disk start now image image' notes notes'

@@ -1,15 +1,14 @@
 //! The dumps of a disk, and where the streams of its tracks lie in them.
 
-ghost use Rattle.std.specs.Prelude.{◌≡◌, List, ℕ, Some, IfErr, IfOk};
+ghost use Rattle.std.specs.Prelude.{◌≡◌, ◌<◌, List, ℕ, Some};
 ghost use Rattle.flux_base.specs.Counts.{Counts, counts_of};
-ghost use Rattle.dump_reading.specs.DumpStreams.{HaveComeOf, none_came, seen_file, seen_of};
-ghost use Rattle.dump_reading.specs.Files.{IsFresh};
-ghost use Rattle.flux_engine.specs.Blamed.{is_unread};
+ghost use Rattle.dump_reading.specs.DumpStreams.{GaveOf, HaveComeOf, IsOrFailed, is_lost, lost_path, of_disk, seen_file, seen_of};
+ghost use Rattle.dump_reading.specs.lemmas.Coming.{none_came};
+ghost use Rattle.dump_reading.specs.Files.{IsFresh, shelf_now};
 ghost use Rattle.flux_engine.specs.LoopProgress.{IsBoundedNext, seen_next};
-ghost use Rattle.kryo_stream.specs.declared.fault.CaptureFault.TheVariants.{ReadFault};
 ghost use Rattle.track_shelf.specs.Files.{File, file_at};
 ghost use Rattle.track_shelf.specs.Names.{path_text};
-ghost use Rattle.track_shelf.specs.Told.{told_by};
+ghost use Rattle.track_shelf.specs.Told.{told_by, with_closed, with_failed};
 
 use flux_base::{Failed, TrackId, Word};
 use flux_engine::{CaptureFault, NextStream, TrackStreams, read_stream};
@@ -27,14 +26,34 @@ pub struct Dumps<'a> {
     pub stepping: Stepping,
 }
 
+impl<'a> Dumps<'a> {
+    /// Reads the file of a track in the dump of this number: the stream at its begin. One that is missing or refused is passed over, and so is
+    /// one that fails as it is opened or read. There may be no such dump. No memory is taken.
+    pub fn read<H: Shelf>(
+        &self,
+        track: TrackId,
+        dump: u8,
+        shelf: &mut H,
+        stream: &mut StreamRoom,
+    ) -> NextStream
+        requires { track.cylinder < 128 }
+        ensures gave { GaveOf self.now.stepping self.now.names.now track dump (shelf_now (told_by H.files H.left H.given H.handled shelf.old) (counts_of H.faults H.failed shelf.old)) (shelf_now (told_by H.files H.left H.given H.handled shelf.new) (counts_of H.faults H.failed shelf.new)) (seen_next result stream.new.flux) }
+        ensures bounded { IsBoundedNext result stream.new.flux }
+    {
+        let track = self.stepping.file_track(track);
+        match self.names.get(usize::from(dump)) {
+            Some(name) => read_dump(name.bytes(), track, shelf, stream),
+            // There are not so many dumps.
+            None => NextStream::PassedOver(Passed::Absent),
+        }
+    }
+}
+
 impl<'a, H: Shelf> TrackStreams<H> for Dumps<'a> {
-    ghost faults = { H.faults };
+    ghost came = { λ dumps plan format start now held used before. HaveComeOf (of_disk dumps.stepping dumps.names.now plan.captures format) (shelf_now (told_by H.files H.left H.given H.handled start) (counts_of H.faults H.failed start)) (shelf_now (told_by H.files H.left H.given H.handled now) (counts_of H.faults H.failed now)) before };
 
-    ghost failed = { H.failed };
-
-    ghost came = { λ dumps plan format start now held used before. HaveComeOf dumps.stepping dumps.names.now plan format (told_by H.files H.left H.given start) (told_by H.files H.left H.given now) before };
-
-    ghost ended = { λ dumps plan format start now before fault. (fault ≡ ReadFault) × HaveComeOf dumps.stepping dumps.names.now plan format (told_by H.files H.left H.given start) (told_by H.files H.left H.given now) before };
+    // No file ends a disk.
+    ghost ended = { λ dumps plan format start now before fault. ⊥ };
 
     fn next_stream(
         &self,
@@ -45,59 +64,51 @@ impl<'a, H: Shelf> TrackStreams<H> for Dumps<'a> {
         stream: &mut StreamRoom,
     ) -> Result<NextStream, CaptureFault> {
         tracks_keep_bounds();
-        let track = self.stepping.file_track(track_id(format, number));
-        match self.names.get(usize::from(capture)) {
-            Some(dump) => read_dump(dump.bytes(), track, source, stream),
-            // There are not so many dumps.
-            None => Ok(NextStream::PassedOver(Passed::Absent)),
-        }
+        Ok(self.read(track_id(format, number), capture, source, stream))
     }
 
-    ghost begins = { λ dumps plan format now. none_came dumps.stepping dumps.names.now plan format (told_by H.files H.left H.given now) };
+    ghost begins = { λ dumps plan format now. none_came (of_disk dumps.stepping dumps.names.now plan.captures format) (shelf_now (told_by H.files H.left H.given H.handled now) (counts_of H.faults H.failed now)) };
 }
 
-/// Reads the file of a track of a dump: the stream at its begin. One that is missing or refused is passed over.
+/// Reads the file of a track of a dump: the stream at its begin. One that is missing or refused is passed over, and so is one that fails as it
+/// is opened or read.
 fn read_dump<H: Shelf>(
     dump: &[u8],
     track: TrackId,
     shelf: &mut H,
     stream: &mut StreamRoom,
-) -> Result<NextStream, CaptureFault>
-    ensures seen { (files : List File) → H.files shelf.old ≡ Some files → IfOk result (λ next. seen_next next stream.new.flux ≡ seen_of (file_at files (path_text dump.now track))) }
-    ensures fault { IfErr result (λ fault. fault ≡ ReadFault) }
-    ensures kept { told_by H.files H.left H.given shelf.new ≡ told_by H.files H.left H.given shelf.old }
-    ensures bounded { IfOk result (λ next. IsBoundedNext next stream.new.flux) }
-    ensures counts { Counts (is_unread result) (counts_of H.faults H.failed shelf.old) (counts_of H.faults H.failed shelf.new) }
+) -> NextStream
+    ensures seen { (files : List File) → H.files shelf.old ≡ Some files → IsOrFailed (seen_next result stream.new.flux) (seen_of (file_at files (path_text dump.now track))) }
+    ensures told { told_by H.files H.left H.given H.handled shelf.new ≡ with_failed (lost_path (path_text dump.now track) result) (told_by H.files H.left H.given H.handled shelf.old) }
+    ensures bounded { IsBoundedNext result stream.new.flux }
+    ensures counts { Counts (is_lost result) (counts_of H.faults H.failed shelf.old) (counts_of H.faults H.failed shelf.new) }
 {
     match shelf.open_file(dump, track) {
         Ok(Some(file)) => read_file(file, shelf, stream),
-        Ok(None) => Ok(NextStream::PassedOver(Passed::Absent)),
-        Err(Failed) => Err(CaptureFault::ReadFault),
+        Ok(None) => NextStream::PassedOver(Passed::Absent),
+        Err(Failed) => NextStream::PassedOver(Passed::Failed),
     }
 }
 
-/// Reads an open file: the stream at its begin, which is passed over where it is refused. What follows its End is not looked at.
-fn read_file<H: Shelf>(
-    file: H::File,
-    shelf: &mut H,
-    stream: &mut StreamRoom,
-) -> Result<NextStream, CaptureFault>
-    ensures seen { (bytes : List ℕ) → H.File.left file ≡ Some bytes → IfOk result (λ next. seen_next next stream.new.flux ≡ seen_file bytes) }
-    ensures fault { IfErr result (λ fault. fault ≡ ReadFault) }
-    ensures kept { told_by H.files H.left H.given shelf.new ≡ told_by H.files H.left H.given shelf.old }
-    ensures bounded { IfOk result (λ next. IsBoundedNext next stream.new.flux) }
+/// Reads an open file, and gives it back: the stream at its begin, which is passed over where it is refused, or where a read fails. What
+/// follows its End is not looked at.
+fn read_file<H: Shelf>(file: H::File, shelf: &mut H, stream: &mut StreamRoom) -> NextStream
+    ensures seen { (bytes : List ℕ) → H.File.left file ≡ Some bytes → IsOrFailed (seen_next result stream.new.flux) (seen_file bytes) }
+    ensures told { IsFresh (counts_of H.File.faults H.File.failed file) (counts_of H.faults H.failed shelf.old)
+        → told_by H.files H.left H.given H.handled shelf.new ≡ with_closed (is_lost result) (told_by H.files H.left H.given H.handled shelf.old) }
+    ensures bounded { IsBoundedNext result stream.new.flux }
     ensures counts { IsFresh (counts_of H.File.faults H.File.failed file) (counts_of H.faults H.failed shelf.old)
-        → Counts (is_unread result) (counts_of H.faults H.failed shelf.old) (counts_of H.faults H.failed shelf.new) }
+        → Counts (is_lost result) (counts_of H.faults H.failed shelf.old) (counts_of H.faults H.failed shelf.new) }
 {
     let mut file = file;
     stream.restart();
     let answer = read_stream(&mut file, stream);
     shelf.close_file(file);
     match answer {
-        Ok(()) => Ok(NextStream::Read),
+        Ok(()) => NextStream::Read,
         Err(CaptureFault::Refused { block, fault }) => {
-            Ok(NextStream::PassedOver(Passed::Refused { block, fault }))
+            NextStream::PassedOver(Passed::Refused { block, fault })
         }
-        Err(CaptureFault::ReadFault) => Err(CaptureFault::ReadFault),
+        Err(CaptureFault::ReadFault) => NextStream::PassedOver(Passed::Failed),
     }
 }

@@ -1,12 +1,13 @@
 //! A disk that is read of its dumps.
 
 ghost use Rattle.std.specs.Prelude.{◌≡◌, ◌≤◌, length, IfErr, IfOk};
-ghost use Rattle.flux_base.specs.Blames.{CountsBy, three_counts};
+ghost use Rattle.flux_base.specs.Blames.{CountsBy, no_counts, three_counts};
 ghost use Rattle.flux_base.specs.Counts.{counts_of};
 ghost use Rattle.flux_base.specs.Moments.{Puts, moment};
 ghost use Rattle.flux_engine.specs.Room.{fresh};
 ghost use Rattle.track_shelf.specs.Told.{told_by};
 ghost use Rattle.dump_reading.specs.Blamed.{dumps_blame};
+ghost use Rattle.dump_reading.specs.Files.{shelf_now};
 ghost use Rattle.dump_reading.specs.Outcomes.{HasTracksBy, SaysOfDumps, StopsBy, disk_by, disk_of};
 ghost use Rattle.dump_reading.specs.Reports.{end_text};
 
@@ -23,12 +24,13 @@ use sector_report::{total_line, unread_line, write_line};
 use track_shelf::Shelf;
 
 /// Reads a disk of its dumps, and then writes the last two lines to `notes`. Of each track in order the files of all dumps are
-/// read as controllers read, in the order of the dumps; one that is missing or refused is told and passed over. One verdict for
+/// read as controllers read, in the order of the dumps; one that is missing or refused, or that fails, is told and passed over. One verdict for
 /// each sector is given over all readings by both clocks, and the names of headers are told that are those of none of the track's
-/// sectors: one by one where whole data follow them. No answer is for want of memory.
+/// sectors: one by one where whole data follow them. No answer is for want of
+/// memory.
 ///
-/// A dump that has the file of none of the tracks is refused before anything is written. After a fault nothing more is read or
-/// written, and the tracks before are written whole.
+/// A dump that has the file of none of the format's tracks is refused before anything is written. After a fault of a sink nothing more is read
+/// or written, and the tracks before are written whole.
 pub fn read_dumps<H: Shelf, W: Sink, N: Sink>(
     dumps: &Dumps,
     room: &mut DiskRoom,
@@ -38,11 +40,12 @@ pub fn read_dumps<H: Shelf, W: Sink, N: Sink>(
 ) -> Result<DumpTotals, DumpsFault>
     requires fresh { room.old ≡ fresh room.old.format }
     requires few { length dumps.now.names.now ≤ 16 }
-    ensures says { SaysOfDumps (disk_of dumps.now room.old.format) (H.files shelf.old) (W.written image.old) (W.written image.new) (N.written notes.old) (N.written notes.new) result }
-    ensures kept { told_by H.files H.left H.given shelf.new ≡ told_by H.files H.left H.given shelf.old }
+    ensures says { SaysOfDumps (disk_of dumps.now room.old.format) (shelf_now (told_by H.files H.left H.given H.handled shelf.old) (counts_of H.faults H.failed shelf.old)) (shelf_now (told_by H.files H.left H.given H.handled shelf.new) (counts_of H.faults H.failed shelf.new)) (W.written image.old) (W.written image.new) (N.written notes.old) (N.written notes.new) result }
+
+    // What the shelf did is in what came of it.
     ensures blames { CountsBy (dumps_blame result)
-        (three_counts (counts_of H.faults H.failed shelf.old) (counts_of W.faults W.failed image.old) (counts_of N.faults N.failed notes.old))
-        (three_counts (counts_of H.faults H.failed shelf.new) (counts_of W.faults W.failed image.new) (counts_of N.faults N.failed notes.new)) }
+        (three_counts no_counts (counts_of W.faults W.failed image.old) (counts_of N.faults N.failed notes.old))
+        (three_counts no_counts (counts_of W.faults W.failed image.new) (counts_of N.faults N.failed notes.new)) }
 {
     read_dumps_by(Clocks::Both, dumps, room, shelf, image, notes)
 }
@@ -58,16 +61,16 @@ pub fn read_dumps_by<H: Shelf, W: Sink, N: Sink>(
 ) -> Result<DumpTotals, DumpsFault>
     requires fresh { room.old ≡ fresh room.old.format }
     requires few { length dumps.now.names.now ≤ 16 }
-    ensures says { SaysOfDumps (disk_by clocks dumps.now room.old.format) (H.files shelf.old) (W.written image.old) (W.written image.new) (N.written notes.old) (N.written notes.new) result }
-    ensures kept { told_by H.files H.left H.given shelf.new ≡ told_by H.files H.left H.given shelf.old }
+    ensures says { SaysOfDumps (disk_by clocks dumps.now room.old.format) (shelf_now (told_by H.files H.left H.given H.handled shelf.old) (counts_of H.faults H.failed shelf.old)) (shelf_now (told_by H.files H.left H.given H.handled shelf.new) (counts_of H.faults H.failed shelf.new)) (W.written image.old) (W.written image.new) (N.written notes.old) (N.written notes.new) result }
+
+    // What the shelf did is in what came of it.
     ensures blames { CountsBy (dumps_blame result)
-        (three_counts (counts_of H.faults H.failed shelf.old) (counts_of W.faults W.failed image.old) (counts_of N.faults N.failed notes.old))
-        (three_counts (counts_of H.faults H.failed shelf.new) (counts_of W.faults W.failed image.new) (counts_of N.faults N.failed notes.new)) }
+        (three_counts no_counts (counts_of W.faults W.failed image.old) (counts_of N.faults N.failed notes.old))
+        (three_counts no_counts (counts_of W.faults W.failed image.new) (counts_of N.faults N.failed notes.new)) }
 {
     match find_empty(dumps, room_format(room), shelf) {
-        Ok(None) => {}
-        Ok(Some(dump)) => return Err(DumpsFault::NoFiles { dump }),
-        Err(Failed) => return Err(DumpsFault::ShelfFault),
+        None => {}
+        Some(dump) => return Err(DumpsFault::NoFiles { dump }),
     }
     let totals = match read_dump_tracks(clocks, dumps, &DumpReport, room, shelf, image, notes) {
         Ok(totals) => totals,
@@ -79,8 +82,9 @@ pub fn read_dumps_by<H: Shelf, W: Sink, N: Sink>(
     }
 }
 
-/// Reads all tracks of a disk of its dumps, as `read_dumps` does, and gives what was gathered of each to a writer. That dumps have files is not
-/// looked at here, so `NoFiles` does not come. After a fault nothing more is read or written, and the tracks before are written whole.
+/// Reads all tracks of a disk of its dumps as `read_dumps` does, and gives what was gathered of each to a writer. That dumps
+/// have files is not looked at here, so `NoFiles` does not come. After a fault nothing more is read or written, and the tracks before are
+/// written whole.
 pub fn read_dump_tracks<O: TrackWriter, H: Shelf, W: Sink, N: Sink>(
     clocks: Clocks,
     dumps: &Dumps,
@@ -92,12 +96,13 @@ pub fn read_dump_tracks<O: TrackWriter, H: Shelf, W: Sink, N: Sink>(
 ) -> Result<DumpTotals, DumpsFault>
     requires fresh { room.old ≡ fresh room.old.format }
     requires few { length dumps.now.names.now ≤ 16 }
-    ensures ok { IfOk result (HasTracksBy (O.part_of writer.now) (disk_by clocks dumps.now room.old.format) (H.files shelf.old) (W.written image.old) (W.written image.new) (N.written notes.old) (N.written notes.new)) }
-    ensures err { IfErr result (StopsBy (O.part_of writer.now) (disk_by clocks dumps.now room.old.format) (H.files shelf.old) (W.written image.old) (W.written image.new) (N.written notes.old) (N.written notes.new)) }
-    ensures kept { told_by H.files H.left H.given shelf.new ≡ told_by H.files H.left H.given shelf.old }
+    ensures ok { IfOk result (HasTracksBy (O.part_of writer.now) (disk_by clocks dumps.now room.old.format) (shelf_now (told_by H.files H.left H.given H.handled shelf.old) (counts_of H.faults H.failed shelf.old)) (shelf_now (told_by H.files H.left H.given H.handled shelf.new) (counts_of H.faults H.failed shelf.new)) (W.written image.old) (W.written image.new) (N.written notes.old) (N.written notes.new)) }
+    ensures err { IfErr result (StopsBy (O.part_of writer.now) (disk_by clocks dumps.now room.old.format) (shelf_now (told_by H.files H.left H.given H.handled shelf.old) (counts_of H.faults H.failed shelf.old)) (shelf_now (told_by H.files H.left H.given H.handled shelf.new) (counts_of H.faults H.failed shelf.new)) (W.written image.old) (W.written image.new) (N.written notes.old) (N.written notes.new)) }
+
+    // What the shelf did is in what came of it.
     ensures blames { CountsBy (dumps_blame result)
-        (three_counts (counts_of H.faults H.failed shelf.old) (counts_of W.faults W.failed image.old) (counts_of N.faults N.failed notes.old))
-        (three_counts (counts_of H.faults H.failed shelf.new) (counts_of W.faults W.failed image.new) (counts_of N.faults N.failed notes.new)) }
+        (three_counts no_counts (counts_of W.faults W.failed image.old) (counts_of N.faults N.failed notes.old))
+        (three_counts no_counts (counts_of W.faults W.failed image.new) (counts_of N.faults N.failed notes.new)) }
 {
     let plan = Plan {
         captures: dumps.names.len() as u8,
@@ -110,14 +115,14 @@ pub fn read_dump_tracks<O: TrackWriter, H: Shelf, W: Sink, N: Sink>(
         Ok(()) => Ok(DumpTotals {
             sectors,
             unread: room.unread(),
+            lost: room.lost(),
             others: room.told_others(),
             whole: room.whole_others(),
         }),
-        Err(PlanFault::ReadFault) => Err(DumpsFault::ShelfFault),
         Err(PlanFault::ImageFault) => Err(DumpsFault::ImageFault),
         Err(PlanFault::NotesFault) => Err(DumpsFault::NotesFault),
-        // A stream that is refused is passed over.
-        Err(PlanFault::Refused { .. }) => unreachable!(),
+        // No stream ends a disk of dumps.
+        Err(PlanFault::ReadFault | PlanFault::Refused { .. }) => unreachable!(),
     }
 }
 

@@ -10,6 +10,8 @@ pub struct DumpTotals {
     pub sectors: Totals,
     /// How many streams were passed over.
     pub unread: u32,
+    /// How many of these since their files failed.
+    pub lost: u32,
     /// How many names of other headers were told: those with whole data, those that have none and are counted as traces, and one for
     /// each track where whole data follow a name that is not told.
     pub others: u32,

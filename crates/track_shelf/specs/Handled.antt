@@ -27,3 +27,7 @@ CountsToo (Some handled) (Some count) = Unit {0}
 -- the last one that was opened is closed; it is blamed where a read of it failed
 abbrev pub handled_close : (fails : Bool) → Handled → Handled
 handled_close fails handled = record { opened = drop 1 handled.opened; blamed = handled.blamed ++ cond fails (take 1 handled.opened) [] }
+
+-- these files failed
+abbrev pub more_blamed : (paths : List (List ℕ)) → Handled → Handled
+more_blamed paths handled = record handled { blamed = handled.blamed ++ paths }
