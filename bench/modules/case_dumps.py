@@ -4,7 +4,7 @@ from case_others import others_track
 from case_streams import FILLER, SHORTEST, few_blocks, faulty, one_in, spell
 from case_tracks import noisy_track, track_stream, whole_track
 from plain import FORMATS, any_format
-from plain_dumps import path_of, reaches_all
+from plain_dumps import names_file, path_of, reaches_all
 from plain_recordings import IbmFm, IbmMfm
 
 IBM_FORMATS = [form for form in FORMATS.values() if isinstance(form.recording, (IbmFm, IbmMfm))]
@@ -73,7 +73,23 @@ def one_file(chance, kinds, form, at):
     return few(chance, kinds)
 
 
-def lacking(chance, kinds, files):
+def other_than_files(chance, kinds, name):
+    """What may be there in a dump's place, none of whose files are."""
+    if names_file(name):
+        return {}
+    roll = chance.randrange(5)
+    kinds.add(("nothing", "a file", "an empty folder", "files of other tracks", "files of other names")[roll] + " in the place of a dump")
+    if roll == 1:
+        return {name.rstrip(b"/"): FILLER}
+    if roll == 2:
+        return {name: None}
+    if roll == 3:
+        return {path_of(name, 99, 1): FILLER, name + b"/notes": b""}
+    prefix = chance.choice([b"side ", b"disk1-", "dümp".encode(), b"Track", b"0"])
+    return {name + b"/" + prefix + ending: FILLER for ending in (b"00.0.raw", b"07.1.raw", b"00.2.raw")} if roll else {}
+
+
+def lacking(chance, kinds, name, files):
     """The same with files that are missing, and sometimes with a folder in the place of one."""
     roll = chance.randrange(12)
     if roll < 4:
@@ -81,8 +97,7 @@ def lacking(chance, kinds, files):
         for name in chance.sample(sorted(files), chance.choice([1, 3, len(files) // 2])):
             del files[name]
     elif roll == 4 and one_in(chance, 3):
-        kinds.add("no files at all")
-        files.clear()
+        files = other_than_files(chance, kinds, name)
     elif roll == 5:
         kinds.add("a folder in the place of a file")
         files[chance.choice(sorted(files))] = None
@@ -95,7 +110,7 @@ def dump_files(chance, kinds, form, name, steps, special, made=one_file):
     files = {path(track): chance.choice([FILLER, SHORTEST]) for track in form.tracks}
     for at in special:
         files[path(form.tracks[at])] = made(chance, kinds, form, at)
-    return lacking(chance, kinds, files)
+    return lacking(chance, kinds, name, files)
 
 
 def dumps_of(chance, kinds, form, steps, count, made=one_file):

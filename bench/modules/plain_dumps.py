@@ -12,7 +12,9 @@ MOST_DUMPS = 8
 MOST_TOLD = 64
 MOST_COPIES = 16
 MOST_DOUBLE_CYLINDERS = 42
+MOST_PATH_TOLD = 100
 LONGEST_PATH = 4095
+FILE_ENDING = len("00.0.raw")
 
 
 class Failed(Exception):
@@ -27,13 +29,11 @@ class Shelf:
         self.folders = {path[:count] for path in self.files for count in range(1, len(path))}
 
     def has(self, path):
-        """Whether the path can be opened; False where it is not found."""
+        """Whether the path can be opened; False where it is not found, also where a file stands in the place of a folder."""
         if len(path) > LONGEST_PATH:
             raise Failed
         parts = parts_of(path)
-        if any(self.files.get(parts[:count]) is not None for count in range(1, len(parts))):
-            raise Failed          # a file stands in the place of a folder
-        return parts in self.files or parts in self.folders
+        return not (path.endswith(b"/") and self.files.get(parts) is not None) and (parts in self.files or parts in self.folders)
 
     def read(self, path):
         """The bytes of a file; None where it is not found."""
@@ -44,6 +44,21 @@ class Shelf:
             raise Failed          # it is a folder
         return content
 
+    def kind(self, dump):
+        """What is there in the place of a dump that has none of the files that were looked for."""
+        if not self.has(dump):
+            return "is not there"
+        if names_file(dump):
+            return "has files of other tracks alone"
+        parts = parts_of(dump)
+        if self.files.get(parts) is not None:
+            return "is a file"
+        names = [path[len(parts)] for path in self.files if path[: len(parts)] == parts != path]
+        prefixes = [name[:-FILE_ENDING].decode() for name in names if names_file(name)]
+        if "track" in prefixes:
+            return "has files of other tracks alone"
+        return f"has files {prefixes[0]}CC.H.raw: name one of them" if prefixes else "has no files trackCC.H.raw"
+
 
 def parts_of(path):
     """The names in a path, of which those that name nothing are left out."""
@@ -51,12 +66,22 @@ def parts_of(path):
     return tuple(part for part in path.split(b"/") if part not in (b"", b"."))
 
 
+def names_file(path):
+    """It ends as the name of a track's file does, with something before."""
+    return re.fullmatch(rb".+[0-9]{2}\.[01]\.raw", path, re.DOTALL) is not None
+
+
 def path_of(dump, cylinder, head):
     """The file of a track: in a folder, or beside the file by which the dump is named."""
     ending = b"%02d.%d.raw" % (cylinder, head)
-    if len(dump) > len(ending) and re.fullmatch(rb"[0-9]{2}\.[01]\.raw", dump[-len(ending):]):
-        return dump[: -len(ending)] + ending
-    return dump + b"/track" + ending
+    return dump[:-FILE_ENDING] + ending if names_file(dump) else dump + b"/track" + ending
+
+
+def no_files_line(dumps, number):
+    """What is told of a dump that has none of the files: of a path of more than 100 bytes the last ones."""
+    path = dumps.names[number]
+    told = path if len(path) <= MOST_PATH_TOLD else b".." + path[-MOST_PATH_TOLD:]
+    return b"refused dump %d %s %s\n" % (number, told, dumps.shelf.kind(path).encode())
 
 
 def reaches_all(form):
@@ -167,7 +192,7 @@ def read(dumps, form):
     try:
         empty = dumps.first_empty(form)
         if empty is not None:
-            return 2, b"", f"refused dump {empty} no track files\n".encode()
+            return 2, b"", no_files_line(dumps, empty)
         read_tracks(dumps, form, answer)
     except Failed:
         return 8, *answer.said()
@@ -182,7 +207,7 @@ def draw(dumps, form):
     try:
         empty = dumps.first_empty(form)
         if empty is not None:
-            return 2, b"", f"refused dump {empty} no track files\n".encode()
+            return 2, b"", no_files_line(dumps, empty)
         out = picture.top()
         read_tracks(dumps, form, answer)
     except Failed:
@@ -217,7 +242,7 @@ def show(dumps, form, k, sector, alone=None):
     try:
         empty = dumps.first_empty(form)
         if empty is not None:
-            return 2, b"", f"refused dump {empty} no track files\n".encode()
+            return 2, b"", no_files_line(dumps, empty)
         passed, entries, _ = dumps.gathered(form, k)
     except Failed:
         return 8, b"", b""
@@ -263,6 +288,6 @@ def identify(shelf, name):
     except Failed:
         return 8, "".join(lines).encode(), b""
     if not found:
-        return 2, b"", b"refused dump 0 no track files\n"
+        return 2, b"", no_files_line(Dumps(shelf, [name]), 0)
     lines.append(f"best {best[1] if best else 'none'}\n")
     return 0 if best and best[2] else 1, "".join(lines).encode(), b""
