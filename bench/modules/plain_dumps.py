@@ -1,6 +1,6 @@
 """Disks read of their dumps, off the definitions: one verdict over the files of several dumps, what they have of one sector, and which disk a dump is of.
 
-Dumps lie on a shelf, which is a folder's files by their paths. A file that is not found is passed over; any other fault ends all.
+Dumps lie on a shelf, which is a folder's files by their paths. A file that is not found, or that fails, is passed over.
 """
 import re
 
@@ -18,7 +18,7 @@ FILE_ENDING = len("00.0.raw")
 
 
 class Failed(Exception):
-    """The system answers with a fault."""
+    """The system answers with a fault as a file is opened or read."""
 
 
 class Shelf:
@@ -29,9 +29,9 @@ class Shelf:
         self.folders = {path[:count] for path in self.files for count in range(1, len(path))}
 
     def has(self, path):
-        """Whether the path can be opened; False where it is not found, also where a file stands in the place of a folder."""
+        """Whether something is there, were it only a fault; not where a file stands in the place of a folder."""
         if len(path) > LONGEST_PATH:
-            raise Failed
+            return True
         parts = parts_of(path)
         return not (path.endswith(b"/") and self.files.get(parts) is not None) and (parts in self.files or parts in self.folders)
 
@@ -40,8 +40,8 @@ class Shelf:
         if not self.has(path):
             return None
         content = self.files.get(parts_of(path))
-        if content is None:
-            raise Failed          # it is a folder
+        if content is None or len(path) > LONGEST_PATH:
+            raise Failed          # it is a folder, or the path is too long
         return content
 
     def kind(self, dump):
@@ -130,9 +130,12 @@ class Dumps:
         """Of a track: what is said of each stream that is passed over, all readings, and all others."""
         passed, entries, others = [], [], []
         for number in range(len(self.names)):
-            content = self.shelf.read(self.path(number, form.tracks[k]))
             try:
+                content = self.shelf.read(self.path(number, form.tracks[k]))
                 stream = None if content is None else Stream(content, 0)
+            except Failed:
+                passed.append(f"dump {number} failed")
+                continue
             except Refused as stop:
                 passed.append(f"dump {number} refused {stop.text()}")
                 continue
@@ -146,13 +149,18 @@ class Dumps:
         return passed, entries, others
 
 
+def failed_in(passed):
+    """How many of the streams that are passed over failed."""
+    return sum(why.endswith(" failed") for why in passed)
+
+
 class DumpAnswer(Answer):
     """What dumps come to, track by track."""
 
     def __init__(self, form):
         super().__init__(form)
         self.sectors = []          # the sectors' lines alone
-        self.unread = self.others = self.whole = 0
+        self.unread = self.others = self.whole = self.failed = 0
 
     def dump_track(self, k, passed, entries, others):
         cylinder, head = self.form.tracks[k]
@@ -169,13 +177,14 @@ class DumpAnswer(Answer):
         traces = len(told) - len(with_data)
         self.lines += [f"{track} traces {traces}\n"] * (traces > 0)
         self.unread += len(passed)
+        self.failed += failed_in(passed)
         self.others += len(told) + untold
         self.whole += len(with_data) + untold
 
     def end(self):
         self.lines.append(f"unread {self.unread} other {self.others} whole {self.whole}\n")
         code = super().end()
-        return 1 if self.whole else code
+        return 8 if self.failed else 1 if self.whole else code
 
     def said(self):
         return b"".join(self.image), "".join(self.lines).encode()
@@ -189,13 +198,10 @@ def read_tracks(dumps, form, answer):
 def read(dumps, form):
     """The outcome of `read`."""
     answer = DumpAnswer(form)
-    try:
-        empty = dumps.first_empty(form)
-        if empty is not None:
-            return 2, b"", no_files_line(dumps, empty)
-        read_tracks(dumps, form, answer)
-    except Failed:
-        return 8, *answer.said()
+    empty = dumps.first_empty(form)
+    if empty is not None:
+        return 2, b"", no_files_line(dumps, empty)
+    read_tracks(dumps, form, answer)
     code = answer.end()
     return code, *answer.said()
 
@@ -203,18 +209,14 @@ def read(dumps, form):
 def draw(dumps, form):
     """The outcome of `read --picture`: the picture of the same verdicts, and no report."""
     answer, picture = DumpAnswer(form), Picture(form, "read")
-    out = ""
-    try:
-        empty = dumps.first_empty(form)
-        if empty is not None:
-            return 2, b"", no_files_line(dumps, empty)
-        out = picture.top()
-        read_tracks(dumps, form, answer)
-    except Failed:
-        return 8, (out + "".join(map(picture.field, answer.sectors))).encode(), b""
+    empty = dumps.first_empty(form)
+    if empty is not None:
+        return 2, b"", no_files_line(dumps, empty)
+    read_tracks(dumps, form, answer)
     code = answer.end()
     counts, totals = answer.lines[-2:]
-    return code, (out + "".join(map(picture.field, answer.sectors)) + picture.counts(counts) + picture.foot(answer.sectors, totals)).encode(), b""
+    fields = "".join(map(picture.field, answer.sectors))
+    return code, (picture.top() + fields + picture.counts(counts) + picture.foot(answer.sectors, totals)).encode(), b""
 
 
 # One sector
@@ -239,18 +241,15 @@ def row_text(first, content, at):
 def show(dumps, form, k, sector, alone=None):
     """The outcome of `show` for a sector of track number k; with a number that content alone."""
     cylinder, head = form.tracks[k]
-    try:
-        empty = dumps.first_empty(form)
-        if empty is not None:
-            return 2, b"", no_files_line(dumps, empty)
-        passed, entries, _ = dumps.gathered(form, k)
-    except Failed:
-        return 8, b"", b""
+    empty = dumps.first_empty(form)
+    if empty is not None:
+        return 2, b"", no_files_line(dumps, empty)
+    passed, entries, _ = dumps.gathered(form, k)
     copies, size = copies_of(entries, sector), form.recording.size
     verdict, _ = verdict_of([(place, content) for place, named, content in entries if named == sector])
     line = f"{cylinder:02}.{head} {sector:02} {verdict}\n"
     notes = "".join(f"{cylinder:02}.{head} {why}\n" for why in passed)
-    code = 0 if len(copies) == 1 else 1
+    code = 8 if failed_in(passed) else 0 if len(copies) == 1 else 1
     if alone is not None:
         return code, bytes(copies[alone][0]) if alone < len(copies) else b"", (notes + line).encode()
     offset = sum(map(form.track_bytes, range(k))) + size * form.slot(sector)
@@ -269,25 +268,23 @@ def candidates():
 
 def identify(shelf, name):
     """The outcome of `identify`: a line for each disk of which a sector is good, and the best of them."""
-    lines, found, best = [], False, None
-    try:
-        for form, steps in candidates():
-            dumps, answer = Dumps(shelf, [name], steps, clocks=(0,)), DumpAnswer(form)
-            if dumps.first_empty(form) is not None:
-                continue
-            found = True
-            read_tracks(dumps, form, answer)
-            good, total = answer.number["good"], sum(answer.number.values())
-            if good:
-                words = "--double-step " * (steps - 1) + form.word
-                lines.append(f"{words} good {good} of {total} other {answer.whole}\n")
-                # most good sectors, then fewest others that have data, then the smallest disk, then the table's order
-                rank = good, -answer.whole, -total
-                if best is None or rank > best[0]:
-                    best = rank, words, good == total and answer.whole == 0
-    except Failed:
-        return 8, "".join(lines).encode(), b""
+    lines, found, failed, best = [], False, False, None
+    for form, steps in candidates():
+        dumps, answer = Dumps(shelf, [name], steps, clocks=(0,)), DumpAnswer(form)
+        if dumps.first_empty(form) is not None:
+            continue
+        found = True
+        read_tracks(dumps, form, answer)
+        failed |= answer.failed > 0
+        good, total = answer.number["good"], sum(answer.number.values())
+        if good:
+            words = "--double-step " * (steps - 1) + form.word
+            lines.append(f"{words} good {good} of {total} other {answer.whole}" + f" failed {answer.failed}" * (answer.failed > 0) + "\n")
+            # most good sectors, then fewest others that have data, then the smallest disk, then the table's order
+            rank = good, -answer.whole, -total
+            if best is None or rank > best[0]:
+                best = rank, words, good == total and answer.whole == 0
     if not found:
         return 2, b"", no_files_line(Dumps(shelf, [name]), 0)
     lines.append(f"best {best[1] if best else 'none'}\n")
-    return 0 if best and best[2] else 1, "".join(lines).encode(), b""
+    return 8 if failed else 0 if best and best[2] else 1, "".join(lines).encode(), b""

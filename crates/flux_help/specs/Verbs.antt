@@ -39,10 +39,11 @@ verb_row Read = record {
   about =
       codes "\n"
       ++ codes "Reads the files trackCC.H.raw of 1 to 8 folders, each a dump of the disk, and gives one verdict for each sector over all of\n"
-      ++ codes "them. A DUMP that is a file, as shelf/disk00.0.raw, stands for all files that begin as it does. A file that is missing or\n"
-      ++ codes "refused is told and passed over, and headers of other sectors than the disk's are told. The image goes to standard output,\n"
-      ++ codes "the report to standard error. With --double-step the file of cylinder 2C is that of the disk's cylinder C. With --picture a\n"
-      ++ codes "picture of the verdicts (SVG), as map draws it, goes to standard output, and there is no report. Both may stand in either order.\n"
+      ++ codes "them. A DUMP that is a file, as shelf/disk00.0.raw, stands for all files that begin as it does. A file that is missing, fails\n"
+      ++ codes "or is refused is told and passed over, and headers of other sectors than the disk's are told. The image goes to standard\n"
+      ++ codes "output, the report to standard error. With --double-step the file of cylinder 2C is that of the disk's cylinder C. With\n"
+      ++ codes "--picture a picture of the verdicts (SVG), as map draws it, goes to standard output, and there is no report. Both may stand\n"
+      ++ codes "in either order.\n"
       ++ codes "\n"
       ++ codes "Example:\n"
       ++ codes "   flux read amiga dump second > disk.adf 2> report.txt\n";
