@@ -1,10 +1,10 @@
 //! What lies under a dump's name, over files that stand in for the system's.
 use super::FAULTS;
-use super::files::{Record, StandIn};
+use super::files::{Opened, Record, StandIn};
 use std::alloc::Global;
 use std::io::ErrorKind;
 use std::test::Fail;
-use std_streams::StdShelf;
+use std_streams::{StdShelf, StdSource};
 use track_shelf::{DumpKind, Shelf};
 
 /// No call fails.
@@ -135,6 +135,8 @@ fn look(alloc: Global, dump: &str, failing: u32, kind: ErrorKind) -> (DumpKind, 
         folders: FOLDERS.as_slice(),
         record: &record,
     };
+    // The checker has to meet the type of an open file where the shelf is only looked at.
+    let _open: Option<StdSource<Opened>> = None;
     let answer = StdShelf::new(&files).kind_of(dump.as_bytes());
     (answer, record.lines())
 }
@@ -185,6 +187,8 @@ fn no_path_is_no_call(rt: HostRuntime) -> Result<(), Fail> {
         folders: FOLDERS.as_slice(),
         record: &record,
     };
+    // The checker has to meet the type of an open file where the shelf is only looked at.
+    let _open: Option<StdSource<Opened>> = None;
     let shelf = StdShelf::new(&files);
     let long: Vec<u8> = vec![in alloc; b'a'; 4097]?;
     assert!(rt; is_so(&shelf.kind_of(&[0xFF]), DumpKindWord::Unknown));

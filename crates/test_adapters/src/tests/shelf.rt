@@ -1,13 +1,13 @@
 //! The shelf over files that stand in for the system's: which of them it opens, in which order, and what it answers where a call fails.
 use super::FAULTS;
-use super::files::{Record, StandIn};
+use super::files::{Opened, Record, StandIn};
 use flux_base::{Failed, Source, TrackId};
 use sector_images::Format;
 use std::alloc::{AllocError, Global};
 use std::io::ErrorKind;
 use std::process::Abort;
 use std::test::Fail;
-use std_streams::StdShelf;
+use std_streams::{StdShelf, StdSource};
 use track_shelf::Shelf;
 
 /// No call fails.
@@ -259,6 +259,8 @@ fn look_for(dump: &str, track: TrackId, record: Record) -> (bool, String) {
         folders: &[("dump/track39.1.raw/", b"")],
         record: &record,
     };
+    // The checker has to meet the type of an open file where the shelf is only looked at.
+    let _open: Option<StdSource<Opened>> = None;
     let answer = StdShelf::new(&files).holds(dump.as_bytes(), track);
     (answer, record.lines())
 }
