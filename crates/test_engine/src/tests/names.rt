@@ -1,6 +1,4 @@
 //! A track that is none of the format's: all headers in it are noted by their names.
-ghost use Rattle.std.specs.Prelude.{Unit};
-
 use super::decoding::{TRACK, three_turns};
 use cell_bits::Cells;
 use flux_base::{HeaderName, MemorySource, Source, TrackId};
