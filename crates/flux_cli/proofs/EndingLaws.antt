@@ -1,11 +1,11 @@
 -- What ends a command, and whom the status that it ends with blames.
-use Rattle.std.proofs.Common.{◌≡◌, ◌==◌, ◌≤◌, ℕ, Bool, true, false, if◌then◌else◌, List, Result, Ok, Err, is_err, sym, subst}
+use Rattle.std.proofs.Common.{◌≡◌, ◌==◌, ◌≤◌, ℕ, Bool, true, false, if◌then◌else◌, List, Option, Result, Ok, Err, is_err, refl, sym, subst}
 use Rattle.dump_reading.specs.Blamed.{dumps_blame}
 use Rattle.dump_reading.specs.declared.fault.DumpsFault.{DumpsFault}
 use Rattle.dump_reading.specs.declared.fault.DumpsFault.TheVariants.{NoFiles, ShelfFault as DumpsUnread, ImageFault as DumpsUnwritten, NotesFault as DumpsUntold}
 use Rattle.flux_base.specs.Blames.{Blame, CountsBy, OutsideCounts, no_one, the_notes, three_counts}
 use Rattle.flux_base.specs.Counts.{Counts, FaultCounts}
-use Rattle.flux_base.specs.Moments.{Moment}
+use Rattle.flux_base.specs.Moments.{Moment, Puts}
 use Rattle.flux_base.specs.Outside.{Rose}
 use Rattle.flux_base.specs.declared.outside.Failed.{Failed}
 use Rattle.flux_base.specs.declared.status.Status.{Status}
@@ -22,9 +22,10 @@ use Rattle.g64_image.specs.Answers.{FromAnswer}
 use Rattle.g64_image.specs.Blamed.{from_blame}
 use Rattle.g64_image.specs.declared.fault.FromStop.TheVariants.{Refused as FileRefused, ReadFault as FileUnread, ImageFault as FileUnwritten, NotesFault as FileUntold}
 use Rattle.sector_report.specs.declared.naming.Naming.{Naming}
+use Rattle.track_shelf.specs.Files.{File}
 use Rattle.flux_cli.proofs.Blaming.{good_blames}
 use Rattle.flux_cli.specs.Blamed.{shelf_blame, source_blame}
-use Rattle.flux_cli.specs.Endings.{Ending, EndsBy, disk_ending, ending_blame, ends, file_ending, image_ending, plan_ending, refuses, shelf_ending, written_status}
+use Rattle.flux_cli.specs.Endings.{Ending, EndsBy, EndsDumps, disk_ending, ending_blame, ends, file_ending, image_ending, plan_ending, refusal, refuses, written_status}
 use Rattle.flux_cli.specs.Runs.{growth}
 use Rattle.flux_cli.specs.Work.{Got, GotPart}
 
@@ -47,6 +48,12 @@ module _ {N : Type 0} (P : Status → Moment N → Type 0) where
   ends-refused text ImageFault before after line part never = absurd never
   ends-refused text Memory before after line part never = absurd never
   ends-refused text ShelfFault before after line part never = absurd never
+
+-- the line of a refusal was written, or cut
+pub refused-as : {N : Type 0} {before after : Moment N} {line : List ℕ} (answer : Result (Unit {0}) Failed) → Puts before after line answer
+    → EndsBy (refuses line) (refusal answer) before after
+refused-as (Ok tt) puts = puts
+refused-as (Err failed) puts = (failed, puts)
 
 -- the line of a refusal counts as the notes' own
 module _ (blame : Status → Blame) (quiet : blame Refused ≡ no_one) (told : blame NotesFault ≡ the_notes) {N : Type 0} {source source' image image' notes : FaultCounts} where
@@ -122,13 +129,16 @@ module _ {before after : OutsideCounts} where
   file-blame (Err FileUntold) counts = counts
   file-blame (Err (FileRefused fault)) counts = counts
 
-  pub shelf-blame : {A : Type 0} (by : A → Status) → ((done : A) → IsEnd (by done)) → (answer : Result A DumpsFault) → CountsBy (dumps_blame answer) before after
-      → CountsBy (ending_blame shelf_blame (shelf_ending by answer)) before after
-  shelf-blame by end (Ok done) counts = end-blames (by done) (end done) counts
-  shelf-blame by end (Err (NoFiles dump)) counts = counts
-  shelf-blame by end (Err DumpsUnread) counts = counts
-  shelf-blame by end (Err DumpsUnwritten) counts = counts
-  shelf-blame by end (Err DumpsUntold) counts = counts
+-- dumps blame by what was answered of them
+module _ {A N : Type 0} (told : Option (List File)) (dumps : List (List ℕ)) {source source' image image' notes : FaultCounts} (by : A → Status) (end : (done : A) → IsEnd (by done))
+    (status : Status) (before after : Moment N) where
+  pub dumps-blame : (answer : Result A DumpsFault) → CountsBy (dumps_blame answer) (three_counts source image notes) (three_counts source' image' before.counts)
+      → EndsDumps told dumps by answer status before after → CountsBy (shelf_blame status) (three_counts source image notes) (three_counts source' image' after.counts)
+  dumps-blame (Ok done) counts is = ends-blame shelf_blame refl refl (ends (by done)) status before after (end-blames (by done) (end done) counts) is
+  dumps-blame (Err (NoFiles number)) counts is = ends-blame shelf_blame refl refl (refuses is.line) status before after counts is.ends
+  dumps-blame (Err DumpsUnread) counts is = ends-blame shelf_blame refl refl (ends ShelfFault) status before after counts is.ends
+  dumps-blame (Err DumpsUnwritten) counts is = ends-blame shelf_blame refl refl (ends ImageFault) status before after counts is.ends
+  dumps-blame (Err DumpsUntold) counts is = ends-blame shelf_blame refl refl (ends NotesFault) status before after counts is.ends
 
 -- what a command over the source ends with where it had its memory
 abbrev pub IsOverSource : Status → Type 0
@@ -168,13 +178,13 @@ module _ {N : Type 0} (before after : Moment N) (status : Status) where
   disk-over-source (Err (DiskRefused track block fault)) is =
       ended-by-line _ IsOverSource tt tt is
 
-  pub shelf-over-shelf : {A : Type 0} (by : A → Status) → ((done : A) → IsEnd (by done)) → (answer : Result A DumpsFault) → EndsBy (shelf_ending by answer) status before after
-      → IsOverShelf status
-  shelf-over-shelf by end (Ok done) is = ends-with (λ (s : Status) (n : Moment N). IsOverShelf s) _ status before after (end-over-shelf (by done) (end done)) is
-  shelf-over-shelf by end (Err DumpsUnread) is = ends-with (λ (s : Status) (n : Moment N). IsOverShelf s) ShelfFault status before after tt is
-  shelf-over-shelf by end (Err DumpsUnwritten) is = ends-with (λ (s : Status) (n : Moment N). IsOverShelf s) ImageFault status before after tt is
-  shelf-over-shelf by end (Err DumpsUntold) is = ends-with (λ (s : Status) (n : Moment N). IsOverShelf s) NotesFault status before after tt is
-  shelf-over-shelf by end (Err (NoFiles dump)) is = ended-by-line _ IsOverShelf tt tt is
+  pub shelf-over-shelf : {A : Type 0} (told : Option (List File)) (dumps : List (List ℕ)) (by : A → Status) → ((done : A) → IsEnd (by done)) → (answer : Result A DumpsFault)
+      → EndsDumps told dumps by answer status before after → IsOverShelf status
+  shelf-over-shelf told dumps by end (Ok done) is = ends-with (λ (s : Status) (n : Moment N). IsOverShelf s) _ status before after (end-over-shelf (by done) (end done)) is
+  shelf-over-shelf told dumps by end (Err DumpsUnread) is = ends-with (λ (s : Status) (n : Moment N). IsOverShelf s) ShelfFault status before after tt is.ends
+  shelf-over-shelf told dumps by end (Err DumpsUnwritten) is = ends-with (λ (s : Status) (n : Moment N). IsOverShelf s) ImageFault status before after tt is.ends
+  shelf-over-shelf told dumps by end (Err DumpsUntold) is = ends-with (λ (s : Status) (n : Moment N). IsOverShelf s) NotesFault status before after tt is.ends
+  shelf-over-shelf told dumps by end (Err (NoFiles dump)) is = ended-by-line _ IsOverShelf tt tt is.ends
 
 -- what is written to the image alone
 pub written-blame : {source image image' notes : FaultCounts} (answer : Result (Unit {0}) Failed) → Counts (is_err answer) image image'

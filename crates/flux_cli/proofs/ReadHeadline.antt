@@ -1,6 +1,6 @@
 -- From what a run did over dumps to what is known of it.
 use Rattle.std.specs.Prelude.{if◌then◌else◌}
-use Rattle.std.proofs.Common.{◌≡◌, ◌≤◌, ℕ, Bool, true, false, List, ◌∷◌, ◌++◌, drop, length, Option, Some, None, inl, inr, sym, ap, ◌∙◌, subst, arith}
+use Rattle.std.proofs.Common.{◌≡◌, ◌≤◌, ℕ, Bool, true, false, List, [], ◌∷◌, ◌++◌, drop, get_or, length, Option, Some, None, inl, inr, sym, ap, ◌∙◌, subst, arith}
 use Rattle.disk_map.specs.Dumps.{IsDumpsDrawn, PicturesOfDumpsShowReports, ShowsReport}
 use Rattle.dump_reading.specs.Outcomes.{DumpDisk, DumpsRead, IsDumpsRead}
 use Rattle.dump_reading.specs.Totals.{is_complete}
@@ -13,16 +13,17 @@ use Rattle.law_read_dumps.specs.Said.{EachIsSaid, GoodStaysOrIsContradicted, Sai
 use Rattle.law_reported_dumps.specs.Told.{LinesTell, NoSectorIsToldTwice, PassedLinesAreTold}
 use Rattle.sector_images.specs.Formats.{IsWordOfFormat, WordsBeginWithLetters, WordsNameFormats}
 use Rattle.sector_images.specs.declared.format.Format.{Format}
+use Rattle.flux_cli.specs.EmptyText.{empty_text}
 use Rattle.track_shelf.specs.Files.{File}
 use Rattle.flux_words.specs.DumpParts.{options_in}
 use Rattle.flux_words.specs.DumpWords.{AreReadWords, Asked, option_words, shown_of}
 use Rattle.flux_cli.specs.AskedDisks.{asked_disk}
 use Rattle.flux_cli.specs.FolderRuns.{OnShelf}
-use Rattle.flux_cli.specs.ReadHeadline.{GaveDumpsOrCut, GavePicture, GaveShown, OfDumps, ReadsAsExpected}
+use Rattle.flux_cli.specs.ReadHeadline.{GaveDumpsOrCut, GaveEmpty, GavePicture, GaveShown, OfDumps, ReadsAsExpected}
 use Rattle.flux_cli.specs.ReadRuns.{IsShown, read_status, read_work}
 use Rattle.flux_cli.specs.Runs.{growth}
 use Rattle.flux_cli.specs.ShelfRuns.{AskOfShelf, OfShelf, a_folder, a_sector, an_identity, some_dumps, Ran, RanBy, Surroundings, on_shelf}
-use Rattle.flux_cli.specs.ShelfWork.{DidOnShelf, FinishedOnShelf, SaysOnShelf}
+use Rattle.flux_cli.specs.ShelfWork.{DidOnShelf, FinishedOnShelf, FirstEmpty, SaysOnShelf, TellsEmpty}
 use Rattle.flux_cli.specs.Work.{Got}
 use Rattle.flux_words.specs.declared.dump_words.DumpOptions.{DumpOptions}
 use Rattle.flux_words.specs.declared.dump_words.Shown.{Shown}
@@ -132,17 +133,29 @@ module _ (laws : DumpLaws) {H W N : Type 0} (disk : DumpDisk) (files : List File
   gave : (shown : Shown) (status : Status) → (status ≡ Refused → ⊥) → FinishedOnShelf (read_work shown disk) status before after → GaveShown shown disk files status before after
   gave shown status other f =
       elim f.is [
-        | inl (number, low, first, is) ↦ absurd (other (f.status_is ∙ ap (λ o. o.status) is))
+        | inl (line, first, is) ↦ absurd (other (f.status_is ∙ ap (λ o. o.status) is))
         | inr (none, (d, read, is)) ↦ gave_shown shown status d (subst (λ (t : Option (List File)). IsShown shown disk t d) told read) (f.status_is ∙ ap (λ o. o.status) is)
             (rw is at f.image_got) (rw is at f.notes_got)
       ]
+
+  gave_empty : (line : List ℕ) → FirstEmpty disk before.shelf.files line → Got (growth before.image after.image) [] → Got (growth before.notes after.notes) line
+      → GaveEmpty disk files before after
+  gave_empty line first image_got notes_got =
+      let tells : TellsEmpty (Some files) disk.dumps first.number line = subst (λ (t : Option (List File)). TellsEmpty t disk.dumps first.number line) told first.tells in
+      record {
+        number = first.number;
+        low = first.low;
+        is = first.is files told;
+        image_got = image_got;
+        notes_got = subst (Got (growth before.notes after.notes)) (tells.is ∙ ap (empty_text first.number (get_or disk.dumps first.number [])) tells.kind_is) notes_got;
+      }
 
   pub gave_or_cut : (shown : Shown) (status : Status) → SaysOnShelf (read_work shown disk) status before after → GaveDumpsOrCut shown disk files status before after
   gave_or_cut shown AllGood says = gave shown AllGood all_refused says
   gave_or_cut shown NotAllGood says = gave shown NotAllGood not_refused says
   gave_or_cut shown Refused f =
       elim f.is [
-        | inl (number, low, first, is) ↦ (number, low, first files told)
+        | inl (line, first, is) ↦ gave_empty line first (rw is at f.image_got) (rw is at f.notes_got)
         | inr (none, (d, read, is)) ↦ absurd (by_complete (is_complete d.totals) (f.status_is ∙ ap (λ o. o.status) is))
       ]
   gave_or_cut shown Usage says = says

@@ -31,7 +31,7 @@ read-ends totals = either-ends (is_complete totals)
 
 module _ (disk : DumpDisk) (told : Option (List File)) (image notes : Growth) where
   pub read-answers : (answer : Result DumpTotals DumpsFault) → SaysOfDumps disk told image.before image.after notes.before notes.after answer
-      → Answers (read_work Image disk) told image notes read_status answer
+      → Answers (read_work Image disk) told disk.dumps image notes read_status answer
   read-answers (Ok totals) says = record {
     outcome = read_outcome says.1.outcome;
     is = inr (says.0, (says.1.outcome, says.1.is, refl));
@@ -41,13 +41,13 @@ module _ (disk : DumpDisk) (told : Option (List File)) (image notes : Growth) wh
     notes_got = says.1.notes_grew;
   }
   read-answers (Err (NoFiles number)) says =
-      none-of-disk (read_work Image disk) told image notes disk number says.0 says.1 says.2 says.3 (inl (number, says.0, says.1, refl)) (λ after cut. inr cut)
+      none-of-disk (read_work Image disk) told image notes disk number says.0 says.1 says.2 says.3 (λ line first. inl (line, first, refl)) (λ after cut. inr cut)
   read-answers (Err ShelfFault) says = says
   read-answers (Err ImageFault) says = says
   read-answers (Err NotesFault) says = inl says
 
   pub draw-answers : (answer : Result DumpTotals DumpsFault) → SaysOfDrawing disk told image.before image.after answer → notes.after ≡ notes.before
-      → Answers (read_work Picture disk) told image notes read_status answer
+      → Answers (read_work Picture disk) told disk.dumps image notes read_status answer
   draw-answers (Ok totals) says same = record {
     outcome = read_outcome says.1.outcome;
     is = inr (says.0, (says.1.outcome, says.1.is, refl));
@@ -57,7 +57,7 @@ module _ (disk : DumpDisk) (told : Option (List File)) (image notes : Growth) wh
     notes_got = subst (Got notes) (sym (ap (λ (d : DumpsRead). d.notes) says.1.is.is)) (same-nothing notes.before notes.after same);
   }
   draw-answers (Err (NoFiles number)) says same =
-      none-of-disk (read_work Picture disk) told image notes disk number says.0 says.1 says.2 same (inl (number, says.0, says.1, refl)) (λ after cut. cut)
+      none-of-disk (read_work Picture disk) told image notes disk number says.0 says.1 says.2 same (λ line first. inl (line, first, refl)) (λ after cut. cut)
   draw-answers (Err ShelfFault) says same = (says, same-kept notes.before notes.after same)
   draw-answers (Err ImageFault) says same = (says, same-kept notes.before notes.after same)
   draw-answers (Err NotesFault) says same = absurd says

@@ -23,7 +23,7 @@ pub sector-ends : (copies : ℕ) → IsEnd (sector_status copies)
 sector-ends copies = either-ends (nat_eq copies 1)
 
 pub sector-answers : (asked : SectorAsked) (told : Option (List File)) (image notes : Growth) (answer : Result ℕ DumpsFault)
-    → SaysOfSector asked told image.before image.after notes.before notes.after answer → Answers (sector_work asked) told image notes sector_status answer
+    → SaysOfSector asked told image.before image.after notes.before notes.after answer → Answers (sector_work asked) told asked.disk.dumps image notes sector_status answer
 sector-answers asked told image notes (Ok copies) says = record {
   outcome = sector_outcome says.0;
   is = inr (says.1, (says.0, says.2, refl));
@@ -33,7 +33,7 @@ sector-answers asked told image notes (Ok copies) says = record {
   notes_got = says.4;
 }
 sector-answers asked told image notes (Err (NoFiles number)) says =
-    none-of-disk (sector_work asked) told image notes asked.disk number says.0 says.1 says.2 says.3 (inl (number, says.0, says.1, refl)) (λ after cut. inr cut)
+    none-of-disk (sector_work asked) told image notes asked.disk number says.0 says.1 says.2 says.3 (λ line first. inl (line, first, refl)) (λ after cut. inr cut)
 sector-answers asked told image notes (Err ShelfFault) says = (same-kept image.before image.after says.0, same-kept notes.before notes.after says.1)
 sector-answers asked told image notes (Err ImageFault) says = (says.0, says.2, says.3, says.4)
 sector-answers asked told image notes (Err NotesFault) says = inl (says.0, says.2, same-kept image.before image.after says.3, says.4)

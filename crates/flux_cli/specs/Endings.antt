@@ -1,5 +1,5 @@
 -- How a command ends by what its work answered: with a status, or with a line to the notes that says why the input is refused.
-use Rattle.std.specs.Prelude.{◌≡◌, ℕ, List, None, Result, Ok, Err}
+use Rattle.std.specs.Prelude.{◌≡◌, ℕ, List, Option, None, Result, Ok, Err}
 use Rattle.dump_reading.specs.declared.fault.DumpsFault.{DumpsFault}
 use Rattle.dump_reading.specs.declared.fault.DumpsFault.TheVariants.{NoFiles, ShelfFault as DumpsUnread, ImageFault as DumpsUnwritten, NotesFault as DumpsUntold}
 use Rattle.flux_base.specs.Blames.{Blame, no_one}
@@ -16,11 +16,12 @@ use Rattle.flux_engine.specs.declared.write_fault.WriteFault.TheVariants.{WrongS
 use Rattle.g64_image.specs.Answers.{FromAnswer}
 use Rattle.g64_image.specs.Lines.{g64_text}
 use Rattle.g64_image.specs.declared.fault.FromStop.TheVariants.{Refused as FileRefused, ReadFault as FileUnread, ImageFault as FileUnwritten, NotesFault as FileUntold}
-use Rattle.sector_report.specs.DumpLines.{no_files_text}
 use Rattle.sector_report.specs.Lines.{image_text, refused_text}
 use Rattle.sector_report.specs.declared.naming.Naming.{Naming}
 use Rattle.flux_cli.specs.DisksWork.{status_of}
 use Rattle.flux_cli.specs.PlanWork.{stop_text}
+use Rattle.flux_cli.specs.ShelfWork.{TellsEmpty}
+use Rattle.track_shelf.specs.Files.{File}
 
 pub data Ending : Type 0 where
   ends : Status → Ending
@@ -32,6 +33,11 @@ EndsBy (ends status) answer before after = (answer ≡ status) × (after ≡ bef
 EndsBy (refuses text) Refused before after = Puts {T = Unit {0}} before after text (Ok tt)
 EndsBy (refuses text) NotesFault before after = (failed : Failed) × Puts {T = Unit {0}} before after text (Err failed)
 EndsBy (refuses text) _ before after = ⊥
+
+-- the status where a line refuses the input, by what became of that line
+abbrev pub refusal : Result (Unit {0}) Failed → Status
+refusal (Ok _) = Refused
+refusal (Err _) = NotesFault
 
 -- whom it blames that all was done as answered, but for the line
 abbrev pub ending_blame : (Status → Blame) → Ending → Blame
@@ -75,13 +81,24 @@ file_ending (Err FileUnwritten) = ends ImageFault
 file_ending (Err FileUntold) = ends NotesFault
 file_ending (Err (FileRefused fault)) = refuses (g64_text fault)
 
--- what was asked of dumps, by what became of it
-abbrev pub fault_ending : DumpsFault → Ending
-fault_ending (NoFiles dump) = refuses (no_files_text dump)
-fault_ending DumpsUnread = ends ShelfFault
-fault_ending DumpsUnwritten = ends ImageFault
-fault_ending DumpsUntold = ends NotesFault
+-- what was asked of dumps and was not done, or not all, by the line that refuses it
+abbrev pub fault_ending : (line : List ℕ) → DumpsFault → Ending
+fault_ending line (NoFiles dump) = refuses line
+fault_ending line DumpsUnread = ends ShelfFault
+fault_ending line DumpsUnwritten = ends ImageFault
+fault_ending line DumpsUntold = ends NotesFault
 
-abbrev pub shelf_ending : {A : Type 0} → (A → Status) → Result A DumpsFault → Ending
-shelf_ending by (Ok done) = ends (by done)
-shelf_ending by (Err fault) = fault_ending fault
+-- the line is that on the dump that has no files
+abbrev pub RefusesBy : Option (List File) → (dumps : List (List ℕ)) → DumpsFault → (line : List ℕ) → Type 0
+RefusesBy told dumps (NoFiles number) line = TellsEmpty told dumps number line
+RefusesBy told dumps _ line = Unit {0}
+
+pub record EndsFault {N : Type 0} (told : Option (List File)) (dumps : List (List ℕ)) (fault : DumpsFault) (status : Status) (before after : Moment N) : Type 0 where
+  pub line : List ℕ
+  pub refuses : RefusesBy told dumps fault line
+  pub ends : EndsBy (fault_ending line fault) status before after
+
+-- what was asked of dumps, by what became of it
+abbrev pub EndsDumps : {A N : Type 0} → Option (List File) → (dumps : List (List ℕ)) → (A → Status) → Result A DumpsFault → Status → (before after : Moment N) → Type 0
+EndsDumps told dumps by (Ok done) status before after = EndsBy (ends (by done)) status before after
+EndsDumps told dumps by (Err fault) status before after = EndsFault told dumps fault status before after

@@ -15,6 +15,7 @@ pub mod Blamed
 pub mod PlanRuns
 pub mod DisksRuns
 pub mod FolderRuns
+pub mod EmptyText
 pub mod ShelfWork
 pub mod ReadRuns
 pub mod SectorRuns

@@ -1,5 +1,5 @@
 -- What is known of what `read` gives, the image and the report or a picture, where the shelf tells its files.
-use Rattle.std.specs.Prelude.{◌≡◌, ◌<◌, ◌↔◌, IsTrue, ℕ, List, [], length, Some}
+use Rattle.std.specs.Prelude.{◌≡◌, ◌<◌, ◌↔◌, IsTrue, ℕ, List, [], get_or, length, Some}
 use Rattle.disk_map.specs.Dumps.{IsDumpsDrawn, ShowsReport}
 use Rattle.dump_reading.specs.Outcomes.{DumpDisk, DumpsRead, IsDumpsRead, IsFirstEmpty}
 use Rattle.dump_reading.specs.Totals.{is_complete}
@@ -15,6 +15,8 @@ use Rattle.law_read_dumps.specs.Complete.{IsAllRead}
 use Rattle.law_read_dumps.specs.Lines.{ArePassedSaid, HasNoOtherLines, HaveTheirNumbers}
 use Rattle.law_read_dumps.specs.Said.{AreOfFiles, IsSaid, IsSaidRightly, StaysOrIsContradicted, came_in}
 use Rattle.law_reported_dumps.specs.Told.{ArePassedTold, AreTold, TellsOnce}
+use Rattle.track_shelf.specs.DumpKinds.{kind_in}
+use Rattle.flux_cli.specs.EmptyText.{empty_text}
 use Rattle.track_shelf.specs.Files.{File}
 use Rattle.turn_merge.specs.Readings.{verdict}
 use Rattle.flux_words.specs.DumpWords.{AreReadWords, Asked, CanBeRead, shown_of}
@@ -76,11 +78,19 @@ abbrev pub GaveShown : {H W N : Type 0} → Shown → DumpDisk → List File →
 GaveShown Image disk files status before after = GaveDumps disk files status before after
 GaveShown Picture disk files status before after = GavePicture disk files status before after
 
+-- the first dump that has none of the disk's files is told, with what is there
+pub record GaveEmpty {H W N : Type 0} (disk : DumpDisk) (files : List File) (before after : OnShelf H W N) : Type 0 where
+  pub number : ℕ
+  pub low : number < length disk.dumps
+  pub is : IsFirstEmpty disk files (Some number)
+  pub image_got : Got (growth before.image after.image) []
+  pub notes_got : Got (growth before.notes after.notes) (empty_text number (get_or disk.dumps number []) (kind_in files (get_or disk.dumps number [])))
+
 -- or a dump has none of the files; or a fault of one object, which that object counted, cut the run; or there was no memory to begin
 abbrev pub GaveDumpsOrCut : {H W N : Type 0} → Shown → DumpDisk → List File → Status → (before after : OnShelf H W N) → Type 0
 GaveDumpsOrCut shown disk files AllGood before after = GaveShown shown disk files AllGood before after
 GaveDumpsOrCut shown disk files NotAllGood before after = GaveShown shown disk files NotAllGood before after
-GaveDumpsOrCut shown disk files Refused before after = (number : ℕ) × (number < length disk.dumps) × IsFirstEmpty disk files (Some number)
+GaveDumpsOrCut shown disk files Refused before after = GaveEmpty disk files before after
 GaveDumpsOrCut shown disk files Usage before after = ⊥
 GaveDumpsOrCut shown disk files ReadFault before after = ⊥
 GaveDumpsOrCut shown disk files ImageFault before after = Rose before.image.counts.faults after.image.counts.faults

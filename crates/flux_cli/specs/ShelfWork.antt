@@ -1,11 +1,13 @@
 -- What there is to do for a command over dumps on the shelf, and what was done: it gave all that the files come to, or a fault cut it.
-use Rattle.std.specs.Prelude.{◌≡◌, ◌⊎◌, ◌<◌, ℕ, List, [], length, Option, Some, None}
+use Rattle.std.specs.Prelude.{◌≡◌, ◌⊎◌, ◌<◌, ℕ, List, [], get_or, length, Option, Some, None}
 use Rattle.dump_reading.specs.Outcomes.{DumpDisk, IsToldEmpty}
 use Rattle.flux_base.specs.Outside.{Rose}
 use Rattle.flux_base.specs.declared.status.Status.{Status}
 use Rattle.flux_base.specs.declared.status.Status.TheVariants.{AllGood, NotAllGood, Refused, Usage, ReadFault, ImageFault, NotesFault, Memory, ShelfFault}
-use Rattle.sector_report.specs.DumpLines.{no_files_text}
+use Rattle.track_shelf.specs.DumpKinds.{IsKindOf}
+use Rattle.flux_cli.specs.EmptyText.{empty_text}
 use Rattle.track_shelf.specs.Files.{File}
+use Rattle.track_shelf.specs.declared.kind.DumpKind.{DumpKind}
 use Rattle.flux_cli.specs.FolderRuns.{OnShelf, ShelfStays}
 use Rattle.flux_cli.specs.Runs.{growth}
 use Rattle.flux_cli.specs.Work.{Got, GotNothing, GotPart, Growth, Outcome}
@@ -48,19 +50,31 @@ pub record DidOnShelf {H W N : Type 0} (work : ShelfWork) (status : Status) (bef
   pub says : SaysOnShelf work status before after
   pub stays : ShelfStays before.shelf after.shelf
 
--- where a dump has none of the wanted files, its number is told
-abbrev pub empty_outcome : ℕ → Outcome
-empty_outcome number = record { status = Refused; image = []; notes = no_files_text number }
+-- The line on the dump of this number, which has none of the wanted files: it tells the dump's word, and what is there. What is there is so, where
+-- the files are told.
+pub record TellsEmpty (told : Option (List File)) (dumps : List (List ℕ)) (number : ℕ) (line : List ℕ) : Type 0 where
+  pub kind : DumpKind
+  pub kind_is : IsKindOf told (get_or dumps number []) kind
+  pub is : line ≡ empty_text number (get_or dumps number []) kind
 
--- The first of the dumps that has none of the disk's files is refused; where each has one, the outcome is one of these.
-abbrev pub IsEmptyOr : DumpDisk → (told : Option (List File)) → (Outcome → Type 0) → Outcome → Type 0
-IsEmptyOr disk told Is o =
-    ((number : ℕ) × (number < length disk.dumps) × IsToldEmpty disk told (Some number) × (o ≡ empty_outcome number)) ⊎ (IsToldEmpty disk told None × Is o)
+-- the outcome where one is told
+abbrev pub empty_outcome : (line : List ℕ) → Outcome
+empty_outcome line = record { status = Refused; image = []; notes = line }
 
--- of the line that says which dump has none of the disk's files a part was written that is shorter than it
-pub record CutInEmpty (disk : DumpDisk) (told : Option (List File)) (image notes : Growth) : Type 0 where
+-- the first of the dumps that has none of the disk's files, and the line on it
+pub record FirstEmpty (disk : DumpDisk) (told : Option (List File)) (line : List ℕ) : Type 0 where
   pub number : ℕ
   pub low : number < length disk.dumps
   pub is : IsToldEmpty disk told (Some number)
+  pub tells : TellsEmpty told disk.dumps number line
+
+-- The first of the dumps that has none of the disk's files is refused; where each has one, the outcome is one of these.
+abbrev pub IsEmptyOr : DumpDisk → (told : Option (List File)) → (Outcome → Type 0) → Outcome → Type 0
+IsEmptyOr disk told Is o = ((line : List ℕ) × FirstEmpty disk told line × (o ≡ empty_outcome line)) ⊎ (IsToldEmpty disk told None × Is o)
+
+-- of the line that says which dump has none of the disk's files a part was written that is shorter than it
+pub record CutInEmpty (disk : DumpDisk) (told : Option (List File)) (image notes : Growth) : Type 0 where
+  pub line : List ℕ
+  pub first : FirstEmpty disk told line
   pub image_got : GotNothing image
-  pub notes_got : GotPart notes (no_files_text number)
+  pub notes_got : GotPart notes line

@@ -1,31 +1,30 @@
 //! How a command ends by what its work answered: one function for each kind of answer. Notes say why an input is refused.
 
-ghost use Rattle.std.specs.Prelude.{◌≡◌};
+ghost use Rattle.std.specs.Prelude.{◌≡◌, [], get_or};
 ghost use Rattle.flux_base.specs.Moments.{moment};
-ghost use Rattle.flux_cli.specs.Endings.{EndsBy, disk_ending, fault_ending, file_ending, image_ending, plan_ending, refuses, shelf_ending, written_status};
+ghost use Rattle.flux_cli.specs.Endings.{EndsBy, EndsDumps, EndsFault, disk_ending, file_ending, image_ending, plan_ending, refusal, refuses, written_status};
 ghost use Rattle.flux_cli.specs.IdentityRuns.{identity_status};
 ghost use Rattle.flux_cli.specs.ReadRuns.{read_status};
 ghost use Rattle.flux_cli.specs.SectorRuns.{sector_status};
 
 use crate::disks::status_of;
+use crate::empty::write_empty;
 use crate::identity::status_of as status_of_identity;
 use crate::planned::stop_line;
 use crate::read::status_of as status_of_dumps;
 use dump_identity::Finding;
 use dump_reading::{DumpTotals, DumpsFault};
-use flux_base::{Failed, Sink, Status};
+use flux_base::{Failed, Sink, Status, Word};
 use flux_engine::{EngineFault, PlanFault, WriteFault};
 use g64_image::{FromStop, g64_line};
-use sector_report::{Line, Naming, Totals, image_line, no_files_line, refused_line, write_line};
+use sector_report::{Line, Naming, Totals, image_line, refused_line, write_line};
+use track_shelf::Shelf;
 
 /// Writes the line that says why an input is refused.
 pub(crate) fn refuse<N: Sink>(line: &Line, notes: &mut N) -> Status
     ensures { EndsBy (refuses line.now.bytes) result (moment N.written N.faults N.failed notes.old) (moment N.written N.faults N.failed notes.new) }
 {
-    match write_line(notes, line) {
-        Ok(()) => Status::Refused,
-        Err(_) => Status::NotesFault,
-    }
+    refused_by(write_line(notes, line))
 }
 
 /// Ends a line or a page that was written to the image, of which no input is read.
@@ -106,48 +105,88 @@ pub(crate) fn end_of_file<N: Sink>(answer: Result<Totals, FromStop>, notes: &mut
     }
 }
 
-/// Ends what was asked of dumps and was not done, or not all.
-fn end_of_fault<N: Sink>(fault: DumpsFault, notes: &mut N) -> Status
-    ensures { EndsBy (fault_ending fault) result (moment N.written N.faults N.failed notes.old) (moment N.written N.faults N.failed notes.new) }
+/// Ends what was asked of dumps and was not done, or not all. Of the first dump that has none of the wanted files the notes say what is there.
+fn end_of_fault<H: Shelf, N: Sink>(
+    fault: DumpsFault,
+    dumps: &[Word],
+    shelf: &H,
+    notes: &mut N,
+) -> Status
+    ensures { EndsFault (H.files shelf.now) dumps.now fault result (moment N.written N.faults N.failed notes.old) (moment N.written N.faults N.failed notes.new) }
 {
     match fault {
-        DumpsFault::NoFiles { dump } => refuse(&no_files_line(dump), notes),
+        DumpsFault::NoFiles { dump } => {
+            let word = word_at(dumps, dump);
+            refused_by(write_empty(dump, word, &shelf.kind_of(word), notes))
+        }
         DumpsFault::ShelfFault => Status::ShelfFault,
         DumpsFault::ImageFault => Status::ImageFault,
         DumpsFault::NotesFault => Status::NotesFault,
     }
 }
 
+/// The bytes of the word of this number.
+fn word_at(words: &[Word], number: u8) -> &[u8]
+    ensures { result.now ≡ get_or words.now number [] }
+{
+    match words.get(usize::from(number)) {
+        Some(word) => word.bytes(),
+        None => &[],
+    }
+}
+
+/// How a command ends whose input is refused, by what became of the line that says so.
+fn refused_by(answer: Result<(), Failed>) -> Status
+    ensures { result ≡ refusal answer }
+{
+    match answer {
+        Ok(()) => Status::Refused,
+        Err(_) => Status::NotesFault,
+    }
+}
+
 /// Ends a disk that was read of its dumps.
-pub(crate) fn end_of_dumps<N: Sink>(answer: Result<DumpTotals, DumpsFault>, notes: &mut N) -> Status
-    ensures { EndsBy (shelf_ending read_status answer) result (moment N.written N.faults N.failed notes.old) (moment N.written N.faults N.failed notes.new) }
+pub(crate) fn end_of_dumps<H: Shelf, N: Sink>(
+    answer: Result<DumpTotals, DumpsFault>,
+    dumps: &[Word],
+    shelf: &H,
+    notes: &mut N,
+) -> Status
+    ensures { EndsDumps (H.files shelf.now) dumps.now read_status answer result (moment N.written N.faults N.failed notes.old) (moment N.written N.faults N.failed notes.new) }
 {
     match answer {
         Ok(totals) => status_of_dumps(&totals),
-        Err(fault) => end_of_fault(fault, notes),
+        Err(fault) => end_of_fault(fault, dumps, shelf, notes),
     }
 }
 
 /// Ends a dump of which is said which disk it is of.
-pub(crate) fn end_of_identity<N: Sink>(
+pub(crate) fn end_of_identity<H: Shelf, N: Sink>(
     answer: Result<Option<Finding>, DumpsFault>,
+    dumps: &[Word],
+    shelf: &H,
     notes: &mut N,
 ) -> Status
-    ensures { EndsBy (shelf_ending identity_status answer) result (moment N.written N.faults N.failed notes.old) (moment N.written N.faults N.failed notes.new) }
+    ensures { EndsDumps (H.files shelf.now) dumps.now identity_status answer result (moment N.written N.faults N.failed notes.old) (moment N.written N.faults N.failed notes.new) }
 {
     match answer {
         Ok(best) => status_of_identity(&best),
-        Err(fault) => end_of_fault(fault, notes),
+        Err(fault) => end_of_fault(fault, dumps, shelf, notes),
     }
 }
 
 /// Ends a sector that was shown as the dumps have it.
-pub(crate) fn end_of_sector<N: Sink>(answer: Result<usize, DumpsFault>, notes: &mut N) -> Status
-    ensures { EndsBy (shelf_ending sector_status answer) result (moment N.written N.faults N.failed notes.old) (moment N.written N.faults N.failed notes.new) }
+pub(crate) fn end_of_sector<H: Shelf, N: Sink>(
+    answer: Result<usize, DumpsFault>,
+    dumps: &[Word],
+    shelf: &H,
+    notes: &mut N,
+) -> Status
+    ensures { EndsDumps (H.files shelf.now) dumps.now sector_status answer result (moment N.written N.faults N.failed notes.old) (moment N.written N.faults N.failed notes.new) }
 {
     match answer {
         Ok(copies) => status_of_copies(copies),
-        Err(fault) => end_of_fault(fault, notes),
+        Err(fault) => end_of_fault(fault, dumps, shelf, notes),
     }
 }
 

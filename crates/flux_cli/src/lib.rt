@@ -3,6 +3,7 @@
 #![tactic(auto)]
 
 mod disks;
+mod empty;
 mod endings;
 mod folder;
 mod identity;

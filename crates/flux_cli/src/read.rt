@@ -42,9 +42,12 @@ pub fn show<H: Shelf, W: Sink, N: Sink>(
     match shown {
         Shown::Image => {
             let answer = read_dumps(dumps, room, shelf, image, notes);
-            end_of_dumps(answer, notes)
+            end_of_dumps(answer, dumps.names, shelf, notes)
         }
-        Shown::Picture => end_of_dumps(map_dumps(dumps, room, shelf, image), notes),
+        Shown::Picture => {
+            let answer = map_dumps(dumps, room, shelf, image);
+            end_of_dumps(answer, dumps.names, shelf, notes)
+        }
     }
 }
 

@@ -24,6 +24,7 @@ use flux_words::{DumpsAsked, ShowAsked};
 use sector_copies::{SectorRoom, show_sector};
 use sector_images::Format;
 use std::alloc::Global;
+use std::slice::from_ref;
 use track_shelf::Shelf;
 
 /// A command over the shelf, with what its words ask for.
@@ -93,7 +94,10 @@ impl<H: Shelf, W: Sink, N: Sink> ShelfTask<H, W, N> for Identify<'_> {
 
     fn run(&self, alloc: Global, shelf: &mut H, image: &mut W, notes: &mut N) -> Status {
         match IdentityRoom::reserve(alloc) {
-            Ok(room) => end_of_identity(identify(self.dump, room, shelf, image), notes),
+            Ok(room) => {
+                let answer = identify(self.dump, room, shelf, image);
+                end_of_identity(answer, from_ref(self.dump), shelf, notes)
+            }
             Err(Memory) => Status::Memory,
         }
     }
@@ -115,7 +119,7 @@ impl<H: Shelf, W: Sink, N: Sink> ShelfTask<H, W, N> for ShowAsked<'_> {
         match SectorRoom::reserve(alloc, self.format, self.number, self.sector) {
             Ok(mut room) => {
                 let answer = show_sector(&dumps, self.alone, &mut room, shelf, image, notes);
-                end_of_sector(answer, notes)
+                end_of_sector(answer, dumps.names, shelf, notes)
             }
             Err(Memory) => Status::Memory,
         }

@@ -218,8 +218,8 @@ const NO_FILES: Row = Row {
     words: &["read", "amiga", "dump"],
     status: Status::Refused,
     image: "",
-    notes: "refused dump 0 no track files\n",
-    calls: Some((0, 0, 1)),
+    notes: "refused dump 0 dump is not there\n",
+    calls: Some((0, 0, 3)),
     ..TURNS
 };
 
@@ -252,6 +252,28 @@ const ROWS: &[Row] = &[
         },
         status: Status::NotesFault,
         notes: "",
+        calls: Some((0, 0, 1)),
+        ..NO_FILES
+    },
+    Row {
+        failing: Failing {
+            notes: Some(1),
+            ..NONE
+        },
+        status: Status::NotesFault,
+        notes: "refused dump 0 ",
+        calls: Some((0, 0, 2)),
+        ..NO_FILES
+    },
+    // Of a long path the end is told.
+    Row {
+        words: &[
+            "read",
+            "amiga",
+            "0123456789abcdef0123456789abcdef0123456789abcdef0123456789abcdef0123456789abcdef0123456789abcdef12345",
+        ],
+        notes: "refused dump 0 ..123456789abcdef0123456789abcdef0123456789abcdef0123456789abcdef0123456789abcdef0123456789abcdef12345 is not there\n",
+        calls: Some((0, 0, 4)),
         ..NO_FILES
     },
     Row {

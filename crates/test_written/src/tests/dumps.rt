@@ -179,7 +179,7 @@ const SHORT_ROWS: [Short; 7] = [
         2,
         0,
         "refused dump 1 ",
-        "no track files\n",
+        "c is not there\n",
     ),
     (
         &["read", "--double-step", "ibm-360", "b"],
@@ -187,7 +187,7 @@ const SHORT_ROWS: [Short; 7] = [
         2,
         0,
         "refused dump 0 ",
-        "no track files\n",
+        "b has files of other tracks alone\n",
     ),
     // The shelf fails where files are looked for, and where those of the first track and of the second one are opened.
     (&["read", "ibm-3740", "a", "b"], &[0], 8, 0, "", ""),
@@ -290,7 +290,7 @@ const DRAWN: [Drawn; 6] = [
         &[],
         2,
         "",
-        "refused dump 1 no track files\n",
+        "refused dump 1 c is not there\n",
     ),
     (
         &["read", "--picture", "ibm-3740", "a", "b"],

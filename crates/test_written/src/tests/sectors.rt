@@ -117,7 +117,7 @@ const ROWS: [Row; 7] = [
         "",
         "",
         "",
-        "refused dump 1 no track files\n",
+        "refused dump 1 c is not there\n",
     ),
 ];
 

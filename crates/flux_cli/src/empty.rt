@@ -1,0 +1,100 @@
+//! What is told of a dump that has none of the files that were looked for.
+
+ghost use Rattle.std.specs.Prelude.{◌≡◌, ◌++◌, codes, decimal};
+ghost use Rattle.flux_base.specs.Moments.{Puts, moment};
+ghost use Rattle.flux_cli.specs.EmptyText.{empty_text, kind_text, told_path};
+
+use flux_base::{Failed, Sink, write_whole};
+use sector_report::{Line, put, put_u32, write_line};
+use track_shelf::{DumpKind, Prefix};
+
+/// How many bytes of a path are told.
+const MOST_TOLD: usize = 100;
+
+/// Writes that a dump has none of the files that were looked for, and what is there under its word. After `Failed` a part of it was written.
+#[tactic(auto, unfolding(crate::specs::EmptyText::empty_text))]
+pub(crate) fn write_empty<N: Sink>(
+    number: u8,
+    dump: &[u8],
+    kind: &DumpKind,
+    notes: &mut N,
+) -> Result<(), Failed>
+    ensures { Puts (moment N.written N.faults N.failed notes.old) (moment N.written N.faults N.failed notes.new) (empty_text number dump.now kind.now) result }
+{
+    match write_line(notes, &front_line(number)) {
+        Ok(()) => write_path_and_kind(dump, kind, notes),
+        Err(failed) => Err(failed),
+    }
+}
+
+/// Which dump it is.
+fn front_line(number: u8) -> Line
+    ensures { result.bytes ≡ codes "refused dump " ++ decimal number ++ codes " " }
+{
+    let mut line = Line::new();
+    put(&mut line, "refused dump ");
+    put_u32(&mut line, u32::from(number));
+    put(&mut line, " ");
+    line
+}
+
+/// Writes its path, and what is there.
+fn write_path_and_kind<N: Sink>(dump: &[u8], kind: &DumpKind, notes: &mut N) -> Result<(), Failed>
+    ensures { Puts (moment N.written N.faults N.failed notes.old) (moment N.written N.faults N.failed notes.new) (told_path dump.now ++ kind_text kind.now) result }
+{
+    match write_path(dump, notes) {
+        Ok(()) => write_kind(kind, notes),
+        Err(failed) => Err(failed),
+    }
+}
+
+/// Writes a path: of a long one the end, which tells the most.
+#[tactic(auto, unfolding(crate::specs::EmptyText::told_path))]
+fn write_path<N: Sink>(path: &[u8], notes: &mut N) -> Result<(), Failed>
+    ensures { Puts (moment N.written N.faults N.failed notes.old) (moment N.written N.faults N.failed notes.new) (told_path path.now) result }
+{
+    if path.len() <= MOST_TOLD {
+        return write_whole(notes, path);
+    }
+    let (_, end) = path.split_at(path.len() - MOST_TOLD);
+    match write_whole(notes, "..".as_bytes()) {
+        Ok(()) => write_whole(notes, end),
+        Err(failed) => Err(failed),
+    }
+}
+
+/// Writes what is there, to the line's end.
+fn write_kind<N: Sink>(kind: &DumpKind, notes: &mut N) -> Result<(), Failed>
+    ensures { Puts (moment N.written N.faults N.failed notes.old) (moment N.written N.faults N.failed notes.new) (kind_text kind.now) result }
+{
+    match kind {
+        DumpKind::NotThere => write_whole(notes, " is not there\n".as_bytes()),
+        DumpKind::AFile => write_whole(notes, " is a file\n".as_bytes()),
+        DumpKind::NoFiles => write_whole(notes, " has no files trackCC.H.raw\n".as_bytes()),
+        DumpKind::OtherTracks => write_whole(
+            notes,
+            " has files of other tracks alone\n".as_bytes(),
+        ),
+        DumpKind::Named(prefix) => write_named(prefix, notes),
+        DumpKind::Unknown => write_whole(notes, " cannot be looked at\n".as_bytes()),
+    }
+}
+
+/// Writes with what the names of the files that are there begin.
+fn write_named<N: Sink>(prefix: &Prefix, notes: &mut N) -> Result<(), Failed>
+    ensures { Puts (moment N.written N.faults N.failed notes.old) (moment N.written N.faults N.failed notes.new) (codes " has files " ++ (prefix.now ++ codes "CC.H.raw: name one of them\n")) result }
+{
+    match write_whole(notes, " has files ".as_bytes()) {
+        Ok(()) => write_prefix(prefix, notes),
+        Err(failed) => Err(failed),
+    }
+}
+
+fn write_prefix<N: Sink>(prefix: &Prefix, notes: &mut N) -> Result<(), Failed>
+    ensures { Puts (moment N.written N.faults N.failed notes.old) (moment N.written N.faults N.failed notes.new) (prefix.now ++ codes "CC.H.raw: name one of them\n") result }
+{
+    match write_whole(notes, prefix.as_str().as_bytes()) {
+        Ok(()) => write_whole(notes, "CC.H.raw: name one of them\n".as_bytes()),
+        Err(failed) => Err(failed),
+    }
+}
