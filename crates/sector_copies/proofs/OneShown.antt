@@ -1,52 +1,86 @@
--- The files decide what is shown of a sector.
-use Rattle.std.specs.Prelude.{◌≡◌, ◌≤◌, ◌<◌, ℕ, zero, suc, List, [], ◌++◌, get_or, length, Some, refl}
-use Rattle.std.proofs.Common.{ap, arith, subst, sym, ◌∙◌}
-use Rattle.track_shelf.specs.Files.{File}
+-- The files, and which of them failed, decide what is shown of a sector.
+use Rattle.std.specs.Prelude.{◌≡◌, ◌<◌, ℕ, ◌+◌, ◌*◌, true, false, List, [], length, Option, None, Some, refl}
+use Rattle.std.proofs.Common.{ap, arith, inl, inr, subst, sym, ◌∙◌}
+use Rattle.std.proofs.lemmas.List.{ext_get_or}
+use Rattle.kryo_stream.specs.Stream.{first_fault}
+use Rattle.kryo_stream.specs.declared.fault.StreamFault.{StreamFault}
+use Rattle.track_shelf.specs.Files.{File, file_at}
 use Rattle.turn_merge.specs.Readings.{NotedReading, good_ones, verdict}
 use Rattle.turn_merge.specs.declared.verdict.Verdict.{Verdict}
-use Rattle.flux_engine.specs.Captured.{AreReadingsOf}
-use Rattle.flux_engine.specs.Plans.{Seen, Streams, joined, passed_one, passed_to}
-use Rattle.flux_engine.specs.Recordings.{track_at}
+use Rattle.flux_engine.specs.LoopProgress.{lost_count, seen_at}
+use Rattle.flux_engine.specs.Plans.{Seen, is_failed, joined, passed_to}
 use Rattle.flux_engine.specs.declared.gathered_track.PassedStream.{PassedStream}
-use Rattle.flux_engine.specs.declared.plan.Clocks.TheVariants.{Both}
-use Rattle.flux_engine.specs.declared.plan.Rule.TheVariants.{Controller}
-use Rattle.dump_reading.specs.DumpStreams.{dump_streams}
+use Rattle.dump_reading.specs.DumpStreams.{FailedAlike, IsOrFailed, path_in, seen_of, seen_unless}
 use Rattle.sector_copies.specs.Copies.{Copy, copies_over}
-use Rattle.sector_copies.specs.Laws.{AreReadingsOfFiles, ShownIsOne}
+use Rattle.sector_copies.specs.Laws.{AreReadingsOfCame, ShownIsOne}
 use Rattle.sector_copies.specs.Shown.{IsSectorShown, SectorAsked, SectorShown, shown_of}
-use Rattle.sector_copies.specs.TrackReadings.{TellsOf}
+use Rattle.sector_copies.specs.TrackReadings.{of_track, streams_of}
 
--- the same streams of a track are passed over
-same_passed : (s t : Streams) (n count : ℕ) → ((q : ℕ) → q < count → s n q ≡ t n q) → (k : ℕ) → k ≤ count → passed_to s n k ≡ passed_to t n k
-same_passed s t n count same zero low = refl
-same_passed s t n count same (suc k) low =
-    ap (λ (ps : List PassedStream). ps ++ passed_one k (s n k).passed) (same_passed s t n count same k (omega (arith, low)))
-    ∙ ap (λ (seen : Seen). passed_to t n k ++ passed_one k seen.passed) (same k (omega (arith, low)))
+abbrev no_seen : Seen
+no_seen = record { fault = None; passed = None; times = []; indexes = [] }
 
-module _ (asked : SectorAsked) (files : List File) (captures : List (List NotedReading)) (all : AreReadingsOfFiles asked files captures) where
-  abbrev Told : Streams
-  Told = dump_streams asked.disk.stepping asked.disk.dumps files asked.disk.format
+-- a file says of itself that it is missing or refused, or what it has: that it failed is not said there
+never_failed : (file : Option File) → is_failed (seen_of file).passed ≡ false
+never_failed None = refl
+never_failed (Some file) = by (first_fault file.bytes)
+  where
+    by : (fault : Option (ℕ × StreamFault)) → is_failed (seen_unless file.bytes fault).passed ≡ false
+    by None = refl
+    by (Some fault) = refl
 
-  abbrev Outcome : Verdict
-  Outcome = verdict (joined captures) asked.sector
+-- what came twice of a file is the same, where it failed both times or neither
+same_seen : (a b : Seen) (file : Option File) → IsOrFailed a (seen_of file) → IsOrFailed b (seen_of file) → is_failed a.passed ≡ is_failed b.passed → a ≡ b
+same_seen a b file (inl x) (inl y) alike = x ∙ sym y
+same_seen a b file (inr x) (inr y) alike = x ∙ sym y
+same_seen a b file (inl x) (inr y) alike =
+    absurd (apart (sym (never_failed file) ∙ ap (λ (s : Seen). is_failed s.passed) (sym x) ∙ alike ∙ ap (λ (s : Seen). is_failed s.passed) y))
+  where
+    apart : false ≡ true → ⊥
+    apart same = cc
+same_seen a b file (inr x) (inl y) alike =
+    absurd (apart (sym (never_failed file) ∙ ap (λ (s : Seen). is_failed s.passed) (sym y) ∙ sym alike ∙ ap (λ (s : Seen). is_failed s.passed) x))
+  where
+    apart : false ≡ true → ⊥
+    apart same = cc
 
-  abbrev Passed : List PassedStream
-  Passed = passed_to Told asked.number (length asked.disk.dumps)
+module _ (asked : SectorAsked) (files : List File) (a b : SectorShown) (p : IsSectorShown asked (Some files) a) (q : IsSectorShown asked (Some files) b) (alike : FailedAlike p.came q.came) where
+  abbrev count : ℕ
+  count = length asked.disk.dumps
 
-  tells : (o : SectorShown) (is : IsSectorShown asked (Some files) o) → TellsOf asked.sector (joined captures) is.outcome is.copies
-  tells o is = is.tells captures all.many (λ q low. (
-      let few : q < length asked.disk.dumps = omega (arith, low, all.many) in
-      subst (λ (seen : Seen). AreReadingsOf Controller Both asked.disk.format (track_at asked.disk.format asked.number) seen.times seen.indexes q (get_or captures q []))
-      (sym (is.are q few files refl)) (all.each q low)))
+  abbrev of_file : ℕ → Option File
+  of_file k = file_at files (path_in asked.disk.stepping asked.disk.dumps ((of_track asked.disk asked.number).track_of 0) k)
 
-  told : (o : SectorShown) (is : IsSectorShown asked (Some files) o) → o ≡ shown_of asked Passed Outcome (copies_over (good_ones (joined captures) asked.sector))
-  told o is =
-      let said = tells o is in
-      is.is
-      ∙ ap (λ (ps : List PassedStream). shown_of asked ps is.outcome is.copies)
-      (same_passed is.streams Told asked.number (length asked.disk.dumps) (λ q few. is.are q few files refl) (length asked.disk.dumps) (omega arith))
-      ∙ ap (λ (v : Verdict). shown_of asked Passed v is.copies) said.verdict_is
-      ∙ ap (λ (cs : List Copy). shown_of asked Passed Outcome cs) said.copies_are
+  at : (o : SectorShown) (is : IsSectorShown asked (Some files) o) (k : ℕ) → k < count → IsOrFailed (seen_at is.came k) (seen_of (of_file k))
+  at o is k few =
+      let place : 0 * count + k ≡ k = omega arith in
+      let many = is.many in
+      let within : 0 * count + k < length is.came = omega (arith, many, few) in
+      subst (λ (i : ℕ). IsOrFailed (seen_at is.came i) (seen_of (of_file k))) place (is.are files refl 0 k few few within)
+
+  same_came : p.came ≡ q.came
+  same_came = ext_get_or no_seen p.came q.came (p.many ∙ sym q.many)
+      (λ k low. let few : k < count = subst (λ (n : ℕ). k < n) p.many low in same_seen (seen_at p.came k) (seen_at q.came k) (of_file k) (at a p k few) (at b q k few) (alike k))
+
+  module _ (captures : List (List NotedReading)) (all : AreReadingsOfCame asked p.came captures) where
+    abbrev Outcome : Verdict
+    Outcome = verdict (joined captures) asked.sector
+
+    abbrev Passed : List Seen → List PassedStream
+    Passed came = passed_to (streams_of came) asked.number count
+
+    told : (o : SectorShown) (is : IsSectorShown asked (Some files) o) → AreReadingsOfCame asked is.came captures
+        → o ≡ shown_of asked (Passed is.came) (lost_count is.came) Outcome (copies_over (good_ones (joined captures) asked.sector))
+    told o is mine =
+        let said = is.tells captures mine.many mine.each in
+        is.is
+        ∙ ap (λ (v : Verdict). shown_of asked (Passed is.came) (lost_count is.came) v is.copies) said.verdict_is
+        ∙ ap (λ (cs : List Copy). shown_of asked (Passed is.came) (lost_count is.came) Outcome cs) said.copies_are
+
+    pub one : a ≡ b
+    one =
+        told a p all
+        ∙ ap (λ (came : List Seen). shown_of asked (Passed came) (lost_count came) Outcome (copies_over (good_ones (joined captures) asked.sector))) same_came
+        ∙ sym (told b q (subst (λ (came : List Seen). AreReadingsOfCame asked came captures) same_came all))
 
 pub shown_is_one : ShownIsOne
-shown_is_one asked files captures all a b is_a is_b = told asked files captures all a is_a ∙ sym (told asked files captures all b is_b)
+shown_is_one asked files a b p q alike captures all = one asked files a b p q alike captures all

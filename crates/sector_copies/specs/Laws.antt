@@ -5,12 +5,13 @@ use Rattle.track_shelf.specs.Files.{File}
 use Rattle.turn_merge.specs.Readings.{NotedReading, good_ones}
 use Rattle.turn_merge.specs.declared.clock.Clock.{Clock}
 use Rattle.flux_engine.specs.PlanLaws.{IsNamedIn, StandsIn}
-use Rattle.flux_engine.specs.Plans.{AreCaptures, Streams, joined}
+use Rattle.flux_engine.specs.Plans.{AreCaptures, Seen, Streams, joined}
 use Rattle.flux_engine.specs.declared.plan.Rule.TheVariants.{Controller}
-use Rattle.dump_reading.specs.DumpStreams.{dump_streams}
+use Rattle.dump_reading.specs.DumpStreams.{FailedAlike}
 use Rattle.dump_reading.specs.Reports.{dump_plan}
 use Rattle.sector_copies.specs.Copies.{Copy, MOST_COPIES, copies_over}
 use Rattle.sector_copies.specs.Shown.{IsSectorShown, SectorAsked, SectorShown}
+use Rattle.sector_copies.specs.TrackReadings.{streams_of}
 
 -- the contents that are kept of a sector of a track with these readings
 abbrev pub copies_in : List (List NotedReading) → (sector : ℕ) → List Copy
@@ -39,12 +40,12 @@ abbrev pub CopiesAreOne : Type 0
 CopiesAreOne = (count : ℕ) (format : Format) (streams : Streams) (n : ℕ) (a b : List (List NotedReading))
     → AreAllReadings count format streams n a → AreAllReadings count format streams n b → (sector : ℕ) → copies_in a sector ≡ copies_in b sector
 
--- these are all readings of the streams of a sector's track, by the files of its dumps
-abbrev pub AreReadingsOfFiles : SectorAsked → List File → List (List NotedReading) → Type 0
-AreReadingsOfFiles asked files captures =
-    AreAllReadings (length asked.disk.dumps) asked.disk.format (dump_streams asked.disk.stepping asked.disk.dumps files asked.disk.format) asked.number captures
+-- these are all readings of the streams that came of a sector's track
+abbrev pub AreReadingsOfCame : SectorAsked → List Seen → List (List NotedReading) → Type 0
+AreReadingsOfCame asked came captures = AreAllReadings (length asked.disk.dumps) asked.disk.format (streams_of came) asked.number captures
 
--- Where these streams have lists of all their readings, which reading them makes, the files decide what is shown of a sector: it is one at most.
+-- Where the streams that came have lists of all their readings, which reading them makes, the files, and which of them failed, decide what is
+-- shown of a sector: it is one at most.
 abbrev pub ShownIsOne : Type 0
-ShownIsOne = (asked : SectorAsked) (files : List File) (captures : List (List NotedReading)) → AreReadingsOfFiles asked files captures
-    → (a b : SectorShown) → IsSectorShown asked (Some files) a → IsSectorShown asked (Some files) b → a ≡ b
+ShownIsOne = (asked : SectorAsked) (files : List File) (a b : SectorShown) (p : IsSectorShown asked (Some files) a) (q : IsSectorShown asked (Some files) b)
+    → FailedAlike p.came q.came → (captures : List (List NotedReading)) → AreReadingsOfCame asked p.came captures → a ≡ b

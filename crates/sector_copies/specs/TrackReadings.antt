@@ -1,20 +1,22 @@
 -- What the dumps of a disk say of one sector.
-use Rattle.std.specs.Prelude.{◌≡◌, ◌≤◌, ◌<◌, ℕ, ◌+◌, ◌*◌, List, [], ◌++◌, length, Option, Some}
+use Rattle.std.specs.Prelude.{◌≡◌, ◌≤◌, ◌<◌, ℕ, ◌+◌, ◌*◌, List, [], ◌++◌, length}
 use Rattle.cell_bits.specs.State.{CellsState, room}
 use Rattle.sector_images.specs.Formats.{row}
 use Rattle.sector_images.specs.Places.{IsSector, tracks}
 use Rattle.sector_images.specs.declared.format.Format.{Format}
-use Rattle.track_shelf.specs.Files.{File}
 use Rattle.turn_merge.specs.Readings.{NotedReading, good_ones, verdict}
 use Rattle.turn_merge.specs.declared.verdict.Verdict.{Verdict}
 use Rattle.flux_engine.specs.Captured.{AreReadingsOf}
+use Rattle.flux_engine.specs.Counts.{lost_in}
+use Rattle.flux_engine.specs.LoopProgress.{lost_count, seen_at}
 use Rattle.flux_engine.specs.Plans.{AreCaptures, Seen, Streams, joined, passed_one, passed_to}
 use Rattle.flux_engine.specs.Recordings.{track_at}
 use Rattle.flux_engine.specs.Room.{MOST_CELLS, MOST_READINGS}
 use Rattle.flux_engine.specs.declared.gathered_track.PassedStream.{PassedStream}
 use Rattle.flux_engine.specs.declared.plan.Clocks.TheVariants.{Both}
 use Rattle.flux_engine.specs.declared.plan.Rule.TheVariants.{Controller}
-use Rattle.dump_reading.specs.DumpStreams.{dump_streams}
+use Rattle.dump_reading.specs.DumpStreams.{DumpTracks, GaveOf, HaveComeOf}
+use Rattle.dump_reading.specs.Files.{ShelfNow}
 use Rattle.dump_reading.specs.Outcomes.{DumpDisk}
 use Rattle.dump_reading.specs.Reports.{dump_plan}
 use Rattle.sector_copies.specs.Copies.{Copy, copies_over}
@@ -48,25 +50,31 @@ pub record IsSameRoom (old new : SectorRoomState) : Type 0 where
   pub number : new.number ≡ old.number
   pub sector : new.known.sector ≡ old.known.sector
 
--- a stream of the disk, by the files of its dumps where they are told
-abbrev pub IsStreamOf : DumpDisk → Option (List File) → (n q : ℕ) → Seen → Type 0
-IsStreamOf disk told n q seen = (files : List File) → told ≡ Some files → seen ≡ dump_streams disk.stepping disk.dumps files disk.format n q
+-- one track of a disk's dumps, by itself: it stands for all
+abbrev pub of_track : DumpDisk → (n : ℕ) → DumpTracks
+of_track disk n = record { stepping = disk.stepping; dumps = disk.dumps; count = length disk.dumps; track_of = λ _. track_at disk.format n }
 
--- The next stream of a track was read or passed over: of whatever list has all its readings, those of the sector were noted.
-pub record HasReadNext (disk : DumpDisk) (told : Option (List File)) (n q : ℕ) (old new : SectorRoomState) : Type 0 where
+-- what came of its files, dump by dump, as streams of a disk
+abbrev pub streams_of : List Seen → Streams
+streams_of came n q = seen_at came q
+
+-- The file of the track in the next dump was read or passed over: of whatever list has all readings of it, those of the sector were noted.
+pub record HasReadNext (disk : DumpDisk) (n q : ℕ) (start now : ShelfNow) (old new : SectorRoomState) : Type 0 where
   pub here : Seen
-  pub is : IsStreamOf disk told n q here
+  pub gave : GaveOf disk.stepping disk.dumps (track_at disk.format n) q start now here
   pub noted : NotesOf (AreReadingsOf Controller Both disk.format (track_at disk.format n) here.times here.indexes q) old.known new.known
   pub passed_are : new.passed ≡ old.passed ++ passed_one q here.passed
 
--- The first q streams of a track, by the files of the dumps where they are told: what is known stands for all readings of the sector in
--- them, whatever lists have all readings of each, and these were passed over.
-pub record HasReadTo (disk : DumpDisk) (told : Option (List File)) (n sector q : ℕ) (known : SectorKnown) (passed : List PassedStream) : Type 0 where
-  pub streams : Streams
-  pub are : (k : ℕ) → k < q → IsStreamOf disk told n k (streams n k)
-  pub stands : (captures : List (List NotedReading)) → length captures ≡ q → AreCaptures (dump_plan (length disk.dumps)) disk.format streams n captures
+-- The files of the track in the first q dumps came: what is known stands for all readings of the sector in them, whatever lists have all
+-- readings of each, and these were passed over.
+pub record HasReadTo (disk : DumpDisk) (n sector q : ℕ) (start now : ShelfNow) (known : SectorKnown) (passed : List PassedStream) : Type 0 where
+  pub came : List Seen
+  pub many : length came ≡ q
+  pub are : HaveComeOf (of_track disk n) start now came
+  pub stands : (captures : List (List NotedReading)) → length captures ≡ q → AreCaptures (dump_plan (length disk.dumps)) disk.format (streams_of came) n captures
       → SectorStandsFor known (of_sector sector (joined captures))
-  pub passed_are : passed ≡ passed_to streams n q
+  pub passed_are : passed ≡ passed_to (streams_of came) n q
+  pub lost_are : lost_in passed ≡ lost_count came
 
 -- What is told of a sector of a track that has these readings: the verdict over those of the sector, and the distinct contents of its good
 -- ones.

@@ -10,9 +10,11 @@ mod printing;
 mod reading;
 mod show;
 mod tools;
+mod totals;
 mod walk;
 
 pub use copies::SectorCopy;
 pub use laws::{copies_are_right, shown_sectors_are_one};
 pub use reading::{SectorRoom, read_sector};
 pub use show::show_sector;
+pub use totals::SectorTotals;

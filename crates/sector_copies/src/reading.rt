@@ -1,8 +1,9 @@
 //! One sector of a disk that is read of its dumps.
 
-ghost use Rattle.std.specs.Prelude.{◌≡◌, ◌≤◌, ◌<◌, ◌+◌, ◌*◌, List, [], length, is_err, IfOk, OnOk};
+ghost use Rattle.std.specs.Prelude.{◌≡◌, ◌≤◌, ◌<◌, ◌+◌, ◌*◌, List, [], length, IfOk};
+ghost use Rattle.dump_reading.specs.Files.{shelf_now};
 ghost use Rattle.dump_reading.specs.Outcomes.{disk_of};
-ghost use Rattle.flux_base.specs.Counts.{Counts, counts_of};
+ghost use Rattle.flux_base.specs.Counts.{counts_of};
 ghost use Rattle.flux_engine.specs.Recordings.{track_at};
 ghost use Rattle.flux_engine.specs.Room.{MOST_READINGS};
 ghost use Rattle.sector_copies.specs.Notes.{SectorStandsFor};
@@ -18,8 +19,8 @@ use crate::notes::SectorNotes;
 use crate::tools::{SectorTools, note_next};
 use cell_bits::Cells;
 use dump_reading::Dumps;
-use flux_base::{Failed, Memory, TrackId};
-use flux_engine::{MOST_CELLS, PassedStream, PassedStreams, TrackStreams, sectors_of};
+use flux_base::{Memory, TrackId};
+use flux_engine::{MOST_CELLS, PassedStream, PassedStreams, sectors_of};
 use kryo_stream::StreamRoom;
 use phase_loop::Loop;
 use sector_images::{Format, image_place, track_id, tracks_keep_bounds};
@@ -150,52 +151,32 @@ impl SectorRoom {
 }
 
 /// Reads one sector of a disk of its dumps: of its track the files of all dumps as controllers read, in the order of the dumps, by both
-/// clocks. One that is missing or refused is passed over. No other track's file is opened.
-pub fn read_sector<H: Shelf>(
-    dumps: &Dumps,
-    room: &mut SectorRoom,
-    shelf: &mut H,
-) -> Result<(), Failed>
+/// clocks. One that is missing or refused, or that fails, is passed over. No other track's file is opened.
+pub fn read_sector<H: Shelf>(dumps: &Dumps, room: &mut SectorRoom, shelf: &mut H)
     requires none { SectorStandsFor room.old.known [] }
     requires no_passed { room.old.passed ≡ [] }
     requires few { length dumps.now.names.now ≤ 16 }
-    ensures read { OnOk result (HasReadTo (disk_of dumps.now room.old.format) (H.files shelf.old) room.old.number room.old.known.sector (length dumps.now.names.now) room.new.known room.new.passed) }
+    ensures read { HasReadTo (disk_of dumps.now room.old.format) room.old.number room.old.known.sector (length dumps.now.names.now) (shelf_now (told_by H.files H.left H.given H.handled shelf.old) (counts_of H.faults H.failed shelf.old)) (shelf_now (told_by H.files H.left H.given H.handled shelf.new) (counts_of H.faults H.failed shelf.new)) room.new.known room.new.passed }
     ensures same { IsSameRoom room.old room.new }
-    ensures kept { told_by H.files H.left H.given shelf.new ≡ told_by H.files H.left H.given shelf.old }
-    ensures counts { Counts (is_err result) (counts_of H.faults H.failed shelf.old) (counts_of H.faults H.failed shelf.new) }
 {
     for capture in 0..dumps.names.len() {
-        match read_next(dumps, capture as u8, room, shelf) {
-            Ok(()) => {}
-            Err(failed) => return Err(failed),
-        }
+        read_next(dumps, capture as u8, room, shelf);
     }
-    Ok(())
 }
 
 /// Reads the track's file of the next dump, or passes it over.
-fn read_next<H: Shelf>(
-    dumps: &Dumps,
-    capture: u8,
-    room: &mut SectorRoom,
-    shelf: &mut H,
-) -> Result<(), Failed>
+fn read_next<H: Shelf>(dumps: &Dumps, capture: u8, room: &mut SectorRoom, shelf: &mut H)
     requires low { capture < length dumps.now.names.now }
     requires few { room.old.known.book.notes + 2 * MOST_READINGS ≤ MOST_NOTES }
     requires room { length room.old.passed < 16 }
-    ensures read { OnOk result (HasReadNext (disk_of dumps.now room.old.format) (H.files shelf.old) room.old.number capture room.old room.new) }
+    ensures read { HasReadNext (disk_of dumps.now room.old.format) room.old.number capture (shelf_now (told_by H.files H.left H.given H.handled shelf.old) (counts_of H.faults H.failed shelf.old)) (shelf_now (told_by H.files H.left H.given H.handled shelf.new) (counts_of H.faults H.failed shelf.new)) room.old room.new }
     ensures same { IsSameRoom room.old room.new }
     ensures few { room.new.known.book.notes ≤ room.old.known.book.notes + 2 * MOST_READINGS }
     ensures passed { length room.new.passed ≤ length room.old.passed + 1 }
-    ensures kept { told_by H.files H.left H.given shelf.new ≡ told_by H.files H.left H.given shelf.old }
-    ensures counts { Counts (is_err result) (counts_of H.faults H.failed shelf.old) (counts_of H.faults H.failed shelf.new) }
 {
     tracks_keep_bounds();
     let track = track_id(room.format, room.number);
-    let next = match dumps.next_stream(room.format, room.number, capture, shelf, &mut room.stream) {
-        Ok(next) => next,
-        Err(_fault) => return Err(Failed),
-    };
+    let next = dumps.read(track, capture, shelf, &mut room.stream);
     note_next(
         next,
         room.format,
@@ -204,5 +185,4 @@ fn read_next<H: Shelf>(
         room.stream.flux(),
         &mut room.tools,
     );
-    Ok(())
 }

@@ -2,11 +2,13 @@
 
 ghost use Rattle.std.specs.Prelude.{◌≡◌, ◌≤◌, ◌++◌, [], length};
 ghost use Rattle.dump_reading.specs.Blamed.{dumps_blame};
+ghost use Rattle.dump_reading.specs.Files.{shelf_now};
 ghost use Rattle.dump_reading.specs.Outcomes.{disk_of};
 ghost use Rattle.dump_reading.specs.Reports.{passed_lines};
-ghost use Rattle.flux_base.specs.Blames.{CountsBy, three_counts};
+ghost use Rattle.flux_base.specs.Blames.{CountsBy, no_counts, three_counts};
 ghost use Rattle.flux_base.specs.Counts.{counts_of};
 ghost use Rattle.flux_base.specs.Moments.{Puts, moment};
+ghost use Rattle.flux_engine.specs.Counts.{lost_in};
 ghost use Rattle.flux_engine.specs.Recordings.{track_at};
 ghost use Rattle.sector_copies.specs.Notes.{SectorStandsFor};
 ghost use Rattle.sector_copies.specs.Shown.{SaysOfSector, image_shown, notes_shown};
@@ -17,17 +19,19 @@ use crate::copies::SectorCopy;
 use crate::lines::offset_line;
 use crate::printing::write_copies;
 use crate::reading::{SectorRoom, read_sector};
+use crate::totals::SectorTotals;
 use dump_reading::{Dumps, DumpsFault, find_empty, write_passed};
 use flux_base::{Failed, Sink, write_whole};
-use sector_report::{Naming, named_line, write_line};
+use flux_engine::PassedStream;
+use sector_report::{Naming, Passed, named_line, write_line};
 use track_shelf::Shelf;
 use turn_merge::Verdict;
 
 /// Shows a sector of a disk of its dumps. The track's files of all dumps are read as `read_dumps` reads them, and no others; which of
-/// them were passed over is told in the notes. Then each distinct content of the sector's good readings is written, at most 16 in the
-/// order in which they were first met, and last the sector's line. Where one content is asked for alone by its number, its bytes are
-/// written and nothing else, if there is such a content, and the line goes to the notes. The answer is how many contents there are. No
-/// answer is for want of memory.
+/// them were passed over, or failed, is told in the notes. Then each distinct content of the sector's good readings is written, at most 16
+/// in the order in which they were first met, and last the sector's line. Where one content is asked for alone by its number, its bytes
+/// are written and nothing else, if there is such a content, and the line goes to the notes. The answer is how many contents there are,
+/// and how many files failed. No answer is for want of memory.
 pub fn show_sector<H: Shelf, W: Sink, N: Sink>(
     dumps: &Dumps,
     alone: Option<u32>,
@@ -35,34 +39,51 @@ pub fn show_sector<H: Shelf, W: Sink, N: Sink>(
     shelf: &mut H,
     image: &mut W,
     notes: &mut N,
-) -> Result<usize, DumpsFault>
+) -> Result<SectorTotals, DumpsFault>
     requires none { SectorStandsFor room.old.known [] }
     requires no_passed { room.old.passed ≡ [] }
     requires few { length dumps.now.names.now ≤ 16 }
-    ensures says { SaysOfSector (record { disk = disk_of dumps.now room.old.format; number = room.old.number; sector = room.old.known.sector; alone = alone }) (H.files shelf.old) (W.written image.old) (W.written image.new) (N.written notes.old) (N.written notes.new) result }
-    ensures kept { told_by H.files H.left H.given shelf.new ≡ told_by H.files H.left H.given shelf.old }
+    ensures says { SaysOfSector (record { disk = disk_of dumps.now room.old.format; number = room.old.number; sector = room.old.known.sector; alone = alone }) (shelf_now (told_by H.files H.left H.given H.handled shelf.old) (counts_of H.faults H.failed shelf.old)) (shelf_now (told_by H.files H.left H.given H.handled shelf.new) (counts_of H.faults H.failed shelf.new)) (W.written image.old) (W.written image.new) (N.written notes.old) (N.written notes.new) result }
+
+    // What the shelf did is in what came of it.
     ensures blames { CountsBy (dumps_blame result)
-        (three_counts (counts_of H.faults H.failed shelf.old) (counts_of W.faults W.failed image.old) (counts_of N.faults N.failed notes.old))
-        (three_counts (counts_of H.faults H.failed shelf.new) (counts_of W.faults W.failed image.new) (counts_of N.faults N.failed notes.new)) }
+        (three_counts no_counts (counts_of W.faults W.failed image.old) (counts_of N.faults N.failed notes.old))
+        (three_counts no_counts (counts_of W.faults W.failed image.new) (counts_of N.faults N.failed notes.new)) }
 {
     match find_empty(dumps, room.format(), shelf) {
-        Ok(None) => {}
-        Ok(Some(dump)) => return Err(DumpsFault::NoFiles { dump }),
-        Err(Failed) => return Err(DumpsFault::ShelfFault),
+        None => {}
+        Some(dump) => return Err(DumpsFault::NoFiles { dump }),
     }
-    match read_sector(dumps, room, shelf) {
-        Ok(()) => {}
-        Err(Failed) => return Err(DumpsFault::ShelfFault),
-    }
+    read_sector(dumps, room, shelf);
     let outcome = room.verdict();
     match write_notes(alone, room, &outcome, notes) {
         Ok(()) => {}
         Err(Failed) => return Err(DumpsFault::NotesFault),
     }
     match write_image(alone, room, &outcome, image) {
-        Ok(()) => Ok(room.copies().len()),
+        Ok(()) => Ok(totals_of(room)),
         Err(Failed) => Err(DumpsFault::ImageFault),
     }
+}
+
+/// How many contents there are, and how many files failed.
+fn totals_of(room: &SectorRoom) -> SectorTotals
+    ensures { result ≡ record { copies = length room.now.known.copies; lost = lost_in room.now.passed } }
+{
+    SectorTotals {
+        copies: room.copies().len(),
+        lost: lost_count(room.passed()),
+    }
+}
+
+/// How many of these streams are passed over since their files failed.
+fn lost_count(passed: &[PassedStream]) -> usize
+    ensures { result ≡ lost_in passed.now }
+{
+    passed
+        .iter()
+        .filter(|stream| matches!(stream.why, Passed::Failed))
+        .count()
 }
 
 /// Writes which of the track's streams were passed over, and the sector's line where it stands in the notes.
