@@ -6,80 +6,81 @@ use Rattle.std.proofs.KnownBytes.{Appends-trans}
 use Rattle.std.proofs.lemmas.List.{length_push}
 use Rattle.flux_base.specs.Outside.{AppendsPart}
 use Rattle.flux_base.specs.lemmas.Parts.{AppendsPart-second}
-use Rattle.track_shelf.specs.Files.{File}
 use Rattle.flux_base.specs.Blames.{CountsBy, no_counts, three_counts}
 use Rattle.flux_base.specs.Counts.{FaultCounts}
 use Rattle.flux_engine.specs.Disks.{images}
 use Rattle.flux_engine.specs.Tracks.{TrackPart}
 use Rattle.flux_engine.specs.lemmas.PartLaws.{images-more}
 use Rattle.dump_reading.specs.Blamed.{dumps_blame}
-use Rattle.dump_reading.specs.Outcomes.{DumpDisk, HasTracksBy, StopsBy, WroteFrontBy, WroteIntoImageBy, numbers_of}
+use Rattle.dump_reading.specs.DumpStreams.{of_disk}
+use Rattle.dump_reading.specs.Files.{ShelfNow}
+use Rattle.dump_reading.specs.Outcomes.{DumpDisk, HasTracksBy, StopsBy, WroteIntoImageBy, numbers_of}
 use Rattle.dump_reading.specs.declared.fault.DumpsFault.{DumpsFault}
-use Rattle.dump_reading.specs.declared.fault.DumpsFault.TheVariants.{NoFiles, ShelfFault, ImageFault, NotesFault}
+use Rattle.dump_reading.specs.declared.fault.DumpsFault.TheVariants.{NoFiles, ImageFault, NotesFault}
 use Rattle.dump_reading.specs.declared.totals.DumpTotals.{DumpTotals}
-use Rattle.disk_map.specs.Dumps.{DrewDumps, DrewFirst, SaysOfDrawing, StoppedInDumps, dumps_foot, dumps_front, dumps_part, picture_of}
+use Rattle.dump_reading.specs.lemmas.Coming.{none_came}
+use Rattle.disk_map.specs.Dumps.{DrewDumps, SaysOfDrawing, StoppedInDumps, dumps_foot, dumps_front, dumps_part, picture_of}
 use Rattle.disk_map.specs.Places.{layout_of}
 use Rattle.disk_map.specs.Texts.{top_by}
 use Rattle.disk_map.proofs.Drawing.{cut_after}
 
-module _ (disk : DumpDisk) (told : Option (List File)) (picture : Option (List ℕ)) where
+module _ (disk : DumpDisk) (start : ShelfNow) (picture : Option (List ℕ)) where
   -- the sink failed before the first field
-  pub no-top : (picture' : Option (List ℕ)) → AppendsPart picture picture' (top_by (codes "read") disk.format) → StoppedInDumps disk told picture picture'
+  pub no-top : (picture' : Option (List ℕ)) → AppendsPart picture picture' (top_by (codes "read") disk.format) → StoppedInDumps disk start start picture picture'
   no-top picture' part = record {
     streams = [];
     parts = [];
     few = omega arith;
-    read = record { all = omega arith; are = λ files known n q few below. absurd (omega (arith, below)); each = λ n below. absurd (omega (arith, below)) };
+    read = record { all = omega arith; are = λ files known n q few within below. absurd (omega (arith, below)); each = λ n below. absurd (omega (arith, below)) };
     ending = [];
     ends = inl refl;
+    shelf = (
+        let none = none_came (of_disk disk.stepping disk.dumps (length disk.dumps) disk.format) start in
+        record { told = none.told; counts = none.counts }
+        );
     grew = subst (AppendsPart picture picture') (sym (append-nil (dumps_front disk.format []) ∙ append-nil (top_by (codes "read") disk.format))) part;
   }
 
-  module _ (top : Option (List ℕ)) (begun : Appends picture top (top_by (codes "read") disk.format)) where
+  module _ (now : ShelfNow) (top : Option (List ℕ)) (begun : Appends picture top (top_by (codes "read") disk.format)) where
     front : (parts : List TrackPart) (written : Option (List ℕ)) → Appends top written (images parts) → Appends picture written (dumps_front disk.format parts)
     front parts written grew = Appends-trans picture top written (top_by (codes "read") disk.format) (images parts) begun grew
 
-    module _ (written notes notes' picture' : Option (List ℕ)) (totals : DumpTotals) (h : HasTracksBy dumps_part disk told top written notes notes' totals) where
+    module _ (written notes notes' picture' : Option (List ℕ)) (totals : DumpTotals) (h : HasTracksBy dumps_part disk start now top written notes notes' totals) where
       abbrev foot-of : DumpTotals → List ℕ
       foot-of t = dumps_foot (layout_of disk.format) t
 
+      abbrev numbers : DumpTotals
+      numbers = numbers_of h.streams h.parts h.others
+
       -- all was written
-      pub drawn-all : Appends written picture' (dumps_foot (layout_of disk.format) totals) → DrewDumps disk told picture picture' totals
+      pub drawn-all : Appends written picture' (dumps_foot (layout_of disk.format) totals) → DrewDumps disk start now picture picture' totals
       drawn-all foot = record {
-        outcome = picture_of disk.format h.parts (numbers_of h.streams h.parts h.others);
+        outcome = picture_of disk.format h.parts numbers;
         is = record { streams = h.streams; parts = h.parts; others = h.others; all = h.all; is = refl };
+        shelf = h.shelf;
         grew =
-            Appends-trans picture written picture' (dumps_front disk.format h.parts) (foot-of (numbers_of h.streams h.parts h.others)) (front h.parts written h.image_grew)
+            Appends-trans picture written picture' (dumps_front disk.format h.parts) (foot-of numbers) (front h.parts written h.image_grew)
             (subst (λ (t : DumpTotals). Appends written picture' (dumps_foot (layout_of disk.format) t)) h.totals_are foot);
         totals_are = h.totals_are;
       }
 
       -- a part of the foot
-      pub no-foot : AppendsPart written picture' (dumps_foot (layout_of disk.format) totals) → StoppedInDumps disk told picture picture'
+      pub no-foot : AppendsPart written picture' (dumps_foot (layout_of disk.format) totals) → StoppedInDumps disk start now picture picture'
       no-foot foot = record {
         streams = h.streams;
         parts = h.parts;
         few = omega (arith, h.all.many);
         read = h.all.read;
-        ending = foot-of (numbers_of h.streams h.parts h.others);
+        ending = foot-of numbers;
         ends = inr (h.others, h.all, refl);
+        shelf = h.shelf;
         grew =
-            AppendsPart-second picture written picture' (dumps_front disk.format h.parts) (foot-of (numbers_of h.streams h.parts h.others)) (front h.parts written h.image_grew)
+            AppendsPart-second picture written picture' (dumps_front disk.format h.parts) (foot-of numbers) (front h.parts written h.image_grew)
             (subst (λ (t : DumpTotals). AppendsPart written picture' (dumps_foot (layout_of disk.format) t)) h.totals_are foot);
       }
 
-    -- the shelf failed after some tracks
-    drawn-first : (written notes notes' : Option (List ℕ)) → WroteFrontBy dumps_part disk told top written notes notes' → DrewFirst disk told picture written
-    drawn-first written notes notes' w = record {
-      streams = w.streams;
-      parts = w.parts;
-      few = w.few;
-      read = w.read;
-      grew = front w.parts written w.image_grew;
-    }
-
     -- the sink failed at a field
-    cut-field : (written notes notes' : Option (List ℕ)) → WroteIntoImageBy dumps_part disk told top written notes notes' → StoppedInDumps disk told picture written
+    cut-field : (written notes notes' : Option (List ℕ)) → WroteIntoImageBy dumps_part disk start now top written notes notes' → StoppedInDumps disk start now picture written
     cut-field written notes notes' w =
         let before : List ℕ = top_by (codes "read") disk.format in
         let many : length (w.parts ++ w.next ∷ []) ≡ length w.parts + 1 = length_push w.parts w.next in
@@ -97,14 +98,14 @@ module _ (disk : DumpDisk) (told : Option (List File)) (picture : Option (List �
           read = w.read;
           ending = [];
           ends = inl refl;
+          shelf = w.shelf;
           grew = subst (AppendsPart picture written) whole (cut_after picture written (before ++ images w.parts) w.next.image n w.image_grew.1 grew);
         }
 
     -- reading the tracks stopped; there are no notes that could have failed
-    pub drawn-stopped : (written notes notes' : Option (List ℕ)) (fault : DumpsFault) (s s' p p' : FaultCounts)
-        → CountsBy (dumps_blame {A = DumpTotals} (Err fault)) (three_counts s p no_counts) (three_counts s' p' no_counts)
-        → StopsBy dumps_part disk told top written notes notes' fault → SaysOfDrawing disk told picture written (Err fault)
-    drawn-stopped written notes notes' (NoFiles dump) s s' p p' counts stops = absurd stops
-    drawn-stopped written notes notes' ShelfFault s s' p p' counts stops = inr (drawn-first written notes notes' stops)
-    drawn-stopped written notes notes' ImageFault s s' p p' counts stops = cut-field written notes notes' stops
-    drawn-stopped written notes notes' NotesFault s s' p p' counts stops = omega (arith, counts.notes.cause)
+    pub drawn-stopped : (written notes notes' : Option (List ℕ)) (fault : DumpsFault) (p p' : FaultCounts)
+        → CountsBy (dumps_blame {A = DumpTotals} (Err fault)) (three_counts no_counts p no_counts) (three_counts no_counts p' no_counts)
+        → StopsBy dumps_part disk start now top written notes notes' fault → SaysOfDrawing disk start now picture written (Err fault)
+    drawn-stopped written notes notes' (NoFiles dump) p p' counts stops = absurd stops
+    drawn-stopped written notes notes' ImageFault p p' counts stops = cut-field written notes notes' stops
+    drawn-stopped written notes notes' NotesFault p p' counts stops = omega (arith, counts.notes.cause)

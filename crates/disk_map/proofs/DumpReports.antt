@@ -4,8 +4,7 @@ use Rattle.std.proofs.Common.{ap, sym, subst, ◌∙◌, arith}
 use Rattle.sector_images.specs.declared.format.Format.{Format}
 use Rattle.sector_report.specs.declared.totals.Totals.{Totals}
 use Rattle.flux_engine.specs.Disks.{part_at, totals_over}
-use Rattle.flux_engine.specs.LoopProgress.{passed_count, streams_over}
-use Rattle.flux_engine.specs.Counts.{told_count, whole_count}
+use Rattle.flux_engine.specs.LoopProgress.{streams_over}
 use Rattle.flux_engine.specs.Plans.{IsPlannedPart, Streams, joined, passed_to}
 use Rattle.flux_engine.specs.Recordings.{track_at}
 use Rattle.flux_engine.specs.Tracks.{TrackNotes, TrackPart, track_notes}
@@ -102,8 +101,9 @@ shows_reports disk told o is =
         };
         is = refl;
       };
+      streams = refl;
       totals =
-          ap (λ (t : Totals). record { sectors = t; unread = passed_count is.streams; others = told_count is.others; whole = whole_count is.others }) from.totals
+          ap (λ (t : Totals). record (numbers_of is.streams is.parts is.others) { sectors = t }) from.totals
           ∙ sym (ap (λ (d : DumpsRead). d.totals) is.is);
       tracks = λ n low. let same : 0 + n ≡ n = omega arith in
           subst (λ (k : ℕ). ShowsTrack disk.format k (part_at is.parts n) (part_at from.read n)) same (from.shows n low);

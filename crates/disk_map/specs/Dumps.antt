@@ -13,10 +13,11 @@ use Rattle.flux_engine.specs.Disks.{images, part_at}
 use Rattle.flux_engine.specs.Plans.{PartOf, Seen}
 use Rattle.flux_engine.specs.Recordings.{track_at}
 use Rattle.flux_engine.specs.Tracks.{TrackNotes, TrackPart}
-use Rattle.dump_reading.specs.Outcomes.{AreAllBy, AreTracksBy, DumpDisk, DumpsRead, IsDumpsRead, IsReadBy, IsToldEmpty, numbers_of}
+use Rattle.dump_reading.specs.Files.{ShelfNow}
+use Rattle.dump_reading.specs.Outcomes.{AreAllBy, AreTracksBy, DumpDisk, DumpsRead, FilesFailed, IsDumpsRead, IsReadBy, IsToldEmpty, numbers_of}
 use Rattle.dump_reading.specs.Reports.{read_part}
 use Rattle.dump_reading.specs.declared.fault.DumpsFault.{DumpsFault}
-use Rattle.dump_reading.specs.declared.fault.DumpsFault.TheVariants.{NoFiles, ShelfFault, ImageFault, NotesFault}
+use Rattle.dump_reading.specs.declared.fault.DumpsFault.TheVariants.{NoFiles, ImageFault, NotesFault}
 use Rattle.dump_reading.specs.declared.totals.DumpTotals.{DumpTotals}
 use Rattle.disk_map.specs.Maps.{drawn_by}
 use Rattle.disk_map.specs.Places.{layout_of}
@@ -45,19 +46,12 @@ abbrev pub IsDumpsDrawn : DumpDisk → Option (List File) → DumpsRead → Type
 IsDumpsDrawn disk told o = IsReadBy dumps_part (picture_of disk.format) disk told o
 
 -- all of it was written
-pub record DrewDumps (disk : DumpDisk) (told : Option (List File)) (picture picture' : Option (List ℕ)) (totals : DumpTotals) : Type 0 where
+pub record DrewDumps (disk : DumpDisk) (start now : ShelfNow) (picture picture' : Option (List ℕ)) (totals : DumpTotals) : Type 0 where
   pub outcome : DumpsRead
-  pub is : IsDumpsDrawn disk told outcome
+  pub is : IsDumpsDrawn disk start.told.files outcome
+  pub shelf : FilesFailed disk start now is.streams
   pub grew : Appends picture picture' outcome.image
   pub totals_are : totals ≡ outcome.totals
-
--- the picture was written up to its foot, with the first tracks
-pub record DrewFirst (disk : DumpDisk) (told : Option (List File)) (picture picture' : Option (List ℕ)) : Type 0 where
-  pub streams : List Seen
-  pub parts : List TrackPart
-  pub few : length parts ≤ length (tracks disk.format)
-  pub read : AreTracksBy dumps_part disk told streams parts
-  pub grew : Appends picture picture' (dumps_front disk.format parts)
 
 -- what stands in a picture after some of its tracks: nothing yet, or the foot where these are all
 abbrev pub IsDumpsEnding : DumpDisk → Option (List File) → List Seen → List TrackPart → List ℕ → Type 0
@@ -66,23 +60,23 @@ IsDumpsEnding disk told streams parts ending =
     ⊎ ((others : List (List NotedOther)) × AreAllBy dumps_part disk told streams parts others × (ending ≡ dumps_foot (layout_of disk.format) (numbers_of streams parts others)))
 
 -- The sink failed: a part of a picture of the first tracks was written, which is shorter than it.
-pub record StoppedInDumps (disk : DumpDisk) (told : Option (List File)) (picture picture' : Option (List ℕ)) : Type 0 where
+pub record StoppedInDumps (disk : DumpDisk) (start now : ShelfNow) (picture picture' : Option (List ℕ)) : Type 0 where
   pub streams : List Seen
   pub parts : List TrackPart
   pub few : length parts ≤ length (tracks disk.format)
-  pub read : AreTracksBy dumps_part disk told streams parts
+  pub read : AreTracksBy dumps_part disk start.told.files streams parts
+  pub shelf : FilesFailed disk start now streams
   pub ending : List ℕ
-  pub ends : IsDumpsEnding disk told streams parts ending
+  pub ends : IsDumpsEnding disk start.told.files streams parts ending
   pub grew : AppendsPart picture picture' (dumps_front disk.format parts ++ ending)
 
--- What an answer says. A dump without files is told before anything is written; where the shelf fails, nothing was written yet, or the
--- picture up to its foot, with the tracks that were read.
-abbrev pub SaysOfDrawing : DumpDisk → Option (List File) → (picture picture' : Option (List ℕ)) → Result DumpTotals DumpsFault → Type 0
-SaysOfDrawing disk told picture picture' (Ok totals) = IsToldEmpty disk told None × DrewDumps disk told picture picture' totals
-SaysOfDrawing disk told picture picture' (Err (NoFiles dump)) = (dump < length disk.dumps) × IsToldEmpty disk told (Some dump) × (picture' ≡ picture)
-SaysOfDrawing disk told picture picture' (Err ShelfFault) = (picture' ≡ picture) ⊎ DrewFirst disk told picture picture'
-SaysOfDrawing disk told picture picture' (Err ImageFault) = StoppedInDumps disk told picture picture'
-SaysOfDrawing disk told picture picture' (Err NotesFault) = ⊥
+-- What an answer says. A dump without files is told before anything is read or written; a file that fails ends nothing.
+abbrev pub SaysOfDrawing : DumpDisk → (start now : ShelfNow) → (picture picture' : Option (List ℕ)) → Result DumpTotals DumpsFault → Type 0
+SaysOfDrawing disk start now picture picture' (Ok totals) = IsToldEmpty disk start.told.files None × DrewDumps disk start now picture picture' totals
+SaysOfDrawing disk start now picture picture' (Err (NoFiles dump)) =
+    (dump < length disk.dumps) × IsToldEmpty disk start.told.files (Some dump) × (now ≡ start) × (picture' ≡ picture)
+SaysOfDrawing disk start now picture picture' (Err ImageFault) = StoppedInDumps disk start now picture picture'
+SaysOfDrawing disk start now picture picture' (Err NotesFault) = ⊥
 
 -- a track in a picture and in the report, by what was gathered of it
 pub record ShowsTrack (format : Format) (n : ℕ) (drawn read : TrackPart) : Type 0 where
@@ -90,11 +84,12 @@ pub record ShowsTrack (format : Format) (n : ℕ) (drawn read : TrackPart) : Typ
   pub drawn_is : drawn ≡ dumps_part format (track_at format n) notes
   pub read_is : read ≡ read_part format (track_at format n) notes
 
--- A picture is that of a report: the report of the same dumps has the same numbers, and of each track the picture has the fields by what was
+-- A picture is that of a report: the report of the same streams has the same numbers, and of each track the picture has the fields by what was
 -- gathered of it, of which the report has the lines.
 pub record ShowsReport (disk : DumpDisk) (told : Option (List File)) (o : DumpsRead) (is : IsDumpsDrawn disk told o) : Type 0 where
   pub report : DumpsRead
   pub read : IsDumpsRead disk told report
+  pub streams : read.streams ≡ is.streams
   pub totals : report.totals ≡ o.totals
   pub tracks : (n : ℕ) → n < length is.parts → ShowsTrack disk.format n (part_at is.parts n) (part_at read.parts n)
 

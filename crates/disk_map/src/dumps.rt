@@ -6,6 +6,7 @@ ghost use Rattle.flux_base.specs.Counts.{counts_of};
 ghost use Rattle.flux_base.specs.Moments.{Puts, moment};
 ghost use Rattle.flux_engine.specs.Room.{fresh};
 ghost use Rattle.dump_reading.specs.Blamed.{dumps_blame};
+ghost use Rattle.dump_reading.specs.Files.{shelf_now};
 ghost use Rattle.dump_reading.specs.Outcomes.{disk_of};
 ghost use Rattle.disk_map.specs.Dumps.{SaysOfDrawing, dumps_foot};
 ghost use Rattle.track_shelf.specs.Told.{told_by};
@@ -25,8 +26,8 @@ use track_shelf::Shelf;
 /// report as the titles of the fields. The foot counts the streams that were passed over and the names of other headers. The fields of
 /// each track are written as soon as it is read. No answer is for want of memory.
 ///
-/// A dump that has the file of none of the tracks is refused before anything is written. After a fault nothing more is read or
-/// written. No notes are written, so `NotesFault` does not come.
+/// A dump that has the file of none of the tracks is refused before anything is written. A file that fails is passed over, and counted. After a
+/// fault of the sink nothing more is read or written. No notes are written, so `NotesFault` does not come.
 pub fn map_dumps<H: Shelf, P: Sink>(
     dumps: &Dumps,
     room: &mut DiskRoom,
@@ -35,17 +36,17 @@ pub fn map_dumps<H: Shelf, P: Sink>(
 ) -> Result<DumpTotals, DumpsFault>
     requires fresh { room.old ≡ fresh room.old.format }
     requires few { length dumps.now.names.now ≤ 16 }
-    ensures says { SaysOfDrawing (disk_of dumps.now room.old.format) (H.files shelf.old) (P.written picture.old) (P.written picture.new) result }
-    ensures kept { told_by H.files H.left H.given shelf.new ≡ told_by H.files H.left H.given shelf.old }
+    ensures says { SaysOfDrawing (disk_of dumps.now room.old.format) (shelf_now (told_by H.files H.left H.given H.handled shelf.old) (counts_of H.faults H.failed shelf.old)) (shelf_now (told_by H.files H.left H.given H.handled shelf.new) (counts_of H.faults H.failed shelf.new)) (P.written picture.old) (P.written picture.new) result }
+
+    // What the shelf did is in what came of it.
     ensures blames { CountsBy (dumps_blame result)
-        (three_counts (counts_of H.faults H.failed shelf.old) (counts_of P.faults P.failed picture.old) no_counts)
-        (three_counts (counts_of H.faults H.failed shelf.new) (counts_of P.faults P.failed picture.new) no_counts) }
+        (three_counts no_counts (counts_of P.faults P.failed picture.old) no_counts)
+        (three_counts no_counts (counts_of P.faults P.failed picture.new) no_counts) }
 {
     let format = room_format(room);
     match find_empty(dumps, format, shelf) {
-        Ok(None) => {}
-        Ok(Some(dump)) => return Err(DumpsFault::NoFiles { dump }),
-        Err(Failed) => return Err(DumpsFault::ShelfFault),
+        None => {}
+        Some(dump) => return Err(DumpsFault::NoFiles { dump }),
     }
     match write_top("read", format, picture) {
         Ok(()) => {}
