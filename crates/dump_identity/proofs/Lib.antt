@@ -1,5 +1,6 @@
 pub mod Best
 pub mod Complete
+pub mod Moments
 pub mod One
 pub mod Readings
 pub mod Rooms

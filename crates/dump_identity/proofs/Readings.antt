@@ -1,6 +1,6 @@
 -- What reading a dump as one disk says.
-use Rattle.std.proofs.Common.{◌≡◌, ◌<◌, ◌≤◌, ℕ, List, [], ◌∷◌, length, Option, None, Some, Ok, Err, arith, sym, ap, subst, ◌∙◌}
-use Rattle.track_shelf.specs.Files.{File}
+use Rattle.std.proofs.Common.{◌≡◌, ℕ, List, [], ◌∷◌, length, Option, None, Some, Ok, Err, arith, sym, ap, subst, ◌∙◌}
+use Rattle.dump_reading.specs.Files.{ShelfNow}
 use Rattle.dump_reading.specs.Outcomes.{DumpDisk, IsToldEmpty, SaysOfDumps}
 use Rattle.dump_reading.specs.declared.fault.DumpsFault.TheVariants.{NoFiles}
 use Rattle.dump_reading.specs.declared.totals.DumpTotals.{DumpTotals}
@@ -10,19 +10,19 @@ use Rattle.sector_images.specs.declared.format.Format.{Format}
 use Rattle.dump_identity.specs.Findings.{ComesTo, disk_as}
 use Rattle.dump_identity.specs.declared.candidate.Candidate.{Candidate}
 
-module _ (dump : List ℕ) (told : Option (List File)) (candidate : Candidate) (disk : DumpDisk) (same : disk ≡ disk_as dump candidate) (image image' notes notes' : Option (List ℕ)) where
+module _ (dump : List ℕ) (start now : ShelfNow) (candidate : Candidate) (disk : DumpDisk) (same : disk ≡ disk_as dump candidate) (image image' notes notes' : Option (List ℕ)) where
   -- the dump has a file of one of its tracks
-  pub comes-read : (totals : DumpTotals) → SaysOfDumps disk told image image' notes notes' (Ok totals) → ComesTo dump told candidate (Some totals)
+  pub comes-read : (totals : DumpTotals) → SaysOfDumps disk start now image image' notes notes' (Ok totals) → ComesTo dump start now candidate (Some totals)
   comes-read totals says =
-      let s = subst (λ (d : DumpDisk). SaysOfDumps d told image image' notes notes' (Ok totals)) same says in
-      (s.0, s.1.outcome, s.1.is, s.1.totals_are)
+      let s = subst (λ (d : DumpDisk). SaysOfDumps d start now image image' notes notes' (Ok totals)) same says in
+      record { some = s.0; outcome = s.1.outcome; is = s.1.is; shelf = s.1.shelf; totals_are = s.1.totals_are }
 
   -- or of none
-  pub comes-none : (number : ℕ) → SaysOfDumps disk told image image' notes notes' (Err (NoFiles number)) → ComesTo dump told candidate None
+  pub comes-none : (number : ℕ) → SaysOfDumps disk start now image image' notes notes' (Err (NoFiles number)) → ComesTo dump start now candidate None
   comes-none number says =
-      let s = subst (λ (d : DumpDisk). SaysOfDumps d told image image' notes notes' (Err (NoFiles number))) same says in
+      let s = subst (λ (d : DumpDisk). SaysOfDumps d start now image image' notes notes' (Err (NoFiles number))) same says in
       let first : number ≡ 0 = omega (arith, s.0) in
-      subst (λ (n : ℕ). IsToldEmpty (disk_as dump candidate) told (Some n)) first s.1
+      (subst (λ (n : ℕ). IsToldEmpty (disk_as dump candidate) start.told.files (Some n)) first s.1, s.2)
 
 -- the dump alone, as the candidate's disk
 pub same-disk : (dump : List ℕ) (candidate : Candidate) (names : List (List ℕ)) (format : Format) → names ≡ dump ∷ [] → format ≡ candidate.format

@@ -1,31 +1,38 @@
 -- What reading a dump as each disk comes to, and which disk is the best.
-use Rattle.std.specs.Prelude.{◌≡◌, ◌&&◌, if◌then◌else◌, ℕ, Bool, false, not, nat_eq, nat_lt, All, List, [], ◌∷◌, find, Option, Some, None}
+use Rattle.std.specs.Prelude.{◌≡◌, ◌&&◌, if◌then◌else◌, ℕ, Bool, false, not, nat_eq, nat_lt, List, [], ◌∷◌, find, Option, Some, None}
 use Rattle.std.specs.List.{list_all, list_any}
 use Rattle.std.specs.Option.{is_some}
-use Rattle.track_shelf.specs.Files.{File}
 use Rattle.flux_engine.specs.declared.plan.Clocks.TheVariants.{FollowingAlone}
-use Rattle.dump_reading.specs.Outcomes.{DumpDisk, DumpsRead, IsDumpsRead, IsToldEmpty}
+use Rattle.dump_reading.specs.Files.{ShelfNow}
+use Rattle.dump_reading.specs.Outcomes.{DumpDisk, DumpsRead, FilesFailed, IsDumpsRead, IsToldEmpty}
 use Rattle.dump_reading.specs.Totals.{is_complete as are_complete}
 use Rattle.dump_reading.specs.declared.totals.DumpTotals.{DumpTotals}
 use Rattle.dump_identity.specs.declared.candidate.Candidate.{Candidate}
 use Rattle.dump_identity.specs.declared.finding.Finding.{Finding}
+use Rattle.dump_identity.specs.declared.identity.Identity.{Identity}
 use Rattle.dump_identity.specs.declared.tried.Tried.{Tried}
 
 -- a dump as a candidate's disk, read by the clock that follows the drive alone
 abbrev pub disk_as : (dump : List ℕ) → Candidate → DumpDisk
 disk_as dump candidate = record { stepping = candidate.stepping; dumps = dump ∷ []; format = candidate.format; clocks = FollowingAlone }
 
--- What it comes to, by the files that are told: the numbers of all that reading it comes to; none, where the dump has the file of none of
--- the disk's tracks.
-abbrev pub ComesTo : (dump : List ℕ) → (told : Option (List File)) → Candidate → Option DumpTotals → Type 0
-ComesTo dump told candidate None = IsToldEmpty (disk_as dump candidate) told (Some 0)
-ComesTo dump told candidate (Some totals) =
-    IsToldEmpty (disk_as dump candidate) told None
-    × (outcome : DumpsRead) × IsDumpsRead (disk_as dump candidate) told outcome × (totals ≡ outcome.totals)
+-- It has the file of one of the disk's tracks, and this is what it came to in numbers as it was read between two moments of the shelf.
+pub record CameTo (dump : List ℕ) (start now : ShelfNow) (candidate : Candidate) (totals : DumpTotals) : Type 0 where
+  pub some : IsToldEmpty (disk_as dump candidate) start.told.files None
+  pub outcome : DumpsRead
+  pub is : IsDumpsRead (disk_as dump candidate) start.told.files outcome
+  pub shelf : FilesFailed (disk_as dump candidate) start now is.streams
+  pub totals_are : totals ≡ outcome.totals
 
--- what each of some candidates comes to
-abbrev pub AreFindings : (dump : List ℕ) → (told : Option (List File)) → List Finding → Type 0
-AreFindings dump told findings = All (λ f. ComesTo dump told f.candidate f.totals) findings
+-- what it comes to between two moments of the shelf: none, and nothing is read, where the dump has the file of none of the disk's tracks
+abbrev pub ComesTo : (dump : List ℕ) → (start now : ShelfNow) → Candidate → Option DumpTotals → Type 0
+ComesTo dump start now candidate None = IsToldEmpty (disk_as dump candidate) start.told.files (Some 0) × (now ≡ start)
+ComesTo dump start now candidate (Some totals) = CameTo dump start now candidate totals
+
+-- what each of some candidates came to, one after the other
+abbrev pub AreFindings : (dump : List ℕ) → (start now : ShelfNow) → List Finding → Type 0
+AreFindings dump start now [] = now ≡ start
+AreFindings dump start now (f ∷ findings) = (next : ShelfNow) × ComesTo dump start next f.candidate f.totals × AreFindings dump next now findings
 
 -- how many sectors are good, and how many other names have whole data
 abbrev pub good_in : Option DumpTotals → ℕ
@@ -35,6 +42,11 @@ good_in (Some totals) = totals.sectors.good
 abbrev pub whole_in : Option DumpTotals → ℕ
 whole_in None = 0
 whole_in (Some totals) = totals.whole
+
+-- how many files failed
+abbrev pub lost_in : Option DumpTotals → ℕ
+lost_in None = 0
+lost_in (Some totals) = totals.lost
 
 -- how many sectors the disk has
 abbrev pub sectors_in : Option DumpTotals → ℕ
@@ -47,6 +59,10 @@ has_files f = is_some f.totals
 -- a sector is good
 abbrev pub has_good : Finding → Bool
 has_good f = nat_lt 0 (good_in f.totals)
+
+-- a file failed
+abbrev pub has_failed : Finding → Bool
+has_failed f = nat_lt 0 (lost_in f.totals)
 
 -- more is good; or as much, and fewer others have data; or that too, and the disk has fewer sectors
 abbrev pub is_over : (good whole sectors good' whole' sectors' : ℕ) → Bool
@@ -73,6 +89,10 @@ complete_in (Some totals) = are_complete totals
 abbrev pub is_complete : Finding → Bool
 is_complete f = complete_in f.totals
 
--- the best of some, and whether the dump has a file of a track of one of them
+-- what is known of the dump by some candidates: the best of them, and whether a file failed
+abbrev pub identity_of : List Finding → Identity
+identity_of findings = record { best = best_of findings; failed = list_any has_failed findings }
+
+-- the same, and whether the dump has a file of a track of one of them
 abbrev pub tried_of : List Finding → Tried
-tried_of findings = record { best = best_of findings; has_files = list_any has_files findings }
+tried_of findings = record { best = best_of findings; has_files = list_any has_files findings; failed = list_any has_failed findings }

@@ -1,7 +1,7 @@
 //! What reading a dump as a disk comes to.
 
 ghost use Rattle.std.specs.Prelude.{◌≡◌};
-ghost use Rattle.dump_identity.specs.Findings.{beats, good_in, has_files, has_good, is_complete, sectors_in, whole_in};
+ghost use Rattle.dump_identity.specs.Findings.{beats, good_in, has_failed, has_files, has_good, is_complete, lost_in, sectors_in, whole_in};
 
 use crate::candidate::Candidate;
 use dump_reading::DumpTotals;
@@ -27,6 +27,13 @@ impl Finding {
         ensures { result ≡ has_good self.now }
     {
         self.good() > 0
+    }
+
+    /// Whether a file failed as it was opened or read.
+    pub fn has_failed(&self) -> bool
+        ensures { result ≡ has_failed self.now }
+    {
+        self.lost() > 0
     }
 
     /// Whether the disk explains the dump better than another: it has more good sectors; or as many, and fewer other names have data;
@@ -79,6 +86,16 @@ impl Finding {
     {
         match &self.totals {
             Some(totals) => totals.whole,
+            None => 0,
+        }
+    }
+
+    /// How many files failed.
+    fn lost(&self) -> u32
+        ensures { result ≡ lost_in self.now.totals }
+    {
+        match &self.totals {
+            Some(totals) => totals.lost,
             None => 0,
         }
     }

@@ -1,18 +1,20 @@
 //! Which disk a dump is of.
 
-ghost use Rattle.std.specs.Prelude.{◌≡◌, is_err, IfErr, IfOk};
+ghost use Rattle.std.specs.Prelude.{◌≡◌, is_err, IfOk, OnErr};
 ghost use Rattle.flux_base.specs.Blames.{CountsBy, no_counts, three_counts};
 ghost use Rattle.flux_base.specs.Counts.{Counts, counts_of};
 ghost use Rattle.flux_base.specs.Moments.{Puts, moment};
 ghost use Rattle.flux_engine.specs.Room.{empty_book, fresh};
 ghost use Rattle.dump_reading.specs.Blamed.{dumps_blame};
+ghost use Rattle.dump_reading.specs.Files.{shelf_now};
 ghost use Rattle.dump_identity.specs.Findings.{ComesTo};
 ghost use Rattle.track_shelf.specs.Told.{told_by};
 ghost use Rattle.dump_identity.specs.Lines.{line_of};
-ghost use Rattle.dump_identity.specs.Outcomes.{CutAtOne, FoundOne, HasTried, SaysOfIdentity};
+ghost use Rattle.dump_identity.specs.Outcomes.{CutLine, FoundOne, HasTried, SaysOfIdentity, WroteIntoLine};
 
 use crate::candidate::Candidate;
 use crate::finding::Finding;
+use crate::identity::Identity;
 use crate::lines::{best_line, finding_line};
 use crate::room::{IdentityRoom, Trial};
 use crate::tried::Tried;
@@ -25,33 +27,37 @@ use track_shelf::Shelf;
 
 /// Says which disk a dump is of. It is read as a disk of each format that has a name, in the order of their table, with one step for each cylinder,
 /// and for those of up to 42 cylinders then with two: as `read_dumps` reads it, by the clock that follows the drive alone. Each that
-/// has a good sector gets a line as soon as it was read, and the last line names the best: the one with most good sectors, of those
-/// the one with fewest other names that have whole data, of those the one with fewest sectors, and of those the first. No answer is
-/// for want of memory.
+/// has a good sector gets a line as soon as it was read, which also tells how many files failed, and the last line names the best: the one
+/// with most good sectors, of those the one with fewest other names that have whole data, of those the one with fewest sectors, and of those the
+/// first. A file that fails is passed over, each time. No answer is for want of memory.
 ///
-/// A dump that has no file of any track is refused, and nothing is written. After a fault nothing more is read or written, and the
+/// A dump that has no file of any track is refused, and nothing is written. After a fault of the sink nothing more is read or written, and the
 /// lines before are written whole. `ImageFault` is that of the lines. No notes are written, so `NotesFault` does not come.
 pub fn identify<H: Shelf, W: Sink>(
     dump: &Word,
     room: IdentityRoom,
     shelf: &mut H,
     lines: &mut W,
-) -> Result<Option<Finding>, DumpsFault>
-    ensures says { SaysOfIdentity dump.now (H.files shelf.old) (W.written lines.old) (W.written lines.new) result }
-    ensures kept { told_by H.files H.left H.given shelf.new ≡ told_by H.files H.left H.given shelf.old }
+) -> Result<Identity, DumpsFault>
+    ensures says { SaysOfIdentity dump.now (shelf_now (told_by H.files H.left H.given H.handled shelf.old) (counts_of H.faults H.failed shelf.old)) (shelf_now (told_by H.files H.left H.given H.handled shelf.new) (counts_of H.faults H.failed shelf.new)) (W.written lines.old) (W.written lines.new) result }
+
+    // What the shelf did is in what came of it.
     ensures blames { CountsBy (dumps_blame result)
-        (three_counts (counts_of H.faults H.failed shelf.old) (counts_of W.faults W.failed lines.old) no_counts)
-        (three_counts (counts_of H.faults H.failed shelf.new) (counts_of W.faults W.failed lines.new) no_counts) }
+        (three_counts no_counts (counts_of W.faults W.failed lines.old) no_counts)
+        (three_counts no_counts (counts_of W.faults W.failed lines.new) no_counts) }
 {
     let tried = match try_all(dump, room, shelf, lines) {
         Ok(tried) => tried,
-        Err(fault) => return Err(fault),
+        Err(Failed) => return Err(DumpsFault::ImageFault),
     };
     if !tried.has_files {
         return Err(DumpsFault::NoFiles { dump: 0 });
     }
     match write_line(lines, &best_line(&tried.best)) {
-        Ok(()) => Ok(tried.best),
+        Ok(()) => Ok(Identity {
+            best: tried.best,
+            failed: tried.failed,
+        }),
         Err(Failed) => Err(DumpsFault::ImageFault),
     }
 }
@@ -62,20 +68,17 @@ fn try_all<H: Shelf, W: Sink>(
     room: IdentityRoom,
     shelf: &mut H,
     lines: &mut W,
-) -> Result<Tried, DumpsFault>
-    ensures ok { IfOk result (HasTried dump.now (H.files shelf.old) (W.written lines.old) (W.written lines.new)) }
-    ensures err { IfErr result (λ fault. SaysOfIdentity dump.now (H.files shelf.old) (W.written lines.old) (W.written lines.new) (Err fault)) }
-    ensures kept { told_by H.files H.left H.given shelf.new ≡ told_by H.files H.left H.given shelf.old }
-    ensures blames { CountsBy (dumps_blame result)
-        (three_counts (counts_of H.faults H.failed shelf.old) (counts_of W.faults W.failed lines.old) no_counts)
-        (three_counts (counts_of H.faults H.failed shelf.new) (counts_of W.faults W.failed lines.new) no_counts) }
+) -> Result<Tried, Failed>
+    ensures ok { IfOk result (HasTried dump.now (shelf_now (told_by H.files H.left H.given H.handled shelf.old) (counts_of H.faults H.failed shelf.old)) (shelf_now (told_by H.files H.left H.given H.handled shelf.new) (counts_of H.faults H.failed shelf.new)) (W.written lines.old) (W.written lines.new)) }
+    ensures err { OnErr result (WroteIntoLine dump.now (shelf_now (told_by H.files H.left H.given H.handled shelf.old) (counts_of H.faults H.failed shelf.old)) (shelf_now (told_by H.files H.left H.given H.handled shelf.new) (counts_of H.faults H.failed shelf.new)) (W.written lines.old) (W.written lines.new)) }
+    ensures counts { Counts (is_err result) (counts_of W.faults W.failed lines.old) (counts_of W.faults W.failed lines.new) }
 {
     let mut disk = room.disk;
     let mut tried = Tried::none();
     for trial in room.trials {
         match try_one(trial, dump, &mut disk, shelf, lines) {
             Ok(finding) => tried.note(finding),
-            Err(fault) => return Err(fault),
+            Err(failed) => return Err(failed),
         }
     }
     Ok(tried)
@@ -88,24 +91,21 @@ fn try_one<H: Shelf, W: Sink>(
     disk: &mut DiskRoom,
     shelf: &mut H,
     lines: &mut W,
-) -> Result<Finding, DumpsFault>
+) -> Result<Finding, Failed>
     requires { trial.book ≡ empty_book trial.candidate.format }
-    ensures ok { IfOk result (FoundOne dump.now (H.files shelf.old) (W.written lines.old) (W.written lines.new) trial.candidate) }
-    ensures err { IfErr result (CutAtOne dump.now (H.files shelf.old) (W.written lines.old) (W.written lines.new) trial.candidate) }
-    ensures kept { told_by H.files H.left H.given shelf.new ≡ told_by H.files H.left H.given shelf.old }
-    ensures blames { CountsBy (dumps_blame result)
-        (three_counts (counts_of H.faults H.failed shelf.old) (counts_of W.faults W.failed lines.old) no_counts)
-        (three_counts (counts_of H.faults H.failed shelf.new) (counts_of W.faults W.failed lines.new) no_counts) }
+    ensures ok { IfOk result (FoundOne dump.now (shelf_now (told_by H.files H.left H.given H.handled shelf.old) (counts_of H.faults H.failed shelf.old)) (shelf_now (told_by H.files H.left H.given H.handled shelf.new) (counts_of H.faults H.failed shelf.new)) (W.written lines.old) (W.written lines.new) trial.candidate) }
+    ensures err { OnErr result (CutLine dump.now (shelf_now (told_by H.files H.left H.given H.handled shelf.old) (counts_of H.faults H.failed shelf.old)) (shelf_now (told_by H.files H.left H.given H.handled shelf.new) (counts_of H.faults H.failed shelf.new)) (W.written lines.old) (W.written lines.new) trial.candidate) }
+    ensures counts { Counts (is_err result) (counts_of W.faults W.failed lines.old) (counts_of W.faults W.failed lines.new) }
 {
     let candidate = trial.candidate;
     disk.begin_format(candidate.format, trial.book);
-    let finding = match read_as(candidate, dump, disk, shelf) {
-        Ok(totals) => Finding { candidate, totals },
-        Err(Failed) => return Err(DumpsFault::ShelfFault),
+    let finding = Finding {
+        candidate,
+        totals: read_as(candidate, dump, disk, shelf),
     };
     match write_finding(&finding, lines) {
         Ok(()) => Ok(finding),
-        Err(Failed) => Err(DumpsFault::ImageFault),
+        Err(failed) => Err(failed),
     }
 }
 
@@ -116,11 +116,9 @@ fn read_as<H: Shelf>(
     dump: &Word,
     disk: &mut DiskRoom,
     shelf: &mut H,
-) -> Result<Option<DumpTotals>, Failed>
+) -> Option<DumpTotals>
     requires { disk.old ≡ fresh candidate.format }
-    ensures ok { IfOk result (ComesTo dump.now (H.files shelf.old) candidate) }
-    ensures kept { told_by H.files H.left H.given shelf.new ≡ told_by H.files H.left H.given shelf.old }
-    ensures counts { Counts (is_err result) (counts_of H.faults H.failed shelf.old) (counts_of H.faults H.failed shelf.new) }
+    ensures { ComesTo dump.now (shelf_now (told_by H.files H.left H.given H.handled shelf.old) (counts_of H.faults H.failed shelf.old)) (shelf_now (told_by H.files H.left H.given H.handled shelf.new) (counts_of H.faults H.failed shelf.new)) candidate result }
 {
     let dumps = Dumps {
         names: from_ref(dump),
@@ -136,9 +134,8 @@ fn read_as<H: Shelf>(
         &mut image,
         &mut notes,
     ) {
-        Ok(totals) => Ok(Some(totals)),
-        Err(DumpsFault::NoFiles { .. }) => Ok(None),
-        Err(DumpsFault::ShelfFault) => Err(Failed),
+        Ok(totals) => Some(totals),
+        Err(DumpsFault::NoFiles { .. }) => None,
         // The sinks do not fail.
         Err(DumpsFault::ImageFault) => unreachable!(),
         Err(DumpsFault::NotesFault) => unreachable!(),

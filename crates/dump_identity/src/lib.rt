@@ -4,6 +4,7 @@
 mod candidate;
 mod finding;
 mod identifying;
+mod identity;
 mod laws;
 mod lines;
 mod room;
@@ -12,5 +13,6 @@ mod tried;
 pub use candidate::Candidate;
 pub use finding::Finding;
 pub use identifying::identify;
+pub use identity::Identity;
 pub use laws::{complete_is_read_whole, identities_are_one};
 pub use room::IdentityRoom;

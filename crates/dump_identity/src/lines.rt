@@ -2,7 +2,7 @@
 
 ghost use Rattle.std.specs.Prelude.{◌≡◌, ◌≤◌, ◌+◌, ◌++◌, codes};
 ghost use Rattle.arrayvec.specs.ArrayString.{array_string_len};
-ghost use Rattle.dump_identity.specs.Lines.{best_text, candidate_text, finding_text, stepping_text};
+ghost use Rattle.dump_identity.specs.Lines.{best_text, candidate_text, failed_text, finding_text, stepping_text};
 
 use crate::candidate::Candidate;
 use crate::finding::Finding;
@@ -20,8 +20,20 @@ pub(crate) fn finding_line(candidate: Candidate, totals: &DumpTotals) -> Line
     put_named(&mut line, " good ", totals.sectors.good);
     put_named(&mut line, " of ", totals.sectors.sectors);
     put_named(&mut line, " other ", totals.whole);
+    put_failed(&mut line, totals.lost);
     put(&mut line, "\n");
     line
+}
+
+/// Appends how many files failed, where one did.
+fn put_failed(line: &mut Line, lost: u32)
+    requires { array_string_len line.old + 18 ≤ 192 }
+    ensures bytes { line.new.bytes ≡ line.old.bytes ++ failed_text lost }
+    ensures len { array_string_len line.new ≤ array_string_len line.old + 18 }
+{
+    if lost > 0 {
+        put_named(line, " failed ", lost);
+    }
 }
 
 /// The words for the best of all candidates, or that none has a good sector.

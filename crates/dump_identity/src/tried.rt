@@ -13,6 +13,8 @@ pub(crate) struct Tried {
     pub best: Option<Finding>,
     /// Whether the dump has a file of one of their tracks.
     pub has_files: bool,
+    /// Whether a file failed.
+    pub failed: bool,
 }
 
 impl Tried {
@@ -22,6 +24,7 @@ impl Tried {
         Tried {
             best: None,
             has_files: false,
+            failed: false,
         }
     }
 
@@ -31,6 +34,7 @@ impl Tried {
     {
         self.best = better_of(self.best, finding);
         self.has_files = self.has_files || finding.has_files();
+        self.failed = self.failed || finding.has_failed();
     }
 }
 

@@ -1,10 +1,11 @@
-use Rattle.std.proofs.Common.{◌≡◌, ◌+◌, [], ◌∷◌, ◌++◌, List, length, map, refl, sym, ap, subst, ◌∙◌, append_assoc, append-nil, arith}
+use Rattle.std.proofs.Common.{◌≡◌, ◌+◌, [], ◌∷◌, ◌++◌, List, length, map, refl, sym, ap, ◌∙◌, append_assoc, append-nil, arith}
 use Rattle.std.proofs.lemmas.Grind.{common_steps}
 use Rattle.std.specs.Vec.Iter.{into_iter_items}
-use Rattle.flux_base.specs.lemmas.Blaming.{CountsBy-none, CountsBy-then}
-use Rattle.track_shelf.specs.Told.{ShelfTold}
+use Rattle.flux_base.specs.Counts.{counts_of}
+use Rattle.flux_base.specs.lemmas.Counting.{Counts-none, Counts-then}
+use Rattle.track_shelf.specs.Told.{told_by}
+use Rattle.dump_reading.specs.Files.{shelf_now}
 use Rattle.dump_identity.specs.Candidates.{candidates}
-use Rattle.dump_identity.specs.Outcomes.{CutAtOne, FoundOne}
 use Rattle.dump_identity.specs.Trials.{trial_of}
 use Rattle.dump_identity.specs.declared.room.Trial.{Trial}
 use Rattle.dump_identity.proofs.Tries.{is-trial, made-all, made-cut, made-next, made-none}
@@ -18,9 +19,9 @@ pub loop-trial-init : goal.loop-trial-init
 loop-trial-init g c = record {
   rest = c.into_iter-trial-iterator.ensures.into_iter_gives.0 ∙ c.room.invariant;
   left = grind (arith, common_steps, c.into_iter-trial-iterator.ensures.into_iter_gives.0, c.into_iter-trial-iterator.ensures.into_iter_gives.1);
-  made = made-none c.args.dump.now (g.H.Shelf.files c.args.shelf.now) (g.W.Sink.written c.args.lines.now) c.none-tried.result c.none-tried.ensures;
-  kept = refl;
-  blames = CountsBy-none _;
+  made = made-none c.args.dump.now (shelf_now (told_by g.H.Shelf.files g.H.Source.left g.H.Source.given g.H.Shelf.handled c.args.shelf.now) (counts_of g.H.Source.faults g.H.Source.failed c.args.shelf.now)) (g.W.Sink.written c.args.lines.now)
+      c.none-tried.result c.none-tried.ensures;
+  counts = Counts-none _;
 }
 
 pub try_one-requires : goal.try_one-requires
@@ -41,12 +42,11 @@ loop-trial-preserved g c =
     record {
       rest = append_assoc at.yielded (trial ∷ []) (into_iter_items c.next.new.self) ∙ whole;
       left = omega (arith, ap length steps, at.invariant.left, c.in-Some.ensures.steps.1);
-      made = made-next c.args.dump.now (g.H.Shelf.files c.args.shelf.now) (g.W.Sink.written c.args.lines.now) at.yielded (g.W.Sink.written at.lines) at.tried at.invariant.made trial
-          (g.W.Sink.written c.try_one.new.lines) c.in-Ok.finding c.note.new.self
-          (subst (λ (t : ShelfTold). FoundOne c.args.dump.now t.files (g.W.Sink.written at.lines) (g.W.Sink.written c.try_one.new.lines) trial.candidate c.in-Ok.finding) at.invariant.kept c.in-Ok.ensures.ok)
-          c.note.ensures;
-      kept = c.try_one.ensures.kept ∙ at.invariant.kept;
-      blames = CountsBy-then _ at.invariant.blames c.in-Ok.ensures.blames;
+      made = made-next c.args.dump.now (shelf_now (told_by g.H.Shelf.files g.H.Source.left g.H.Source.given g.H.Shelf.handled c.args.shelf.now) (counts_of g.H.Source.faults g.H.Source.failed c.args.shelf.now)) (g.W.Sink.written c.args.lines.now)
+          at.yielded (shelf_now (told_by g.H.Shelf.files g.H.Source.left g.H.Source.given g.H.Shelf.handled at.shelf) (counts_of g.H.Source.faults g.H.Source.failed at.shelf)) (g.W.Sink.written at.lines)
+          at.tried at.invariant.made trial (shelf_now (told_by g.H.Shelf.files g.H.Source.left g.H.Source.given g.H.Shelf.handled c.try_one.new.shelf) (counts_of g.H.Source.faults g.H.Source.failed c.try_one.new.shelf))
+          (g.W.Sink.written c.try_one.new.lines) c.in-Ok.finding c.note.new.self c.in-Ok.ensures.ok c.note.ensures;
+      counts = Counts-then _ at.invariant.counts c.in-Ok.ensures.counts;
     }
 
 pub returns-clause-ok : goal.returns-clause-ok
@@ -54,7 +54,8 @@ returns-clause-ok g c =
     let at = c.loop-trial in
     let empty : into_iter_items at.trial-iterator ≡ [] = none-left _ (sym at.invariant.left ∙ c.in-None.ensures.steps.0) in
     let all : at.yielded ≡ map trial_of candidates = sym (append-nil at.yielded) ∙ ap (λ (ts : List Trial). at.yielded ++ ts) (sym empty) ∙ at.invariant.rest in
-    made-all c.args.dump.now (g.H.Shelf.files c.args.shelf.now) (g.W.Sink.written c.args.lines.now) at.yielded (g.W.Sink.written at.lines) at.tried at.invariant.made all
+    made-all c.args.dump.now (shelf_now (told_by g.H.Shelf.files g.H.Source.left g.H.Source.given g.H.Shelf.handled c.args.shelf.now) (counts_of g.H.Source.faults g.H.Source.failed c.args.shelf.now)) (g.W.Sink.written c.args.lines.now)
+    at.yielded (shelf_now (told_by g.H.Shelf.files g.H.Source.left g.H.Source.given g.H.Shelf.handled at.shelf) (counts_of g.H.Source.faults g.H.Source.failed at.shelf)) (g.W.Sink.written at.lines) at.tried at.invariant.made all
 
 pub returns-in-Err-clause-err : goal.returns-in-Err-clause-err
 returns-in-Err-clause-err g c =
@@ -63,12 +64,10 @@ returns-in-Err-clause-err g c =
     let steps : into_iter_items at.trial-iterator ≡ trial ∷ into_iter_items c.next.new.self = c.in-Some.ensures.steps.0 in
     let whole : at.yielded ++ trial ∷ into_iter_items c.next.new.self ≡ map trial_of candidates =
     ap (λ (ts : List Trial). at.yielded ++ ts) (sym steps) ∙ at.invariant.rest in
-    made-cut c.args.dump.now (g.H.Shelf.files c.args.shelf.now) (g.W.Sink.written c.args.lines.now) at.yielded (g.W.Sink.written at.lines) at.tried at.invariant.made trial
-    (into_iter_items c.next.new.self) whole (g.W.Sink.written c.try_one.new.lines) c.in-Err.fault
-    (subst (λ (t : ShelfTold). CutAtOne c.args.dump.now t.files (g.W.Sink.written at.lines) (g.W.Sink.written c.try_one.new.lines) trial.candidate c.in-Err.fault) at.invariant.kept c.in-Err.ensures.err)
+    made-cut c.args.dump.now (shelf_now (told_by g.H.Shelf.files g.H.Source.left g.H.Source.given g.H.Shelf.handled c.args.shelf.now) (counts_of g.H.Source.faults g.H.Source.failed c.args.shelf.now)) (g.W.Sink.written c.args.lines.now)
+    at.yielded (shelf_now (told_by g.H.Shelf.files g.H.Source.left g.H.Source.given g.H.Shelf.handled at.shelf) (counts_of g.H.Source.faults g.H.Source.failed at.shelf)) (g.W.Sink.written at.lines) at.tried at.invariant.made trial
+    (into_iter_items c.next.new.self) whole (shelf_now (told_by g.H.Shelf.files g.H.Source.left g.H.Source.given g.H.Shelf.handled c.try_one.new.shelf) (counts_of g.H.Source.faults g.H.Source.failed c.try_one.new.shelf))
+    (g.W.Sink.written c.try_one.new.lines) c.in-Err.ensures.err
 
-pub returns-clause-blames : goal.returns-clause-blames
-returns-clause-blames g c = c.loop-trial.invariant.blames
-
-pub returns-in-Err-clause-blames : goal.returns-in-Err-clause-blames
-returns-in-Err-clause-blames g c = CountsBy-then _ c.loop-trial.invariant.blames c.in-Err.ensures.blames
+pub returns-in-Err-clause-counts : goal.returns-in-Err-clause-counts
+returns-in-Err-clause-counts g c = Counts-then _ c.loop-trial.invariant.counts c.in-Err.ensures.counts

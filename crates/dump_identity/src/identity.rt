@@ -1,0 +1,10 @@
+use crate::finding::Finding;
+
+/// What is known of a dump that was read as each disk.
+#[derive(Clone, Copy, Debug, PartialEq, Eq)]
+pub struct Identity {
+    /// The disk that explains it best, if one has a good sector.
+    pub best: Option<Finding>,
+    /// Whether one of its files failed as it was opened or read for one of these disks.
+    pub failed: bool,
+}
