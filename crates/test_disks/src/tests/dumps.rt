@@ -82,6 +82,7 @@ const BOTH: DumpTotals = DumpTotals {
         contradictory: 0,
     },
     unread: 153,
+    lost: 0,
     others: 0,
     whole: 0,
 };
@@ -98,12 +99,43 @@ fn streams_are_passed_over(rt: HostRuntime) -> Result<(), Fail> {
     Ok(())
 }
 
-/// The dumps, the calls of the shelf that fail, and why nothing is written. Each dump's first file is looked for first.
+/// The dumps, the calls of the shelf that fail, and why nothing is written. No file is opened before each dump has one.
 const REFUSED: [(&[&str], &[u64], DumpsFault); 3] = [
     (&["a", "c", "b"], &[], DumpsFault::NoFiles { dump: 1 }),
     (&["c"], &[], DumpsFault::NoFiles { dump: 0 }),
-    (&["a", "c"], &[0], DumpsFault::ShelfFault),
+    (&["a", "c"], &[0], DumpsFault::NoFiles { dump: 1 }),
 ];
+
+/// The call of the shelf that fails, how many streams are passed over then, and what is told of the track. Of each track the first dump's file is
+/// opened, and then the second one's.
+const FAILED: [(u64, u32, &str); 2] = [
+    (
+        0,
+        154,
+        "00.0 dump 0 failed\n00.0 dump 1 missing\n00.0 01 missing 0 0\n",
+    ),
+    (
+        3,
+        153,
+        "\n01.0 dump 0 missing\n01.0 dump 1 failed\n01.0 01 missing 0 0\n",
+    ),
+];
+
+#[test]
+fn a_file_that_fails_is_passed_over(rt: HostRuntime) -> Result<(), Fail> {
+    for (call, unread, told) in FAILED {
+        let end = read(rt.alloc(), &["a", "b"], &[call])?;
+        let totals = DumpTotals {
+            unread,
+            lost: 1,
+            ..BOTH
+        };
+        assert_eq!(rt; end.answer, Ok(totals));
+        assert_eq!(rt; end.image.bytes().len(), 256_256);
+        assert!(rt; str::from_utf8(end.notes.bytes()).is_ok_and(|text| text.contains(told)));
+    }
+    Ok(())
+}
 
 #[test]
 fn dumps_without_files_are_refused(rt: HostRuntime) -> Result<(), Fail> {
@@ -157,10 +189,17 @@ fn dumps_are_drawn(rt: HostRuntime) -> Result<(), Fail> {
     Ok(())
 }
 
-/// The dumps, the calls of the shelf and the writes that fail, why the picture ends early, and how it ends then.
+#[test]
+fn a_picture_counts_files_that_failed(rt: HostRuntime) -> Result<(), Fail> {
+    let (answer, picture) = draw(rt.alloc(), &["a", "b"], &[3], &[])?;
+    assert_eq!(rt; answer, Ok(DumpTotals { lost: 1, ..BOTH }));
+    assert!(rt; str::from_utf8(picture.bytes()).is_ok_and(|text| text.ends_with(PICTURE_END)));
+    Ok(())
+}
+
+/// The dumps, the writes that fail, why the picture ends early, and how it ends then.
 type Cut = (
     &'static [&'static str],
-    &'static [u64],
     &'static [u64],
     DumpsFault,
     &'static str,
@@ -168,20 +207,17 @@ type Cut = (
 
 const LAST_FIELD: &str = "<title>00.0 26 missing 0 0\n</title></path>\n";
 
-const CUT: [Cut; 5] = [
-    (&["a", "c"], &[], &[], DumpsFault::NoFiles { dump: 1 }, ""),
-    (&["a", "b"], &[0], &[], DumpsFault::ShelfFault, ""),
-    // The file of the second track cannot be opened.
-    (&["a", "b"], &[6], &[], DumpsFault::ShelfFault, LAST_FIELD),
-    (&["a", "b"], &[], &[0], DumpsFault::ImageFault, ""),
+const CUT: [Cut; 3] = [
+    (&["a", "c"], &[], DumpsFault::NoFiles { dump: 1 }, ""),
+    (&["a", "b"], &[0], DumpsFault::ImageFault, ""),
     // Three pieces stand before the fields, of which the first track has 26.
-    (&["a", "b"], &[], &[29], DumpsFault::ImageFault, LAST_FIELD),
+    (&["a", "b"], &[29], DumpsFault::ImageFault, LAST_FIELD),
 ];
 
 #[test]
 fn pictures_of_dumps_are_cut(rt: HostRuntime) -> Result<(), Fail> {
-    for (names, calls, writes, why, end) in CUT {
-        let (answer, picture) = draw(rt.alloc(), names, calls, writes)?;
+    for (names, writes, why, end) in CUT {
+        let (answer, picture) = draw(rt.alloc(), names, &[], writes)?;
         assert_eq!(rt; answer, Err(why));
         let text = str::from_utf8(picture.bytes()).unwrap_or("");
         assert!(rt; text.ends_with(end) && text.is_empty() == end.is_empty());
