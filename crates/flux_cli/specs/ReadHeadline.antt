@@ -10,7 +10,7 @@ use Rattle.flux_engine.specs.Plans.{joined}
 use Rattle.flux_engine.specs.Rings.{IsImage}
 use Rattle.law_captured_disks.specs.Headline.{IsSectorOf}
 use Rattle.law_captured_dumps.specs.Headline.{IsReadRightly, IsReadWell}
-use Rattle.law_captured_dumps.specs.Inputs.{HasWhole, IsSteadyOrPassed}
+use Rattle.law_captured_dumps.specs.Inputs.{HasFailed, HasWhole, IsSteadyOrPassed}
 use Rattle.law_read_dumps.specs.Complete.{IsAllRead}
 use Rattle.law_read_dumps.specs.Lines.{ArePassedSaid, HasNoOtherLines, HaveTheirNumbers}
 use Rattle.law_read_dumps.specs.Said.{AreOfFiles, IsSaid, IsSaidRightly, StaysOrIsContradicted, came_in}
@@ -33,8 +33,8 @@ use Rattle.flux_words.specs.declared.dump_words.Shown.TheVariants.{Image, Pictur
 -- the text of such a stream's is true; there are as many lines as the numbers say. The numbers call all of it complete exactly where every
 -- sector is good and, in the cells of no stream that was read, whole data stand after a header that names none of its track's sectors.
 -- A sector that is good by the strict rule in one dump, by one clock, is never wrong unsaid, whatever the files are: it is good with the same
--- bytes, or contradictory. So is one that a dump has whole, with its own bytes; where the other files are captures too or passed over, and the
--- drives kept their speed, it is good with them.
+-- bytes, or contradictory. So is one that a dump has whole, in a file that did not fail, with its own bytes; where the other files are captures
+-- too or passed over, and the drives kept their speed, it is good with them.
 pub record OfDumps (disk : DumpDisk) (files : List File) (d : DumpsRead) : Type 0 where
   pub is : IsDumpsRead disk (Some files) d
   pub of_files : AreOfFiles disk (came_in is) files
@@ -49,9 +49,9 @@ pub record OfDumps (disk : DumpDisk) (files : List File) (d : DumpsRead) : Type 
   pub complete : IsTrue (is_complete d.totals) ↔ IsAllRead disk (came_in is) d
   pub stays : (n sector : ℕ) (said : IsSaid disk (came_in is) d n sector) → StaysOrIsContradicted disk (came_in is) d n sector said
   pub whole : (image : List ℕ) → IsImage disk.format image → (n sector : ℕ) → IsSectorOf disk.format n sector
-      → (dump : ℕ) → dump < length disk.dumps → HasWhole disk files image n dump sector → IsReadRightly disk (came_in is) image d n sector
+      → (dump : ℕ) → dump < length disk.dumps → ¬ HasFailed (came_in is) n dump → HasWhole disk files image n dump sector → IsReadRightly disk (came_in is) image d n sector
   pub steady : (image : List ℕ) → IsImage disk.format image → (n sector : ℕ) → IsSectorOf disk.format n sector
-      → (dump : ℕ) → dump < length disk.dumps → HasWhole disk files image n dump sector
+      → (dump : ℕ) → dump < length disk.dumps → ¬ HasFailed (came_in is) n dump → HasWhole disk files image n dump sector
       → ((other : ℕ) → other < length disk.dumps → IsSteadyOrPassed disk (came_in is) files image n other) → IsReadWell disk (came_in is) image d n sector
 
 -- the sinks got the image and the report of the dumps

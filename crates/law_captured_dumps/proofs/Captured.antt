@@ -33,7 +33,7 @@ use Rattle.turn_merge.specs.declared.verdict.Place.{Place}
 use Rattle.turn_merge.specs.declared.verdict.Verdict.{Verdict}
 use Rattle.turn_merge.specs.declared.verdict.Verdict.TheVariants.{Bad, Contradictory, Good, Missing}
 use Rattle.law_captured_dumps.specs.Headline.{CapturedDumpsAreNeverWrong, IsReadRightly, IsReadWell, SteadyDumpsAreReadWell}
-use Rattle.law_captured_dumps.specs.Inputs.{HasWhole, IsSteadyOrPassed}
+use Rattle.law_captured_dumps.specs.Inputs.{HasFailed, HasWhole, IsSteadyOrPassed}
 use Rattle.law_read_dumps.specs.Said.{AreOfFiles, EachIsSaid, IsRightlyGood, IsSaid, IsSaidRightly, SaidIsRight, StreamsAreOfFiles, came_in}
 use Rattle.law_captured_dumps.proofs.Owning.{HoldsOwn, Laws as OwnLaws, holds, mine, stands, tracks_written}
 
@@ -97,12 +97,12 @@ module _ (laws : Laws) (disk : DumpDisk) (came : Streams) (files : List File) (o
 
   -- a sector that one dump has whole
   module _ (n sector : ℕ) (one : IsSectorOf format n sector) (said : IsSaid disk came o n sector) (dump : ℕ) (low : dump < length disk.dumps)
-      (whole : HasWhole disk files image n dump sector) where
+      (not_failed : ¬ HasFailed came n dump) (whole : HasWhole disk files image n dump sector) where
     abbrev used : IsUsed plan.clocks Following
     used = following_used plan.clocks
 
     there : (place : ℕ) × StandsIn Controller format streams n dump Following place sector (mine laws.own disk came files of image is n sector)
-    there = stands laws.own disk came files of image is n dump one.track low sector one whole
+    there = stands laws.own disk came files of image is n dump one.track low sector one not_failed whole
 
     never_lost : IsBadOrMissing (verdict (joined said.captures) sector) → ⊥
     never_lost = not_lost n sector said dump Following there.0 (mine laws.own disk came files of image is n sector) low used there.1
@@ -145,9 +145,9 @@ module _ (laws : Laws) (disk : DumpDisk) (came : Streams) (files : List File) (o
       well = well_by (verdict (joined said.captures) sector) refl (laws.right disk came o n sector said)
 
 pub never_wrong : Laws → CapturedDumpsAreNeverWrong
-never_wrong laws disk files image o is read n sector one dump low whole =
-    rightly laws disk (came_in read) files (laws.of_files disk files o read) image o is n sector one (laws.said disk (Some files) o read n sector one) dump low whole
+never_wrong laws disk files image o is read n sector one dump low not_failed whole =
+    rightly laws disk (came_in read) files (laws.of_files disk files o read) image o is n sector one (laws.said disk (Some files) o read n sector one) dump low not_failed whole
 
 pub read_well : Laws → SteadyDumpsAreReadWell
-read_well laws disk files image o is read n sector one dump low whole steady =
-    well laws disk (came_in read) files (laws.of_files disk files o read) image o is n sector one (laws.said disk (Some files) o read n sector one) dump low whole steady
+read_well laws disk files image o is read n sector one dump low not_failed whole steady =
+    well laws disk (came_in read) files (laws.of_files disk files o read) image o is n sector one (laws.said disk (Some files) o read n sector one) dump low not_failed whole steady

@@ -1,10 +1,10 @@
 -- What stands in the cells of a dump's stream: of one that captures its track each sector with its own bytes, and nothing else; of one
 -- that is passed over nothing.
 use Rattle.std.specs.Prelude.{◌≡◌, ◌≤◌, ◌<◌, ℕ, ◌+◌, ◌-◌, ◌*◌, ◌++◌, Bool, true, List, [], ◌∷◌, drop, length, map, slice_index, is_some, option_and_then, Option, None, Some, refl}
-use Rattle.std.specs.List.{slice_get}
 use Rattle.std.proofs.Common.{ap, sym, subst, ◌∙◌, arith, append-nil, inl, inr, length-drop}
+use Rattle.std.proofs.lemmas.Option.{slice_get-get_or}
 use Rattle.disk_recordings.specs.Laws.{RingsHaveCells}
-use Rattle.dump_reading.specs.DumpStreams.{seen_file, seen_in, seen_of, seen_unless}
+use Rattle.dump_reading.specs.DumpStreams.{IsOrFailed, path_in, seen_file, seen_of, seen_unless}
 use Rattle.dump_reading.specs.Outcomes.{DumpDisk}
 use Rattle.flux_base.specs.declared.track.TrackId.{TrackId}
 use Rattle.flux_engine.specs.Captures.{CapturesAreRecovered, ErasedCapturesAreRecovered, IsSteady, IsSteadyErased, SteadyCapturesAreRecovered, SteadyErasedCapturesAreRecovered}
@@ -32,11 +32,10 @@ use Rattle.track_rings.specs.Rings.{last_in, stretch}
 use Rattle.track_shelf.specs.Files.{File, file_at}
 use Rattle.track_shelf.specs.Names.{path_text}
 use Rattle.track_shelf.specs.Stepping.{file_track}
-use Rattle.track_shelf.specs.declared.stepping.Stepping.{Stepping}
 use Rattle.turn_merge.specs.declared.clock.Clock.{Clock}
 use Rattle.turn_merge.specs.declared.clock.Clock.TheVariants.{Following}
-use Rattle.law_captured_dumps.specs.Inputs.{Begins, Captures, CapturesInPart, HasWhole, IsPassedOver, IsSteadyOrPassed}
-use Rattle.law_read_dumps.specs.Said.{AreOfFiles, streams_on}
+use Rattle.law_captured_dumps.specs.Inputs.{Begins, Captures, CapturesInPart, HasFailed, HasWhole, IsPassedOver, IsSteadyOrPassed, file_on}
+use Rattle.law_read_dumps.specs.Said.{AreOfFiles, says_on}
 
 -- what the crates below promise
 pub record Laws : Type 0 where
@@ -54,15 +53,11 @@ pub record Laws : Type 0 where
   pub two_rings : (format : Format) (image : List ℕ) (k : ℕ) → IsImage format image → k < length (tracks format)
       → TwoRingsHaveSectors (StandsBy Controller format (track_at format k)) (written_track format image k)
 
-none_some : {X : Type 0} (x : X) → None ≡ Some x → ⊥
-none_some x same = cc
-
 -- a file that is there says what it says
-file_seen : (stepping : Stepping) (files : List File) (track : TrackId) (name : Option (List ℕ)) (file : File)
-    → option_and_then (λ (dump : List ℕ). file_at files (path_text dump (file_track stepping track))) name ≡ Some file
-    → seen_in stepping files name track ≡ seen_file file.bytes
-file_seen stepping files track None file there = absurd (none_some file there)
-file_seen stepping files track (Some dump) file there = ap seen_of there
+file_says : (disk : DumpDisk) (files : List File) (n dump : ℕ) → dump < length disk.dumps → says_on disk files n dump ≡ seen_of (file_on disk files n dump)
+file_says disk files n dump few =
+    ap (λ (name : Option (List ℕ)). seen_of (option_and_then (λ (dump : List ℕ). file_at files (path_text dump (file_track disk.stepping (track_at disk.format n)))) name))
+    (sym (slice_get-get_or disk.dumps dump [] few))
 
 -- a stream without a fault is read, whatever follows it
 begin_seen : StreamsStay → (stream later bytes : List ℕ) → bytes ≡ stream ++ later → first_fault stream ≡ None
@@ -74,18 +69,18 @@ begin_seen stay stream later bytes begins sound =
     ∙ ap (λ (blocks : List SpelledBlock). record { fault = None; passed = None; times = times_of blocks; indexes = indexes_of blocks }) same.blocks
 
 -- what is passed over has no transitions
-passed_times : (stepping : Stepping) (files : List File) (track : TrackId) (name : Option (List ℕ)) → is_some (seen_in stepping files name track).passed ≡ true
-    → (seen_in stepping files name track).times ≡ []
-passed_times stepping files track None passed = refl
-passed_times stepping files track (Some dump) passed = of_file (file_at files (path_text dump (file_track stepping track))) passed
+passed_times : (file : Option File) → is_some (seen_of file).passed ≡ true → (seen_of file).times ≡ []
+passed_times None is = refl
+passed_times (Some file) is = by_fault file.bytes (first_fault file.bytes) is
   where
     by_fault : (bytes : List ℕ) (fault : Option (ℕ × StreamFault)) → is_some (seen_unless bytes fault).passed ≡ true → (seen_unless bytes fault).times ≡ []
     by_fault bytes None is = absurd (cc)
     by_fault bytes (Some fault) is = refl
 
-    of_file : (file : Option File) → is_some (seen_of file).passed ≡ true → (seen_of file).times ≡ []
-    of_file None is = refl
-    of_file (Some file) is = by_fault file.bytes (first_fault file.bytes) is
+came_times : (file : Option File) (came : Seen) → IsOrFailed came (seen_of file) → is_some came.passed ≡ true → came.times ≡ []
+came_times file came (inl same) passed =
+    ap (λ (s : Seen). s.times) same ∙ passed_times file (sym (ap (λ (s : Seen). is_some s.passed) same) ∙ passed)
+came_times file came (inr failed) passed = ap (λ (s : Seen). s.times) failed
 
 no_cells : (clock : Clock) (format : Format) (track : TrackId) (ts is : List ℕ) → ts ≡ [] → cells_by clock format track ts is ≡ []
 unfolding recovered
@@ -112,10 +107,9 @@ module _ (laws : Laws) (disk : DumpDisk) (came : Streams) (files : List File) (o
   -- of a stream that is passed over nothing stands
   passed_holds : (n q : ℕ) (clock : Clock) → n < length (tracks format) → q < length disk.dumps → IsPassedOver came n q → HoldsOwn n q clock
   passed_holds n q clock known few passed place sector bytes here =
-      let told : is_some (streams_on disk files n q).passed ≡ true = subst (λ (s : Seen). is_some s.passed ≡ true) (of n q known few) passed in
       let none : cells_in format streams n q clock ≡ [] =
       no_cells clock format (track_at format n) (streams n q).times (streams n q).indexes
-      (ap (λ (s : Seen). s.times) (of n q known few) ∙ passed_times disk.stepping files (track_at format n) (slice_get disk.dumps q) told) in
+      (came_times (file_at files (path_in disk.stepping disk.dumps (track_at format n) q)) (streams n q) (of n q known few) passed) in
       let alone = (laws.own format image n is known).alone (drop place (cells_in format streams n q clock)) sector bytes here in
       let empty : length (cells_in format streams n q clock) ≡ 0 = ap length none in
       let rest = length-drop place (cells_in format streams n q clock) in
@@ -157,67 +151,78 @@ module _ (laws : Laws) (disk : DumpDisk) (came : Streams) (files : List File) (o
               ((written first later).whole_stands sector lies.0 lies.1 (tracks_written.has n sector one) lies.2),
         )
 
-    stream_is : (stream : List ℕ) → Begins disk files n q stream → first_fault stream ≡ None
-        → streams n q ≡ record { fault = None; passed = None; times = times stream; indexes = indexes stream }
-    stream_is stream begins sound =
-        of n q known few ∙ file_seen disk.stepping files track (slice_get disk.dumps q) begins.file begins.there
-        ∙ begin_seen laws.stay stream begins.later begins.file.bytes begins.is sound
+    -- where the file did not fail, what came is what it says
+    module _ (same : streams n q ≡ says_on disk files n q) where
+      stream_is : (stream : List ℕ) → Begins disk files n q stream → first_fault stream ≡ None
+          → streams n q ≡ record { fault = None; passed = None; times = times stream; indexes = indexes stream }
+      stream_is stream begins sound =
+          same ∙ file_says disk files n q few ∙ ap seen_of begins.there
+          ∙ begin_seen laws.stay stream begins.later begins.file.bytes begins.is sound
 
-    cells_are : (clock : Clock) (stream : List ℕ) → Begins disk files n q stream → first_fault stream ≡ None
-        → cells_in format streams n q clock ≡ cells_by clock format track (times stream) (indexes stream)
-    cells_are clock stream begins sound =
-        ap (λ (s : Seen). cells_by clock format track s.times s.indexes) (stream_is stream begins sound)
+      cells_are : (clock : Clock) (stream : List ℕ) → Begins disk files n q stream → first_fault stream ≡ None
+          → cells_in format streams n q clock ≡ cells_by clock format track (times stream) (indexes stream)
+      cells_are clock stream begins sound =
+          ap (λ (s : Seen). cells_by clock format track s.times s.indexes) (stream_is stream begins sound)
 
-    -- of a stream that captures the track
-    module _ (c : Captures disk files image n q) where
-      abbrev piece : RingPiece
-      piece = record { from = slice_index c.capture.places 0; count = last_in c.capture.places - slice_index c.capture.places 0 + 1 }
+      -- of a stream that captures the track
+      module _ (c : Captures disk files image n q) where
+        abbrev piece : RingPiece
+        piece = record { from = slice_index c.capture.places 0; count = last_in c.capture.places - slice_index c.capture.places 0 + 1 }
 
-      of_piece : (clock : Clock) → cells_by clock format track (times c.stream) (indexes c.stream) ≡ stretch ring piece.from piece.count
-          → AreOfPieces n q clock piece []
-      of_piece clock back = cells_are clock c.stream c.begins c.capture.no_fault ∙ back ∙ sym (append-nil (stretch ring piece.from piece.count))
+        of_piece : (clock : Clock) → cells_by clock format track (times c.stream) (indexes c.stream) ≡ stretch ring piece.from piece.count
+            → AreOfPieces n q clock piece []
+        of_piece clock back = cells_are clock c.stream c.begins c.capture.no_fault ∙ back ∙ sym (append-nil (stretch ring piece.from piece.count))
 
-      whole_holds : IsSteady c.stream ring (nominal_of format n) c.capture → (clock : Clock) → HoldsOwn n q clock
-      whole_holds steady clock =
-          holds_own clock piece []
-          (of_piece clock (laws.steady clock format track c.stream ring (tracks_written.known n known) (tracks_written.ring n known) c.capture steady))
+        whole_holds : IsSteady c.stream ring (nominal_of format n) c.capture → (clock : Clock) → HoldsOwn n q clock
+        whole_holds steady clock =
+            holds_own clock piece []
+            (of_piece clock (laws.steady clock format track c.stream ring (tracks_written.known n known) (tracks_written.ring n known) c.capture steady))
 
-      whole_stands : (sector : ℕ) → IsSectorOf format n sector → Stands sector
-      whole_stands sector one =
-          let long : 2 * length ring ≤ piece.count = omega (arith, c.capture.two_turns) in
-          stands_whole piece [] (of_piece Following (laws.recovered format track c.stream ring (tracks_written.known n known) (tracks_written.ring n known) c.capture)) sector one
-          (laws.two_rings format image n is known piece sector long (tracks_written.has n sector one))
+        whole_stands : (sector : ℕ) → IsSectorOf format n sector → Stands sector
+        whole_stands sector one =
+            let long : 2 * length ring ≤ piece.count = omega (arith, c.capture.two_turns) in
+            stands_whole piece [] (of_piece Following (laws.recovered format track c.stream ring (tracks_written.known n known) (tracks_written.ring n known) c.capture)) sector one
+            (laws.two_rings format image n is known piece sector long (tracks_written.has n sector one))
 
-    -- of one that is erased in parts
-    module _ (c : CapturesInPart disk files image n q) where
-      abbrev head : RingPiece
-      head = ring_piece c.capture.first
+      -- of one that is erased in parts
+      module _ (c : CapturesInPart disk files image n q) where
+        abbrev head : RingPiece
+        head = ring_piece c.capture.first
 
-      abbrev rest : List RingPiece
-      rest = map ring_piece c.capture.later
+        abbrev rest : List RingPiece
+        rest = map ring_piece c.capture.later
 
-      part_holds : IsSteadyErased c.stream ring (nominal_of format n) c.capture → (clock : Clock) → HoldsOwn n q clock
-      part_holds steady clock =
-          holds_own clock head rest
-          (cells_are clock c.stream c.begins c.capture.no_fault
-          ∙ laws.steady_erased clock format track c.stream ring (tracks_written.known n known) (tracks_written.ring n known) c.capture steady
-          ∙ cells-same ring c.capture.first c.capture.later)
+        part_holds : IsSteadyErased c.stream ring (nominal_of format n) c.capture → (clock : Clock) → HoldsOwn n q clock
+        part_holds steady clock =
+            holds_own clock head rest
+            (cells_are clock c.stream c.begins c.capture.no_fault
+            ∙ laws.steady_erased clock format track c.stream ring (tracks_written.known n known) (tracks_written.ring n known) c.capture steady
+            ∙ cells-same ring c.capture.first c.capture.later)
 
-      part_stands : (sector : ℕ) → IsSectorOf format n sector → LiesInOnePiece (written_track format image n) (head ∷ rest) sector → Stands sector
-      part_stands sector one lies =
-          stands_whole head rest
-          (cells_are Following c.stream c.begins c.capture.no_fault
-          ∙ laws.recovered_erased format track c.stream ring (tracks_written.known n known) (tracks_written.ring n known) c.capture
-          ∙ cells-same ring c.capture.first c.capture.later)
-          sector one lies
+        part_stands : (sector : ℕ) → IsSectorOf format n sector → LiesInOnePiece (written_track format image n) (head ∷ rest) sector → Stands sector
+        part_stands sector one lies =
+            stands_whole head rest
+            (cells_are Following c.stream c.begins c.capture.no_fault
+            ∙ laws.recovered_erased format track c.stream ring (tracks_written.known n known) (tracks_written.ring n known) c.capture
+            ∙ cells-same ring c.capture.first c.capture.later)
+            sector one lies
 
-    -- a sector stands that the dump has whole
-    pub stands : (sector : ℕ) → IsSectorOf format n sector → HasWhole disk files image n q sector → Stands sector
-    stands sector one (inl c) = whole_stands c sector one
-    stands sector one (inr part) = part_stands part.0 sector one part.1
+    -- a sector stands that the dump has whole, in a file that did not fail
+    stands_by : IsOrFailed (streams n q) (says_on disk files n q) → (sector : ℕ) → IsSectorOf format n sector → ¬ HasFailed came n q
+        → HasWhole disk files image n q sector → Stands sector
+    stands_by (inl same) sector one read (inl c) = whole_stands same c sector one
+    stands_by (inl same) sector one read (inr part) = part_stands same part.0 sector one part.1
+    stands_by (inr failed) sector one read whole = absurd (read (ap (λ (s : Seen). s.passed) failed))
+
+    pub stands : (sector : ℕ) → IsSectorOf format n sector → ¬ HasFailed came n q → HasWhole disk files image n q sector → Stands sector
+    stands sector one read whole = stands_by (of n q known few) sector one read whole
 
     -- and all that stands has its own bytes
+    holds_by : IsOrFailed (streams n q) (says_on disk files n q) → IsSteadyOrPassed disk came files image n q → (clock : Clock) → HoldsOwn n q clock
+    holds_by (inl same) (inl steady) clock = whole_holds same steady.0 steady.1 clock
+    holds_by (inl same) (inr (inl steady)) clock = part_holds same steady.0 steady.1 clock
+    holds_by (inl same) (inr (inr passed)) clock = passed_holds n q clock known few passed
+    holds_by (inr failed) steady clock = passed_holds n q clock known few (ap (λ (s : Seen). is_some s.passed) failed)
+
     pub holds : IsSteadyOrPassed disk came files image n q → (clock : Clock) → HoldsOwn n q clock
-    holds (inl steady) clock = whole_holds steady.0 steady.1 clock
-    holds (inr (inl steady)) clock = part_holds steady.0 steady.1 clock
-    holds (inr (inr passed)) clock = passed_holds n q clock known few passed
+    holds steady clock = holds_by (of n q known few) steady clock

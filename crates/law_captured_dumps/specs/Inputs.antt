@@ -10,6 +10,7 @@ use Rattle.flux_engine.specs.Rings.{nominal_of, ring_of}
 use Rattle.law_captured_disks.specs.Frames.{ring_piece, written_track}
 use Rattle.law_decoded_rings.specs.Pieces.{RingPiece}
 use Rattle.law_decoded_rings.specs.Verdicts.{LiesInOnePiece}
+use Rattle.sector_report.specs.declared.dump_lines.Passed.TheVariants.{Failed}
 use Rattle.track_shelf.specs.Files.{File, file_at}
 use Rattle.track_shelf.specs.Names.{path_text}
 use Rattle.track_shelf.specs.Stepping.{file_track}
@@ -49,7 +50,11 @@ HasWhole disk files image n dump sector =
     Captures disk files image n dump
     ⊎ ((c : CapturesInPart disk files image n dump) × LiesInOnePiece (written_track disk.format image n) (pieces_in disk files image n dump c) sector)
 
--- of the streams that came, that of track number n in this dump is passed over: its file is not there, or it is refused
+-- its file failed as it was opened or read
+abbrev pub HasFailed : Streams → (n dump : ℕ) → Type 0
+HasFailed came n dump = (came n dump).passed ≡ Some Failed
+
+-- of the streams that came, that of track number n in this dump is passed over: its file is not there, or failed, or it is refused
 abbrev pub IsPassedOver : Streams → (n dump : ℕ) → Type 0
 IsPassedOver came n dump = is_some (came n dump).passed ≡ true
 

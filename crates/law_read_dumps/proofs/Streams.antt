@@ -1,30 +1,56 @@
--- The streams that came of dumps are those of their files, and the files decide what they come to.
-use Rattle.std.specs.Prelude.{◌≡◌, ◌<◌, ℕ, zero, suc, ◌+◌, ◌*◌, ◌/◌, ◌%◌, List, [], get_or, length, Option, None, Some, refl}
-use Rattle.std.proofs.Common.{ap, sym, subst, ◌∙◌, arith}
+-- The streams that came of dumps are those of their files, and the files decide what they come to, with those of them that failed.
+use Rattle.std.specs.Prelude.{◌≡◌, ◌<◌, ℕ, zero, suc, ◌+◌, ◌*◌, ◌/◌, ◌%◌, true, false, List, [], get_or, length, Option, None, Some, refl}
+use Rattle.std.proofs.Common.{ap, sym, subst, ◌∙◌, arith, inl, inr}
 use Rattle.std.proofs.Math.Nat.{div-lt_iff_lt-mul, mod-lt, mul_comm}
 use Rattle.std.proofs.lemmas.List.{ext_get_or}
 use Rattle.std.proofs.lemmas.Nat.{div-add-mod', mul-add-lt}
+use Rattle.dump_reading.specs.DumpStreams.{FailedAlike, IsOrFailed, passed_over, path_in, seen_of, seen_unless}
 use Rattle.dump_reading.specs.Outcomes.{AreTracksBy, DumpDisk, DumpsRead, IsDumpsRead, IsReadBy, numbers_of, plan_of}
 use Rattle.dump_reading.specs.Reports.{read_part}
 use Rattle.dump_reading.specs.declared.totals.DumpTotals.{DumpTotals}
-use Rattle.flux_engine.specs.Captured.{AreReadingsOf}
 use Rattle.flux_engine.specs.Counts.{AreOthersOver}
 use Rattle.flux_engine.specs.LoopProgress.{seen_at, streams_over}
 use Rattle.flux_engine.specs.PlanLaws.{ReadingsInPlansAreOne}
-use Rattle.flux_engine.specs.Plans.{AreCaptures, ArePlannedParts, PartOf, Seen, Streams}
+use Rattle.flux_engine.specs.Plans.{ArePlannedParts, PartOf, Seen, Streams, is_failed}
 use Rattle.flux_engine.specs.Recordings.{track_at}
 use Rattle.flux_engine.specs.Rules.{RulesAreRead}
 use Rattle.flux_engine.specs.lemmas.OneParts.{one_others_to, one_parts}
 use Rattle.flux_engine.specs.Tracks.{TrackPart}
 use Rattle.flux_engine.specs.declared.plan.Plan.{Plan}
+use Rattle.kryo_stream.specs.Stream.{first_fault}
+use Rattle.kryo_stream.specs.declared.fault.StreamFault.{StreamFault}
 use Rattle.sector_images.specs.declared.format.Format.{Format}
-use Rattle.track_shelf.specs.Files.{File}
+use Rattle.sector_report.specs.declared.dump_lines.Passed.TheVariants.{Failed}
+use Rattle.track_shelf.specs.Files.{File, file_at}
 use Rattle.turn_merge.specs.Others.{NotedOther}
-use Rattle.turn_merge.specs.Readings.{NotedReading}
-use Rattle.law_read_dumps.specs.Said.{AllOfDumpsIsOne, IsSaid, StreamsAreOfFiles, came_in, streams_on}
+use Rattle.law_read_dumps.specs.Said.{AllOfDumpsIsOne, IsSaid, StreamsAreOfFiles, came_in, says_on}
 
 abbrev pub none_seen : Seen
 none_seen = record { fault = None; passed = None; times = []; indexes = [] }
+
+-- what a file says is never that it failed
+says_no_failure : (file : Option File) → is_failed (seen_of file).passed ≡ false
+says_no_failure None = refl
+says_no_failure (Some file) = by_fault file.bytes (first_fault file.bytes)
+  where
+    by_fault : (bytes : List ℕ) (fault : Option (ℕ × StreamFault)) → is_failed (seen_unless bytes fault).passed ≡ false
+    by_fault bytes None = refl
+    by_fault bytes (Some fault) = refl
+
+-- so what a file says and one that failed are not alike
+not_alike : (file : Option File) (a b : Seen) → a ≡ seen_of file → b ≡ passed_over Failed → is_failed a.passed ≡ is_failed b.passed → ⊥
+not_alike file a b p q alike =
+    not_both (sym (says_no_failure file) ∙ sym (ap (λ (s : Seen). is_failed s.passed) p) ∙ alike ∙ ap (λ (s : Seen). is_failed s.passed) q)
+  where
+    not_both : false ≡ true → ⊥
+    not_both is = cc
+
+-- two streams of one file are one, where both failed or none did
+one_stream : (file : Option File) (a b : Seen) → IsOrFailed a (seen_of file) → IsOrFailed b (seen_of file) → is_failed a.passed ≡ is_failed b.passed → a ≡ b
+one_stream file a b (inl p) (inl q) alike = p ∙ sym q
+one_stream file a b (inr p) (inr q) alike = p ∙ sym q
+one_stream file a b (inl p) (inr q) alike = absurd (not_alike file a b p q alike)
+one_stream file a b (inr p) (inl q) alike = absurd (not_alike file b a q p (sym alike))
 
 -- what has a number has a count
 some_of : (i a count : ℕ) → i < a * count → 0 < count
@@ -43,15 +69,16 @@ module _ (of : PartOf) (disk : DumpDisk) (files : List File) (streams : List See
   abbrev many : ℕ
   many = length disk.dumps
 
-  pub same_stream : (n q : ℕ) → n < length parts → q < many → seen_at streams (n * many + q) ≡ streams_on disk files n q
-  same_stream n q known low = read.are files refl n q low (number_low of disk (Some files) streams parts read n q known low)
+  pub of_file : (n q : ℕ) → n < length parts → q < many → IsOrFailed (seen_at streams (n * many + q)) (says_on disk files n q)
+  of_file n q known low = read.are files refl n q low low (number_low of disk (Some files) streams parts read n q known low)
 
   -- and each of them has its place among those that came
-  pub at_place : (i : ℕ) → i < length streams → seen_at streams i ≡ streams_on disk files (i / many) (i % many)
+  pub at_place : (i : ℕ) → i < length streams → IsOrFailed (seen_at streams i) (says_on disk files (i / many) (i % many))
   at_place i low =
       let below : i < length parts * many = omega (arith, low, read.all) in
       let positive : 0 < many = some_of i (length parts) many below in
-      ap (seen_at streams) (sym (div-add-mod' i many)) ∙ same_stream (i / many) (i % many) ((div-lt_iff_lt-mul positive).1 below) (mod-lt i positive)
+      subst (λ (k : ℕ). IsOrFailed (seen_at streams k) (says_on disk files (i / many) (i % many))) (div-add-mod' i many)
+      (of_file (i / many) (i % many) ((div-lt_iff_lt-mul positive).1 below) (mod-lt i positive))
 
 -- the others of a track are decided by its streams
 module _ (read : RulesAreRead) where
@@ -61,7 +88,7 @@ module _ (read : RulesAreRead) where
       ext_get_or [] a b same (λ n low. one_others_to read plan format streams n plan.captures (get_or a n []) (get_or b n []) (p n low) (q n (omega (arith, low, same))))
 
   module _ (one : ReadingsInPlansAreOne) (of : PartOf) (whole : List TrackPart → DumpTotals → DumpsRead) (disk : DumpDisk) (files : List File) (a b : DumpsRead)
-      (p : IsReadBy of whole disk (Some files) a) (q : IsReadBy of whole disk (Some files) b) where
+      (p : IsReadBy of whole disk (Some files) a) (q : IsReadBy of whole disk (Some files) b) (alike : FailedAlike p.streams q.streams) where
     parts_many : length p.parts ≡ length q.parts
     parts_many = p.all.many ∙ sym q.all.many
 
@@ -72,7 +99,9 @@ module _ (read : RulesAreRead) where
     streams_same =
         ext_get_or none_seen p.streams q.streams streams_many
         (λ i low.
-        at_place of disk files p.streams p.parts p.all.read i low ∙ sym (at_place of disk files q.streams q.parts q.all.read i (omega (arith, low, streams_many))))
+        one_stream (file_at files (path_in disk.stepping disk.dumps (track_at disk.format (i / length disk.dumps)) (i % length disk.dumps)))
+        (seen_at p.streams i) (seen_at q.streams i) (at_place of disk files p.streams p.parts p.all.read i low)
+        (at_place of disk files q.streams q.parts q.all.read i (omega (arith, low, streams_many))) (alike i))
 
     abbrev over : List Seen → Streams
     over streams = streams_over (plan_of disk) streams
@@ -99,11 +128,11 @@ module _ (read : RulesAreRead) where
         ∙ sym q.is
 
 pub all_is_one : RulesAreRead → ReadingsInPlansAreOne → AllOfDumpsIsOne
-all_is_one read one of whole disk files a b p q = one_read read one of whole disk files a b p q
+all_is_one read one of whole disk files a b p q alike = one_read read one of whole disk files a b p q alike
 
--- each stream that came is what its file says
+-- each stream that came is what its file says, or the file failed
 pub streams_are_of_files : StreamsAreOfFiles
-streams_are_of_files disk files o is n dump low few = same_stream read_part disk files is.streams is.parts is.all.read n dump (omega (arith, low, is.all.many)) few
+streams_are_of_files disk files o is n dump low few = of_file read_part disk files is.streams is.parts is.all.read n dump (omega (arith, low, is.all.many)) few
 
 -- whatever list has all readings of each stream of a track
 pub captures_are : ReadingsInPlansAreOne → (disk : DumpDisk) (told : Option (List File)) (o : DumpsRead) (is : IsDumpsRead disk told o) (n sector : ℕ) (low : n < length is.parts)

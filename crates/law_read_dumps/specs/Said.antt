@@ -1,14 +1,14 @@
 -- What dumps that were read say of each sector of the disk, in the report and in the image.
 use Rattle.std.specs.Prelude.{◌≡◌, ◌<◌, ℕ, List, length, Option, Some}
 use Rattle.disk_recordings.specs.Members.{header_at, sector_at}
-use Rattle.dump_reading.specs.DumpStreams.{dump_streams}
+use Rattle.dump_reading.specs.DumpStreams.{FailedAlike, IsOrFailed, path_in, seen_of}
 use Rattle.dump_reading.specs.Outcomes.{DumpDisk, DumpsRead, IsDumpsRead, IsReadBy, plan_of}
 use Rattle.dump_reading.specs.declared.totals.DumpTotals.{DumpTotals}
 use Rattle.flux_engine.specs.Captured.{IsUsed}
 use Rattle.flux_engine.specs.DiskLaws.{HasLine, bytes_at}
 use Rattle.flux_engine.specs.LoopProgress.{streams_over}
 use Rattle.flux_engine.specs.PlanLaws.{IsGoodTooOrContradicted, IsNamedIn, IsRightlyContradictoryIn, StandsIn, cells_in}
-use Rattle.flux_engine.specs.Plans.{AreCaptures, PartOf, Streams, joined}
+use Rattle.flux_engine.specs.Plans.{AreCaptures, PartOf, Seen, Streams, joined}
 use Rattle.flux_engine.specs.Recordings.{sectors_of, track_at}
 use Rattle.flux_engine.specs.Tracks.{Found, TrackPart, image_bytes, readings_in}
 use Rattle.frame_law.specs.Readings.{AreReadings}
@@ -16,7 +16,7 @@ use Rattle.law_captured_disks.specs.Headline.{IsSectorOf}
 use Rattle.sector_images.specs.Places.{tracks}
 use Rattle.sector_report.specs.Lines.{named_text}
 use Rattle.sector_report.specs.declared.naming.Naming.TheVariants.{ByCaptureAndClock}
-use Rattle.track_shelf.specs.Files.{File}
+use Rattle.track_shelf.specs.Files.{File, file_at}
 use Rattle.turn_merge.specs.Readings.{NotedReading, verdict}
 use Rattle.turn_merge.specs.declared.clock.Clock.{Clock}
 use Rattle.turn_merge.specs.declared.verdict.Place.{Place}
@@ -27,25 +27,26 @@ use Rattle.turn_merge.specs.declared.verdict.Verdict.TheVariants.{Contradictory,
 abbrev pub came_in : {of : PartOf} {whole : List TrackPart → DumpTotals → DumpsRead} {disk : DumpDisk} {told : Option (List File)} {o : DumpsRead} → IsReadBy of whole disk told o → Streams
 came_in {of} {whole} {disk} is = streams_over (plan_of disk) is.streams
 
--- what the files on the shelf say of them
-abbrev pub streams_on : DumpDisk → List File → Streams
-streams_on disk files = dump_streams disk.stepping disk.dumps files disk.format
+-- what the file of a track says in the dump of this number
+abbrev pub says_on : DumpDisk → List File → (n dump : ℕ) → Seen
+says_on disk files n dump = seen_of (file_at files (path_in disk.stepping disk.dumps (track_at disk.format n) dump))
 
--- each stream that came is what its file says
+-- each stream that came is what its file says, or the file failed, and the stream is passed over
 abbrev pub AreOfFiles : DumpDisk → Streams → List File → Type 0
-AreOfFiles disk came files = (n dump : ℕ) → n < length (tracks disk.format) → dump < length disk.dumps → came n dump ≡ streams_on disk files n dump
+AreOfFiles disk came files = (n dump : ℕ) → n < length (tracks disk.format) → dump < length disk.dumps → IsOrFailed (came n dump) (says_on disk files n dump)
 
 abbrev pub StreamsAreOfFiles : Type 0
 StreamsAreOfFiles = (disk : DumpDisk) (files : List File) (o : DumpsRead) (is : IsDumpsRead disk (Some files) o) → AreOfFiles disk (came_in is) files
 
--- the files decide what the dumps come to
+-- the files, and which of them failed, decide what the dumps come to
 abbrev pub DumpsAreOne : Type 0
-DumpsAreOne = (disk : DumpDisk) (files : List File) (a b : DumpsRead) → IsDumpsRead disk (Some files) a → IsDumpsRead disk (Some files) b → a ≡ b
+DumpsAreOne = (disk : DumpDisk) (files : List File) (a b : DumpsRead) (p : IsDumpsRead disk (Some files) a) (q : IsDumpsRead disk (Some files) b)
+    → FailedAlike p.streams q.streams → a ≡ b
 
 -- the same whatever becomes of each track and of all
 abbrev pub AllOfDumpsIsOne : Type 0
 AllOfDumpsIsOne = (of : PartOf) (whole : List TrackPart → DumpTotals → DumpsRead) (disk : DumpDisk) (files : List File) (a b : DumpsRead)
-    → IsReadBy of whole disk (Some files) a → IsReadBy of whole disk (Some files) b → a ≡ b
+    (p : IsReadBy of whole disk (Some files) a) (q : IsReadBy of whole disk (Some files) b) → FailedAlike p.streams q.streams → a ≡ b
 
 -- The report has the sector's line, with the verdict over all readings of its track, of all dumps and by both clocks. At its place in
 -- the image stand the bytes that all good readings hold, where no two differ, and else zeros.

@@ -9,7 +9,7 @@ use law_captured_plans::planned_sectors_are_said;
 use sector_report::{dumps_have_lines, sectors_have_one_line, totals_have_one_line};
 use turn_merge::data_are_known;
 
-/// The files on the shelf decide what dumps come to.
+/// The files on the shelf, and which of them failed, decide what dumps come to.
 pub fn dumps_are_one()
     ensures { DumpsAreOne }
 {
@@ -28,7 +28,7 @@ pub fn all_of_dumps_is_one()
 /// all dumps and by both clocks, and at its place in the image the bytes that its good readings hold, or zeros. So it is called good, or
 /// contradictory, only where the dump, the clock and the place that are named hold it. And a sector that one dump's stream makes good by
 /// the strict rule and one clock, as `decode` reads it, is good with the same bytes, or contradictory. All of this is said of the streams that
-/// came; where the shelf tells its files, each stream is what its file says.
+/// came; where the shelf tells its files, each stream is what its file says, or its file failed.
 pub fn dumps_say_each_sector()
     ensures said { EachIsSaid }
     ensures right { SaidIsRight }

@@ -1,6 +1,6 @@
 -- How much can be read of a track as controllers read: no more headers than there are cells, and no more data of each. So the numbers of
 -- the lines of dumps fit in 64 bits.
-use Rattle.std.specs.Prelude.{◌≡◌, ◌≤◌, ◌<◌, ◌⊎◌, ◌^◌, ℕ, zero, suc, ◌+◌, ◌-◌, ◌*◌, Bool, List, [], ◌∷◌, drop, flat_map, get_or, length, map, nat_le, slice_get, slice_index, Option, None, Some, refl}
+use Rattle.std.specs.Prelude.{◌≡◌, ◌≤◌, ◌<◌, ◌⊎◌, ◌^◌, ℕ, zero, suc, ◌+◌, ◌-◌, ◌*◌, Bool, List, [], ◌∷◌, drop, flat_map, get_or, length, map, nat_le, slice_index, Option, None, Some, refl}
 use Rattle.std.specs.List.Sorted.{IsStrictlyIncreasing}
 use Rattle.std.proofs.Common.{ap, sym, subst, arith, inl, inr, length-append, lit<}
 use Rattle.std.proofs.Math.Nat.{mul-le-mul_left, mul-suc}
@@ -9,7 +9,7 @@ use Rattle.std.proofs.lemmas.List.{length-drop, length-map}
 use Rattle.std.proofs.lemmas.List.Sums.{count_by-le-length}
 use Rattle.disk_recordings.specs.Laws.{DataAreRead, NamesAreTold}
 use Rattle.disk_recordings.specs.Members.{as_controllers_read, data_at, header_at}
-use Rattle.dump_reading.specs.DumpStreams.{seen_in, seen_of, seen_unless}
+use Rattle.dump_reading.specs.DumpStreams.{IsOrFailed, path_in, seen_of, seen_unless}
 use Rattle.dump_reading.specs.Outcomes.{DumpDisk, plan_of}
 use Rattle.flux_base.specs.declared.track.TrackId.{TrackId}
 use Rattle.flux_engine.specs.Captured.{AreReadingsBy, IsUsed, joined_by}
@@ -35,9 +35,6 @@ use Rattle.sector_images.specs.declared.format.Format.{Format}
 use Rattle.sector_report.specs.LineLaws.{LineFits}
 use Rattle.sector_report.specs.declared.naming.Naming.TheVariants.{ByCaptureAndClock}
 use Rattle.track_shelf.specs.Files.{File, file_at}
-use Rattle.track_shelf.specs.Names.{path_text}
-use Rattle.track_shelf.specs.Stepping.{file_track}
-use Rattle.track_shelf.specs.declared.stepping.Stepping.{Stepping}
 use Rattle.turn_merge.specs.Readings.{NotedReading, verdict}
 use Rattle.turn_merge.specs.declared.clock.Clock.{Clock}
 use Rattle.turn_merge.specs.declared.clock.Clock.TheVariants.{Following, Held}
@@ -230,14 +227,14 @@ module _ (laws : Laws) where
   short_of None = (omega arith, omega arith)
   short_of (Some file) = short_unless file.bytes (first_fault file.bytes) refl
 
-  short_in : (stepping : Stepping) (files : List File) (dump : Option (List ℕ)) (track : TrackId) → IsShort (seen_in stepping files dump track)
-  short_in stepping files None track = (omega arith, omega arith)
-  short_in stepping files (Some dump) track = short_of (file_at files (path_text dump (file_track stepping track)))
+  -- the streams of a track that are those of its files, or whose files failed
+  short_by : (file : Option File) (came : Seen) → IsOrFailed came (seen_of file) → IsShort came
+  short_by file came (inl same) = subst IsShort (sym same) (short_of file)
+  short_by file came (inr failed) = subst IsShort (sym failed) (omega arith, omega arith)
 
-  -- the streams of a track that are those of its files
   pub short_came : (disk : DumpDisk) (came : Streams) (files : List File) → AreOfFiles disk came files → (n : ℕ) → n < length (tracks disk.format) → (q : ℕ) → q < length disk.dumps
       → IsShort (came n q)
-  short_came disk came files of n low q few = subst IsShort (sym (of n q low few)) (short_in disk.stepping files (slice_get disk.dumps q) (track_at disk.format n))
+  short_came disk came files of n low q few = short_by (file_at files (path_in disk.stepping disk.dumps (track_at disk.format n) q)) (came n q) (of n q low few)
 
   module _ (disk : DumpDisk) (came : Streams) (most : length disk.dumps ≤ 16) (n : ℕ) (short : (q : ℕ) → q < length disk.dumps → IsShort (came n q))
       (captures : List (List NotedReading)) (many : length captures ≡ length disk.dumps)

@@ -18,7 +18,7 @@ use Rattle.sector_report.specs.LineLaws.{LineFits}
 use Rattle.sector_report.specs.Lines.{fault_text, named_text, place_text, sector_name, total_text, two_digits, verdict_text}
 use Rattle.kryo_stream.specs.declared.fault.StreamFault.{StreamFault}
 use Rattle.sector_report.specs.declared.dump_lines.Passed.{Passed}
-use Rattle.sector_report.specs.declared.dump_lines.Passed.TheVariants.{Absent, Refused}
+use Rattle.sector_report.specs.declared.dump_lines.Passed.TheVariants.{Absent, Failed, Refused}
 use Rattle.sector_report.specs.declared.naming.Naming.{Naming}
 use Rattle.sector_report.specs.declared.totals.Totals.{Totals}
 use Rattle.turn_merge.specs.declared.others.OtherTold.{OtherTold}
@@ -179,6 +179,9 @@ dump_words track dump rest =
 absent_shape : (name : List ℕ) → (name ++ codes "missing") ++ codes "\n" ≡ name ++ codes "missing\n"
 absent_shape name = simp append_assoc
 
+failed_shape : (name : List ℕ) → (name ++ codes "failed") ++ codes "\n" ≡ name ++ codes "failed\n"
+failed_shape name = simp append_assoc
+
 refused_shape : (name block fault : List ℕ)
     → (((name ++ (codes "refused block " ++ block)) ++ codes " ") ++ fault) ++ codes "\n" ≡ name ++ (codes "refused" ++ 32 ∷ (codes "block " ++ block ++ codes " " ++ fault ++ codes "\n"))
 refused_shape name block fault = simp append_assoc
@@ -186,12 +189,14 @@ refused_shape name block fault = simp append_assoc
 -- the first word of the reason
 abbrev reason_word : Passed → List ℕ
 reason_word Absent = codes "missing\n"
+reason_word Failed = codes "failed\n"
 reason_word (Refused block fault) = codes "refused"
 
 pub passed_words : (track : TrackId) (dump : ℕ) (why : Passed)
     → (rest : List (List ℕ)) × (words (passed_text track dump why) ≡ name_of track ∷ codes "dump" ∷ decimal dump ∷ reason_word why ∷ rest)
 unfolding passed_text
 passed_words track dump Absent = ([], ap words (absent_shape (dump_name track dump)) ∙ dump_words track dump (codes "missing\n"))
+passed_words track dump Failed = ([], ap words (failed_shape (dump_name track dump)) ∙ dump_words track dump (codes "failed\n"))
 passed_words track dump (Refused block fault) =
     let rest : List ℕ = codes "block " ++ decimal block ++ codes " " ++ fault_text fault ++ codes "\n" in (
       words rest,
@@ -232,21 +237,31 @@ sector_no_passed naming track sector verdict =
     other_than_dump (named_text naming track sector verdict) (48 + sector % 10)
     (ap last_of (sector_second naming track sector verdict) ∙ last_digit sector) (inl (omega (arith, low)))
 
--- a missing stream's line is no refused one's
-refused_no_missing : (track : TrackId) (dump block : ℕ) (fault : StreamFault) (other : TrackId) (another : ℕ)
-    → passed_text track dump (Refused block fault) ≢ passed_text other another Absent
-refused_no_missing track dump block fault other another same =
-    let first : codes "refused" ≡ codes "missing\n" =
-    sym (ap (λ (ws : List (List ℕ)). get_or ws 3 []) (passed_words track dump (Refused block fault)).1)
+-- lines of one text have one word for the reason
+same_reason : (track : TrackId) (dump : ℕ) (why : Passed) (other : TrackId) (another : ℕ) (reason : Passed)
+    → passed_text track dump why ≡ passed_text other another reason → reason_word why ≡ reason_word reason
+same_reason track dump why other another reason same =
+    sym (ap (λ (ws : List (List ℕ)). get_or ws 3 []) (passed_words track dump why).1)
     ∙ ap (λ (text : List ℕ). get_or (words text) 3 []) same
-    ∙ ap (λ (ws : List (List ℕ)). get_or ws 3 []) (passed_words other another Absent).1 in
-    let sizes : 7 ≡ 8 = ap (λ (word : List ℕ). length word) first in
-    omega (arith, sizes)
+    ∙ ap (λ (ws : List (List ℕ)). get_or ws 3 []) (passed_words other another reason).1
+
+missing_by : (why : Passed) → reason_word why ≡ codes "missing\n" → why ≡ Absent
+missing_by Absent word = refl
+missing_by Failed word = (let sizes : 7 ≡ 8 = ap (λ (word : List ℕ). length word) word in absurd (omega (arith, sizes)))
+missing_by (Refused block fault) word = (let sizes : 7 ≡ 8 = ap (λ (word : List ℕ). length word) word in absurd (omega (arith, sizes)))
+
+failed_by : (why : Passed) → reason_word why ≡ codes "failed\n" → why ≡ Failed
+failed_by Absent word = (let sizes : 8 ≡ 7 = ap (λ (word : List ℕ). length word) word in absurd (omega (arith, sizes)))
+failed_by Failed word = refl
+failed_by (Refused block fault) word = (let first : 114 ≡ 102 = ap (λ (word : List ℕ). get_or word 0 0) word in absurd (omega (arith, first)))
 
 pub missing_is_missing : (track : TrackId) (dump : ℕ) (why : Passed) (other : TrackId) (another : ℕ)
     → passed_text track dump why ≡ passed_text other another Absent → why ≡ Absent
-missing_is_missing track dump Absent other another same = refl
-missing_is_missing track dump (Refused block fault) other another same = absurd (refused_no_missing track dump block fault other another same)
+missing_is_missing track dump why other another same = missing_by why (same_reason track dump why other another Absent same)
+
+pub failed_is_failed : (track : TrackId) (dump : ℕ) (why : Passed) (other : TrackId) (another : ℕ)
+    → passed_text track dump why ≡ passed_text other another Failed → why ≡ Failed
+failed_is_failed track dump why other another same = failed_by why (same_reason track dump why other another Failed same)
 
 -- a name of others
 behind_blank : (name : HeaderName) → (rest : List ℕ) × (name_text name ≡ 32 ∷ rest)

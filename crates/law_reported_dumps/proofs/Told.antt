@@ -24,7 +24,7 @@ use Rattle.turn_merge.specs.Readings.{NotedReading, verdict}
 use Rattle.turn_merge.specs.declared.verdict.Verdict.{Verdict}
 use Rattle.law_reported_dumps.specs.Told.{IsPassedTold, IsTold, LinesTell, NoSectorIsToldTwice, PassedLinesAreTold}
 use Rattle.law_reported_dumps.proofs.Bounds.{line_fits, short_came, Laws as BoundLaws}
-use Rattle.law_reported_dumps.proofs.OtherLines.{absent_same, end_no_passed, end_no_sector, missing_is_missing, other_no_passed, other_no_sector, passed_no_sector, sector_no_passed, total_no_passed, traces_no_passed, traces_no_sector, unread_no_passed, unread_no_sector, untold_no_passed, untold_no_sector}
+use Rattle.law_reported_dumps.proofs.OtherLines.{absent_same, end_no_passed, end_no_sector, failed_is_failed, missing_is_missing, other_no_passed, other_no_sector, passed_no_sector, sector_no_passed, total_no_passed, traces_no_passed, traces_no_sector, unread_no_passed, unread_no_sector, untold_no_passed, untold_no_sector}
 use Rattle.law_reported_dumps.proofs.TrackNumbers.{one_number, Laws as TrackLaws}
 
 -- what the crates below promise
@@ -112,6 +112,7 @@ module _ (laws : Laws) (disk : DumpDisk) (files : List File) (o : DumpsRead) (is
               ap (λ (id : TrackId). passed_text id dump p.why) told.0
               ∙ ap (λ (q : ℕ). passed_text (track_at disk.format p.n) q p.why) told.1 ∙ sym p.line_is;
           missing = λ absent. missing_is_missing (track_at disk.format p.n) p.dump p.why track dump (sym p.line_is ∙ ap (passed_text track dump) absent);
+          failed = λ failed. failed_is_failed (track_at disk.format p.n) p.dump p.why track dump (sym p.line_is ∙ ap (passed_text track dump) failed);
         }
 
     stream_by : IsLineOfReport disk came o is.others number (passed_text track dump why) → IsPassedTold disk came track dump why

@@ -13,7 +13,7 @@ use Rattle.sector_report.specs.DumpLines.{PassedLineFits, passed_text}
 use Rattle.sector_report.specs.LineLaws.{LineFits}
 use Rattle.sector_report.specs.Lines.{named_text}
 use Rattle.sector_report.specs.declared.dump_lines.Passed.{Passed}
-use Rattle.sector_report.specs.declared.dump_lines.Passed.TheVariants.{Absent}
+use Rattle.sector_report.specs.declared.dump_lines.Passed.TheVariants.{Absent, Failed}
 use Rattle.sector_report.specs.declared.naming.Naming.TheVariants.{ByCaptureAndClock}
 use Rattle.track_shelf.specs.Files.{File}
 use Rattle.turn_merge.specs.Others.{NotedOther}
@@ -50,7 +50,7 @@ abbrev pub NoSectorIsToldTwice : Type 0
 NoSectorIsToldTwice = (disk : DumpDisk) (files : List File) (o : DumpsRead) → IsDumpsRead disk (Some files) o → length disk.dumps ≤ 16 → TellsOnce o.notes
 
 -- The line is that of this dump's stream of a track of the disk, which is passed over, for a reason that is told by the same text. Where the
--- line says that the file is missing, it is.
+-- line says that the file is missing, or that it failed, so it is.
 pub record IsPassedTold (disk : DumpDisk) (came : Streams) (track : TrackId) (dump : ℕ) (why : Passed) : Type 0 where
   pub n : ℕ
   pub low : n < length (tracks disk.format)
@@ -60,6 +60,7 @@ pub record IsPassedTold (disk : DumpDisk) (came : Streams) (track : TrackId) (du
   pub is : (came n dump).passed ≡ Some reason
   pub text : passed_text track dump reason ≡ passed_text track dump why
   pub missing : why ≡ Absent → reason ≡ Absent
+  pub failed : why ≡ Failed → reason ≡ Failed
 
 -- so it is with each line of a report that has the text of such a stream's line
 abbrev pub ArePassedTold : DumpDisk → Streams → DumpsRead → Type 0

@@ -1,16 +1,17 @@
 -- What dumps have of a track is what is stated.
-use Rattle.std.specs.Prelude.{◌≡◌, ◌≢◌, ◌<◌, ◌↔◌, ℕ, Bool, true, List, is_some, length, refl, slice_get, unwrap_or, Option, Some, None, option_and_then}
+use Rattle.std.specs.Prelude.{◌≡◌, ◌≢◌, ◌<◌, ◌↔◌, ℕ, Bool, true, List, [], is_some, length, refl, unwrap_or, Option, Some, None, option_and_then}
 use Rattle.std.proofs.Common.{arith, ap, sym, subst, ◌∙◌, inl, inr}
-use Rattle.dump_reading.specs.DumpStreams.{seen_in, seen_of, seen_unless}
+use Rattle.std.proofs.lemmas.Option.{slice_get-get_or}
+use Rattle.dump_reading.specs.DumpStreams.{IsOrFailed, seen_of, seen_unless}
 use Rattle.dump_reading.specs.Outcomes.{DumpDisk}
 use Rattle.flux_base.specs.declared.track.TrackId.{TrackId}
-use Rattle.flux_engine.specs.Plans.{Seen}
+use Rattle.flux_engine.specs.Plans.{Seen, Streams}
 use Rattle.flux_engine.specs.Recordings.{track_at}
 use Rattle.flux_engine.specs.Rings.{nominal_of, ring_of}
 use Rattle.kryo_stream.specs.Stream.{first_fault}
 use Rattle.kryo_stream.specs.declared.fault.StreamFault.{StreamFault}
-use Rattle.law_captured_dumps.specs.Inputs.{IsPassedOver, file_on}
-use Rattle.law_read_dumps.specs.Said.{streams_on}
+use Rattle.law_captured_dumps.specs.Inputs.{HasFailed, IsPassedOver, file_on}
+use Rattle.law_read_dumps.specs.Said.{says_on}
 use Rattle.law_stated_captures.specs.Laws.{CapturesAreStated, ErasedCapturesAreStated, StatedCapturesAreCaptures, StatedErasedCapturesAreErased, StatedSpeedsAreKept}
 use Rattle.law_stated_disks.specs.Laws.{SectorsLieInPieces}
 use Rattle.law_stated_dumps.proofs.Files.{file_of, lacks, missing, streams_are, there}
@@ -18,6 +19,7 @@ use Rattle.law_stated_dumps.specs.Dumps.{SaysNothing}
 use Rattle.law_stated_dumps.specs.Laws.{PassedFilesAreStated, SteadyDumpsAreStated, WholeSectorsAreStated}
 use Rattle.sector_images.specs.Places.{IsTrack, NumbersNameTracks, TracksKeepBounds, tracks}
 use Rattle.sector_images.specs.declared.format.Format.{Format}
+use Rattle.sector_report.specs.declared.dump_lines.Passed.{Passed}
 use Rattle.track_shelf.specs.Files.{File, file_at}
 use Rattle.track_shelf.specs.Names.{path_text}
 use Rattle.track_shelf.specs.Stepping.{file_track}
@@ -67,13 +69,10 @@ whole law disk files image n dump sector below =
     )
 
 -- what a dump says of a track is what its file says
-says : (disk : DumpDisk) (files : List File) (n : ℕ) (name : Option (List ℕ))
-    → seen_in disk.stepping files name (track_at disk.format n) ≡ seen_of (option_and_then (λ name. file_at files (path_text name (file_track disk.stepping (track_at disk.format n)))) name)
-says disk files n None = refl
-says disk files n (Some name) = refl
-
-seen_by_file : (disk : DumpDisk) (files : List File) (n dump : ℕ) → streams_on disk files n dump ≡ seen_of (file_on disk files n dump)
-seen_by_file disk files n dump = says disk files n (slice_get disk.dumps dump)
+seen_by_file : (disk : DumpDisk) (files : List File) (n dump : ℕ) → dump < length disk.dumps → says_on disk files n dump ≡ seen_of (file_on disk files n dump)
+seen_by_file disk files n dump few =
+    ap (λ (name : Option (List ℕ)). seen_of (option_and_then (λ (name : List ℕ). file_at files (path_text name (file_track disk.stepping (track_at disk.format n)))) name))
+    (sym (slice_get-get_or disk.dumps dump [] few))
 
 refused : (bytes : List ℕ) (fault : Option (ℕ × StreamFault)) → fault ≢ None → is_some (seen_unless bytes fault).passed ≡ true
 refused bytes None some = absurd (some refl)
@@ -86,31 +85,36 @@ faulty bytes None passed is = absurd (never passed)
     never is = cc
 faulty bytes (Some fault) passed is = cc
 
-by_files : (disk : DumpDisk) (files : List File) (n dump : ℕ) → SaysNothing disk files n dump ↔ IsPassedOver (streams_on disk files) n dump
-by_files disk files n dump = (
-  λ nothing. elim nothing [
-    | inl gone ↦ ap (λ (s : Seen). is_some s.passed) (seen_by_file disk files n dump ∙ ap seen_of (missing disk files n dump gone))
-    | inr damaged ↦ ap (λ (s : Seen). is_some s.passed) (seen_by_file disk files n dump ∙ ap seen_of (there disk files n dump damaged.file damaged.is))
-        ∙ refused damaged.file.bytes (first_fault damaged.file.bytes) damaged.fault
-  ],
-  λ over. by over (file_on disk files n dump) refl,
+says_nothing : (disk : DumpDisk) (files : List File) (n dump : ℕ) → SaysNothing disk files n dump → is_some (seen_of (file_on disk files n dump)).passed ≡ true
+says_nothing disk files n dump (inl gone) = ap (λ (file : Option File). is_some (seen_of file).passed) (missing disk files n dump gone)
+says_nothing disk files n dump (inr damaged) =
+    ap (λ (file : Option File). is_some (seen_of file).passed) (there disk files n dump damaged.file damaged.is)
+    ∙ refused damaged.file.bytes (first_fault damaged.file.bytes) damaged.fault
+
+nothing_said : (disk : DumpDisk) (files : List File) (n dump : ℕ) (file : Option File) → file_on disk files n dump ≡ file → is_some (seen_of file).passed ≡ true
+    → SaysNothing disk files n dump
+nothing_said disk files n dump None is over = inl (lacks disk files n dump is)
+nothing_said disk files n dump (Some file) is over =
+    inr (record { file = file; is = file_of disk files n dump file is; fault = faulty file.bytes (first_fault file.bytes) over })
+
+passed_by : (disk : DumpDisk) (came : Streams) (files : List File) (n dump : ℕ) → dump < length disk.dumps → IsOrFailed (came n dump) (says_on disk files n dump)
+    → (SaysNothing disk files n dump ⊎ HasFailed came n dump) ↔ IsPassedOver came n dump
+passed_by disk came files n dump few (inr failed) = (
+  λ some. ap (λ (s : Seen). is_some s.passed) failed,
+  λ over. inr (ap (λ (s : Seen). s.passed) failed),
 )
-  where
-    by : is_some (streams_on disk files n dump).passed ≡ true → (file : Option File) → file_on disk files n dump ≡ file → SaysNothing disk files n dump
-    by over None is = inl (lacks disk files n dump is)
-    by over (Some file) is = inr (record {
-      file = file;
-      is = file_of disk files n dump file is;
-      fault = faulty file.bytes (first_fault file.bytes) (sym (ap (λ (s : Seen). is_some s.passed) (seen_by_file disk files n dump ∙ ap seen_of is)) ∙ over);
-    })
+passed_by disk came files n dump few (inl same) =
+    let is : is_some (came n dump).passed ≡ is_some (seen_of (file_on disk files n dump)).passed =
+    ap (λ (s : Seen). is_some s.passed) (same ∙ seen_by_file disk files n dump few) in (
+      λ some. elim some [
+        | inl nothing ↦ is ∙ says_nothing disk files n dump nothing
+        | inr failed ↦ ap (λ (why : Option Passed). is_some why) failed
+      ],
+      λ over. inl (nothing_said disk files n dump (file_on disk files n dump) refl (sym is ∙ over)),
+    )
 
 pub passed : PassedFilesAreStated
-passed disk came files are n dump below few =
-    let same : is_some (came n dump).passed ≡ is_some (streams_on disk files n dump).passed = ap (λ (s : Seen). is_some s.passed) (are n dump below few) in
-    let stated = by_files disk files n dump in (
-      λ nothing. same ∙ stated.0 nothing,
-      λ over. stated.1 (sym same ∙ over),
-    )
+passed disk came files are n dump below few = passed_by disk came files n dump few (are n dump below few)
 
 pub steady : CaptureLaws → SteadyDumpsAreStated
 steady law disk came files are image n dump below few =
@@ -124,7 +128,7 @@ steady law disk came files are image n dump below few =
               | inr one ↦ (let made = law.erased is.stream ring nominal one.0 in
                   inr (inl (record { stream = is.stream; begins = begins; capture = made.0 }, (law.steady.erased is.stream ring nominal made.0 one.0 (sym made.1)).0 one.1)))
             ])
-        | inr nothing ↦ inr (inr ((passed disk came files are n dump below few).0 nothing))
+        | inr over ↦ inr (inr ((passed disk came files are n dump below few).0 over))
       ],
       λ some. elim some [
         | inl one ↦ (let made = law.no_others one.0.stream ring nominal one.0.capture in

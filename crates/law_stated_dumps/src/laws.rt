@@ -9,7 +9,7 @@ use sector_images::{sectors_lie_in_images, tracks_keep_bounds};
 
 /// A track's file in a dump is the first that has its path, and it begins with a stream where its first bytes are the stream's, whatever stands
 /// behind them. A sector that the stream captures, or that lies in one of its pieces, whichever it is, is whole in the dump; a file is passed
-/// over where it is missing, or where what it begins with has a fault; and each other dump kept its speed, or is passed over.
+/// over where it is missing, where what it begins with has a fault, or where it failed; and each other dump kept its speed, or is passed over.
 pub fn dumps_are_as_stated()
     ensures files { FilesAreStated }
     ensures streams { StreamsOfFilesAreStated }
