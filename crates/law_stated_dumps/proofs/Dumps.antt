@@ -1,5 +1,5 @@
 -- What dumps have of a track is what is stated.
-use Rattle.std.specs.Prelude.{◌≡◌, ◌≢◌, ◌<◌, ◌↔◌, ℕ, Bool, true, List, [], is_some, length, refl, unwrap_or, Option, Some, None, option_and_then}
+use Rattle.std.specs.Prelude.{◌≡◌, ◌≢◌, ◌<◌, ◌⊎◌, ◌↔◌, ℕ, Bool, true, List, [], is_some, length, refl, unwrap_or, Option, Some, None, option_and_then}
 use Rattle.std.proofs.Common.{arith, ap, sym, subst, ◌∙◌, inl, inr}
 use Rattle.std.proofs.lemmas.Option.{slice_get-get_or}
 use Rattle.dump_reading.specs.DumpStreams.{IsOrFailed, seen_of, seen_unless}
