@@ -107,15 +107,20 @@ const REFUSED: [(&[&str], &[u64], DumpsFault); 3] = [
 ];
 
 /// The call of the shelf that fails, how many streams are passed over then, and what is told of the track. Of each track the first dump's file is
-/// opened, and then the second one's.
-const FAILED: [(u64, u32, &str); 2] = [
+/// opened and read, and then the second one's.
+const FAILED: [(u64, u32, &str); 3] = [
     (
         0,
         154,
         "00.0 dump 0 failed\n00.0 dump 1 missing\n00.0 01 missing 0 0\n",
     ),
     (
-        3,
+        1,
+        154,
+        "00.0 dump 0 failed\n00.0 dump 1 missing\n00.0 01 missing 0 0\n",
+    ),
+    (
+        4,
         153,
         "\n01.0 dump 0 missing\n01.0 dump 1 failed\n01.0 01 missing 0 0\n",
     ),
@@ -191,7 +196,7 @@ fn dumps_are_drawn(rt: HostRuntime) -> Result<(), Fail> {
 
 #[test]
 fn a_picture_counts_files_that_failed(rt: HostRuntime) -> Result<(), Fail> {
-    let (answer, picture) = draw(rt.alloc(), &["a", "b"], &[3], &[])?;
+    let (answer, picture) = draw(rt.alloc(), &["a", "b"], &[4], &[])?;
     assert_eq!(rt; answer, Ok(DumpTotals { lost: 1, ..BOTH }));
     assert!(rt; str::from_utf8(picture.bytes()).is_ok_and(|text| text.ends_with(PICTURE_END)));
     Ok(())
