@@ -1,12 +1,18 @@
 -- The counts of all objects of a run, from those of the objects that a command has.
 use Rattle.std.specs.Prelude.{if◌then◌else◌, Bool, true, false}
-use Rattle.std.proofs.Common.{◌≡◌, ℕ, List, refl, subst, arith}
+use Rattle.std.proofs.Common.{◌≡◌, ℕ, List, Some, refl, ap, subst, arith}
 use Rattle.flux_base.specs.Blames.{Blame, CountsBy, OutsideCounts, no_counts, no_one, the_source, the_image, the_notes, three_counts}
 use Rattle.flux_base.specs.Counts.{FaultCounts}
 use Rattle.flux_base.specs.declared.status.Status.{Status}
 use Rattle.flux_base.specs.declared.status.Status.TheVariants.{AllGood, NotAllGood, Refused, Usage, ReadFault, ImageFault, NotesFault, Memory, ShelfFault}
 use Rattle.flux_base.specs.lemmas.Counting.{Counts-none}
-use Rattle.flux_cli.specs.Blamed.{CountsOfRun, all_counts, shelf_blame, source_blame}
+use Rattle.sector_images.specs.declared.format.Format.{Format}
+use Rattle.flux_words.specs.DumpWords.{AreReadWords, Asked}
+use Rattle.flux_words.specs.FolderWords.{AreFolderWords}
+use Rattle.flux_words.specs.IdentityWords.{identity_words}
+use Rattle.flux_words.specs.SectorWords.{AskedSector, NamesShow}
+use Rattle.flux_cli.proofs.Often.{many-none}
+use Rattle.flux_cli.specs.Blamed.{CountsOfRun, CountsOfShelf, CountsOnShelf, all_counts, reads_dumps, shelf_blame, source_blame}
 use Rattle.flux_cli.specs.Runs.{Outside, RanOverSource, SaysBy}
 use Rattle.flux_cli.specs.Works.{work_for}
 
@@ -43,33 +49,64 @@ other_blames NotesFault unread other counts = counts
 other_blames Memory unread other counts = counts
 other_blames ShelfFault unread other counts = absurd (other refl)
 
+-- a shelf that is not touched, where no fault of it is told
+still_shelf : (dumps : Bool) (status : Status) → (status ≡ ShelfFault → ⊥) → (shelf : FaultCounts) → CountsOfShelf dumps status shelf shelf
+still_shelf true AllGood other shelf = (0, refl, many-none shelf)
+still_shelf true NotAllGood other shelf = (0, refl, many-none shelf)
+still_shelf true Refused other shelf = (0, refl, many-none shelf)
+still_shelf true Usage other shelf = (0, refl, many-none shelf)
+still_shelf true ReadFault other shelf = (0, refl, many-none shelf)
+still_shelf true ImageFault other shelf = (0, tt, many-none shelf)
+still_shelf true NotesFault other shelf = (0, tt, many-none shelf)
+still_shelf true Memory other shelf = (0, refl, many-none shelf)
+still_shelf true ShelfFault other shelf = absurd (other refl)
+still_shelf false AllGood other shelf = Counts-none shelf
+still_shelf false NotAllGood other shelf = Counts-none shelf
+still_shelf false Refused other shelf = Counts-none shelf
+still_shelf false Usage other shelf = Counts-none shelf
+still_shelf false ReadFault other shelf = Counts-none shelf
+still_shelf false ImageFault other shelf = Counts-none shelf
+still_shelf false NotesFault other shelf = Counts-none shelf
+still_shelf false Memory other shelf = Counts-none shelf
+still_shelf false ShelfFault other shelf = absurd (other refl)
+
+-- there was no memory to begin
+pub memoryless : (dumps : Bool) (shelf image notes : FaultCounts) → CountsOnShelf dumps Memory (three_counts shelf image notes) (three_counts shelf image notes)
+memoryless true shelf image notes = record { shelf = (0, refl, many-none shelf); image = Counts-none image; notes = Counts-none notes }
+memoryless false shelf image notes = record { shelf = Counts-none shelf; image = Counts-none image; notes = Counts-none notes }
+
 module _ {source source' shelf image image' notes notes' : FaultCounts} where
   -- a run over the source, which does not touch the shelf
-  pub run-of-source : (status : Status) → (status ≡ ShelfFault → ⊥) → CountsBy (source_blame status) (three_counts source image notes) (three_counts source' image' notes')
-      → CountsOfRun false status (all_counts source shelf image notes) (all_counts source' shelf image' notes')
-  run-of-source AllGood other c = record { source = c.source; shelf = Counts-none shelf; image = c.image; notes = c.notes }
-  run-of-source NotAllGood other c = record { source = c.source; shelf = Counts-none shelf; image = c.image; notes = c.notes }
-  run-of-source Refused other c = record { source = c.source; shelf = Counts-none shelf; image = c.image; notes = c.notes }
-  run-of-source Usage other c = record { source = c.source; shelf = Counts-none shelf; image = c.image; notes = c.notes }
-  run-of-source ReadFault other c = record { source = c.source; shelf = Counts-none shelf; image = c.image; notes = c.notes }
-  run-of-source ImageFault other c = record { source = c.source; shelf = Counts-none shelf; image = c.image; notes = c.notes }
-  run-of-source NotesFault other c = record { source = c.source; shelf = Counts-none shelf; image = c.image; notes = c.notes }
-  run-of-source Memory other c = record { source = c.source; shelf = Counts-none shelf; image = c.image; notes = c.notes }
-  run-of-source ShelfFault other c = absurd (other refl)
+  pub run-of-source : (dumps : Bool) (status : Status) → (status ≡ ShelfFault → ⊥) → CountsBy (source_blame status) (three_counts source image notes) (three_counts source' image' notes')
+      → CountsOfRun dumps false status (all_counts source shelf image notes) (all_counts source' shelf image' notes')
+  run-of-source dumps status other c = record { source = c.source; shelf = still_shelf dumps status other shelf; image = c.image; notes = c.notes }
 
 module _ {source shelf shelf' image image' notes notes' : FaultCounts} where
   -- one over the shelf, which does not touch the source
-  pub run-of-shelf : (status : Status) → (status ≡ ReadFault → ⊥) → CountsBy (shelf_blame status) (three_counts shelf image notes) (three_counts shelf' image' notes')
-      → CountsOfRun false status (all_counts source shelf image notes) (all_counts source shelf' image' notes')
-  run-of-shelf AllGood other c = record { source = Counts-none source; shelf = c.source; image = c.image; notes = c.notes }
-  run-of-shelf NotAllGood other c = record { source = Counts-none source; shelf = c.source; image = c.image; notes = c.notes }
-  run-of-shelf Refused other c = record { source = Counts-none source; shelf = c.source; image = c.image; notes = c.notes }
-  run-of-shelf Usage other c = record { source = Counts-none source; shelf = c.source; image = c.image; notes = c.notes }
-  run-of-shelf ReadFault other c = absurd (other refl)
-  run-of-shelf ImageFault other c = record { source = Counts-none source; shelf = c.source; image = c.image; notes = c.notes }
-  run-of-shelf NotesFault other c = record { source = Counts-none source; shelf = c.source; image = c.image; notes = c.notes }
-  run-of-shelf Memory other c = record { source = Counts-none source; shelf = c.source; image = c.image; notes = c.notes }
-  run-of-shelf ShelfFault other c = record { source = Counts-none source; shelf = c.source; image = c.image; notes = c.notes }
+  pub run-of-shelf : (dumps : Bool) (status : Status) → (status ≡ ReadFault → ⊥) → CountsOnShelf dumps status (three_counts shelf image notes) (three_counts shelf' image' notes')
+      → CountsOfRun dumps false status (all_counts source shelf image notes) (all_counts source shelf' image' notes')
+  run-of-shelf dumps AllGood other c = record { source = Counts-none source; shelf = c.shelf; image = c.image; notes = c.notes }
+  run-of-shelf dumps NotAllGood other c = record { source = Counts-none source; shelf = c.shelf; image = c.image; notes = c.notes }
+  run-of-shelf dumps Refused other c = record { source = Counts-none source; shelf = c.shelf; image = c.image; notes = c.notes }
+  run-of-shelf dumps Usage other c = record { source = Counts-none source; shelf = c.shelf; image = c.image; notes = c.notes }
+  run-of-shelf dumps ReadFault other c = absurd (other refl)
+  run-of-shelf dumps ImageFault other c = record { source = Counts-none source; shelf = c.shelf; image = c.image; notes = c.notes }
+  run-of-shelf dumps NotesFault other c = record { source = Counts-none source; shelf = c.shelf; image = c.image; notes = c.notes }
+  run-of-shelf dumps Memory other c = record { source = Counts-none source; shelf = c.shelf; image = c.image; notes = c.notes }
+  run-of-shelf dumps ShelfFault other c = record { source = Counts-none source; shelf = c.shelf; image = c.image; notes = c.notes }
+
+-- which words read dumps
+pub reads-dumps : (words : List (List ℕ)) (asked : Asked) → AreReadWords asked words → reads_dumps words ≡ true
+reads-dumps words asked are = ap reads_dumps are.is
+
+pub identity-dumps : (words : List (List ℕ)) (dump : List ℕ) → words ≡ identity_words dump → reads_dumps words ≡ true
+identity-dumps words dump is = ap reads_dumps is
+
+pub shows-dumps : (words : List (List ℕ)) (asked : AskedSector) → NamesShow words (Some asked) → reads_dumps words ≡ true
+shows-dumps words asked names = ap reads_dumps names.2.1
+
+pub folder-no-dump : (words : List (List ℕ)) (format : Format) (folder : List ℕ) → AreFolderWords format folder words → reads_dumps words ≡ false
+folder-no-dump words format folder are = ap reads_dumps are.is
 
 -- over the source no fault is the shelf's
 pub no-shelf : {S W N : Type 0} (words : List (List ℕ)) (status : Status) (before after : Outside S W N) → RanOverSource words status before after → status ≡ ShelfFault → ⊥

@@ -1,9 +1,10 @@
 -- What ends a command, and whom the status that it ends with blames.
 use Rattle.std.proofs.Common.{◌≡◌, ◌==◌, ◌≤◌, ℕ, Bool, true, false, if◌then◌else◌, List, Option, Result, Ok, Err, is_err, refl, sym, subst}
 use Rattle.dump_reading.specs.Blamed.{dumps_blame}
+use Rattle.dump_reading.specs.Files.{CountsMany}
 use Rattle.dump_reading.specs.declared.fault.DumpsFault.{DumpsFault}
-use Rattle.dump_reading.specs.declared.fault.DumpsFault.TheVariants.{NoFiles, ShelfFault as DumpsUnread, ImageFault as DumpsUnwritten, NotesFault as DumpsUntold}
-use Rattle.flux_base.specs.Blames.{Blame, CountsBy, OutsideCounts, no_one, the_notes, three_counts}
+use Rattle.dump_reading.specs.declared.fault.DumpsFault.TheVariants.{NoFiles, ImageFault as DumpsUnwritten, NotesFault as DumpsUntold}
+use Rattle.flux_base.specs.Blames.{Blame, CountsBy, OutsideCounts, no_counts, no_one, the_notes, three_counts}
 use Rattle.flux_base.specs.Counts.{Counts, FaultCounts}
 use Rattle.flux_base.specs.Moments.{Moment, Puts}
 use Rattle.flux_base.specs.Outside.{Rose}
@@ -11,6 +12,7 @@ use Rattle.flux_base.specs.declared.outside.Failed.{Failed}
 use Rattle.flux_base.specs.declared.status.Status.{Status}
 use Rattle.flux_base.specs.declared.status.Status.TheVariants.{AllGood, NotAllGood, Refused, Usage, ReadFault, ImageFault, NotesFault, Memory, ShelfFault}
 use Rattle.flux_base.specs.lemmas.Blaming.{CountsBy-image, CountsBy-notes, CountsBy-then}
+use Rattle.flux_base.specs.lemmas.Counting.{Counts-then}
 use Rattle.flux_engine.specs.Answers.{Answer as DiskAnswer}
 use Rattle.flux_engine.specs.Blamed.{engine_blame, plan_blame, write_blame}
 use Rattle.flux_engine.specs.PlanAnswers.{PlanAnswer}
@@ -24,7 +26,7 @@ use Rattle.g64_image.specs.declared.fault.FromStop.TheVariants.{Refused as FileR
 use Rattle.sector_report.specs.declared.naming.Naming.{Naming}
 use Rattle.track_shelf.specs.Files.{File}
 use Rattle.flux_cli.proofs.Blaming.{good_blames}
-use Rattle.flux_cli.specs.Blamed.{shelf_blame, source_blame}
+use Rattle.flux_cli.specs.Blamed.{CountsOnShelf, FailsOften, source_blame}
 use Rattle.flux_cli.specs.Endings.{Ending, EndsBy, EndsDumps, disk_ending, ending_blame, ends, file_ending, image_ending, plan_ending, refusal, refuses, written_status}
 use Rattle.flux_cli.specs.Runs.{growth}
 use Rattle.flux_cli.specs.Work.{Got, GotPart}
@@ -77,28 +79,17 @@ module _ (blame : Status → Blame) (quiet : blame Refused ≡ no_one) (told : b
   ends-blame (refuses text) Memory before after counts never = absurd never
   ends-blame (refuses text) ShelfFault before after counts never = absurd never
 
--- what work ends with that is done, or whose input is refused
-abbrev pub IsEnd : Status → Type 0
-IsEnd AllGood = Unit {0}
-IsEnd NotAllGood = Unit {0}
-IsEnd Refused = Unit {0}
-IsEnd _ = ⊥
+-- what work over dumps ends with that is done
+abbrev pub IsDone : Status → Type 0
+IsDone AllGood = Unit {0}
+IsDone NotAllGood = Unit {0}
+IsDone ShelfFault = Unit {0}
+IsDone _ = ⊥
 
-pub either-ends : (b : Bool) → IsEnd (if b then AllGood else NotAllGood)
-either-ends true = tt
-either-ends false = tt
-
--- it blames no one
-end-blames : {before after : OutsideCounts} (status : Status) → IsEnd status → CountsBy no_one before after → CountsBy (shelf_blame status) before after
-end-blames AllGood end counts = counts
-end-blames NotAllGood end counts = counts
-end-blames Refused end counts = counts
-end-blames Usage end counts = absurd end
-end-blames ReadFault end counts = absurd end
-end-blames ImageFault end counts = absurd end
-end-blames NotesFault end counts = absurd end
-end-blames Memory end counts = absurd end
-end-blames ShelfFault end counts = absurd end
+pub done-if : (some b : Bool) → IsDone (if some then ShelfFault else (if b then AllGood else NotAllGood))
+done-if true b = tt
+done-if false true = tt
+done-if false false = tt
 
 -- whom an answer blames, its ending does
 module _ {before after : OutsideCounts} where
@@ -129,16 +120,48 @@ module _ {before after : OutsideCounts} where
   file-blame (Err FileUntold) counts = counts
   file-blame (Err (FileRefused fault)) counts = counts
 
--- dumps blame by what was answered of them
-module _ {A N : Type 0} (told : Option (List File)) (dumps : List (List ℕ)) {source source' image image' notes : FaultCounts} (by : A → Status) (end : (done : A) → IsEnd (by done))
-    (status : Status) (before after : Moment N) where
-  pub dumps-blame : (answer : Result A DumpsFault) → CountsBy (dumps_blame answer) (three_counts source image notes) (three_counts source' image' before.counts)
-      → EndsDumps told dumps by answer status before after → CountsBy (shelf_blame status) (three_counts source image notes) (three_counts source' image' after.counts)
-  dumps-blame (Ok done) counts is = ends-blame shelf_blame refl refl (ends (by done)) status before after (end-blames (by done) (end done) counts) is
-  dumps-blame (Err (NoFiles number)) counts is = ends-blame shelf_blame refl refl (refuses is.line) status before after counts is.ends
-  dumps-blame (Err DumpsUnread) counts is = ends-blame shelf_blame refl refl (ends ShelfFault) status before after counts is.ends
-  dumps-blame (Err DumpsUnwritten) counts is = ends-blame shelf_blame refl refl (ends ImageFault) status before after counts is.ends
-  dumps-blame (Err DumpsUntold) counts is = ends-blame shelf_blame refl refl (ends NotesFault) status before after counts is.ends
+-- how often files failed by what was answered of dumps
+abbrev pub AnswersOften : {A : Type 0} → (A → Status) → Result A DumpsFault → (often : ℕ) → Type 0
+AnswersOften by (Ok done) often = FailsOften (by done) often
+AnswersOften by (Err (NoFiles number)) often = often ≡ 0
+AnswersOften by (Err fault) often = Unit {0}
+
+-- the counts of all by what was answered of them, and by how often files failed
+module _ {A N : Type 0} (told : Option (List File)) (dumps : List (List ℕ)) {shelf shelf' image image' notes : FaultCounts} (by : A → Status) (done_is : (done : A) → IsDone (by done))
+    (often : ℕ) (many : CountsMany often shelf shelf') (status : Status) (before after : Moment N) where
+  done-on : (s : Status) → IsDone s → FailsOften s often → CountsBy no_one (three_counts no_counts image notes) (three_counts no_counts image' before.counts)
+      → CountsOnShelf true s (three_counts shelf image notes) (three_counts shelf' image' before.counts)
+  done-on AllGood done fails counts = record { shelf = (often, fails, many); image = counts.image; notes = counts.notes }
+  done-on NotAllGood done fails counts = record { shelf = (often, fails, many); image = counts.image; notes = counts.notes }
+  done-on ShelfFault done fails counts = record { shelf = (often, fails, many); image = counts.image; notes = counts.notes }
+  done-on Refused done fails counts = absurd done
+  done-on Usage done fails counts = absurd done
+  done-on ReadFault done fails counts = absurd done
+  done-on ImageFault done fails counts = absurd done
+  done-on NotesFault done fails counts = absurd done
+  done-on Memory done fails counts = absurd done
+
+  refused-on : (line : List ℕ) (s : Status) → often ≡ 0 → CountsBy no_one (three_counts no_counts image notes) (three_counts no_counts image' before.counts) → EndsBy (refuses line) s before after
+      → CountsOnShelf true s (three_counts shelf image notes) (three_counts shelf' image' after.counts)
+  refused-on line Refused none counts puts = record { shelf = (often, none, many); image = counts.image; notes = Counts-then false counts.notes puts.counts }
+  refused-on line NotesFault none counts (failed, puts) = record { shelf = (often, tt, many); image = counts.image; notes = Counts-then true counts.notes puts.counts }
+  refused-on line AllGood none counts never = absurd never
+  refused-on line NotAllGood none counts never = absurd never
+  refused-on line Usage none counts never = absurd never
+  refused-on line ReadFault none counts never = absurd never
+  refused-on line ImageFault none counts never = absurd never
+  refused-on line Memory none counts never = absurd never
+  refused-on line ShelfFault none counts never = absurd never
+
+  pub dumps-blame : (answer : Result A DumpsFault) → AnswersOften by answer often
+      → CountsBy (dumps_blame answer) (three_counts no_counts image notes) (three_counts no_counts image' before.counts)
+      → EndsDumps told dumps by answer status before after → CountsOnShelf true status (three_counts shelf image notes) (three_counts shelf' image' after.counts)
+  dumps-blame (Ok done) fails counts is = ends-with (λ (s : Status) (n : Moment N). CountsOnShelf true s (three_counts shelf image notes) (three_counts shelf' image' n.counts)) (by done) status before after (done-on (by done) (done_is done) fails counts) is
+  dumps-blame (Err (NoFiles number)) fails counts is = refused-on is.line status fails counts is.ends
+  dumps-blame (Err DumpsUnwritten) fails counts is =
+      ends-with (λ (s : Status) (n : Moment N). CountsOnShelf true s (three_counts shelf image notes) (three_counts shelf' image' n.counts)) ImageFault status before after (record { shelf = (often, tt, many); image = counts.image; notes = counts.notes }) is.ends
+  dumps-blame (Err DumpsUntold) fails counts is =
+      ends-with (λ (s : Status) (n : Moment N). CountsOnShelf true s (three_counts shelf image notes) (three_counts shelf' image' n.counts)) NotesFault status before after (record { shelf = (often, tt, many); image = counts.image; notes = counts.notes }) is.ends
 
 -- what a command over the source ends with where it had its memory
 abbrev pub IsOverSource : Status → Type 0
@@ -151,16 +174,16 @@ abbrev pub IsOverShelf : Status → Type 0
 IsOverShelf ReadFault = ⊥
 IsOverShelf _ = Unit {0}
 
-end-over-shelf : (status : Status) → IsEnd status → IsOverShelf status
-end-over-shelf AllGood end = tt
-end-over-shelf NotAllGood end = tt
-end-over-shelf Refused end = tt
-end-over-shelf Usage end = absurd end
-end-over-shelf ReadFault end = absurd end
-end-over-shelf ImageFault end = absurd end
-end-over-shelf NotesFault end = absurd end
-end-over-shelf Memory end = absurd end
-end-over-shelf ShelfFault end = absurd end
+done-over-shelf : (status : Status) → IsDone status → IsOverShelf status
+done-over-shelf AllGood done = tt
+done-over-shelf NotAllGood done = tt
+done-over-shelf ShelfFault done = tt
+done-over-shelf Refused done = absurd done
+done-over-shelf Usage done = absurd done
+done-over-shelf ReadFault done = absurd done
+done-over-shelf ImageFault done = absurd done
+done-over-shelf NotesFault done = absurd done
+done-over-shelf Memory done = absurd done
 
 module _ {N : Type 0} (before after : Moment N) (status : Status) where
   pub ended-by-line : (text : List ℕ) (P : Status → Type 0) → P Refused → P NotesFault → EndsBy (refuses text) status before after → P status
@@ -178,13 +201,12 @@ module _ {N : Type 0} (before after : Moment N) (status : Status) where
   disk-over-source (Err (DiskRefused track block fault)) is =
       ended-by-line _ IsOverSource tt tt is
 
-  pub shelf-over-shelf : {A : Type 0} (told : Option (List File)) (dumps : List (List ℕ)) (by : A → Status) → ((done : A) → IsEnd (by done)) → (answer : Result A DumpsFault)
+  pub shelf-over-shelf : {A : Type 0} (told : Option (List File)) (dumps : List (List ℕ)) (by : A → Status) → ((done : A) → IsDone (by done)) → (answer : Result A DumpsFault)
       → EndsDumps told dumps by answer status before after → IsOverShelf status
-  shelf-over-shelf told dumps by end (Ok done) is = ends-with (λ (s : Status) (n : Moment N). IsOverShelf s) _ status before after (end-over-shelf (by done) (end done)) is
-  shelf-over-shelf told dumps by end (Err DumpsUnread) is = ends-with (λ (s : Status) (n : Moment N). IsOverShelf s) ShelfFault status before after tt is.ends
-  shelf-over-shelf told dumps by end (Err DumpsUnwritten) is = ends-with (λ (s : Status) (n : Moment N). IsOverShelf s) ImageFault status before after tt is.ends
-  shelf-over-shelf told dumps by end (Err DumpsUntold) is = ends-with (λ (s : Status) (n : Moment N). IsOverShelf s) NotesFault status before after tt is.ends
-  shelf-over-shelf told dumps by end (Err (NoFiles dump)) is = ended-by-line _ IsOverShelf tt tt is.ends
+  shelf-over-shelf told dumps by done_is (Ok done) is = ends-with (λ (s : Status) (n : Moment N). IsOverShelf s) _ status before after (done-over-shelf (by done) (done_is done)) is
+  shelf-over-shelf told dumps by done_is (Err DumpsUnwritten) is = ends-with (λ (s : Status) (n : Moment N). IsOverShelf s) ImageFault status before after tt is.ends
+  shelf-over-shelf told dumps by done_is (Err DumpsUntold) is = ends-with (λ (s : Status) (n : Moment N). IsOverShelf s) NotesFault status before after tt is.ends
+  shelf-over-shelf told dumps by done_is (Err (NoFiles dump)) is = ended-by-line _ IsOverShelf tt tt is.ends
 
 -- what is written to the image alone
 pub written-blame : {source image image' notes : FaultCounts} (answer : Result (Unit {0}) Failed) → Counts (is_err answer) image image'

@@ -1,53 +1,151 @@
 -- What `identify` did by what was said of the dump.
-use Rattle.std.proofs.Common.{◌≡◌, ℕ, List, [], ◌∷◌, Option, Some, None, Result, Ok, Err, inl, inr, refl, sym, ap, ◌∙◌, subst}
-use Rattle.dump_identity.specs.Findings.{is_complete}
+use Rattle.std.specs.Prelude.{if◌then◌else◌, ◌||◌}
+use Rattle.std.proofs.Common.{◌≡◌, ◌<◌, ◌+◌, ℕ, Bool, true, false, List, [], ◌∷◌, ◌++◌, Option, Some, None, Result, Ok, Err, inl, inr, refl, sym, ap, ◌∙◌, subst, arith}
+use Rattle.std.specs.List.{list_any}
+use Rattle.dump_identity.specs.Findings.{AreFindings, ComesTo, has_failed, identity_of, is_complete}
 use Rattle.dump_identity.specs.Laws.{IdentitiesAreOne, NoFilesAreNoIdentity}
-use Rattle.dump_identity.specs.Outcomes.{SaysOfIdentity}
+use Rattle.dump_identity.specs.Outcomes.{HasNoFiles, SaysOfIdentity}
+use Rattle.dump_identity.specs.declared.candidate.Candidate.{Candidate}
 use Rattle.dump_identity.specs.declared.finding.Finding.{Finding}
+use Rattle.dump_identity.specs.declared.identity.Identity.{Identity}
+use Rattle.dump_reading.specs.Files.{CountsMany, ShelfNow}
+use Rattle.dump_reading.specs.Outcomes.{DumpsRead}
 use Rattle.dump_reading.specs.declared.fault.DumpsFault.{DumpsFault}
-use Rattle.dump_reading.specs.declared.fault.DumpsFault.TheVariants.{NoFiles, ShelfFault, ImageFault, NotesFault}
+use Rattle.dump_reading.specs.declared.fault.DumpsFault.TheVariants.{NoFiles, ImageFault, NotesFault}
+use Rattle.dump_reading.specs.declared.totals.DumpTotals.{DumpTotals}
+use Rattle.dump_reading.specs.lemmas.Coming.{failed-both, none-failed}
+use Rattle.flux_base.specs.declared.status.Status.{Status}
+use Rattle.flux_base.specs.declared.status.Status.TheVariants.{AllGood, NotAllGood, ShelfFault}
+use Rattle.flux_engine.specs.LoopProgress.{lost_count}
 use Rattle.track_shelf.specs.Files.{File}
-use Rattle.flux_cli.proofs.EndingLaws.{IsEnd, either-ends}
+use Rattle.track_shelf.specs.Told.{ShelfTold, with_failed}
+use Rattle.flux_cli.proofs.EndingLaws.{IsDone}
+use Rattle.flux_cli.proofs.Often.{FailsBy, fails-by, many-none, many-then, often-either, often-if}
+use Rattle.flux_cli.proofs.ReadRun.{Failed, still-failed}
 use Rattle.flux_cli.proofs.ShelfEnded.{Answers, kept-nothing, one-line, same-kept, same-nothing}
-use Rattle.flux_cli.specs.IdentityRuns.{EmptyDump, IsOutcomeOfDump, identity_outcome, identity_status, identity_work}
+use Rattle.flux_cli.specs.Blamed.{FailsOften}
+use Rattle.flux_cli.specs.IdentityRuns.{EmptyDump, FailedAsIdentified, IsOutcomeOfDump, best_status, identity_outcome, identity_status, identity_work}
 use Rattle.flux_cli.specs.ShelfWork.{TellsEmpty, empty_outcome}
 use Rattle.flux_cli.specs.Work.{Growth, Outcome}
 
--- whether one disk explains all is no fault
-pub identity-ends : (best : Option Finding) → IsEnd (identity_status best)
-identity-ends None = tt
-identity-ends (Some best) = either-ends (is_complete best)
+-- whether files failed, and whether one disk explains all
+pub identity-done : (identity : Identity) → IsDone (identity_status identity)
+identity-done identity = by identity.failed identity.best
+  where
+    by_all : (b : Bool) → IsDone (if b then AllGood else NotAllGood)
+    by_all true = tt
+    by_all false = tt
 
-pub identity-answers : (dump : List ℕ) (told : Option (List File)) (image notes : Growth) (answer : Result (Option Finding) DumpsFault)
-    → SaysOfIdentity dump told image.before image.after answer → notes.after ≡ notes.before
-    → Answers (identity_work dump) told (dump ∷ []) image notes identity_status answer
-identity-answers dump told image notes (Ok best) says same = record {
+    by : (failed : Bool) (best : Option Finding) → IsDone (if failed then ShelfFault else best_status best)
+    by true best = tt
+    by false None = tt
+    by false (Some best) = by_all (is_complete best)
+
+best_often : (best : Option Finding) (often : ℕ) → often ≡ 0 → FailsOften (best_status best) often
+best_often None often none = none
+best_often (Some best) often none = often-either (is_complete best) often none
+
+identity_often : (identity : Identity) (often : ℕ) → FailsBy identity.failed often → FailsOften (identity_status identity) often
+identity_often identity often fails = often-if identity.failed (best_status identity.best) often fails (best_often identity.best often)
+
+-- what the shelf did as a dump was read as some disks: so many files failed
+record Lost (failed : Bool) (start now : ShelfNow) : Type 0 where
+  pub often : ℕ
+  pub fails : FailsBy failed often
+  pub many : CountsMany often start.counts now.counts
+  pub paths : List (List ℕ)
+  pub told : now.told ≡ with_failed paths start.told
+
+none_lost : (start now : ShelfNow) → now ≡ start → Lost false start now
+none_lost start now still =
+    subst (λ (s : ShelfNow). Lost false start s) (sym still)
+    (record { often = 0; fails = refl; many = many-none start.counts; paths = []; told = none-failed start.told })
+
+both_fail : (a b : Bool) (often more : ℕ) → FailsBy a often → FailsBy b more → FailsBy (a || b) (more + often)
+both_fail true b often more some others = omega (arith, some)
+both_fail false true often more none some = omega (arith, some)
+both_fail false false often more none others = omega (arith, none, others)
+
+both_lost : (a b : Bool) (start mid now : ShelfNow) → Lost a start mid → Lost b mid now → Lost (a || b) start now
+both_lost a b start mid now p q = record {
+  often = q.often + p.often;
+  fails = both_fail a b p.often q.often p.fails q.fails;
+  many = many-then p.often q.often start.counts mid.counts now.counts p.many q.many;
+  paths = p.paths ++ q.paths;
+  told = q.told ∙ ap (with_failed q.paths) p.told ∙ failed-both p.paths q.paths start.told;
+}
+
+module _ (dump : List ℕ) where
+  one_lost : (start now : ShelfNow) (candidate : Candidate) (totals : Option DumpTotals) → ComesTo dump start now candidate totals
+      → Lost (has_failed (record { candidate = candidate; totals = totals })) start now
+  one_lost start now candidate None came = none_lost start now came.1
+  one_lost start now candidate (Some totals) came =
+      let same : totals.lost ≡ lost_count came.is.streams = ap (λ (t : DumpTotals). t.lost) (came.totals_are ∙ ap (λ (d : DumpsRead). d.totals) came.is.is) in
+      record {
+        often = totals.lost;
+        fails = fails-by totals.lost;
+        many = subst (λ (n : ℕ). CountsMany n start.counts now.counts) (sym same) came.shelf.counts;
+        paths = _;
+        told = came.shelf.told;
+      }
+
+  all_lost : (findings : List Finding) (start now : ShelfNow) → AreFindings dump start now findings → Lost (list_any has_failed findings) start now
+  all_lost [] start now are = none_lost start now are
+  all_lost (f ∷ findings) start now (next, comes, are) =
+      both_lost (has_failed f) (list_any has_failed findings) start next now (one_lost start next f.candidate f.totals comes) (all_lost findings next now are)
+
+  pub identity-failed : (start now : ShelfNow) (lines lines' : Option (List ℕ)) (answer : Result Identity DumpsFault) → SaysOfIdentity dump start now lines lines' answer
+      → Failed identity_status start now answer
+  identity-failed start now lines lines' (Ok identity) says =
+      let lost : Lost (list_any has_failed says.is.findings) start now = all_lost says.is.findings start now says.is.all.are in
+      let same : identity ≡ identity_of says.is.findings = says.identity_is ∙ ap (λ o. o.identity) says.is.is in
+      record {
+        often = lost.often;
+        fails = subst (λ (i : Identity). FailsOften (identity_status i) lost.often) (sym same) (identity_often (identity_of says.is.findings) lost.often lost.fails);
+        many = lost.many;
+        paths = lost.paths;
+        told = lost.told;
+      }
+  identity-failed start now lines lines' (Err (NoFiles number)) says = still-failed identity_status start now number says.2
+  identity-failed start now lines lines' (Err ImageFault) says =
+      elim says [
+        | inl line ↦ (let lost = all_lost _ start now line.first.are in record { often = lost.often; fails = tt; many = lost.many; paths = lost.paths; told = lost.told })
+        | inr best ↦ (let lost = all_lost _ start now best.all.are in record { often = lost.often; fails = tt; many = lost.many; paths = lost.paths; told = lost.told })
+      ]
+  identity-failed start now lines lines' (Err NotesFault) says = absurd says
+
+pub identity-answers : (dump : List ℕ) (start now : ShelfNow) (image notes : Growth) (answer : Result Identity DumpsFault)
+    → SaysOfIdentity dump start now image.before image.after answer → notes.after ≡ notes.before
+    → Answers (identity_work dump) (dump ∷ []) start now image notes identity_status answer
+identity-answers dump start now image notes (Ok identity) says same = record {
   outcome = identity_outcome says.outcome;
   is = inr (says.outcome, says.is, refl);
-  end = identity-ends best;
-  same = ap identity_status says.best_is;
+  same = ap identity_status says.identity_is;
   image_got = says.grew;
   notes_got = same-nothing notes.before notes.after same;
 }
-identity-answers dump told image notes (Err (NoFiles number)) says same = record {
+identity-answers dump start now image notes (Err (NoFiles number)) says same = record {
   is = λ line tells. inl (line, said line tells, refl);
-  image_got = kept-nothing image.before image.after says.2;
+  image_got = kept-nothing image.before image.after says.3;
   same = same;
-  cut = λ line tells after part. (line, said line tells, says.2, part);
+  cut = λ line tells after part. (line, said line tells, says.3, part);
 }
   where
-    said : (line : List ℕ) → TellsEmpty told (dump ∷ []) number line → EmptyDump dump told line
-    said line tells = record { is = says.1; tells = subst (λ (n : ℕ). TellsEmpty told (dump ∷ []) n line) says.0 tells }
-identity-answers dump told image notes (Err ShelfFault) says same = (says, same-kept notes.before notes.after same)
-identity-answers dump told image notes (Err ImageFault) says same = (says, same-kept notes.before notes.after same)
-identity-answers dump told image notes (Err NotesFault) says same = absurd says
+    said : (line : List ℕ) → TellsEmpty start.told.files (dump ∷ []) number line → EmptyDump dump start now line
+    said line tells = record { is = says.1; still = says.2; tells = subst (λ (n : ℕ). TellsEmpty start.told.files (dump ∷ []) n line) says.0 tells }
+identity-answers dump start now image notes (Err ImageFault) says same = (says, same-kept notes.before notes.after same)
+identity-answers dump start now image notes (Err NotesFault) says same = absurd says
 
--- the files decide the outcome of `identify`
-pub one_outcome_of_dump : IdentitiesAreOne → NoFilesAreNoIdentity → (dump : List ℕ) (files : List File) (a b : Outcome)
-    → IsOutcomeOfDump dump (Some files) a → IsOutcomeOfDump dump (Some files) b → a ≡ b
-one_outcome_of_dump one apart dump files a b (inl (line, p, is)) (inl (other, q, is')) =
-    is ∙ ap empty_outcome (one-line (dump ∷ []) files 0 0 line other refl p.tells q.tells) ∙ sym is'
-one_outcome_of_dump one apart dump files a b (inl (line, p, is)) (inr (i, said, is')) = absurd (apart dump files i p.is said)
-one_outcome_of_dump one apart dump files a b (inr (i, said, is)) (inl (line, q, is')) = absurd (apart dump files i q.is said)
-one_outcome_of_dump one apart dump files a b (inr (i, said, is)) (inr (j, other, is')) =
-    is ∙ ap identity_outcome (one dump files i j said other) ∙ sym is'
+-- the files, and which of them failed, decide the outcome of `identify`
+module _ (one : IdentitiesAreOne) (apart : NoFilesAreNoIdentity) (dump : List ℕ) (files : List File) (start now start' now' : ShelfNow)
+    (mine : start.told.files ≡ Some files) (others : start'.told.files ≡ Some files) where
+  pub one_outcome_of_dump : (a b : Outcome) (p : IsOutcomeOfDump dump start now a) (q : IsOutcomeOfDump dump start' now' b)
+      → FailedAsIdentified dump start now start' now' a b p q → a ≡ b
+  one_outcome_of_dump a b (inl (line, p, is)) (inl (other, q, is')) alike =
+      is ∙ ap empty_outcome (one-line (dump ∷ []) files 0 0 line other refl
+      (subst (λ (t : Option (List File)). TellsEmpty t (dump ∷ []) 0 line) mine p.tells)
+      (subst (λ (t : Option (List File)). TellsEmpty t (dump ∷ []) 0 other) others q.tells)) ∙ sym is'
+  one_outcome_of_dump a b (inl (line, p, is)) (inr (i, said, is')) alike = absurd (apart dump files start now start' now' mine others i p.is said)
+  one_outcome_of_dump a b (inr (i, said, is)) (inl (line, q, is')) alike = absurd (apart dump files start' now' start now others mine i q.is said)
+  one_outcome_of_dump a b (inr (i, said, is)) (inr (j, other, is')) alike =
+      is ∙ ap identity_outcome (one dump files start now start' now' mine others i j said other alike) ∙ sym is'

@@ -18,6 +18,7 @@ pub mod ReadRun
 pub mod IdentityRun
 pub mod SectorRun
 pub mod ReadHeadline
+pub mod Often
 pub mod Blaming
 pub mod EndingLaws
 pub mod Ended

@@ -1,8 +1,8 @@
 -- From what a run did over dumps to what is known of it.
-use Rattle.std.specs.Prelude.{if◌then◌else◌}
+use Rattle.std.specs.Prelude.{if◌then◌else◌, nat_lt}
 use Rattle.std.proofs.Common.{◌≡◌, ◌≤◌, ℕ, Bool, true, false, List, [], ◌∷◌, ◌++◌, drop, get_or, length, Option, Some, None, inl, inr, sym, ap, ◌∙◌, subst, arith}
 use Rattle.disk_map.specs.Dumps.{IsDumpsDrawn, PicturesOfDumpsShowReports, ShowsReport}
-use Rattle.dump_reading.specs.Outcomes.{DumpDisk, DumpsRead, IsDumpsRead}
+use Rattle.dump_reading.specs.Outcomes.{DumpDisk, DumpsRead, FilesFailed, IsDumpsRead}
 use Rattle.dump_reading.specs.Totals.{is_complete}
 use Rattle.flux_base.specs.declared.status.Status.{Status}
 use Rattle.flux_base.specs.declared.status.Status.TheVariants.{AllGood, NotAllGood, Refused, Usage, ReadFault, ImageFault, NotesFault, Memory, ShelfFault}
@@ -18,8 +18,9 @@ use Rattle.track_shelf.specs.Files.{File}
 use Rattle.flux_words.specs.DumpParts.{options_in}
 use Rattle.flux_words.specs.DumpWords.{AreReadWords, Asked, option_words, shown_of}
 use Rattle.flux_cli.specs.AskedDisks.{asked_disk}
-use Rattle.flux_cli.specs.FolderRuns.{OnShelf}
-use Rattle.flux_cli.specs.ReadHeadline.{GaveDumpsOrCut, GaveEmpty, GavePicture, GaveShown, OfDumps, ReadsAsExpected}
+use Rattle.flux_engine.specs.Plans.{Seen}
+use Rattle.flux_cli.specs.FolderRuns.{OnShelf, now_at}
+use Rattle.flux_cli.specs.ReadHeadline.{GaveDumpsOrCut, GaveEmpty, GaveShown, OfDumps, ReadsAsExpected}
 use Rattle.flux_cli.specs.ReadRuns.{IsShown, read_status, read_work}
 use Rattle.flux_cli.specs.Runs.{growth}
 use Rattle.flux_cli.specs.ShelfRuns.{AskOfShelf, OfShelf, a_folder, a_sector, an_identity, some_dumps, Ran, RanBy, Surroundings, on_shelf}
@@ -97,45 +98,50 @@ all_refused same = cc
 not_refused : NotAllGood ≡ Refused → ⊥
 not_refused same = cc
 
--- a status that a disk has which was read is not that of a refusal
-by_complete : (b : Bool) → Refused ≡ (if b then AllGood else NotAllGood) → ⊥
-by_complete true same = all_refused (sym same)
-by_complete false same = not_refused (sym same)
+shelf_refused : ShelfFault ≡ Refused → ⊥
+shelf_refused same = cc
 
--- a picture was drawn of dumps, and with it their report is known
-of_picture : DumpLaws → {H W N : Type 0} (disk : DumpDisk) (files : List File) → length disk.dumps ≤ 16 → (status : Status) (before after : OnShelf H W N) (d : DumpsRead) → IsDumpsDrawn disk (Some files) d
-    → status ≡ read_status d.totals → Got (growth before.image after.image) d.image → Got (growth before.notes after.notes) d.notes
-    → GavePicture disk files status before after
-of_picture laws disk files few status before after d is status_is image_got notes_got =
-    let shows : ShowsReport disk (Some files) d is = laws.pictures disk (Some files) d is in
-    record {
-      drawn = d;
-      is = is;
-      status_is = status_is;
-      image_got = image_got;
-      notes_got = subst (λ (bytes : List ℕ). Got (growth before.notes after.notes) bytes) (ap (λ (o : DumpsRead). o.notes) is.is) notes_got;
-      shows = shows;
-      holds = of_dumps laws disk files few shows.report shows.read;
-    }
+-- a status that a disk has which was read is not that of a refusal
+by_numbers : (lost b : Bool) → Refused ≡ (if lost then ShelfFault else (if b then AllGood else NotAllGood)) → ⊥
+by_numbers true b same = shelf_refused (sym same)
+by_numbers false true same = all_refused (sym same)
+by_numbers false false same = not_refused (sym same)
 
 module _ (laws : DumpLaws) {H W N : Type 0} (disk : DumpDisk) (files : List File) (few : length disk.dumps ≤ 16) (before after : OnShelf H W N) (told : before.shelf.files ≡ Some files) where
-  gave_shown : (shown : Shown) (status : Status) (d : DumpsRead) → IsShown shown disk (Some files) d → status ≡ read_status d.totals
+  -- the sinks got what the numbers say, and the shelf did what is told
+  gave_shown : (shown : Shown) (status : Status) (d : DumpsRead) → IsShown shown disk (now_at before.shelf) (now_at after.shelf) d → status ≡ read_status d.totals
       → Got (growth before.image after.image) d.image → Got (growth before.notes after.notes) d.notes → GaveShown shown disk files status before after
-  gave_shown Image status d read status_is image_got notes_got = record {
-    read = d;
-    status_is = status_is;
-    image_got = image_got;
-    notes_got = notes_got;
-    holds = of_dumps laws disk files few d read;
-  }
-  gave_shown Picture status d drawn status_is image_got notes_got = of_picture laws disk files few status before after d drawn status_is image_got notes_got
+  gave_shown Image status d read status_is image_got notes_got =
+      let here : (is : IsDumpsRead disk (Some files) d) × FilesFailed disk (now_at before.shelf) (now_at after.shelf) is.streams =
+          subst (λ (t : Option (List File)). (is : IsDumpsRead disk t d) × FilesFailed disk (now_at before.shelf) (now_at after.shelf) is.streams) told read in
+      record {
+        read = d;
+        status_is = status_is;
+        image_got = image_got;
+        notes_got = notes_got;
+        holds = of_dumps laws disk files few d here.0;
+        shelf = here.1;
+      }
+  gave_shown Picture status d drawn status_is image_got notes_got =
+      let here : (is : IsDumpsDrawn disk (Some files) d) × FilesFailed disk (now_at before.shelf) (now_at after.shelf) is.streams =
+          subst (λ (t : Option (List File)). (is : IsDumpsDrawn disk t d) × FilesFailed disk (now_at before.shelf) (now_at after.shelf) is.streams) told drawn in
+      let shows : ShowsReport disk (Some files) d here.0 = laws.pictures disk (Some files) d here.0 in
+      record {
+        drawn = d;
+        is = here.0;
+        status_is = status_is;
+        image_got = image_got;
+        notes_got = subst (λ (bytes : List ℕ). Got (growth before.notes after.notes) bytes) (ap (λ (o : DumpsRead). o.notes) here.0.is) notes_got;
+        shows = shows;
+        holds = of_dumps laws disk files few shows.report shows.read;
+        shelf = subst (λ (streams : List Seen). FilesFailed disk (now_at before.shelf) (now_at after.shelf) streams) (sym shows.streams) here.1;
+      }
 
   gave : (shown : Shown) (status : Status) → (status ≡ Refused → ⊥) → FinishedOnShelf (read_work shown disk) status before after → GaveShown shown disk files status before after
   gave shown status other f =
       elim f.is [
-        | inl (line, first, is) ↦ absurd (other (f.status_is ∙ ap (λ o. o.status) is))
-        | inr (none, (d, read, is)) ↦ gave_shown shown status d (subst (λ (t : Option (List File)). IsShown shown disk t d) told read) (f.status_is ∙ ap (λ o. o.status) is)
-            (rw is at f.image_got) (rw is at f.notes_got)
+        | inl (line, first, still, is) ↦ absurd (other (f.status_is ∙ ap (λ o. o.status) is))
+        | inr (none, (d, read, is)) ↦ gave_shown shown status d read (f.status_is ∙ ap (λ o. o.status) is) (rw is at f.image_got) (rw is at f.notes_got)
       ]
 
   gave_empty : (line : List ℕ) → FirstEmpty disk before.shelf.files line → Got (growth before.image after.image) [] → Got (growth before.notes after.notes) line
@@ -155,15 +161,15 @@ module _ (laws : DumpLaws) {H W N : Type 0} (disk : DumpDisk) (files : List File
   gave_or_cut shown NotAllGood says = gave shown NotAllGood not_refused says
   gave_or_cut shown Refused f =
       elim f.is [
-        | inl (line, first, is) ↦ gave_empty line first (rw is at f.image_got) (rw is at f.notes_got)
-        | inr (none, (d, read, is)) ↦ absurd (by_complete (is_complete d.totals) (f.status_is ∙ ap (λ o. o.status) is))
+        | inl (line, first, still, is) ↦ gave_empty line first (rw is at f.image_got) (rw is at f.notes_got)
+        | inr (none, (d, read, is)) ↦ absurd (by_numbers (nat_lt 0 d.totals.lost) (is_complete d.totals) (f.status_is ∙ ap (λ o. o.status) is))
       ]
   gave_or_cut shown Usage says = says
   gave_or_cut shown ReadFault says = says
   gave_or_cut shown ImageFault says = says.1
   gave_or_cut shown NotesFault says = says.1
   gave_or_cut shown Memory says = says
-  gave_or_cut shown ShelfFault says = says.1
+  gave_or_cut shown ShelfFault says = gave shown ShelfFault shelf_refused says.0
 
 pub reads_as_expected : DumpLaws → WordsBeginWithLetters → WordsNameFormats → {S W N H : Type 0} (words : List (List ℕ)) (status : Status) (before after : Surroundings S W N H)
     → Ran words status before after → ReadsAsExpected words status (on_shelf before) (on_shelf after)

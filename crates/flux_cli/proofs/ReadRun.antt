@@ -1,21 +1,31 @@
 -- What `read` did by what reading the dumps answered.
-use Rattle.std.proofs.Common.{◌≡◌, List, Option, Some, Result, Ok, Err, inl, inr, refl, sym, ap, ◌∙◌, subst}
+use Rattle.std.specs.Prelude.{nat_lt}
+use Rattle.std.proofs.Common.{◌≡◌, ℕ, List, [], Option, Some, Result, Ok, Err, inl, inr, refl, sym, ap, ◌∙◌, subst}
 use Rattle.disk_map.specs.Dumps.{SaysOfDrawing, dumps_part, picture_of}
-use Rattle.dump_reading.specs.Outcomes.{DumpDisk, DumpsRead, SaysOfDumps, report_of}
+use Rattle.dump_reading.specs.DumpStreams.{FailedAlike}
+use Rattle.dump_reading.specs.Files.{CountsMany, ShelfNow}
+use Rattle.dump_reading.specs.Outcomes.{DumpDisk, DumpsRead, IsReadBy, SaysOfDumps, report_of}
 use Rattle.dump_reading.specs.Reports.{read_part}
 use Rattle.dump_reading.specs.Totals.{is_complete}
 use Rattle.dump_reading.specs.declared.fault.DumpsFault.{DumpsFault}
-use Rattle.dump_reading.specs.declared.fault.DumpsFault.TheVariants.{NoFiles, ShelfFault, ImageFault, NotesFault}
+use Rattle.dump_reading.specs.declared.fault.DumpsFault.TheVariants.{NoFiles, ImageFault, NotesFault}
 use Rattle.dump_reading.specs.declared.totals.DumpTotals.{DumpTotals}
+use Rattle.dump_reading.specs.lemmas.Coming.{none-failed}
 use Rattle.flux_base.specs.declared.status.Status.{Status}
+use Rattle.flux_engine.specs.LoopProgress.{lost_count}
+use Rattle.flux_engine.specs.Plans.{PartOf}
+use Rattle.flux_engine.specs.Tracks.{TrackPart}
 use Rattle.law_read_dumps.specs.Said.{AllOfDumpsIsOne}
 use Rattle.sector_images.specs.declared.format.Format.{Format}
 use Rattle.track_shelf.specs.Files.{File}
-use Rattle.flux_cli.proofs.EndingLaws.{IsEnd, either-ends}
-use Rattle.flux_cli.proofs.ShelfEnded.{Answers, none-of-disk, one-or-empty, same-kept, same-nothing}
+use Rattle.track_shelf.specs.Told.{with_failed}
+use Rattle.flux_cli.proofs.EndingLaws.{AnswersOften, IsDone, done-if}
+use Rattle.flux_cli.proofs.Often.{fails-by, many-none, often-either, often-if}
+use Rattle.flux_cli.proofs.ShelfEnded.{Answers, none-of-disk, none-or-empty, one-empty, same-kept, same-nothing}
+use Rattle.flux_cli.specs.Blamed.{FailsOften}
 use Rattle.flux_cli.specs.FolderRuns.{OnShelf}
-use Rattle.flux_cli.specs.ReadRuns.{IsOutcomeOfDumps, IsShown, read_outcome, read_status, read_work}
-use Rattle.flux_cli.specs.ShelfWork.{DidOnShelf}
+use Rattle.flux_cli.specs.ReadRuns.{FailedAsRead, IsOutcomeOfDumps, IsShown, came_shown, read_outcome, read_status, read_work}
+use Rattle.flux_cli.specs.ShelfWork.{DidOnShelf, empty_outcome}
 use Rattle.flux_cli.specs.Work.{Got, Growth, Outcome}
 use Rattle.flux_words.specs.declared.dump_words.Shown.{Shown}
 use Rattle.flux_words.specs.declared.dump_words.Shown.TheVariants.{Image, Picture}
@@ -25,51 +35,105 @@ pub in_room : {H W N : Type 0} (shown : Shown) (disk : DumpDisk) (before after :
     → DidOnShelf (read_work shown (record disk { format = held })) status before after → DidOnShelf (read_work shown disk) status before after
 in_room shown disk before after held status same did = subst (λ (f : Format). DidOnShelf (read_work shown (record disk { format = f })) status before after) same did
 
--- whether the image is all that can be read there is no fault
-pub read-ends : (totals : DumpTotals) → IsEnd (read_status totals)
-read-ends totals = either-ends (is_complete totals)
+-- whether files failed, and whether the image is all that can be read there
+pub read-done : (totals : DumpTotals) → IsDone (read_status totals)
+read-done totals = done-if (nat_lt 0 totals.lost) (is_complete totals)
 
-module _ (disk : DumpDisk) (told : Option (List File)) (image notes : Growth) where
-  pub read-answers : (answer : Result DumpTotals DumpsFault) → SaysOfDumps disk told image.before image.after notes.before notes.after answer
-      → Answers (read_work Image disk) told disk.dumps image notes read_status answer
+read_often : (totals : DumpTotals) (often : ℕ) → totals.lost ≡ often → FailsOften (read_status totals) often
+read_often totals often same =
+    subst (FailsOften (read_status totals)) same
+    (often-if (nat_lt 0 totals.lost) _ totals.lost (fails-by totals.lost) (λ none. often-either (is_complete totals) totals.lost none))
+
+-- what the shelf did: so many files failed, and nothing else of it changed
+pub record Failed {A : Type 0} (by : A → Status) (start now : ShelfNow) (answer : Result A DumpsFault) : Type 0 where
+  pub often : ℕ
+  pub fails : AnswersOften by answer often
+  pub many : CountsMany often start.counts now.counts
+  pub paths : List (List ℕ)
+  pub told : now.told ≡ with_failed paths start.told
+
+pub still-failed : {A : Type 0} (by : A → Status) (start now : ShelfNow) (number : ℕ) → now ≡ start → Failed by start now (Err (NoFiles number))
+still-failed by start now number still =
+    subst (λ (s : ShelfNow). Failed by start s (Err (NoFiles number))) (sym still)
+    (record { often = 0; fails = refl; many = many-none start.counts; paths = []; told = none-failed start.told })
+
+module _ (disk : DumpDisk) (start now : ShelfNow) (image notes : Growth) where
+  pub read-answers : (answer : Result DumpTotals DumpsFault) → SaysOfDumps disk start now image.before image.after notes.before notes.after answer
+      → Answers (read_work Image disk) disk.dumps start now image notes read_status answer
   read-answers (Ok totals) says = record {
     outcome = read_outcome says.1.outcome;
-    is = inr (says.0, (says.1.outcome, says.1.is, refl));
-    end = read-ends totals;
+    is = inr (says.0, (says.1.outcome, (says.1.is, says.1.shelf), refl));
     same = ap read_status says.1.totals_are;
     image_got = says.1.image_grew;
     notes_got = says.1.notes_grew;
   }
   read-answers (Err (NoFiles number)) says =
-      none-of-disk (read_work Image disk) told image notes disk number says.0 says.1 says.2 says.3 (λ line first. inl (line, first, refl)) (λ after cut. inr cut)
-  read-answers (Err ShelfFault) says = says
+      none-of-disk (read_work Image disk) start now image notes disk number says.0 says.1 says.2 says.3 says.4 (λ line first. inl (line, first, says.2, refl)) (λ after cut. inr cut)
   read-answers (Err ImageFault) says = says
   read-answers (Err NotesFault) says = inl says
 
-  pub draw-answers : (answer : Result DumpTotals DumpsFault) → SaysOfDrawing disk told image.before image.after answer → notes.after ≡ notes.before
-      → Answers (read_work Picture disk) told disk.dumps image notes read_status answer
+  pub read-failed : (answer : Result DumpTotals DumpsFault) → SaysOfDumps disk start now image.before image.after notes.before notes.after answer → Failed read_status start now answer
+  read-failed (Ok totals) says = record {
+    often = lost_count says.1.is.streams;
+    fails = read_often totals (lost_count says.1.is.streams) (ap (λ (t : DumpTotals). t.lost) (says.1.totals_are ∙ ap (λ (d : DumpsRead). d.totals) says.1.is.is));
+    many = says.1.shelf.counts;
+    paths = _;
+    told = says.1.shelf.told;
+  }
+  read-failed (Err (NoFiles number)) says = still-failed read_status start now number says.2
+  read-failed (Err ImageFault) says = record { often = _; fails = tt; many = says.shelf.counts; paths = _; told = says.shelf.told }
+  read-failed (Err NotesFault) says =
+      elim says [
+        | inl lines ↦ record { often = _; fails = tt; many = lines.shelf.counts; paths = _; told = lines.shelf.told }
+        | inr end ↦ record { often = _; fails = tt; many = end.shelf.counts; paths = _; told = end.shelf.told }
+      ]
+
+  pub draw-answers : (answer : Result DumpTotals DumpsFault) → SaysOfDrawing disk start now image.before image.after answer → notes.after ≡ notes.before
+      → Answers (read_work Picture disk) disk.dumps start now image notes read_status answer
   draw-answers (Ok totals) says same = record {
     outcome = read_outcome says.1.outcome;
-    is = inr (says.0, (says.1.outcome, says.1.is, refl));
-    end = read-ends totals;
+    is = inr (says.0, (says.1.outcome, (says.1.is, says.1.shelf), refl));
     same = ap read_status says.1.totals_are;
     image_got = says.1.grew;
     notes_got = subst (Got notes) (sym (ap (λ (d : DumpsRead). d.notes) says.1.is.is)) (same-nothing notes.before notes.after same);
   }
   draw-answers (Err (NoFiles number)) says same =
-      none-of-disk (read_work Picture disk) told image notes disk number says.0 says.1 says.2 same (λ line first. inl (line, first, refl)) (λ after cut. cut)
-  draw-answers (Err ShelfFault) says same = (says, same-kept notes.before notes.after same)
+      none-of-disk (read_work Picture disk) start now image notes disk number says.0 says.1 says.2 says.3 same (λ line first. inl (line, first, says.2, refl)) (λ after cut. cut)
   draw-answers (Err ImageFault) says same = (says, same-kept notes.before notes.after same)
   draw-answers (Err NotesFault) says same = absurd says
 
--- what is shown of the dumps is one
-one_shown : AllOfDumpsIsOne → (shown : Shown) (disk : DumpDisk) (files : List File) (d e : DumpsRead) → IsShown shown disk (Some files) d → IsShown shown disk (Some files) e → d ≡ e
-one_shown one Image disk files d e p q = one read_part report_of disk files d e p q
-one_shown one Picture disk files d e p q = one dumps_part (picture_of disk.format) disk files d e p q
+module _ (disk : DumpDisk) (start now : ShelfNow) (image : Growth) where
+  pub draw-failed : (answer : Result DumpTotals DumpsFault) → SaysOfDrawing disk start now image.before image.after answer → Failed read_status start now answer
+  draw-failed (Ok totals) says = record {
+    often = lost_count says.1.is.streams;
+    fails = read_often totals (lost_count says.1.is.streams) (ap (λ (t : DumpTotals). t.lost) (says.1.totals_are ∙ ap (λ (d : DumpsRead). d.totals) says.1.is.is));
+    many = says.1.shelf.counts;
+    paths = _;
+    told = says.1.shelf.told;
+  }
+  draw-failed (Err (NoFiles number)) says = still-failed read_status start now number says.2
+  draw-failed (Err ImageFault) says = record { often = _; fails = tt; many = says.shelf.counts; paths = _; told = says.shelf.told }
+  draw-failed (Err NotesFault) says = absurd says
 
--- the files decide the outcome of `read`
-pub one_outcome_of_dumps : AllOfDumpsIsOne → (shown : Shown) (disk : DumpDisk) (files : List File) (a b : Outcome)
-    → IsOutcomeOfDumps shown disk (Some files) a → IsOutcomeOfDumps shown disk (Some files) b → a ≡ b
-one_outcome_of_dumps one shown disk files =
-    one-or-empty disk files (λ read. (d : DumpsRead) × IsShown shown disk (Some files) d × (read ≡ read_outcome d))
-    (λ a b first second. first.2 ∙ ap read_outcome (one_shown one shown disk files first.0 second.0 first.1 second.1) ∙ sym second.2)
+-- what comes of dumps is one, where the same files failed
+all_one : AllOfDumpsIsOne → (of : PartOf) (whole : List TrackPart → DumpTotals → DumpsRead) (disk : DumpDisk) (files : List File) (told told' : Option (List File))
+    → told ≡ Some files → told' ≡ Some files → (a b : DumpsRead) (p : IsReadBy of whole disk told a) (q : IsReadBy of whole disk told' b) → FailedAlike p.streams q.streams → a ≡ b
+all_one one of whole disk files told told' mine others a b =
+    subst (λ (t : Option (List File)). (p : IsReadBy of whole disk t a) (q : IsReadBy of whole disk told' b) → FailedAlike p.streams q.streams → a ≡ b) (sym mine)
+    (subst (λ (t : Option (List File)). (p : IsReadBy of whole disk (Some files) a) (q : IsReadBy of whole disk t b) → FailedAlike p.streams q.streams → a ≡ b) (sym others)
+    (one of whole disk files a b))
+
+module _ (one : AllOfDumpsIsOne) (disk : DumpDisk) (files : List File) (start now start' now' : ShelfNow) (mine : start.told.files ≡ Some files) (others : start'.told.files ≡ Some files) where
+  one_shown : (shown : Shown) (d e : DumpsRead) (p : IsShown shown disk start now d) (q : IsShown shown disk start' now' e)
+      → FailedAlike (came_shown shown disk start now d p) (came_shown shown disk start' now' e q) → d ≡ e
+  one_shown Image d e p q alike = all_one one read_part report_of disk files start.told.files start'.told.files mine others d e p.0 q.0 alike
+  one_shown Picture d e p q alike = all_one one dumps_part (picture_of disk.format) disk files start.told.files start'.told.files mine others d e p.0 q.0 alike
+
+  -- the files, and which of them failed, decide the outcome of `read`
+  pub one_outcome_of_dumps : (shown : Shown) (a b : Outcome) (p : IsOutcomeOfDumps shown disk start now a) (q : IsOutcomeOfDumps shown disk start' now' b)
+      → FailedAsRead shown disk start now start' now' a b p q → a ≡ b
+  one_outcome_of_dumps shown a b (inl (line, first, still, is)) (inl (other, second, still', is')) alike =
+      is ∙ ap empty_outcome (one-empty disk files _ _ mine others line other first second) ∙ sym is'
+  one_outcome_of_dumps shown a b (inl (line, first, still, is)) (inr (none, (e, q, is'))) alike = absurd (none-or-empty disk files _ _ mine others line first none)
+  one_outcome_of_dumps shown a b (inr (none, (d, p, is))) (inl (line, first, still, is')) alike = absurd (none-or-empty disk files _ _ others mine line first none)
+  one_outcome_of_dumps shown a b (inr (none, (d, p, is))) (inr (none', (e, q, is'))) alike = is ∙ ap read_outcome (one_shown shown d e p q alike) ∙ sym is'

@@ -1,42 +1,65 @@
 -- What `show` did by what showing the sector answered.
-use Rattle.std.specs.Prelude.{nat_eq}
-use Rattle.std.proofs.Common.{◌≡◌, ℕ, List, Option, Some, Result, Ok, Err, inl, inr, refl, sym, ap, ◌∙◌, subst}
+use Rattle.std.specs.Prelude.{nat_eq, nat_lt}
+use Rattle.std.proofs.Common.{◌≡◌, ℕ, List, Option, Some, None, Result, Ok, Err, inl, inr, refl, sym, ap, ◌∙◌, subst}
+use Rattle.dump_reading.specs.DumpStreams.{FailedAlike}
+use Rattle.dump_reading.specs.Files.{ShelfNow}
 use Rattle.dump_reading.specs.Outcomes.{DumpDisk}
 use Rattle.dump_reading.specs.declared.fault.DumpsFault.{DumpsFault}
-use Rattle.dump_reading.specs.declared.fault.DumpsFault.TheVariants.{NoFiles, ShelfFault, ImageFault, NotesFault}
+use Rattle.dump_reading.specs.declared.fault.DumpsFault.TheVariants.{NoFiles, ImageFault, NotesFault}
 use Rattle.flux_base.specs.declared.status.Status.{Status}
-use Rattle.sector_copies.specs.Laws.{AreReadingsOfFiles, ShownIsOne}
+use Rattle.flux_engine.specs.LoopProgress.{lost_count}
+use Rattle.sector_copies.specs.Laws.{AreReadingsOfCame, ShownIsOne}
 use Rattle.sector_copies.specs.Shown.{IsSectorShown, SaysOfSector, SectorAsked, SectorShown}
 use Rattle.sector_copies.specs.TrackReadings.{IsEmptyRoom, SectorRoomState}
+use Rattle.sector_copies.specs.declared.totals.SectorTotals.{SectorTotals}
 use Rattle.sector_images.specs.declared.format.Format.{Format}
 use Rattle.track_shelf.specs.Files.{File}
 use Rattle.turn_merge.specs.Readings.{NotedReading}
-use Rattle.flux_cli.proofs.EndingLaws.{IsEnd, either-ends}
-use Rattle.flux_cli.proofs.ShelfEnded.{Answers, none-of-disk, one-or-empty, same-kept}
+use Rattle.flux_cli.proofs.EndingLaws.{IsDone, done-if}
+use Rattle.flux_cli.proofs.Often.{fails-by, often-either, often-if}
+use Rattle.flux_cli.proofs.ReadRun.{Failed, still-failed}
+use Rattle.flux_cli.proofs.ShelfEnded.{Answers, none-of-disk, none-or-empty, one-empty, same-kept}
+use Rattle.flux_cli.specs.Blamed.{FailsOften}
 use Rattle.flux_cli.specs.FolderRuns.{OnShelf}
-use Rattle.flux_cli.specs.SectorRuns.{IsOutcomeOfSector, sector_outcome, sector_status, sector_work}
-use Rattle.flux_cli.specs.ShelfWork.{DidOnShelf}
+use Rattle.flux_cli.specs.SectorRuns.{FailedAsShown, IsOutcomeOfSector, ReadingsOfShown, sector_outcome, sector_status, sector_work}
+use Rattle.flux_cli.specs.ShelfWork.{DidOnShelf, empty_outcome}
 use Rattle.flux_cli.specs.Work.{Growth, Outcome}
 
--- whether there is one content is no fault
-pub sector-ends : (copies : ℕ) → IsEnd (sector_status copies)
-sector-ends copies = either-ends (nat_eq copies 1)
+-- whether files failed, and whether there is one content
+pub sector-done : (totals : SectorTotals) → IsDone (sector_status totals)
+sector-done totals = done-if (nat_lt 0 totals.lost) (nat_eq totals.copies 1)
 
-pub sector-answers : (asked : SectorAsked) (told : Option (List File)) (image notes : Growth) (answer : Result ℕ DumpsFault)
-    → SaysOfSector asked told image.before image.after notes.before notes.after answer → Answers (sector_work asked) told asked.disk.dumps image notes sector_status answer
-sector-answers asked told image notes (Ok copies) says = record {
-  outcome = sector_outcome says.0;
-  is = inr (says.1, (says.0, says.2, refl));
-  end = sector-ends copies;
-  same = ap sector_status says.5;
-  image_got = says.3;
-  notes_got = says.4;
-}
-sector-answers asked told image notes (Err (NoFiles number)) says =
-    none-of-disk (sector_work asked) told image notes asked.disk number says.0 says.1 says.2 says.3 (λ line first. inl (line, first, refl)) (λ after cut. inr cut)
-sector-answers asked told image notes (Err ShelfFault) says = (same-kept image.before image.after says.0, same-kept notes.before notes.after says.1)
-sector-answers asked told image notes (Err ImageFault) says = (says.0, says.2, says.3, says.4)
-sector-answers asked told image notes (Err NotesFault) says = inl (says.0, says.2, same-kept image.before image.after says.3, says.4)
+sector_often : (totals : SectorTotals) (often : ℕ) → totals.lost ≡ often → FailsOften (sector_status totals) often
+sector_often totals often same =
+    subst (FailsOften (sector_status totals)) same
+    (often-if (nat_lt 0 totals.lost) _ totals.lost (fails-by totals.lost) (λ none. often-either (nat_eq totals.copies 1) totals.lost none))
+
+module _ (asked : SectorAsked) (start now : ShelfNow) (image notes : Growth) where
+  pub sector-answers : (answer : Result SectorTotals DumpsFault) → SaysOfSector asked start now image.before image.after notes.before notes.after answer
+      → Answers (sector_work asked) asked.disk.dumps start now image notes sector_status answer
+  sector-answers (Ok totals) says = record {
+    outcome = sector_outcome says.0;
+    is = inr (says.1.none_empty, (says.0, says.1, refl));
+    same = ap sector_status says.4;
+    image_got = says.2;
+    notes_got = says.3;
+  }
+  sector-answers (Err (NoFiles number)) says =
+      none-of-disk (sector_work asked) start now image notes asked.disk number says.0 says.1 says.2 says.3 says.4 (λ line first. inl (line, first, says.2, refl)) (λ after cut. inr cut)
+  sector-answers (Err ImageFault) says = says
+  sector-answers (Err NotesFault) says = inl (says.0, says.1, same-kept image.before image.after says.2, says.3)
+
+  pub sector-failed : (answer : Result SectorTotals DumpsFault) → SaysOfSector asked start now image.before image.after notes.before notes.after answer → Failed sector_status start now answer
+  sector-failed (Ok totals) says = record {
+    often = lost_count says.1.is.came;
+    fails = sector_often totals (lost_count says.1.is.came) (ap (λ (t : SectorTotals). t.lost) (says.4 ∙ ap (λ (s : SectorShown). s.totals) says.1.is.is));
+    many = says.1.shelf.counts;
+    paths = _;
+    told = says.1.shelf.told;
+  }
+  sector-failed (Err (NoFiles number)) says = still-failed sector_status start now number says.2
+  sector-failed (Err ImageFault) says = record { often = _; fails = tt; many = says.1.shelf.counts; paths = _; told = says.1.shelf.told }
+  sector-failed (Err NotesFault) says = record { often = _; fails = tt; many = says.1.shelf.counts; paths = _; told = says.1.shelf.told }
 
 -- what was done in a room that was made for the sector
 pub in_sector_room : {H W N : Type 0} (disk : DumpDisk) (number sector : ℕ) (alone : Option ℕ) (format : Format) (room : SectorRoomState) (status : Status) (before after : OnShelf H W N)
@@ -48,9 +71,20 @@ in_sector_room disk number sector alone format room status before after is did =
     (subst (λ (n : ℕ). DidOnShelf (sector_work (record { disk = record disk { format = format }; number = n; sector = room.known.sector; alone = alone })) status before after) is.number_is
     (subst (λ (f : Format). DidOnShelf (sector_work (record { disk = record disk { format = f }; number = room.number; sector = room.known.sector; alone = alone })) status before after) is.format_is did))
 
--- the files decide the outcome of `show`, where their streams have lists of all readings
-pub one_outcome_of_sector : ShownIsOne → (asked : SectorAsked) (files : List File) (captures : List (List NotedReading)) → AreReadingsOfFiles asked files captures
-    → (a b : Outcome) → IsOutcomeOfSector asked (Some files) a → IsOutcomeOfSector asked (Some files) b → a ≡ b
-one_outcome_of_sector one asked files captures all =
-    one-or-empty asked.disk files (λ shown. (s : SectorShown) × IsSectorShown asked (Some files) s × (shown ≡ sector_outcome s))
-    (λ a b first second. first.2 ∙ ap sector_outcome (one asked files captures all first.0 second.0 first.1 second.1) ∙ sym second.2)
+-- the files, and which of them failed, decide the outcome of `show`, where the streams that came have lists of all readings
+module _ (one : ShownIsOne) (asked : SectorAsked) (files : List File) (captures : List (List NotedReading)) (start now start' now' : ShelfNow)
+    (mine : start.told.files ≡ Some files) (others : start'.told.files ≡ Some files) where
+  one_sector : (a b : SectorShown) (p : IsSectorShown asked start.told.files a) (q : IsSectorShown asked start'.told.files b)
+      → FailedAlike p.came q.came → AreReadingsOfCame asked p.came captures → a ≡ b
+  one_sector a b =
+      subst (λ (t : Option (List File)). (p : IsSectorShown asked t a) (q : IsSectorShown asked start'.told.files b) → FailedAlike p.came q.came → AreReadingsOfCame asked p.came captures → a ≡ b) (sym mine)
+      (subst (λ (t : Option (List File)). (p : IsSectorShown asked (Some files) a) (q : IsSectorShown asked t b) → FailedAlike p.came q.came → AreReadingsOfCame asked p.came captures → a ≡ b) (sym others)
+      (λ p q alike all. one asked files a b p q alike captures all))
+
+  pub one_outcome_of_sector : (a b : Outcome) (p : IsOutcomeOfSector asked start now a) (q : IsOutcomeOfSector asked start' now' b)
+      → ReadingsOfShown asked start now a p captures → FailedAsShown asked start now start' now' a b p q → a ≡ b
+  one_outcome_of_sector a b (inl (line, first, still, is)) (inl (other, second, still', is')) all alike =
+      is ∙ ap empty_outcome (one-empty asked.disk files _ _ mine others line other first second) ∙ sym is'
+  one_outcome_of_sector a b (inl (line, first, still, is)) (inr (none, (t, q, is'))) all alike = absurd (none-or-empty asked.disk files _ _ mine others line first none)
+  one_outcome_of_sector a b (inr (none, (s, p, is))) (inl (line, first, still, is')) all alike = absurd (none-or-empty asked.disk files _ _ others mine line first none)
+  one_outcome_of_sector a b (inr (none, (s, p, is))) (inr (none', (t, q, is'))) all alike = is ∙ ap sector_outcome (one_sector s t p.is q.is alike all) ∙ sym is'

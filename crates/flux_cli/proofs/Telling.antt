@@ -41,19 +41,19 @@ module _ {N : Type 0} (words : List (List ℕ)) (left after : Moment N) where
   told-counts false before line counts = subst (λ (m : Moment N). Counts false before m.counts) (sym line) counts
 
   -- and by those of all
-  module _ (source source' shelf shelf' image image' notes : FaultCounts) where
+  module _ (dumps : Bool) (source source' shelf shelf' image image' notes : FaultCounts) where
     pub counts-told : (status : Status) → ToldIf (is_told words status) left after
-        → CountsOfRun false status (all_counts source shelf image notes) (all_counts source' shelf' image' left.counts)
-        → CountsOfRun (is_told words status) status (all_counts source shelf image notes) (all_counts source' shelf' image' after.counts)
-    counts-told AllGood told c = subst (λ (m : Moment N). CountsOfRun false AllGood (all_counts source shelf image notes) (all_counts source' shelf' image' m.counts)) (sym told) c
-    counts-told NotAllGood told c = subst (λ (m : Moment N). CountsOfRun false NotAllGood (all_counts source shelf image notes) (all_counts source' shelf' image' m.counts)) (sym told) c
-    counts-told Refused told c = subst (λ (m : Moment N). CountsOfRun false Refused (all_counts source shelf image notes) (all_counts source' shelf' image' m.counts)) (sym told) c
-    counts-told Usage told c = subst (λ (m : Moment N). CountsOfRun false Usage (all_counts source shelf image notes) (all_counts source' shelf' image' m.counts)) (sym told) c
-    counts-told ReadFault told c = subst (λ (m : Moment N). CountsOfRun false ReadFault (all_counts source shelf image notes) (all_counts source' shelf' image' m.counts)) (sym told) c
+        → CountsOfRun dumps false status (all_counts source shelf image notes) (all_counts source' shelf' image' left.counts)
+        → CountsOfRun dumps (is_told words status) status (all_counts source shelf image notes) (all_counts source' shelf' image' after.counts)
+    counts-told AllGood told c = subst (λ (m : Moment N). CountsOfRun dumps false AllGood (all_counts source shelf image notes) (all_counts source' shelf' image' m.counts)) (sym told) c
+    counts-told NotAllGood told c = subst (λ (m : Moment N). CountsOfRun dumps false NotAllGood (all_counts source shelf image notes) (all_counts source' shelf' image' m.counts)) (sym told) c
+    counts-told Refused told c = subst (λ (m : Moment N). CountsOfRun dumps false Refused (all_counts source shelf image notes) (all_counts source' shelf' image' m.counts)) (sym told) c
+    counts-told Usage told c = subst (λ (m : Moment N). CountsOfRun dumps false Usage (all_counts source shelf image notes) (all_counts source' shelf' image' m.counts)) (sym told) c
+    counts-told ReadFault told c = subst (λ (m : Moment N). CountsOfRun dumps false ReadFault (all_counts source shelf image notes) (all_counts source' shelf' image' m.counts)) (sym told) c
     counts-told ImageFault told c = record { source = c.source; shelf = c.shelf; image = c.image; notes = told-counts (tells_faults words) notes told c.notes }
-    counts-told NotesFault told c = subst (λ (m : Moment N). CountsOfRun false NotesFault (all_counts source shelf image notes) (all_counts source' shelf' image' m.counts)) (sym told) c
-    counts-told Memory told c = subst (λ (m : Moment N). CountsOfRun false Memory (all_counts source shelf image notes) (all_counts source' shelf' image' m.counts)) (sym told) c
-    counts-told ShelfFault told c = subst (λ (m : Moment N). CountsOfRun false ShelfFault (all_counts source shelf image notes) (all_counts source' shelf' image' m.counts)) (sym told) c
+    counts-told NotesFault told c = subst (λ (m : Moment N). CountsOfRun dumps false NotesFault (all_counts source shelf image notes) (all_counts source' shelf' image' m.counts)) (sym told) c
+    counts-told Memory told c = subst (λ (m : Moment N). CountsOfRun dumps false Memory (all_counts source shelf image notes) (all_counts source' shelf' image' m.counts)) (sym told) c
+    counts-told ShelfFault told c = subst (λ (m : Moment N). CountsOfRun dumps false ShelfFault (all_counts source shelf image notes) (all_counts source' shelf' image' m.counts)) (sym told) c
 
 -- what a run over all objects left before the line, and what is said of it behind the line
 module _ {S W N H : Type 0} {words : List (List ℕ)} {status : Status} {before left : Surroundings S W N H} (ran : Ran words status before left) (notes : Moment N)

@@ -1,6 +1,8 @@
 -- Whom a status blames: of which object of the outside it tells a fault.
-use Rattle.std.specs.Prelude.{Bool, true, false}
-use Rattle.flux_base.specs.Blames.{Blame, is_image, is_notes, is_source, no_one, the_source, the_image, the_notes}
+use Rattle.std.specs.Prelude.{◌≡◌, ◌<◌, ◌||◌, ℕ, Bool, true, false, List, [], ◌∷◌, codes}
+use Rattle.std.specs.Str.{bytes_eq}
+use Rattle.dump_reading.specs.Files.{CountsMany}
+use Rattle.flux_base.specs.Blames.{Blame, OutsideCounts, is_image, is_notes, is_source, no_one, the_source, the_image, the_notes}
 use Rattle.flux_base.specs.Counts.{Counts, FaultCounts}
 use Rattle.flux_base.specs.declared.status.Status.{Status}
 use Rattle.flux_base.specs.declared.status.Status.TheVariants.{ReadFault, ImageFault, NotesFault, ShelfFault}
@@ -17,6 +19,30 @@ shelf_blame ShelfFault = the_source
 shelf_blame ImageFault = the_image
 shelf_blame NotesFault = the_notes
 shelf_blame _ = no_one
+
+-- words that read dumps begin so
+abbrev pub reads_dumps : (words : List (List ℕ)) → Bool
+reads_dumps [] = false
+reads_dumps (first ∷ others) = bytes_eq first (codes "read") || (bytes_eq first (codes "identify") || bytes_eq first (codes "show"))
+
+-- how often files failed under such words, by the status: where it tells so, or a fault of a sink, and else never
+abbrev pub FailsOften : Status → (often : ℕ) → Type 0
+FailsOften ShelfFault often = 0 < often
+FailsOften ImageFault often = Unit {0}
+FailsOften NotesFault often = Unit {0}
+FailsOften _ often = often ≡ 0
+
+-- The shelf failed once where its fault is told, in the last call of all that could, and else never. Under words that read dumps files that fail are
+-- passed over: it failed as often as they did.
+abbrev pub CountsOfShelf : (dumps : Bool) → Status → (before after : FaultCounts) → Type 0
+CountsOfShelf false status before after = Counts (is_source (shelf_blame status)) before after
+CountsOfShelf true status before after = (often : ℕ) × FailsOften status often × CountsMany often before after
+
+-- over the shelf, which stands in the source's place
+pub record CountsOnShelf (dumps : Bool) (status : Status) (before after : OutsideCounts) : Type 0 where
+  pub shelf : CountsOfShelf dumps status before.source after.source
+  pub image : Counts (is_image (shelf_blame status)) before.image after.image
+  pub notes : Counts (is_notes (shelf_blame status)) before.notes after.notes
 
 -- the counts of all objects at a moment
 pub record AllCounts : Type 0 where
@@ -36,8 +62,8 @@ CountsOfNotes true fails before after = (cut : Bool) × Counts cut before after
 -- A run failed for the sake of the object whose fault its status tells, which failed once, in the last call that could, and no other one did: so after
 -- a fault nothing more was called that could fail, and a run that finished had none. Where a fault of the output is told, the notes were called behind
 -- it, for one line alone, and may have failed once too.
-pub record CountsOfRun (told : Bool) (status : Status) (before after : AllCounts) : Type 0 where
+pub record CountsOfRun (dumps told : Bool) (status : Status) (before after : AllCounts) : Type 0 where
   pub source : Counts (is_source (source_blame status)) before.source after.source
-  pub shelf : Counts (is_source (shelf_blame status)) before.shelf after.shelf
+  pub shelf : CountsOfShelf dumps status before.shelf after.shelf
   pub image : Counts (is_image (source_blame status)) before.image after.image
   pub notes : CountsOfNotes told (is_notes (source_blame status)) before.notes after.notes

@@ -1,7 +1,7 @@
 -- How a command ends by what its work answered: with a status, or with a line to the notes that says why the input is refused.
 use Rattle.std.specs.Prelude.{◌≡◌, ℕ, List, Option, None, Result, Ok, Err}
 use Rattle.dump_reading.specs.declared.fault.DumpsFault.{DumpsFault}
-use Rattle.dump_reading.specs.declared.fault.DumpsFault.TheVariants.{NoFiles, ShelfFault as DumpsUnread, ImageFault as DumpsUnwritten, NotesFault as DumpsUntold}
+use Rattle.dump_reading.specs.declared.fault.DumpsFault.TheVariants.{NoFiles, ImageFault as DumpsUnwritten, NotesFault as DumpsUntold}
 use Rattle.flux_base.specs.Blames.{Blame, no_one}
 use Rattle.flux_base.specs.Moments.{Moment, Puts}
 use Rattle.flux_base.specs.declared.outside.Failed.{Failed}
@@ -84,7 +84,6 @@ file_ending (Err (FileRefused fault)) = refuses (g64_text fault)
 -- what was asked of dumps and was not done, or not all, by the line that refuses it
 abbrev pub fault_ending : (line : List ℕ) → DumpsFault → Ending
 fault_ending line (NoFiles dump) = refuses line
-fault_ending line DumpsUnread = ends ShelfFault
 fault_ending line DumpsUnwritten = ends ImageFault
 fault_ending line DumpsUntold = ends NotesFault
 

@@ -1,6 +1,7 @@
 -- What `decode-folder` does: `decode` with the shelf as its source, once the shelf has all wanted files.
 use Rattle.std.specs.Prelude.{◌≡◌, ◌≢◌, ◌⊎◌, ◌<◌, ◌≤◌, ℕ, List, length, Option, Some, None, Result, Ok, Err, IfOk, IfSome, OnErr}
 use Rattle.std.specs.List.{slice_get}
+use Rattle.dump_reading.specs.Files.{ShelfNow, shelf_now}
 use Rattle.flux_base.specs.Moments.{Moment}
 use Rattle.flux_base.specs.Outside.{Rose}
 use Rattle.flux_base.specs.declared.outside.Failed.{Failed}
@@ -10,28 +11,36 @@ use Rattle.flux_base.specs.declared.track.TrackId.{TrackId}
 use Rattle.sector_images.specs.Places.{tracks}
 use Rattle.sector_images.specs.declared.format.Format.{Format}
 use Rattle.track_shelf.specs.Files.{File, LeavesWanted, NamesMissing}
+use Rattle.track_shelf.specs.Handled.{Handled}
 use Rattle.track_shelf.specs.Names.{missing_text}
-use Rattle.track_shelf.specs.Told.{ShelfTold}
+use Rattle.track_shelf.specs.Told.{ShelfTold, with_failed}
 use Rattle.flux_cli.specs.Runs.{Does, Outside, growth}
 use Rattle.flux_cli.specs.Work.{Got, GotPart}
 use Rattle.flux_words.specs.declared.command.Command.TheVariants.{Decode}
 
--- the shelf at a moment: as a source, with what each of its reads so far gave, and the files that lie on it, if it tells them
+-- the shelf at a moment: as a source, with what each of its reads so far gave; the files that lie on it, and which of them are open and which failed, if
+-- it tells them
 pub record ShelfMoment (H : Type 0) : Type 0 where
   pub source : Moment H
   pub given : Option (List (List ℕ))
   pub files : Option (List File)
+  pub handled : Option Handled
 
-abbrev pub shelf_moment : {H : Type 0} → Moment H → Option (List (List ℕ)) → Option (List File) → ShelfMoment H
-shelf_moment source given files = record { source = source; given = given; files = files }
+abbrev pub shelf_moment : {H : Type 0} → Moment H → Option (List (List ℕ)) → Option (List File) → Option Handled → ShelfMoment H
+shelf_moment source given files handled = record { source = source; given = given; files = files; handled = handled }
 
 -- what the shelf tells of itself at that moment
 abbrev pub told_at : {H : Type 0} → ShelfMoment H → ShelfTold
-told_at now = record { files = now.files; left = now.source.bytes; given = now.given }
+told_at now = record { files = now.files; left = now.source.bytes; given = now.given; handled = now.handled }
 
--- The shelf stayed as it was but for how often it failed: the files that lie on it, its own bytes as a source, and what its reads gave.
+-- that, and what it has counted
+abbrev pub now_at : {H : Type 0} → ShelfMoment H → ShelfNow
+now_at now = shelf_now (told_at now) now.source.counts
+
+-- The shelf stayed as it was but for how often it failed, and for which of its files did: the files that lie on it, none of which is open that was not,
+-- its own bytes as a source, and what its reads gave.
 abbrev pub ShelfStays : {H : Type 0} → (before after : ShelfMoment H) → Type 0
-ShelfStays before after = told_at after ≡ told_at before
+ShelfStays before after = (paths : List (List ℕ)) × (told_at after ≡ with_failed paths (told_at before))
 
 -- the shelf and both sinks at a moment
 pub record OnShelf (H W N : Type 0) : Type 0 where
@@ -52,6 +61,7 @@ pub record Began {H : Type 0} (folder : List ℕ) (format : Format) (answer : Re
   pub missing : NamesMissing before.files folder format answer
   pub left : LeavesWanted before.files folder format answer before.source.bytes after.source.bytes
   pub kept : after.files ≡ before.files
+  pub unhandled : after.handled ≡ before.handled
   pub unread : after.given ≡ before.given
   pub later : before.source.counts.faults ≤ after.source.counts.faults
   pub cause : OnErr answer (Rose before.source.counts.faults after.source.counts.faults)

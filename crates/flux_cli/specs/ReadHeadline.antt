@@ -1,7 +1,7 @@
 -- What is known of what `read` gives, the image and the report or a picture, where the shelf tells its files.
 use Rattle.std.specs.Prelude.{◌≡◌, ◌<◌, ◌↔◌, IsTrue, ℕ, List, [], get_or, length, Some}
 use Rattle.disk_map.specs.Dumps.{IsDumpsDrawn, ShowsReport}
-use Rattle.dump_reading.specs.Outcomes.{DumpDisk, DumpsRead, IsDumpsRead, IsFirstEmpty}
+use Rattle.dump_reading.specs.Outcomes.{DumpDisk, DumpsRead, FilesFailed, IsDumpsRead, IsFirstEmpty}
 use Rattle.dump_reading.specs.Totals.{is_complete}
 use Rattle.flux_base.specs.Outside.{Rose}
 use Rattle.flux_base.specs.declared.status.Status.{Status}
@@ -21,7 +21,7 @@ use Rattle.track_shelf.specs.Files.{File}
 use Rattle.turn_merge.specs.Readings.{verdict}
 use Rattle.flux_words.specs.DumpWords.{AreReadWords, Asked, CanBeRead, shown_of}
 use Rattle.flux_cli.specs.AskedDisks.{asked_disk}
-use Rattle.flux_cli.specs.FolderRuns.{OnShelf}
+use Rattle.flux_cli.specs.FolderRuns.{OnShelf, now_at}
 use Rattle.flux_cli.specs.ReadRuns.{read_status}
 use Rattle.flux_cli.specs.Runs.{growth}
 use Rattle.flux_cli.specs.Work.{Got}
@@ -54,13 +54,15 @@ pub record OfDumps (disk : DumpDisk) (files : List File) (d : DumpsRead) : Type 
       → (dump : ℕ) → dump < length disk.dumps → ¬ HasFailed (came_in is) n dump → HasWhole disk files image n dump sector
       → ((other : ℕ) → other < length disk.dumps → IsSteadyOrPassed disk (came_in is) files image n other) → IsReadWell disk (came_in is) image d n sector
 
--- the sinks got the image and the report of the dumps
+-- The sinks got the image and the report of the dumps. All that the shelf did is that those files failed that the report tells so, in their order, and
+-- none is open that was not.
 pub record GaveDumps {H W N : Type 0} (disk : DumpDisk) (files : List File) (status : Status) (before after : OnShelf H W N) : Type 0 where
   pub read : DumpsRead
   pub status_is : status ≡ read_status read.totals
   pub image_got : Got (growth before.image after.image) read.image
   pub notes_got : Got (growth before.notes after.notes) read.notes
   pub holds : OfDumps disk files read
+  pub shelf : FilesFailed disk (now_at before.shelf) (now_at after.shelf) holds.is.streams
 
 -- The image sink got a picture of the dumps, and the notes nothing. The picture is that of a report of the same dumps: in each track it has
 -- the fields of the sectors whose lines this report has, by the same readings, and the same numbers; and what the report says is borne out.
@@ -72,6 +74,7 @@ pub record GavePicture {H W N : Type 0} (disk : DumpDisk) (files : List File) (s
   pub notes_got : Got (growth before.notes after.notes) []
   pub shows : ShowsReport disk (Some files) drawn is
   pub holds : OfDumps disk files shows.report
+  pub shelf : FilesFailed disk (now_at before.shelf) (now_at after.shelf) holds.is.streams
 
 -- what was given, by what is shown of the verdicts
 abbrev pub GaveShown : {H W N : Type 0} → Shown → DumpDisk → List File → Status → (before after : OnShelf H W N) → Type 0
@@ -86,7 +89,8 @@ pub record GaveEmpty {H W N : Type 0} (disk : DumpDisk) (files : List File) (bef
   pub image_got : Got (growth before.image after.image) []
   pub notes_got : Got (growth before.notes after.notes) (empty_text number (get_or disk.dumps number []) (kind_in files (get_or disk.dumps number [])))
 
--- or a dump has none of the files; or a fault of one object, which that object counted, cut the run; or there was no memory to begin
+-- Or a dump has none of the files; or a fault of a sink, which it counted, cut the run; or there was no memory to begin. Files that failed cut nothing: all
+-- else was read and given.
 abbrev pub GaveDumpsOrCut : {H W N : Type 0} → Shown → DumpDisk → List File → Status → (before after : OnShelf H W N) → Type 0
 GaveDumpsOrCut shown disk files AllGood before after = GaveShown shown disk files AllGood before after
 GaveDumpsOrCut shown disk files NotAllGood before after = GaveShown shown disk files NotAllGood before after
@@ -96,7 +100,7 @@ GaveDumpsOrCut shown disk files ReadFault before after = ⊥
 GaveDumpsOrCut shown disk files ImageFault before after = Rose before.image.counts.faults after.image.counts.faults
 GaveDumpsOrCut shown disk files NotesFault before after = Rose before.notes.counts.faults after.notes.counts.faults
 GaveDumpsOrCut shown disk files Memory before after = after ≡ before
-GaveDumpsOrCut shown disk files ShelfFault before after = Rose before.shelf.source.counts.faults after.shelf.source.counts.faults
+GaveDumpsOrCut shown disk files ShelfFault before after = GaveShown shown disk files ShelfFault before after
 
 -- The headline of `read`.
 abbrev pub ReadsAsExpected : {H W N : Type 0} → (words : List (List ℕ)) → Status → (before after : OnShelf H W N) → Type 0

@@ -12,11 +12,12 @@ use crate::empty::write_empty;
 use crate::identity::status_of as status_of_identity;
 use crate::planned::stop_line;
 use crate::read::status_of as status_of_dumps;
-use dump_identity::Finding;
+use dump_identity::Identity;
 use dump_reading::{DumpTotals, DumpsFault};
 use flux_base::{Failed, Sink, Status, Word};
 use flux_engine::{EngineFault, PlanFault, WriteFault};
 use g64_image::{FromStop, g64_line};
+use sector_copies::SectorTotals;
 use sector_report::{Line, Naming, Totals, image_line, refused_line, write_line};
 use track_shelf::Shelf;
 
@@ -119,7 +120,6 @@ fn end_of_fault<H: Shelf, N: Sink>(
             let word = word_at(dumps, dump);
             refused_by(write_empty(dump, word, &shelf.kind_of(word), notes))
         }
-        DumpsFault::ShelfFault => Status::ShelfFault,
         DumpsFault::ImageFault => Status::ImageFault,
         DumpsFault::NotesFault => Status::NotesFault,
     }
@@ -162,7 +162,7 @@ pub(crate) fn end_of_dumps<H: Shelf, N: Sink>(
 
 /// Ends a dump of which is said which disk it is of.
 pub(crate) fn end_of_identity<H: Shelf, N: Sink>(
-    answer: Result<Option<Finding>, DumpsFault>,
+    answer: Result<Identity, DumpsFault>,
     dumps: &[Word],
     shelf: &H,
     notes: &mut N,
@@ -170,14 +170,14 @@ pub(crate) fn end_of_identity<H: Shelf, N: Sink>(
     ensures { EndsDumps (H.files shelf.now) dumps.now identity_status answer result (moment N.written N.faults N.failed notes.old) (moment N.written N.faults N.failed notes.new) }
 {
     match answer {
-        Ok(best) => status_of_identity(&best),
+        Ok(identity) => status_of_identity(&identity),
         Err(fault) => end_of_fault(fault, dumps, shelf, notes),
     }
 }
 
 /// Ends a sector that was shown as the dumps have it.
 pub(crate) fn end_of_sector<H: Shelf, N: Sink>(
-    answer: Result<usize, DumpsFault>,
+    answer: Result<SectorTotals, DumpsFault>,
     dumps: &[Word],
     shelf: &H,
     notes: &mut N,
@@ -185,16 +185,18 @@ pub(crate) fn end_of_sector<H: Shelf, N: Sink>(
     ensures { EndsDumps (H.files shelf.now) dumps.now sector_status answer result (moment N.written N.faults N.failed notes.old) (moment N.written N.faults N.failed notes.new) }
 {
     match answer {
-        Ok(copies) => status_of_copies(copies),
+        Ok(totals) => status_of_sector(&totals),
         Err(fault) => end_of_fault(fault, dumps, shelf, notes),
     }
 }
 
-/// Whether good readings of a sector hold one content.
-fn status_of_copies(copies: usize) -> Status
-    ensures { result ≡ sector_status copies }
+/// Whether a file failed, and else whether good readings of a sector hold one content.
+fn status_of_sector(totals: &SectorTotals) -> Status
+    ensures { result ≡ sector_status totals.now }
 {
-    if copies == 1 {
+    if totals.lost > 0 {
+        Status::ShelfFault
+    } else if totals.copies == 1 {
         Status::AllGood
     } else {
         Status::NotAllGood

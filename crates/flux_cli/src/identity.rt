@@ -3,14 +3,17 @@
 ghost use Rattle.std.specs.Prelude.{◌≡◌};
 ghost use Rattle.flux_cli.specs.IdentityRuns.{identity_status};
 
-use dump_identity::Finding;
+use dump_identity::Identity;
 use flux_base::Status;
 
-/// Whether one disk explains all of the dump.
-pub(crate) fn status_of(best: &Option<Finding>) -> Status
-    ensures { result ≡ identity_status best.now }
+/// Whether a file failed, and else whether one disk explains all of the dump.
+pub(crate) fn status_of(identity: &Identity) -> Status
+    ensures { result ≡ identity_status identity.now }
 {
-    match best {
+    if identity.failed {
+        return Status::ShelfFault;
+    }
+    match &identity.best {
         Some(finding) if finding.is_complete() => Status::AllGood,
         _ => Status::NotAllGood,
     }

@@ -1,7 +1,7 @@
 ghost use Rattle.std.specs.Prelude.{false};
 ghost use Rattle.flux_base.specs.Blames.{CountsBy, three_counts};
 ghost use Rattle.flux_base.specs.Counts.{counts_of};
-ghost use Rattle.flux_cli.specs.Blamed.{CountsOfRun, all_counts, source_blame};
+ghost use Rattle.flux_cli.specs.Blamed.{CountsOfRun, all_counts, reads_dumps, source_blame};
 ghost use Rattle.flux_base.specs.Moments.{moment};
 ghost use Rattle.flux_cli.specs.Captured.{FolderCaptured, FolderErased, RunsCaptured, RunsErased};
 ghost use Rattle.flux_cli.specs.FolderRuns.{on, shelf_moment};
@@ -53,13 +53,13 @@ pub fn run<S: Source, W: Sink, N: Sink, H: Shelf>(
     // Behind a fault of the output, under words that the usage line does not name, the notes got one line more, or a front of it.
     ensures ran { RanAndTold words.now result
         (surroundings (outside (moment S.left S.faults S.failed source.old) (S.given source.old) (moment W.written W.faults W.failed image.old) (moment N.written N.faults N.failed notes.old))
-        (shelf_moment (moment H.left H.faults H.failed shelf.old) (H.given shelf.old) (H.files shelf.old)))
+        (shelf_moment (moment H.left H.faults H.failed shelf.old) (H.given shelf.old) (H.files shelf.old) (H.handled shelf.old)))
         (surroundings (outside (moment S.left S.faults S.failed source.new) (S.given source.new) (moment W.written W.faults W.failed image.new) (moment N.written N.faults N.failed notes.new))
-        (shelf_moment (moment H.left H.faults H.failed shelf.new) (H.given shelf.new) (H.files shelf.new))) }
+        (shelf_moment (moment H.left H.faults H.failed shelf.new) (H.given shelf.new) (H.files shelf.new) (H.handled shelf.new))) }
 
     // A fault of one object is told where that object failed once, in the last call of all that could, and no other one failed; and a run that finished
-    // had no fault. Where the notes got a line behind a fault of the output, they may have failed once too, in that line.
-    ensures counts { CountsOfRun (is_told words.now result) result
+    // had no fault; but under words that read dumps the shelf failed as often as files did that were passed over. Where the notes got a line behind a fault of the output, they may have failed once too, in that line.
+    ensures counts { CountsOfRun (reads_dumps words.now) (is_told words.now result) result
         (all_counts (counts_of S.faults S.failed source.old) (counts_of H.faults H.failed shelf.old) (counts_of W.faults W.failed image.old) (counts_of N.faults N.failed notes.old))
         (all_counts (counts_of S.faults S.failed source.new) (counts_of H.faults H.failed shelf.new) (counts_of W.faults W.failed image.new) (counts_of N.faults N.failed notes.new)) }
 
@@ -88,11 +88,11 @@ pub fn run<S: Source, W: Sink, N: Sink, H: Shelf>(
 
     // The same of `decode-folder`, where the files of a folder are such streams and none is missing.
     ensures folder_captured { FolderCaptured words.now result
-        (on (shelf_moment (moment H.left H.faults H.failed shelf.old) (H.given shelf.old) (H.files shelf.old)) (moment W.written W.faults W.failed image.old) (moment N.written N.faults N.failed notes.old))
-        (on (shelf_moment (moment H.left H.faults H.failed shelf.new) (H.given shelf.new) (H.files shelf.new)) (moment W.written W.faults W.failed image.new) (moment N.written N.faults N.failed notes.new)) }
+        (on (shelf_moment (moment H.left H.faults H.failed shelf.old) (H.given shelf.old) (H.files shelf.old) (H.handled shelf.old)) (moment W.written W.faults W.failed image.old) (moment N.written N.faults N.failed notes.old))
+        (on (shelf_moment (moment H.left H.faults H.failed shelf.new) (H.given shelf.new) (H.files shelf.new) (H.handled shelf.new)) (moment W.written W.faults W.failed image.new) (moment N.written N.faults N.failed notes.new)) }
     ensures folder_erased { FolderErased words.now result
-        (on (shelf_moment (moment H.left H.faults H.failed shelf.old) (H.given shelf.old) (H.files shelf.old)) (moment W.written W.faults W.failed image.old) (moment N.written N.faults N.failed notes.old))
-        (on (shelf_moment (moment H.left H.faults H.failed shelf.new) (H.given shelf.new) (H.files shelf.new)) (moment W.written W.faults W.failed image.new) (moment N.written N.faults N.failed notes.new)) }
+        (on (shelf_moment (moment H.left H.faults H.failed shelf.old) (H.given shelf.old) (H.files shelf.old) (H.handled shelf.old)) (moment W.written W.faults W.failed image.old) (moment N.written N.faults N.failed notes.old))
+        (on (shelf_moment (moment H.left H.faults H.failed shelf.new) (H.given shelf.new) (H.files shelf.new) (H.handled shelf.new)) (moment W.written W.faults W.failed image.new) (moment N.written N.faults N.failed notes.new)) }
 
     // Of `read`, where the shelf tells its files: each sector's line and its bytes are those that all readings of the dumps bear out, and
     // each line that has the text of a sector's line, or of a stream's that is passed over, is that one. All is good exactly where each
@@ -101,8 +101,8 @@ pub fn run<S: Source, W: Sink, N: Sink, H: Shelf>(
     // its own bytes; it is good where the other files are captures too or passed over and the drives kept their speed. A picture of
     // them is that of such a report.
     ensures dumps { ReadsAsExpected words.now result
-        (on (shelf_moment (moment H.left H.faults H.failed shelf.old) (H.given shelf.old) (H.files shelf.old)) (moment W.written W.faults W.failed image.old) (moment N.written N.faults N.failed notes.old))
-        (on (shelf_moment (moment H.left H.faults H.failed shelf.new) (H.given shelf.new) (H.files shelf.new)) (moment W.written W.faults W.failed image.new) (moment N.written N.faults N.failed notes.new)) }
+        (on (shelf_moment (moment H.left H.faults H.failed shelf.old) (H.given shelf.old) (H.files shelf.old) (H.handled shelf.old)) (moment W.written W.faults W.failed image.old) (moment N.written N.faults N.failed notes.old))
+        (on (shelf_moment (moment H.left H.faults H.failed shelf.new) (H.given shelf.new) (H.files shelf.new) (H.handled shelf.new)) (moment W.written W.faults W.failed image.new) (moment N.written N.faults N.failed notes.new)) }
 {
     words_name_formats();
     captured_disks_decode();
@@ -138,10 +138,10 @@ fn run_words<S: Source, W: Sink, N: Sink, H: Shelf>(
 ) -> Status
     ensures ran { Ran words.now result
         (surroundings (outside (moment S.left S.faults S.failed source.old) (S.given source.old) (moment W.written W.faults W.failed image.old) (moment N.written N.faults N.failed notes.old))
-        (shelf_moment (moment H.left H.faults H.failed shelf.old) (H.given shelf.old) (H.files shelf.old)))
+        (shelf_moment (moment H.left H.faults H.failed shelf.old) (H.given shelf.old) (H.files shelf.old) (H.handled shelf.old)))
         (surroundings (outside (moment S.left S.faults S.failed source.new) (S.given source.new) (moment W.written W.faults W.failed image.new) (moment N.written N.faults N.failed notes.new))
-        (shelf_moment (moment H.left H.faults H.failed shelf.new) (H.given shelf.new) (H.files shelf.new))) }
-    ensures counts { CountsOfRun false result
+        (shelf_moment (moment H.left H.faults H.failed shelf.new) (H.given shelf.new) (H.files shelf.new) (H.handled shelf.new))) }
+    ensures counts { CountsOfRun (reads_dumps words.now) false result
         (all_counts (counts_of S.faults S.failed source.old) (counts_of H.faults H.failed shelf.old) (counts_of W.faults W.failed image.old) (counts_of N.faults N.failed notes.old))
         (all_counts (counts_of S.faults S.failed source.new) (counts_of H.faults H.failed shelf.new) (counts_of W.faults W.failed image.new) (counts_of N.faults N.failed notes.new)) }
 {

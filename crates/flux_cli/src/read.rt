@@ -1,10 +1,10 @@
 //! A disk that is read of its dumps, to its image and its report or to a picture.
 
-ghost use Rattle.std.specs.Prelude.{◌≢◌, ◌≡◌, ◌≤◌, length};
+ghost use Rattle.std.specs.Prelude.{◌≢◌, ◌≡◌, ◌≤◌, length, true};
 ghost use Rattle.flux_base.specs.declared.status.Status.{Status};
-ghost use Rattle.flux_base.specs.Blames.{CountsBy, three_counts};
+ghost use Rattle.flux_base.specs.Blames.{three_counts};
 ghost use Rattle.flux_base.specs.Counts.{counts_of};
-ghost use Rattle.flux_cli.specs.Blamed.{shelf_blame};
+ghost use Rattle.flux_cli.specs.Blamed.{CountsOnShelf};
 ghost use Rattle.dump_reading.specs.Outcomes.{disk_of};
 ghost use Rattle.flux_base.specs.Moments.{moment};
 ghost use Rattle.flux_cli.specs.FolderRuns.{on, shelf_moment};
@@ -32,9 +32,9 @@ pub fn show<H: Shelf, W: Sink, N: Sink>(
     requires fresh { room.old ≡ fresh room.old.format }
     requires few { length dumps.now.names.now ≤ 16 }
     ensures did { DidOnShelf (read_work shown (disk_of dumps.now room.old.format)) result
-        (on (shelf_moment (moment H.left H.faults H.failed shelf.old) (H.given shelf.old) (H.files shelf.old)) (moment W.written W.faults W.failed image.old) (moment N.written N.faults N.failed notes.old))
-        (on (shelf_moment (moment H.left H.faults H.failed shelf.new) (H.given shelf.new) (H.files shelf.new)) (moment W.written W.faults W.failed image.new) (moment N.written N.faults N.failed notes.new)) }
-    ensures blames { CountsBy (shelf_blame result)
+        (on (shelf_moment (moment H.left H.faults H.failed shelf.old) (H.given shelf.old) (H.files shelf.old) (H.handled shelf.old)) (moment W.written W.faults W.failed image.old) (moment N.written N.faults N.failed notes.old))
+        (on (shelf_moment (moment H.left H.faults H.failed shelf.new) (H.given shelf.new) (H.files shelf.new) (H.handled shelf.new)) (moment W.written W.faults W.failed image.new) (moment N.written N.faults N.failed notes.new)) }
+    ensures blames { CountsOnShelf true result
         (three_counts (counts_of H.faults H.failed shelf.old) (counts_of W.faults W.failed image.old) (counts_of N.faults N.failed notes.old))
         (three_counts (counts_of H.faults H.failed shelf.new) (counts_of W.faults W.failed image.new) (counts_of N.faults N.failed notes.new)) }
     ensures no_source { result ≢ Status.ReadFault }
@@ -51,11 +51,13 @@ pub fn show<H: Shelf, W: Sink, N: Sink>(
     }
 }
 
-/// Whether the image is all that can be read there.
+/// Whether a file failed, and else whether the image is all that can be read there.
 pub fn status_of(totals: &DumpTotals) -> Status
     ensures { result ≡ read_status totals.now }
 {
-    if totals.is_complete() {
+    if totals.lost > 0 {
+        Status::ShelfFault
+    } else if totals.is_complete() {
         Status::AllGood
     } else {
         Status::NotAllGood

@@ -1,11 +1,11 @@
 //! What a command over the shelf promises, whichever it is, and each of these commands.
 
-ghost use Rattle.std.specs.Prelude.{◌≢◌, ◌≤◌, ◌<◌, length};
-ghost use Rattle.flux_base.specs.Blames.{CountsBy, three_counts};
+ghost use Rattle.std.specs.Prelude.{◌≢◌, ◌≤◌, ◌<◌, Bool, true, false, length};
+ghost use Rattle.flux_base.specs.Blames.{three_counts};
 ghost use Rattle.flux_base.specs.Counts.{counts_of};
 ghost use Rattle.flux_base.specs.Moments.{moment};
 ghost use Rattle.flux_base.specs.declared.status.Status.{Status};
-ghost use Rattle.flux_cli.specs.Blamed.{shelf_blame};
+ghost use Rattle.flux_cli.specs.Blamed.{CountsOnShelf};
 ghost use Rattle.flux_words.specs.DumpWords.{asked_of};
 ghost use Rattle.flux_cli.specs.FolderRuns.{on, shelf_moment};
 ghost use Rattle.flux_words.specs.SectorWords.{asked_sector};
@@ -32,6 +32,9 @@ pub(crate) trait ShelfTask<H: Shelf, W: Sink, N: Sink> {
     /// What is asked of the shelf.
     ghost asked: { Self → OfShelf };
 
+    /// Whether it reads dumps, whose files that fail are passed over.
+    ghost over_dumps: { Self → Bool } = { λ _. true };
+
     /// What it keeps to.
     ghost is_bounded: { Self → Type 0 } = { λ _. Unit {0} };
 
@@ -39,9 +42,9 @@ pub(crate) trait ShelfTask<H: Shelf, W: Sink, N: Sink> {
     fn run(&self, alloc: Global, shelf: &mut H, image: &mut W, notes: &mut N) -> Status
         requires { is_bounded self.now }
         ensures did { DoesOnShelf (asked self.now) result
-            (on (shelf_moment (moment H.left H.faults H.failed shelf.old) (H.given shelf.old) (H.files shelf.old)) (moment W.written W.faults W.failed image.old) (moment N.written N.faults N.failed notes.old))
-            (on (shelf_moment (moment H.left H.faults H.failed shelf.new) (H.given shelf.new) (H.files shelf.new)) (moment W.written W.faults W.failed image.new) (moment N.written N.faults N.failed notes.new)) }
-        ensures blames { CountsBy (shelf_blame result)
+            (on (shelf_moment (moment H.left H.faults H.failed shelf.old) (H.given shelf.old) (H.files shelf.old) (H.handled shelf.old)) (moment W.written W.faults W.failed image.old) (moment N.written N.faults N.failed notes.old))
+            (on (shelf_moment (moment H.left H.faults H.failed shelf.new) (H.given shelf.new) (H.files shelf.new) (H.handled shelf.new)) (moment W.written W.faults W.failed image.new) (moment N.written N.faults N.failed notes.new)) }
+        ensures blames { CountsOnShelf (over_dumps self.now) result
             (three_counts (counts_of H.faults H.failed shelf.old) (counts_of W.faults W.failed image.old) (counts_of N.faults N.failed notes.old))
             (three_counts (counts_of H.faults H.failed shelf.new) (counts_of W.faults W.failed image.new) (counts_of N.faults N.failed notes.new)) }
         ensures no_source { result ≢ Status.ReadFault };
@@ -56,6 +59,8 @@ pub(crate) struct DecodeFolder<'a> {
 
 impl<H: Shelf, W: Sink, N: Sink> ShelfTask<H, W, N> for DecodeFolder<'_> {
     ghost asked = { λ task. a_folder task.format task.folder.now };
+
+    ghost over_dumps = { λ _. false };
 
     fn run(&self, alloc: Global, shelf: &mut H, image: &mut W, notes: &mut N) -> Status {
         match DiskRoom::reserve(alloc, self.format) {

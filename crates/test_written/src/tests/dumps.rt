@@ -154,6 +154,12 @@ const PASSED: &str = "00.0 dump 1 missing\n00.0 01 missing 0 0\n";
 const NONE_READ: &str =
     "unread 153 other 0 whole 0\ntotal 2002 good 0 bad 0 missing 2002 contradictory 0\n";
 
+/// The same where the first file failed.
+const LOST: &str = "00.0 dump 0 failed\n00.0 dump 1 missing\n00.0 01 missing 0 0\n";
+
+const LOST_READ: &str =
+    "unread 154 other 0 whole 0\ntotal 2002 good 0 bad 0 missing 2002 contradictory 0\n";
+
 const SHORT_ROWS: [Short; 7] = [
     (
         &["read", "ibm-3740", "a", "b"],
@@ -189,16 +195,30 @@ const SHORT_ROWS: [Short; 7] = [
         "refused dump 0 ",
         "b has files of other tracks alone\n",
     ),
-    // The shelf fails where files are looked for, and where those of the first track and of the second one are opened.
-    (&["read", "ibm-3740", "a", "b"], &[0], 8, 0, "", ""),
-    (&["read", "ibm-3740", "a", "b"], &[3], 8, 0, "", ""),
+    // A file that fails as it is opened or read is passed over, and all else is read.
     (
         &["read", "ibm-3740", "a", "b"],
-        &[6],
+        &[0],
         8,
-        3328,
+        256_256,
+        LOST,
+        LOST_READ,
+    ),
+    (
+        &["read", "ibm-3740", "a", "b"],
+        &[1],
+        8,
+        256_256,
+        LOST,
+        LOST_READ,
+    ),
+    (
+        &["read", "ibm-3740", "a", "b"],
+        &[3],
+        8,
+        256_256,
         PASSED,
-        "00.0 26 missing 0 0\n",
+        NONE_READ,
     ),
 ];
 
@@ -296,14 +316,14 @@ const DRAWN: [Drawn; 6] = [
         &["read", "--picture", "ibm-3740", "a", "b"],
         &[0],
         8,
-        "",
+        NONE_DRAWN,
         "",
     ),
     (
         &["read", "--picture", "ibm-3740", "a", "b"],
-        &[6],
+        &[3],
         8,
-        "><title>00.0 26 missing 0 0\n</title></path>\n",
+        NONE_DRAWN,
         "",
     ),
 ];

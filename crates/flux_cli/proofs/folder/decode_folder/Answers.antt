@@ -14,7 +14,7 @@ pub returns-in-ReadFault-clause-did : goal.returns-in-ReadFault-clause-did
 returns-in-ReadFault-clause-did g c =
     let e = c.begin.ensures in
     folder-decodes c.args.format c.args.folder.now _ _ _ c.begin.result _
-    (record { bound = e.bound; missing = e.missing; left = e.left; kept = e.kept; unread = e.unread; later = e.later; cause = e.cause })
+    (record { bound = e.bound; missing = e.missing; left = e.left; kept = e.kept; unhandled = e.unhandled; unread = e.unread; later = e.later; cause = e.cause })
     (c.in-Ok-None.is ∙ ap Ok c.in-Ok-None.field-0-is)
     (record { inner = ReadFault; status_is = refl; enough = λ same. c.decode.ensures.memory (c.in-ReadFault.is ∙ same); does = rw c.requires at c.in-ReadFault.ensures.does })
 
@@ -22,7 +22,7 @@ pub returns-in_default-clause-did : goal.returns-in_default-clause-did
 returns-in_default-clause-did g c =
     let e = c.begin.ensures in
     folder-decodes c.args.format c.args.folder.now _ _ _ c.begin.result _
-    (record { bound = e.bound; missing = e.missing; left = e.left; kept = e.kept; unread = e.unread; later = e.later; cause = e.cause })
+    (record { bound = e.bound; missing = e.missing; left = e.left; kept = e.kept; unhandled = e.unhandled; unread = e.unread; later = e.later; cause = e.cause })
     (c.in-Ok-None.is ∙ ap Ok c.in-Ok-None.field-0-is)
     (record { inner = c.decode.result; status_is = other_status c.decode.result c.in_default.not-ReadFault; enough = c.decode.ensures.memory; does = rw c.requires at c.decode.ensures.does })
 
@@ -33,7 +33,7 @@ pub returns-in-Ok-Some-clause-did : goal.returns-in-Ok-Some-clause-did
 returns-in-Ok-Some-clause-did g c =
     let e = c.begin.ensures in
     folder-lacks c.args.format c.args.folder.now _ _ _ c.begin.result _
-    (record { bound = e.bound; missing = e.missing; left = e.left; kept = e.kept; unread = e.unread; later = e.later; cause = e.cause })
+    (record { bound = e.bound; missing = e.missing; left = e.left; kept = e.kept; unhandled = e.unhandled; unread = e.unread; later = e.later; cause = e.cause })
     c.in-Ok-Some.number (c.in-Ok-Some.is ∙ ap Ok c.in-Ok-Some.field-0-is)
     (missing-refused _ _ _ _ c.refuse.result c.args.format c.in-Ok-Some.number c.track_id.result c.track_id.ensures.at (rw c.missing_line.ensures at c.refuse.ensures))
 
@@ -41,7 +41,7 @@ pub returns-in-Err-clause-did : goal.returns-in-Err-clause-did
 returns-in-Err-clause-did g c =
     let e = c.begin.ensures in
     folder-fails c.args.format c.args.folder.now _ _ _ c.begin.result _
-    (record { bound = e.bound; missing = e.missing; left = e.left; kept = e.kept; unread = e.unread; later = e.later; cause = e.cause })
+    (record { bound = e.bound; missing = e.missing; left = e.left; kept = e.kept; unhandled = e.unhandled; unread = e.unread; later = e.later; cause = e.cause })
     c.in-Err.field-0 c.in-Err.is refl refl
 
 pub missing_line-requires-clause-cylinder : goal.missing_line-requires-clause-cylinder

@@ -1,4 +1,5 @@
 use Rattle.flux_base.specs.Moments.{Moment, moment}
+use Rattle.flux_cli.specs.Blamed.{reads_dumps}
 use Rattle.flux_cli.proofs.Captured.{folder_captured, folder_erased, runs_captured, runs_erased}
 use Rattle.flux_cli.proofs.Headlines.{Laws, runs_as_expected}
 use Rattle.flux_cli.proofs.ReadHeadline.{reads_as_expected}
@@ -34,7 +35,7 @@ pub returns-clause-ran : goal.returns-clause-ran
 returns-clause-ran g c = ran-told c.run_words-status.ensures.ran (behind g c) c.tell_output.ensures
 
 pub returns-clause-counts : goal.returns-clause-counts
-returns-clause-counts g c = counts-told c.args.words.now _ (behind g c) _ _ _ _ _ _ _ c.run_words-status.result c.tell_output.ensures c.run_words-status.ensures.counts
+returns-clause-counts g c = counts-told c.args.words.now _ (behind g c) (reads_dumps c.args.words.now) _ _ _ _ _ _ _ c.run_words-status.result c.tell_output.ensures c.run_words-status.ensures.counts
 
 pub returns-clause-captured : goal.returns-clause-captured
 returns-clause-captured g c =
