@@ -111,6 +111,7 @@ module _ (laws : DumpLaws) {H W N : Type 0} (disk : DumpDisk) (files : List File
   -- the sinks got what the numbers say, and the shelf did what is told
   gave_shown : (shown : Shown) (status : Status) (d : DumpsRead) → IsShown shown disk (now_at before.shelf) (now_at after.shelf) d → status ≡ read_status d.totals
       → Got (growth before.image after.image) d.image → Got (growth before.notes after.notes) d.notes → GaveShown shown disk files status before after
+  unfolding of_dumps
   gave_shown Image status d read status_is image_got notes_got =
       let here : (is : IsDumpsRead disk (Some files) d) × FilesFailed disk (now_at before.shelf) (now_at after.shelf) is.streams =
           subst (λ (t : Option (List File)). (is : IsDumpsRead disk t d) × FilesFailed disk (now_at before.shelf) (now_at after.shelf) is.streams) told read in
