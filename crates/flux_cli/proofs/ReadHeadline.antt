@@ -114,7 +114,7 @@ module _ (laws : DumpLaws) {H W N : Type 0} (disk : DumpDisk) (files : List File
   unfolding of_dumps
   gave_shown Image status d read status_is image_got notes_got =
       let here : (is : IsDumpsRead disk (Some files) d) × FilesFailed disk (now_at before.shelf) (now_at after.shelf) is.streams =
-          subst (λ (t : Option (List File)). (is : IsDumpsRead disk t d) × FilesFailed disk (now_at before.shelf) (now_at after.shelf) is.streams) told read in
+      subst (λ (t : Option (List File)). (is : IsDumpsRead disk t d) × FilesFailed disk (now_at before.shelf) (now_at after.shelf) is.streams) told read in
       record {
         read = d;
         status_is = status_is;
@@ -125,7 +125,7 @@ module _ (laws : DumpLaws) {H W N : Type 0} (disk : DumpDisk) (files : List File
       }
   gave_shown Picture status d drawn status_is image_got notes_got =
       let here : (is : IsDumpsDrawn disk (Some files) d) × FilesFailed disk (now_at before.shelf) (now_at after.shelf) is.streams =
-          subst (λ (t : Option (List File)). (is : IsDumpsDrawn disk t d) × FilesFailed disk (now_at before.shelf) (now_at after.shelf) is.streams) told drawn in
+      subst (λ (t : Option (List File)). (is : IsDumpsDrawn disk t d) × FilesFailed disk (now_at before.shelf) (now_at after.shelf) is.streams) told drawn in
       let shows : ShowsReport disk (Some files) d here.0 = laws.pictures disk (Some files) d here.0 in
       record {
         drawn = d;
