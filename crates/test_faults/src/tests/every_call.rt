@@ -16,6 +16,9 @@ enum Object {
     Shelf,
 }
 
+/// The line behind a fault of the image.
+const TOLD: &[u8] = b"failed output\n";
+
 const OBJECTS: [Object; 4] = [Object::Source, Object::Image, Object::Notes, Object::Shelf];
 
 impl Object {
@@ -52,6 +55,17 @@ impl Object {
         }
     }
 
+    /// What a run gives fronts of in which a call of this object fails.
+    fn cut<'a>(self, small: &SmallRun, whole: Want<'a>) -> Want<'a> {
+        match self {
+            Object::Image if small.is_told => Want {
+                notes: TOLD,
+                ..whole
+            },
+            _ => whole,
+        }
+    }
+
     /// How often a whole run calls this object.
     fn calls(self, small: &SmallRun, whole: &Ended) -> u64 {
         match self {
@@ -80,7 +94,7 @@ fn every_call_over_fails(
         let calls = object.calls(small, &whole);
         small.holds(
             rt,
-            each_call_fails(alloc, run, whole.given(), object, calls),
+            each_call_fails(alloc, run, small, whole.given(), object, calls),
         );
     }
     Ok(())
@@ -90,12 +104,14 @@ fn every_call_over_fails(
 fn each_call_fails(
     alloc: Global,
     run: Run,
+    small: &SmallRun,
     whole: Want,
     object: Object,
     calls: u64,
 ) -> Result<(), Mismatch> {
+    let cut = object.cut(small, whole);
     for call in 0..calls {
-        is_cut(alloc, object.failing(run, call), whole, object.code())?;
+        is_cut(alloc, object.failing(run, call), cut, object.code())?;
     }
     gives(alloc, object.failing(run, calls), whole)?;
     Ok(())

@@ -23,6 +23,8 @@ pub struct SmallRun {
     pub chunk: u32,
     pub code: u8,
     pub shelf_calls: u64,
+    /// A fault of the image is told in a line of the notes, which had none before.
+    pub is_told: bool,
 }
 
 /// What a run reads.
@@ -48,6 +50,7 @@ const TURNS: SmallRun = SmallRun {
     chunk: 7,
     code: 0,
     shelf_calls: 0,
+    is_told: false,
 };
 
 /// Two tracks are written, and the third is refused.
@@ -76,6 +79,7 @@ const HELP: SmallRun = SmallRun {
     name: "help",
     command: "help",
     input: Input::Front(0),
+    is_told: true,
     ..TURNS
 };
 
@@ -97,11 +101,15 @@ pub const OVER_STREAMS: &[SmallRun] = &[
     SmallRun {
         name: "map",
         command: "map",
+        is_told: true,
         ..DECODE
     },
+    // The second track is refused: the notes have nothing before the first one's part of the image.
     SmallRun {
         name: "rescue",
         command: "rescue",
+        input: Input::Streams(1),
+        is_told: true,
         ..DECODE
     },
     // The third track is refused in its second capture.
@@ -138,6 +146,7 @@ pub const WRITE: SmallRun = SmallRun {
     chunk: 4096,
     code: 5,
     shelf_calls: 0,
+    is_told: false,
 };
 
 pub const WRITE_OF_A_SHORT_IMAGE: SmallRun = SmallRun {

@@ -264,7 +264,13 @@ fn a_stream_is_refused(rt: HostRuntime) -> Result<(), Fail> {
 #[test]
 fn the_image_fails_in_mid_disk(rt: HostRuntime) -> Result<(), Fail> {
     let run = short_run(rt.alloc(), &["read", "ibm-3740", "a", "b"], &[], Some(28))?;
-    has_ended(&rt, &run, (5, 3584), PASSED, "00.0 26 missing 0 0\n");
+    has_ended(
+        &rt,
+        &run,
+        (5, 3584),
+        PASSED,
+        "00.0 26 missing 0 0\nfailed output\n",
+    );
     Ok(())
 }
 
