@@ -5,4 +5,5 @@ pub mod Blames
 pub mod Memory
 pub mod Status
 pub mod Moments
+pub mod World
 pub mod lemmas

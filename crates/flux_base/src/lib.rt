@@ -9,11 +9,13 @@ mod outside;
 mod status;
 mod track;
 mod word;
+mod writing;
 
 pub use bounds::{MOST_SECTOR_BYTES, MOST_TRACK_BYTES};
 pub use header_name::HeaderName;
 pub use memory::{CountingSink, MemorySink, MemorySource, PlainSource, copy_front};
-pub use outside::{Failed, Memory, Sink, Source, write_whole};
+pub use outside::{Failed, Memory, Sink, Source};
 pub use status::Status;
 pub use track::TrackId;
 pub use word::Word;
+pub use writing::write_whole;

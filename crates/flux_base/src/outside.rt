@@ -1,7 +1,6 @@
 ghost use Rattle.std.specs.Prelude.{ℕ, is_err, ◌<◌, ◌≤◌, List, None, length, IfOk, OnErr, Option};
 ghost use Rattle.std.specs.Io.{ReadsAtMost, WritesAtMost};
 ghost use Rattle.std.specs.Io.KnownBytes.{ReadConsumes, WriteAppends};
-ghost use Rattle.flux_base.specs.Moments.{Puts, moment};
 ghost use Rattle.flux_base.specs.Outside.{Rose, GivesPiece, IsCounted};
 
 use std::alloc::{AllocError, AllocFailed};
@@ -78,19 +77,4 @@ pub trait Sink {
 
         // A call that fails is one failed call, and no other is.
         ensures counted { IsCounted (is_err result) (failed self.old) (failed self.new) };
-}
-
-/// Writes until the whole piece is taken. After `Failed` a prefix of the piece was taken that is shorter
-/// than the piece.
-pub fn write_whole<W: Sink>(sink: &mut W, piece: &[u8]) -> Result<(), Failed>
-    ensures { Puts (moment W.written W.faults W.failed sink.old) (moment W.written W.faults W.failed sink.new) piece.now result }
-{
-    let mut rest = piece;
-    while !rest.is_empty() {
-        match sink.write(rest) {
-            Ok(taken) => rest = &rest[taken..],
-            Err(failed) => return Err(failed),
-        }
-    }
-    Ok(())
 }

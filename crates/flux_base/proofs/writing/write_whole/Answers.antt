@@ -1,6 +1,6 @@
 use Rattle.std.proofs.lemmas.List.{take_rest}
 use Rattle.flux_base.proofs.Written.{Wrote-step}
-use Rattle.flux_base.proofs.outside.write_whole.Goals as goal
+use Rattle.flux_base.proofs.writing.write_whole.Goals as goal
 
 pub loop-rest-preserved : goal.loop-rest-preserved
 loop-rest-preserved g c =
