@@ -10,7 +10,7 @@ DEMO = out/demo
 FIRST = $(PROGRAM) read ibm-720 $(DEMO)/first
 BOTH = $(FIRST) $(DEMO)/second
 
-.PHONY: demo test check wrong dist install uninstall definitions
+.PHONY: demo test check wrong dist install uninstall definitions manual
 
 # The program is built only once all of it is proved, so a first build takes long. Later calls start at once.
 demo: $(PROGRAM) $(DEMO)/disk.img
@@ -52,6 +52,12 @@ test:
 definitions:
 	mkdir -p out
 	.ci/definitions > out/definitions.md
+
+# The manual page, of its template and of what the program says of itself; the gate wants man/flux.1 to be this.
+manual: $(PROGRAM)
+	mkdir -p out
+	.ci/manual $(PROGRAM) > out/flux.1
+	mv out/flux.1 man/flux.1
 
 # The wrong bodies that the gate does not try, in a copy: make wrong, or make wrong NAME=turn_merge (CONTRIBUTING.md says how long they take)
 wrong:
