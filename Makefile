@@ -7,10 +7,10 @@ SOURCES = crates.txt $(shell find crates -name out -prune -o \( -name '*.rt' -o 
 
 # Where the demo's dumps are made, and how they are read.
 DEMO = out/demo
-FIRST = $(PROGRAM) read ibm-720 $(DEMO)/first
+FIRST = $(PROGRAM) read ibm-360 $(DEMO)/first
 BOTH = $(FIRST) $(DEMO)/second
 
-.PHONY: demo test check wrong dist install uninstall definitions manual
+.PHONY: demo test check wrong dist install uninstall definitions documents
 
 # The program is built only once all of it is proved, so a first build takes long. Later calls start at once.
 demo: $(PROGRAM) $(DEMO)/disk.img
@@ -29,7 +29,7 @@ demo: $(PROGRAM) $(DEMO)/disk.img
 	@echo "bytes of the image that differ from what was recorded, all of them in the sectors that are not good:"
 	@cmp -l $(DEMO)/both.img $(DEMO)/disk.img | wc -l
 	@echo "the strict reading of the second dump has one sector less; a picture of it, for any browser: $(DEMO)/map.svg"
-	@cat $(DEMO)/second/*.raw | $(PROGRAM) map ibm-720 > $(DEMO)/map.svg; test $$? -le 1
+	@cat $(DEMO)/second/*.raw | $(PROGRAM) map ibm-360 > $(DEMO)/map.svg; test $$? -le 1
 
 # The streams are made by the program from an image that is made up, and are then damaged.
 $(DEMO)/disk.img: $(PROGRAM) samples/demo.py
@@ -53,11 +53,12 @@ definitions:
 	mkdir -p out
 	.ci/definitions > out/definitions.md
 
-# The manual page, of its template and of what the program says of itself; the gate wants man/flux.1 to be this.
-manual: $(PROGRAM)
-	mkdir -p out
+# What documents have of the program: the manual page, of its template and of what the program says of itself; and README's picture, of the demo's
+# first dump. The gate wants them to be these.
+documents: $(PROGRAM) $(DEMO)/disk.img
 	.ci/manual $(PROGRAM) > out/flux.1
 	mv out/flux.1 man/flux.1
+	$(PROGRAM) read --picture ibm-360 $(DEMO)/first > docs/disk.svg; test $$? -le 1
 
 # The wrong bodies that the gate does not try, in a copy: make wrong, or make wrong NAME=turn_merge (CONTRIBUTING.md says how long they take)
 wrong:

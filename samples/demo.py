@@ -2,7 +2,7 @@
 """Makes two dumps of a PC disk, each a folder of streams with one file a track, as an archive might have them.
 
 demo.py PROGRAM FOLDER writes FOLDER/disk.img, an image that is made up, and FOLDER/first and FOLDER/second, dumps of what PROGRAM writes of
-it. On the disk itself a stretch of track 40.1 is worn, and sector 4 of track 21.0 was written again by another drive, a little late. The
+it. On the disk itself a stretch of track 30.1 is worn, and sector 4 of track 21.0 was written again by another drive, a little late. The
 first dump lacks the file of track 33.0, and in one of its revolutions a stretch of track 12.0 was not read.
 """
 import pathlib
@@ -10,8 +10,8 @@ import re
 import subprocess
 import sys
 
-FORMAT = "ibm-720"
-SIZE = 737280
+FORMAT = "ibm-360"
+SIZE = 368640
 
 # In-stream blocks: of one byte, of two, and of three.
 IN_STREAM = re.compile(rb"(?:[\x08\x0b\x0e-\xff]|[\x00-\x07\x09].|[\x0a\x0c]..)*", re.S)
@@ -84,7 +84,7 @@ def written_again(stream):
 
 def dumps(number, stream):
     """The stream of a track as it stands in the first dump, if it does, and in the second."""
-    if number == "40.1":
+    if number == "30.1":
         stream = worn(stream, range(3))
     if number == "21.0":
         stream = written_again(stream)
@@ -97,7 +97,7 @@ def main(program, folder):
         (folder / name).mkdir(parents=True, exist_ok=True)
     streams = subprocess.run([program, "write", FORMAT], input=image(), stdout=subprocess.PIPE, check=True).stdout
     at = 0
-    for number in range(160):
+    for number in range(80):
         end = stream_end(streams, at)
         track = f"{number // 2:02}.{number % 2}"
         for name, stream in zip(("first", "second"), dumps(track, streams[at:end])):
