@@ -48,10 +48,11 @@ check:
 test:
 	.ci/run
 
-# The definitions that are to be believed, in the order of docs/READING.md, for a person to read.
+# The definitions that are to be believed, in the order of docs/READING.md, and what is refused, for a person to read.
 definitions:
 	mkdir -p out
 	.ci/definitions > out/definitions.md
+	.ci/wrong --names > out/refused.md
 
 # What documents have of the program: the manual page, of its template and of what the program says of itself; and README's picture, of the demo's
 # first dump. The gate wants them to be these.
