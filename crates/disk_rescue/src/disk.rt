@@ -1,13 +1,13 @@
 ghost use Rattle.std.specs.Prelude.{◌≡◌, ℕ, List, Some};
-ghost use Rattle.flux_base.specs.Blames.{CountsBy, three_counts};
-ghost use Rattle.flux_base.specs.Counts.{counts_of};
+ghost use Rattle.flux_base.specs.Blames.{CountsBy};
+ghost use Rattle.flux_base.specs.World.{counts_at};
 ghost use Rattle.flux_engine.specs.Answers.{Stayed};
 ghost use Rattle.flux_engine.specs.Blamed.{plan_blame};
 ghost use Rattle.flux_engine.specs.Needed.{ReadsWhereOpen};
 ghost use Rattle.flux_engine.specs.Plans.{EndsInPlan};
 ghost use Rattle.flux_engine.specs.PlanAnswers.{IsFinished};
 ghost use Rattle.flux_engine.specs.Room.{fresh};
-ghost use Rattle.kryo_stream.specs.Reads.{source_at};
+ghost use Rattle.kryo_stream.specs.Reads.{reads_at};
 ghost use Rattle.disk_rescue.specs.Answers.{Rescues, SaysOfRescueInput};
 ghost use Rattle.disk_rescue.specs.Rescued.{rescuing};
 
@@ -32,11 +32,11 @@ pub fn rescue_disk<S: Source, W: Sink, N: Sink>(
     ensures told { (bytes : List ℕ) → S.left source.old ≡ Some bytes → SaysOfRescueInput room.old.format bytes (S.left source.new) (W.written image.old) (W.written image.new) (N.written notes.old) (N.written notes.new) result }
 
     // A source that tells its bytes is read only where those that it gave before end inside a stream.
-    ensures needed { (bytes : List ℕ) → S.left source.old ≡ Some bytes → ReadsWhereOpen (EndsInPlan rescuing room.old.format) (source_at S.left S.given S.faults source.old) (source_at S.left S.given S.faults source.new) }
+    ensures needed { (bytes : List ℕ) → S.left source.old ≡ Some bytes → ReadsWhereOpen (EndsInPlan rescuing room.old.format) (reads_at S.Source source.old) (reads_at S.Source source.new) }
 
     ensures blames { CountsBy (plan_blame result)
-        (three_counts (counts_of S.faults S.failed source.old) (counts_of W.faults W.failed image.old) (counts_of N.faults N.failed notes.old))
-        (three_counts (counts_of S.faults S.failed source.new) (counts_of W.faults W.failed image.new) (counts_of N.faults N.failed notes.new)) }
+        (counts_at S.Source W.Sink N.Sink source.old image.old notes.old)
+        (counts_at S.Source W.Sink N.Sink source.new image.new notes.new) }
 
     // Over a source and sinks that do not fail there is no other answer.
     ensures complete { Stayed (S.faults source.old) (S.faults source.new) → Stayed (W.faults image.old) (W.faults image.new) → Stayed (N.faults notes.old) (N.faults notes.new) → IsFinished result }

@@ -2,8 +2,9 @@
 
 ghost use Rattle.std.specs.Prelude.{◌≡◌, ◌+◌, ◌*◌, ◌≤◌, ◌<◌, [], List, length, IfOk, OnOk, OnErr, true, false};
 ghost use Rattle.std.specs.Option.{option_copied};
-ghost use Rattle.flux_base.specs.Blames.{CountsBy, no_counts, three_counts};
-ghost use Rattle.flux_base.specs.Counts.{Counts, counts_of};
+ghost use Rattle.flux_base.specs.Blames.{CountsBy};
+ghost use Rattle.flux_base.specs.Counts.{Counts};
+ghost use Rattle.flux_base.specs.World.{source_counts, sinks_counts};
 ghost use Rattle.flux_engine.specs.Answers.{CaptureCause, ReadsCapture, ReadsStream};
 ghost use Rattle.flux_engine.specs.Blamed.{is_unread, part_blame};
 ghost use Rattle.flux_engine.specs.Captured.{count_of_clocks};
@@ -18,7 +19,7 @@ ghost use Rattle.flux_engine.specs.TrackParts.{WritesPart};
 ghost use Rattle.flux_engine.specs.Tracks.{track_notes};
 ghost use Rattle.flux_engine.specs.Writing.{IsSum, Knows};
 ghost use Rattle.kryo_stream.specs.Outcome.{IsReadWhereNeeded};
-ghost use Rattle.kryo_stream.specs.Reads.{source_at};
+ghost use Rattle.kryo_stream.specs.Reads.{reads_at};
 ghost use Rattle.phase_loop.specs.Start.{IsStart};
 ghost use Rattle.sector_images.specs.Places.{IsTrack, tracks};
 ghost use Rattle.turn_merge.specs.Book.{IsKnown, MOST_NOTES, SameShape, StandsFor};
@@ -74,7 +75,7 @@ pub fn read_capture<S: Source>(
     ensures read { ReadsCapture room.old.format (track_at room.old.format number) capture (S.left source.old) (S.left source.new) room.old.used room.old.held room.new.held room.old.book room.new.book result }
 
     // The source is read only where the bytes at hand do not tell the answer.
-    ensures needed { IsReadWhereNeeded (source_at S.left S.given S.faults source.old) (source_at S.left S.given S.faults source.new) room.old.used room.old.held }
+    ensures needed { IsReadWhereNeeded (reads_at S.Source source.old) (reads_at S.Source source.new) room.old.used room.old.held }
 
     // The room after the call.
     ensures format { room.new.format ≡ room.old.format }
@@ -91,7 +92,7 @@ pub fn read_capture<S: Source>(
 
     ensures cause { CaptureCause (S.faults source.old) (S.faults source.new) result }
     ensures later { S.faults source.old ≤ S.faults source.new }
-    ensures counts { Counts (is_unread result) (counts_of S.faults S.failed source.old) (counts_of S.faults S.failed source.new) }
+    ensures counts { Counts (is_unread result) (source_counts S.Source source.old) (source_counts S.Source source.new) }
 {
     read_by_clocks(
         Rule::Strict,
@@ -121,7 +122,7 @@ pub fn read_by_clocks<S: Source>(
     ensures read { ReadsByClocks rule clocks room.old.format (track_at room.old.format number) capture (S.left source.old) (S.left source.new) room.old.used room.old.held room.new.held room.old.book room.new.book room.old.others room.new.others result }
 
     // The source is read only where the bytes at hand do not tell the answer.
-    ensures needed { IsReadWhereNeeded (source_at S.left S.given S.faults source.old) (source_at S.left S.given S.faults source.new) room.old.used room.old.held }
+    ensures needed { IsReadWhereNeeded (reads_at S.Source source.old) (reads_at S.Source source.new) room.old.used room.old.held }
 
     // The room after the call.
     ensures format { room.new.format ≡ room.old.format }
@@ -136,7 +137,7 @@ pub fn read_by_clocks<S: Source>(
     ensures sound { OnOk result (room.new.failed ≡ false) }
     ensures failed { OnErr result (room.new.failed ≡ true) }
 
-    ensures counts { Counts (is_unread result) (counts_of S.faults S.failed source.old) (counts_of S.faults S.failed source.new) }
+    ensures counts { Counts (is_unread result) (source_counts S.Source source.old) (source_counts S.Source source.new) }
 {
     tracks_keep_bounds();
     let track = track_id(room.format, number);
@@ -213,8 +214,8 @@ pub(crate) fn write_started<O: TrackWriter, W: Sink, N: Sink>(
     ensures sum { IfOk result IsSum }
     ensures few { IfOk result (λ totals. totals.sectors ≤ 100) }
     ensures blames { CountsBy (part_blame result)
-        (three_counts no_counts (counts_of W.faults W.failed image.old) (counts_of N.faults N.failed notes.old))
-        (three_counts no_counts (counts_of W.faults W.failed image.new) (counts_of N.faults N.failed notes.new)) }
+        (sinks_counts W.Sink N.Sink image.old notes.old)
+        (sinks_counts W.Sink N.Sink image.new notes.new) }
 {
     tracks_keep_bounds();
     let track = track_id(room.format, room.started);
@@ -224,11 +225,11 @@ pub(crate) fn write_started<O: TrackWriter, W: Sink, N: Sink>(
 /// Reads the next stream.
 pub fn read_stream<S: Source>(source: &mut S, stream: &mut StreamRoom) -> Result<(), CaptureFault>
     ensures read { ReadsStream (S.left source.old) (S.left source.new) stream.old.used stream.old.held stream.new.held stream.new.flux.times stream.new.flux.indexes result }
-    ensures needed { IsReadWhereNeeded (source_at S.left S.given S.faults source.old) (source_at S.left S.given S.faults source.new) stream.old.used stream.old.held }
+    ensures needed { IsReadWhereNeeded (reads_at S.Source source.old) (reads_at S.Source source.new) stream.old.used stream.old.held }
     ensures bounded { OnOk result (IsBounded stream.new.flux) }
     ensures held { length stream.new.held ≤ 4096 }
     ensures used { stream.new.used ≡ true }
-    ensures counts { Counts (is_unread result) (counts_of S.faults S.failed source.old) (counts_of S.faults S.failed source.new) }
+    ensures counts { Counts (is_unread result) (source_counts S.Source source.old) (source_counts S.Source source.new) }
 {
     stream.read(source)
 }

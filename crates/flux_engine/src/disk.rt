@@ -1,13 +1,13 @@
 ghost use Rattle.std.specs.Prelude.{◌≡◌, ℕ, ◌+◌, ◌≤◌, ◌<◌, List, Some};
-ghost use Rattle.flux_base.specs.Blames.{CountsBy, three_counts};
-ghost use Rattle.flux_base.specs.Counts.{counts_of};
+ghost use Rattle.flux_base.specs.Blames.{CountsBy};
+ghost use Rattle.flux_base.specs.World.{counts_at};
 ghost use Rattle.flux_engine.specs.Answers.{DecodesDisk, SaysOfInput, EngineCause, Stayed, IsWholeOrRefused};
 ghost use Rattle.flux_engine.specs.Blamed.{engine_blame};
 ghost use Rattle.flux_engine.specs.Needed.{EndsInStreams, ReadsWhereOpen};
 ghost use Rattle.flux_engine.specs.PlanAnswers.{engine_answer as engine_answer_of};
 ghost use Rattle.flux_engine.specs.Room.{fresh};
 ghost use Rattle.flux_engine.specs.Writing.{IsSum, sum_of};
-ghost use Rattle.kryo_stream.specs.Reads.{source_at};
+ghost use Rattle.kryo_stream.specs.Reads.{reads_at};
 
 use crate::fault::{EngineFault, PlanFault};
 use crate::plan::{Clocks, Plan, Rule};
@@ -32,12 +32,12 @@ pub fn decode_disk<S: Source, W: Sink, N: Sink>(
     ensures told { (bytes : List ℕ) → S.left source.old ≡ Some bytes → SaysOfInput room.old.format bytes (S.left source.new) (W.written image.old) (W.written image.new) (N.written notes.old) (N.written notes.new) result }
 
     // A source that tells its bytes is read only where those that it gave before end inside a stream.
-    ensures needed { (bytes : List ℕ) → S.left source.old ≡ Some bytes → ReadsWhereOpen (EndsInStreams room.old.format) (source_at S.left S.given S.faults source.old) (source_at S.left S.given S.faults source.new) }
+    ensures needed { (bytes : List ℕ) → S.left source.old ≡ Some bytes → ReadsWhereOpen (EndsInStreams room.old.format) (reads_at S.Source source.old) (reads_at S.Source source.new) }
 
     ensures cause { EngineCause (S.faults source.old) (S.faults source.new) (W.faults image.old) (W.faults image.new) (N.faults notes.old) (N.faults notes.new) result }
     ensures blames { CountsBy (engine_blame result)
-        (three_counts (counts_of S.faults S.failed source.old) (counts_of W.faults W.failed image.old) (counts_of N.faults N.failed notes.old))
-        (three_counts (counts_of S.faults S.failed source.new) (counts_of W.faults W.failed image.new) (counts_of N.faults N.failed notes.new)) }
+        (counts_at S.Source W.Sink N.Sink source.old image.old notes.old)
+        (counts_at S.Source W.Sink N.Sink source.new image.new notes.new) }
 
     // Over a source and sinks that do not fail there is no other answer.
     ensures complete { Stayed (S.faults source.old) (S.faults source.new) → Stayed (W.faults image.old) (W.faults image.new) → Stayed (N.faults notes.old) (N.faults notes.new) → IsWholeOrRefused result }

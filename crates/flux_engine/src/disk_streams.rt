@@ -3,10 +3,11 @@
 ghost use Rattle.std.specs.Prelude.{◌≡◌, ℕ, ◌≤◌, ◌<◌, List, Some, length, take, is_err, IfOk, OnErr};
 ghost use Rattle.std.specs.Io.KnownBytes.{Consumes, IsAtEnd};
 ghost use Rattle.flux_base.specs.Blames.{CountsBy, no_counts, three_counts};
-ghost use Rattle.flux_base.specs.Counts.{Counts, counts_of};
-ghost use Rattle.flux_base.specs.Moments.{Puts, moment};
+ghost use Rattle.flux_base.specs.Counts.{Counts};
+ghost use Rattle.flux_base.specs.Moments.{Puts};
+ghost use Rattle.flux_base.specs.World.{sink_at, source_counts, sink_counts};
 ghost use Rattle.cell_bits.specs.State.{room};
-ghost use Rattle.kryo_stream.specs.Reads.{source_at};
+ghost use Rattle.kryo_stream.specs.Reads.{reads_at};
 ghost use Rattle.sector_images.specs.Formats.{row};
 ghost use Rattle.flux_engine.specs.Answers.{Stayed};
 ghost use Rattle.flux_engine.specs.Blamed.{write_blame};
@@ -36,13 +37,13 @@ pub fn write_disk<S: Source, W: Sink>(
     ensures told { (bytes : List ℕ) → S.left source.old ≡ Some bytes → SaysOfBytes room.old bytes (S.left source.new) (W.written sink.old) (W.written sink.new) result }
 
     // The source is read only where no more bytes than an image has were given.
-    ensures needed { ReadsUpTo (most_read room.old) (source_at S.left S.given S.faults source.old) (source_at S.left S.given S.faults source.new) }
+    ensures needed { ReadsUpTo (most_read room.old) (reads_at S.Source source.old) (reads_at S.Source source.new) }
 
     ensures format { room.new ≡ room.old }
     ensures cause { WriteCause (S.faults source.old) (S.faults source.new) (W.faults sink.old) (W.faults sink.new) result }
     ensures blames { CountsBy (write_blame result)
-        (three_counts (counts_of S.faults S.failed source.old) (counts_of W.faults W.failed sink.old) no_counts)
-        (three_counts (counts_of S.faults S.failed source.new) (counts_of W.faults W.failed sink.new) no_counts) }
+        (three_counts (source_counts S.Source source.old) (sink_counts W.Sink sink.old) no_counts)
+        (three_counts (source_counts S.Source source.new) (sink_counts W.Sink sink.new) no_counts) }
 
     // Over a source and a sink that do not fail there is no other answer.
     ensures complete { Stayed (S.faults source.old) (S.faults source.new) → Stayed (W.faults sink.old) (W.faults sink.new) → IsWrittenOrWrongSize result }
@@ -75,8 +76,8 @@ pub fn fill<S: Source>(buffer: &mut [u8], source: &mut S) -> Result<usize, Faile
     ensures ok { IfOk result (λ count. Consumes (S.left source.old) (S.left source.new) (take count buffer.new)) }
     ensures ended { IfOk result (λ count. count < length buffer.new → IsAtEnd (S.left source.new)) }
     ensures err { OnErr result (TakesFewer (S.left source.old) (S.left source.new) (length buffer.old)) }
-    ensures needed { ReadsUpTo (length buffer.old) (source_at S.left S.given S.faults source.old) (source_at S.left S.given S.faults source.new) }
-    ensures counts { Counts (is_err result) (counts_of S.faults S.failed source.old) (counts_of S.faults S.failed source.new) }
+    ensures needed { ReadsUpTo (length buffer.old) (reads_at S.Source source.old) (reads_at S.Source source.new) }
+    ensures counts { Counts (is_err result) (source_counts S.Source source.old) (source_counts S.Source source.new) }
 {
     let mut filled = 0;
     while filled < buffer.len() {
@@ -98,7 +99,7 @@ fn write_tracks<W: Sink>(
 ) -> Result<(), Failed>
     requires image { length image.now ≡ (row format).image_size }
     requires room { HasRoomForRings format ring.old }
-    ensures puts { Puts (moment W.written W.faults W.failed sink.old) (moment W.written W.faults W.failed sink.new) (streams_of format image.now) result }
+    ensures puts { Puts (sink_at W.Sink sink.old) (sink_at W.Sink sink.new) (streams_of format image.now) result }
     ensures room { room ring.old ≤ room ring.new }
 {
     tracks_keep_bounds();

@@ -1,8 +1,8 @@
 //! Disks that are read by a plan: one loop over the tracks.
 
 ghost use Rattle.std.specs.Prelude.{◌≡◌, ◌≤◌, ℕ, List, Some, length, IfErr, OnErr, OnOk};
-ghost use Rattle.flux_base.specs.Blames.{CountsBy, no_counts, three_counts};
-ghost use Rattle.flux_base.specs.Counts.{counts_of};
+ghost use Rattle.flux_base.specs.Blames.{CountsBy};
+ghost use Rattle.flux_base.specs.World.{counts_at, sinks_counts};
 ghost use Rattle.flux_engine.specs.Answers.{Stayed};
 ghost use Rattle.flux_engine.specs.Blamed.{plan_blame, sink_blame};
 ghost use Rattle.flux_engine.specs.Counts.{AreCountsBelow};
@@ -14,7 +14,7 @@ ghost use Rattle.flux_engine.specs.PlanProgress.{EndsInTracks, HasPlanned};
 ghost use Rattle.flux_engine.specs.Plans.{EndsInPlan};
 ghost use Rattle.flux_engine.specs.Room.{fresh};
 ghost use Rattle.flux_engine.specs.Tracks.{part_by};
-ghost use Rattle.kryo_stream.specs.Reads.{source_at};
+ghost use Rattle.kryo_stream.specs.Reads.{reads_at};
 ghost use Rattle.sector_images.specs.Places.{tracks};
 
 use crate::capture::write_started;
@@ -51,11 +51,11 @@ pub fn decode_planned<S: Source, W: Sink, N: Sink>(
     ensures told { (bytes : List ℕ) → S.left source.old ≡ Some bytes → SaysOfPlannedInput plan (part_by plan.naming) room.old.format bytes (S.left source.new) (W.written image.old) (W.written image.new) (N.written notes.old) (N.written notes.new) result }
 
     // A source that tells its bytes is read only where those that it gave before end inside a stream.
-    ensures needed { (bytes : List ℕ) → S.left source.old ≡ Some bytes → ReadsWhereOpen (EndsInPlan plan room.old.format) (source_at S.left S.given S.faults source.old) (source_at S.left S.given S.faults source.new) }
+    ensures needed { (bytes : List ℕ) → S.left source.old ≡ Some bytes → ReadsWhereOpen (EndsInPlan plan room.old.format) (reads_at S.Source source.old) (reads_at S.Source source.new) }
 
     ensures blames { CountsBy (plan_blame result)
-        (three_counts (counts_of S.faults S.failed source.old) (counts_of W.faults W.failed image.old) (counts_of N.faults N.failed notes.old))
-        (three_counts (counts_of S.faults S.failed source.new) (counts_of W.faults W.failed image.new) (counts_of N.faults N.failed notes.new)) }
+        (counts_at S.Source W.Sink N.Sink source.old image.old notes.old)
+        (counts_at S.Source W.Sink N.Sink source.new image.new notes.new) }
 
     // Over a source and sinks that do not fail there is no other answer.
     ensures complete { Stayed (S.faults source.old) (S.faults source.new) → Stayed (W.faults image.old) (W.faults image.new) → Stayed (N.faults notes.old) (N.faults notes.new) → IsFinished result }
@@ -91,11 +91,11 @@ pub fn decode_planned_tracks<O: TrackWriter, S: Source, W: Sink, N: Sink>(
     requires fresh { room.old ≡ fresh room.old.format }
     requires few { plan.captures ≤ 16 }
     ensures ok { OnOk result (HasPlanned plan (O.part_of writer.now) room.old.format (S.left source.old) (S.left source.new) (W.written image.old) (W.written image.new) (N.written notes.old) (N.written notes.new) room.new (length (tracks room.old.format)) totals.new) }
-    ensures needed { (bytes : List ℕ) → S.left source.old ≡ Some bytes → ReadsWhereOpen (EndsInPlan plan room.old.format) (source_at S.left S.given S.faults source.old) (source_at S.left S.given S.faults source.new) }
+    ensures needed { (bytes : List ℕ) → S.left source.old ≡ Some bytes → ReadsWhereOpen (EndsInPlan plan room.old.format) (reads_at S.Source source.old) (reads_at S.Source source.new) }
     ensures err { OnErr result (EndsInTracks plan (O.part_of writer.now) room.old.format (S.left source.old) (S.left source.new) (W.written image.old) (W.written image.new) (N.written notes.old) (N.written notes.new) totals.new result) }
     ensures blames { CountsBy (plan_blame result)
-        (three_counts (counts_of S.faults S.failed source.old) (counts_of W.faults W.failed image.old) (counts_of N.faults N.failed notes.old))
-        (three_counts (counts_of S.faults S.failed source.new) (counts_of W.faults W.failed image.new) (counts_of N.faults N.failed notes.new)) }
+        (counts_at S.Source W.Sink N.Sink source.old image.old notes.old)
+        (counts_at S.Source W.Sink N.Sink source.new image.new notes.new) }
 {
     growth_law();
     padding_law();
@@ -136,8 +136,8 @@ pub fn decode_tracks<T: TrackStreams<S>, O: TrackWriter, S, W: Sink, N: Sink>(
 
     // What the streams' object did is in what came of it.
     ensures blames { CountsBy (sink_blame result)
-        (three_counts no_counts (counts_of W.faults W.failed image.old) (counts_of N.faults N.failed notes.old))
-        (three_counts no_counts (counts_of W.faults W.failed image.new) (counts_of N.faults N.failed notes.new)) }
+        (sinks_counts W.Sink N.Sink image.old notes.old)
+        (sinks_counts W.Sink N.Sink image.new notes.new) }
 {
     tracks_keep_bounds();
     sectors_lie_in_images();

@@ -1,12 +1,12 @@
 ghost use Rattle.std.specs.Prelude.{◌≡◌, ◌+◌, ◌≤◌, ◌<◌, length, OnOk, OnErr, true, false};
-ghost use Rattle.flux_base.specs.Blames.{CountsBy, three_counts};
-ghost use Rattle.flux_base.specs.Counts.{counts_of};
+ghost use Rattle.flux_base.specs.Blames.{CountsBy};
+ghost use Rattle.flux_base.specs.World.{counts_at};
 ghost use Rattle.flux_engine.specs.Answers.{DecodesTrack, EngineCause, of_capture, of_sink};
 ghost use Rattle.flux_engine.specs.Blamed.{engine_blame};
 ghost use Rattle.flux_engine.specs.Counts.{KeepsCounts};
 ghost use Rattle.flux_engine.specs.Recordings.{track_at};
 ghost use Rattle.kryo_stream.specs.Outcome.{IsReadWhereNeeded};
-ghost use Rattle.kryo_stream.specs.Reads.{source_at};
+ghost use Rattle.kryo_stream.specs.Reads.{reads_at};
 ghost use Rattle.sector_images.specs.Places.{tracks};
 
 use crate::capture::{read_capture, start_track};
@@ -38,7 +38,7 @@ pub fn decode_track<S: Source, W: Sink, N: Sink>(
     ensures decoded { DecodesTrack room.old.format (track_at room.old.format number) number (S.left source.old) (S.left source.new) room.old.used room.old.held room.new.held (W.written image.old) (W.written image.new) (N.written notes.old) (N.written notes.new) result }
 
     // The source is read only where the bytes at hand do not tell the answer.
-    ensures needed { IsReadWhereNeeded (source_at S.left S.given S.faults source.old) (source_at S.left S.given S.faults source.new) room.old.used room.old.held }
+    ensures needed { IsReadWhereNeeded (reads_at S.Source source.old) (reads_at S.Source source.new) room.old.used room.old.held }
 
     // The room after the call.
     ensures format { room.new.format ≡ room.old.format }
@@ -51,8 +51,8 @@ pub fn decode_track<S: Source, W: Sink, N: Sink>(
 
     ensures cause { EngineCause (S.faults source.old) (S.faults source.new) (W.faults image.old) (W.faults image.new) (N.faults notes.old) (N.faults notes.new) result }
     ensures blames { CountsBy (engine_blame result)
-        (three_counts (counts_of S.faults S.failed source.old) (counts_of W.faults W.failed image.old) (counts_of N.faults N.failed notes.old))
-        (three_counts (counts_of S.faults S.failed source.new) (counts_of W.faults W.failed image.new) (counts_of N.faults N.failed notes.new)) }
+        (counts_at S.Source W.Sink N.Sink source.old image.old notes.old)
+        (counts_at S.Source W.Sink N.Sink source.new image.new notes.new) }
     ensures source_later { S.faults source.old ≤ S.faults source.new }
     ensures image_later { W.faults image.old ≤ W.faults image.new }
     ensures notes_later { N.faults notes.old ≤ N.faults notes.new }

@@ -1,8 +1,8 @@
 //! What a track comes to, written to the image and to the notes.
 
 ghost use Rattle.std.specs.Prelude.{◌≤◌, List, IfOk};
-ghost use Rattle.flux_base.specs.Blames.{CountsBy, no_counts, three_counts};
-ghost use Rattle.flux_base.specs.Counts.{counts_of};
+ghost use Rattle.flux_base.specs.Blames.{CountsBy};
+ghost use Rattle.flux_base.specs.World.{sinks_counts};
 ghost use Rattle.sector_images.specs.Places.{IsTrack};
 ghost use Rattle.turn_merge.specs.Book.{StandsFor};
 ghost use Rattle.turn_merge.specs.Readings.{NotedReading};
@@ -46,8 +46,8 @@ pub fn write_part<W: Sink, N: Sink>(
     ensures sum { IfOk result IsSum }
     ensures few { IfOk result (λ totals. totals.sectors ≤ 100) }
     ensures blames { CountsBy (part_blame result)
-        (three_counts no_counts (counts_of W.faults W.failed image.old) (counts_of N.faults N.failed notes.old))
-        (three_counts no_counts (counts_of W.faults W.failed image.new) (counts_of N.faults N.failed notes.new)) }
+        (sinks_counts W.Sink N.Sink image.old notes.old)
+        (sinks_counts W.Sink N.Sink image.new notes.new) }
 {
     tracks_keep_bounds();
     match write_image(format, track, book, image) {

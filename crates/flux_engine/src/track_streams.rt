@@ -1,15 +1,15 @@
 //! Where the streams of a disk's tracks come from.
 
 ghost use Rattle.std.specs.Prelude.{◌≡◌, ◌+◌, ◌*◌, ◌<◌, ℕ, Bool, false, List, [], length, IfOk};
-ghost use Rattle.flux_base.specs.Counts.{counts_of};
 ghost use Rattle.flux_base.specs.lemmas.Counting.{Counts-none};
+ghost use Rattle.flux_base.specs.World.{source_counts};
 ghost use Rattle.flux_engine.specs.LoopProgress.{GivesNext, IsBoundedNext};
 ghost use Rattle.flux_engine.specs.Plans.{Seen};
 ghost use Rattle.flux_engine.specs.SourceStreams.{HaveComeCounted, HaveEndedCounted};
 ghost use Rattle.kryo_stream.specs.declared.fault.CaptureFault.{CaptureFault};
 ghost use Rattle.flux_engine.specs.declared.plan.Plan.{Plan};
 ghost use Rattle.flux_engine.specs.lemmas.Coming.{none_came};
-ghost use Rattle.kryo_stream.specs.Reads.{source_at};
+ghost use Rattle.kryo_stream.specs.Reads.{reads_at};
 ghost use Rattle.sector_images.specs.Places.{tracks};
 ghost use Rattle.sector_images.specs.declared.format.Format.{Format};
 
@@ -66,9 +66,9 @@ pub trait TrackStreams<S> {
 pub struct OneAfterAnother;
 
 impl<S: Source> TrackStreams<S> for OneAfterAnother {
-    ghost came = { λ streams plan format start now held used before. HaveComeCounted plan format (source_at S.left S.given S.faults start) (source_at S.left S.given S.faults now) (counts_of S.faults S.failed start) (counts_of S.faults S.failed now) held used before };
+    ghost came = { λ streams plan format start now held used before. HaveComeCounted plan format (reads_at S.Source start) (reads_at S.Source now) (source_counts S.Source start) (source_counts S.Source now) held used before };
 
-    ghost ended = { λ streams plan format start now before fault. HaveEndedCounted plan format (source_at S.left S.given S.faults start) (source_at S.left S.given S.faults now) (counts_of S.faults S.failed start) (counts_of S.faults S.failed now) before fault };
+    ghost ended = { λ streams plan format start now before fault. HaveEndedCounted plan format (reads_at S.Source start) (reads_at S.Source now) (source_counts S.Source start) (source_counts S.Source now) before fault };
 
     fn next_stream(
         &self,
@@ -84,5 +84,5 @@ impl<S: Source> TrackStreams<S> for OneAfterAnother {
         }
     }
 
-    ghost begins = { λ streams plan format now. (none_came plan format (source_at S.left S.given S.faults now), Counts-none (counts_of S.faults S.failed now)) };
+    ghost begins = { λ streams plan format now. (none_came plan format (reads_at S.Source now), Counts-none (source_counts S.Source now)) };
 }

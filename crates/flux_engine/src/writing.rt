@@ -3,8 +3,9 @@
 ghost use Rattle.std.specs.Prelude.{◌≡◌, ℕ, ◌+◌, ◌≤◌, ◌<◌, ◌++◌, List, [], ◌∷◌, map, length, replicate, unwrap_or, is_err, IfOk, OnOk, OnErr};
 ghost use Rattle.std.specs.Io.KnownBytes.{Appends};
 ghost use Rattle.flux_base.specs.Bounds.{MOST_SECTOR_BYTES};
-ghost use Rattle.flux_base.specs.Counts.{Counts, counts_of};
+ghost use Rattle.flux_base.specs.Counts.{Counts};
 ghost use Rattle.flux_base.specs.Outside.{AppendsPart};
+ghost use Rattle.flux_base.specs.World.{sink_counts};
 ghost use Rattle.sector_images.specs.Places.{IsTrack};
 ghost use Rattle.turn_merge.specs.Book.{StandsFor, IsKnown};
 ghost use Rattle.turn_merge.specs.Readings.{NotedReading, agreed, verdict as verdict_over};
@@ -33,7 +34,7 @@ pub fn write_image<W: Sink>(
     requires known { Knows (sectors_in format track) book.now }
     ensures ok { OnOk result ((readings : List NotedReading) → StandsFor book.now readings → Appends (W.written image.old) (W.written image.new) (image_of format track readings)) }
     ensures err { OnErr result ((readings : List NotedReading) → StandsFor book.now readings → AppendsPart (W.written image.old) (W.written image.new) (image_of format track readings)) }
-    ensures counts { Counts (is_err result) (counts_of W.faults W.failed image.old) (counts_of W.faults W.failed image.new) }
+    ensures counts { Counts (is_err result) (sink_counts W.Sink image.old) (sink_counts W.Sink image.new) }
 {
     tracks_keep_bounds();
     let sectors = sectors_of(format, track);
@@ -75,7 +76,7 @@ pub fn write_lines<N: Sink>(
     ensures counted { IfOk result (λ totals. IsSum totals × (totals.sectors ≡ sectors.count)) }
     ensures totals { IfOk result (λ totals. (readings : List NotedReading) → StandsFor book.now readings → totals ≡ totals_of (map (verdict_over readings) (numbers sectors))) }
     ensures err { OnErr result ((readings : List NotedReading) → StandsFor book.now readings → AppendsPart (N.written notes.old) (N.written notes.new) (lines_by naming track sectors readings)) }
-    ensures counts { Counts (is_err result) (counts_of N.faults N.failed notes.old) (counts_of N.faults N.failed notes.new) }
+    ensures counts { Counts (is_err result) (sink_counts N.Sink notes.old) (sink_counts N.Sink notes.new) }
 {
     let mut totals = no_totals();
     for index in 0..sectors.count {

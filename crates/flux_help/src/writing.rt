@@ -1,5 +1,6 @@
 ghost use Rattle.std.specs.Prelude.{◌++◌};
-ghost use Rattle.flux_base.specs.Moments.{Puts, moment};
+ghost use Rattle.flux_base.specs.Moments.{Puts};
+ghost use Rattle.flux_base.specs.World.{sink_at};
 ghost use Rattle.flux_help.specs.Pages.{about_text, codes_text, formats_text, heading_text, help_text, page_text, verbs_text};
 
 use crate::page::Page;
@@ -11,7 +12,7 @@ use sector_report::write_line;
 
 /// Writes what the program says of itself. After `Failed` a part of it was written.
 pub fn write_page<W: Sink>(page: Page, sink: &mut W) -> Result<(), Failed>
-    ensures { Puts (moment W.written W.faults W.failed sink.old) (moment W.written W.faults W.failed sink.new) (page_text page) result }
+    ensures { Puts (sink_at W.Sink sink.old) (sink_at W.Sink sink.new) (page_text page) result }
 {
     match page {
         Page::Help => write_help(sink),
@@ -22,7 +23,7 @@ pub fn write_page<W: Sink>(page: Page, sink: &mut W) -> Result<(), Failed>
 
 /// Writes what is said of one command.
 fn write_about<W: Sink>(verb: Verb, sink: &mut W) -> Result<(), Failed>
-    ensures { Puts (moment W.written W.faults W.failed sink.old) (moment W.written W.faults W.failed sink.new) (about_text verb) result }
+    ensures { Puts (sink_at W.Sink sink.old) (sink_at W.Sink sink.new) (about_text verb) result }
 {
     let texts = verb.texts();
     match write_whole(sink, texts.usage.as_bytes()) {
@@ -33,7 +34,7 @@ fn write_about<W: Sink>(verb: Verb, sink: &mut W) -> Result<(), Failed>
 
 /// Writes what the program is, the commands, the formats and the exit codes.
 fn write_help<W: Sink>(sink: &mut W) -> Result<(), Failed>
-    ensures { Puts (moment W.written W.faults W.failed sink.old) (moment W.written W.faults W.failed sink.new) help_text result }
+    ensures { Puts (sink_at W.Sink sink.old) (sink_at W.Sink sink.new) help_text result }
 {
     match write_whole(sink, intro().as_bytes()) {
         Ok(()) => write_lists(sink),
@@ -43,7 +44,7 @@ fn write_help<W: Sink>(sink: &mut W) -> Result<(), Failed>
 
 /// Writes the commands, the formats and the exit codes.
 fn write_lists<W: Sink>(sink: &mut W) -> Result<(), Failed>
-    ensures { Puts (moment W.written W.faults W.failed sink.old) (moment W.written W.faults W.failed sink.new) (verbs_text ++ (heading_text ++ (formats_text ++ codes_text))) result }
+    ensures { Puts (sink_at W.Sink sink.old) (sink_at W.Sink sink.new) (verbs_text ++ (heading_text ++ (formats_text ++ codes_text))) result }
 {
     match write_verbs(sink) {
         Ok(()) => write_headed_tables(sink),
@@ -53,7 +54,7 @@ fn write_lists<W: Sink>(sink: &mut W) -> Result<(), Failed>
 
 /// Writes the formats and the exit codes, and what stands before them.
 fn write_headed_tables<W: Sink>(sink: &mut W) -> Result<(), Failed>
-    ensures { Puts (moment W.written W.faults W.failed sink.old) (moment W.written W.faults W.failed sink.new) (heading_text ++ (formats_text ++ codes_text)) result }
+    ensures { Puts (sink_at W.Sink sink.old) (sink_at W.Sink sink.new) (heading_text ++ (formats_text ++ codes_text)) result }
 {
     match write_whole(sink, heading().as_bytes()) {
         Ok(()) => write_tables(sink),
@@ -63,7 +64,7 @@ fn write_headed_tables<W: Sink>(sink: &mut W) -> Result<(), Failed>
 
 /// Writes the formats and the exit codes.
 fn write_tables<W: Sink>(sink: &mut W) -> Result<(), Failed>
-    ensures { Puts (moment W.written W.faults W.failed sink.old) (moment W.written W.faults W.failed sink.new) (formats_text ++ codes_text) result }
+    ensures { Puts (sink_at W.Sink sink.old) (sink_at W.Sink sink.new) (formats_text ++ codes_text) result }
 {
     match write_formats(sink) {
         Ok(()) => write_whole(sink, exit_codes().as_bytes()),
@@ -73,7 +74,7 @@ fn write_tables<W: Sink>(sink: &mut W) -> Result<(), Failed>
 
 /// Writes a line for each format.
 fn write_formats<W: Sink>(sink: &mut W) -> Result<(), Failed>
-    ensures { Puts (moment W.written W.faults W.failed sink.old) (moment W.written W.faults W.failed sink.new) formats_text result }
+    ensures { Puts (sink_at W.Sink sink.old) (sink_at W.Sink sink.new) formats_text result }
 {
     for format in all_formats() {
         match write_line(sink, &format_line(*format)) {
@@ -86,7 +87,7 @@ fn write_formats<W: Sink>(sink: &mut W) -> Result<(), Failed>
 
 /// Writes a line for each command.
 fn write_verbs<W: Sink>(sink: &mut W) -> Result<(), Failed>
-    ensures { Puts (moment W.written W.faults W.failed sink.old) (moment W.written W.faults W.failed sink.new) verbs_text result }
+    ensures { Puts (sink_at W.Sink sink.old) (sink_at W.Sink sink.new) verbs_text result }
 {
     for verb in all_verbs() {
         match write_whole(sink, verb.texts().line.as_bytes()) {

@@ -1,7 +1,8 @@
 ghost use Rattle.std.specs.Prelude.{◌≡◌, ◌≤◌, ◌++◌, Some, codes, length, not};
 ghost use Rattle.std.specs.List.{position_from};
 ghost use Rattle.std.specs.Option.{option_map};
-ghost use Rattle.flux_base.specs.Moments.{Puts, moment};
+ghost use Rattle.flux_base.specs.Moments.{Puts};
+ghost use Rattle.flux_base.specs.World.{sink_at};
 ghost use Rattle.ibm_disks.specs.Words.{begins_numbers};
 ghost use Rattle.sector_images.specs.Formats.{formats};
 ghost use Rattle.flux_help.specs.Meanings.{no_format_ending};
@@ -18,7 +19,7 @@ use sector_report::{Line, put, usage_line, write_line};
 
 /// Writes what is told of words that are no command. After `Failed` a part of it was written.
 pub fn write_wrong_words<N: Sink>(words: &[Word], notes: &mut N) -> Result<(), Failed>
-    ensures { Puts (moment N.written N.faults N.failed notes.old) (moment N.written N.faults N.failed notes.new) (wrong_text words.now) result }
+    ensures { Puts (sink_at N.Sink notes.old) (sink_at N.Sink notes.new) (wrong_text words.now) result }
 {
     match words {
         [] => write_whole(notes, usage_line().as_bytes()),
@@ -28,7 +29,7 @@ pub fn write_wrong_words<N: Sink>(words: &[Word], notes: &mut N) -> Result<(), F
 
 /// Writes what is told of the words behind a command's.
 fn write_behind<N: Sink>(verb: Option<Verb>, words: &[Word], notes: &mut N) -> Result<(), Failed>
-    ensures { Puts (moment N.written N.faults N.failed notes.old) (moment N.written N.faults N.failed notes.new) (told_by verb (format_word words.now)) result }
+    ensures { Puts (sink_at N.Sink notes.old) (sink_at N.Sink notes.new) (told_by verb (format_word words.now)) result }
 {
     match format_word(words) {
         Some(word) => write_by(verb, word.bytes(), notes),
@@ -62,7 +63,7 @@ fn is_option(word: &[u8]) -> bool
 
 /// Writes what is told by the first word and the one in a format's place.
 fn write_by<N: Sink>(verb: Option<Verb>, word: &[u8], notes: &mut N) -> Result<(), Failed>
-    ensures { Puts (moment N.written N.faults N.failed notes.old) (moment N.written N.faults N.failed notes.new) (told_by verb (Some word.now)) result }
+    ensures { Puts (sink_at N.Sink notes.old) (sink_at N.Sink notes.new) (told_by verb (Some word.now)) result }
 {
     match ending_behind(verb, word) {
         Some(ending) => write_no_format(word, &ending, notes),
@@ -156,7 +157,7 @@ fn has_word(format: Format, word: &[u8]) -> bool
 
 /// Writes that no format has this word, and the end of the line.
 fn write_no_format<N: Sink>(word: &[u8], ending: &Line, notes: &mut N) -> Result<(), Failed>
-    ensures { Puts (moment N.written N.faults N.failed notes.old) (moment N.written N.faults N.failed notes.new) (codes "no format " ++ (word.now ++ ending.now.bytes)) result }
+    ensures { Puts (sink_at N.Sink notes.old) (sink_at N.Sink notes.new) (codes "no format " ++ (word.now ++ ending.now.bytes)) result }
 {
     match write_whole(notes, "no format ".as_bytes()) {
         Ok(()) => write_word(word, ending, notes),
@@ -166,7 +167,7 @@ fn write_no_format<N: Sink>(word: &[u8], ending: &Line, notes: &mut N) -> Result
 
 /// Writes a word, and the end of the line.
 fn write_word<N: Sink>(word: &[u8], ending: &Line, notes: &mut N) -> Result<(), Failed>
-    ensures { Puts (moment N.written N.faults N.failed notes.old) (moment N.written N.faults N.failed notes.new) (word.now ++ ending.now.bytes) result }
+    ensures { Puts (sink_at N.Sink notes.old) (sink_at N.Sink notes.new) (word.now ++ ending.now.bytes) result }
 {
     match write_whole(notes, word) {
         Ok(()) => write_line(notes, ending),

@@ -1,5 +1,6 @@
 ghost use Rattle.std.specs.Prelude.{◌≡◌, ℕ, ◌≤◌, List, false, length, sum};
-ghost use Rattle.flux_base.specs.Moments.{Puts, moment};
+ghost use Rattle.flux_base.specs.Moments.{Puts};
+ghost use Rattle.flux_base.specs.World.{sink_at};
 ghost use Rattle.flux_trial.specs.Tracks.{IsTrialLine};
 
 use crate::room::TrialRoom;
@@ -17,7 +18,7 @@ use sector_report::{trial_line, write_line};
 pub fn run_trial<W: Sink>(room: &mut TrialRoom, seed: u32, sink: &mut W) -> Result<(), Failed>
     requires { room.old.used ≡ false }
     ensures { (line : List ℕ) × IsTrialLine room.old.format seed line
-        × Puts (moment W.written W.faults W.failed sink.old) (moment W.written W.faults W.failed sink.new) line result }
+        × Puts (sink_at W.Sink sink.old) (sink_at W.Sink sink.new) line result }
 {
     written_law();
     growth_law();

@@ -1,5 +1,6 @@
 ghost use Rattle.std.specs.Prelude.{◌≡◌, ◌<◌, ◌≤◌, ◌+◌, ◌++◌, [], ◌∷◌, length, take, OnOk};
-ghost use Rattle.flux_base.specs.Moments.{Puts, moment};
+ghost use Rattle.flux_base.specs.Moments.{Puts};
+ghost use Rattle.flux_base.specs.World.{sink_at};
 ghost use Rattle.flux_writer.specs.inside.Gathering.{Holds};
 
 use flux_base::{Failed, Sink, write_whole};
@@ -39,7 +40,7 @@ impl OutputPiece {
     /// Puts bytes after those that are held, of which the sink is given all first where there is no room.
     pub(crate) fn put<W: Sink>(&mut self, bytes: &[u8], sink: &mut W) -> Result<(), Failed>
         requires { length bytes.now ≤ 4096 }
-        ensures { Holds (moment W.written W.faults W.failed sink.old) (moment W.written W.faults W.failed sink.new) self.old self.new
+        ensures { Holds (sink_at W.Sink sink.old) (sink_at W.Sink sink.new) self.old self.new
             bytes.now result }
     {
         if ROOM - self.filled < bytes.len() {
@@ -55,7 +56,7 @@ impl OutputPiece {
     /// Puts one byte after those that are held, as `put` does.
     #[inline]
     pub(crate) fn put_byte<W: Sink>(&mut self, byte: u8, sink: &mut W) -> Result<(), Failed>
-        ensures { Holds (moment W.written W.faults W.failed sink.old) (moment W.written W.faults W.failed sink.new) self.old self.new
+        ensures { Holds (sink_at W.Sink sink.old) (sink_at W.Sink sink.new) self.old self.new
             (byte ∷ []) result }
     {
         if self.filled == ROOM {
@@ -90,7 +91,7 @@ impl OutputPiece {
 
     /// Gives the sink all bytes that are held.
     pub(crate) fn give<W: Sink>(&mut self, sink: &mut W) -> Result<(), Failed>
-        ensures puts { Puts (moment W.written W.faults W.failed sink.old) (moment W.written W.faults W.failed sink.new) self.old result }
+        ensures puts { Puts (sink_at W.Sink sink.old) (sink_at W.Sink sink.new) self.old result }
         ensures empty { OnOk result (self.new ≡ []) }
     {
         let answer = write_whole(sink, &self.bytes[..self.filled]);

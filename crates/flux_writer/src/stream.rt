@@ -1,5 +1,6 @@
 ghost use Rattle.std.specs.Prelude.{◌≡◌, ◌<◌, ◌≤◌, ◌+◌, ◌-◌, ◌/◌, ◌^◌, ◌++◌, [], All, length, map, replicate, OnOk};
-ghost use Rattle.flux_base.specs.Moments.{Puts, moment};
+ghost use Rattle.flux_base.specs.Moments.{Puts};
+ghost use Rattle.flux_base.specs.World.{sink_at};
 ghost use Rattle.kryo_stream.specs.Spelling.{spelling, flux_spelling};
 ghost use Rattle.flux_writer.specs.inside.Gathering.{Holds};
 ghost use Rattle.kryo_stream.specs.Sequence.{spellings};
@@ -55,7 +56,7 @@ impl<'a> StreamWriter<'a> {
         requires order { self.old.time ≤ time }
         requires begun { All (λ index. self.old.time ≤ index) self.old.indexes }
         requires few { self.old.position + (time - self.old.time) / 65536 + 3 < 2 ^ 32 }
-        ensures holds { Holds (moment W.written W.faults W.failed sink.old) (moment W.written W.faults W.failed sink.new) self.old.piece self.new.piece
+        ensures holds { Holds (sink_at W.Sink sink.old) (sink_at W.Sink sink.new) self.old.piece self.new.piece
             (spellings (next_blocks self.old.position self.old.time time self.old.indexes)) result }
         ensures position { OnOk result (self.new.position ≡ self.old.position
             + length (spellings (interval_blocks (time - self.old.time)))) }
@@ -73,7 +74,7 @@ impl<'a> StreamWriter<'a> {
 
     /// Writes what stands after the last interval.
     pub(crate) fn finish<W: Sink>(&mut self, sink: &mut W) -> Result<(), Failed>
-        ensures { Puts (moment W.written W.faults W.failed sink.old) (moment W.written W.faults W.failed sink.new)
+        ensures { Puts (sink_at W.Sink sink.old) (sink_at W.Sink sink.new)
             (self.old.piece ++ spellings (last_blocks self.old.position)) result }
     {
         match self.piece.put(&end_bytes(self.position), sink) {
@@ -87,7 +88,7 @@ impl<'a> StreamWriter<'a> {
     fn write_indexes<W: Sink>(&mut self, end: u64, sink: &mut W) -> Result<(), Failed>
         requires begun { All (λ index. self.old.time ≤ index) self.old.indexes }
         requires few { self.old.position + (end - self.old.time) / 65536 < 2 ^ 32 }
-        ensures holds { Holds (moment W.written W.faults W.failed sink.old) (moment W.written W.faults W.failed sink.new) self.old.piece self.new.piece
+        ensures holds { Holds (sink_at W.Sink sink.old) (sink_at W.Sink sink.new) self.old.piece self.new.piece
             (spellings (map (index_block self.old.position self.old.time) (indexes_before end self.old.indexes))) result }
         ensures position { self.new.position ≡ self.old.position }
         ensures time { self.new.time ≡ self.old.time }
@@ -108,7 +109,7 @@ impl<'a> StreamWriter<'a> {
     fn write_interval<W: Sink>(&mut self, time: u64, sink: &mut W) -> Result<(), Failed>
         requires order { self.old.time ≤ time }
         requires few { self.old.position + (time - self.old.time) / 65536 + 3 < 2 ^ 32 }
-        ensures holds { Holds (moment W.written W.faults W.failed sink.old) (moment W.written W.faults W.failed sink.new) self.old.piece self.new.piece
+        ensures holds { Holds (sink_at W.Sink sink.old) (sink_at W.Sink sink.new) self.old.piece self.new.piece
             (spellings (interval_blocks (time - self.old.time))) result }
         ensures position { OnOk result (self.new.position ≡ self.old.position
             + length (spellings (interval_blocks (time - self.old.time)))) }
@@ -140,7 +141,7 @@ fn interval_length(ticks: u64) -> u32
 #[inline]
 fn write_blocks<W: Sink>(piece: &mut OutputPiece, ticks: u64, sink: &mut W) -> Result<(), Failed>
     requires few { ticks / 65536 < 2 ^ 32 }
-    ensures { Holds (moment W.written W.faults W.failed sink.old) (moment W.written W.faults W.failed sink.new) piece.old piece.new
+    ensures { Holds (sink_at W.Sink sink.old) (sink_at W.Sink sink.new) piece.old piece.new
         (spellings (interval_blocks ticks)) result }
 {
     match ticks {
@@ -157,7 +158,7 @@ fn write_any_blocks<W: Sink>(
     sink: &mut W,
 ) -> Result<(), Failed>
     requires few { ticks / 65536 < 2 ^ 32 }
-    ensures { Holds (moment W.written W.faults W.failed sink.old) (moment W.written W.faults W.failed sink.new) piece.old piece.new
+    ensures { Holds (sink_at W.Sink sink.old) (sink_at W.Sink sink.new) piece.old piece.new
         (spellings (interval_blocks ticks)) result }
 {
     match write_overflows(piece, (ticks / OVERFLOW_TICKS) as u32, sink) {
@@ -168,7 +169,7 @@ fn write_any_blocks<W: Sink>(
 
 /// Writes so many Overflow blocks.
 fn write_overflows<W: Sink>(piece: &mut OutputPiece, count: u32, sink: &mut W) -> Result<(), Failed>
-    ensures { Holds (moment W.written W.faults W.failed sink.old) (moment W.written W.faults W.failed sink.new) piece.old piece.new
+    ensures { Holds (sink_at W.Sink sink.old) (sink_at W.Sink sink.new) piece.old piece.new
         (replicate count 11) result }
 {
     for _ in 0..count {
@@ -182,7 +183,7 @@ fn write_overflows<W: Sink>(piece: &mut OutputPiece, count: u32, sink: &mut W) -
 
 /// Writes a flux value, in as few bytes as it fits.
 fn write_flux<W: Sink>(piece: &mut OutputPiece, ticks: u16, sink: &mut W) -> Result<(), Failed>
-    ensures { Holds (moment W.written W.faults W.failed sink.old) (moment W.written W.faults W.failed sink.new) piece.old piece.new
+    ensures { Holds (sink_at W.Sink sink.old) (sink_at W.Sink sink.new) piece.old piece.new
         (flux_spelling ticks) result }
 {
     let high = (ticks / 256) as u8;

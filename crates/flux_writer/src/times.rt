@@ -1,5 +1,6 @@
 ghost use Rattle.std.specs.Prelude.{◌≤◌, ◌+◌, ◌^◌, All, length};
-ghost use Rattle.flux_base.specs.Moments.{Puts, moment};
+ghost use Rattle.flux_base.specs.Moments.{Puts};
+ghost use Rattle.flux_base.specs.World.{sink_at};
 ghost use Rattle.flux_writer.specs.Reading.{EndsWithTransition};
 ghost use Rattle.flux_writer.specs.Written.{stream_of_times};
 
@@ -16,7 +17,7 @@ pub fn write_times<W: Sink>(flux: &TrackFlux, sink: &mut W) -> Result<(), Failed
     requires last { EndsWithTransition flux.now.times flux.now.indexes }
     requires few { length flux.now.times + length flux.now.indexes ≤ 1048576 }
     requires early { All (λ time. time ≤ 2 ^ 39) flux.now.times }
-    ensures { Puts (moment W.written W.faults W.failed sink.old) (moment W.written W.faults W.failed sink.new) (stream_of_times flux.now.times flux.now.indexes) result }
+    ensures { Puts (sink_at W.Sink sink.old) (sink_at W.Sink sink.new) (stream_of_times flux.now.times flux.now.indexes) result }
 {
     let mut stream = StreamWriter::new(flux.indexes(), IndexUnit::Ticks);
     for time in flux.times() {

@@ -1,8 +1,9 @@
 ghost use Rattle.std.specs.Prelude.{◌≡◌, ◌<◌, ◌≤◌, ◌+◌, ◌-◌, ◌++◌, [], All, length, is_err, OnOk, OnErr};
 ghost use Rattle.std.specs.List.Sorted.{IsStrictlyIncreasing};
-ghost use Rattle.flux_base.specs.Counts.{Counts, counts_of};
-ghost use Rattle.flux_base.specs.Moments.{Puts, moment};
+ghost use Rattle.flux_base.specs.Counts.{Counts};
+ghost use Rattle.flux_base.specs.Moments.{Puts};
 ghost use Rattle.flux_base.specs.Outside.{AppendsPart};
+ghost use Rattle.flux_base.specs.World.{sink_at, sink_counts};
 ghost use Rattle.flux_writer.specs.Reading.{MOST_RING_CELLS, HasOneAfter, HasEarlyOne};
 ghost use Rattle.flux_writer.specs.inside.Writing.{IsReadyAt, IsWritten, many_blocks, times_between, track_times};
 ghost use Rattle.kryo_stream.specs.Sequence.{spellings};
@@ -32,7 +33,7 @@ pub fn write_turns<W: Sink>(
     requires few { length cells.now.cells ≤ 2097152 }
     requires order { IsStrictlyIncreasing turns.now }
     requires ones { All (HasOneAfter cells.now.cells) turns.now }
-    ensures { Puts (moment W.written W.faults W.failed sink.old) (moment W.written W.faults W.failed sink.new) (stream_of_turns cells.now.cells turns.now nominal) result }
+    ensures { Puts (sink_at W.Sink sink.old) (sink_at W.Sink sink.new) (stream_of_turns cells.now.cells turns.now nominal) result }
 {
     let mut stream = StreamWriter::new(turns, IndexUnit::Cells { nominal });
     let whole = RingPart {
@@ -56,7 +57,7 @@ pub fn write_track<W: Sink>(ring: &Cells, nominal: u32, sink: &mut W) -> Result<
     requires most { nominal ≤ 131072 }
     requires few { length ring.now.cells ≤ MOST_RING_CELLS }
     requires one { HasEarlyOne ring.now.cells }
-    ensures { Puts (moment W.written W.faults W.failed sink.old) (moment W.written W.faults W.failed sink.new) (stream_of ring.now.cells nominal) result }
+    ensures { Puts (sink_at W.Sink sink.old) (sink_at W.Sink sink.new) (stream_of ring.now.cells nominal) result }
 {
     let length = ring.len();
     let quarter = length / 4;
@@ -98,7 +99,7 @@ fn write_ring<W: Sink>(
         stream.new.piece stream.new.position stream.new.time stream.new.indexes (track_times ring.now.cells nominal)) }
     ensures err { OnErr result (AppendsPart (W.written sink.old) (W.written sink.new)
         (spellings (many_blocks 0 0 (track_times ring.now.cells nominal) stream.old.indexes))) }
-    ensures counts { Counts (is_err result) (counts_of W.faults W.failed sink.old) (counts_of W.faults W.failed sink.new) }
+    ensures counts { Counts (is_err result) (sink_counts W.Sink sink.old) (sink_counts W.Sink sink.new) }
 {
     let length = ring.len();
     let quarter = length / 4;
@@ -153,7 +154,7 @@ fn write_part<W: Sink>(
     ensures err { OnErr result (AppendsPart (W.written sink.old) (W.written sink.new) (stream.old.piece
         ++ spellings (many_blocks stream.old.position stream.old.time
         (times_between cells.now.cells part.from part.to part.number nominal) stream.old.indexes))) }
-    ensures counts { Counts (is_err result) (counts_of W.faults W.failed sink.old) (counts_of W.faults W.failed sink.new) }
+    ensures counts { Counts (is_err result) (sink_counts W.Sink sink.old) (sink_counts W.Sink sink.new) }
 {
     let mut place = part.from;
     while place < part.to {
@@ -195,7 +196,7 @@ fn write_word<W: Sink>(
     ensures err { OnErr result (AppendsPart (W.written sink.old) (W.written sink.new) (stream.old.piece
         ++ spellings (many_blocks stream.old.position stream.old.time
         (times_between cells.now.cells part.from part.to part.number nominal) stream.old.indexes))) }
-    ensures counts { Counts (is_err result) (counts_of W.faults W.failed sink.old) (counts_of W.faults W.failed sink.new) }
+    ensures counts { Counts (is_err result) (sink_counts W.Sink sink.old) (sink_counts W.Sink sink.new) }
 {
     let mut left = part.to - part.from;
     if left == 0 {

@@ -1,12 +1,12 @@
 //! A file as an image and a report.
 
 ghost use Rattle.std.specs.Prelude.{◌≡◌, ◌≤◌, ◌<◌, ℕ, List, None, Some, Option, length, IfOk};
-ghost use Rattle.flux_base.specs.Blames.{CountsBy, no_counts, three_counts};
-ghost use Rattle.flux_base.specs.Counts.{counts_of};
+ghost use Rattle.flux_base.specs.Blames.{CountsBy};
+ghost use Rattle.flux_base.specs.World.{counts_at, sinks_counts};
 ghost use Rattle.flux_engine.specs.Answers.{Stayed};
 ghost use Rattle.flux_engine.specs.Blamed.{part_blame};
 ghost use Rattle.flux_engine.specs.Needed.{ReadsUpTo};
-ghost use Rattle.kryo_stream.specs.Reads.{source_at};
+ghost use Rattle.kryo_stream.specs.Reads.{reads_at};
 ghost use Rattle.sector_images.specs.Places.{tracks};
 ghost use Rattle.g64_image.specs.Answers.{FromCause, IsReadOrRefused, IsTakenFile, ReadsFile, SaysOfFile, SaysOfFileBytes};
 ghost use Rattle.g64_image.specs.Blamed.{from_blame};
@@ -40,13 +40,13 @@ pub fn from_g64<S: Source, W: Sink, N: Sink>(
     ensures told { (bytes : List ℕ) → S.left source.old ≡ Some bytes → SaysOfFileBytes room.old bytes (S.left source.new) (W.written image.old) (W.written image.new) (N.written notes.old) (N.written notes.new) result }
 
     // The source is read only where no more bytes than a file may have were given.
-    ensures needed { ReadsUpTo 4194305 (source_at S.left S.given S.faults source.old) (source_at S.left S.given S.faults source.new) }
+    ensures needed { ReadsUpTo 4194305 (reads_at S.Source source.old) (reads_at S.Source source.new) }
 
     ensures format { room.new ≡ room.old }
     ensures cause { FromCause (S.faults source.old) (S.faults source.new) (W.faults image.old) (W.faults image.new) (N.faults notes.old) (N.faults notes.new) result }
     ensures blames { CountsBy (from_blame result)
-        (three_counts (counts_of S.faults S.failed source.old) (counts_of W.faults W.failed image.old) (counts_of N.faults N.failed notes.old))
-        (three_counts (counts_of S.faults S.failed source.new) (counts_of W.faults W.failed image.new) (counts_of N.faults N.failed notes.new)) }
+        (counts_at S.Source W.Sink N.Sink source.old image.old notes.old)
+        (counts_at S.Source W.Sink N.Sink source.new image.new notes.new) }
 
     // Over a source and sinks that do not fail there is no other answer.
     ensures complete { Stayed (S.faults source.old) (S.faults source.new) → Stayed (W.faults image.old) (W.faults image.new) → Stayed (N.faults notes.old) (N.faults notes.new) → IsReadOrRefused result }
@@ -81,8 +81,8 @@ fn read_file<W: Sink, N: Sink>(
     ensures says { (left : Option (List ℕ)) → IsTakenFile file.now left
         → SaysOfFile format file.now left (W.written image.old) (W.written image.new) (N.written notes.old) (N.written notes.new) result }
     ensures blames { CountsBy (from_blame result)
-        (three_counts no_counts (counts_of W.faults W.failed image.old) (counts_of N.faults N.failed notes.old))
-        (three_counts no_counts (counts_of W.faults W.failed image.new) (counts_of N.faults N.failed notes.new)) }
+        (sinks_counts W.Sink N.Sink image.old notes.old)
+        (sinks_counts W.Sink N.Sink image.new notes.new) }
     ensures roomy { IsRoomy format tools.new.cells tools.new.book }
 {
     match first_fault(format, file) {
@@ -115,8 +115,8 @@ fn write_tracks<W: Sink, N: Sink>(
     ensures ok { IfOk result (λ totals. HasRead format file.now (W.written image.old) (W.written image.new) (N.written notes.old) (N.written notes.new) (length (tracks format)) totals) }
     ensures err { WasStopped format file.now (W.written image.old) (W.written image.new) (N.written notes.old) (N.written notes.new) result }
     ensures blames { CountsBy (part_blame result)
-        (three_counts no_counts (counts_of W.faults W.failed image.old) (counts_of N.faults N.failed notes.old))
-        (three_counts no_counts (counts_of W.faults W.failed image.new) (counts_of N.faults N.failed notes.new)) }
+        (sinks_counts W.Sink N.Sink image.old notes.old)
+        (sinks_counts W.Sink N.Sink image.new notes.new) }
     ensures roomy { IsRoomy format tools.new.cells tools.new.book }
 {
     tracks_keep_bounds();

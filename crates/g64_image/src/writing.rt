@@ -3,13 +3,13 @@
 ghost use Rattle.std.specs.Prelude.{◌≡◌, ℕ, ◌≤◌, List, Some, length};
 ghost use Rattle.cell_bits.specs.State.{room};
 ghost use Rattle.flux_base.specs.Blames.{CountsBy, no_counts, three_counts};
-ghost use Rattle.flux_base.specs.Counts.{counts_of};
-ghost use Rattle.flux_base.specs.Moments.{Puts, moment};
+ghost use Rattle.flux_base.specs.Moments.{Puts};
+ghost use Rattle.flux_base.specs.World.{sink_at, source_counts, sink_counts};
 ghost use Rattle.flux_engine.specs.Answers.{Stayed};
 ghost use Rattle.flux_engine.specs.Needed.{ReadsUpTo};
 ghost use Rattle.flux_engine.specs.Blamed.{write_blame};
 ghost use Rattle.flux_engine.specs.Writes.{IsWrittenOrWrongSize, WriteCause, most_read};
-ghost use Rattle.kryo_stream.specs.Reads.{source_at};
+ghost use Rattle.kryo_stream.specs.Reads.{reads_at};
 ghost use Rattle.sector_images.specs.Formats.{row};
 ghost use Rattle.g64_image.specs.Answers.{SaysOfBytes, WritesFile};
 ghost use Rattle.g64_image.specs.Layout.{IsCommodore, g64_file, records};
@@ -36,13 +36,13 @@ pub fn to_g64<S: Source, W: Sink>(
     ensures told { (bytes : List ℕ) → S.left source.old ≡ Some bytes → SaysOfBytes room.old bytes (S.left source.new) (W.written sink.old) (W.written sink.new) result }
 
     // The source is read only where no more bytes than an image has were given.
-    ensures needed { ReadsUpTo (most_read room.old) (source_at S.left S.given S.faults source.old) (source_at S.left S.given S.faults source.new) }
+    ensures needed { ReadsUpTo (most_read room.old) (reads_at S.Source source.old) (reads_at S.Source source.new) }
 
     ensures format { room.new ≡ room.old }
     ensures cause { WriteCause (S.faults source.old) (S.faults source.new) (W.faults sink.old) (W.faults sink.new) result }
     ensures blames { CountsBy (write_blame result)
-        (three_counts (counts_of S.faults S.failed source.old) (counts_of W.faults W.failed sink.old) no_counts)
-        (three_counts (counts_of S.faults S.failed source.new) (counts_of W.faults W.failed sink.new) no_counts) }
+        (three_counts (source_counts S.Source source.old) (sink_counts W.Sink sink.old) no_counts)
+        (three_counts (source_counts S.Source source.new) (sink_counts W.Sink sink.new) no_counts) }
 
     // Over a source and a sink that do not fail there is no other answer.
     ensures complete { Stayed (S.faults source.old) (S.faults source.new) → Stayed (W.faults sink.old) (W.faults sink.new) → IsWrittenOrWrongSize result }
@@ -78,7 +78,7 @@ fn write_file<W: Sink>(
     requires format { IsCommodore format }
     requires image { length image.now ≡ (row format).image_size }
     requires room { 1048560 ≤ room ring.old }
-    ensures puts { Puts (moment W.written W.faults W.failed sink.old) (moment W.written W.faults W.failed sink.new) (g64_file format image.now) result }
+    ensures puts { Puts (sink_at W.Sink sink.old) (sink_at W.Sink sink.new) (g64_file format image.now) result }
     ensures room { room ring.old ≤ room ring.new }
 {
     let front = front(format);
@@ -98,7 +98,7 @@ fn write_tracks<W: Sink>(
     requires format { IsCommodore format }
     requires image { length image.now ≡ (row format).image_size }
     requires room { 1048560 ≤ room ring.old }
-    ensures puts { Puts (moment W.written W.faults W.failed sink.old) (moment W.written W.faults W.failed sink.new) (records format image.now) result }
+    ensures puts { Puts (sink_at W.Sink sink.old) (sink_at W.Sink sink.new) (records format image.now) result }
     ensures room { room ring.old ≤ room ring.new }
 {
     for number in 0..track_count(format) {

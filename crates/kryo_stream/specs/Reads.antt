@@ -3,6 +3,7 @@ use Rattle.std.specs.Prelude.{◌≡◌, ◌++◌, ℕ, List, [], ◌∷◌, Opt
 use Rattle.std.specs.List.{concat}
 use Rattle.std.specs.Io.KnownBytes.{Consumes}
 use Rattle.flux_base.specs.Outside.{Gives}
+use Rattle.flux_base.specs.declared.outside.Source.{Ghosts}
 
 -- what contracts see of a source at one moment: the bytes still to come and what each read so far gave, where it tells
 -- them, and its count of faults
@@ -11,8 +12,8 @@ pub record SourceMoment : Type 0 where
   pub given : Option (List (List ℕ))
   pub faults : ℕ
 
-abbrev pub source_at : {A : Type 0} → (A → Option (List ℕ)) → (A → Option (List (List ℕ))) → (A → ℕ) → A → SourceMoment
-source_at left given faults source = record { left = left source; given = given source; faults = faults source }
+abbrev pub reads_at : {S : Type 0} → Ghosts S → S → SourceMoment
+reads_at members source = record { left = members.left source; given = members.given source; faults = members.faults source }
 
 -- reads gave these pieces one after the other, each where all that was taken before it left the question open
 abbrev pub AreNeeded : (List ℕ → Type 0) → List ℕ → List (List ℕ) → Type 0

@@ -1,7 +1,9 @@
 ghost use Rattle.std.specs.Prelude.{◌≡◌, ℕ, ◌+◌, ◌-◌, ◌≤◌, ◌<◌, [], length, take, drop, false, true, is_err, IfOk, OnErr};
 ghost use Rattle.std.specs.Io.KnownBytes.{ReadConsumes};
-ghost use Rattle.flux_base.specs.Counts.{Counts, counts_of};
+ghost use Rattle.flux_base.specs.Counts.{Counts};
 ghost use Rattle.flux_base.specs.Outside.{GivesPiece};
+ghost use Rattle.flux_base.specs.World.{source_at, source_counts};
+ghost use Rattle.kryo_stream.specs.Reads.{reads_at};
 
 use flux_base::{Failed, Memory, Source};
 use std::alloc::Global;
@@ -43,7 +45,7 @@ impl Model for Intake {
 
 impl Intake {
     ghost use Rattle.kryo_stream.specs.Held.{Took, IsMore};
-    ghost use Rattle.kryo_stream.specs.Reads.{source_at, IsNothing};
+    ghost use Rattle.kryo_stream.specs.Reads.{IsNothing, reads_at};
 
     /// An intake that holds nothing and was not used.
     pub fn new(alloc: Global) -> Result<Intake, Memory>
@@ -102,12 +104,12 @@ impl Intake {
     /// Takes at least one more byte from the source, unless that has ended or fails.
     pub(crate) fn more<S: Source>(&mut self, source: &mut S) -> Result<More, Failed>
         requires { length self.old.held < 4096 }
-        ensures took { Took IsNothing (source_at S.left S.given S.faults source.old) (source_at S.left S.given S.faults source.new) self.old.held self.new.held }
+        ensures took { Took IsNothing (reads_at S.Source source.old) (reads_at S.Source source.new) self.old.held self.new.held }
         ensures more { IfOk result (λ more. IsMore more self.old.held self.new.held (S.left source.new)) }
         ensures kept { OnErr result (self.new.held ≡ self.old.held) }
         ensures bound { length self.new.held ≤ 4096 }
         ensures used { self.new.used ≡ self.old.used }
-        ensures counts { Counts (is_err result) (counts_of S.faults S.failed source.old) (counts_of S.faults S.failed source.new) }
+        ensures counts { Counts (is_err result) (source_counts S.Source source.old) (source_counts S.Source source.new) }
     {
         let held = self.end - self.start;
         let outcome = take_more(&mut self.buffer, self.start, self.end, source);
@@ -137,7 +139,7 @@ fn take_more<S: Source>(
     ensures front { take (end - start) buffer.new ≡ take (end - start) (drop start buffer.old) }
     ensures bytes { ReadConsumes (S.left source.old) (S.left source.new) result (drop (end - start) buffer.new) }
     ensures piece { GivesPiece (S.given source.old) (S.given source.new) result (drop (end - start) buffer.new) }
-    ensures counts { Counts (is_err result) (counts_of S.faults S.failed source.old) (counts_of S.faults S.failed source.new) }
+    ensures counts { Counts (is_err result) (source_counts S.Source source.old) (source_counts S.Source source.new) }
 {
     buffer.copy_within(start..end, 0);
     source.read(&mut buffer[end - start..])

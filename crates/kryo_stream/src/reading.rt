@@ -1,6 +1,7 @@
 ghost use Rattle.std.specs.Prelude.{◌≡◌, ℕ, List, ◌+◌, ◌^◌, ◌≤◌, ◌<◌, ◌++◌, [], ◌∷◌, length, Some, All, is_err, IfOk, OnOk, OnErr, IsOk, Err, true, false};
 ghost use Rattle.std.specs.Io.KnownBytes.{IsAtEnd};
-ghost use Rattle.flux_base.specs.Counts.{Counts, counts_of};
+ghost use Rattle.flux_base.specs.Counts.{Counts};
+ghost use Rattle.flux_base.specs.World.{source_counts};
 ghost use Rattle.index_turns.specs.Track.{KeepsRoom};
 ghost use Rattle.kryo_stream.specs.declared.fault.StreamFault.TheVariants.{Truncated};
 ghost use Rattle.kryo_stream.specs.Bench.{HasFullBench, KeepsBenchRoom, IsNoted, IsSized};
@@ -8,7 +9,7 @@ ghost use Rattle.kryo_stream.specs.Held.{Took};
 ghost use Rattle.kryo_stream.specs.Outcome.{IsRead, IsReadOfInput, IsReadWhereNeeded, IsNotMemory, TrackCause, is_read_fault, HasFullRoom, IsSmall, input_of};
 ghost use Rattle.kryo_stream.specs.Pieces.{piece_at, IsText};
 ghost use Rattle.kryo_stream.specs.Progress.{TakesOpenly, IsReading, ReadsOn, IsBlockOpen, TakesBlock, IsSkipped, IsUnpadded};
-ghost use Rattle.kryo_stream.specs.Reads.{source_at};
+ghost use Rattle.kryo_stream.specs.Reads.{reads_at};
 ghost use Rattle.kryo_stream.specs.Stream.{in_stream_bytes, total_bytes};
 ghost use Rattle.kryo_stream.specs.Tally.{IsWithin, MayFollow, new_times};
 
@@ -43,7 +44,7 @@ pub fn read_track<S: Source>(
     ensures bound { length intake.new.held ≤ 4096 }
 
     // The source is read only where the bytes at hand do not tell the answer.
-    ensures needed { IsReadWhereNeeded (source_at S.left S.given S.faults source.old) (source_at S.left S.given S.faults source.new) intake.old.used intake.old.held }
+    ensures needed { IsReadWhereNeeded (reads_at S.Source source.old) (reads_at S.Source source.new) intake.old.used intake.old.held }
 
     // The track is as small as the limit of a stream makes it.
     ensures few_times { length flux.new.times ≤ 4194304 }
@@ -60,7 +61,7 @@ pub fn read_track<S: Source>(
 
     ensures later { S.faults source.old ≤ S.faults source.new }
     ensures cause { TrackCause (S.faults source.old) (S.faults source.new) result }
-    ensures counts { Counts (is_read_fault result) (counts_of S.faults S.failed source.old) (counts_of S.faults S.failed source.new) }
+    ensures counts { Counts (is_read_fault result) (source_counts S.Source source.old) (source_counts S.Source source.new) }
 {
     flux.clear();
     match begin(source, intake) {
@@ -85,10 +86,10 @@ pub fn read_track<S: Source>(
 /// Notes that a stream is read through the intake, and passes over the padding in front of it. `End` says
 /// that the input is nothing but padding.
 fn begin<S: Source>(source: &mut S, intake: &mut Intake) -> Result<More, Failed>
-    ensures unpadded { IsUnpadded (source_at S.left S.given S.faults source.old) (source_at S.left S.given S.faults source.new) intake.old.used intake.old.held intake.new.held result }
+    ensures unpadded { IsUnpadded (reads_at S.Source source.old) (reads_at S.Source source.new) intake.old.used intake.old.held intake.new.held result }
     ensures used { intake.new.used ≡ true }
     ensures bound { length intake.new.held ≤ 4096 }
-    ensures counts { Counts (is_err result) (counts_of S.faults S.failed source.old) (counts_of S.faults S.failed source.new) }
+    ensures counts { Counts (is_err result) (source_counts S.Source source.old) (source_counts S.Source source.new) }
 {
     if !intake.is_used() {
         intake.begin();
@@ -99,10 +100,10 @@ fn begin<S: Source>(source: &mut S, intake: &mut Intake) -> Result<More, Failed>
 
 /// Passes over the padding at the front of the input.
 fn pass_padding<S: Source>(source: &mut S, intake: &mut Intake) -> Result<More, Failed>
-    ensures unpadded { IsUnpadded (source_at S.left S.given S.faults source.old) (source_at S.left S.given S.faults source.new) true intake.old.held intake.new.held result }
+    ensures unpadded { IsUnpadded (reads_at S.Source source.old) (reads_at S.Source source.new) true intake.old.held intake.new.held result }
     ensures used { intake.new.used ≡ intake.old.used }
     ensures bound { length intake.new.held ≤ 4096 }
-    ensures counts { Counts (is_err result) (counts_of S.faults S.failed source.old) (counts_of S.faults S.failed source.new) }
+    ensures counts { Counts (is_err result) (source_counts S.Source source.old) (source_counts S.Source source.new) }
 {
     loop {
         match padding_at_hand(intake.bytes()) {
@@ -131,14 +132,14 @@ fn read_stream<S: Source>(
     requires indexes { flux.old.indexes ≡ [] }
     requires bound { length intake.old.held ≤ 4096 }
     ensures small { OnOk result (IsSmall flux.new) }
-    ensures takes { (taken : List ℕ) × TakesOpenly false intake.old.held (source_at S.left S.given S.faults source.old) (source_at S.left S.given S.faults source.new) taken }
+    ensures takes { (taken : List ℕ) × TakesOpenly false intake.old.held (reads_at S.Source source.old) (reads_at S.Source source.new) taken }
     ensures read { IsRead (S.left source.old) (S.left source.new) false intake.old.held intake.new.held flux.new result }
     ensures bound { length intake.new.held ≤ 4096 }
     ensures used { intake.new.used ≡ intake.old.used }
     ensures room { KeepsRoom flux.old flux.new }
     ensures bench { KeepsBenchRoom bench.old bench.new }
     ensures memory { HasFullRoom flux.old → HasFullBench bench.old → IsNotMemory result }
-    ensures counts { Counts (is_read_fault result) (counts_of S.faults S.failed source.old) (counts_of S.faults S.failed source.new) }
+    ensures counts { Counts (is_read_fault result) (source_counts S.Source source.old) (source_counts S.Source source.new) }
 {
     bench.clear();
     let mut before = Before::start();
@@ -283,11 +284,11 @@ fn take_block<S: Source>(
     before: &Before,
 ) -> Result<Result<SpelledBlock, StreamFault>, Failed>
     requires within { IsWithin before.now }
-    ensures takes { TakesBlock (source_at S.left S.given S.faults source.old) (source_at S.left S.given S.faults source.new) intake.old.held intake.new.held before.now result }
+    ensures takes { TakesBlock (reads_at S.Source source.old) (reads_at S.Source source.new) intake.old.held intake.new.held before.now result }
     ensures sized { IfOk result (λ reading. IfOk reading IsSized) }
     ensures bound { length intake.new.held ≤ 4096 }
     ensures used { intake.new.used ≡ intake.old.used }
-    ensures counts { Counts (is_err result) (counts_of S.faults S.failed source.old) (counts_of S.faults S.failed source.new) }
+    ensures counts { Counts (is_err result) (source_counts S.Source source.old) (source_counts S.Source source.new) }
 {
     let reading = match next_block(source, intake, before) {
         Ok(reading) => reading,
@@ -314,11 +315,11 @@ fn take_text<S: Source>(
     requires bound { length intake.old.held ≤ 4096 }
     requires truncated { piece_at before.now.offset before.now.counted before.now.ended intake.old.held ≡ Err Truncated }
     requires ended { ((size : ℕ) → IsText before.now.offset intake.old.held size → ⊥) → IsAtEnd (S.left source.old) }
-    ensures takes { TakesBlock (source_at S.left S.given S.faults source.old) (source_at S.left S.given S.faults source.new) intake.old.held intake.new.held before.now result }
+    ensures takes { TakesBlock (reads_at S.Source source.old) (reads_at S.Source source.new) intake.old.held intake.new.held before.now result }
     ensures sized { IfOk result (λ reading. IfOk reading IsSized) }
     ensures bound { length intake.new.held ≤ 4096 }
     ensures used { intake.new.used ≡ intake.old.used }
-    ensures counts { Counts (is_err result) (counts_of S.faults S.failed source.old) (counts_of S.faults S.failed source.new) }
+    ensures counts { Counts (is_err result) (source_counts S.Source source.old) (source_counts S.Source source.new) }
 {
     let size = match text_size(before, intake.bytes()) {
         Some(size) => size,
@@ -338,10 +339,10 @@ fn take_text<S: Source>(
 /// Passes over so many bytes of the input, which may be more than an intake holds.
 fn skip<S: Source>(source: &mut S, intake: &mut Intake, count: usize) -> Result<More, Failed>
     requires count { count < 2 ^ 32 }
-    ensures skipped { IsSkipped (source_at S.left S.given S.faults source.old) (source_at S.left S.given S.faults source.new) intake.old.held intake.new.held count result }
+    ensures skipped { IsSkipped (reads_at S.Source source.old) (reads_at S.Source source.new) intake.old.held intake.new.held count result }
     ensures bound { length intake.new.held ≤ 4096 }
     ensures used { intake.new.used ≡ intake.old.used }
-    ensures counts { Counts (is_err result) (counts_of S.faults S.failed source.old) (counts_of S.faults S.failed source.new) }
+    ensures counts { Counts (is_err result) (source_counts S.Source source.old) (source_counts S.Source source.new) }
 {
     let mut rest = count;
     loop {
@@ -368,14 +369,14 @@ fn next_block<S: Source>(
     before: &Before,
 ) -> Result<Result<SpelledBlock, StreamFault>, Failed>
     requires within { IsWithin before.now }
-    ensures took { Took (IsBlockOpen before.now intake.old.held) (source_at S.left S.given S.faults source.old) (source_at S.left S.given S.faults source.new) intake.old.held intake.new.held }
+    ensures took { Took (IsBlockOpen before.now intake.old.held) (reads_at S.Source source.old) (reads_at S.Source source.new) intake.old.held intake.new.held }
     ensures bound { length intake.new.held ≤ 4096 }
     ensures reading { IfOk result (λ reading. reading ≡ piece_at before.now.offset before.now.counted before.now.ended intake.new.held) }
     ensures sized { IfOk result (λ reading. IfOk reading IsSized) }
     ensures ended { IfOk result (λ reading. reading ≡ Err Truncated → ((size : ℕ) → IsText before.now.offset intake.new.held size → ⊥) → IsAtEnd (S.left source.new)) }
     ensures failed { OnErr result (piece_at before.now.offset before.now.counted before.now.ended intake.new.held ≡ Err Truncated) }
     ensures used { intake.new.used ≡ intake.old.used }
-    ensures counts { Counts (is_err result) (counts_of S.faults S.failed source.old) (counts_of S.faults S.failed source.new) }
+    ensures counts { Counts (is_err result) (source_counts S.Source source.old) (source_counts S.Source source.new) }
 {
     loop {
         match front(before, intake.bytes()) {

@@ -1,7 +1,8 @@
 ghost use Rattle.std.specs.Prelude.{◌≡◌, ◌≤◌, ◌++◌, ℕ, List, [], length, Some, true, IfOk, OnErr};
-ghost use Rattle.flux_base.specs.Counts.{Counts, counts_of};
+ghost use Rattle.flux_base.specs.Counts.{Counts};
+ghost use Rattle.flux_base.specs.World.{source_counts};
 ghost use Rattle.kryo_stream.specs.Outcome.{IsRead, IsReadOfInput, IsReadWhereNeeded, IsSmall, TrackCause, is_read_fault, input_of};
-ghost use Rattle.kryo_stream.specs.Reads.{source_at};
+ghost use Rattle.kryo_stream.specs.Reads.{reads_at};
 
 use crate::bench::{MOST_INDEXES, MOST_TIMES, StreamBench};
 use crate::fault::{CaptureFault, TrackFault};
@@ -68,7 +69,7 @@ impl StreamRoom {
     pub fn read<S: Source>(&mut self, source: &mut S) -> Result<(), CaptureFault>
         ensures read { IsRead (S.left source.old) (S.left source.new) self.old.used self.old.held self.new.held self.new.flux (track_answer result) }
         ensures told { (bytes : List ℕ) → S.left source.old ≡ Some bytes → IsReadOfInput (input_of self.old.used (self.old.held ++ bytes)) (S.left source.new) self.new.held self.new.flux (track_answer result) }
-        ensures needed { IsReadWhereNeeded (source_at S.left S.given S.faults source.old) (source_at S.left S.given S.faults source.new) self.old.used self.old.held }
+        ensures needed { IsReadWhereNeeded (reads_at S.Source source.old) (reads_at S.Source source.new) self.old.used self.old.held }
         ensures used { self.new.used ≡ true }
         ensures bound { length self.new.held ≤ 4096 }
         ensures small { IsSmall self.new.flux }
@@ -76,7 +77,7 @@ impl StreamRoom {
         ensures no_indexes { OnErr result (self.new.flux.indexes ≡ []) }
         ensures later { S.faults source.old ≤ S.faults source.new }
         ensures cause { TrackCause (S.faults source.old) (S.faults source.new) (track_answer result) }
-        ensures counts { Counts (is_read_fault (track_answer result)) (counts_of S.faults S.failed source.old) (counts_of S.faults S.failed source.new) }
+        ensures counts { Counts (is_read_fault (track_answer result)) (source_counts S.Source source.old) (source_counts S.Source source.new) }
     {
         match read_track(source, &mut self.intake, &mut self.flux, &mut self.bench) {
             Ok(()) => Ok(()),

@@ -1,7 +1,8 @@
 ghost use Rattle.std.specs.Prelude.{◌≡◌, ◌<◌, ◌+◌, ◌-◌, ◌/◌, ◌%◌, ◌++◌};
 ghost use Rattle.std.proofs.Math.ListN.{replicate};
 ghost use Rattle.byteorder.specs.Endian.{little_bytes};
-ghost use Rattle.flux_base.specs.Moments.{Puts, moment};
+ghost use Rattle.flux_base.specs.Moments.{Puts};
+ghost use Rattle.flux_base.specs.World.{sink_at};
 ghost use Rattle.kryo_stream.specs.declared.block.Block.TheVariants.{Index};
 ghost use Rattle.kryo_stream.specs.Blocks.{Spells, out_of_band};
 ghost use Rattle.kryo_stream.specs.Spelling.{spelling, flux_spelling, HasNopBytes};
@@ -18,7 +19,7 @@ const BLANKS: [u8; 256] = [0x20; 256];
 pub fn write_block<W: Sink>(block: &Block, sink: &mut W) -> Result<(), Failed>
     requires nop { HasNopBytes block.now }
     ensures spelled { Spells (spelling block.now) block.now }
-    ensures puts { Puts (moment W.written W.faults W.failed sink.old) (moment W.written W.faults W.failed sink.new) (spelling block.now) result }
+    ensures puts { Puts (sink_at W.Sink sink.old) (sink_at W.Sink sink.new) (spelling block.now) result }
 {
     match *block {
         Block::Flux { ticks } => write_flux(ticks, sink),
@@ -38,7 +39,7 @@ pub fn write_block<W: Sink>(block: &Block, sink: &mut W) -> Result<(), Failed>
 
 /// Writes a flux value, in as few bytes as it fits.
 fn write_flux<W: Sink>(ticks: u16, sink: &mut W) -> Result<(), Failed>
-    ensures { Puts (moment W.written W.faults W.failed sink.old) (moment W.written W.faults W.failed sink.new) (flux_spelling ticks) result }
+    ensures { Puts (sink_at W.Sink sink.old) (sink_at W.Sink sink.new) (flux_spelling ticks) result }
 {
     let high = (ticks / 256) as u8;
     let low = (ticks % 256) as u8;
@@ -72,7 +73,7 @@ pub fn index_spelling(position: u32, sample: u32, counter: u32) -> [u8; 16]
 
 /// Writes an Info of `length` blanks.
 fn write_info<W: Sink>(length: u16, sink: &mut W) -> Result<(), Failed>
-    ensures { Puts (moment W.written W.faults W.failed sink.old) (moment W.written W.faults W.failed sink.new) (out_of_band 4 length ++ replicate length 32) result }
+    ensures { Puts (sink_at W.Sink sink.old) (sink_at W.Sink sink.new) (out_of_band 4 length ++ replicate length 32) result }
 {
     let mut header = [0x0D, 4, 0, 0];
     LittleEndian::write_u16(&mut header[2..], length);
@@ -84,7 +85,7 @@ fn write_info<W: Sink>(length: u16, sink: &mut W) -> Result<(), Failed>
 
 /// Writes so many blanks.
 fn write_blanks<W: Sink>(count: usize, sink: &mut W) -> Result<(), Failed>
-    ensures { Puts (moment W.written W.faults W.failed sink.old) (moment W.written W.faults W.failed sink.new) (replicate count 32) result }
+    ensures { Puts (sink_at W.Sink sink.old) (sink_at W.Sink sink.new) (replicate count 32) result }
 {
     let mut rest = count;
     while rest > 0 {

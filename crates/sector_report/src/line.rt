@@ -1,6 +1,7 @@
 ghost use Rattle.std.specs.Prelude.{◌≡◌, ◌+◌, ◌≤◌, ◌++◌, length, decimal};
 ghost use Rattle.arrayvec.specs.ArrayString.{array_string_len};
-ghost use Rattle.flux_base.specs.Moments.{Puts, moment};
+ghost use Rattle.flux_base.specs.Moments.{Puts};
+ghost use Rattle.flux_base.specs.World.{sink_at};
 
 use arrayvec::ArrayString;
 use flux_base::{Failed, Sink, write_whole};
@@ -11,7 +12,7 @@ pub type Line = ArrayString<192>;
 
 /// Hands a line to a sink, in one piece. After `Failed` a part of it was written.
 pub fn write_line<W: Sink>(sink: &mut W, line: &Line) -> Result<(), Failed>
-    ensures { Puts (moment W.written W.faults W.failed sink.old) (moment W.written W.faults W.failed sink.new) line.now.bytes result }
+    ensures { Puts (sink_at W.Sink sink.old) (sink_at W.Sink sink.new) line.now.bytes result }
 {
     write_whole(sink, line.as_str().as_bytes())
 }

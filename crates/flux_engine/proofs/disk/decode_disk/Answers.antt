@@ -1,4 +1,4 @@
-use Rattle.kryo_stream.specs.Reads.{source_at}
+use Rattle.kryo_stream.specs.Reads.{reads_at}
 use Rattle.flux_engine.specs.Needed.{EndsInStreams}
 use Rattle.flux_engine.specs.Plans.{EndsInPlan, decoding}
 use Rattle.flux_engine.specs.lemmas.OneStream.{ends_in_streams, reads_weaken}
@@ -21,7 +21,7 @@ returns-clause-told g c = λ bytes told.
 pub returns-clause-needed : goal.returns-clause-needed
 returns-clause-needed g c = λ bytes told.
     reads_weaken (EndsInPlan decoding c.args.room.now.format) (EndsInStreams c.args.room.now.format)
-    (source_at g.S.Source.left g.S.Source.given g.S.Source.faults c.args.source.now) (source_at g.S.Source.left g.S.Source.given g.S.Source.faults c.decode_planned-answer.new.source)
+    (reads_at g.S.Source c.args.source.now) (reads_at g.S.Source c.decode_planned-answer.new.source)
     (ends_in_streams c.args.room.now.format) (c.decode_planned-answer.ensures.needed bytes told)
 
 pub returns-clause-blames : goal.returns-clause-blames

@@ -1,6 +1,6 @@
 use Rattle.std.proofs.Common.{◌≤◌, ◌*◌}
-use Rattle.flux_base.specs.Blames.{CountsBy, no_counts, no_one, three_counts}
-use Rattle.flux_base.specs.Counts.{counts_of}
+use Rattle.flux_base.specs.Blames.{CountsBy, no_one}
+use Rattle.flux_base.specs.World.{sinks_counts}
 use Rattle.flux_engine.specs.Counts.{AreCountsBelow}
 use Rattle.flux_engine.specs.LoopProgress.{HasWritten}
 use Rattle.flux_engine.specs.Writing.{IsSum}
@@ -15,6 +15,6 @@ invariant-loop-number g l = record {
   sum : IsSum l.totals;
   few : l.totals.sectors ≤ 100 * l.number;
   counts : AreCountsBelow l.room l.number;
-  blames : CountsBy no_one (three_counts no_counts (counts_of g.W.Sink.faults g.W.Sink.failed l.initial.image) (counts_of g.N.Sink.faults g.N.Sink.failed l.initial.notes))
-      (three_counts no_counts (counts_of g.W.Sink.faults g.W.Sink.failed l.image) (counts_of g.N.Sink.faults g.N.Sink.failed l.notes));
+  blames : CountsBy no_one (sinks_counts g.W.Sink g.N.Sink l.initial.image l.initial.notes)
+      (sinks_counts g.W.Sink g.N.Sink l.image l.notes);
 }

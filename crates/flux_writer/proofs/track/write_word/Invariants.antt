@@ -1,5 +1,6 @@
 use Rattle.std.proofs.Common.{false, ◌≡◌, ◌≤◌, ◌+◌, ◌-◌}
-use Rattle.flux_base.specs.Counts.{Counts, counts_of}
+use Rattle.flux_base.specs.Counts.{Counts}
+use Rattle.flux_base.specs.World.{sink_counts}
 use Rattle.cell_bits.specs.Word.{word}
 use Rattle.flux_writer.specs.inside.Writing.{IsReadyAt, IsWritten, times_between}
 use Rattle.flux_writer.proofs.track.write_word.Given as goal
@@ -13,7 +14,7 @@ invariant-loop-ahead g l = record {
       l.stream.piece l.stream.position l.stream.time l.stream.indexes
       (times_between l.cells.cells l.part.from (l.part.to - l.left) l.part.number l.nominal);
   ready : IsReadyAt l.nominal l.stream.position l.stream.time (l.part.number + ((l.part.to - l.left) - l.part.from)) l.stream.indexes;
-  counts : Counts false (counts_of g.W.Sink.faults g.W.Sink.failed l.initial.sink) (counts_of g.W.Sink.faults g.W.Sink.failed l.sink);
+  counts : Counts false (sink_counts g.W.Sink l.initial.sink) (sink_counts g.W.Sink l.sink);
 }
 
 abbrev pub decreases-loop-ahead : goal.decreases-loop-ahead

@@ -3,14 +3,14 @@ use Rattle.flux_base.specs.lemmas.Counting.{Counts-then}
 use Rattle.kryo_stream.specs.declared.intake.More.TheVariants.{Taken}
 use Rattle.kryo_stream.specs.Padding.{padding_of}
 use Rattle.kryo_stream.specs.Progress.{IsUnpadded}
-use Rattle.kryo_stream.specs.Reads.{source_at}
+use Rattle.kryo_stream.specs.Reads.{reads_at}
 use Rattle.kryo_stream.proofs.Taking.{Took-more}
 use Rattle.kryo_stream.proofs.Unpadding.{padding_open, padding_passed, padding_to_end, padding_to_failure}
 use Rattle.kryo_stream.proofs.reading.pass_padding.Goals as goal
 
 pub returns-in-Some-clause-unpadded : goal.returns-in-Some-clause-unpadded
 returns-in-Some-clause-unpadded g c =
-    subst (λ rest. IsUnpadded (source_at g.S.Source.left g.S.Source.given g.S.Source.faults c.args.source.now) (source_at g.S.Source.left g.S.Source.given g.S.Source.faults c.loop-count.source) true c.args.intake.now.held rest (Ok Taken))
+    subst (λ rest. IsUnpadded (reads_at g.S.Source c.args.source.now) (reads_at g.S.Source c.loop-count.source) true c.args.intake.now.held rest (Ok Taken))
     (sym (ap (λ i. i.held) c.pass.ensures))
     (padding_passed c.in-Some.count c.loop-count.invariant.took
     (λ later. subst (λ y. padding_of (y ++ later) ≡ c.in-Some.count) c.bytes.ensures.value (c.in-Some.ensures.settled later))

@@ -1,5 +1,6 @@
 use Rattle.std.proofs.Common.{false, ◌≡◌, ◌≤◌, All, length}
-use Rattle.flux_base.specs.Counts.{Counts, counts_of}
+use Rattle.flux_base.specs.Counts.{Counts}
+use Rattle.flux_base.specs.World.{sink_counts}
 use Rattle.flux_writer.proofs.Steps.{IndexesWritten}
 use Rattle.flux_writer.proofs.stream.StreamWriter.write_indexes.Given as goal
 
@@ -10,7 +11,7 @@ invariant-loop-index g l = record {
   position : l.self.position ≡ l.initial.self.position;
   time : l.self.time ≡ l.initial.self.time;
   begun : All (λ index. l.initial.self.time ≤ index) l.self.indexes;
-  counts : Counts false (counts_of g.W.Sink.faults g.W.Sink.failed l.initial.sink) (counts_of g.W.Sink.faults g.W.Sink.failed l.sink);
+  counts : Counts false (sink_counts g.W.Sink l.initial.sink) (sink_counts g.W.Sink l.sink);
 }
 
 abbrev pub decreases-loop-index : goal.decreases-loop-index
