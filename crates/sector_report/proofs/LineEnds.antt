@@ -13,7 +13,7 @@ use Rattle.turn_merge.specs.declared.verdict.Verdict.{Verdict}
 use Rattle.turn_merge.specs.declared.verdict.Verdict.TheVariants.{Good, Contradictory, Bad, Missing}
 use Rattle.kryo_stream.specs.declared.fault.StreamFault.{StreamFault}
 use Rattle.kryo_stream.specs.declared.fault.StreamFault.TheVariants.{Truncated, UnknownType, BadSize, WrongPosition, DeviceFault, DataAfterEnd, IndexPosition, IndexOrder, NoTurn, TooLong}
-use Rattle.sector_report.specs.DumpLines.{DumpsHaveLines, dump_name, name_text, no_files_text, other_text, passed_text, traces_text, unread_text, untold_text}
+use Rattle.sector_report.specs.DumpLines.{DumpsHaveLines, dump_name, name_text, other_text, passed_text, traces_text, unread_text, untold_text}
 use Rattle.sector_report.specs.declared.dump_lines.Passed.{Passed}
 use Rattle.sector_report.specs.declared.dump_lines.Passed.TheVariants.{Absent, Failed, Refused}
 use Rattle.sector_report.specs.LineLaws.{IsOneLine, SectorsHaveOneLine, TotalsHaveOneLine, line_ends}
@@ -187,7 +187,7 @@ other-line naming track told =
     }
 
 pub dumps_have_lines : DumpsHaveLines
-unfolding unread_text no_files_text untold_text traces_text
+unfolding unread_text untold_text traces_text
 dumps_have_lines = record {
   passed = passed-line;
   other = other-line;
@@ -210,10 +210,5 @@ dumps_have_lines = record {
         (none-number (codes "unread " ++ decimal streams ++ codes " other " ++ decimal others) (codes " whole ") whole
         (none-number (codes "unread " ++ decimal streams) (codes " other ") others
         (none-append (none-codes (codes "unread ") refl) (none-decimal streams)) refl) refl).none;
-  };
-  no_files = λ dump. record {
-    front = codes "refused dump " ++ decimal dump ++ codes " no track files";
-    ends = refl;
-    once = (none-append (none-append (none-codes (codes "refused dump ") refl) (none-decimal dump)) (none-codes (codes " no track files") refl)).none;
   };
 }

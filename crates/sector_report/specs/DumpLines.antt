@@ -50,10 +50,6 @@ traces_text track count = two_digits track.cylinder ++ codes "." ++ decimal trac
 unfoldable pub unread_text : (unread others whole : ℕ) → List ℕ
 unread_text unread others whole = codes "unread " ++ decimal unread ++ codes " other " ++ decimal others ++ codes " whole " ++ decimal whole ++ codes "\n"
 
--- that a dump has no file of any track
-unfoldable pub no_files_text : (dump : ℕ) → List ℕ
-no_files_text dump = codes "refused dump " ++ decimal dump ++ codes " no track files" ++ codes "\n"
-
 -- each of these is one line
 pub record DumpsHaveLines : Type 0 where
   pub passed : (track : TrackId) (dump : ℕ) (why : Passed) → IsOneLine (passed_text track dump why)
@@ -61,7 +57,6 @@ pub record DumpsHaveLines : Type 0 where
   pub untold : (track : TrackId) → IsOneLine (untold_text track)
   pub traces : (track : TrackId) (count : ℕ) → IsOneLine (traces_text track count)
   pub unread : (streams others whole : ℕ) → IsOneLine (unread_text streams others whole)
-  pub no_files : (dump : ℕ) → IsOneLine (no_files_text dump)
 
 -- the numbers of a fault, and of a stream that is refused, fit in 64 bits
 abbrev pub FaultFits : StreamFault → Type 0

@@ -2,7 +2,7 @@
 
 ghost use Rattle.std.specs.Prelude.{◌≡◌, ◌+◌, ◌≤◌, ◌<◌, ◌++◌, codes, decimal};
 ghost use Rattle.arrayvec.specs.ArrayString.{array_string_len};
-ghost use Rattle.sector_report.specs.DumpLines.{dump_name, name_text, no_files_text, other_text, passed_text, traces_text, unread_text, untold_text};
+ghost use Rattle.sector_report.specs.DumpLines.{dump_name, name_text, other_text, passed_text, traces_text, unread_text, untold_text};
 
 use crate::line::{Line, put, put_named, put_u8, put_u64};
 use crate::naming::Naming;
@@ -109,18 +109,6 @@ pub fn unread_line(unread: u32, others: u32, whole: u32) -> Line
     put_named(&mut line, " other ", others);
     put_named(&mut line, " whole ", whole);
     put(&mut line, "\n");
-    line
-}
-
-/// That a dump has the file of none of the tracks.
-#[tactic(auto, unfolding(crate::specs::DumpLines::no_files_text))]
-pub fn no_files_line(dump: u8) -> Line
-    ensures { result.bytes ≡ no_files_text dump }
-{
-    let mut line = Line::new();
-    put(&mut line, "refused dump ");
-    put_u8(&mut line, dump);
-    put(&mut line, " no track files\n");
     line
 }
 

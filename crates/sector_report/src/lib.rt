@@ -12,9 +12,7 @@ mod totals;
 mod trial_lines;
 mod usage;
 
-pub use dump_lines::{
-    Passed, no_files_line, other_line, passed_line, traces_line, unread_line, untold_line,
-};
+pub use dump_lines::{Passed, other_line, passed_line, traces_line, unread_line, untold_line};
 pub use laws::{dumps_have_lines, sector_lines_tell, sectors_have_one_line, totals_have_one_line};
 pub use line::{Line, put, put_named, put_u32, put_u64, write_line};
 pub use naming::Naming;

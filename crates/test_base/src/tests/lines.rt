@@ -3,9 +3,9 @@ use flux_base::{HeaderName, TrackId};
 use kryo_stream::StreamFault;
 use sector_images::Format;
 use sector_report::{
-    Naming, Passed, Totals, USAGE, image_line, named_line, no_files_line, other_line, passed_line,
-    refused_line, sector_line, total_line, traces_line, transitions_line, trial_line, turn_line,
-    unread_line, untold_line, usage_line,
+    Naming, Passed, Totals, USAGE, image_line, named_line, other_line, passed_line, refused_line,
+    sector_line, total_line, traces_line, transitions_line, trial_line, turn_line, unread_line,
+    untold_line, usage_line,
 };
 use track_shelf::{file_name, missing_line};
 use turn_merge::{Clock, OtherTold, Place, Verdict};
@@ -241,10 +241,6 @@ fn lines_of_dumps(rt: HostRuntime) {
         assert_eq!(rt; passed_line(TRACK, 2, &passed).as_str(), line);
     }
     assert_eq!(rt; unread_line(2, 1, 0).as_str(), "unread 2 other 1 whole 0\n");
-    assert_eq!(rt;
-        no_files_line(1).as_str(),
-        "refused dump 1 no track files\n"
-    );
 }
 
 /// A reading of the third dump by the held clock.
