@@ -52,7 +52,7 @@ pub use names::{NamedStreams, count_names, take_names};
 pub use plan::{Clocks, Plan, Rule};
 pub use planned::{decode_planned, decode_planned_tracks, decode_tracks};
 pub use ring_making::track_ring;
-pub use room::{DiskRoom, MOST_CELLS, format_book};
+pub use room::{DiskRoom, MOST_CELLS, format_book, lost_count};
 pub use track::decode_track;
 pub use track_part::{PartFault, write_part};
 pub use track_streams::{NextStream, OneAfterAnother, TrackStreams};

@@ -173,7 +173,7 @@ impl DiskRoom {
 }
 
 /// How many of these streams are passed over since their files failed.
-fn lost_count(passed: &[PassedStream]) -> u32
+pub fn lost_count(passed: &[PassedStream]) -> u32
     requires { length passed.now < 2 ^ 32 }
     ensures count { result ≡ lost_in passed.now }
     ensures few { result ≤ length passed.now }
