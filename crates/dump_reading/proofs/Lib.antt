@@ -1,6 +1,8 @@
 pub mod NextStreams
 pub mod Lists
 pub mod Ends
-pub mod Looks
+pub mod DumpFiles
 pub mod FileStreams
 pub mod Closing
+pub mod TrackNumbers
+pub mod BesideSteps

@@ -3,5 +3,7 @@ pub mod Blamed
 pub mod Totals
 pub mod DumpStreams
 pub mod Reports
+pub mod Beside
 pub mod lemmas
 pub mod Outcomes
+pub mod Looks

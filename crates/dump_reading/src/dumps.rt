@@ -11,7 +11,7 @@ ghost use Rattle.track_shelf.specs.Names.{path_text};
 ghost use Rattle.track_shelf.specs.Told.{told_by, with_closed, with_failed};
 
 use flux_base::{Failed, TrackId, Word};
-use flux_engine::{CaptureFault, NextStream, TrackStreams, read_stream};
+use flux_engine::{CaptureFault, NamedStreams, NextStream, TrackStreams, read_stream};
 use kryo_stream::StreamRoom;
 use sector_images::{Format, track_id, tracks_keep_bounds};
 use sector_report::Passed;
@@ -68,6 +68,21 @@ impl<'a, H: Shelf> TrackStreams<H> for Dumps<'a> {
     }
 
     ghost begins = { λ dumps plan format now. none_came (of_disk dumps.stepping dumps.names.now plan.captures format) (shelf_now (told_by H.files H.left H.given H.handled now) (counts_of H.faults H.failed now)) };
+}
+
+/// Tracks by their ids, whether the format has them or not.
+impl<'a, H: Shelf> NamedStreams<H> for Dumps<'a> {
+    ghost gave = { λ dumps old new track capture here. GaveOf dumps.stepping dumps.names.now track capture (shelf_now (told_by H.files H.left H.given H.handled old) (counts_of H.faults H.failed old)) (shelf_now (told_by H.files H.left H.given H.handled new) (counts_of H.faults H.failed new)) here };
+
+    fn stream_of(
+        &self,
+        track: TrackId,
+        capture: u8,
+        source: &mut H,
+        stream: &mut StreamRoom,
+    ) -> NextStream {
+        self.read(track, capture, source, stream)
+    }
 }
 
 /// Reads the file of a track of a dump: the stream at its begin. One that is missing or refused is passed over, and so is one that fails as it

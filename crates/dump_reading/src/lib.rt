@@ -3,16 +3,20 @@
 //! image and the report here, a picture in `disk_map`.
 #![tactic(auto)]
 
+mod beside;
 mod dumps;
 mod fault;
 mod looking;
+mod looks;
 mod reading;
 mod report;
 mod totals;
 
+pub use beside::{BesideWriter, Unsaid};
 pub use dumps::Dumps;
 pub use fault::DumpsFault;
 pub use looking::find_empty;
+pub use looks::Looks;
 pub use reading::{read_dump_tracks, read_dumps, read_dumps_by};
 pub use report::write_passed;
 pub use totals::DumpTotals;

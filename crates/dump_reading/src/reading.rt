@@ -11,9 +11,11 @@ ghost use Rattle.dump_reading.specs.Files.{shelf_now};
 ghost use Rattle.dump_reading.specs.Outcomes.{HasTracksBy, SaysOfDumps, StopsBy, disk_by, disk_of};
 ghost use Rattle.dump_reading.specs.Reports.{end_text};
 
+use crate::beside::{BesideReport, BesideWriter, read_beside};
 use crate::dumps::Dumps;
 use crate::fault::DumpsFault;
 use crate::looking::find_empty;
+use crate::looks::Looks;
 use crate::report::{DumpReport, NAMING};
 use crate::totals::DumpTotals;
 use flux_base::{Failed, Sink};
@@ -23,14 +25,15 @@ use flux_engine::{
 use sector_report::{total_line, unread_line, write_line};
 use track_shelf::Shelf;
 
-/// Reads a disk of its dumps, and then writes the last two lines to `notes`. Of each track in order the files of all dumps are
-/// read as controllers read, in the order of the dumps; one that is missing or refused, or that fails, is told and passed over. One verdict for
-/// each sector is given over all readings by both clocks, and the names of headers are told that are those of none of the track's
-/// sectors: one by one where whole data follow them. No answer is for want of
-/// memory.
+/// Reads a disk of its dumps, and then writes the last two lines to `notes`. Of each track in order the files of all
+/// dumps are read as controllers read, in the order of the dumps; one that is missing or refused, or that fails, is told
+/// and passed over. One verdict for each sector is given over all readings by both clocks, and the names of headers are
+/// told that are those of none of the track's sectors: one by one where whole data follow them. Then the files of all
+/// other tracks are looked at, of which no sector is wanted: all names in them are others, and one of these files that is
+/// missing is not told. No answer is for want of memory.
 ///
-/// A dump that has the file of none of the format's tracks is refused before anything is written. After a fault of a sink nothing more is read
-/// or written, and the tracks before are written whole.
+/// A dump that has the file of none of the format's tracks is refused before anything is written. After a fault of a sink
+/// nothing more is read or written, and the tracks before are written whole.
 pub fn read_dumps<H: Shelf, W: Sink, N: Sink>(
     dumps: &Dumps,
     room: &mut DiskRoom,
@@ -47,12 +50,21 @@ pub fn read_dumps<H: Shelf, W: Sink, N: Sink>(
         (three_counts no_counts (counts_of W.faults W.failed image.old) (counts_of N.faults N.failed notes.old))
         (three_counts no_counts (counts_of W.faults W.failed image.new) (counts_of N.faults N.failed notes.new)) }
 {
-    read_dumps_by(Clocks::Both, dumps, room, shelf, image, notes)
+    read_dumps_by(
+        Clocks::Both,
+        Looks::Always,
+        dumps,
+        room,
+        shelf,
+        image,
+        notes,
+    )
 }
 
-/// The same by these clocks.
+/// The same by these clocks, looking at the files beside the format's tracks always, or only where a sector is good.
 pub fn read_dumps_by<H: Shelf, W: Sink, N: Sink>(
     clocks: Clocks,
+    looks: Looks,
     dumps: &Dumps,
     room: &mut DiskRoom,
     shelf: &mut H,
@@ -61,7 +73,7 @@ pub fn read_dumps_by<H: Shelf, W: Sink, N: Sink>(
 ) -> Result<DumpTotals, DumpsFault>
     requires fresh { room.old ≡ fresh room.old.format }
     requires few { length dumps.now.names.now ≤ 16 }
-    ensures says { SaysOfDumps (disk_by clocks dumps.now room.old.format) (shelf_now (told_by H.files H.left H.given H.handled shelf.old) (counts_of H.faults H.failed shelf.old)) (shelf_now (told_by H.files H.left H.given H.handled shelf.new) (counts_of H.faults H.failed shelf.new)) (W.written image.old) (W.written image.new) (N.written notes.old) (N.written notes.new) result }
+    ensures says { SaysOfDumps (disk_by clocks looks dumps.now room.old.format) (shelf_now (told_by H.files H.left H.given H.handled shelf.old) (counts_of H.faults H.failed shelf.old)) (shelf_now (told_by H.files H.left H.given H.handled shelf.new) (counts_of H.faults H.failed shelf.new)) (W.written image.old) (W.written image.new) (N.written notes.old) (N.written notes.new) result }
 
     // What the shelf did is in what came of it.
     ensures blames { CountsBy (dumps_blame result)
@@ -72,7 +84,18 @@ pub fn read_dumps_by<H: Shelf, W: Sink, N: Sink>(
         None => {}
         Some(dump) => return Err(DumpsFault::NoFiles { dump }),
     }
-    let totals = match read_dump_tracks(clocks, dumps, &DumpReport, room, shelf, image, notes) {
+    let read = read_dump_tracks(
+        clocks,
+        looks,
+        dumps,
+        &DumpReport,
+        &BesideReport,
+        room,
+        shelf,
+        image,
+        notes,
+    );
+    let totals = match read {
         Ok(totals) => totals,
         Err(fault) => return Err(fault),
     };
@@ -82,13 +105,15 @@ pub fn read_dumps_by<H: Shelf, W: Sink, N: Sink>(
     }
 }
 
-/// Reads all tracks of a disk of its dumps as `read_dumps` does, and gives what was gathered of each to a writer. That dumps
-/// have files is not looked at here, so `NoFiles` does not come. After a fault nothing more is read or written, and the tracks before are
-/// written whole.
-pub fn read_dump_tracks<O: TrackWriter, H: Shelf, W: Sink, N: Sink>(
+/// Reads all tracks of a disk of its dumps, and those beside them where that is asked for, as `read_dumps_by` does, and
+/// gives what was gathered of each to a writer. That dumps have files is not looked at here, so `NoFiles` does not come.
+/// After a fault nothing more is read or written, and the tracks before are written whole.
+pub fn read_dump_tracks<O: TrackWriter, B: BesideWriter, H: Shelf, W: Sink, N: Sink>(
     clocks: Clocks,
+    looks: Looks,
     dumps: &Dumps,
     writer: &O,
+    beside: &B,
     room: &mut DiskRoom,
     shelf: &mut H,
     image: &mut W,
@@ -96,8 +121,8 @@ pub fn read_dump_tracks<O: TrackWriter, H: Shelf, W: Sink, N: Sink>(
 ) -> Result<DumpTotals, DumpsFault>
     requires fresh { room.old ≡ fresh room.old.format }
     requires few { length dumps.now.names.now ≤ 16 }
-    ensures ok { IfOk result (HasTracksBy (O.part_of writer.now) (disk_by clocks dumps.now room.old.format) (shelf_now (told_by H.files H.left H.given H.handled shelf.old) (counts_of H.faults H.failed shelf.old)) (shelf_now (told_by H.files H.left H.given H.handled shelf.new) (counts_of H.faults H.failed shelf.new)) (W.written image.old) (W.written image.new) (N.written notes.old) (N.written notes.new)) }
-    ensures err { IfErr result (StopsBy (O.part_of writer.now) (disk_by clocks dumps.now room.old.format) (shelf_now (told_by H.files H.left H.given H.handled shelf.old) (counts_of H.faults H.failed shelf.old)) (shelf_now (told_by H.files H.left H.given H.handled shelf.new) (counts_of H.faults H.failed shelf.new)) (W.written image.old) (W.written image.new) (N.written notes.old) (N.written notes.new)) }
+    ensures ok { IfOk result (HasTracksBy (O.part_of writer.now) (B.lines_of beside.now) (disk_by clocks looks dumps.now room.old.format) (shelf_now (told_by H.files H.left H.given H.handled shelf.old) (counts_of H.faults H.failed shelf.old)) (shelf_now (told_by H.files H.left H.given H.handled shelf.new) (counts_of H.faults H.failed shelf.new)) (W.written image.old) (W.written image.new) (N.written notes.old) (N.written notes.new)) }
+    ensures err { IfErr result (StopsBy (O.part_of writer.now) (B.lines_of beside.now) (disk_by clocks looks dumps.now room.old.format) (shelf_now (told_by H.files H.left H.given H.handled shelf.old) (counts_of H.faults H.failed shelf.old)) (shelf_now (told_by H.files H.left H.given H.handled shelf.new) (counts_of H.faults H.failed shelf.new)) (W.written image.old) (W.written image.new) (N.written notes.old) (N.written notes.new)) }
 
     // What the shelf did is in what came of it.
     ensures blames { CountsBy (dumps_blame result)
@@ -112,6 +137,13 @@ pub fn read_dump_tracks<O: TrackWriter, H: Shelf, W: Sink, N: Sink>(
     };
     let mut sectors = no_totals();
     match decode_tracks(plan, dumps, writer, room, shelf, image, notes, &mut sectors) {
+        Ok(()) => {}
+        Err(PlanFault::ImageFault) => return Err(DumpsFault::ImageFault),
+        Err(PlanFault::NotesFault) => return Err(DumpsFault::NotesFault),
+        // No stream ends a disk of dumps.
+        Err(PlanFault::ReadFault | PlanFault::Refused { .. }) => unreachable!(),
+    }
+    match read_beside(clocks, looks, &sectors, dumps, beside, room, shelf, notes) {
         Ok(()) => Ok(DumpTotals {
             sectors,
             unread: room.unread(),
@@ -119,10 +151,7 @@ pub fn read_dump_tracks<O: TrackWriter, H: Shelf, W: Sink, N: Sink>(
             others: room.told_others(),
             whole: room.whole_others(),
         }),
-        Err(PlanFault::ImageFault) => Err(DumpsFault::ImageFault),
-        Err(PlanFault::NotesFault) => Err(DumpsFault::NotesFault),
-        // No stream ends a disk of dumps.
-        Err(PlanFault::ReadFault | PlanFault::Refused { .. }) => unreachable!(),
+        Err(Failed) => Err(DumpsFault::NotesFault),
     }
 }
 

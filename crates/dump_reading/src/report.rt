@@ -80,7 +80,11 @@ pub fn write_passed<N: Sink>(
 }
 
 /// Writes the lines of other headers of a track, each in one piece.
-fn write_others<N: Sink>(track: TrackId, others: &Others, notes: &mut N) -> Result<(), Failed>
+pub(crate) fn write_others<N: Sink>(
+    track: TrackId,
+    others: &Others,
+    notes: &mut N,
+) -> Result<(), Failed>
     requires { track.cylinder < 100 }
     ensures { Puts (moment N.written N.faults N.failed notes.old) (moment N.written N.faults N.failed notes.new) (other_lines track others.now.told others.now.untold) result }
 {

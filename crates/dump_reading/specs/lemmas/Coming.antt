@@ -8,12 +8,12 @@ use Rattle.std.proofs.lemmas.List.Concat.{flat_map-append}
 use Rattle.std.proofs.lemmas.List.Sums.{sum_by_push}
 use Rattle.std.proofs.lemmas.Nat.{div-mul-add, mod-mul-add}
 use Rattle.flux_base.specs.Counts.{Counts, FaultCounts, RoseIf}
-use Rattle.flux_base.specs.Outside.{IsCounted, Rose, one_more}
+use Rattle.flux_base.specs.Outside.{IsCounted, Rose, one_more, risen}
 use Rattle.flux_base.specs.declared.track.TrackId.{TrackId}
 use Rattle.flux_engine.specs.LoopProgress.{lost_count, seen_at}
 use Rattle.flux_engine.specs.Plans.{Seen, is_failed}
 use Rattle.flux_engine.specs.lemmas.Pieces.{range-more}
-use Rattle.track_shelf.specs.Files.{File, file_at}
+use Rattle.track_shelf.specs.Files.{File, file_at, risen_by}
 use Rattle.track_shelf.specs.Handled.{Handled, more_blamed}
 use Rattle.track_shelf.specs.Told.{ShelfTold, with_failed}
 use Rattle.dump_reading.specs.DumpStreams.{DumpTracks, GaveOf, HaveComeOf, IsOrFailed, failed_path, failed_paths, path_at, path_in, seen_of}
@@ -59,7 +59,7 @@ more-counted often true (Some count) now after is one =
     one ∙ ap (λ (f : Option ℕ). one_more f) is ∙ ap (λ (n : ℕ). failed_more n (Some count)) (sym same)
 
 -- a list from a range, by what it has at each number
-flat-same : {X : Type 0} (f g : ℕ → List X) (first count : ℕ) → ((i : ℕ) → i < first + count → f i ≡ g i) → flat_map f (range_with_len first count) ≡ flat_map g (range_with_len first count)
+pub flat-same : {X : Type 0} (f g : ℕ → List X) (first count : ℕ) → ((i : ℕ) → i < first + count → f i ≡ g i) → flat_map f (range_with_len first count) ≡ flat_map g (range_with_len first count)
 flat-same f g first zero same = refl
 flat-same f g first (suc count) same =
     ap (λ (xs : List _). xs ++ flat_map f (range_with_len (first + 1) count)) (same first (omega arith))
@@ -110,6 +110,31 @@ counts-more often fails old now new many one = record {
   cause = λ some. more-faults often fails old.faults now.faults new.faults many.cause many.later one.later one.cause some;
   counted = more-counted often fails old.failed now.failed new.failed many.counted one.counted;
 }
+
+-- so many calls failed, and then so many again
+risen-both : (often again count : ℕ) → risen_by again (risen_by often count) ≡ risen_by (often + again) count
+risen-both often zero count = ap (λ (n : ℕ). risen_by n count) (omega arith)
+risen-both often (suc again) count =
+    let next : suc (often + again) ≡ often + suc again = omega arith in
+    ap (λ (n : ℕ). risen n) (risen-both often again count) ∙ ap (λ (n : ℕ). risen_by n count) next
+
+failed-more-both : (often again : ℕ) (failed : Option ℕ) → failed_more again (failed_more often failed) ≡ failed_more (often + again) failed
+failed-more-both often again None = refl
+failed-more-both often again (Some count) = ap (λ (n : ℕ). Some n) (risen-both often again count)
+
+pub counts-both : (often again : ℕ) {old mid new : FaultCounts} → CountsMany often old mid → CountsMany again mid new → CountsMany (often + again) old new
+counts-both often again {old} {mid} {new} first after = record {
+  later = omega (arith, first.later, after.later);
+  cause = λ some. rose some (cases_lt 0 often);
+  counted = after.counted ∙ ap (failed_more again) first.counted ∙ failed-more-both often again old.failed;
+}
+  where
+    rose : 0 < often + again → (0 < often) ⊎ (often ≤ 0) → Rose old.faults new.faults
+    rose some (inl any) = (let risen_then = first.cause any in omega (arith, risen_then, after.later))
+    rose some (inr none) =
+        let any : 0 < again = omega (arith, some, none) in
+        let risen_now = after.cause any in
+        omega (arith, first.later, risen_now)
 
 -- one stream more came
 module _ (of : DumpTracks) (start now : ShelfNow) (before : List Seen) where

@@ -1,6 +1,6 @@
 use Rattle.std.proofs.Common.{◌≤◌, length, arith, sym, ◌∙◌}
 use Rattle.sector_images.specs.Places.{tracks}
-use Rattle.dump_reading.proofs.Looks.{none-found, none-more, one-found}
+use Rattle.dump_reading.proofs.DumpFiles.{none-found, none-more, one-found}
 use Rattle.dump_reading.proofs.looking.has_any.Goals as goal
 
 pub file_track-requires : goal.file_track-requires

@@ -1,0 +1,133 @@
+use Rattle.std.proofs.Common.{◌≡◌, ◌+◌, ◌/◌, ◌%◌, ◌<◌, is_some, Ok, Err, length, arith, refl, sym, ap, ◌∙◌}
+use Rattle.flux_base.specs.Counts.{counts_of}
+use Rattle.flux_base.specs.Moments.{moment}
+use Rattle.flux_base.specs.declared.track.TrackId.{TrackId as Id}
+use Rattle.flux_base.specs.lemmas.Counting.{Counts-none, Counts-then}
+use Rattle.sector_images.specs.Places.{tracks}
+use Rattle.track_shelf.specs.Told.{told_by}
+use Rattle.dump_reading.specs.Beside.{beside_at, beside_tracks}
+use Rattle.dump_reading.specs.Files.{shelf_now}
+use Rattle.dump_reading.specs.Outcomes.{disk_by}
+use Rattle.dump_reading.proofs.BesideSteps.{all-asked, at-place, below-more, looked-into, looked-first, looked-next, none-asked, none-here, one-here}
+use Rattle.dump_reading.proofs.TrackNumbers.{beside-next, beside-same, beside_before, cylinders-few, tracks-few}
+use Rattle.dump_reading.proofs.beside.read_beside.Goals as goal
+use Rattle.dump_reading.proofs.beside.read_beside.Goals.{then-is_none+in-Ok, else-is_none}
+
+pub returns-then-not-wants-clause-ok : goal.returns-then-not-wants-clause-ok
+returns-then-not-wants-clause-ok g c =
+    none-asked (g.B.BesideWriter.lines_of c.args.writer.now) (disk_by c.args.clocks c.args.looks c.args.dumps.now c.args.room.now.format) c.args.sectors.now
+    (shelf_now (told_by g.H.Shelf.files g.H.Source.left g.H.Source.given g.H.Shelf.handled c.args.shelf.now) (counts_of g.H.Source.faults g.H.Source.failed c.args.shelf.now))
+    c.args.room.now (g.N.Sink.written c.args.notes.now) (sym c.if-not-wants.ensures)
+
+pub loop-number-init : goal.loop-number-init
+loop-number-init g c = record {
+  looked = looked-first (g.B.BesideWriter.lines_of c.args.writer.now) (disk_by c.args.clocks c.args.looks c.args.dumps.now c.args.room.now.format)
+      (shelf_now (told_by g.H.Shelf.files g.H.Source.left g.H.Source.given g.H.Shelf.handled c.args.shelf.now) (counts_of g.H.Source.faults g.H.Source.failed c.args.shelf.now))
+      c.args.room.now (g.N.Sink.written c.args.notes.now);
+  format = refl;
+  below = below-more c.args.room.now (length (tracks c.args.room.now.format)) (length (tracks c.args.room.now.format) + 0) (omega arith) c.requires.below;
+  counts = Counts-none (counts_of g.N.Sink.faults g.N.Sink.failed c.args.notes.now);
+}
+
+pub read_one-requires-clause-below : goal.read_one-requires-clause-below
+read_one-requires-clause-below g c =
+    let few = tracks-few c.args.room.now.format c.tracks_keep_bounds.ensures.bounds (c.tracks_keep_bounds.ensures.some c.args.room.now.format) in
+    let most = cylinders-few c.args.dumps.now.stepping in
+    below-more c.loop-number.room (length (tracks c.args.room.now.format) + c.loop-number.number) 1000
+    (omega (arith, few, most, c.most_cylinders-number-end.ensures, c.loop-number-test.true)) c.loop-number.invariant.below
+
+pub returns-in-Err-clause-err : goal.returns-in-Err-clause-err
+returns-in-Err-clause-err g c =
+    let h = c.loop-number.invariant.looked.0 in
+    let stepping = c.args.dumps.now.stepping in
+    let format = c.args.room.now.format in
+    let here : Id = (record { cylinder = c.loop-number.number / 2; head = c.loop-number.number % 2 }) in
+    let none = none-here format c.room_format.result here (is_some c.number_of.result) c.number_of.ensures.is (c.room_format.ensures ∙ c.loop-number.invariant.format) c.if-is_none.ensures in
+    let next = beside-next stepping format c.loop-number.number (omega (arith, c.most_cylinders-number-end.ensures, c.loop-number-test.true)) none in
+    let low : length h.beside.others < length (beside_tracks stepping format) = omega (arith, c.loop-number.invariant.looked.1, next.0) in
+    let place : beside_at stepping format (length h.beside.others) ≡ here = ap (beside_at stepping format) c.loop-number.invariant.looked.1 ∙ next.1 in
+    let one =
+    at-place place (c.in-Err.ensures.looked (beside_at stepping format) (length h.beside.others)
+    (shelf_now (told_by g.H.Shelf.files g.H.Source.left g.H.Source.given g.H.Shelf.handled c.args.shelf.now) (counts_of g.H.Source.faults g.H.Source.failed c.args.shelf.now))
+    h.beside.came place h.beside.are.all h.came) in
+    looked-into (g.B.BesideWriter.lines_of c.args.writer.now) (disk_by c.args.clocks c.args.looks c.args.dumps.now c.args.room.now.format)
+    (shelf_now (told_by g.H.Shelf.files g.H.Source.left g.H.Source.given g.H.Shelf.handled c.args.shelf.now) (counts_of g.H.Source.faults g.H.Source.failed c.args.shelf.now))
+    (shelf_now (told_by g.H.Shelf.files g.H.Source.left g.H.Source.given g.H.Shelf.handled c.loop-number.shelf) (counts_of g.H.Source.faults g.H.Source.failed c.loop-number.shelf))
+    (shelf_now (told_by g.H.Shelf.files g.H.Source.left g.H.Source.given g.H.Shelf.handled c.read_one.new.shelf) (counts_of g.H.Source.faults g.H.Source.failed c.read_one.new.shelf))
+    c.args.room.now c.loop-number.room c.read_one.new.room (g.N.Sink.written c.args.notes.now) (moment g.N.Sink.written g.N.Sink.faults g.N.Sink.failed c.loop-number.notes) (moment g.N.Sink.written g.N.Sink.faults g.N.Sink.failed c.read_one.new.notes)
+    c.loop-number.invariant.looked.0 (Err c.in-Err.failed) low c.loop-number.invariant.format one c.args.sectors.now (sym c.if-not-wants.ensures) one.puts.err
+
+pub returns-in-Err-clause-counts : goal.returns-in-Err-clause-counts
+returns-in-Err-clause-counts g c =
+    let h = c.loop-number.invariant.looked.0 in
+    let stepping = c.args.dumps.now.stepping in
+    let format = c.args.room.now.format in
+    let here : Id = (record { cylinder = c.loop-number.number / 2; head = c.loop-number.number % 2 }) in
+    let none = none-here format c.room_format.result here (is_some c.number_of.result) c.number_of.ensures.is (c.room_format.ensures ∙ c.loop-number.invariant.format) c.if-is_none.ensures in
+    let next = beside-next stepping format c.loop-number.number (omega (arith, c.most_cylinders-number-end.ensures, c.loop-number-test.true)) none in
+    let low : length h.beside.others < length (beside_tracks stepping format) = omega (arith, c.loop-number.invariant.looked.1, next.0) in
+    let place : beside_at stepping format (length h.beside.others) ≡ here = ap (beside_at stepping format) c.loop-number.invariant.looked.1 ∙ next.1 in
+    let one =
+    at-place place (c.in-Err.ensures.looked (beside_at stepping format) (length h.beside.others)
+    (shelf_now (told_by g.H.Shelf.files g.H.Source.left g.H.Source.given g.H.Shelf.handled c.args.shelf.now) (counts_of g.H.Source.faults g.H.Source.failed c.args.shelf.now))
+    h.beside.came place h.beside.are.all h.came) in
+    Counts-then _ c.loop-number.invariant.counts one.puts.counts
+
+pub loop-number-preserved : goal.loop-number-preserved
+loop-number-preserved g c =
+    elim c.if-is_none.branch [
+      | then-is_none+in-Ok w ↦
+          rw (w.room-is, w.shelf-is, w.notes-is)
+          (let h = c.loop-number.invariant.looked.0 in
+          let stepping = c.args.dumps.now.stepping in
+          let format = c.args.room.now.format in
+          let here : Id = (record { cylinder = c.loop-number.number / 2; head = c.loop-number.number % 2 }) in
+          let none = none-here format c.room_format.result here (is_some c.number_of.result) c.number_of.ensures.is (c.room_format.ensures ∙ c.loop-number.invariant.format) w.if-is_none.ensures in
+          let next = beside-next stepping format c.loop-number.number (omega (arith, c.most_cylinders-number-end.ensures, c.loop-number-test.true)) none in
+          let low : length h.beside.others < length (beside_tracks stepping format) = omega (arith, c.loop-number.invariant.looked.1, next.0) in
+          let place : beside_at stepping format (length h.beside.others) ≡ here = ap (beside_at stepping format) c.loop-number.invariant.looked.1 ∙ next.1 in
+          let one =
+          at-place place (w.in-Ok.ensures.looked (beside_at stepping format) (length h.beside.others)
+          (shelf_now (told_by g.H.Shelf.files g.H.Source.left g.H.Source.given g.H.Shelf.handled c.args.shelf.now) (counts_of g.H.Source.faults g.H.Source.failed c.args.shelf.now))
+          h.beside.came place h.beside.are.all h.came) in
+          record {
+            looked = looked-next (g.B.BesideWriter.lines_of c.args.writer.now) (disk_by c.args.clocks c.args.looks c.args.dumps.now c.args.room.now.format)
+                (shelf_now (told_by g.H.Shelf.files g.H.Source.left g.H.Source.given g.H.Shelf.handled c.args.shelf.now) (counts_of g.H.Source.faults g.H.Source.failed c.args.shelf.now))
+                (shelf_now (told_by g.H.Shelf.files g.H.Source.left g.H.Source.given g.H.Shelf.handled c.loop-number.shelf) (counts_of g.H.Source.faults g.H.Source.failed c.loop-number.shelf))
+                (shelf_now (told_by g.H.Shelf.files g.H.Source.left g.H.Source.given g.H.Shelf.handled w.read_one.new.shelf) (counts_of g.H.Source.faults g.H.Source.failed w.read_one.new.shelf))
+                c.args.room.now c.loop-number.room w.read_one.new.room (g.N.Sink.written c.args.notes.now) (moment g.N.Sink.written g.N.Sink.faults g.N.Sink.failed c.loop-number.notes) (moment g.N.Sink.written g.N.Sink.faults g.N.Sink.failed w.read_one.new.notes)
+                c.loop-number.invariant.looked.0 (Ok tt) low c.loop-number.invariant.format one one.puts.ok
+                (beside_before stepping format c.loop-number.number) (beside_before stepping format (c.loop-number.number + 1)) c.loop-number.invariant.looked.1 next.2;
+            format = w.read_one.ensures.format ∙ c.loop-number.invariant.format;
+            below = below-more w.read_one.new.room (length (tracks format) + c.loop-number.number + 1) (length (tracks format) + (c.loop-number.number + 1)) (omega arith)
+                (w.read_one.ensures.below (length (tracks format) + c.loop-number.number) c.loop-number.invariant.below);
+            counts = Counts-then _ c.loop-number.invariant.counts one.puts.counts;
+          })
+      | else-is_none w ↦
+          rw (w.room-is, w.shelf-is, w.notes-is)
+          (let stepping = c.args.dumps.now.stepping in
+          let format = c.args.room.now.format in
+          let here : Id = (record { cylinder = c.loop-number.number / 2; head = c.loop-number.number % 2 }) in
+          let is = one-here format c.room_format.result here (is_some c.number_of.result) c.number_of.ensures.is (c.room_format.ensures ∙ c.loop-number.invariant.format) w.if-is_none.ensures in
+          record {
+            looked = (
+              c.loop-number.invariant.looked.0,
+              c.loop-number.invariant.looked.1
+                  ∙ sym (beside-same stepping format c.loop-number.number (omega (arith, c.most_cylinders-number-end.ensures, c.loop-number-test.true)) is),
+            );
+            format = c.loop-number.invariant.format;
+            below = below-more c.loop-number.room (length (tracks format) + c.loop-number.number) (length (tracks format) + (c.loop-number.number + 1)) (omega arith) c.loop-number.invariant.below;
+            counts = c.loop-number.invariant.counts;
+          })
+    ]
+
+pub returns-clause-ok : goal.returns-clause-ok
+returns-clause-ok g c =
+    all-asked (g.B.BesideWriter.lines_of c.args.writer.now) (disk_by c.args.clocks c.args.looks c.args.dumps.now c.args.room.now.format) c.args.sectors.now
+    (shelf_now (told_by g.H.Shelf.files g.H.Source.left g.H.Source.given g.H.Shelf.handled c.args.shelf.now) (counts_of g.H.Source.faults g.H.Source.failed c.args.shelf.now))
+    (shelf_now (told_by g.H.Shelf.files g.H.Source.left g.H.Source.given g.H.Shelf.handled c.loop-number.shelf) (counts_of g.H.Source.faults g.H.Source.failed c.loop-number.shelf))
+    c.args.room.now c.loop-number.room (g.N.Sink.written c.args.notes.now) (g.N.Sink.written c.loop-number.notes) (sym c.if-not-wants.ensures) c.loop-number.invariant.looked.0 c.loop-number.number
+    (omega (arith, c.most_cylinders-number-end.ensures, c.loop-number-test.false)) c.loop-number.invariant.looked.1
+
+pub returns-clause-counts : goal.returns-clause-counts
+returns-clause-counts g c = c.loop-number.invariant.counts

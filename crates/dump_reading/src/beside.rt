@@ -1,0 +1,214 @@
+//! The tracks that dumps may have files of beside those of the format: no sector of them is wanted, and all headers in
+//! them are others.
+
+ghost use Rattle.std.specs.Prelude.{◌≡◌, ◌≤◌, ◌<◌, ◌+◌, ◌*◌, ℕ, List, [], Some, length, is_err, is_some, slice_get, IfSome, OnErr, OnOk};
+ghost use Rattle.flux_base.specs.Counts.{Counts, counts_of};
+ghost use Rattle.flux_base.specs.Moments.{Puts, moment};
+ghost use Rattle.flux_base.specs.declared.track.TrackId.{TrackId as Id};
+ghost use Rattle.flux_engine.specs.Counts.{AreCountsBelow};
+ghost use Rattle.flux_engine.specs.Plans.{Seen};
+ghost use Rattle.flux_engine.specs.Recordings.{track_at};
+ghost use Rattle.sector_images.specs.Places.{tracks};
+ghost use Rattle.track_shelf.specs.Told.{told_by};
+ghost use Rattle.turn_merge.specs.Others.{NotedOther, OthersStandFor};
+ghost use Rattle.dump_reading.specs.Beside.{LinesOf, beside_lines, is_track, most_cylinders, near_track, no_lines, of_tracks};
+ghost use Rattle.dump_reading.specs.DumpStreams.{HaveComeOf};
+ghost use Rattle.dump_reading.specs.Files.{ShelfNow, shelf_now};
+ghost use Rattle.dump_reading.specs.Looks.{HasTakenTo, LooksAsAsked, LooksAtOne, LooksInto};
+ghost use Rattle.dump_reading.specs.Outcomes.{disk_by};
+ghost use Rattle.dump_reading.specs.Reports.{plan_by};
+
+use crate::dumps::Dumps;
+use crate::looks::Looks;
+use crate::report::{write_others, write_passed};
+use flux_base::{Failed, Sink, TrackId};
+use flux_engine::{
+    Clocks, DiskRoom, Gathered, count_names, room_format, room_gathered, start_track, take_names,
+};
+use sector_images::{Format, track_count, track_id, tracks_keep_bounds};
+use sector_report::Totals;
+use track_shelf::{Shelf, Stepping};
+
+/// What becomes of such a track: lines, or nothing.
+pub trait BesideWriter {
+    /// Its lines, by the captures that are passed over and by all others.
+    ghost lines_of: { Self → LinesOf };
+
+    /// Writes them, each in one piece.
+    fn write_beside<N: Sink>(
+        &self,
+        track: TrackId,
+        gathered: &Gathered,
+        notes: &mut N,
+    ) -> Result<(), Failed>
+        requires { track.cylinder < 100 }
+        ensures { (others : List NotedOther) → OthersStandFor gathered.now.others others
+            → Puts (moment N.written N.faults N.failed notes.old) (moment N.written N.faults N.failed notes.new) (lines_of self.now track gathered.now.passed.items others) result };
+}
+
+/// The lines of the report.
+#[derive(Clone, Copy, Debug)]
+pub(crate) struct BesideReport;
+
+impl BesideWriter for BesideReport {
+    ghost lines_of = { λ _. beside_lines };
+
+    fn write_beside<N: Sink>(
+        &self,
+        track: TrackId,
+        gathered: &Gathered,
+        notes: &mut N,
+    ) -> Result<(), Failed> {
+        match write_passed(track, &gathered.passed, notes) {
+            Ok(()) => write_others(track, &gathered.others, notes),
+            Err(failed) => Err(failed),
+        }
+    }
+}
+
+/// None, where the notes get no report.
+#[derive(Clone, Copy, Debug)]
+pub struct Unsaid;
+
+impl BesideWriter for Unsaid {
+    ghost lines_of = { λ _. no_lines };
+
+    fn write_beside<N: Sink>(
+        &self,
+        track: TrackId,
+        gathered: &Gathered,
+        notes: &mut N,
+    ) -> Result<(), Failed> {
+        Ok(())
+    }
+}
+
+/// Looks at the files of all tracks beside the format's, by their cylinders and then by their heads, where that is asked
+/// for by what the format's tracks came to. What was counted of these is counted on. The room's tracks are done with: it
+/// is used again for each of those beside, which is read with the ring and the cell of the format's nearest track.
+pub(crate) fn read_beside<B: BesideWriter, H: Shelf, N: Sink>(
+    clocks: Clocks,
+    looks: Looks,
+    sectors: &Totals,
+    dumps: &Dumps,
+    writer: &B,
+    room: &mut DiskRoom,
+    shelf: &mut H,
+    notes: &mut N,
+) -> Result<(), Failed>
+    requires few { length dumps.now.names.now ≤ 16 }
+    requires below { AreCountsBelow room.old (length (tracks room.old.format)) }
+    ensures ok { OnOk result (LooksAsAsked (B.lines_of writer.now) (disk_by clocks looks dumps.now room.old.format) sectors.now (shelf_now (told_by H.files H.left H.given H.handled shelf.old) (counts_of H.faults H.failed shelf.old)) (shelf_now (told_by H.files H.left H.given H.handled shelf.new) (counts_of H.faults H.failed shelf.new)) room.old room.new (N.written notes.old) (N.written notes.new)) }
+    ensures err { OnErr result (LooksInto (B.lines_of writer.now) (disk_by clocks looks dumps.now room.old.format) sectors.now (shelf_now (told_by H.files H.left H.given H.handled shelf.old) (counts_of H.faults H.failed shelf.old)) (shelf_now (told_by H.files H.left H.given H.handled shelf.new) (counts_of H.faults H.failed shelf.new)) (N.written notes.old) (N.written notes.new)) }
+    ensures counts { Counts (is_err result) (counts_of N.faults N.failed notes.old) (counts_of N.faults N.failed notes.new) }
+{
+    if !looks.wants(sectors) {
+        return Ok(());
+    }
+    tracks_keep_bounds();
+    for number in 0..2 * most_cylinders(dumps.stepping) {
+        let track = TrackId {
+            cylinder: number / 2,
+            head: number % 2,
+        };
+        if number_of(room_format(room), track).is_none() {
+            match read_one(clocks, dumps, writer, track, room, shelf, notes) {
+                Ok(()) => {}
+                Err(failed) => return Err(failed),
+            }
+        }
+    }
+    Ok(())
+}
+
+/// Looks at the files of one such track.
+fn read_one<B: BesideWriter, H: Shelf, N: Sink>(
+    clocks: Clocks,
+    dumps: &Dumps,
+    writer: &B,
+    track: TrackId,
+    room: &mut DiskRoom,
+    shelf: &mut H,
+    notes: &mut N,
+) -> Result<(), Failed>
+    requires cylinder { track.cylinder < 100 }
+    requires few { length dumps.now.names.now ≤ 16 }
+    requires below { AreCountsBelow room.old 1000 }
+    ensures looked { (track_of : ℕ → Id) (number : ℕ) (start : ShelfNow) (before : List Seen) → track_of number ≡ track → length before ≡ number * length dumps.now.names.now
+        → HaveComeOf (of_tracks dumps.now.stepping dumps.now.names.now track_of) start (shelf_now (told_by H.files H.left H.given H.handled shelf.old) (counts_of H.faults H.failed shelf.old)) before
+        → LooksAtOne (B.lines_of writer.now) (plan_by clocks (length dumps.now.names.now)) track (of_tracks dumps.now.stepping dumps.now.names.now track_of) start (shelf_now (told_by H.files H.left H.given H.handled shelf.new) (counts_of H.faults H.failed shelf.new)) before room.old room.new (moment N.written N.faults N.failed notes.old) (moment N.written N.faults N.failed notes.new) result }
+    ensures format { room.new.format ≡ room.old.format }
+    ensures below { (n : ℕ) → AreCountsBelow room.old n → AreCountsBelow room.new (n + 1) }
+{
+    start_track(room, near_number(room_format(room), track));
+    take_all(clocks, dumps, track, room, shelf);
+    count_names(room);
+    writer.write_beside(track, room_gathered(room), notes)
+}
+
+/// Takes the files of all dumps of such a track, of which nothing was gathered yet.
+fn take_all<H: Shelf>(
+    clocks: Clocks,
+    dumps: &Dumps,
+    track: TrackId,
+    room: &mut DiskRoom,
+    shelf: &mut H,
+)
+    requires cylinder { track.cylinder < 100 }
+    requires few { length dumps.now.names.now ≤ 16 }
+    requires started { room.old.started < length (tracks room.old.format) }
+    requires none { room.old.captures ≡ 0 }
+    requires none_passed { room.old.passed ≡ [] }
+    requires no_others { OthersStandFor room.old.others [] }
+    ensures taken { (track_of : ℕ → Id) (number : ℕ) (start : ShelfNow) (before : List Seen) → track_of number ≡ track → length before ≡ number * length dumps.now.names.now
+        → HaveComeOf (of_tracks dumps.now.stepping dumps.now.names.now track_of) start (shelf_now (told_by H.files H.left H.given H.handled shelf.old) (counts_of H.faults H.failed shelf.old)) before
+        → HasTakenTo (plan_by clocks (length dumps.now.names.now)) (track_at room.old.format room.old.started) (of_tracks dumps.now.stepping dumps.now.names.now track_of) start (shelf_now (told_by H.files H.left H.given H.handled shelf.new) (counts_of H.faults H.failed shelf.new)) before room.new (length dumps.now.names.now) }
+    ensures kept { room.new ≡ record room.old { held = room.new.held; used = room.new.used; captures = room.new.captures; passed = room.new.passed; others = room.new.others } }
+    ensures passed { length room.new.passed ≤ 16 }
+{
+    for dump in 0..dumps.names.len() {
+        take_names(clocks, dumps, room, track, dump as u8, shelf);
+    }
+}
+
+/// How many cylinders the names of a dump's files reach.
+fn most_cylinders(stepping: Stepping) -> u8
+    ensures { result ≡ most_cylinders stepping }
+{
+    match stepping {
+        Stepping::Single => 100,
+        Stepping::Double => 50,
+    }
+}
+
+/// The number of the format's track that is the same, if one is.
+fn number_of(format: Format, track: TrackId) -> Option<u32>
+    ensures at { IfSome result (λ number. slice_get (tracks format) number ≡ Some track) }
+    ensures is { is_some result ≡ is_track format track }
+{
+    for number in 0..track_count(format) {
+        if track_id(format, number) == track {
+            return Some(number);
+        }
+    }
+    None
+}
+
+/// The number of the format's nearest track: of the same cylinder or of the last one, on the same head or on the last
+/// one. (In either order the last track has the last cylinder and the last head.)
+fn near_number(format: Format, track: TrackId) -> u32
+    ensures low { result < length (tracks format) }
+    ensures near { track_at format result ≡ near_track format track }
+{
+    tracks_keep_bounds();
+    let last = track_id(format, track_count(format) - 1);
+    let near = TrackId {
+        cylinder: track.cylinder.min(last.cylinder),
+        head: track.head.min(last.head),
+    };
+    match number_of(format, near) {
+        Some(number) => number,
+        // It is one of the format's.
+        None => unreachable!(),
+    }
+}
