@@ -1,15 +1,15 @@
 -- How many lines the tracks have in a report of dumps: as many as its numbers say.
-use Rattle.std.specs.Prelude.{◌≡◌, ◌≤◌, ◌<◌, ℕ, zero, suc, ◌+◌, ◌*◌, cond, is_some, List, [], ◌∷◌, get_or, length, sum_by, take, Option, None, Some, refl}
+use Rattle.std.specs.Prelude.{◌≡◌, ◌≤◌, ◌<◌, ℕ, zero, suc, ◌+◌, ◌*◌, cond, is_some, List, [], ◌∷◌, ◌++◌, get_or, length, sum_by, take, Option, None, Some, refl}
 use Rattle.std.proofs.Common.{ap, sym, ◌∙◌, arith, length-append}
 use Rattle.std.proofs.Math.Nat.{suc-mul}
 use Rattle.std.proofs.Math.Seq.{take-length}
 use Rattle.std.proofs.lemmas.List.{length-map}
 use Rattle.std.proofs.lemmas.List.FromFn.{length-range_with_len}
-use Rattle.std.proofs.lemmas.List.Sums.{sum_by-cons, sum_by_more}
+use Rattle.std.proofs.lemmas.List.Sums.{sum_by-append, sum_by-cons, sum_by_more}
 use Rattle.dump_reading.specs.Outcomes.{DumpDisk, DumpsRead, IsDumpsRead, numbers_of, plan_of}
 use Rattle.dump_reading.specs.Reports.{read_part}
-use Rattle.flux_engine.specs.Counts.{whole_names_of}
-use Rattle.flux_engine.specs.Disks.{part_at}
+use Rattle.flux_engine.specs.Counts.{whole_count, whole_names_of}
+use Rattle.flux_engine.specs.Disks.{part_at, totals_over}
 use Rattle.flux_engine.specs.LoopProgress.{passed_count, seen_at, streams_over}
 use Rattle.flux_engine.specs.Plans.{Seen, Streams, joined, passed_one, passed_to}
 use Rattle.flux_engine.specs.Recordings.{sectors_of, track_at}
@@ -20,6 +20,7 @@ use Rattle.track_shelf.specs.Files.{File}
 use Rattle.turn_merge.specs.Others.{NotedOther, has_untold, others_over}
 use Rattle.turn_merge.specs.Readings.{verdict}
 use Rattle.law_read_dumps.specs.Lines.{has_traces, other_lines_of, passed_on, traced_count}
+use Rattle.law_read_dumps.proofs.BesideLines.{beside_counted, count_before}
 use Rattle.law_read_dumps.proofs.ReportLines.{Laws, before_more, lines_before, passed_many}
 use Rattle.law_read_dumps.proofs.Streams.{none_seen, number_low}
 
@@ -37,6 +38,13 @@ sums_added f g (x ∷ xs) =
 
 abbrev whole_lines_of : List NotedOther → ℕ
 whole_lines_of others = whole_names_of (others_over others) (has_untold others)
+
+abbrev traced_on : List NotedOther → ℕ
+traced_on others = cond (has_traces others) 1 0
+
+-- of others as many as names with whole data, and tracks with names that have none
+other_lines_split : (tracks : List (List NotedOther)) → sum_by other_lines_of tracks ≡ whole_count tracks + traced_count tracks
+other_lines_split tracks = sums_added whole_lines_of traced_on tracks
 
 module _ (laws : Laws) (disk : DumpDisk) (shelf : Option (List File)) (o : DumpsRead) (is : IsDumpsRead disk shelf o) where
   abbrev many : ℕ
@@ -92,7 +100,7 @@ module _ (laws : Laws) (disk : DumpDisk) (shelf : Option (List File)) (o : Dumps
       omega (arith, before, step, passed, sectors, told)
 
   all_counted : lines_before laws disk shelf o is (length is.parts)
-      ≡ (numbers_of is.streams is.parts is.others).unread + (numbers_of is.streams is.parts is.others).sectors.sectors + sum_by other_lines_of is.others
+      ≡ passed_count is.streams + (totals_over is.parts).sectors + sum_by other_lines_of is.others
   all_counted =
       let same : length is.parts ≡ length is.others = omega (arith, is.all.many, is.all.many_others) in
       so_far (length is.parts) (omega arith)
@@ -102,11 +110,19 @@ module _ (laws : Laws) (disk : DumpDisk) (shelf : Option (List File)) (o : Dumps
       ∙ ap (λ (os : List (List NotedOther)). passed_count is.streams + sum_by (λ (p : TrackPart). p.totals.sectors) is.parts + sum_by other_lines_of os)
       (ap (λ (k : ℕ). take k is.others) same ∙ take-length is.others)
 
-  -- of others as many as names with whole data, and tracks with names that have none
   pub lines_counted : lines_before laws disk shelf o is (length is.parts)
-      ≡ (numbers_of is.streams is.parts is.others).unread + (numbers_of is.streams is.parts is.others).sectors.sectors
-      + (numbers_of is.streams is.parts is.others).whole + traced_count is.others
+      ≡ passed_count is.streams + (totals_over is.parts).sectors + whole_count is.others + traced_count is.others
   lines_counted =
-      let split : sum_by other_lines_of is.others ≡ (numbers_of is.streams is.parts is.others).whole + traced_count is.others =
-      sums_added whole_lines_of (λ (others : List NotedOther). cond (has_traces others) 1 0) is.others in
+      let split = other_lines_split is.others in
       omega (arith, all_counted, split)
+
+  -- the same of all tracks, of the format and beside it
+  pub all_lines_counted : lines_before laws disk shelf o is (length is.parts) + count_before laws.dump_lines disk shelf is.beside (length is.beside.others)
+      ≡ (numbers_of is.streams is.parts is.others is.beside.came is.beside.others).unread + (numbers_of is.streams is.parts is.others is.beside.came is.beside.others).sectors.sectors
+      + (numbers_of is.streams is.parts is.others is.beside.came is.beside.others).whole + traced_count (is.others ++ is.beside.others)
+  all_lines_counted =
+      let beside = beside_counted laws.dump_lines disk shelf is.beside in
+      let split = other_lines_split is.beside.others in
+      let whole = sum_by-append whole_lines_of is.others is.beside.others in
+      let traced = sum_by-append traced_on is.others is.beside.others in
+      omega (arith, lines_counted, beside, split, whole, traced)

@@ -1,6 +1,8 @@
 pub mod Streams
 pub mod Lines
+pub mod TrackLines
 pub mod ReportLines
+pub mod BesideLines
 pub mod Counts
 pub mod Said
 pub mod Reports

@@ -1,40 +1,41 @@
 -- The lines of the tracks in a report of dumps, one behind another: what each of them is, and at which numbers those of sectors stand.
-use Rattle.std.specs.Prelude.{◌≡◌, ◌≤◌, ◌<◌, ◌⊎◌, ℕ, zero, suc, ◌+◌, ◌-◌, Bool, true, Contains, List, [], ◌∷◌, ◌++◌, cond, drop, filter, flat_map, get_or, length, sum_by, take, Option, None, Some, refl}
+use Rattle.std.specs.Prelude.{◌≡◌, ◌≤◌, ◌<◌, ◌⊎◌, ℕ, zero, suc, ◌+◌, ◌-◌, List, [], ◌∷◌, ◌++◌, drop, flat_map, get_or, length, sum_by, take, Option, Some, refl}
 use Rattle.std.specs.List.{range_with_len}
 use Rattle.std.proofs.Common.{ap, sym, subst, ◌∙◌, arith, append-nil, append_assoc, inl, inr}
 use Rattle.std.proofs.Math.Seq.{take-suc}
-use Rattle.std.proofs.lemmas.Bool.{cases_lt}
 use Rattle.std.proofs.lemmas.List.Concat.{flat_map-append}
-use Rattle.std.proofs.lemmas.List.Sums.{length-filter, sum_by_push}
-use Rattle.dump_reading.specs.Outcomes.{DumpDisk, DumpsRead, IsDumpsRead, numbers_of, plan_of}
-use Rattle.dump_reading.specs.Reports.{data_lines, end_text, other_lines, passed_line_of, passed_lines, read_part, trace_count, traces_lines, untold_lines}
+use Rattle.std.proofs.lemmas.List.Sums.{sum_by_push}
+use Rattle.dump_reading.specs.Beside.{beside_lines}
+use Rattle.dump_reading.specs.Outcomes.{DumpDisk, DumpsRead, IsDumpsRead, lines_of, numbers_of, plan_of}
+use Rattle.dump_reading.specs.Reports.{end_text, other_lines, passed_line_of, passed_lines, read_part}
 use Rattle.flux_engine.specs.DiskLaws.{HasLine}
 use Rattle.flux_engine.specs.Disks.{lines, part_at}
 use Rattle.flux_engine.specs.LoopProgress.{streams_over}
-use Rattle.flux_engine.specs.Plans.{IsPlannedPart, Seen, Streams, joined, passed_one, passed_to}
+use Rattle.flux_engine.specs.Plans.{IsPlannedPart, Streams, joined, passed_to}
 use Rattle.flux_engine.specs.Recordings.{sectors_of, track_at}
 use Rattle.flux_engine.specs.Rules.{RulesAreRead}
 use Rattle.flux_engine.specs.Tracks.{TrackPart, line_by, lines_by}
 use Rattle.flux_engine.specs.declared.gathered_track.PassedStream.{PassedStream}
-use Rattle.flux_engine.specs.lemmas.Each.{Each, each-append, each-filter, each-map, each-of}
+use Rattle.flux_engine.specs.lemmas.Each.{each-of}
 use Rattle.flux_engine.specs.lemmas.LineNumbers.{Skips, skips-append, skips-lines}
 use Rattle.flux_engine.specs.lemmas.OneParts.{one_others_to}
 use Rattle.flux_engine.specs.lemmas.PartLaws.{lines_split, no_part}
 use Rattle.flux_engine.specs.lemmas.Pieces.{pieces-at, range-more}
 use Rattle.law_captured_disks.specs.Headline.{IsSectorOf}
 use Rattle.sector_images.specs.Formats.{row}
-use Rattle.sector_images.specs.Places.{IsSector}
+use Rattle.sector_images.specs.Places.{IsSector, tracks}
 use Rattle.sector_images.specs.declared.format.Format.{Format}
-use Rattle.sector_report.specs.DumpLines.{DumpsHaveLines, other_text, passed_text, traces_text, untold_text}
+use Rattle.sector_report.specs.DumpLines.{DumpsHaveLines, passed_text}
 use Rattle.sector_report.specs.LineLaws.{IsOneLine, SectorsHaveOneLine}
 use Rattle.sector_report.specs.declared.dump_lines.Passed.{Passed}
 use Rattle.sector_report.specs.declared.naming.Naming.TheVariants.{ByCaptureAndClock}
 use Rattle.track_shelf.specs.Files.{File}
-use Rattle.turn_merge.specs.Others.{NotedOther, has_data, has_untold, others_over}
+use Rattle.turn_merge.specs.Others.{NotedOther, has_untold, others_over}
 use Rattle.turn_merge.specs.Readings.{NotedReading, verdict}
 use Rattle.turn_merge.specs.declared.others.OtherTold.{OtherTold}
-use Rattle.law_read_dumps.specs.Lines.{IsOtherLine, IsPassedLine, IsTracesLine, IsUntoldLine, has_traces, line_number, lines_on, other_lines_of, passed_on}
-use Rattle.law_read_dumps.proofs.Lines.{Tells, has_line, tells-append, tells-each, tells-if, tells-map, tells-nil, tells-range}
+use Rattle.law_read_dumps.specs.Lines.{IsTrackLine, line_number, lines_on, of_format, other_lines_of, passed_on}
+use Rattle.law_read_dumps.proofs.Lines.{Tells, has_line, tells-append, tells-each, tells-map, tells-nil, tells-range}
+use Rattle.law_read_dumps.proofs.TrackLines.{among, others_tell, passed_tell}
 
 -- what the crates below promise
 pub record Laws : Type 0 where
@@ -60,35 +61,7 @@ pub record IsOnDisk (format : Format) (many : ℕ) (before : ℕ → ℕ) (line_
 
 -- the line stands beside those of the sectors
 abbrev pub IsBeside : DumpDisk → Streams → (others : List (List NotedOther)) → List ℕ → Type 0
-IsBeside disk came others line = IsPassedLine disk came line ⊎ IsOtherLine disk others line ⊎ IsUntoldLine disk others line ⊎ IsTracesLine disk others line
-
--- a stream that is passed over is among those of its track that are
-record IsAmong (streams : Streams) (n k dump : ℕ) (why : Passed) : Type 0 where
-  before : List PassedStream
-  after : List PassedStream
-  is : passed_to streams n k ≡ before ++ (record { capture = dump; why = why } ∷ after)
-
-among : (streams : Streams) (n k dump : ℕ) (why : Passed) → dump < k → (streams n dump).passed ≡ Some why → IsAmong streams n k dump why
-among streams n zero dump why low passed = absurd (omega (arith, low))
-among streams n (suc k) dump why low passed =
-    elim (cases_lt dump k) [
-      | inl earlier ↦
-          let rest = among streams n k dump why earlier passed in
-          record {
-            before = rest.before;
-            after = rest.after ++ passed_one k (streams n k).passed;
-            is =
-                ap (λ (ps : List PassedStream). ps ++ passed_one k (streams n k).passed) rest.is
-                ∙ append_assoc rest.before (record { capture = dump; why = why } ∷ rest.after) (passed_one k (streams n k).passed);
-          }
-      | inr past ↦
-          let same : k ≡ dump = omega (arith, low, past) in
-          record {
-            before = passed_to streams n k;
-            after = [];
-            is = ap (λ (q : ℕ). passed_to streams n k ++ passed_one q (streams n q).passed) same ∙ ap (λ (p : Option Passed). passed_to streams n k ++ passed_one dump p) passed;
-          }
-    ]
+IsBeside disk came others line = IsTrackLine disk (of_format disk came others) line
 
 -- a line in the middle of a track's lines
 line_in : (front passed earlier line later others rest end : List ℕ)
@@ -163,88 +136,14 @@ module _ (laws : Laws) (disk : DumpDisk) (shelf : Option (List File)) (o : Dumps
     abbrev OnTrack : ℕ → List ℕ → Type 0
     OnTrack number line = IsOnTrack format n (length streams_passed) sector_line number line ⊎ IsBeside disk came is.others line
 
-    abbrev PassedHere : PassedStream → Type 0
-    PassedHere s = IsBeside disk came is.others (passed_line_of (track_at format n) s)
+    abbrev among_tracks : n < length (tracks format)
+    among_tracks = omega (arith, low, is.all.many)
 
-    passed_here : (k : ℕ) → k < length disk.dumps → (why : Option Passed) → (came n k).passed ≡ why → Each PassedHere (passed_one k why)
-    passed_here k few None is_passed = tt
-    passed_here k few (Some why) is_passed =
-        (inl (record { n = n; low = omega (arith, low, is.all.many); dump = k; few = few; why = why; is = is_passed; line_is = refl }), tt)
+    passed_all_tell : Tells (λ number line. IsBeside disk came is.others line) passed (length streams_passed)
+    passed_all_tell = passed_tell laws.dump_lines disk (of_format disk came is.others) n among_tracks came (λ q. refl)
 
-    each_passed : (k : ℕ) → k ≤ length disk.dumps → Each PassedHere (passed_to came n k)
-    each_passed zero few = tt
-    each_passed (suc k) few =
-        let within : k < length disk.dumps = omega (arith, few) in
-        each-append PassedHere (passed_to came n k) (passed_one k (came n k).passed) (each_passed k (omega (arith, few)))
-        (passed_here k within (came n k).passed refl)
-
-    passed_tell : Tells (λ number line. IsBeside disk came is.others line) passed (length streams_passed)
-    passed_tell =
-        tells-each (IsBeside disk came is.others) (passed_line_of (track_at format n)) (λ (s : PassedStream). laws.dump_lines.passed (track_at format n) s.capture s.why)
-        streams_passed (each_passed (length disk.dumps) (omega arith))
-
-    -- the lines of others: of names with whole data, of those that are not told, and of those without
-    abbrev Beside : ℕ → List ℕ → Type 0
-    Beside number line = IsBeside disk came is.others line
-
-    abbrev DataLine : OtherTold → Type 0
-    DataLine t = IsBeside disk came is.others (other_text ByCaptureAndClock (track_at format n) t)
-
-    data_line : (os : List NotedOther) → os ≡ get_or is.others n [] → (t : OtherTold) → Contains (others_over os) t → has_data t ≡ true → DataLine t
-    data_line os same t has whole =
-        inr (inl (record {
-          n = n;
-          low = omega (arith, low, is.all.many);
-          name = t;
-          has = subst (λ (all : List NotedOther). Contains (others_over all) t) same has;
-          whole = whole;
-          line_is = refl;
-        }))
-
-    each_data : Each DataLine (filter has_data told)
-    each_data =
-        each-map (λ (t : OtherTold). Contains told t × (has_data t ≡ true)) DataLine (λ t both. data_line at.others others_same t both.0 both.1) (filter has_data told)
-        (each-filter has_data (λ (t : OtherTold). Contains told t) told (each-of (λ (t : OtherTold). Contains told t) told (λ t has. has)))
-
-    data_tell : Tells Beside (data_lines (track_at format n) told) (length (filter has_data told))
-    data_tell =
-        tells-each (IsBeside disk came is.others) (other_text ByCaptureAndClock (track_at format n))
-        (λ (t : OtherTold). laws.dump_lines.other ByCaptureAndClock (track_at format n) t) (filter has_data told) each_data
-
-    untold_tells : Tells Beside (untold_lines (track_at format n) (has_untold at.others)) (cond (has_untold at.others) 1 0)
-    untold_tells =
-        tells-if (IsBeside disk came is.others) (has_untold at.others) (untold_text (track_at format n)) (laws.dump_lines.untold (track_at format n))
-        (λ wanted.
-        inr (inr (inl (record {
-          n = n;
-          low = omega (arith, low, is.all.many);
-          untold = subst (λ (os : List NotedOther). has_untold os ≡ true) others_same wanted;
-          line_is = refl;
-        }))))
-
-    traces_tell : Tells Beside (traces_lines (track_at format n) told) (cond (has_traces at.others) 1 0)
-    traces_tell =
-        tells-if (IsBeside disk came is.others) (has_traces at.others) (traces_text (track_at format n) (trace_count told))
-        (laws.dump_lines.traces (track_at format n) (trace_count told))
-        (λ wanted.
-        inr (inr (inr (record {
-          n = n;
-          low = omega (arith, low, is.all.many);
-          some = subst (λ (os : List NotedOther). has_traces os ≡ true) others_same wanted;
-          line_is = ap (λ (os : List NotedOther). traces_text (track_at format n) (trace_count (others_over os))) others_same;
-        }))))
-
-    others_tell : Tells Beside others (other_lines_of at.others)
-    others_tell =
-        let first : ℕ = length (filter has_data told) in
-        let second : ℕ = cond (has_untold at.others) 1 0 in
-        let third : ℕ = cond (has_traces at.others) 1 0 in
-        let many = length-filter has_data told in
-        let all : first + (second + third) ≡ other_lines_of at.others = omega (arith, many) in
-        subst (Tells Beside others) all
-        (tells-append Beside (data_lines (track_at format n) told) (untold_lines (track_at format n) (has_untold at.others) ++ traces_lines (track_at format n) told) first (second + third)
-        data_tell
-        (tells-append Beside (untold_lines (track_at format n) (has_untold at.others)) (traces_lines (track_at format n) told) second third untold_tells traces_tell))
+    others_all_tell : Tells (λ number line. IsBeside disk came is.others line) others (other_lines_of at.others)
+    others_all_tell = others_tell laws.dump_lines disk (of_format disk came is.others) n among_tracks at.others others_same
 
     sectors_tell : Tells (λ m line. OnTrack (length streams_passed + m) line) sector_lines (count_of n)
     unfolding sector_lines
@@ -261,9 +160,9 @@ module _ (laws : Laws) (disk : DumpDisk) (shelf : Option (List File)) (o : Dumps
         subst (λ (text : List ℕ). Tells OnTrack text (lines_on disk came is.others n)) (sym lines_are)
         (subst (Tells OnTrack (passed ++ (sector_lines ++ others))) lines_many
         (tells-append OnTrack passed (sector_lines ++ others) i (count_of n + other_lines_of at.others)
-        (tells-map (λ m line. IsBeside disk came is.others line) OnTrack passed i (λ m line below other. inr other) passed_tell)
+        (tells-map (λ m line. IsBeside disk came is.others line) OnTrack passed i (λ m line below other. inr other) passed_all_tell)
         (tells-append behind sector_lines others (count_of n) (other_lines_of at.others) sectors_tell
-        (tells-map (λ m line. IsBeside disk came is.others line) (λ m line. behind (count_of n + m) line) others (other_lines_of at.others) (λ m line below other. inr other) others_tell))))
+        (tells-map (λ m line. IsBeside disk came is.others line) (λ m line. behind (count_of n + m) line) others (other_lines_of at.others) (λ m line below other. inr other) others_all_tell))))
 
   abbrev pub OnDisk : ℕ → List ℕ → Type 0
   OnDisk number line = IsOnDisk format (length is.parts) first_line sector_line number line ⊎ IsBeside disk came is.others line
@@ -316,7 +215,7 @@ module _ (laws : Laws) (disk : DumpDisk) (shelf : Option (List File)) (o : Dumps
       pieces-at (sector_line n low) first i (count_of n) few ∙ ap (λ (k : ℕ). earlier ++ (sector_line n low k ++ later)) here in
       let front : List ℕ = lines (take n is.parts) in
       let rest : List ℕ = lines (drop (suc n) is.parts) in
-      let end : List ℕ = end_text (numbers_of is.streams is.parts is.others) in
+      let end : List ℕ = lines_of beside_lines is.beside ++ end_text (numbers_of is.streams is.parts is.others is.beside.came is.beside.others) in
       let split : o.notes ≡ (front ++ (passed n low ++ earlier)) ++ (text ++ (later ++ (others n low ++ (rest ++ end)))) =
       ap (λ (d : DumpsRead). d.notes) is.is
       ∙ ap (λ (t : List ℕ). t ++ end) (lines_split is.parts n low)
@@ -327,7 +226,7 @@ module _ (laws : Laws) (disk : DumpDisk) (shelf : Option (List File)) (o : Dumps
       let number : lines_before n + (length (streams_passed n low) + i) ≡ line_number disk came is.others n sector = omega (arith, many) in
       let skipped : Skips (front ++ (passed n low ++ earlier)) (lines_before n + (length (streams_passed n low) + i)) =
       skips-append front (passed n low ++ earlier) (lines_before n) (length (streams_passed n low) + i) (front_tells n (omega (arith, low))).skips
-      (skips-append (passed n low) earlier (length (streams_passed n low)) i (passed_tell n low).skips (skips-lines (sector_line n low) (one_line n low) first i)) in
+      (skips-append (passed n low) earlier (length (streams_passed n low)) i (passed_all_tell n low).skips (skips-lines (sector_line n low) (one_line n low) first i)) in
       has_line o.notes (front ++ (passed n low ++ earlier)) text (later ++ (others n low ++ (rest ++ end))) (line_number disk came is.others n sector) split
       (subst (Skips (front ++ (passed n low ++ earlier))) number skipped) (one_line n low sector)
 
@@ -349,7 +248,7 @@ module _ (laws : Laws) (disk : DumpDisk) (shelf : Option (List File)) (o : Dumps
       let front : List ℕ = lines (take n is.parts) in
       let more : List ℕ = lines (drop (suc n) is.parts) in
       let rest : List ℕ = sector_lines n low ++ others n low in
-      let end : List ℕ = end_text (numbers_of is.streams is.parts is.others) in
+      let end : List ℕ = lines_of beside_lines is.beside ++ end_text (numbers_of is.streams is.parts is.others is.beside.came is.beside.others) in
       let split : o.notes ≡ (front ++ earlier) ++ (text ++ (later ++ (rest ++ (more ++ end)))) =
       ap (λ (d : DumpsRead). d.notes) is.is
       ∙ ap (λ (t : List ℕ). t ++ end) (lines_split is.parts n low)

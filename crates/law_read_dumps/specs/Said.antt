@@ -1,9 +1,11 @@
 -- What dumps that were read say of each sector of the disk, in the report and in the image.
 use Rattle.std.specs.Prelude.{◌≡◌, ◌<◌, ℕ, List, length, Option, Some}
 use Rattle.disk_recordings.specs.Members.{header_at, sector_at}
+use Rattle.dump_reading.specs.Beside.{LinesOf, beside_at, captures_at}
 use Rattle.dump_reading.specs.DumpStreams.{FailedAlike, IsOrFailed, path_in, seen_of}
-use Rattle.dump_reading.specs.Outcomes.{DumpDisk, DumpsRead, IsDumpsRead, IsReadBy, plan_of}
+use Rattle.dump_reading.specs.Outcomes.{DumpDisk, DumpsRead, IsDumpsRead, IsReadBy, LookedBeside, plan_of}
 use Rattle.dump_reading.specs.declared.totals.DumpTotals.{DumpTotals}
+use Rattle.flux_base.specs.declared.track.TrackId.{TrackId}
 use Rattle.flux_engine.specs.Captured.{IsUsed}
 use Rattle.flux_engine.specs.DiskLaws.{HasLine, bytes_at}
 use Rattle.flux_engine.specs.LoopProgress.{streams_over}
@@ -24,12 +26,16 @@ use Rattle.turn_merge.specs.declared.verdict.Verdict.{Verdict}
 use Rattle.turn_merge.specs.declared.verdict.Verdict.TheVariants.{Contradictory, Good}
 
 -- the streams of the disk that came
-abbrev pub came_in : {of : PartOf} {whole : List TrackPart → DumpTotals → DumpsRead} {disk : DumpDisk} {told : Option (List File)} {o : DumpsRead} → IsReadBy of whole disk told o → Streams
-came_in {of} {whole} {disk} is = streams_over (plan_of disk) is.streams
+abbrev pub came_in : {of : PartOf} {beside_of : LinesOf} {whole : List TrackPart → List ℕ → DumpTotals → DumpsRead} {disk : DumpDisk} {told : Option (List File)} {o : DumpsRead}
+    → IsReadBy of beside_of whole disk told o → Streams
+came_in {of} {beside_of} {whole} {disk} is = streams_over (plan_of disk) is.streams
 
 -- what the file of a track says in the dump of this number
+abbrev pub says_in : DumpDisk → List File → TrackId → (dump : ℕ) → Seen
+says_in disk files track dump = seen_of (file_at files (path_in disk.stepping disk.dumps track dump))
+
 abbrev pub says_on : DumpDisk → List File → (n dump : ℕ) → Seen
-says_on disk files n dump = seen_of (file_at files (path_in disk.stepping disk.dumps (track_at disk.format n) dump))
+says_on disk files n dump = says_in disk files (track_at disk.format n) dump
 
 -- each stream that came is what its file says, or the file failed, and the stream is passed over
 abbrev pub AreOfFiles : DumpDisk → Streams → List File → Type 0
@@ -38,15 +44,25 @@ AreOfFiles disk came files = (n dump : ℕ) → n < length (tracks disk.format) 
 abbrev pub StreamsAreOfFiles : Type 0
 StreamsAreOfFiles = (disk : DumpDisk) (files : List File) (o : DumpsRead) (is : IsDumpsRead disk (Some files) o) → AreOfFiles disk (came_in is) files
 
+-- so is each that came of a track beside the format's which was looked at
+abbrev pub AreBesideOfFiles : {disk : DumpDisk} {told : Option (List File)} → LookedBeside disk told → List File → Type 0
+AreBesideOfFiles {disk} beside files = (number dump : ℕ) → number < length beside.others → dump < length disk.dumps
+    → IsOrFailed (captures_at (length disk.dumps) beside.came number dump) (says_in disk files (beside_at disk.stepping disk.format number) dump)
+
+abbrev pub BesideStreamsAreOfFiles : Type 0
+BesideStreamsAreOfFiles = (disk : DumpDisk) (files : List File) (o : DumpsRead) (is : IsDumpsRead disk (Some files) o) → AreBesideOfFiles is.beside files
+
 -- the files, and which of them failed, decide what the dumps come to
 abbrev pub DumpsAreOne : Type 0
 DumpsAreOne = (disk : DumpDisk) (files : List File) (a b : DumpsRead) (p : IsDumpsRead disk (Some files) a) (q : IsDumpsRead disk (Some files) b)
-    → FailedAlike p.streams q.streams → a ≡ b
+    → FailedAlike p.streams q.streams → FailedAlike p.beside.came q.beside.came → a ≡ b
 
 -- the same whatever becomes of each track and of all
 abbrev pub AllOfDumpsIsOne : Type 0
-AllOfDumpsIsOne = (of : PartOf) (whole : List TrackPart → DumpTotals → DumpsRead) (disk : DumpDisk) (files : List File) (a b : DumpsRead)
-    (p : IsReadBy of whole disk (Some files) a) (q : IsReadBy of whole disk (Some files) b) → FailedAlike p.streams q.streams → a ≡ b
+AllOfDumpsIsOne = (of : PartOf) (beside_of : LinesOf) (whole : List TrackPart → List ℕ → DumpTotals → DumpsRead) (disk : DumpDisk) (files : List File) (a b : DumpsRead)
+    (p : IsReadBy of beside_of whole disk (Some files) a) (q : IsReadBy of beside_of whole disk (Some files) b)
+    → FailedAlike p.streams q.streams
+    → FailedAlike p.beside.came q.beside.came → a ≡ b
 
 -- The report has the sector's line, with the verdict over all readings of its track, of all dumps and by both clocks. At its place in
 -- the image stand the bytes that all good readings hold, where no two differ, and else zeros.

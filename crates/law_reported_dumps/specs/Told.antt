@@ -1,14 +1,13 @@
 -- What the lines of a report of dumps tell: which of them are those of sectors, and which are those of streams that were passed over.
-use Rattle.std.specs.Prelude.{◌≡◌, ◌≤◌, ◌<◌, ℕ, List, length, Some}
+use Rattle.std.specs.Prelude.{◌≡◌, ◌≤◌, ◌<◌, ◌⊎◌, ℕ, List, length, Some}
 use Rattle.dump_reading.specs.Outcomes.{DumpDisk, DumpsRead, IsDumpsRead}
 use Rattle.flux_base.specs.declared.track.TrackId.{TrackId}
 use Rattle.flux_engine.specs.DiskLaws.{HasLine}
 use Rattle.flux_engine.specs.Plans.{Streams, joined}
 use Rattle.flux_engine.specs.Recordings.{track_at}
 use Rattle.law_captured_disks.specs.Headline.{IsSectorOf}
-use Rattle.law_read_dumps.specs.Lines.{line_number}
+use Rattle.law_read_dumps.specs.Lines.{LookedAt, format_tracks, line_number, other_tracks}
 use Rattle.law_read_dumps.specs.Said.{IsSaid, came_in}
-use Rattle.sector_images.specs.Places.{tracks}
 use Rattle.sector_report.specs.DumpLines.{PassedLineFits, passed_text}
 use Rattle.sector_report.specs.LineLaws.{LineFits}
 use Rattle.sector_report.specs.Lines.{named_text}
@@ -49,23 +48,24 @@ TellsOnce notes = (track : TrackId) (sector : ℕ) (outcome other : Verdict) (nu
 abbrev pub NoSectorIsToldTwice : Type 0
 NoSectorIsToldTwice = (disk : DumpDisk) (files : List File) (o : DumpsRead) → IsDumpsRead disk (Some files) o → length disk.dumps ≤ 16 → TellsOnce o.notes
 
--- The line is that of this dump's stream of a track of the disk, which is passed over, for a reason that is told by the same text. Where the
+-- The line is that of this dump's stream of one of these tracks, which is passed over, for a reason that is told by the same text. Where the
 -- line says that the file is missing, or that it failed, so it is.
-pub record IsPassedTold (disk : DumpDisk) (came : Streams) (track : TrackId) (dump : ℕ) (why : Passed) : Type 0 where
+pub record IsPassedTold (disk : DumpDisk) (at : LookedAt) (track : TrackId) (dump : ℕ) (why : Passed) : Type 0 where
   pub n : ℕ
-  pub low : n < length (tracks disk.format)
-  pub track_is : track ≡ track_at disk.format n
+  pub low : n < at.many
+  pub track_is : track ≡ at.track_of n
   pub few : dump < length disk.dumps
   pub reason : Passed
-  pub is : (came n dump).passed ≡ Some reason
+  pub is : at.passed n dump ≡ Some reason
   pub text : passed_text track dump reason ≡ passed_text track dump why
   pub missing : why ≡ Absent → reason ≡ Absent
   pub failed : why ≡ Failed → reason ≡ Failed
 
--- so it is with each line of a report that has the text of such a stream's line
-abbrev pub ArePassedTold : DumpDisk → Streams → DumpsRead → Type 0
-ArePassedTold disk came o = (track : TrackId) (dump : ℕ) (why : Passed) (number : ℕ) → PassedLineFits track dump why
-    → HasLine o.notes (passed_text track dump why) number → IsPassedTold disk came track dump why
+-- so it is with each line of a report that has the text of such a stream's line: of a track of the format, or of one beside
+abbrev pub ArePassedTold : DumpDisk → (format beside : LookedAt) → DumpsRead → Type 0
+ArePassedTold disk format beside o = (track : TrackId) (dump : ℕ) (why : Passed) (number : ℕ) → PassedLineFits track dump why
+    → HasLine o.notes (passed_text track dump why) number → IsPassedTold disk format track dump why ⊎ IsPassedTold disk beside track dump why
 
 abbrev pub PassedLinesAreTold : Type 0
-PassedLinesAreTold = (disk : DumpDisk) (files : List File) (o : DumpsRead) (is : IsDumpsRead disk (Some files) o) → length disk.dumps ≤ 16 → ArePassedTold disk (came_in is) o
+PassedLinesAreTold = (disk : DumpDisk) (files : List File) (o : DumpsRead) (is : IsDumpsRead disk (Some files) o) → length disk.dumps ≤ 16
+    → ArePassedTold disk (format_tracks is) (other_tracks is) o

@@ -4,6 +4,7 @@ use Rattle.std.proofs.Common.{arith, sym, subst, ◌∙◌, inr, length-append}
 use Rattle.std.proofs.lemmas.List.{get_or_append_left}
 use Rattle.std.proofs.lemmas.List.Elements.{All-cons, All-nil}
 use Rattle.dump_reading.specs.Outcomes.{DumpDisk}
+use Rattle.dump_reading.specs.declared.looks.Looks.{Looks}
 use Rattle.flux_base.specs.declared.track.TrackId.{TrackId}
 use Rattle.flux_engine.specs.Recordings.{track_at}
 use Rattle.flux_engine.specs.declared.plan.Clocks.{Clocks}
@@ -53,9 +54,9 @@ damaged is = absurd (no_fault is)
 same_some : (a b : List ℕ) → Some a ≡ Some b → a ≡ b
 same_some a b is = cc
 
-module _ (stepping : Stepping) (format : Format) (clocks : Clocks) (image : List ℕ) (n : ℕ) (later stream : List ℕ) (late : IsLate format image n stream) where
+module _ (stepping : Stepping) (format : Format) (clocks : Clocks) (looks : Looks) (image : List ℕ) (n : ℕ) (later stream : List ℕ) (late : IsLate format image n stream) where
   abbrev disk : DumpDisk
-  disk = three_dumps stepping format clocks
+  disk = three_dumps stepping format clocks looks
 
   abbrev pub whole_file : File
   whole_file = record { path = path_in disk (97 ∷ []) n; bytes = stream ++ later }
@@ -115,6 +116,6 @@ module _ (stepping : Stepping) (format : Format) (clocks : Clocks) (image : List
   }
 
 pub dumps_reach : LatePiecesHaveSectors → DumpsReachBounds
-dumps_reach have stepping format clocks image n index later is known early =
+dumps_reach have stepping format clocks looks image n index later is known early =
     let made = have format image n index is known early in
-    (files stepping format clocks image n later made.0 made.1, mixed stepping format clocks image n later made.0 made.1)
+    (files stepping format clocks looks image n later made.0 made.1, mixed stepping format clocks looks image n later made.0 made.1)

@@ -2,6 +2,7 @@
 -- alone; one that lacks the file; and one whose file is damaged.
 use Rattle.std.specs.Prelude.{◌≡◌, ◌<◌, ℕ, List, [], ◌∷◌, ◌++◌, length}
 use Rattle.dump_reading.specs.Outcomes.{DumpDisk}
+use Rattle.dump_reading.specs.declared.looks.Looks.{Looks}
 use Rattle.flux_engine.specs.declared.plan.Clocks.{Clocks}
 use Rattle.flux_engine.specs.Recordings.{track_at}
 use Rattle.flux_engine.specs.Rings.{IsImage}
@@ -13,8 +14,9 @@ use Rattle.track_shelf.specs.Files.{File}
 use Rattle.track_shelf.specs.declared.stepping.Stepping.{Stepping}
 
 -- the dumps in the folders `a`, `b` and `c`
-abbrev pub three_dumps : Stepping → Format → Clocks → DumpDisk
-three_dumps stepping format clocks = record { stepping = stepping; dumps = (97 ∷ []) ∷ (98 ∷ []) ∷ (99 ∷ []) ∷ []; format = format; clocks = clocks }
+abbrev pub three_dumps : Stepping → Format → Clocks → Looks → DumpDisk
+three_dumps stepping format clocks looks =
+    record { stepping = stepping; dumps = (97 ∷ []) ∷ (98 ∷ []) ∷ (99 ∷ []) ∷ []; format = format; clocks = clocks; looks = looks }
 
 -- Of track number n the first has a stream with these bytes behind it, which has each sector whole in its second piece; the second lacks the
 -- file; and that of the third is damaged.
@@ -30,5 +32,5 @@ pub record AreMixed (disk : DumpDisk) (image : List ℕ) (n : ℕ) (later : List
   pub damaged : IsDamaged disk files n 2
 
 abbrev pub DumpsReachBounds : Type 0
-DumpsReachBounds = (stepping : Stepping) (format : Format) (clocks : Clocks) (image : List ℕ) (n index : ℕ) (later : List ℕ) → IsImage format image
-    → n < length (tracks format) → index < 2147483648 → (files : List File) × AreMixed (three_dumps stepping format clocks) image n later files
+DumpsReachBounds = (stepping : Stepping) (format : Format) (clocks : Clocks) (looks : Looks) (image : List ℕ) (n index : ℕ) (later : List ℕ) → IsImage format image
+    → n < length (tracks format) → index < 2147483648 → (files : List File) × AreMixed (three_dumps stepping format clocks looks) image n later files

@@ -1,4 +1,4 @@
-use Rattle.law_read_dumps.proofs.Reports.{Laws, lines_are_known, passed_streams_are_said, reports_have_no_other_lines, sectors_have_their_numbers}
+use Rattle.law_read_dumps.proofs.Reports.{Laws, lines_are_known, other_files_are_said, passed_streams_are_said, reports_have_no_other_lines, sectors_have_their_numbers}
 use Rattle.law_read_dumps.proofs.laws.dump_reports_have_lines.Goals as goal
 
 laws : (c : goal.After-rules_are_read) → Laws
@@ -18,6 +18,9 @@ returns-clause-numbered c = sectors_have_their_numbers (laws c)
 
 pub returns-clause-passed : goal.returns-clause-passed
 returns-clause-passed c = passed_streams_are_said (laws c)
+
+pub returns-clause-passed_beside : goal.returns-clause-passed_beside
+returns-clause-passed_beside c = other_files_are_said (laws c)
 
 pub returns-clause-known : goal.returns-clause-known
 returns-clause-known c = lines_are_known (laws c)

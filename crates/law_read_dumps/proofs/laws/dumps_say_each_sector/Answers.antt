@@ -1,5 +1,5 @@
 use Rattle.law_read_dumps.proofs.Said.{Laws, each_said, good_stays, said_is_right}
-use Rattle.law_read_dumps.proofs.Streams.{streams_are_of_files}
+use Rattle.law_read_dumps.proofs.Streams.{beside_streams_are_of_files, streams_are_of_files}
 use Rattle.law_read_dumps.proofs.laws.dumps_say_each_sector.Goals as goal
 
 laws : (c : goal.After-rules_are_read) → Laws
@@ -24,3 +24,6 @@ returns-clause-stays c = good_stays c.plans_are_right.ensures.strict
 
 pub returns-clause-of_files : goal.returns-clause-of_files
 returns-clause-of_files c = streams_are_of_files
+
+pub returns-clause-beside_of_files : goal.returns-clause-beside_of_files
+returns-clause-beside_of_files c = beside_streams_are_of_files
