@@ -1,17 +1,15 @@
 -- The lines of the tracks beside the format's in a report of dumps: what each of them is, and how many there are.
 use Rattle.std.specs.Prelude.{◌≡◌, ◌≤◌, ◌<◌, ℕ, zero, suc, ◌+◌, ◌-◌, ◌*◌, List, [], ◌∷◌, ◌++◌, flat_map, get_or, length, sum_by, take, Option, None, Some, refl}
 use Rattle.std.specs.List.{range_with_len}
-use Rattle.std.proofs.Common.{ap, sym, subst, ◌∙◌, arith, append-nil, append_assoc, length-append}
-use Rattle.std.proofs.Math.Nat.{mul_comm, suc-mul}
+use Rattle.std.proofs.Common.{ap, sym, subst, ◌∙◌, arith, append-nil, append_assoc}
+use Rattle.std.proofs.Math.Nat.{suc-mul}
 use Rattle.std.proofs.Math.Seq.{take-length}
 use Rattle.std.proofs.lemmas.List.Concat.{flat_map-append}
-use Rattle.std.proofs.lemmas.List.Sums.{sum_by_more, sum_by_push}
-use Rattle.std.proofs.lemmas.Nat.{mul-add-lt}
+use Rattle.std.proofs.lemmas.List.Sums.{sum_by_more}
 use Rattle.dump_reading.specs.Beside.{beside_at, beside_lines, beside_to, captures_at, lines_at, lines_to, told_beside}
 use Rattle.dump_reading.specs.Outcomes.{DumpDisk, LookedBeside}
 use Rattle.dump_reading.specs.Reports.{other_lines, passed_line_of, passed_lines}
 use Rattle.flux_base.specs.declared.track.TrackId.{TrackId}
-use Rattle.flux_engine.specs.LoopProgress.{seen_at}
 use Rattle.flux_engine.specs.Names.{passed_beside}
 use Rattle.flux_engine.specs.Plans.{Seen, Streams, passed_one, passed_to}
 use Rattle.flux_engine.specs.declared.gathered_track.PassedStream.{PassedStream}
@@ -26,7 +24,8 @@ use Rattle.track_shelf.specs.Files.{File}
 use Rattle.turn_merge.specs.Others.{NotedOther, has_untold, others_over}
 use Rattle.law_read_dumps.specs.Lines.{IsTrackLine, LookedAt, of_others, other_lines_of, told_of}
 use Rattle.law_read_dumps.proofs.Lines.{Tells, tells-append, tells-each, tells-nil}
-use Rattle.law_read_dumps.proofs.Streams.{none_seen}
+use Rattle.law_read_dumps.proofs.Streams.{place_low}
+use Rattle.law_read_dumps.proofs.Sums.{one-passed, passed_so_far, sum_more}
 use Rattle.law_read_dumps.proofs.TrackLines.{among, others_tell, passed_tell}
 
 -- what came, where a stream that is missing is none that is passed over
@@ -40,13 +39,8 @@ passed-told q (Some Failed) = refl
 passed-told q (Some (Refused block fault)) = refl
 
 -- a stream has as many lines at each number
-one-length : (q : ℕ) (why : Option Passed) → length (passed_one q why) ≡ length (passed_one 0 why)
-one-length q None = refl
-one-length q (Some why) = refl
-
-passed-length : (q : ℕ) (why : Option Passed) → length (passed_beside q why) ≡ length (passed_beside 0 why)
-passed-length q why =
-    ap (λ (ps : List PassedStream). length ps) (passed-told q why) ∙ one-length q (told_of why) ∙ sym (ap (λ (ps : List PassedStream). length ps) (passed-told 0 why))
+passed-length : (q : ℕ) (why : Option Passed) → length (passed_one q (told_of why)) ≡ length (passed_beside 0 why)
+passed-length q why = one-passed q (told_of why) ∙ sym (one-passed 0 (told_of why)) ∙ sym (ap (λ (ps : List PassedStream). length ps) (passed-told 0 why))
 
 module _ (one : DumpsHaveLines) (disk : DumpDisk) (told : Option (List File)) (beside : LookedBeside disk told) where
   abbrev many : ℕ
@@ -105,13 +99,7 @@ module _ (one : DumpsHaveLines) (disk : DumpDisk) (told : Option (List File)) (b
         passed_all_tell (others_tell one disk at n among_tracks (names n) refl)
 
   before_more : (n : ℕ) → count_before n + count_here n ≡ count_before (suc n)
-  before_more n =
-      let next : n + 1 ≡ suc n = omega arith in
-      let here : 0 + n ≡ n = omega arith in
-      sym (ap (λ (k : ℕ). count_before k) (sym next)
-      ∙ ap (sum_by count_here) (range-more 0 n)
-      ∙ sum_by_push count_here (range_with_len 0 n) (0 + n)
-      ∙ ap (λ (k : ℕ). count_before n + count_here k) here)
+  before_more n = sum_more count_here n
 
   lines_more : (n : ℕ) → lines_so_far n ++ lines_here n ≡ lines_so_far (suc n)
   lines_more n =
@@ -168,29 +156,12 @@ module _ (one : DumpsHaveLines) (disk : DumpDisk) (told : Option (List File)) (b
         skips = skips-append (lines_so_far n) earlier (count_before n) (length a.before) (beside_tell n (omega (arith, low))).skips first.skips;
       }
 
-  -- the streams of a track that are told are counted, one after another
-  number_low : (n q : ℕ) → n < length beside.others → q < many → n * many + q < length beside.came
-  number_low n q known low =
-      let below : n * many + q < many * length beside.others = mul-add-lt n many q (length beside.others) known low in
-      omega (arith, below, mul_comm many (length beside.others), beside.are.all)
-
-  passed_so_far : (n : ℕ) → n < length beside.others → (q : ℕ) → q ≤ many
-      → told_beside (take (n * many + q) beside.came) ≡ told_beside (take (n * many) beside.came) + length (beside_to (captures n) q)
-  passed_so_far n low zero few =
-      let same : n * many + 0 ≡ n * many = omega arith in
-      let none : told_beside (take (n * many) beside.came) ≡ told_beside (take (n * many) beside.came) + 0 = omega arith in
-      ap (λ (k : ℕ). told_beside (take k beside.came)) same ∙ none
-  passed_so_far n low (suc q) few =
-      let i : ℕ = n * many + q in
-      let next : n * many + suc q ≡ i + 1 = omega arith in
-      let here : Seen = seen_at beside.came i in
-      let more : told_beside (take (i + 1) beside.came) ≡ told_beside (take i beside.came) + length (passed_beside 0 here.passed) =
-      sum_by_more (λ (s : Seen). length (passed_beside 0 s.passed)) beside.came i none_seen (number_low n q low (omega (arith, few))) in
-      let both : length (beside_to (captures n) (suc q)) ≡ length (beside_to (captures n) q) + length (passed_beside q here.passed) =
-      length-append (beside_to (captures n) q) (passed_beside q here.passed) in
-      let before = passed_so_far n low q (omega (arith, few)) in
-      let same = passed-length q here.passed in
-      ap (λ (k : ℕ). told_beside (take k beside.came)) next ∙ more ∙ omega (arith, before, both, same)
+  -- the files of a track that are told are counted
+  passed_here : (n : ℕ) → n < length beside.others
+      → told_beside (take (n * many + many) beside.came) ≡ told_beside (take (n * many) beside.came) + length (beside_to (captures n) many)
+  passed_here n low =
+      passed_so_far (λ (s : Seen). length (passed_beside 0 s.passed)) beside.came streams many n (λ q few. place_low (length beside.came) (length beside.others) many n q beside.are.all low few) (λ q. passed-length q (captures n q).passed) many (omega arith)
+      ∙ ap (λ (ps : List PassedStream). told_beside (take (n * many) beside.came) + length ps) (sym (beside-told n many))
 
   so_far : (n : ℕ) → n ≤ length beside.others → count_before n ≡ told_beside (take (n * many) beside.came) + sum_by other_lines_of (take n beside.others)
   so_far zero low = (let none : 0 * many ≡ 0 = omega arith in sym (ap (λ (k : ℕ). told_beside (take k beside.came) + 0) none))
@@ -200,7 +171,7 @@ module _ (one : DumpsHaveLines) (disk : DumpDisk) (told : Option (List File)) (b
       let before = so_far n (omega (arith, low)) in
       let step = before_more n in
       let passed : told_beside (take (suc n * many) beside.came) ≡ told_beside (take (n * many) beside.came) + length (beside_to (captures n) many) =
-      ap (λ (k : ℕ). told_beside (take k beside.came)) (suc-mul n many) ∙ passed_so_far n within many (omega arith) in
+      ap (λ (k : ℕ). told_beside (take k beside.came)) (suc-mul n many) ∙ passed_here n within in
       let told : sum_by other_lines_of (take (suc n) beside.others) ≡ sum_by other_lines_of (take n beside.others) + other_lines_of (names n) =
       ap (λ (k : ℕ). sum_by other_lines_of (take k beside.others)) (sym next) ∙ sum_by_more other_lines_of beside.others n [] within in
       omega (arith, before, step, passed, told)

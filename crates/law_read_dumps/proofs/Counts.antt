@@ -1,40 +1,28 @@
 -- How many lines the tracks have in a report of dumps: as many as its numbers say.
-use Rattle.std.specs.Prelude.{◌≡◌, ◌≤◌, ◌<◌, ℕ, zero, suc, ◌+◌, ◌*◌, cond, is_some, List, [], ◌∷◌, ◌++◌, get_or, length, sum_by, take, Option, None, Some, refl}
-use Rattle.std.proofs.Common.{ap, sym, ◌∙◌, arith, length-append}
+use Rattle.std.specs.Prelude.{◌≡◌, ◌≤◌, ◌<◌, ℕ, zero, suc, ◌+◌, ◌*◌, cond, is_some, List, [], ◌++◌, get_or, length, sum_by, take, Option}
+use Rattle.std.proofs.Common.{ap, sym, ◌∙◌, arith}
 use Rattle.std.proofs.Math.Nat.{suc-mul}
 use Rattle.std.proofs.Math.Seq.{take-length}
 use Rattle.std.proofs.lemmas.List.{length-map}
 use Rattle.std.proofs.lemmas.List.FromFn.{length-range_with_len}
-use Rattle.std.proofs.lemmas.List.Sums.{sum_by-append, sum_by-cons, sum_by_more}
+use Rattle.std.proofs.lemmas.List.Sums.{sum_by-append, sum_by_more}
 use Rattle.dump_reading.specs.Outcomes.{DumpDisk, DumpsRead, IsDumpsRead, numbers_of, plan_of}
 use Rattle.dump_reading.specs.Reports.{read_part}
 use Rattle.flux_engine.specs.Counts.{whole_count, whole_names_of}
 use Rattle.flux_engine.specs.Disks.{part_at, totals_over}
-use Rattle.flux_engine.specs.LoopProgress.{passed_count, seen_at, streams_over}
-use Rattle.flux_engine.specs.Plans.{Seen, Streams, joined, passed_one, passed_to}
+use Rattle.flux_engine.specs.LoopProgress.{passed_count, streams_over}
+use Rattle.flux_engine.specs.Plans.{Seen, Streams, joined, passed_to}
 use Rattle.flux_engine.specs.Recordings.{sectors_of, track_at}
 use Rattle.flux_engine.specs.Tracks.{TrackPart, numbers}
 use Rattle.flux_engine.specs.lemmas.PartLaws.{no_part}
-use Rattle.sector_report.specs.declared.dump_lines.Passed.{Passed}
 use Rattle.track_shelf.specs.Files.{File}
 use Rattle.turn_merge.specs.Others.{NotedOther, has_untold, others_over}
 use Rattle.turn_merge.specs.Readings.{verdict}
 use Rattle.law_read_dumps.specs.Lines.{has_traces, other_lines_of, passed_on, traced_count}
 use Rattle.law_read_dumps.proofs.BesideLines.{beside_counted, count_before}
 use Rattle.law_read_dumps.proofs.ReportLines.{Laws, before_more, lines_before, passed_many}
-use Rattle.law_read_dumps.proofs.Streams.{none_seen, number_low}
-
-one-passed : (q : ℕ) (why : Option Passed) → length (passed_one q why) ≡ cond (is_some why) 1 0
-one-passed q None = refl
-one-passed q (Some why) = refl
-
--- a sum of sums
-sums_added : {X : Type 0} (f g : X → ℕ) (xs : List X) → sum_by (λ (x : X). f x + g x) xs ≡ sum_by f xs + sum_by g xs
-sums_added f g [] = refl
-sums_added f g (x ∷ xs) =
-    let rest = sums_added f g xs in
-    let both : sum_by (λ x. f x + g x) (x ∷ xs) ≡ f x + g x + sum_by (λ x. f x + g x) xs = sum_by-cons (λ x. f x + g x) x xs in
-    omega (arith, both, rest, sum_by-cons f x xs, sum_by-cons g x xs)
+use Rattle.law_read_dumps.proofs.Streams.{number_low}
+use Rattle.law_read_dumps.proofs.Sums.{one-passed, passed_so_far, sums_added}
 
 abbrev whole_lines_of : List NotedOther → ℕ
 whole_lines_of others = whole_names_of (others_over others) (has_untold others)
@@ -53,23 +41,12 @@ module _ (laws : Laws) (disk : DumpDisk) (shelf : Option (List File)) (o : Dumps
   abbrev came : Streams
   came = streams_over (plan_of disk) is.streams
 
-  -- the streams of a track that are passed over are counted, one after another
-  passed_so_far : (n : ℕ) → n < length is.parts → (q : ℕ) → q ≤ many
-      → passed_count (take (n * many + q) is.streams) ≡ passed_count (take (n * many) is.streams) + length (passed_to came n q)
-  passed_so_far n low zero few =
-      let same : n * many + 0 ≡ n * many = omega arith in
-      let none : passed_count (take (n * many) is.streams) ≡ passed_count (take (n * many) is.streams) + 0 = omega arith in
-      ap (λ (k : ℕ). passed_count (take k is.streams)) same ∙ none
-  passed_so_far n low (suc q) few =
-      let i : ℕ = n * many + q in
-      let next : n * many + suc q ≡ i + 1 = omega arith in
-      let here : Seen = seen_at is.streams i in
-      let more : passed_count (take (i + 1) is.streams) ≡ passed_count (take i is.streams) + cond (is_some here.passed) 1 0 =
-      sum_by_more (λ (s : Seen). cond (is_some s.passed) 1 0) is.streams i none_seen (number_low read_part disk shelf is.streams is.parts is.all.read n q low (omega (arith, few))) in
-      let both : length (passed_to came n (suc q)) ≡ length (passed_to came n q) + length (passed_one q here.passed) = length-append (passed_to came n q) (passed_one q here.passed) in
-      let before = passed_so_far n low q (omega (arith, few)) in
-      let one = one-passed q here.passed in
-      ap (λ (k : ℕ). passed_count (take k is.streams)) next ∙ more ∙ omega (arith, before, both, one)
+  -- the streams of a track that are passed over are counted
+  passed_here : (n : ℕ) → n < length is.parts
+      → passed_count (take (n * many + many) is.streams) ≡ passed_count (take (n * many) is.streams) + length (passed_to came n many)
+  passed_here n low =
+      passed_so_far (λ (s : Seen). cond (is_some s.passed) 1 0) is.streams came many n
+      (λ q few. number_low read_part disk shelf is.streams is.parts is.all.read n q low few) (λ q. one-passed q (came n q).passed) many (omega arith)
 
   sectors_many : (n : ℕ) → n < length is.parts → (part_at is.parts n).totals.sectors ≡ (sectors_of disk.format (track_at disk.format n)).count
   sectors_many n low =
@@ -88,7 +65,7 @@ module _ (laws : Laws) (disk : DumpDisk) (shelf : Option (List File)) (o : Dumps
       let before = so_far n (omega (arith, low)) in
       let step = before_more laws disk shelf o is n in
       let passed : passed_count (take (suc n * many) is.streams) ≡ passed_count (take (n * many) is.streams) + passed_on disk came n =
-      ap (λ (k : ℕ). passed_count (take k is.streams)) (suc-mul n many) ∙ passed_so_far n within many (omega arith)
+      ap (λ (k : ℕ). passed_count (take k is.streams)) (suc-mul n many) ∙ passed_here n within
       ∙ ap (λ (k : ℕ). passed_count (take (n * many) is.streams) + k) (passed_many laws disk shelf o is n within) in
       let sectors : sum_by (λ (p : TrackPart). p.totals.sectors) (take (suc n) is.parts)
       ≡ sum_by (λ (p : TrackPart). p.totals.sectors) (take n is.parts) + (sectors_of disk.format (track_at disk.format n)).count =

@@ -1,4 +1,5 @@
 pub mod Streams
+pub mod Sums
 pub mod Lines
 pub mod TrackLines
 pub mod ReportLines

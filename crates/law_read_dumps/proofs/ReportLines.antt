@@ -4,7 +4,6 @@ use Rattle.std.specs.List.{range_with_len}
 use Rattle.std.proofs.Common.{ap, sym, subst, ◌∙◌, arith, append-nil, append_assoc, inl, inr}
 use Rattle.std.proofs.Math.Seq.{take-suc}
 use Rattle.std.proofs.lemmas.List.Concat.{flat_map-append}
-use Rattle.std.proofs.lemmas.List.Sums.{sum_by_push}
 use Rattle.dump_reading.specs.Beside.{beside_lines}
 use Rattle.dump_reading.specs.Outcomes.{DumpDisk, DumpsRead, IsDumpsRead, lines_of, numbers_of, plan_of}
 use Rattle.dump_reading.specs.Reports.{end_text, other_lines, passed_line_of, passed_lines, read_part}
@@ -20,7 +19,7 @@ use Rattle.flux_engine.specs.lemmas.Each.{each-of}
 use Rattle.flux_engine.specs.lemmas.LineNumbers.{Skips, skips-append, skips-lines}
 use Rattle.flux_engine.specs.lemmas.OneParts.{one_others_to}
 use Rattle.flux_engine.specs.lemmas.PartLaws.{lines_split, no_part}
-use Rattle.flux_engine.specs.lemmas.Pieces.{pieces-at, range-more}
+use Rattle.flux_engine.specs.lemmas.Pieces.{pieces-at}
 use Rattle.law_captured_disks.specs.Headline.{IsSectorOf}
 use Rattle.sector_images.specs.Formats.{row}
 use Rattle.sector_images.specs.Places.{IsSector, tracks}
@@ -35,6 +34,7 @@ use Rattle.turn_merge.specs.Readings.{NotedReading, verdict}
 use Rattle.turn_merge.specs.declared.others.OtherTold.{OtherTold}
 use Rattle.law_read_dumps.specs.Lines.{IsTrackLine, line_number, lines_on, of_format, other_lines_of, passed_on}
 use Rattle.law_read_dumps.proofs.Lines.{Tells, has_line, tells-append, tells-each, tells-map, tells-nil, tells-range}
+use Rattle.law_read_dumps.proofs.Sums.{sum_more}
 use Rattle.law_read_dumps.proofs.TrackLines.{among, others_tell, passed_tell}
 
 -- what the crates below promise
@@ -175,13 +175,7 @@ module _ (laws : Laws) (disk : DumpDisk) (shelf : Option (List File)) (o : Dumps
   on_disk n low m line (inr other) = inr other
 
   pub before_more : (n : ℕ) → lines_before n + lines_on disk came is.others n ≡ lines_before (suc n)
-  before_more n =
-      let next : n + 1 ≡ suc n = omega arith in
-      let here : 0 + n ≡ n = omega arith in
-      sym (ap (λ (k : ℕ). lines_before k) (sym next)
-      ∙ ap (sum_by (lines_on disk came is.others)) (range-more 0 n)
-      ∙ sum_by_push (lines_on disk came is.others) (range_with_len 0 n) (0 + n)
-      ∙ ap (λ (k : ℕ). lines_before n + lines_on disk came is.others k) here)
+  before_more n = sum_more (lines_on disk came is.others) n
 
   -- the lines of the first tracks
   pub front_tells : (n : ℕ) → n ≤ length is.parts → Tells OnDisk (lines (take n is.parts)) (lines_before n)

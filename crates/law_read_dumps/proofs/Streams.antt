@@ -59,12 +59,14 @@ some_of i a zero low = (let none : a * 0 ≡ 0 = omega arith in absurd (omega (a
 some_of i a (suc count) low = omega arith
 
 -- the stream of a track and a dump is among those that came
+pub place_low : (all tracks many n q : ℕ) → all ≡ tracks * many → n < tracks → q < many → n * many + q < all
+place_low all tracks many n q is known low =
+    let below : n * many + q < many * tracks = mul-add-lt n many q tracks known low in
+    omega (arith, below, mul_comm many tracks, is)
+
 pub number_low : (of : PartOf) (disk : DumpDisk) (shelf : Option (List File)) (streams : List Seen) (parts : List TrackPart) → AreTracksBy of disk shelf streams parts
     → (n q : ℕ) → n < length parts → q < length disk.dumps → n * length disk.dumps + q < length streams
-number_low of disk shelf streams parts read n q known low =
-    let many : ℕ = length disk.dumps in
-    let below : n * many + q < many * length parts = mul-add-lt n many q (length parts) known low in
-    omega (arith, below, mul_comm many (length parts), read.all)
+number_low of disk shelf streams parts read n q known low = place_low (length streams) (length parts) (length disk.dumps) n q read.all known low
 
 -- each stream of some tracks has its place among those that came
 module _ (of : DumpTracks) (files : List File) (tracks : ℕ) (many : of.count ≡ length of.dumps) where
@@ -164,9 +166,8 @@ streams_are_of_files disk files o is n dump low few =
 -- so is each that came of a track beside the format's
 pub beside_streams_are_of_files : BesideStreamsAreOfFiles
 beside_streams_are_of_files disk files o is number dump low few =
-    let many : ℕ = length disk.dumps in
-    let below : number * many + dump < many * length is.beside.others = mul-add-lt number many dump (length is.beside.others) low few in
-    is.beside.are.are files refl number dump few few (omega (arith, below, mul_comm many (length is.beside.others), is.beside.are.all))
+    is.beside.are.are files refl number dump few few
+    (place_low (length is.beside.came) (length is.beside.others) (length disk.dumps) number dump is.beside.are.all low few)
 
 -- whatever list has all readings of each stream of a track
 pub captures_are : ReadingsInPlansAreOne → (disk : DumpDisk) (told : Option (List File)) (o : DumpsRead) (is : IsDumpsRead disk told o) (n sector : ℕ) (low : n < length is.parts)
