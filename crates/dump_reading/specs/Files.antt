@@ -3,7 +3,11 @@ use Rattle.std.specs.Prelude.{◌≡◌, ◌≤◌, ◌<◌, ℕ, Option, Some, 
 use Rattle.flux_base.specs.Counts.{FaultCounts}
 use Rattle.flux_base.specs.Outside.{Rose}
 use Rattle.track_shelf.specs.Files.{none_yet, risen_by}
+use Rattle.flux_base.specs.World.{source_counts}
+use Rattle.flux_base.specs.declared.outside.Source.{Ghosts as SourceGhosts}
 use Rattle.track_shelf.specs.Told.{ShelfTold}
+use Rattle.track_shelf.specs.World.{told_at}
+use Rattle.track_shelf.specs.declared.shelf.Shelf.{Ghosts}
 
 -- a file of a shelf was not called yet
 pub record IsFresh (file shelf : FaultCounts) : Type 0 where
@@ -17,6 +21,9 @@ pub record ShelfNow : Type 0 where
 
 abbrev pub shelf_now : ShelfTold → FaultCounts → ShelfNow
 shelf_now told counts = record { told = told; counts = counts }
+
+abbrev pub shelf_at : {H F : Type 0} → SourceGhosts H → Ghosts H F → H → ShelfNow
+shelf_at source own shelf = shelf_now (told_at source own shelf) (source_counts source shelf)
 
 -- where it is told how many calls failed, so many more did
 abbrev pub failed_more : (often : ℕ) → Option ℕ → Option ℕ

@@ -2,18 +2,18 @@
 //! them are others.
 
 ghost use Rattle.std.specs.Prelude.{◌≡◌, ◌≤◌, ◌<◌, ◌+◌, ◌*◌, ℕ, List, [], Some, length, is_err, is_some, slice_get, IfSome, OnErr, OnOk};
-ghost use Rattle.flux_base.specs.Counts.{Counts, counts_of};
-ghost use Rattle.flux_base.specs.Moments.{Puts, moment};
+ghost use Rattle.flux_base.specs.Counts.{Counts};
+ghost use Rattle.flux_base.specs.Moments.{Puts};
 ghost use Rattle.flux_base.specs.declared.track.TrackId.{TrackId as Id};
+ghost use Rattle.flux_base.specs.World.{sink_at, sink_counts};
 ghost use Rattle.flux_engine.specs.Counts.{AreCountsBelow};
 ghost use Rattle.flux_engine.specs.Plans.{Seen};
 ghost use Rattle.flux_engine.specs.Recordings.{track_at};
 ghost use Rattle.sector_images.specs.Places.{tracks};
-ghost use Rattle.track_shelf.specs.Told.{told_by};
 ghost use Rattle.turn_merge.specs.Others.{NotedOther, OthersStandFor};
 ghost use Rattle.dump_reading.specs.Beside.{LinesOf, beside_lines, is_track, most_cylinders, near_track, no_lines, of_tracks};
 ghost use Rattle.dump_reading.specs.DumpStreams.{HaveComeOf};
-ghost use Rattle.dump_reading.specs.Files.{ShelfNow, shelf_now};
+ghost use Rattle.dump_reading.specs.Files.{ShelfNow, shelf_at};
 ghost use Rattle.dump_reading.specs.Looks.{HasTakenTo, LooksAsAsked, LooksAtOne, LooksInto};
 ghost use Rattle.dump_reading.specs.Outcomes.{disk_by};
 ghost use Rattle.dump_reading.specs.Reports.{plan_by};
@@ -43,7 +43,7 @@ pub trait BesideWriter {
     ) -> Result<(), Failed>
         requires { track.cylinder < 100 }
         ensures { (others : List NotedOther) → OthersStandFor gathered.now.others others
-            → Puts (moment N.written N.faults N.failed notes.old) (moment N.written N.faults N.failed notes.new) (lines_of self.now track gathered.now.passed.items others) result };
+            → Puts (sink_at N.Sink notes.old) (sink_at N.Sink notes.new) (lines_of self.now track gathered.now.passed.items others) result };
 }
 
 /// The lines of the report.
@@ -98,9 +98,9 @@ pub(crate) fn read_beside<B: BesideWriter, H: Shelf, N: Sink>(
 ) -> Result<(), Failed>
     requires few { length dumps.now.names.now ≤ 16 }
     requires below { AreCountsBelow room.old (length (tracks room.old.format)) }
-    ensures ok { OnOk result (LooksAsAsked (B.lines_of writer.now) (disk_by clocks looks dumps.now room.old.format) sectors.now (shelf_now (told_by H.files H.left H.given H.handled shelf.old) (counts_of H.faults H.failed shelf.old)) (shelf_now (told_by H.files H.left H.given H.handled shelf.new) (counts_of H.faults H.failed shelf.new)) room.old room.new (N.written notes.old) (N.written notes.new)) }
-    ensures err { OnErr result (LooksInto (B.lines_of writer.now) (disk_by clocks looks dumps.now room.old.format) sectors.now (shelf_now (told_by H.files H.left H.given H.handled shelf.old) (counts_of H.faults H.failed shelf.old)) (shelf_now (told_by H.files H.left H.given H.handled shelf.new) (counts_of H.faults H.failed shelf.new)) (N.written notes.old) (N.written notes.new)) }
-    ensures counts { Counts (is_err result) (counts_of N.faults N.failed notes.old) (counts_of N.faults N.failed notes.new) }
+    ensures ok { OnOk result (LooksAsAsked (B.lines_of writer.now) (disk_by clocks looks dumps.now room.old.format) sectors.now (shelf_at H.Source H.Shelf.own shelf.old) (shelf_at H.Source H.Shelf.own shelf.new) room.old room.new (N.written notes.old) (N.written notes.new)) }
+    ensures err { OnErr result (LooksInto (B.lines_of writer.now) (disk_by clocks looks dumps.now room.old.format) sectors.now (shelf_at H.Source H.Shelf.own shelf.old) (shelf_at H.Source H.Shelf.own shelf.new) (N.written notes.old) (N.written notes.new)) }
+    ensures counts { Counts (is_err result) (sink_counts N.Sink notes.old) (sink_counts N.Sink notes.new) }
 {
     if !looks.wants(sectors) {
         return Ok(());
@@ -135,8 +135,8 @@ fn read_one<B: BesideWriter, H: Shelf, N: Sink>(
     requires few { length dumps.now.names.now ≤ 16 }
     requires below { AreCountsBelow room.old 1000 }
     ensures looked { (track_of : ℕ → Id) (number : ℕ) (start : ShelfNow) (before : List Seen) → track_of number ≡ track → length before ≡ number * length dumps.now.names.now
-        → HaveComeOf (of_tracks dumps.now.stepping dumps.now.names.now track_of) start (shelf_now (told_by H.files H.left H.given H.handled shelf.old) (counts_of H.faults H.failed shelf.old)) before
-        → LooksAtOne (B.lines_of writer.now) (plan_by clocks (length dumps.now.names.now)) track (of_tracks dumps.now.stepping dumps.now.names.now track_of) start (shelf_now (told_by H.files H.left H.given H.handled shelf.new) (counts_of H.faults H.failed shelf.new)) before room.old room.new (moment N.written N.faults N.failed notes.old) (moment N.written N.faults N.failed notes.new) result }
+        → HaveComeOf (of_tracks dumps.now.stepping dumps.now.names.now track_of) start (shelf_at H.Source H.Shelf.own shelf.old) before
+        → LooksAtOne (B.lines_of writer.now) (plan_by clocks (length dumps.now.names.now)) track (of_tracks dumps.now.stepping dumps.now.names.now track_of) start (shelf_at H.Source H.Shelf.own shelf.new) before room.old room.new (sink_at N.Sink notes.old) (sink_at N.Sink notes.new) result }
     ensures format { room.new.format ≡ room.old.format }
     ensures below { (n : ℕ) → AreCountsBelow room.old n → AreCountsBelow room.new (n + 1) }
 {
@@ -161,8 +161,8 @@ fn take_all<H: Shelf>(
     requires none_passed { room.old.passed ≡ [] }
     requires no_others { OthersStandFor room.old.others [] }
     ensures taken { (track_of : ℕ → Id) (number : ℕ) (start : ShelfNow) (before : List Seen) → track_of number ≡ track → length before ≡ number * length dumps.now.names.now
-        → HaveComeOf (of_tracks dumps.now.stepping dumps.now.names.now track_of) start (shelf_now (told_by H.files H.left H.given H.handled shelf.old) (counts_of H.faults H.failed shelf.old)) before
-        → HasTakenTo (plan_by clocks (length dumps.now.names.now)) (track_at room.old.format room.old.started) (of_tracks dumps.now.stepping dumps.now.names.now track_of) start (shelf_now (told_by H.files H.left H.given H.handled shelf.new) (counts_of H.faults H.failed shelf.new)) before room.new (length dumps.now.names.now) }
+        → HaveComeOf (of_tracks dumps.now.stepping dumps.now.names.now track_of) start (shelf_at H.Source H.Shelf.own shelf.old) before
+        → HasTakenTo (plan_by clocks (length dumps.now.names.now)) (track_at room.old.format room.old.started) (of_tracks dumps.now.stepping dumps.now.names.now track_of) start (shelf_at H.Source H.Shelf.own shelf.new) before room.new (length dumps.now.names.now) }
     ensures kept { room.new ≡ record room.old { held = room.new.held; used = room.new.used; captures = room.new.captures; passed = room.new.passed; others = room.new.others } }
     ensures passed { length room.new.passed ≤ 16 }
 {

@@ -2,13 +2,15 @@
 
 ghost use Rattle.std.specs.Prelude.{◌≡◌, ◌<◌, List, ℕ, Some};
 ghost use Rattle.flux_base.specs.Counts.{Counts, counts_of};
+ghost use Rattle.flux_base.specs.World.{source_counts};
+ghost use Rattle.track_shelf.specs.World.{told_at};
 ghost use Rattle.dump_reading.specs.DumpStreams.{GaveOf, HaveComeOf, IsOrFailed, is_lost, lost_path, of_disk, seen_file, seen_of};
 ghost use Rattle.dump_reading.specs.lemmas.Coming.{none_came};
-ghost use Rattle.dump_reading.specs.Files.{IsFresh, shelf_now};
+ghost use Rattle.dump_reading.specs.Files.{IsFresh, shelf_at};
 ghost use Rattle.flux_engine.specs.LoopProgress.{IsBoundedNext, seen_next};
 ghost use Rattle.track_shelf.specs.Files.{File, file_at};
 ghost use Rattle.track_shelf.specs.Names.{path_text};
-ghost use Rattle.track_shelf.specs.Told.{told_by, with_closed, with_failed};
+ghost use Rattle.track_shelf.specs.Told.{with_closed, with_failed};
 
 use flux_base::{Failed, TrackId, Word};
 use flux_engine::{CaptureFault, NamedStreams, NextStream, TrackStreams, read_stream};
@@ -37,7 +39,7 @@ impl<'a> Dumps<'a> {
         stream: &mut StreamRoom,
     ) -> NextStream
         requires { track.cylinder < 128 }
-        ensures gave { GaveOf self.now.stepping self.now.names.now track dump (shelf_now (told_by H.files H.left H.given H.handled shelf.old) (counts_of H.faults H.failed shelf.old)) (shelf_now (told_by H.files H.left H.given H.handled shelf.new) (counts_of H.faults H.failed shelf.new)) (seen_next result stream.new.flux) }
+        ensures gave { GaveOf self.now.stepping self.now.names.now track dump (shelf_at H.Source H.Shelf.own shelf.old) (shelf_at H.Source H.Shelf.own shelf.new) (seen_next result stream.new.flux) }
         ensures bounded { IsBoundedNext result stream.new.flux }
     {
         let track = self.stepping.file_track(track);
@@ -50,7 +52,7 @@ impl<'a> Dumps<'a> {
 }
 
 impl<'a, H: Shelf> TrackStreams<H> for Dumps<'a> {
-    ghost came = { λ dumps plan format start now held used before. HaveComeOf (of_disk dumps.stepping dumps.names.now plan.captures format) (shelf_now (told_by H.files H.left H.given H.handled start) (counts_of H.faults H.failed start)) (shelf_now (told_by H.files H.left H.given H.handled now) (counts_of H.faults H.failed now)) before };
+    ghost came = { λ dumps plan format start now held used before. HaveComeOf (of_disk dumps.stepping dumps.names.now plan.captures format) (shelf_at H.Source H.Shelf.own start) (shelf_at H.Source H.Shelf.own now) before };
 
     // No file ends a disk.
     ghost ended = { λ dumps plan format start now before fault. ⊥ };
@@ -67,12 +69,12 @@ impl<'a, H: Shelf> TrackStreams<H> for Dumps<'a> {
         Ok(self.read(track_id(format, number), capture, source, stream))
     }
 
-    ghost begins = { λ dumps plan format now. none_came (of_disk dumps.stepping dumps.names.now plan.captures format) (shelf_now (told_by H.files H.left H.given H.handled now) (counts_of H.faults H.failed now)) };
+    ghost begins = { λ dumps plan format now. none_came (of_disk dumps.stepping dumps.names.now plan.captures format) (shelf_at H.Source H.Shelf.own now) };
 }
 
 /// Tracks by their ids, whether the format has them or not.
 impl<'a, H: Shelf> NamedStreams<H> for Dumps<'a> {
-    ghost gave = { λ dumps old new track capture here. GaveOf dumps.stepping dumps.names.now track capture (shelf_now (told_by H.files H.left H.given H.handled old) (counts_of H.faults H.failed old)) (shelf_now (told_by H.files H.left H.given H.handled new) (counts_of H.faults H.failed new)) here };
+    ghost gave = { λ dumps old new track capture here. GaveOf dumps.stepping dumps.names.now track capture (shelf_at H.Source H.Shelf.own old) (shelf_at H.Source H.Shelf.own new) here };
 
     fn stream_of(
         &self,
@@ -94,9 +96,9 @@ fn read_dump<H: Shelf>(
     stream: &mut StreamRoom,
 ) -> NextStream
     ensures seen { (files : List File) → H.files shelf.old ≡ Some files → IsOrFailed (seen_next result stream.new.flux) (seen_of (file_at files (path_text dump.now track))) }
-    ensures told { told_by H.files H.left H.given H.handled shelf.new ≡ with_failed (lost_path (path_text dump.now track) result) (told_by H.files H.left H.given H.handled shelf.old) }
+    ensures told { told_at H.Source H.Shelf.own shelf.new ≡ with_failed (lost_path (path_text dump.now track) result) (told_at H.Source H.Shelf.own shelf.old) }
     ensures bounded { IsBoundedNext result stream.new.flux }
-    ensures counts { Counts (is_lost result) (counts_of H.faults H.failed shelf.old) (counts_of H.faults H.failed shelf.new) }
+    ensures counts { Counts (is_lost result) (source_counts H.Source shelf.old) (source_counts H.Source shelf.new) }
 {
     match shelf.open_file(dump, track) {
         Ok(Some(file)) => read_file(file, shelf, stream),
@@ -109,11 +111,11 @@ fn read_dump<H: Shelf>(
 /// follows its End is not looked at.
 fn read_file<H: Shelf>(file: H::File, shelf: &mut H, stream: &mut StreamRoom) -> NextStream
     ensures seen { (bytes : List ℕ) → H.File.left file ≡ Some bytes → IsOrFailed (seen_next result stream.new.flux) (seen_file bytes) }
-    ensures told { IsFresh (counts_of H.File.faults H.File.failed file) (counts_of H.faults H.failed shelf.old)
-        → told_by H.files H.left H.given H.handled shelf.new ≡ with_closed (is_lost result) (told_by H.files H.left H.given H.handled shelf.old) }
+    ensures told { IsFresh (counts_of H.File.faults H.File.failed file) (source_counts H.Source shelf.old)
+        → told_at H.Source H.Shelf.own shelf.new ≡ with_closed (is_lost result) (told_at H.Source H.Shelf.own shelf.old) }
     ensures bounded { IsBoundedNext result stream.new.flux }
-    ensures counts { IsFresh (counts_of H.File.faults H.File.failed file) (counts_of H.faults H.failed shelf.old)
-        → Counts (is_lost result) (counts_of H.faults H.failed shelf.old) (counts_of H.faults H.failed shelf.new) }
+    ensures counts { IsFresh (counts_of H.File.faults H.File.failed file) (source_counts H.Source shelf.old)
+        → Counts (is_lost result) (source_counts H.Source shelf.old) (source_counts H.Source shelf.new) }
 {
     let mut file = file;
     stream.restart();

@@ -1,13 +1,12 @@
 //! A disk that is read of its dumps.
 
 ghost use Rattle.std.specs.Prelude.{◌≡◌, ◌≤◌, length, IfErr, IfOk};
-ghost use Rattle.flux_base.specs.Blames.{CountsBy, no_counts, three_counts};
-ghost use Rattle.flux_base.specs.Counts.{counts_of};
-ghost use Rattle.flux_base.specs.Moments.{Puts, moment};
+ghost use Rattle.flux_base.specs.Blames.{CountsBy};
+ghost use Rattle.flux_base.specs.Moments.{Puts};
+ghost use Rattle.flux_base.specs.World.{sink_at, sinks_counts};
 ghost use Rattle.flux_engine.specs.Room.{fresh};
-ghost use Rattle.track_shelf.specs.Told.{told_by};
 ghost use Rattle.dump_reading.specs.Blamed.{dumps_blame};
-ghost use Rattle.dump_reading.specs.Files.{shelf_now};
+ghost use Rattle.dump_reading.specs.Files.{shelf_at};
 ghost use Rattle.dump_reading.specs.Outcomes.{HasTracksBy, SaysOfDumps, StopsBy, disk_by, disk_of};
 ghost use Rattle.dump_reading.specs.Reports.{end_text};
 
@@ -43,12 +42,12 @@ pub fn read_dumps<H: Shelf, W: Sink, N: Sink>(
 ) -> Result<DumpTotals, DumpsFault>
     requires fresh { room.old ≡ fresh room.old.format }
     requires few { length dumps.now.names.now ≤ 16 }
-    ensures says { SaysOfDumps (disk_of dumps.now room.old.format) (shelf_now (told_by H.files H.left H.given H.handled shelf.old) (counts_of H.faults H.failed shelf.old)) (shelf_now (told_by H.files H.left H.given H.handled shelf.new) (counts_of H.faults H.failed shelf.new)) (W.written image.old) (W.written image.new) (N.written notes.old) (N.written notes.new) result }
+    ensures says { SaysOfDumps (disk_of dumps.now room.old.format) (shelf_at H.Source H.Shelf.own shelf.old) (shelf_at H.Source H.Shelf.own shelf.new) (W.written image.old) (W.written image.new) (N.written notes.old) (N.written notes.new) result }
 
     // What the shelf did is in what came of it.
     ensures blames { CountsBy (dumps_blame result)
-        (three_counts no_counts (counts_of W.faults W.failed image.old) (counts_of N.faults N.failed notes.old))
-        (three_counts no_counts (counts_of W.faults W.failed image.new) (counts_of N.faults N.failed notes.new)) }
+        (sinks_counts W.Sink N.Sink image.old notes.old)
+        (sinks_counts W.Sink N.Sink image.new notes.new) }
 {
     read_dumps_by(
         Clocks::Both,
@@ -73,12 +72,12 @@ pub fn read_dumps_by<H: Shelf, W: Sink, N: Sink>(
 ) -> Result<DumpTotals, DumpsFault>
     requires fresh { room.old ≡ fresh room.old.format }
     requires few { length dumps.now.names.now ≤ 16 }
-    ensures says { SaysOfDumps (disk_by clocks looks dumps.now room.old.format) (shelf_now (told_by H.files H.left H.given H.handled shelf.old) (counts_of H.faults H.failed shelf.old)) (shelf_now (told_by H.files H.left H.given H.handled shelf.new) (counts_of H.faults H.failed shelf.new)) (W.written image.old) (W.written image.new) (N.written notes.old) (N.written notes.new) result }
+    ensures says { SaysOfDumps (disk_by clocks looks dumps.now room.old.format) (shelf_at H.Source H.Shelf.own shelf.old) (shelf_at H.Source H.Shelf.own shelf.new) (W.written image.old) (W.written image.new) (N.written notes.old) (N.written notes.new) result }
 
     // What the shelf did is in what came of it.
     ensures blames { CountsBy (dumps_blame result)
-        (three_counts no_counts (counts_of W.faults W.failed image.old) (counts_of N.faults N.failed notes.old))
-        (three_counts no_counts (counts_of W.faults W.failed image.new) (counts_of N.faults N.failed notes.new)) }
+        (sinks_counts W.Sink N.Sink image.old notes.old)
+        (sinks_counts W.Sink N.Sink image.new notes.new) }
 {
     match find_empty(dumps, room_format(room), shelf) {
         None => {}
@@ -121,13 +120,13 @@ pub fn read_dump_tracks<O: TrackWriter, B: BesideWriter, H: Shelf, W: Sink, N: S
 ) -> Result<DumpTotals, DumpsFault>
     requires fresh { room.old ≡ fresh room.old.format }
     requires few { length dumps.now.names.now ≤ 16 }
-    ensures ok { IfOk result (HasTracksBy (O.part_of writer.now) (B.lines_of beside.now) (disk_by clocks looks dumps.now room.old.format) (shelf_now (told_by H.files H.left H.given H.handled shelf.old) (counts_of H.faults H.failed shelf.old)) (shelf_now (told_by H.files H.left H.given H.handled shelf.new) (counts_of H.faults H.failed shelf.new)) (W.written image.old) (W.written image.new) (N.written notes.old) (N.written notes.new)) }
-    ensures err { IfErr result (StopsBy (O.part_of writer.now) (B.lines_of beside.now) (disk_by clocks looks dumps.now room.old.format) (shelf_now (told_by H.files H.left H.given H.handled shelf.old) (counts_of H.faults H.failed shelf.old)) (shelf_now (told_by H.files H.left H.given H.handled shelf.new) (counts_of H.faults H.failed shelf.new)) (W.written image.old) (W.written image.new) (N.written notes.old) (N.written notes.new)) }
+    ensures ok { IfOk result (HasTracksBy (O.part_of writer.now) (B.lines_of beside.now) (disk_by clocks looks dumps.now room.old.format) (shelf_at H.Source H.Shelf.own shelf.old) (shelf_at H.Source H.Shelf.own shelf.new) (W.written image.old) (W.written image.new) (N.written notes.old) (N.written notes.new)) }
+    ensures err { IfErr result (StopsBy (O.part_of writer.now) (B.lines_of beside.now) (disk_by clocks looks dumps.now room.old.format) (shelf_at H.Source H.Shelf.own shelf.old) (shelf_at H.Source H.Shelf.own shelf.new) (W.written image.old) (W.written image.new) (N.written notes.old) (N.written notes.new)) }
 
     // What the shelf did is in what came of it.
     ensures blames { CountsBy (dumps_blame result)
-        (three_counts no_counts (counts_of W.faults W.failed image.old) (counts_of N.faults N.failed notes.old))
-        (three_counts no_counts (counts_of W.faults W.failed image.new) (counts_of N.faults N.failed notes.new)) }
+        (sinks_counts W.Sink N.Sink image.old notes.old)
+        (sinks_counts W.Sink N.Sink image.new notes.new) }
 {
     let plan = Plan {
         captures: dumps.names.len() as u8,
@@ -157,7 +156,7 @@ pub fn read_dump_tracks<O: TrackWriter, B: BesideWriter, H: Shelf, W: Sink, N: S
 
 /// Writes the last two lines: what was passed over and what else was told, and the totals.
 fn write_end<N: Sink>(totals: &DumpTotals, notes: &mut N) -> Result<(), Failed>
-    ensures { Puts (moment N.written N.faults N.failed notes.old) (moment N.written N.faults N.failed notes.new) (end_text totals.now) result }
+    ensures { Puts (sink_at N.Sink notes.old) (sink_at N.Sink notes.new) (end_text totals.now) result }
 {
     match write_line(
         notes,

@@ -1,7 +1,8 @@
 //! What becomes of a track of a disk that is read of several dumps.
 
 ghost use Rattle.std.specs.Prelude.{◌≡◌, ◌<◌, [], cond};
-ghost use Rattle.flux_base.specs.Moments.{Puts, moment};
+ghost use Rattle.flux_base.specs.Moments.{Puts};
+ghost use Rattle.flux_base.specs.World.{sink_at};
 ghost use Rattle.dump_reading.specs.Reports.{data_lines, other_lines, passed_lines, read_part, trace_count as traces_in};
 
 use flux_base::{Failed, Sink, TrackId};
@@ -67,7 +68,7 @@ pub fn write_passed<N: Sink>(
     notes: &mut N,
 ) -> Result<(), Failed>
     requires { track.cylinder < 100 }
-    ensures { Puts (moment N.written N.faults N.failed notes.old) (moment N.written N.faults N.failed notes.new) (passed_lines track passed.now) result }
+    ensures { Puts (sink_at N.Sink notes.old) (sink_at N.Sink notes.new) (passed_lines track passed.now) result }
 {
     for number in 0..passed.len() {
         let stream = passed[number];
@@ -86,7 +87,7 @@ pub(crate) fn write_others<N: Sink>(
     notes: &mut N,
 ) -> Result<(), Failed>
     requires { track.cylinder < 100 }
-    ensures { Puts (moment N.written N.faults N.failed notes.old) (moment N.written N.faults N.failed notes.new) (other_lines track others.now.told others.now.untold) result }
+    ensures { Puts (sink_at N.Sink notes.old) (sink_at N.Sink notes.new) (other_lines track others.now.told others.now.untold) result }
 {
     match write_names(track, others.told(), notes) {
         Ok(()) => {}
@@ -103,7 +104,7 @@ pub(crate) fn write_others<N: Sink>(
 /// Writes a line for each name that is told and has whole data, each in one piece.
 fn write_names<N: Sink>(track: TrackId, told: &[OtherTold], notes: &mut N) -> Result<(), Failed>
     requires { track.cylinder < 100 }
-    ensures { Puts (moment N.written N.faults N.failed notes.old) (moment N.written N.faults N.failed notes.new) (data_lines track told.now) result }
+    ensures { Puts (sink_at N.Sink notes.old) (sink_at N.Sink notes.new) (data_lines track told.now) result }
 {
     for number in 0..told.len() {
         let name = &told[number];
@@ -124,7 +125,7 @@ fn trace_count(told: &[OtherTold]) -> u64
 
 /// Writes a line where it is wanted, in one piece.
 fn write_if<N: Sink>(wanted: bool, line: &Line, notes: &mut N) -> Result<(), Failed>
-    ensures { Puts (moment N.written N.faults N.failed notes.old) (moment N.written N.faults N.failed notes.new) (cond wanted line.now.bytes []) result }
+    ensures { Puts (sink_at N.Sink notes.old) (sink_at N.Sink notes.new) (cond wanted line.now.bytes []) result }
 {
     if wanted {
         write_line(notes, line)

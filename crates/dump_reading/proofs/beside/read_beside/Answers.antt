@@ -1,12 +1,10 @@
 use Rattle.std.proofs.Common.{◌≡◌, ◌+◌, ◌/◌, ◌%◌, ◌<◌, is_some, Ok, Err, length, arith, refl, sym, ap, ◌∙◌}
-use Rattle.flux_base.specs.Counts.{counts_of}
-use Rattle.flux_base.specs.Moments.{moment}
 use Rattle.flux_base.specs.declared.track.TrackId.{TrackId as Id}
 use Rattle.flux_base.specs.lemmas.Counting.{Counts-none, Counts-then}
+use Rattle.flux_base.specs.World.{sink_at, sink_counts}
 use Rattle.sector_images.specs.Places.{tracks}
-use Rattle.track_shelf.specs.Told.{told_by}
 use Rattle.dump_reading.specs.Beside.{beside_at, beside_tracks}
-use Rattle.dump_reading.specs.Files.{shelf_now}
+use Rattle.dump_reading.specs.Files.{shelf_at}
 use Rattle.dump_reading.specs.Outcomes.{disk_by}
 use Rattle.dump_reading.proofs.BesideSteps.{all-asked, at-place, below-more, looked-into, looked-first, looked-next, none-asked, none-here, one-here}
 use Rattle.dump_reading.proofs.TrackNumbers.{beside-next, beside-same, beside_before, cylinders-few, tracks-few}
@@ -16,17 +14,17 @@ use Rattle.dump_reading.proofs.beside.read_beside.Goals.{then-is_none+in-Ok, els
 pub returns-then-not-wants-clause-ok : goal.returns-then-not-wants-clause-ok
 returns-then-not-wants-clause-ok g c =
     none-asked (g.B.BesideWriter.lines_of c.args.writer.now) (disk_by c.args.clocks c.args.looks c.args.dumps.now c.args.room.now.format) c.args.sectors.now
-    (shelf_now (told_by g.H.Shelf.files g.H.Source.left g.H.Source.given g.H.Shelf.handled c.args.shelf.now) (counts_of g.H.Source.faults g.H.Source.failed c.args.shelf.now))
+    (shelf_at g.H.Source g.H.Shelf c.args.shelf.now)
     c.args.room.now (g.N.Sink.written c.args.notes.now) (sym c.if-not-wants.ensures)
 
 pub loop-number-init : goal.loop-number-init
 loop-number-init g c = record {
   looked = looked-first (g.B.BesideWriter.lines_of c.args.writer.now) (disk_by c.args.clocks c.args.looks c.args.dumps.now c.args.room.now.format)
-      (shelf_now (told_by g.H.Shelf.files g.H.Source.left g.H.Source.given g.H.Shelf.handled c.args.shelf.now) (counts_of g.H.Source.faults g.H.Source.failed c.args.shelf.now))
+      (shelf_at g.H.Source g.H.Shelf c.args.shelf.now)
       c.args.room.now (g.N.Sink.written c.args.notes.now);
   format = refl;
   below = below-more c.args.room.now (length (tracks c.args.room.now.format)) (length (tracks c.args.room.now.format) + 0) (omega arith) c.requires.below;
-  counts = Counts-none (counts_of g.N.Sink.faults g.N.Sink.failed c.args.notes.now);
+  counts = Counts-none (sink_counts g.N.Sink c.args.notes.now);
 }
 
 pub read_one-requires-clause-below : goal.read_one-requires-clause-below
@@ -48,13 +46,13 @@ returns-in-Err-clause-err g c =
     let place : beside_at stepping format (length h.beside.others) ≡ here = ap (beside_at stepping format) c.loop-number.invariant.looked.1 ∙ next.1 in
     let one =
     at-place place (c.in-Err.ensures.looked (beside_at stepping format) (length h.beside.others)
-    (shelf_now (told_by g.H.Shelf.files g.H.Source.left g.H.Source.given g.H.Shelf.handled c.args.shelf.now) (counts_of g.H.Source.faults g.H.Source.failed c.args.shelf.now))
+    (shelf_at g.H.Source g.H.Shelf c.args.shelf.now)
     h.beside.came place h.beside.are.all h.came) in
     looked-into (g.B.BesideWriter.lines_of c.args.writer.now) (disk_by c.args.clocks c.args.looks c.args.dumps.now c.args.room.now.format)
-    (shelf_now (told_by g.H.Shelf.files g.H.Source.left g.H.Source.given g.H.Shelf.handled c.args.shelf.now) (counts_of g.H.Source.faults g.H.Source.failed c.args.shelf.now))
-    (shelf_now (told_by g.H.Shelf.files g.H.Source.left g.H.Source.given g.H.Shelf.handled c.loop-number.shelf) (counts_of g.H.Source.faults g.H.Source.failed c.loop-number.shelf))
-    (shelf_now (told_by g.H.Shelf.files g.H.Source.left g.H.Source.given g.H.Shelf.handled c.read_one.new.shelf) (counts_of g.H.Source.faults g.H.Source.failed c.read_one.new.shelf))
-    c.args.room.now c.loop-number.room c.read_one.new.room (g.N.Sink.written c.args.notes.now) (moment g.N.Sink.written g.N.Sink.faults g.N.Sink.failed c.loop-number.notes) (moment g.N.Sink.written g.N.Sink.faults g.N.Sink.failed c.read_one.new.notes)
+    (shelf_at g.H.Source g.H.Shelf c.args.shelf.now)
+    (shelf_at g.H.Source g.H.Shelf c.loop-number.shelf)
+    (shelf_at g.H.Source g.H.Shelf c.read_one.new.shelf)
+    c.args.room.now c.loop-number.room c.read_one.new.room (g.N.Sink.written c.args.notes.now) (sink_at g.N.Sink c.loop-number.notes) (sink_at g.N.Sink c.read_one.new.notes)
     c.loop-number.invariant.looked.0 (Err c.in-Err.failed) low c.loop-number.invariant.format one c.args.sectors.now (sym c.if-not-wants.ensures) one.puts.err
 
 pub returns-in-Err-clause-counts : goal.returns-in-Err-clause-counts
@@ -69,7 +67,7 @@ returns-in-Err-clause-counts g c =
     let place : beside_at stepping format (length h.beside.others) ≡ here = ap (beside_at stepping format) c.loop-number.invariant.looked.1 ∙ next.1 in
     let one =
     at-place place (c.in-Err.ensures.looked (beside_at stepping format) (length h.beside.others)
-    (shelf_now (told_by g.H.Shelf.files g.H.Source.left g.H.Source.given g.H.Shelf.handled c.args.shelf.now) (counts_of g.H.Source.faults g.H.Source.failed c.args.shelf.now))
+    (shelf_at g.H.Source g.H.Shelf c.args.shelf.now)
     h.beside.came place h.beside.are.all h.came) in
     Counts-then _ c.loop-number.invariant.counts one.puts.counts
 
@@ -88,14 +86,14 @@ loop-number-preserved g c =
           let place : beside_at stepping format (length h.beside.others) ≡ here = ap (beside_at stepping format) c.loop-number.invariant.looked.1 ∙ next.1 in
           let one =
           at-place place (w.in-Ok.ensures.looked (beside_at stepping format) (length h.beside.others)
-          (shelf_now (told_by g.H.Shelf.files g.H.Source.left g.H.Source.given g.H.Shelf.handled c.args.shelf.now) (counts_of g.H.Source.faults g.H.Source.failed c.args.shelf.now))
+          (shelf_at g.H.Source g.H.Shelf c.args.shelf.now)
           h.beside.came place h.beside.are.all h.came) in
           record {
             looked = looked-next (g.B.BesideWriter.lines_of c.args.writer.now) (disk_by c.args.clocks c.args.looks c.args.dumps.now c.args.room.now.format)
-                (shelf_now (told_by g.H.Shelf.files g.H.Source.left g.H.Source.given g.H.Shelf.handled c.args.shelf.now) (counts_of g.H.Source.faults g.H.Source.failed c.args.shelf.now))
-                (shelf_now (told_by g.H.Shelf.files g.H.Source.left g.H.Source.given g.H.Shelf.handled c.loop-number.shelf) (counts_of g.H.Source.faults g.H.Source.failed c.loop-number.shelf))
-                (shelf_now (told_by g.H.Shelf.files g.H.Source.left g.H.Source.given g.H.Shelf.handled w.read_one.new.shelf) (counts_of g.H.Source.faults g.H.Source.failed w.read_one.new.shelf))
-                c.args.room.now c.loop-number.room w.read_one.new.room (g.N.Sink.written c.args.notes.now) (moment g.N.Sink.written g.N.Sink.faults g.N.Sink.failed c.loop-number.notes) (moment g.N.Sink.written g.N.Sink.faults g.N.Sink.failed w.read_one.new.notes)
+                (shelf_at g.H.Source g.H.Shelf c.args.shelf.now)
+                (shelf_at g.H.Source g.H.Shelf c.loop-number.shelf)
+                (shelf_at g.H.Source g.H.Shelf w.read_one.new.shelf)
+                c.args.room.now c.loop-number.room w.read_one.new.room (g.N.Sink.written c.args.notes.now) (sink_at g.N.Sink c.loop-number.notes) (sink_at g.N.Sink w.read_one.new.notes)
                 c.loop-number.invariant.looked.0 (Ok tt) low c.loop-number.invariant.format one one.puts.ok
                 (beside_before stepping format c.loop-number.number) (beside_before stepping format (c.loop-number.number + 1)) c.loop-number.invariant.looked.1 next.2;
             format = w.read_one.ensures.format ∙ c.loop-number.invariant.format;
@@ -124,8 +122,8 @@ loop-number-preserved g c =
 pub returns-clause-ok : goal.returns-clause-ok
 returns-clause-ok g c =
     all-asked (g.B.BesideWriter.lines_of c.args.writer.now) (disk_by c.args.clocks c.args.looks c.args.dumps.now c.args.room.now.format) c.args.sectors.now
-    (shelf_now (told_by g.H.Shelf.files g.H.Source.left g.H.Source.given g.H.Shelf.handled c.args.shelf.now) (counts_of g.H.Source.faults g.H.Source.failed c.args.shelf.now))
-    (shelf_now (told_by g.H.Shelf.files g.H.Source.left g.H.Source.given g.H.Shelf.handled c.loop-number.shelf) (counts_of g.H.Source.faults g.H.Source.failed c.loop-number.shelf))
+    (shelf_at g.H.Source g.H.Shelf c.args.shelf.now)
+    (shelf_at g.H.Source g.H.Shelf c.loop-number.shelf)
     c.args.room.now c.loop-number.room (g.N.Sink.written c.args.notes.now) (g.N.Sink.written c.loop-number.notes) (sym c.if-not-wants.ensures) c.loop-number.invariant.looked.0 c.loop-number.number
     (omega (arith, c.most_cylinders-number-end.ensures, c.loop-number-test.false)) c.loop-number.invariant.looked.1
 

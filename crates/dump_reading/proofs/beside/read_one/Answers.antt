@@ -1,14 +1,12 @@
 use Rattle.std.proofs.Common.{length, sym, ap, ◌∙◌}
-use Rattle.flux_base.specs.Counts.{counts_of}
-use Rattle.flux_base.specs.Moments.{moment}
 use Rattle.flux_engine.specs.Recordings.{track_at}
 use Rattle.flux_engine.specs.Room.{RoomState}
-use Rattle.track_shelf.specs.Told.{told_by}
 use Rattle.dump_reading.specs.Beside.{of_tracks}
-use Rattle.dump_reading.specs.Files.{shelf_now}
+use Rattle.dump_reading.specs.Files.{shelf_at}
 use Rattle.dump_reading.specs.Reports.{plan_by}
 use Rattle.dump_reading.proofs.BesideSteps.{below-kept, counts-kept, one-looked}
 use Rattle.dump_reading.proofs.beside.read_one.Goals as goal
+use Rattle.flux_base.specs.World.{sink_at}
 
 pub count_names-requires-clause-below : goal.count_names-requires-clause-below
 count_names-requires-clause-below g c =
@@ -20,9 +18,9 @@ returns-clause-looked g c = λ track_of number start before same size came.
     let counted = c.count_names.ensures.counted in
     one-looked (g.B.BesideWriter.lines_of c.args.writer.now) (plan_by c.args.clocks (length c.args.dumps.now.names.now)) c.args.track
     (track_at c.start_track.new.room.format c.start_track.new.room.started) (of_tracks c.args.dumps.now.stepping c.args.dumps.now.names.now track_of) start
-    (shelf_now (told_by g.H.Shelf.files g.H.Source.left g.H.Source.given g.H.Shelf.handled c.take_all.new.shelf) (counts_of g.H.Source.faults g.H.Source.failed c.take_all.new.shelf))
+    (shelf_at g.H.Source g.H.Shelf c.take_all.new.shelf)
     before c.args.room.now c.take_all.new.room c.count_names.new.room
-    (moment g.N.Sink.written g.N.Sink.faults g.N.Sink.failed c.args.notes.now) (moment g.N.Sink.written g.N.Sink.faults g.N.Sink.failed c.write_beside.new.notes)
+    (sink_at g.N.Sink c.args.notes.now) (sink_at g.N.Sink c.write_beside.new.notes)
     (c.take_all.ensures.taken track_of number start before same size came) c.write_beside.result
     (ap (λ (r : RoomState). track_at r.format r.started) c.start_track.ensures.started ∙ rw c.room_format.ensures at c.near_number.ensures.near)
     (ap (λ (r : RoomState). r.format) c.take_all.ensures.kept ∙ ap (λ (r : RoomState). r.format) c.start_track.ensures.started)

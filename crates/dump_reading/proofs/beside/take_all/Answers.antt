@@ -1,11 +1,9 @@
 use Rattle.std.proofs.Common.{◌≡◌, ◌*◌, length, arith, refl, ap, ◌∙◌}
-use Rattle.flux_base.specs.Counts.{counts_of}
 use Rattle.flux_engine.specs.Captured.{count_of_clocks}
 use Rattle.flux_engine.specs.Recordings.{track_at}
 use Rattle.flux_engine.specs.Room.{RoomState}
-use Rattle.track_shelf.specs.Told.{told_by}
 use Rattle.dump_reading.specs.Beside.{of_tracks}
-use Rattle.dump_reading.specs.Files.{shelf_now}
+use Rattle.dump_reading.specs.Files.{shelf_at}
 use Rattle.dump_reading.specs.Reports.{plan_by}
 use Rattle.dump_reading.proofs.BesideSteps.{captures-more, kept-both, taken-more, taken-none}
 use Rattle.dump_reading.proofs.beside.take_all.Goals as goal
@@ -15,7 +13,7 @@ loop-dump-init g c = record {
   taken = λ track_of number start before same size came.
       taken-none (plan_by c.args.clocks (length c.args.dumps.now.names.now)) (track_at c.args.room.now.format c.args.room.now.started)
       (of_tracks c.args.dumps.now.stepping c.args.dumps.now.names.now track_of) start
-      (shelf_now (told_by g.H.Shelf.files g.H.Source.left g.H.Source.given g.H.Shelf.handled c.args.shelf.now) (counts_of g.H.Source.faults g.H.Source.failed c.args.shelf.now))
+      (shelf_at g.H.Source g.H.Shelf c.args.shelf.now)
       before c.args.room.now came c.requires.none_passed c.requires.no_others;
   kept = refl;
   captures = (let none : 0 ≡ 0 * count_of_clocks c.args.clocks = omega arith in c.requires.none ∙ none);
@@ -29,8 +27,8 @@ loop-dump-preserved g c =
       taken = λ track_of number start before same size came.
           taken-more (plan_by c.args.clocks (length c.args.dumps.now.names.now)) (track_at c.args.room.now.format c.args.room.now.started)
           (of_tracks c.args.dumps.now.stepping c.args.dumps.now.names.now track_of) start
-          (shelf_now (told_by g.H.Shelf.files g.H.Source.left g.H.Source.given g.H.Shelf.handled c.loop-dump.shelf) (counts_of g.H.Source.faults g.H.Source.failed c.loop-dump.shelf))
-          (shelf_now (told_by g.H.Shelf.files g.H.Source.left g.H.Source.given g.H.Shelf.handled c.take_names.new.source) (counts_of g.H.Source.faults g.H.Source.failed c.take_names.new.source))
+          (shelf_at g.H.Source g.H.Shelf c.loop-dump.shelf)
+          (shelf_at g.H.Source g.H.Shelf c.take_names.new.source)
           before c.loop-dump.room c.take_names.new.room c.loop-dump.dump (c.loop-dump.invariant.taken track_of number start before same size came)
           number c.args.track (omega arith) size same (rw (ap (λ (r : RoomState). track_at r.format r.started) kept) at c.take_names.ensures.taken)
           (ap (λ (r : RoomState). r.format) c.take_names.ensures.kept);

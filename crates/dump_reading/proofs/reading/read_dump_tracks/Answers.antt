@@ -1,7 +1,5 @@
 use Rattle.std.proofs.Common.{inl, inr}
-use Rattle.flux_base.specs.Counts.{counts_of}
-use Rattle.track_shelf.specs.Told.{told_by}
-use Rattle.dump_reading.specs.Files.{shelf_now}
+use Rattle.dump_reading.specs.Files.{shelf_at}
 use Rattle.dump_reading.specs.Outcomes.{disk_by}
 use Rattle.dump_reading.proofs.Ends.{all-read, beside-wrote, image-wrote, lines-wrote}
 use Rattle.dump_reading.proofs.reading.read_dump_tracks.Goals as goal
@@ -9,16 +7,16 @@ use Rattle.dump_reading.proofs.reading.read_dump_tracks.Goals as goal
 pub returns-in-Err-ImageFault-clause-err : goal.returns-in-Err-ImageFault-clause-err
 returns-in-Err-ImageFault-clause-err g c =
     image-wrote (g.O.TrackWriter.part_of c.args.writer.now) (disk_by c.args.clocks c.args.looks c.args.dumps.now c.args.room.now.format)
-    (shelf_now (told_by g.H.Shelf.files g.H.Source.left g.H.Source.given g.H.Shelf.handled c.args.shelf.now) (counts_of g.H.Source.faults g.H.Source.failed c.args.shelf.now))
-    (shelf_now (told_by g.H.Shelf.files g.H.Source.left g.H.Source.given g.H.Shelf.handled c.decode_tracks.new.source) (counts_of g.H.Source.faults g.H.Source.failed c.decode_tracks.new.source))
+    (shelf_at g.H.Source g.H.Shelf c.args.shelf.now)
+    (shelf_at g.H.Source g.H.Shelf c.decode_tracks.new.source)
     (g.W.Sink.written c.args.image.now) (g.W.Sink.written c.decode_tracks.new.image) (g.N.Sink.written c.args.notes.now) (g.N.Sink.written c.decode_tracks.new.notes)
     c.decode_tracks.new.room c.decode_tracks.new.totals (rw c.in-Err-ImageFault.field-0-is at c.in-Err-ImageFault.ensures.err)
 
 pub returns-in-Err-NotesFault-clause-err : goal.returns-in-Err-NotesFault-clause-err
 returns-in-Err-NotesFault-clause-err g c =
     inl (lines-wrote (g.O.TrackWriter.part_of c.args.writer.now) (disk_by c.args.clocks c.args.looks c.args.dumps.now c.args.room.now.format)
-    (shelf_now (told_by g.H.Shelf.files g.H.Source.left g.H.Source.given g.H.Shelf.handled c.args.shelf.now) (counts_of g.H.Source.faults g.H.Source.failed c.args.shelf.now))
-    (shelf_now (told_by g.H.Shelf.files g.H.Source.left g.H.Source.given g.H.Shelf.handled c.decode_tracks.new.source) (counts_of g.H.Source.faults g.H.Source.failed c.decode_tracks.new.source))
+    (shelf_at g.H.Source g.H.Shelf c.args.shelf.now)
+    (shelf_at g.H.Source g.H.Shelf c.decode_tracks.new.source)
     (g.W.Sink.written c.args.image.now) (g.W.Sink.written c.decode_tracks.new.image) (g.N.Sink.written c.args.notes.now) (g.N.Sink.written c.decode_tracks.new.notes)
     c.decode_tracks.new.room c.decode_tracks.new.totals (rw c.in-Err-NotesFault.field-0-is at c.in-Err-NotesFault.ensures.err))
 
@@ -26,21 +24,21 @@ pub returns-in-Ok-read_beside-clause-ok : goal.returns-in-Ok-read_beside-clause-
 returns-in-Ok-read_beside-clause-ok g c =
     rw (c.unread.ensures, c.lost.ensures, c.told_others.ensures, c.whole_others.ensures)
     (all-read (g.O.TrackWriter.part_of c.args.writer.now) (disk_by c.args.clocks c.args.looks c.args.dumps.now c.args.room.now.format)
-    (shelf_now (told_by g.H.Shelf.files g.H.Source.left g.H.Source.given g.H.Shelf.handled c.args.shelf.now) (counts_of g.H.Source.faults g.H.Source.failed c.args.shelf.now))
-    (shelf_now (told_by g.H.Shelf.files g.H.Source.left g.H.Source.given g.H.Shelf.handled c.decode_tracks.new.source) (counts_of g.H.Source.faults g.H.Source.failed c.decode_tracks.new.source))
+    (shelf_at g.H.Source g.H.Shelf c.args.shelf.now)
+    (shelf_at g.H.Source g.H.Shelf c.decode_tracks.new.source)
     (g.W.Sink.written c.args.image.now) (g.W.Sink.written c.decode_tracks.new.image) (g.N.Sink.written c.args.notes.now) (g.N.Sink.written c.decode_tracks.new.notes)
     c.decode_tracks.new.room c.decode_tracks.new.totals
     (g.B.BesideWriter.lines_of c.args.beside.now)
-    (shelf_now (told_by g.H.Shelf.files g.H.Source.left g.H.Source.given g.H.Shelf.handled c.read_beside.new.shelf) (counts_of g.H.Source.faults g.H.Source.failed c.read_beside.new.shelf))
+    (shelf_at g.H.Source g.H.Shelf c.read_beside.new.shelf)
     c.read_beside.new.room (g.N.Sink.written c.read_beside.new.notes) c.in-Ok.ensures.ok c.in-Ok-read_beside.ensures.ok)
 
 pub returns-in-Err-clause-err : goal.returns-in-Err-clause-err
 returns-in-Err-clause-err g c =
     inr (beside-wrote (g.O.TrackWriter.part_of c.args.writer.now) (disk_by c.args.clocks c.args.looks c.args.dumps.now c.args.room.now.format)
-    (shelf_now (told_by g.H.Shelf.files g.H.Source.left g.H.Source.given g.H.Shelf.handled c.args.shelf.now) (counts_of g.H.Source.faults g.H.Source.failed c.args.shelf.now))
-    (shelf_now (told_by g.H.Shelf.files g.H.Source.left g.H.Source.given g.H.Shelf.handled c.decode_tracks.new.source) (counts_of g.H.Source.faults g.H.Source.failed c.decode_tracks.new.source))
+    (shelf_at g.H.Source g.H.Shelf c.args.shelf.now)
+    (shelf_at g.H.Source g.H.Shelf c.decode_tracks.new.source)
     (g.W.Sink.written c.args.image.now) (g.W.Sink.written c.decode_tracks.new.image) (g.N.Sink.written c.args.notes.now) (g.N.Sink.written c.decode_tracks.new.notes)
     c.decode_tracks.new.room c.decode_tracks.new.totals
     (g.B.BesideWriter.lines_of c.args.beside.now)
-    (shelf_now (told_by g.H.Shelf.files g.H.Source.left g.H.Source.given g.H.Shelf.handled c.read_beside.new.shelf) (counts_of g.H.Source.faults g.H.Source.failed c.read_beside.new.shelf))
+    (shelf_at g.H.Source g.H.Shelf c.read_beside.new.shelf)
     c.read_beside.new.room (g.N.Sink.written c.read_beside.new.notes) c.in-Ok.ensures.ok c.in-Err.ensures.err)

@@ -1,12 +1,13 @@
 use Rattle.std.proofs.Common.{false, take}
 use Rattle.std.specs.List.{flat_map}
 use Rattle.std.specs.Io.KnownBytes.{Appends}
-use Rattle.flux_base.specs.Counts.{Counts, counts_of}
+use Rattle.flux_base.specs.Counts.{Counts}
+use Rattle.flux_base.specs.World.{sink_counts}
 use Rattle.dump_reading.proofs.Lists.{name_piece}
 use Rattle.dump_reading.proofs.report.write_names.Given as goal
 
 abbrev pub invariant-loop-number : goal.invariant-loop-number
 invariant-loop-number g l = record {
   grew : Appends (g.N.Sink.written l.initial.notes) (g.N.Sink.written l.notes) (flat_map (name_piece l.track) (take l.number l.told));
-  counts : Counts false (counts_of g.N.Sink.faults g.N.Sink.failed l.initial.notes) (counts_of g.N.Sink.faults g.N.Sink.failed l.notes);
+  counts : Counts false (sink_counts g.N.Sink l.initial.notes) (sink_counts g.N.Sink l.notes);
 }

@@ -1,7 +1,5 @@
 use Rattle.std.proofs.Common.{refl}
-use Rattle.flux_base.specs.Counts.{counts_of}
-use Rattle.track_shelf.specs.Told.{told_by}
-use Rattle.dump_reading.specs.Files.{shelf_now}
+use Rattle.dump_reading.specs.Files.{shelf_at}
 use Rattle.dump_reading.proofs.NextStreams.{item-none, item-some, none-gave, read-gave}
 use Rattle.dump_reading.proofs.dumps.Dumps.read.Goals as goal
 
@@ -11,8 +9,8 @@ returns-in-Some-clause-gave g c =
     let look = c.in-Some.ensures.lookup in
     let here = item-some names c.from.result c.args.dump c.in-Some.name.now c.from.ensures look.3.0 look.1 in
     read-gave c.args.self.now.stepping names c.args.track c.args.dump
-    (shelf_now (told_by g.H.Shelf.files g.H.Source.left g.H.Source.given g.H.Shelf.handled c.args.shelf.now) (counts_of g.H.Source.faults g.H.Source.failed c.args.shelf.now))
-    (shelf_now (told_by g.H.Shelf.files g.H.Source.left g.H.Source.given g.H.Shelf.handled c.read_dump.new.shelf) (counts_of g.H.Source.faults g.H.Source.failed c.read_dump.new.shelf))
+    (shelf_at g.H.Source g.H.Shelf c.args.shelf.now)
+    (shelf_at g.H.Source g.H.Shelf c.read_dump.new.shelf)
     c.read_dump.result c.read_dump.new.stream.flux c.in-Some.name.now here
     (rw (c.bytes.ensures, c.file_track-track.ensures) at c.read_dump.ensures.seen) (rw (c.bytes.ensures, c.file_track-track.ensures) at c.read_dump.ensures.told) c.read_dump.ensures.counts
 
