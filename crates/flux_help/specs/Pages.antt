@@ -12,7 +12,7 @@ use Rattle.flux_help.specs.declared.verb.Verb.{Verb}
 -- the version, the commit, for which a program that is of no package has these forty bytes, and the logic that proves it
 unfoldable pub version_text : List ℕ
 version_text =
-    codes "flux 0.3.0\n"
+    codes "flux 0.4.0\n"
     ++ codes "commit unknown: built by hand, not of a package\n"
     ++ codes "proved in Rattle, logic dac8208d650f15bf\n"
 

@@ -7,7 +7,7 @@ use sector_report::{Line, put, put_named};
 /// The version, as `CHANGELOG.md` counts it, the commit, and the logic by which the toolchain proves it. No source can
 /// hold the name of its own commit: it comes into the program of a package in place of the forty bytes behind `commit `.
 const VERSION: &str = "\
-flux 0.3.0
+flux 0.4.0
 commit unknown: built by hand, not of a package
 proved in Rattle, logic dac8208d650f15bf
 ";

@@ -18,7 +18,7 @@ fn the_version_has_a_line_for_the_commit_and_one_for_the_logic(
     assert_eq!(rt;
         text,
         "\
-flux 0.3.0
+flux 0.4.0
 commit unknown: built by hand, not of a package
 proved in Rattle, logic dac8208d650f15bf
 "

@@ -184,7 +184,7 @@ const VERSION: Row = Row {
     name: "version",
     words: &["--version"],
     image: "\
-flux 0.3.0
+flux 0.4.0
 commit unknown: built by hand, not of a package
 proved in Rattle, logic dac8208d650f15bf
 ",
