@@ -13,9 +13,9 @@ from plain import FORMATS                               # noqa: E402
 from plain_dumps import path_of                         # noqa: E402
 from plain_streams import places_of_ones, stream_of_times  # noqa: E402
 
-# The first track of the PC's disk of 720 KB, and a disk of as many tracks with one small sector on each, whose cells are these first ones
-TRACK, DISK = FORMATS.get("mfm-dd-1x1x9x512"), FORMATS.get("mfm-dd-80x2x1x128")
-CELLS = {TRACK: 100000, DISK: 6000}
+# The first track of the PC's disk of 720 KB, its first four, and a disk of as many tracks with one small sector on each, whose cells are these first ones
+TRACK, SIDES, DISK = FORMATS.get("mfm-dd-1x1x9x512"), FORMATS.get("mfm-dd-2x2x9x512"), FORMATS.get("mfm-dd-80x2x1x128")
+CELLS = {TRACK: 100000, SIDES: 100000, DISK: 6000}
 
 
 def stream(form, k, others):
@@ -42,6 +42,7 @@ def main(folder):
         size = 128 << code
         put(folder / f"code{code}", TRACK, lambda k: [with_data(TRACK, of_track(66, code), bytes(range(256)) * (size // 256))])
     put(folder / "wrong", TRACK, lambda k: [with_data(TRACK, of_track(66, 4), bytes(2047))])
+    put(folder / "sides", SIDES, lambda k: [])
     put(folder / "copied", DISK, lambda k: [lone_header(DISK, (*DISK.tracks[k], 66, 2))] * (k > 0))
 
 

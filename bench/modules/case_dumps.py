@@ -4,7 +4,7 @@ from case_others import others_track
 from case_streams import FILLER, SHORTEST, few_blocks, faulty, one_in, spell
 from case_tracks import noisy_track, track_stream, whole_track
 from plain import FORMATS, any_format
-from plain_dumps import names_file, path_of, reaches_all
+from plain_dumps import names_file, path_of, reaches_all, tracks_beside
 from plain_recordings import IbmFm, IbmMfm
 
 IBM_FORMATS = [form for form in FORMATS.values() if isinstance(form.recording, (IbmFm, IbmMfm))]
@@ -110,6 +110,9 @@ def dump_files(chance, kinds, form, name, steps, special, made=one_file):
     files = {path(track): chance.choice([FILLER, SHORTEST]) for track in form.tracks}
     for at in special:
         files[path(form.tracks[at])] = made(chance, kinds, form, at)
+    for track, near in chance.sample(tracks_beside(form, steps), chance.choice([0, 0, 0, 1, 2])):
+        kinds.add("a file beside those of the format's tracks")
+        files[path(track)] = made(chance, kinds, form, form.tracks.index(near))
     return lacking(chance, kinds, name, files)
 
 

@@ -186,15 +186,16 @@ def as_controllers_read(form):
     return FORMATS[other] if other else form
 
 
-def controller_readings(recording, cells, cylinder, head):
+def controller_readings(recording, cells, cylinder, head, wanted=True):
     """By the second rule: the readings, one for each of the data of each header, or a bad one; and of each header that names none of the
-    track's sectors its place, its name, and whether data of the size that its name tells stand after it."""
+    track's sectors its place, its name, and whether data of the size that its name tells stand after it. Where no sector is wanted, that is
+    each header."""
     found, others = [], []
     for place in places_of(cells, recording.sync):
         name, end = recording.name(cells, place) or (None, None)
         if name is None:
             continue
-        sector = recording.own(name, cylinder, head)
+        sector = recording.own(name, cylinder, head) if wanted else None
         size = recording.size_of(name) if sector is None else recording.size
         data = list(recording.data(cells, place, end, size)) if size else []
         if sector is None:

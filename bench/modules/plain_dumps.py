@@ -12,6 +12,7 @@ MOST_DUMPS = 8
 MOST_TOLD = 64
 MOST_COPIES = 16
 MOST_DOUBLE_CYLINDERS = 42
+MOST_CYLINDERS = 100
 MOST_PATH_TOLD = 100
 LONGEST_PATH = 4095
 FILE_ENDING = len("00.0.raw")
@@ -89,14 +90,22 @@ def reaches_all(form):
     return all(cylinder < MOST_DOUBLE_CYLINDERS for cylinder, _ in form.tracks)
 
 
-def read_by_controllers(form, k, stream, clock, prefix):
-    """The readings of a stream for a track by the second rule and one of the clocks, and all headers that name none of its sectors."""
-    cylinder, head = form.tracks[k]
+def read_by_controllers(form, track, stream, clock, prefix, wanted=True):
+    """The readings of a stream for a track by the second rule and one of the clocks, and all headers that name none of its sectors; or all
+    headers, where none of its sectors is wanted."""
+    cylinder, head = track
     cells = recovered(stream, form.nominal(cylinder), form.ring_cells(cylinder), clock)
-    found, others = controller_readings(as_controllers_read(form).recording, cells, cylinder, head)
+    found, others = controller_readings(as_controllers_read(form).recording, cells, cylinder, head, wanted)
     place_text = lambda place: f"{prefix}{turn_of(stream, cells, place)} {place}"
     return ([(place_text(place), sector, content) for place, sector, content in found],
             [(place_text(place), name, whole) for place, name, whole in others])
+
+
+def tracks_beside(form, steps):
+    """The tracks of which there may be files beside those of the format's tracks, each with the track of nearest number, as which it is read."""
+    cylinders, heads = (1 + max(numbers) for numbers in zip(*form.tracks))
+    reached = [(cylinder, head) for cylinder in range(MOST_CYLINDERS // steps) for head in (0, 1)]
+    return [(track, (min(track[0], cylinders - 1), min(track[1], heads - 1))) for track in reached if track not in form.tracks]
 
 
 def others_told(others):
@@ -126,12 +135,12 @@ class Dumps:
                 return number
         return None
 
-    def gathered(self, form, k):
-        """Of a track: what is said of each stream that is passed over, all readings, and all others."""
+    def gathered(self, form, track, near, wanted=True):
+        """Of a track, as another is read: what is said of each stream that is passed over, all readings, and all others."""
         passed, entries, others = [], [], []
         for number in range(len(self.names)):
             try:
-                content = self.shelf.read(self.path(number, form.tracks[k]))
+                content = self.shelf.read(self.path(number, track))
                 stream = None if content is None else Stream(content, 0)
             except Failed:
                 passed.append(f"dump {number} failed")
@@ -143,7 +152,7 @@ class Dumps:
                 passed.append(f"dump {number} missing")
                 continue
             for clock in self.clocks:
-                found, more = read_by_controllers(form, k, stream, clock, f"{number} {clock} ")
+                found, more = read_by_controllers(form, near, stream, clock, f"{number} {clock} ", wanted)
                 entries += found
                 others += more
         return passed, entries, others
@@ -164,12 +173,20 @@ class DumpAnswer(Answer):
 
     def dump_track(self, k, passed, entries, others):
         cylinder, head = self.form.tracks[k]
-        told, untold = others_told(others)
-        track = f"{cylinder:02}.{head}"
-        self.lines += [f"{track} {why}\n" for why in passed]
+        self.lines += [f"{cylinder:02}.{head} {why}\n" for why in passed]
         before = len(self.lines)
         self.track(k, entries)
         self.sectors += self.lines[before:]
+        self.count(f"{cylinder:02}.{head}", passed, others)
+
+    def track_beside(self, track, passed, others):
+        """A track of which no sector is wanted: a file that is missing is no line."""
+        text, passed = "%02d.%d" % track, [why for why in passed if not why.endswith(" missing")]
+        self.lines += [f"{text} {why}\n" for why in passed]
+        self.count(text, passed, others)
+
+    def count(self, track, passed, others):
+        told, untold = others_told(others)
         # a name has a line where data stand after one of its headers; those without are counted
         with_data = [other for other in told if other[2] > 0]
         self.lines += [f"{track} other {' '.join(map(str, name))} {headers} {wholes} {first}\n" for name, headers, wholes, first in with_data]
@@ -190,9 +207,13 @@ class DumpAnswer(Answer):
         return b"".join(self.image), "".join(self.lines).encode()
 
 
-def read_tracks(dumps, form, answer):
-    for k in range(len(form.tracks)):
-        answer.dump_track(k, *dumps.gathered(form, k))
+def read_tracks(dumps, form, answer, always=True):
+    """Reads all tracks of the format, and then those beside them: always, or where a sector is good."""
+    for k, track in enumerate(form.tracks):
+        answer.dump_track(k, *dumps.gathered(form, track, track))
+    for track, near in tracks_beside(form, dumps.steps) if always or answer.number["good"] else []:
+        passed, _, others = dumps.gathered(form, track, near, wanted=False)
+        answer.track_beside(track, passed, others)
 
 
 def read(dumps, form):
@@ -244,7 +265,7 @@ def show(dumps, form, k, sector, alone=None):
     empty = dumps.first_empty(form)
     if empty is not None:
         return 2, b"", no_files_line(dumps, empty)
-    passed, entries, _ = dumps.gathered(form, k)
+    passed, entries, _ = dumps.gathered(form, form.tracks[k], form.tracks[k])
     copies, size = copies_of(entries, sector), form.recording.size
     verdict, _ = verdict_of([(place, content) for place, named, content in entries if named == sector])
     line = f"{cylinder:02}.{head} {sector:02} {verdict}\n"
@@ -274,7 +295,7 @@ def identify(shelf, name):
         if dumps.first_empty(form) is not None:
             continue
         found = True
-        read_tracks(dumps, form, answer)
+        read_tracks(dumps, form, answer, always=False)
         failed |= answer.failed > 0
         good, total = answer.number["good"], sum(answer.number.values())
         if good:

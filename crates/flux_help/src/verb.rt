@@ -139,10 +139,10 @@ Example:
                 about: "
 Reads the files trackCC.H.raw of 1 to 8 folders, each a dump of the disk, and gives one verdict for each sector over all of
 them. A DUMP that is a file, as shelf/disk00.0.raw, stands for all files that begin as it does. A file that is missing, fails
-or is refused is told and passed over, and headers of other sectors than the disk's are told. The image goes to standard
-output, the report to standard error. With --double-step the file of cylinder 2C is that of the disk's cylinder C. With
---picture a picture of the verdicts (SVG), as map draws it, goes to standard output, and there is no report. Both may stand
-in either order.
+or is refused is told and passed over, and headers of other sectors than the disk's are told, on all tracks of which there are
+files. The image goes to standard output, the report to standard error. With --double-step the file of cylinder 2C is that of
+the disk's cylinder C. With --picture a picture of the verdicts (SVG), as map draws it, goes to standard output, and there is no
+report. Both may stand in either order.
 
 Example:
    flux read amiga dump second > disk.adf 2> report.txt
