@@ -1,5 +1,5 @@
 -- What ends a command, and whom the status that it ends with blames.
-use Rattle.std.proofs.Common.{◌≡◌, ◌==◌, ◌≤◌, ℕ, Bool, true, false, if◌then◌else◌, List, Option, Result, Ok, Err, is_err, refl, sym, subst}
+use Rattle.std.proofs.Common.{◌≡◌, ◌==◌, ◌≤◌, ℕ, Bool, true, false, if◌then◌else◌, List, Option, Result, Ok, Err, is_err, sym, subst}
 use Rattle.dump_reading.specs.Blamed.{dumps_blame}
 use Rattle.dump_reading.specs.Files.{CountsMany}
 use Rattle.dump_reading.specs.declared.fault.DumpsFault.{DumpsFault}

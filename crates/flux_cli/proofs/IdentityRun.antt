@@ -1,10 +1,10 @@
 -- What `identify` did by what was said of the dump.
 use Rattle.std.specs.Prelude.{if◌then◌else◌, ◌||◌}
-use Rattle.std.proofs.Common.{◌≡◌, ◌<◌, ◌+◌, ℕ, Bool, true, false, List, [], ◌∷◌, ◌++◌, Option, Some, None, Result, Ok, Err, inl, inr, refl, sym, ap, ◌∙◌, subst, arith}
+use Rattle.std.proofs.Common.{◌≡◌, ◌+◌, ℕ, Bool, true, false, List, [], ◌∷◌, ◌++◌, Option, Some, None, Result, Ok, Err, inl, inr, refl, sym, ap, ◌∙◌, subst, arith}
 use Rattle.std.specs.List.{list_any}
 use Rattle.dump_identity.specs.Findings.{AreFindings, ComesTo, has_failed, identity_of, is_complete}
 use Rattle.dump_identity.specs.Laws.{IdentitiesAreOne, NoFilesAreNoIdentity}
-use Rattle.dump_identity.specs.Outcomes.{HasNoFiles, SaysOfIdentity}
+use Rattle.dump_identity.specs.Outcomes.{SaysOfIdentity}
 use Rattle.dump_identity.specs.declared.candidate.Candidate.{Candidate}
 use Rattle.dump_identity.specs.declared.finding.Finding.{Finding}
 use Rattle.dump_identity.specs.declared.identity.Identity.{Identity}
@@ -14,11 +14,10 @@ use Rattle.dump_reading.specs.declared.fault.DumpsFault.{DumpsFault}
 use Rattle.dump_reading.specs.declared.fault.DumpsFault.TheVariants.{NoFiles, ImageFault, NotesFault}
 use Rattle.dump_reading.specs.declared.totals.DumpTotals.{DumpTotals}
 use Rattle.dump_reading.specs.lemmas.Coming.{failed-both, none-failed}
-use Rattle.flux_base.specs.declared.status.Status.{Status}
 use Rattle.flux_base.specs.declared.status.Status.TheVariants.{AllGood, NotAllGood, ShelfFault}
 use Rattle.flux_engine.specs.LoopProgress.{lost_count}
 use Rattle.track_shelf.specs.Files.{File}
-use Rattle.track_shelf.specs.Told.{ShelfTold, with_failed}
+use Rattle.track_shelf.specs.Told.{with_failed}
 use Rattle.flux_cli.proofs.EndingLaws.{IsDone}
 use Rattle.flux_cli.proofs.Often.{FailsBy, fails-by, many-none, many-then, often-either, often-if}
 use Rattle.flux_cli.proofs.ReadRun.{Failed, still-failed}

@@ -6,7 +6,7 @@ use Rattle.flux_base.specs.Blames.{Blame, no_one}
 use Rattle.flux_base.specs.Moments.{Moment, Puts}
 use Rattle.flux_base.specs.declared.outside.Failed.{Failed}
 use Rattle.flux_base.specs.declared.status.Status.{Status}
-use Rattle.flux_base.specs.declared.status.Status.TheVariants.{AllGood, Refused, ReadFault, ImageFault, NotesFault, ShelfFault}
+use Rattle.flux_base.specs.declared.status.Status.TheVariants.{AllGood, Refused, ReadFault, ImageFault, NotesFault}
 use Rattle.flux_engine.specs.Answers.{Answer as DiskAnswer}
 use Rattle.flux_engine.specs.PlanAnswers.{PlanAnswer}
 use Rattle.flux_engine.specs.Writes.{Answer as ImageAnswer}

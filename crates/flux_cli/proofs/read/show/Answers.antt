@@ -2,7 +2,7 @@ use Rattle.std.proofs.Common.{refl, subst}
 use Rattle.dump_reading.specs.Outcomes.{disk_of}
 use Rattle.flux_cli.proofs.Blaming.{CountsBy-noteless}
 use Rattle.flux_cli.proofs.EndingLaws.{IsOverShelf, dumps-blame, shelf-over-shelf}
-use Rattle.flux_cli.proofs.ReadRun.{Failed, draw-answers, draw-failed, read-answers, read-done, read-failed}
+use Rattle.flux_cli.proofs.ReadRun.{draw-answers, draw-failed, read-answers, read-done, read-failed}
 use Rattle.flux_cli.proofs.ShelfEnded.{ends-over, shelf-ended}
 use Rattle.flux_cli.specs.ReadRuns.{read_status, read_work}
 use Rattle.flux_words.specs.declared.dump_words.Shown.TheVariants.{Image, Picture}
