@@ -1,5 +1,5 @@
 -- Where no names with whole data are counted, no header that was noted has any.
-use Rattle.std.specs.Prelude.{◌≡◌, ◌<◌, ◌||◌, ℕ, zero, suc, ◌+◌, Bool, true, false, cond, count_by, get_or, length, List, [], ◌∷◌, sum_by, refl}
+use Rattle.std.specs.Prelude.{◌≡◌, ◌<◌, ℕ, suc, ◌+◌, Bool, true, false, cond, count_by, get_or, length, List, [], ◌∷◌, sum_by, refl}
 use Rattle.std.specs.List.{list_any}
 use Rattle.std.proofs.Common.{◌∙◌, arith, sym}
 use Rattle.std.proofs.lemmas.Bool.{or_from, or_parts}

@@ -16,7 +16,6 @@ use Rattle.flux_base.specs.declared.track.TrackId.{TrackId}
 use Rattle.sector_report.specs.DumpLines.{dump_name, name_text, other_text, passed_text, traces_text, unread_text, untold_text}
 use Rattle.sector_report.specs.LineLaws.{LineFits}
 use Rattle.sector_report.specs.Lines.{fault_text, named_text, place_text, sector_name, total_text, two_digits, verdict_text}
-use Rattle.kryo_stream.specs.declared.fault.StreamFault.{StreamFault}
 use Rattle.sector_report.specs.declared.dump_lines.Passed.{Passed}
 use Rattle.sector_report.specs.declared.dump_lines.Passed.TheVariants.{Absent, Failed, Refused}
 use Rattle.sector_report.specs.declared.naming.Naming.{Naming}
