@@ -79,7 +79,7 @@ module _ (dump : List ℕ) where
       → Lost (has_failed (record { candidate = candidate; totals = totals })) start now
   one_lost start now candidate None came = none_lost start now came.1
   one_lost start now candidate (Some totals) came =
-      let same : totals.lost ≡ lost_count came.is.streams = ap (λ (t : DumpTotals). t.lost) (came.totals_are ∙ ap (λ (d : DumpsRead). d.totals) came.is.is) in
+      let same : totals.lost ≡ lost_count came.is.streams + lost_count came.is.beside.came = ap (λ (t : DumpTotals). t.lost) (came.totals_are ∙ ap (λ (d : DumpsRead). d.totals) came.is.is) in
       record {
         often = totals.lost;
         fails = fails-by totals.lost;

@@ -8,8 +8,8 @@ use Rattle.flux_base.specs.declared.status.Status.{Status}
 use Rattle.flux_base.specs.declared.status.Status.TheVariants.{AllGood, NotAllGood, Refused, Usage, ReadFault, ImageFault, NotesFault, Memory, ShelfFault}
 use Rattle.law_captured_dumps.specs.Headline.{CapturedDumpsAreNeverWrong, SteadyDumpsAreReadWell}
 use Rattle.law_read_dumps.specs.Complete.{CompleteIsAll}
-use Rattle.law_read_dumps.specs.Lines.{PassedStreamsAreSaid, ReportsHaveNoOtherLines, SectorsHaveTheirNumbers}
-use Rattle.law_read_dumps.specs.Said.{EachIsSaid, GoodStaysOrIsContradicted, SaidIsRight, StreamsAreOfFiles, came_in}
+use Rattle.law_read_dumps.specs.Lines.{OtherFilesAreSaid, PassedStreamsAreSaid, ReportsHaveNoOtherLines, SectorsHaveTheirNumbers}
+use Rattle.law_read_dumps.specs.Said.{BesideStreamsAreOfFiles, EachIsSaid, GoodStaysOrIsContradicted, SaidIsRight, StreamsAreOfFiles, came_in}
 use Rattle.law_reported_dumps.specs.Told.{LinesTell, NoSectorIsToldTwice, PassedLinesAreTold}
 use Rattle.sector_images.specs.Formats.{IsWordOfFormat, WordsBeginWithLetters, WordsNameFormats}
 use Rattle.sector_images.specs.declared.format.Format.{Format}
@@ -36,11 +36,13 @@ use Rattle.flux_cli.proofs.Outcomes.{dumps_no_identity, dumps_no_show, folder_no
 pub record DumpLaws : Type 0 where
   pub said : EachIsSaid
   pub of_files : StreamsAreOfFiles
+  pub of_files_beside : BesideStreamsAreOfFiles
   pub right : SaidIsRight
   pub numbered : SectorsHaveTheirNumbers
   pub told : LinesTell
   pub once : NoSectorIsToldTwice
   pub passed : PassedStreamsAreSaid
+  pub passed_beside : OtherFilesAreSaid
   pub passed_told : PassedLinesAreTold
   pub count : ReportsHaveNoOtherLines
   pub complete : CompleteIsAll
@@ -78,12 +80,14 @@ of_dumps : DumpLaws → (disk : DumpDisk) (files : List File) → length disk.du
 of_dumps laws disk files few d read = record {
   is = read;
   of_files = laws.of_files disk files d read;
+  of_files_beside = laws.of_files_beside disk files d read;
   said = laws.said disk (Some files) d read;
   right = laws.right disk (came_in read) d;
   numbered = laws.numbered disk (Some files) d read;
   told = laws.told disk files d read few;
   once = laws.once disk files d read few;
   passed = laws.passed disk (Some files) d read;
+  passed_beside = laws.passed_beside disk (Some files) d read;
   passed_told = laws.passed_told disk files d read few;
   count = laws.count disk (Some files) d read;
   complete = laws.complete disk (Some files) d read;
@@ -113,8 +117,8 @@ module _ (laws : DumpLaws) {H W N : Type 0} (disk : DumpDisk) (files : List File
       → Got (growth before.image after.image) d.image → Got (growth before.notes after.notes) d.notes → GaveShown shown disk files status before after
   unfolding of_dumps
   gave_shown Image status d read status_is image_got notes_got =
-      let here : (is : IsDumpsRead disk (Some files) d) × FilesFailed disk (now_at before.shelf) (now_at after.shelf) is.streams =
-      subst (λ (t : Option (List File)). (is : IsDumpsRead disk t d) × FilesFailed disk (now_at before.shelf) (now_at after.shelf) is.streams) told read in
+      let here : (is : IsDumpsRead disk (Some files) d) × FilesFailed disk (now_at before.shelf) (now_at after.shelf) is.streams is.beside.came =
+      subst (λ (t : Option (List File)). (is : IsDumpsRead disk t d) × FilesFailed disk (now_at before.shelf) (now_at after.shelf) is.streams is.beside.came) told read in
       record {
         read = d;
         status_is = status_is;
@@ -124,8 +128,8 @@ module _ (laws : DumpLaws) {H W N : Type 0} (disk : DumpDisk) (files : List File
         shelf = here.1;
       }
   gave_shown Picture status d drawn status_is image_got notes_got =
-      let here : (is : IsDumpsDrawn disk (Some files) d) × FilesFailed disk (now_at before.shelf) (now_at after.shelf) is.streams =
-      subst (λ (t : Option (List File)). (is : IsDumpsDrawn disk t d) × FilesFailed disk (now_at before.shelf) (now_at after.shelf) is.streams) told drawn in
+      let here : (is : IsDumpsDrawn disk (Some files) d) × FilesFailed disk (now_at before.shelf) (now_at after.shelf) is.streams is.beside.came =
+      subst (λ (t : Option (List File)). (is : IsDumpsDrawn disk t d) × FilesFailed disk (now_at before.shelf) (now_at after.shelf) is.streams is.beside.came) told drawn in
       let shows : ShowsReport disk (Some files) d here.0 = laws.pictures disk (Some files) d here.0 in
       record {
         drawn = d;
@@ -135,7 +139,9 @@ module _ (laws : DumpLaws) {H W N : Type 0} (disk : DumpDisk) (files : List File
         notes_got = subst (λ (bytes : List ℕ). Got (growth before.notes after.notes) bytes) (ap (λ (o : DumpsRead). o.notes) here.0.is) notes_got;
         shows = shows;
         holds = of_dumps laws disk files few shows.report shows.read;
-        shelf = subst (λ (streams : List Seen). FilesFailed disk (now_at before.shelf) (now_at after.shelf) streams) (sym shows.streams) here.1;
+        shelf =
+            subst (λ (streams : List Seen). FilesFailed disk (now_at before.shelf) (now_at after.shelf) streams shows.read.beside.came) (sym shows.streams)
+            (subst (λ (beside : List Seen). FilesFailed disk (now_at before.shelf) (now_at after.shelf) here.0.streams beside) (sym shows.beside) here.1);
       }
 
   gave : (shown : Shown) (status : Status) → (status ≡ Refused → ⊥) → FinishedOnShelf (read_work shown disk) status before after → GaveShown shown disk files status before after

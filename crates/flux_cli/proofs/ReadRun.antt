@@ -1,10 +1,11 @@
 -- What `read` did by what reading the dumps answered.
 use Rattle.std.specs.Prelude.{nat_lt}
-use Rattle.std.proofs.Common.{◌≡◌, ℕ, List, [], Option, Some, Result, Ok, Err, inl, inr, refl, sym, ap, ◌∙◌, subst}
+use Rattle.std.proofs.Common.{◌≡◌, ◌+◌, ℕ, List, [], Option, Some, Result, Ok, Err, inl, inr, refl, sym, ap, ◌∙◌, subst}
 use Rattle.disk_map.specs.Dumps.{SaysOfDrawing, dumps_part, picture_of}
+use Rattle.dump_reading.specs.Beside.{LinesOf, beside_lines, no_lines}
 use Rattle.dump_reading.specs.DumpStreams.{FailedAlike}
 use Rattle.dump_reading.specs.Files.{CountsMany, ShelfNow}
-use Rattle.dump_reading.specs.Outcomes.{DumpDisk, DumpsRead, IsReadBy, SaysOfDumps, report_of}
+use Rattle.dump_reading.specs.Outcomes.{DumpDisk, DumpsRead, FilesFailed, IsReadBy, SaysOfDumps, report_of}
 use Rattle.dump_reading.specs.Reports.{read_part}
 use Rattle.dump_reading.specs.Totals.{is_complete}
 use Rattle.dump_reading.specs.declared.fault.DumpsFault.{DumpsFault}
@@ -13,7 +14,7 @@ use Rattle.dump_reading.specs.declared.totals.DumpTotals.{DumpTotals}
 use Rattle.dump_reading.specs.lemmas.Coming.{none-failed}
 use Rattle.flux_base.specs.declared.status.Status.{Status}
 use Rattle.flux_engine.specs.LoopProgress.{lost_count}
-use Rattle.flux_engine.specs.Plans.{PartOf}
+use Rattle.flux_engine.specs.Plans.{PartOf, Seen}
 use Rattle.flux_engine.specs.Tracks.{TrackPart}
 use Rattle.law_read_dumps.specs.Said.{AllOfDumpsIsOne}
 use Rattle.sector_images.specs.declared.format.Format.{Format}
@@ -24,7 +25,7 @@ use Rattle.flux_cli.proofs.Often.{fails-by, many-none, often-either, often-if}
 use Rattle.flux_cli.proofs.ShelfEnded.{Answers, none-of-disk, none-or-empty, one-empty, same-kept, same-nothing}
 use Rattle.flux_cli.specs.Blamed.{FailsOften}
 use Rattle.flux_cli.specs.FolderRuns.{OnShelf}
-use Rattle.flux_cli.specs.ReadRuns.{FailedAsRead, IsOutcomeOfDumps, IsShown, came_shown, read_outcome, read_status, read_work}
+use Rattle.flux_cli.specs.ReadRuns.{AreFailedAlike, FailedAsRead, IsOutcomeOfDumps, IsShown, came_shown, read_outcome, read_status, read_work}
 use Rattle.flux_cli.specs.ShelfWork.{DidOnShelf, empty_outcome}
 use Rattle.flux_cli.specs.Work.{Got, Growth, Outcome}
 use Rattle.flux_words.specs.declared.dump_words.Shown.{Shown}
@@ -57,6 +58,19 @@ still-failed by start now number still =
     subst (λ (s : ShelfNow). Failed by start s (Err (NoFiles number))) (sym still)
     (record { often = 0; fails = refl; many = many-none start.counts; paths = []; told = none-failed start.told })
 
+-- What an answer over dumps tells of the shelf: the files of the streams that came failed which are passed over for that, and the numbers count them.
+abbrev pub ShelfDid : DumpDisk → (start now : ShelfNow) → Result DumpTotals DumpsFault → Type 0
+ShelfDid disk start now (Ok totals) =
+    (came : List Seen × List Seen) × FilesFailed disk start now came.0 came.1 × (totals.lost ≡ lost_count came.0 + lost_count came.1)
+ShelfDid disk start now (Err (NoFiles number)) = now ≡ start
+ShelfDid disk start now (Err fault) = (came : List Seen × List Seen) × FilesFailed disk start now came.0 came.1
+
+pub files-failed : (disk : DumpDisk) (start now : ShelfNow) (answer : Result DumpTotals DumpsFault) → ShelfDid disk start now answer → Failed read_status start now answer
+files-failed disk start now (Ok totals) (came, shelf, lost) = record { often = _; fails = read_often totals _ lost; many = shelf.counts; paths = _; told = shelf.told }
+files-failed disk start now (Err (NoFiles number)) still = still-failed read_status start now number still
+files-failed disk start now (Err ImageFault) (came, shelf) = record { often = _; fails = tt; many = shelf.counts; paths = _; told = shelf.told }
+files-failed disk start now (Err NotesFault) (came, shelf) = record { often = _; fails = tt; many = shelf.counts; paths = _; told = shelf.told }
+
 module _ (disk : DumpDisk) (start now : ShelfNow) (image notes : Growth) where
   pub read-answers : (answer : Result DumpTotals DumpsFault) → SaysOfDumps disk start now image.before image.after notes.before notes.after answer
       → Answers (read_work Image disk) disk.dumps start now image notes read_status answer
@@ -72,20 +86,15 @@ module _ (disk : DumpDisk) (start now : ShelfNow) (image notes : Growth) where
   read-answers (Err ImageFault) says = says
   read-answers (Err NotesFault) says = inl says
 
-  pub read-failed : (answer : Result DumpTotals DumpsFault) → SaysOfDumps disk start now image.before image.after notes.before notes.after answer → Failed read_status start now answer
-  read-failed (Ok totals) says = record {
-    often = lost_count says.1.is.streams;
-    fails = read_often totals (lost_count says.1.is.streams) (ap (λ (t : DumpTotals). t.lost) (says.1.totals_are ∙ ap (λ (d : DumpsRead). d.totals) says.1.is.is));
-    many = says.1.shelf.counts;
-    paths = _;
-    told = says.1.shelf.told;
-  }
-  read-failed (Err (NoFiles number)) says = still-failed read_status start now number says.2
-  read-failed (Err ImageFault) says = record { often = _; fails = tt; many = says.shelf.counts; paths = _; told = says.shelf.told }
-  read-failed (Err NotesFault) says =
+  pub read-did : (answer : Result DumpTotals DumpsFault) → SaysOfDumps disk start now image.before image.after notes.before notes.after answer → ShelfDid disk start now answer
+  read-did (Ok totals) says =
+      ((says.1.is.streams, says.1.is.beside.came), says.1.shelf, ap (λ (t : DumpTotals). t.lost) (says.1.totals_are ∙ ap (λ (d : DumpsRead). d.totals) says.1.is.is))
+  read-did (Err (NoFiles number)) says = says.2
+  read-did (Err ImageFault) says = ((says.streams, []), says.shelf)
+  read-did (Err NotesFault) says =
       elim says [
-        | inl lines ↦ record { often = _; fails = tt; many = lines.shelf.counts; paths = _; told = lines.shelf.told }
-        | inr end ↦ record { often = _; fails = tt; many = end.shelf.counts; paths = _; told = end.shelf.told }
+        | inl stops ↦ elim stops [ inl lines ↦ ((lines.streams, []), lines.shelf) | inr beside ↦ ((beside.streams, beside.beside.came), beside.shelf) ]
+        | inr end ↦ ((end.streams, end.beside.came), end.shelf)
       ]
 
   pub draw-answers : (answer : Result DumpTotals DumpsFault) → SaysOfDrawing disk start now image.before image.after answer → notes.after ≡ notes.before
@@ -103,31 +112,29 @@ module _ (disk : DumpDisk) (start now : ShelfNow) (image notes : Growth) where
   draw-answers (Err NotesFault) says same = absurd says
 
 module _ (disk : DumpDisk) (start now : ShelfNow) (image : Growth) where
-  pub draw-failed : (answer : Result DumpTotals DumpsFault) → SaysOfDrawing disk start now image.before image.after answer → Failed read_status start now answer
-  draw-failed (Ok totals) says = record {
-    often = lost_count says.1.is.streams;
-    fails = read_often totals (lost_count says.1.is.streams) (ap (λ (t : DumpTotals). t.lost) (says.1.totals_are ∙ ap (λ (d : DumpsRead). d.totals) says.1.is.is));
-    many = says.1.shelf.counts;
-    paths = _;
-    told = says.1.shelf.told;
-  }
-  draw-failed (Err (NoFiles number)) says = still-failed read_status start now number says.2
-  draw-failed (Err ImageFault) says = record { often = _; fails = tt; many = says.shelf.counts; paths = _; told = says.shelf.told }
-  draw-failed (Err NotesFault) says = absurd says
+  pub draw-did : (answer : Result DumpTotals DumpsFault) → SaysOfDrawing disk start now image.before image.after answer → ShelfDid disk start now answer
+  draw-did (Ok totals) says =
+      ((says.1.is.streams, says.1.is.beside.came), says.1.shelf, ap (λ (t : DumpTotals). t.lost) (says.1.totals_are ∙ ap (λ (d : DumpsRead). d.totals) says.1.is.is))
+  draw-did (Err (NoFiles number)) says = says.2
+  draw-did (Err ImageFault) says = ((says.streams, says.beside), says.shelf)
+  draw-did (Err NotesFault) says = absurd says
 
 -- what comes of dumps is one, where the same files failed
-all_one : AllOfDumpsIsOne → (of : PartOf) (whole : List TrackPart → DumpTotals → DumpsRead) (disk : DumpDisk) (files : List File) (told told' : Option (List File))
-    → told ≡ Some files → told' ≡ Some files → (a b : DumpsRead) (p : IsReadBy of whole disk told a) (q : IsReadBy of whole disk told' b) → FailedAlike p.streams q.streams → a ≡ b
-all_one one of whole disk files told told' mine others a b =
-    subst (λ (t : Option (List File)). (p : IsReadBy of whole disk t a) (q : IsReadBy of whole disk told' b) → FailedAlike p.streams q.streams → a ≡ b) (sym mine)
-    (subst (λ (t : Option (List File)). (p : IsReadBy of whole disk (Some files) a) (q : IsReadBy of whole disk t b) → FailedAlike p.streams q.streams → a ≡ b) (sym others)
-    (one of whole disk files a b))
+module _ (one : AllOfDumpsIsOne) (of : PartOf) (beside_of : LinesOf) (whole : List TrackPart → List ℕ → DumpTotals → DumpsRead) (disk : DumpDisk) (files : List File) (a b : DumpsRead) where
+  abbrev AreOne : (told told' : Option (List File)) → Type 0
+  AreOne told told' =
+      (p : IsReadBy of beside_of whole disk told a) (q : IsReadBy of beside_of whole disk told' b) → FailedAlike p.streams q.streams → FailedAlike p.beside.came q.beside.came → a ≡ b
+
+  all_one : (told told' : Option (List File)) → told ≡ Some files → told' ≡ Some files → AreOne told told'
+  all_one told told' mine others =
+      subst (λ (t : Option (List File)). AreOne t told') (sym mine)
+      (subst (AreOne (Some files)) (sym others) (one of beside_of whole disk files a b))
 
 module _ (one : AllOfDumpsIsOne) (disk : DumpDisk) (files : List File) (start now start' now' : ShelfNow) (mine : start.told.files ≡ Some files) (others : start'.told.files ≡ Some files) where
   one_shown : (shown : Shown) (d e : DumpsRead) (p : IsShown shown disk start now d) (q : IsShown shown disk start' now' e)
-      → FailedAlike (came_shown shown disk start now d p) (came_shown shown disk start' now' e q) → d ≡ e
-  one_shown Image d e p q alike = all_one one read_part report_of disk files start.told.files start'.told.files mine others d e p.0 q.0 alike
-  one_shown Picture d e p q alike = all_one one dumps_part (picture_of disk.format) disk files start.told.files start'.told.files mine others d e p.0 q.0 alike
+      → AreFailedAlike (came_shown shown disk start now d p) (came_shown shown disk start' now' e q) → d ≡ e
+  one_shown Image d e p q alike = all_one one read_part beside_lines report_of disk files d e start.told.files start'.told.files mine others p.0 q.0 alike.0 alike.1
+  one_shown Picture d e p q alike = all_one one dumps_part no_lines (picture_of disk.format) disk files d e start.told.files start'.told.files mine others p.0 q.0 alike.0 alike.1
 
   -- the files, and which of them failed, decide the outcome of `read`
   pub one_outcome_of_dumps : (shown : Shown) (a b : Outcome) (p : IsOutcomeOfDumps shown disk start now a) (q : IsOutcomeOfDumps shown disk start' now' b)

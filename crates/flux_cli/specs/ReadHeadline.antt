@@ -1,5 +1,5 @@
 -- What is known of what `read` gives, the image and the report or a picture, where the shelf tells its files.
-use Rattle.std.specs.Prelude.{◌≡◌, ◌<◌, ◌↔◌, IsTrue, ℕ, List, [], get_or, length, Some}
+use Rattle.std.specs.Prelude.{◌≡◌, ◌<◌, ◌↔◌, IsTrue, ℕ, List, [], ◌++◌, get_or, length, Some}
 use Rattle.disk_map.specs.Dumps.{IsDumpsDrawn, ShowsReport}
 use Rattle.dump_reading.specs.Outcomes.{DumpDisk, DumpsRead, FilesFailed, IsDumpsRead, IsFirstEmpty}
 use Rattle.dump_reading.specs.Totals.{is_complete}
@@ -12,8 +12,8 @@ use Rattle.law_captured_disks.specs.Headline.{IsSectorOf}
 use Rattle.law_captured_dumps.specs.Headline.{IsReadRightly, IsReadWell}
 use Rattle.law_captured_dumps.specs.Inputs.{HasFailed, HasWhole, IsSteadyOrPassed}
 use Rattle.law_read_dumps.specs.Complete.{IsAllRead}
-use Rattle.law_read_dumps.specs.Lines.{ArePassedSaid, HasNoOtherLines, HaveTheirNumbers}
-use Rattle.law_read_dumps.specs.Said.{AreOfFiles, IsSaid, IsSaidRightly, StaysOrIsContradicted, came_in}
+use Rattle.law_read_dumps.specs.Lines.{ArePassedSaid, HasNoOtherLines, HaveTheirNumbers, format_tracks, other_tracks}
+use Rattle.law_read_dumps.specs.Said.{AreBesideOfFiles, AreOfFiles, IsSaid, IsSaidRightly, StaysOrIsContradicted, came_in}
 use Rattle.law_reported_dumps.specs.Told.{ArePassedTold, AreTold, TellsOnce}
 use Rattle.track_shelf.specs.DumpKinds.{kind_in}
 use Rattle.flux_cli.specs.EmptyText.{empty_text}
@@ -29,24 +29,27 @@ use Rattle.flux_words.specs.declared.dump_words.Shown.{Shown}
 use Rattle.flux_words.specs.declared.dump_words.Shown.TheVariants.{Image, Picture}
 
 -- Each sector's line and its bytes in the image are those that all readings of the dumps bear out. Each line of the report that has the text
--- of a sector's line is that one, at its number, and no sector is told twice. Each stream that is passed over is told, and each line that has
--- the text of such a stream's is true; there are as many lines as the numbers say. The numbers call all of it complete exactly where every
--- sector is good and, in the cells of no stream that was read, whole data stand after a header that names none of its track's sectors.
+-- of a sector's line is that one, at its number, and no sector is told twice. Each stream that is passed over is told, of a track of the format
+-- or of any other, and each line that has the text of such a stream's is true; there are as many lines as the numbers say. The numbers call all
+-- of it complete exactly where every sector is good and, in the cells of no stream of any track, whole data stand after a header that names none
+-- of its track's sectors.
 -- A sector that is good by the strict rule in one dump, by one clock, is never wrong unsaid, whatever the files are: it is good with the same
 -- bytes, or contradictory. So is one that a dump has whole, in a file that did not fail, with its own bytes; where the other files are captures
 -- too or passed over, and the drives kept their speed, it is good with them.
 pub record OfDumps (disk : DumpDisk) (files : List File) (d : DumpsRead) : Type 0 where
   pub is : IsDumpsRead disk (Some files) d
   pub of_files : AreOfFiles disk (came_in is) files
+  pub of_files_beside : AreBesideOfFiles is.beside files
   pub said : (n sector : ℕ) → IsSectorOf disk.format n sector → IsSaid disk (came_in is) d n sector
   pub right : (n sector : ℕ) (said : IsSaid disk (came_in is) d n sector) → IsSaidRightly disk (came_in is) d n sector (verdict (joined said.captures) sector)
   pub numbered : HaveTheirNumbers disk (came_in is) d is.others
   pub told : AreTold disk (came_in is) d is.others
   pub once : TellsOnce d.notes
-  pub passed : ArePassedSaid disk (came_in is) d
-  pub passed_told : ArePassedTold disk (came_in is) d
-  pub count : HasNoOtherLines d is.others
-  pub complete : IsTrue (is_complete d.totals) ↔ IsAllRead disk (came_in is) d
+  pub passed : ArePassedSaid disk (format_tracks is) d
+  pub passed_beside : ArePassedSaid disk (other_tracks is) d
+  pub passed_told : ArePassedTold disk (format_tracks is) (other_tracks is) d
+  pub count : HasNoOtherLines d (is.others ++ is.beside.others)
+  pub complete : IsTrue (is_complete d.totals) ↔ IsAllRead disk (Some files) (came_in is) is.beside d
   pub stays : (n sector : ℕ) (said : IsSaid disk (came_in is) d n sector) → StaysOrIsContradicted disk (came_in is) d n sector said
   pub whole : (image : List ℕ) → IsImage disk.format image → (n sector : ℕ) → IsSectorOf disk.format n sector
       → (dump : ℕ) → dump < length disk.dumps → ¬ HasFailed (came_in is) n dump → HasWhole disk files image n dump sector → IsReadRightly disk (came_in is) image d n sector
@@ -62,7 +65,7 @@ pub record GaveDumps {H W N : Type 0} (disk : DumpDisk) (files : List File) (sta
   pub image_got : Got (growth before.image after.image) read.image
   pub notes_got : Got (growth before.notes after.notes) read.notes
   pub holds : OfDumps disk files read
-  pub shelf : FilesFailed disk (now_at before.shelf) (now_at after.shelf) holds.is.streams
+  pub shelf : FilesFailed disk (now_at before.shelf) (now_at after.shelf) holds.is.streams holds.is.beside.came
 
 -- The image sink got a picture of the dumps, and the notes nothing. The picture is that of a report of the same dumps: in each track it has
 -- the fields of the sectors whose lines this report has, by the same readings, and the same numbers; and what the report says is borne out.
@@ -74,7 +77,7 @@ pub record GavePicture {H W N : Type 0} (disk : DumpDisk) (files : List File) (s
   pub notes_got : Got (growth before.notes after.notes) []
   pub shows : ShowsReport disk (Some files) drawn is
   pub holds : OfDumps disk files shows.report
-  pub shelf : FilesFailed disk (now_at before.shelf) (now_at after.shelf) holds.is.streams
+  pub shelf : FilesFailed disk (now_at before.shelf) (now_at after.shelf) holds.is.streams holds.is.beside.came
 
 -- what was given, by what is shown of the verdicts
 abbrev pub GaveShown : {H W N : Type 0} → Shown → DumpDisk → List File → Status → (before after : OnShelf H W N) → Type 0

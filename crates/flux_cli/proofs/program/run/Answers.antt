@@ -66,11 +66,13 @@ returns-clause-dumps g c =
     dumps-told c.run_words-status.ensures.ran (behind g c) c.tell_output.ensures (reads_as_expected (record {
       said = said.said;
       of_files = said.of_files;
+      of_files_beside = said.beside_of_files;
       right = said.right;
       numbered = lines.numbered;
       told = told.told;
       once = told.once;
       passed = lines.passed;
+      passed_beside = lines.passed_beside;
       passed_told = told.passed_told;
       count = lines.count;
       complete = c.complete_dumps_are_all_read.ensures;

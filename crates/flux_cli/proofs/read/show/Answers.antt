@@ -2,7 +2,7 @@ use Rattle.std.proofs.Common.{refl, subst}
 use Rattle.dump_reading.specs.Outcomes.{disk_of}
 use Rattle.flux_cli.proofs.Blaming.{CountsBy-noteless}
 use Rattle.flux_cli.proofs.EndingLaws.{IsOverShelf, dumps-blame, shelf-over-shelf}
-use Rattle.flux_cli.proofs.ReadRun.{draw-answers, draw-failed, read-answers, read-done, read-failed}
+use Rattle.flux_cli.proofs.ReadRun.{draw-answers, draw-did, files-failed, read-answers, read-did, read-done}
 use Rattle.flux_cli.proofs.ShelfEnded.{ends-over, shelf-ended}
 use Rattle.flux_cli.specs.ReadRuns.{read_status, read_work}
 use Rattle.flux_words.specs.declared.dump_words.Shown.TheVariants.{Image, Picture}
@@ -12,7 +12,7 @@ pub returns-in-Image-clause-did : goal.returns-in-Image-clause-did
 returns-in-Image-clause-did g c =
     let disk = disk_of c.args.dumps.now c.args.room.now.format in
     let answer = c.read_dumps-answer in
-    let failed = read-failed disk _ _ _ _ answer.result answer.ensures.says in
+    let failed = files-failed disk _ _ answer.result (read-did disk _ _ _ _ answer.result answer.ensures.says) in
     rw c.in-Image.is (record {
       says = shelf-ended (read_work Image disk) disk.dumps _ _ _ _ _ c.end_of_dumps.result read_status read-done answer.result
           (read-answers disk _ _ _ _ answer.result answer.ensures.says) failed.often failed.fails failed.many answer.ensures.blames
@@ -24,7 +24,7 @@ pub returns-in-Picture-clause-did : goal.returns-in-Picture-clause-did
 returns-in-Picture-clause-did g c =
     let disk = disk_of c.args.dumps.now c.args.room.now.format in
     let answer = c.map_dumps-answer in
-    let failed = draw-failed disk _ _ _ answer.result answer.ensures.says in
+    let failed = files-failed disk _ _ answer.result (draw-did disk _ _ _ answer.result answer.ensures.says) in
     rw c.in-Picture.is (record {
       says = shelf-ended (read_work Picture disk) disk.dumps _ _ _ _ _ c.end_of_dumps-in-Picture.result read_status read-done answer.result
           (draw-answers disk _ _ _ _ answer.result answer.ensures.says refl) failed.often failed.fails failed.many (CountsBy-noteless _ _ answer.ensures.blames)
@@ -34,14 +34,16 @@ returns-in-Picture-clause-did g c =
 
 pub returns-in-Image-clause-blames : goal.returns-in-Image-clause-blames
 returns-in-Image-clause-blames g c =
+    let disk = disk_of c.args.dumps.now c.args.room.now.format in
     let answer = c.read_dumps-answer in
-    let failed = read-failed (disk_of c.args.dumps.now c.args.room.now.format) _ _ _ _ answer.result answer.ensures.says in
+    let failed = files-failed disk _ _ answer.result (read-did disk _ _ _ _ answer.result answer.ensures.says) in
     dumps-blame _ _ read_status read-done failed.often failed.many c.end_of_dumps.result _ _ answer.result failed.fails answer.ensures.blames c.end_of_dumps.ensures
 
 pub returns-in-Picture-clause-blames : goal.returns-in-Picture-clause-blames
 returns-in-Picture-clause-blames g c =
+    let disk = disk_of c.args.dumps.now c.args.room.now.format in
     let answer = c.map_dumps-answer in
-    let failed = draw-failed (disk_of c.args.dumps.now c.args.room.now.format) _ _ _ answer.result answer.ensures.says in
+    let failed = files-failed disk _ _ answer.result (draw-did disk _ _ _ answer.result answer.ensures.says) in
     dumps-blame _ _ read_status read-done failed.often failed.many c.end_of_dumps-in-Picture.result _ _ answer.result failed.fails (CountsBy-noteless _ _ answer.ensures.blames)
     c.end_of_dumps-in-Picture.ensures
 
