@@ -24,14 +24,15 @@ fn each_read_of_a_3740_disk_fails_once(rt: HostRuntime) -> Result<(), Fail> {
     reads_fail(rt.alloc(), IBM_3740, 550, PART, LINES)
 }
 
-// 80 streams of 50 bytes are 571 pieces of 7 and one of 3.
+// 80 streams of 50 bytes are 571 pieces of 7, and 3 bytes of one more.
 #[test]
 fn each_read_of_a_360_kb_disk_fails_once(rt: HostRuntime) -> Result<(), Fail> {
     reads_fail(rt.alloc(), IBM_360, 572, 4608, 9)
 }
 
-/// The shortest streams take so many reads of 7 bytes. Each of them fails once, and a later one is not made. After a fault the
-/// tracks are written, each with this part of the image and so many lines, whose 50 bytes were read before it.
+/// The shortest streams take so many reads of 7 bytes. Each of them fails once, and a later one is not made, though seven streams
+/// more follow. After a fault the tracks are written, each with this part of the image and so many lines, whose 50 bytes were read
+/// before it.
 fn reads_fail(
     alloc: Global,
     disk: Disk,
@@ -39,7 +40,8 @@ fn reads_fail(
     part: usize,
     lines: usize,
 ) -> Result<(), Fail> {
-    let dump = short_dump(alloc, disk)?;
+    let mut dump = short_dump(alloc, disk)?;
+    dump.input.extend_from_slice(&short_streams(alloc, 7, 0)?)?;
     for call in 0..700usize {
         let tracks = call.saturating_mul(7) / 50;
         let cut = Want {

@@ -1,5 +1,0 @@
-//! Whole disks.
-mod disks;
-mod padding;
-mod readings;
-mod rings;

@@ -1,9 +1,0 @@
-mod amiga;
-mod apple;
-mod commodore;
-mod double_density;
-mod drive;
-mod single_density;
-mod streams;
-mod tracks;
-mod wanted;
