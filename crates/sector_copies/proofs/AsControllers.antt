@@ -1,6 +1,6 @@
 -- What a track comes to as controllers read it.
-use Rattle.std.specs.Prelude.{◌≡◌, ℕ, zero, suc, Bool, List, [], ◌∷◌, ◌++◌, Contains, drop, filter, flat_map, length, nat_eq, replicate, Some, refl}
-use Rattle.std.proofs.Common.{ap, append-nil, arith, subst, sym, ◌∙◌}
+use Rattle.std.specs.Prelude.{◌≡◌, ℕ, zero, suc, Bool, List, [], ◌∷◌, ◌++◌, Contains, drop, flat_map, nat_eq, refl}
+use Rattle.std.proofs.Common.{ap, arith, subst, sym, ◌∙◌}
 use Rattle.std.proofs.lemmas.List.Elements.{filter-append}
 use Rattle.disk_recordings.specs.Agreement.{Agrees}
 use Rattle.disk_recordings.specs.Laws.{StandAlone}
@@ -18,7 +18,7 @@ use Rattle.turn_merge.specs.Readings.{NotedReading}
 use Rattle.turn_merge.specs.declared.clock.Clock.{Clock}
 use Rattle.turn_merge.specs.declared.clock.Clock.TheVariants.{Following, Held}
 use Rattle.flux_engine.specs.Captured.{AreReadingsBy, AreReadingsOf}
-use Rattle.flux_engine.specs.Recordings.{cells_by, start_by, start_of}
+use Rattle.flux_engine.specs.Recordings.{cells_by}
 use Rattle.flux_engine.specs.Rules.{AreReadByControllers}
 use Rattle.flux_engine.specs.Tracks.{Found, readings_in}
 use Rattle.flux_engine.specs.declared.plan.Clocks.TheVariants.{Both}

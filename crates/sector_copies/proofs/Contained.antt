@@ -1,5 +1,5 @@
 -- What is read of a sector in the cells is among the contents that are kept, where there is room for one more.
-use Rattle.std.specs.Prelude.{◌≡◌, ◌<◌, ◌≤◌, ℕ, zero, suc, ◌&&◌, Bool, Contains, true, false, not, List, [], ◌∷◌, filter, get_or, is_some, length, map, nat_eq, take, Option, Some, None, refl}
+use Rattle.std.specs.Prelude.{◌≡◌, ◌<◌, ◌≤◌, ℕ, zero, suc, ◌&&◌, Bool, Contains, true, false, not, List, [], ◌∷◌, filter, get_or, is_some, length, map, nat_eq, take, Some, refl}
 use Rattle.std.specs.Str.{bytes_eq}
 use Rattle.std.proofs.Common.{ap, arith, eq-eqb, inl, inr, subst, sym, ◌∙◌}
 use Rattle.std.proofs.lemmas.List.{length-map, length-take, take_all}

@@ -1,5 +1,5 @@
 -- What a note does to what is known of a sector.
-use Rattle.std.specs.Prelude.{◌≡◌, ◌&&◌, ℕ, Bool, false, true, List, [], ◌∷◌, ◌++◌, cond, is_some, nat_eq, Some, None, refl}
+use Rattle.std.specs.Prelude.{◌≡◌, ◌&&◌, ℕ, Bool, false, true, List, [], ◌∷◌, ◌++◌, cond, is_some, nat_eq, refl}
 use Rattle.std.proofs.Common.{ap, append-nil, eq-eqb, sym, ◌∙◌}
 use Rattle.std.proofs.lemmas.List.Elements.{filter-append}
 use Rattle.turn_merge.specs.Book.{AppendsReading, Knowledge}

@@ -1,7 +1,7 @@
 -- Worked rows of the contents that are kept.
 use Rattle.std.specs.Prelude.{◌≡◌, ℕ, List, [], ◌∷◌, length, map, refl}
 use Rattle.std.specs.List.{range_with_len}
-use Rattle.turn_merge.specs.Readings.{NotedReading, good_reading}
+use Rattle.turn_merge.specs.Readings.{good_reading}
 use Rattle.turn_merge.specs.declared.clock.Clock.TheVariants.{Following}
 use Rattle.turn_merge.specs.declared.verdict.Place.{Place}
 use Rattle.sector_copies.specs.Copies.{Copy, copies_over}

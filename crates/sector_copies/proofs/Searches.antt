@@ -1,9 +1,9 @@
 -- What repeated searches find, and how far they have come.
-use Rattle.std.specs.Prelude.{◌≡◌, ◌≤◌, ◌<◌, ℕ, ◌+◌, List, [], ◌∷◌, ◌++◌, flat_map, Some, None, refl}
+use Rattle.std.specs.Prelude.{◌≡◌, ◌≤◌, ◌<◌, ℕ, ◌+◌, List, [], ◌∷◌, ◌++◌, flat_map, refl}
 use Rattle.std.proofs.Common.{ap, append_assoc, append-nil, arith, inl, inr, subst, sym, ◌∙◌}
 use Rattle.std.proofs.lemmas.Bool.{cases_lt}
 use Rattle.std.proofs.lemmas.List.Concat.{flat_map-append}
-use Rattle.frame_law.specs.Controller.{AreFound, FirstAt}
+use Rattle.frame_law.specs.Controller.{AreFound}
 use Rattle.turn_merge.specs.Readings.{NotedReading}
 use Rattle.sector_copies.specs.Notes.{AppendsNotes, SectorKnown, SectorStandsFor}
 

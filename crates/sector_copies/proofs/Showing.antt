@@ -1,6 +1,6 @@
 -- What is shown of a sector, by what was read of it.
-use Rattle.std.specs.Prelude.{◌≡◌, ◌<◌, ◌&&◌, ℕ, Bool, true, false, List, [], ◌∷◌, ◌++◌, cond, filter, is_none, is_some, length, nat_eq, Option, None, Some, Ok, Err, refl}
-use Rattle.std.proofs.Common.{ap, subst, sym, ◌∙◌}
+use Rattle.std.specs.Prelude.{◌≡◌, ◌&&◌, ℕ, Bool, true, false, List, [], ◌∷◌, ◌++◌, cond, filter, is_none, is_some, length, nat_eq, Option, None, Ok, Err, refl}
+use Rattle.std.proofs.Common.{ap, subst, ◌∙◌}
 use Rattle.std.specs.Io.KnownBytes.{Appends}
 use Rattle.flux_base.specs.Outside.{AppendsPart}
 use Rattle.sector_images.specs.declared.format.Format.{Format}

@@ -1,5 +1,5 @@
 -- A list has a member of some kind.
-use Rattle.std.specs.Prelude.{◌≡◌, ◌<◌, ◌⊎◌, ℕ, zero, suc, Bool, Contains, true, false, cond, List, [], ◌∷◌, ◌++◌, filter, flat_map, length, map, refl}
+use Rattle.std.specs.Prelude.{◌≡◌, ◌⊎◌, zero, suc, Bool, Contains, true, false, cond, List, [], ◌∷◌, ◌++◌, filter, flat_map, map, refl}
 use Rattle.std.proofs.Common.{arith, inl, inr, subst, sym}
 
 abbrev pub Has : {X : Type 0} → (X → Type 0) → List X → Type 0

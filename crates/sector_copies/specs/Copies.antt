@@ -1,5 +1,5 @@
 -- The distinct contents of a sector's good readings: what is told of each.
-use Rattle.std.specs.Prelude.{ℕ, ◌+◌, ◌<◌, ◌≤◌, Bool, not, cond, List, [], ◌∷◌, length, take, map, filter, All}
+use Rattle.std.specs.Prelude.{ℕ, ◌+◌, ◌<◌, Bool, not, cond, List, [], ◌∷◌, length, take, map, filter, All}
 use Rattle.std.specs.List.{list_any}
 use Rattle.std.specs.Str.{bytes_eq}
 use Rattle.turn_merge.specs.Readings.{NotedReading, bytes_of}

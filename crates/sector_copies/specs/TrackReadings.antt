@@ -1,5 +1,5 @@
 -- What the dumps of a disk say of one sector.
-use Rattle.std.specs.Prelude.{◌≡◌, ◌≤◌, ◌<◌, ℕ, ◌+◌, ◌*◌, List, [], ◌++◌, length}
+use Rattle.std.specs.Prelude.{◌≡◌, ◌≤◌, ◌<◌, ℕ, List, [], ◌++◌, length}
 use Rattle.cell_bits.specs.State.{CellsState, room}
 use Rattle.sector_images.specs.Formats.{row}
 use Rattle.sector_images.specs.Places.{IsSector, tracks}
@@ -11,7 +11,7 @@ use Rattle.flux_engine.specs.Counts.{lost_in}
 use Rattle.flux_engine.specs.LoopProgress.{lost_count, seen_at}
 use Rattle.flux_engine.specs.Plans.{AreCaptures, Seen, Streams, joined, passed_one, passed_to}
 use Rattle.flux_engine.specs.Recordings.{track_at}
-use Rattle.flux_engine.specs.Room.{MOST_CELLS, MOST_READINGS}
+use Rattle.flux_engine.specs.Room.{MOST_CELLS}
 use Rattle.flux_engine.specs.declared.gathered_track.PassedStream.{PassedStream}
 use Rattle.flux_engine.specs.declared.plan.Clocks.TheVariants.{Both}
 use Rattle.flux_engine.specs.declared.plan.Rule.TheVariants.{Controller}

@@ -130,7 +130,8 @@ impl SectorRoom {
 
     /// Which of the track's streams were passed over, in order.
     pub(crate) fn passed(&self) -> &[PassedStream]
-        ensures { result.now ≡ self.now.passed }
+        ensures are { result.now ≡ self.now.passed }
+        ensures few { length result.now ≤ 16 }
     {
         self.tools.passed.as_slice()
     }

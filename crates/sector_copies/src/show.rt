@@ -22,8 +22,8 @@ use crate::reading::{SectorRoom, read_sector};
 use crate::totals::SectorTotals;
 use dump_reading::{Dumps, DumpsFault, find_empty, write_passed};
 use flux_base::{Failed, Sink, write_whole};
-use flux_engine::PassedStream;
-use sector_report::{Naming, Passed, named_line, write_line};
+use flux_engine::lost_count;
+use sector_report::{Naming, named_line, write_line};
 use track_shelf::Shelf;
 use turn_merge::Verdict;
 
@@ -74,16 +74,6 @@ fn totals_of(room: &SectorRoom) -> SectorTotals
         copies: room.copies().len(),
         lost: lost_count(room.passed()),
     }
-}
-
-/// How many of these streams are passed over since their files failed.
-fn lost_count(passed: &[PassedStream]) -> usize
-    ensures { result ≡ lost_in passed.now }
-{
-    passed
-        .iter()
-        .filter(|stream| matches!(stream.why, Passed::Failed))
-        .count()
 }
 
 /// Writes which of the track's streams were passed over, and the sector's line where it stands in the notes.

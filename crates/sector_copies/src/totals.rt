@@ -4,5 +4,5 @@ pub struct SectorTotals {
     /// How many distinct contents its good readings hold, at most 16.
     pub copies: usize,
     /// How many files of its track failed as they were opened or read.
-    pub lost: usize,
+    pub lost: u32,
 }

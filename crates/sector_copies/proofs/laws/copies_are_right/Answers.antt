@@ -1,4 +1,4 @@
-use Rattle.std.specs.Prelude.{◌≡◌, ◌<◌, ℕ, List, length}
+use Rattle.std.specs.Prelude.{◌<◌, ℕ, List, length}
 use Rattle.std.proofs.Common.{ap, arith, subst, sym, ◌∙◌}
 use Rattle.turn_merge.specs.Readings.{NotedReading}
 use Rattle.turn_merge.specs.declared.verdict.Place.{Place}

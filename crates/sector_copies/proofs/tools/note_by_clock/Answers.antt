@@ -1,4 +1,3 @@
-use Rattle.std.proofs.Common.{rules}
 use Rattle.sector_copies.proofs.AsControllers.{has_track_too, noted_by, size_too}
 use Rattle.sector_copies.proofs.tools.note_by_clock.Goals as goal
 

@@ -1,4 +1,3 @@
-use Rattle.std.proofs.Common.{rules}
 use Rattle.sector_copies.proofs.AsControllers.{none_noted}
 use Rattle.sector_copies.proofs.tools.note_next.Goals as goal
 

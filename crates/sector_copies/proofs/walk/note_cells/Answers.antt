@@ -1,4 +1,3 @@
-use Rattle.std.proofs.Common.{refl}
 use Rattle.sector_copies.proofs.Walks.{header_end, header_start, header_step}
 use Rattle.sector_copies.proofs.walk.note_cells.Goals as goal
 

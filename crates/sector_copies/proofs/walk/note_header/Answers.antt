@@ -1,5 +1,5 @@
 use Rattle.std.proofs.Common.{drop, length}
-use Rattle.sector_copies.proofs.Walks.{no_data, some_data}
+use Rattle.sector_copies.proofs.Walks.{some_data}
 use Rattle.sector_copies.proofs.walk.note_header.Goals as goal
 
 pub returns-clause-noted : goal.returns-clause-noted

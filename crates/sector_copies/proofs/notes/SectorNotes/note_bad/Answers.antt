@@ -1,7 +1,6 @@
 use Rattle.std.specs.Prelude.{◌+◌, [], ◌∷◌}
-use Rattle.std.proofs.Common.{ap, arith, subst, sym, ◌∙◌}
+use Rattle.std.proofs.Common.{arith, subst, ◌∙◌}
 use Rattle.turn_merge.specs.Readings.{bad_reading}
-use Rattle.sector_copies.specs.Copies.{AreFewer}
 use Rattle.sector_copies.specs.Notes.{AppendsNotes, SectorKnown}
 use Rattle.sector_copies.proofs.Contents.{fewer_below}
 use Rattle.sector_copies.proofs.Noting.{bad_stands}
