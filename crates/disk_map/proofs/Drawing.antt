@@ -18,7 +18,7 @@ use Rattle.flux_engine.specs.Answers.{IsTakenBehind}
 use Rattle.flux_engine.specs.Disks.{Stop, decoded_count, images, stop_of}
 use Rattle.flux_engine.specs.PlanAnswers.{DecodesPlanned, MOST_OF_STREAM}
 use Rattle.flux_engine.specs.PlanProgress.{EndedInStream, EndsInTracks, HasPlanned, StoppedAt}
-use Rattle.flux_engine.specs.Plans.{ArePlannedParts, decoding, streams_in}
+use Rattle.flux_engine.specs.Plans.{decoding}
 use Rattle.flux_engine.specs.Room.{RoomState}
 use Rattle.flux_engine.specs.Streams.{behind}
 use Rattle.flux_engine.specs.declared.fault.PlanFault.{PlanFault}

@@ -12,9 +12,10 @@ use Rattle.flux_engine.specs.Disks.{images}
 use Rattle.flux_engine.specs.Tracks.{TrackPart}
 use Rattle.flux_engine.specs.lemmas.PartLaws.{images-more}
 use Rattle.dump_reading.specs.Blamed.{dumps_blame}
+use Rattle.dump_reading.specs.Beside.{no_lines}
 use Rattle.dump_reading.specs.DumpStreams.{of_disk}
 use Rattle.dump_reading.specs.Files.{ShelfNow}
-use Rattle.dump_reading.specs.Outcomes.{DumpDisk, HasTracksBy, StopsBy, WroteIntoImageBy, numbers_of}
+use Rattle.dump_reading.specs.Outcomes.{DumpDisk, HasTracksBy, StopsBy, WroteIntoImageBy, lines_of, numbers_of}
 use Rattle.dump_reading.specs.declared.fault.DumpsFault.{DumpsFault}
 use Rattle.dump_reading.specs.declared.fault.DumpsFault.TheVariants.{NoFiles, ImageFault, NotesFault}
 use Rattle.dump_reading.specs.declared.totals.DumpTotals.{DumpTotals}
@@ -32,8 +33,9 @@ module _ (disk : DumpDisk) (start : ShelfNow) (picture : Option (List ℕ)) wher
     parts = [];
     few = omega arith;
     read = record { all = omega arith; are = λ files known n q few within below. absurd (omega (arith, below)); each = λ n below. absurd (omega (arith, below)) };
+    beside = [];
     ending = [];
-    ends = inl refl;
+    ends = inl (refl, refl);
     shelf = (
         let none = none_came (of_disk disk.stepping disk.dumps (length disk.dumps) disk.format) start in
         record { told = none.told; counts = none.counts }
@@ -45,18 +47,18 @@ module _ (disk : DumpDisk) (start : ShelfNow) (picture : Option (List ℕ)) wher
     front : (parts : List TrackPart) (written : Option (List ℕ)) → Appends top written (images parts) → Appends picture written (dumps_front disk.format parts)
     front parts written grew = Appends-trans picture top written (top_by (codes "read") disk.format) (images parts) begun grew
 
-    module _ (written notes notes' picture' : Option (List ℕ)) (totals : DumpTotals) (h : HasTracksBy dumps_part disk start now top written notes notes' totals) where
+    module _ (written notes notes' picture' : Option (List ℕ)) (totals : DumpTotals) (h : HasTracksBy dumps_part no_lines disk start now top written notes notes' totals) where
       abbrev foot-of : DumpTotals → List ℕ
       foot-of t = dumps_foot (layout_of disk.format) t
 
       abbrev numbers : DumpTotals
-      numbers = numbers_of h.streams h.parts h.others
+      numbers = numbers_of h.streams h.parts h.others h.beside.came h.beside.others
 
       -- all was written
       pub drawn-all : Appends written picture' (dumps_foot (layout_of disk.format) totals) → DrewDumps disk start now picture picture' totals
       drawn-all foot = record {
-        outcome = picture_of disk.format h.parts numbers;
-        is = record { streams = h.streams; parts = h.parts; others = h.others; all = h.all; is = refl };
+        outcome = picture_of disk.format h.parts (lines_of no_lines h.beside) numbers;
+        is = record { streams = h.streams; parts = h.parts; others = h.others; all = h.all; beside = h.beside; looked = h.looked; is = refl };
         shelf = h.shelf;
         grew =
             Appends-trans picture written picture' (dumps_front disk.format h.parts) (foot-of numbers) (front h.parts written h.image_grew)
@@ -71,8 +73,9 @@ module _ (disk : DumpDisk) (start : ShelfNow) (picture : Option (List ℕ)) wher
         parts = h.parts;
         few = omega (arith, h.all.many);
         read = h.all.read;
+        beside = h.beside.came;
         ending = foot-of numbers;
-        ends = inr (h.others, h.all, refl);
+        ends = inr (record { others = h.others; all = h.all; beside = h.beside; looked = h.looked; came_is = refl; is = refl });
         shelf = h.shelf;
         grew =
             AppendsPart-second picture written picture' (dumps_front disk.format h.parts) (foot-of numbers) (front h.parts written h.image_grew)
@@ -96,8 +99,9 @@ module _ (disk : DumpDisk) (start : ShelfNow) (picture : Option (List ℕ)) wher
           parts = w.parts ++ w.next ∷ [];
           few = omega (arith, w.few, many);
           read = w.read;
+          beside = [];
           ending = [];
-          ends = inl refl;
+          ends = inl (refl, refl);
           shelf = w.shelf;
           grew = subst (AppendsPart picture written) whole (cut_after picture written (before ++ images w.parts) w.next.image n w.image_grew.1 grew);
         }
@@ -105,7 +109,7 @@ module _ (disk : DumpDisk) (start : ShelfNow) (picture : Option (List ℕ)) wher
     -- reading the tracks stopped; there are no notes that could have failed
     pub drawn-stopped : (written notes notes' : Option (List ℕ)) (fault : DumpsFault) (p p' : FaultCounts)
         → CountsBy (dumps_blame {A = DumpTotals} (Err fault)) (three_counts no_counts p no_counts) (three_counts no_counts p' no_counts)
-        → StopsBy dumps_part disk start now top written notes notes' fault → SaysOfDrawing disk start now picture written (Err fault)
+        → StopsBy dumps_part no_lines disk start now top written notes notes' fault → SaysOfDrawing disk start now picture written (Err fault)
     drawn-stopped written notes notes' (NoFiles dump) p p' counts stops = absurd stops
     drawn-stopped written notes notes' ImageFault p p' counts stops = cut-field written notes notes' stops
     drawn-stopped written notes notes' NotesFault p p' counts stops = omega (arith, counts.notes.cause)

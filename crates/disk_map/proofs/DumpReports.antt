@@ -11,7 +11,8 @@ use Rattle.flux_engine.specs.Tracks.{TrackNotes, TrackPart, track_notes}
 use Rattle.flux_engine.specs.Writing.{sum_of}
 use Rattle.flux_engine.specs.declared.plan.Plan.{Plan}
 use Rattle.flux_engine.specs.lemmas.PartLaws.{totals-first}
-use Rattle.dump_reading.specs.Outcomes.{DumpDisk, DumpsRead, numbers_of, plan_of, report_of}
+use Rattle.dump_reading.specs.Beside.{beside_lines}
+use Rattle.dump_reading.specs.Outcomes.{DumpsRead, LookedAsAsked, lines_of, numbers_of, plan_of, report_of}
 use Rattle.dump_reading.specs.Reports.{read_part}
 use Rattle.dump_reading.specs.declared.totals.DumpTotals.{DumpTotals}
 use Rattle.disk_map.specs.Dumps.{PicturesOfDumpsShowReports, ShowsTrack, dumps_part}
@@ -81,9 +82,9 @@ shows_reports disk told o is =
     let from = read_from (plan_of disk) disk.format streams 0 is.parts
     (λ n low. let same : n ≡ 0 + n = omega arith in
     subst (λ (k : ℕ). IsPlannedPart (plan_of disk) dumps_part disk.format streams k (part_at is.parts n)) same (is.all.read.each n low)) in
-    let numbers : DumpTotals = numbers_of is.streams from.read is.others in
+    let numbers : DumpTotals = numbers_of is.streams from.read is.others is.beside.came is.beside.others in
     record {
-      report = report_of from.read numbers;
+      report = report_of from.read (lines_of beside_lines is.beside) numbers;
       read = record {
         streams = is.streams;
         parts = from.read;
@@ -99,11 +100,14 @@ shows_reports disk told o is =
           many_others = is.all.many_others;
           others_are = is.all.others_are;
         };
+        beside = is.beside;
+        looked = subst (λ (t : Totals). LookedAsAsked t is.beside) (sym from.totals) is.looked;
         is = refl;
       };
       streams = refl;
+      beside = refl;
       totals =
-          ap (λ (t : Totals). record (numbers_of is.streams is.parts is.others) { sectors = t }) from.totals
+          ap (λ (t : Totals). record (numbers_of is.streams is.parts is.others is.beside.came is.beside.others) { sectors = t }) from.totals
           ∙ sym (ap (λ (d : DumpsRead). d.totals) is.is);
       tracks = λ n low. let same : 0 + n ≡ n = omega arith in
           subst (λ (k : ℕ). ShowsTrack disk.format k (part_at is.parts n) (part_at from.read n)) same (from.shows n low);

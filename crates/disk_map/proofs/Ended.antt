@@ -1,5 +1,5 @@
 -- The counts of the outside where a picture is brought to its end early.
-use Rattle.std.specs.Prelude.{◌≡◌, true, false, Ok, Err}
+use Rattle.std.specs.Prelude.{◌≡◌, true, false, Err}
 use Rattle.std.proofs.Common.{sym, subst}
 use Rattle.flux_base.specs.Blames.{CountsBy, no_counts, no_one, the_image, three_counts}
 use Rattle.flux_base.specs.Counts.{FaultCounts}

@@ -9,12 +9,13 @@ use Rattle.sector_report.specs.Lines.{total_text}
 use Rattle.sector_report.specs.declared.naming.Naming.TheVariants.{ByCaptureAndClock}
 use Rattle.track_shelf.specs.Files.{File}
 use Rattle.turn_merge.specs.Others.{NotedOther}
-use Rattle.flux_engine.specs.Disks.{images, part_at}
+use Rattle.flux_engine.specs.Disks.{images, part_at, totals_over}
 use Rattle.flux_engine.specs.Plans.{PartOf, Seen}
 use Rattle.flux_engine.specs.Recordings.{track_at}
 use Rattle.flux_engine.specs.Tracks.{TrackNotes, TrackPart}
+use Rattle.dump_reading.specs.Beside.{no_lines}
 use Rattle.dump_reading.specs.Files.{ShelfNow}
-use Rattle.dump_reading.specs.Outcomes.{AreAllBy, AreTracksBy, DumpDisk, DumpsRead, FilesFailed, IsDumpsRead, IsReadBy, IsToldEmpty, numbers_of}
+use Rattle.dump_reading.specs.Outcomes.{AreAllBy, AreTracksBy, DumpDisk, DumpsRead, FilesFailed, IsDumpsRead, IsReadBy, IsToldEmpty, LookedAsAsked, LookedBeside, numbers_of}
 use Rattle.dump_reading.specs.Reports.{read_part}
 use Rattle.dump_reading.specs.declared.fault.DumpsFault.{DumpsFault}
 use Rattle.dump_reading.specs.declared.fault.DumpsFault.TheVariants.{NoFiles, ImageFault, NotesFault}
@@ -37,27 +38,34 @@ abbrev pub dumps_foot : Layout → DumpTotals → List ℕ
 dumps_foot layout totals =
     counts_text layout (unread_text totals.unread totals.others totals.whole) ++ foot_text layout totals.sectors (total_text totals.sectors)
 
--- the picture stands in the place of the image, and there are no notes
-abbrev pub picture_of : Format → List TrackPart → DumpTotals → DumpsRead
-picture_of format parts totals = record { image = dumps_front format parts ++ dumps_foot (layout_of format) totals; notes = []; totals = totals }
+-- The picture stands in the place of the image, and there are no notes: of the files beside the format's tracks it has the numbers alone.
+abbrev pub picture_of : Format → List TrackPart → (beside : List ℕ) → DumpTotals → DumpsRead
+picture_of format parts beside totals = record { image = dumps_front format parts ++ dumps_foot (layout_of format) totals; notes = []; totals = totals }
 
 -- what the dumps come to in a picture, by the files that are told
 abbrev pub IsDumpsDrawn : DumpDisk → Option (List File) → DumpsRead → Type 0
-IsDumpsDrawn disk told o = IsReadBy dumps_part (picture_of disk.format) disk told o
+IsDumpsDrawn disk told o = IsReadBy dumps_part no_lines (picture_of disk.format) disk told o
 
 -- all of it was written
 pub record DrewDumps (disk : DumpDisk) (start now : ShelfNow) (picture picture' : Option (List ℕ)) (totals : DumpTotals) : Type 0 where
   pub outcome : DumpsRead
   pub is : IsDumpsDrawn disk start.told.files outcome
-  pub shelf : FilesFailed disk start now is.streams
+  pub shelf : FilesFailed disk start now is.streams is.beside.came
   pub grew : Appends picture picture' outcome.image
   pub totals_are : totals ≡ outcome.totals
 
--- what stands in a picture after some of its tracks: nothing yet, or the foot where these are all
-abbrev pub IsDumpsEnding : DumpDisk → Option (List File) → List Seen → List TrackPart → List ℕ → Type 0
-IsDumpsEnding disk told streams parts ending =
-    (ending ≡ [])
-    ⊎ ((others : List (List NotedOther)) × AreAllBy dumps_part disk told streams parts others × (ending ≡ dumps_foot (layout_of disk.format) (numbers_of streams parts others)))
+-- behind all tracks of the format stands the foot, which counts what came of the files beside them too
+pub record HasFoot (disk : DumpDisk) (told : Option (List File)) (streams : List Seen) (parts : List TrackPart) (came : List Seen) (ending : List ℕ) : Type 0 where
+  pub others : List (List NotedOther)
+  pub all : AreAllBy dumps_part disk told streams parts others
+  pub beside : LookedBeside disk told
+  pub looked : LookedAsAsked (totals_over parts) beside
+  pub came_is : came ≡ beside.came
+  pub is : ending ≡ dumps_foot (layout_of disk.format) (numbers_of streams parts others came beside.others)
+
+-- what stands in a picture after some of its tracks: nothing yet, and nothing came beside them; or the foot where these are all
+abbrev pub IsDumpsEnding : DumpDisk → Option (List File) → List Seen → List TrackPart → List Seen → List ℕ → Type 0
+IsDumpsEnding disk told streams parts came ending = ((ending ≡ []) × (came ≡ [])) ⊎ HasFoot disk told streams parts came ending
 
 -- The sink failed: a part of a picture of the first tracks was written, which is shorter than it.
 pub record StoppedInDumps (disk : DumpDisk) (start now : ShelfNow) (picture picture' : Option (List ℕ)) : Type 0 where
@@ -65,9 +73,10 @@ pub record StoppedInDumps (disk : DumpDisk) (start now : ShelfNow) (picture pict
   pub parts : List TrackPart
   pub few : length parts ≤ length (tracks disk.format)
   pub read : AreTracksBy dumps_part disk start.told.files streams parts
-  pub shelf : FilesFailed disk start now streams
+  pub beside : List Seen
   pub ending : List ℕ
-  pub ends : IsDumpsEnding disk start.told.files streams parts ending
+  pub ends : IsDumpsEnding disk start.told.files streams parts beside ending
+  pub shelf : FilesFailed disk start now streams beside
   pub grew : AppendsPart picture picture' (dumps_front disk.format parts ++ ending)
 
 -- What an answer says. A dump without files is told before anything is read or written; a file that fails ends nothing.
@@ -90,6 +99,7 @@ pub record ShowsReport (disk : DumpDisk) (told : Option (List File)) (o : DumpsR
   pub report : DumpsRead
   pub read : IsDumpsRead disk told report
   pub streams : read.streams ≡ is.streams
+  pub beside : read.beside.came ≡ is.beside.came
   pub totals : report.totals ≡ o.totals
   pub tracks : (n : ℕ) → n < length is.parts → ShowsTrack disk.format n (part_at is.parts n) (part_at read.parts n)
 

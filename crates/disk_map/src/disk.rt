@@ -7,7 +7,7 @@ ghost use Rattle.flux_engine.specs.Answers.{Stayed};
 ghost use Rattle.flux_engine.specs.Blamed.{plan_blame};
 ghost use Rattle.flux_engine.specs.Needed.{EndsInStreams, ReadsWhereOpen};
 ghost use Rattle.flux_engine.specs.Room.{fresh};
-ghost use Rattle.kryo_stream.specs.Reads.{source_at};
+ghost use Rattle.kryo_stream.specs.Reads.{reads_at};
 ghost use Rattle.disk_map.specs.Answers.{IsWholeOrRefused, MapsDisk, SaysOfMapInput};
 ghost use Rattle.disk_map.specs.Places.{layout_of};
 ghost use Rattle.disk_map.specs.Progress.{EndsEarly};
@@ -40,7 +40,7 @@ pub fn map_disk<S: Source, P: Sink>(
     ensures told { (bytes : List ℕ) → S.left source.old ≡ Some bytes → SaysOfMapInput room.old.format bytes (S.left source.new) (P.written picture.old) (P.written picture.new) result }
 
     // A source that tells its bytes is read only where those that it gave before end inside a stream.
-    ensures needed { (bytes : List ℕ) → S.left source.old ≡ Some bytes → ReadsWhereOpen (EndsInStreams room.old.format) (source_at S.left S.given S.faults source.old) (source_at S.left S.given S.faults source.new) }
+    ensures needed { (bytes : List ℕ) → S.left source.old ≡ Some bytes → ReadsWhereOpen (EndsInStreams room.old.format) (reads_at S.Source source.old) (reads_at S.Source source.new) }
 
     ensures blames { CountsBy (plan_blame result)
         (three_counts (counts_of S.faults S.failed source.old) (counts_of P.faults P.failed picture.old) no_counts)

@@ -16,15 +16,15 @@ use crate::field_writer::FieldWriter;
 use crate::layout::Layout;
 use crate::text::write_text;
 use crate::texts::{counts_text, foot_text};
-use dump_reading::{DumpTotals, Dumps, DumpsFault, find_empty, read_dump_tracks};
+use dump_reading::{DumpTotals, Dumps, DumpsFault, Looks, Unsaid, find_empty, read_dump_tracks};
 use flux_base::{CountingSink, Failed, Sink};
 use flux_engine::{Clocks, DiskRoom, room_format};
 use sector_report::{Naming, total_line, unread_line};
 use track_shelf::Shelf;
 
 /// Draws a disk that is read of its dumps, as `read_dumps` reads it: the picture of the verdicts that its report has, with the lines of this
-/// report as the titles of the fields. The foot counts the streams that were passed over and the names of other headers. The fields of
-/// each track are written as soon as it is read. No answer is for want of memory.
+/// report as the titles of the fields. The foot counts the streams that were passed over and the names of other headers, also those of the files
+/// of other tracks, which have no field. The fields of each track are written as soon as it is read. No answer is for want of memory.
 ///
 /// A dump that has the file of none of the tracks is refused before anything is written. A file that fails is passed over, and counted. After a
 /// fault of the sink nothing more is read or written. No notes are written, so `NotesFault` does not come.
@@ -58,8 +58,10 @@ pub fn map_dumps<H: Shelf, P: Sink>(
     let mut nothing = CountingSink::new();
     let totals = match read_dump_tracks(
         Clocks::Both,
+        Looks::Always,
         dumps,
         &writer,
+        &Unsaid,
         room,
         shelf,
         picture,

@@ -3,7 +3,7 @@ use Rattle.std.specs.Io.KnownBytes.{Appends}
 use Rattle.flux_base.specs.lemmas.Blaming.{CountsBy-image, CountsBy-then}
 use Rattle.flux_base.specs.Moments.{moment}
 use Rattle.flux_base.specs.Outside.{AppendsPart}
-use Rattle.kryo_stream.specs.Reads.{source_at}
+use Rattle.kryo_stream.specs.Reads.{reads_at}
 use Rattle.sector_images.specs.declared.format.Format.{Format}
 use Rattle.flux_engine.specs.lemmas.Blamed.{CountsBy-unnoted}
 use Rattle.flux_engine.specs.Needed.{EndsInStreams}
@@ -44,7 +44,7 @@ returns-in-Err-decode_planned_tracks-clause-told g c = λ bytes told.
 pub returns-in-Err-decode_planned_tracks-clause-needed : goal.returns-in-Err-decode_planned_tracks-clause-needed
 returns-in-Err-decode_planned_tracks-clause-needed g c = λ bytes told.
     reads_weaken (EndsInPlan decoding c.args.room.now.format) (EndsInStreams c.args.room.now.format)
-    (source_at g.S.Source.left g.S.Source.given g.S.Source.faults c.args.source.now) (source_at g.S.Source.left g.S.Source.given g.S.Source.faults c.decode_planned_tracks.new.source)
+    (reads_at g.S.Source c.args.source.now) (reads_at g.S.Source c.decode_planned_tracks.new.source)
     (ends_in_streams c.args.room.now.format) (c.decode_planned_tracks.ensures.needed bytes told)
 
 pub returns-in-Ok-write_text-clause-mapped : goal.returns-in-Ok-write_text-clause-mapped
@@ -61,7 +61,7 @@ returns-in-Ok-write_text-clause-told g c = λ bytes told.
 pub returns-in-Ok-write_text-clause-needed : goal.returns-in-Ok-write_text-clause-needed
 returns-in-Ok-write_text-clause-needed g c = λ bytes told.
     reads_weaken (EndsInPlan decoding c.args.room.now.format) (EndsInStreams c.args.room.now.format)
-    (source_at g.S.Source.left g.S.Source.given g.S.Source.faults c.args.source.now) (source_at g.S.Source.left g.S.Source.given g.S.Source.faults c.decode_planned_tracks.new.source)
+    (reads_at g.S.Source c.args.source.now) (reads_at g.S.Source c.decode_planned_tracks.new.source)
     (ends_in_streams c.args.room.now.format) (c.decode_planned_tracks.ensures.needed bytes told)
 
 pub returns-in-Err-write_text-clause-mapped : goal.returns-in-Err-write_text-clause-mapped
@@ -78,7 +78,7 @@ returns-in-Err-write_text-clause-told g c = λ bytes told.
 pub returns-in-Err-write_text-clause-needed : goal.returns-in-Err-write_text-clause-needed
 returns-in-Err-write_text-clause-needed g c = λ bytes told.
     reads_weaken (EndsInPlan decoding c.args.room.now.format) (EndsInStreams c.args.room.now.format)
-    (source_at g.S.Source.left g.S.Source.given g.S.Source.faults c.args.source.now) (source_at g.S.Source.left g.S.Source.given g.S.Source.faults c.decode_planned_tracks.new.source)
+    (reads_at g.S.Source c.args.source.now) (reads_at g.S.Source c.decode_planned_tracks.new.source)
     (ends_in_streams c.args.room.now.format) (c.decode_planned_tracks.ensures.needed bytes told)
 
 pub returns-in-Err-clause-blames : goal.returns-in-Err-clause-blames
