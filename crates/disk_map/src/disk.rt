@@ -1,8 +1,8 @@
 ghost use Rattle.std.specs.Prelude.{◌≡◌, ◌+◌, ◌≤◌, ℕ, List, Some, flat_map, length};
 ghost use Rattle.std.specs.List.{range_with_len};
 ghost use Rattle.flux_base.specs.Blames.{CountsBy, no_counts, three_counts};
-ghost use Rattle.flux_base.specs.Counts.{counts_of};
-ghost use Rattle.flux_base.specs.Moments.{Puts, moment};
+ghost use Rattle.flux_base.specs.Moments.{Puts};
+ghost use Rattle.flux_base.specs.World.{sink_at, source_counts, sink_counts};
 ghost use Rattle.flux_engine.specs.Answers.{Stayed};
 ghost use Rattle.flux_engine.specs.Blamed.{plan_blame};
 ghost use Rattle.flux_engine.specs.Needed.{EndsInStreams, ReadsWhereOpen};
@@ -43,8 +43,8 @@ pub fn map_disk<S: Source, P: Sink>(
     ensures needed { (bytes : List ℕ) → S.left source.old ≡ Some bytes → ReadsWhereOpen (EndsInStreams room.old.format) (reads_at S.Source source.old) (reads_at S.Source source.new) }
 
     ensures blames { CountsBy (plan_blame result)
-        (three_counts (counts_of S.faults S.failed source.old) (counts_of P.faults P.failed picture.old) no_counts)
-        (three_counts (counts_of S.faults S.failed source.new) (counts_of P.faults P.failed picture.new) no_counts) }
+        (three_counts (source_counts S.Source source.old) (sink_counts P.Sink picture.old) no_counts)
+        (three_counts (source_counts S.Source source.new) (sink_counts P.Sink picture.new) no_counts) }
 
     // Over a source and a sink that do not fail there is no other answer.
     ensures complete { Stayed (S.faults source.old) (S.faults source.new) → Stayed (P.faults picture.old) (P.faults picture.new) → IsWholeOrRefused result }
@@ -90,7 +90,7 @@ fn end_early<P: Sink>(
     fault: PlanFault,
     picture: &mut P,
 ) -> PlanFault
-    ensures { EndsEarly format totals.now (moment P.written P.faults P.failed picture.old) (moment P.written P.faults P.failed picture.new) fault result }
+    ensures { EndsEarly format totals.now (sink_at P.Sink picture.old) (sink_at P.Sink picture.new) fault result }
 {
     match fault {
         PlanFault::Refused {
@@ -119,7 +119,7 @@ pub(crate) fn write_top<P: Sink>(
     picture: &mut P,
 ) -> Result<(), Failed>
     requires { length command.now ≤ 8 }
-    ensures { Puts (moment P.written P.faults P.failed picture.old) (moment P.written P.faults P.failed picture.new) (top_by command.now format) result }
+    ensures { Puts (sink_at P.Sink picture.old) (sink_at P.Sink picture.new) (top_by command.now format) result }
 {
     let layout = Layout::of_format(format);
     match write_text(picture, &begin_text(command, format, layout)) {
@@ -130,7 +130,7 @@ pub(crate) fn write_top<P: Sink>(
 
 /// Writes the numbers at the sides, and the empty grid of each head.
 fn write_grids<P: Sink>(layout: Layout, picture: &mut P) -> Result<(), Failed>
-    ensures { Puts (moment P.written P.faults P.failed picture.old) (moment P.written P.faults P.failed picture.new) (grids_text layout) result }
+    ensures { Puts (sink_at P.Sink picture.old) (sink_at P.Sink picture.new) (grids_text layout) result }
 {
     match write_whole(picture, labels().as_bytes()) {
         Ok(()) => write_each_grid(layout, picture),
@@ -140,7 +140,7 @@ fn write_grids<P: Sink>(layout: Layout, picture: &mut P) -> Result<(), Failed>
 
 /// Writes the empty grid of each head.
 fn write_each_grid<P: Sink>(layout: Layout, picture: &mut P) -> Result<(), Failed>
-    ensures { Puts (moment P.written P.faults P.failed picture.old) (moment P.written P.faults P.failed picture.new) (flat_map (grid_text layout) (range_with_len 0 (layout.last.head + 1))) result }
+    ensures { Puts (sink_at P.Sink picture.old) (sink_at P.Sink picture.new) (flat_map (grid_text layout) (range_with_len 0 (layout.last.head + 1))) result }
 {
     for head in 0..u32::from(layout.last.head) + 1 {
         match write_text(picture, &grid_text(layout, head)) {

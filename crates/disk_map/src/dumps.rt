@@ -2,14 +2,13 @@
 
 ghost use Rattle.std.specs.Prelude.{◌≡◌, ◌≤◌, length};
 ghost use Rattle.flux_base.specs.Blames.{CountsBy, no_counts, three_counts};
-ghost use Rattle.flux_base.specs.Counts.{counts_of};
-ghost use Rattle.flux_base.specs.Moments.{Puts, moment};
+ghost use Rattle.flux_base.specs.Moments.{Puts};
+ghost use Rattle.flux_base.specs.World.{sink_at, sink_counts};
 ghost use Rattle.flux_engine.specs.Room.{fresh};
 ghost use Rattle.dump_reading.specs.Blamed.{dumps_blame};
-ghost use Rattle.dump_reading.specs.Files.{shelf_now};
+ghost use Rattle.dump_reading.specs.Files.{shelf_at};
 ghost use Rattle.dump_reading.specs.Outcomes.{disk_of};
 ghost use Rattle.disk_map.specs.Dumps.{SaysOfDrawing, dumps_foot};
-ghost use Rattle.track_shelf.specs.Told.{told_by};
 
 use crate::disk::write_top;
 use crate::field_writer::FieldWriter;
@@ -36,12 +35,12 @@ pub fn map_dumps<H: Shelf, P: Sink>(
 ) -> Result<DumpTotals, DumpsFault>
     requires fresh { room.old ≡ fresh room.old.format }
     requires few { length dumps.now.names.now ≤ 16 }
-    ensures says { SaysOfDrawing (disk_of dumps.now room.old.format) (shelf_now (told_by H.files H.left H.given H.handled shelf.old) (counts_of H.faults H.failed shelf.old)) (shelf_now (told_by H.files H.left H.given H.handled shelf.new) (counts_of H.faults H.failed shelf.new)) (P.written picture.old) (P.written picture.new) result }
+    ensures says { SaysOfDrawing (disk_of dumps.now room.old.format) (shelf_at H.Source H.Shelf.own shelf.old) (shelf_at H.Source H.Shelf.own shelf.new) (P.written picture.old) (P.written picture.new) result }
 
     // What the shelf did is in what came of it.
     ensures blames { CountsBy (dumps_blame result)
-        (three_counts no_counts (counts_of P.faults P.failed picture.old) no_counts)
-        (three_counts no_counts (counts_of P.faults P.failed picture.new) no_counts) }
+        (three_counts no_counts (sink_counts P.Sink picture.old) no_counts)
+        (three_counts no_counts (sink_counts P.Sink picture.new) no_counts) }
 {
     let format = room_format(room);
     match find_empty(dumps, format, shelf) {
@@ -78,7 +77,7 @@ pub fn map_dumps<H: Shelf, P: Sink>(
 
 /// Writes what stands behind the fields: what was passed over and what else was told, the legend, and the totals.
 fn write_foot<P: Sink>(layout: Layout, totals: &DumpTotals, picture: &mut P) -> Result<(), Failed>
-    ensures { Puts (moment P.written P.faults P.failed picture.old) (moment P.written P.faults P.failed picture.new) (dumps_foot layout totals.now) result }
+    ensures { Puts (sink_at P.Sink picture.old) (sink_at P.Sink picture.new) (dumps_foot layout totals.now) result }
 {
     let counts = unread_line(totals.unread, totals.others, totals.whole);
     match write_text(picture, &counts_text(layout, &counts)) {

@@ -2,8 +2,9 @@
 
 ghost use Rattle.std.specs.Prelude.{◌≡◌, ◌≤◌, List, map, is_err, OnErr, OnOk, IfOk};
 ghost use Rattle.std.specs.Io.KnownBytes.{Appends};
-ghost use Rattle.flux_base.specs.Counts.{Counts, counts_of};
+ghost use Rattle.flux_base.specs.Counts.{Counts};
 ghost use Rattle.flux_base.specs.Outside.{AppendsPart};
+ghost use Rattle.flux_base.specs.World.{sink_counts};
 ghost use Rattle.flux_engine.specs.Recordings.{sectors_of as sectors_in};
 ghost use Rattle.flux_engine.specs.Tracks.{numbers, totals_of};
 ghost use Rattle.flux_engine.specs.Writing.{IsSum, Knows};
@@ -60,7 +61,7 @@ fn write_fields<P: Sink>(
     ensures counted { IfOk result (λ totals. IsSum totals × (totals.sectors ≤ 100)) }
     ensures totals { IfOk result (λ totals. (readings : List NotedReading) → StandsFor book.now readings → totals ≡ totals_of (map (verdict_over readings) (numbers (sectors_in format track)))) }
     ensures err { OnErr result ((readings : List NotedReading) → StandsFor book.now readings → AppendsPart (P.written picture.old) (P.written picture.new) (fields_by naming format track readings)) }
-    ensures counts { Counts (is_err result) (counts_of P.faults P.failed picture.old) (counts_of P.faults P.failed picture.new) }
+    ensures counts { Counts (is_err result) (sink_counts P.Sink picture.old) (sink_counts P.Sink picture.new) }
 {
     tracks_keep_bounds();
     let layout = Layout::of_format(format);

@@ -2,7 +2,8 @@
 
 ghost use Rattle.std.specs.Prelude.{◌≡◌, ◌+◌, ◌≤◌, ◌++◌, length, decimal};
 ghost use Rattle.arrayvec.specs.ArrayString.{array_string_len};
-ghost use Rattle.flux_base.specs.Moments.{Puts, moment};
+ghost use Rattle.flux_base.specs.Moments.{Puts};
+ghost use Rattle.flux_base.specs.World.{sink_at};
 
 use arrayvec::ArrayString;
 use flux_base::{Failed, Sink, write_whole};
@@ -13,7 +14,7 @@ pub type Text = ArrayString<1200>;
 
 /// Hands a piece to a sink. After `Failed` a part of it was written.
 pub(crate) fn write_text<W: Sink>(sink: &mut W, text: &Text) -> Result<(), Failed>
-    ensures { Puts (moment W.written W.faults W.failed sink.old) (moment W.written W.faults W.failed sink.new) text.now.bytes result }
+    ensures { Puts (sink_at W.Sink sink.old) (sink_at W.Sink sink.new) text.now.bytes result }
 {
     write_whole(sink, text.as_str().as_bytes())
 }

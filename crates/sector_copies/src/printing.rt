@@ -2,7 +2,8 @@
 
 ghost use Rattle.std.specs.Prelude.{◌≤◌, ◌<◌, ◌++◌, length};
 ghost use Rattle.flux_base.specs.Bounds.{MOST_SECTOR_BYTES};
-ghost use Rattle.flux_base.specs.Moments.{Puts, moment};
+ghost use Rattle.flux_base.specs.Moments.{Puts};
+ghost use Rattle.flux_base.specs.World.{sink_at};
 ghost use Rattle.sector_copies.specs.Texts.{copies_text, copy_text, head_text, rows_text};
 
 use crate::copies::SectorCopy;
@@ -12,7 +13,7 @@ use sector_report::write_line;
 
 /// Writes each content with its number, as `copy_text` says.
 pub(crate) fn write_copies<W: Sink>(copies: &[SectorCopy], sink: &mut W) -> Result<(), Failed>
-    ensures { Puts (moment W.written W.faults W.failed sink.old) (moment W.written W.faults W.failed sink.new) (copies_text copies.now) result }
+    ensures { Puts (sink_at W.Sink sink.old) (sink_at W.Sink sink.new) (copies_text copies.now) result }
 {
     for number in 0..copies.len() {
         match write_copy_at(copies, number, sink) {
@@ -26,7 +27,7 @@ pub(crate) fn write_copies<W: Sink>(copies: &[SectorCopy], sink: &mut W) -> Resu
 /// Writes the content of this number.
 fn write_copy_at<W: Sink>(copies: &[SectorCopy], number: usize, sink: &mut W) -> Result<(), Failed>
     requires { number < length copies.now }
-    ensures { Puts (moment W.written W.faults W.failed sink.old) (moment W.written W.faults W.failed sink.new) (copy_text copies.now number) result }
+    ensures { Puts (sink_at W.Sink sink.old) (sink_at W.Sink sink.new) (copy_text copies.now number) result }
 {
     write_copy(&copies[0], number, &copies[number], sink)
 }
@@ -38,7 +39,7 @@ fn write_copy<W: Sink>(
     copy: &SectorCopy,
     sink: &mut W,
 ) -> Result<(), Failed>
-    ensures { Puts (moment W.written W.faults W.failed sink.old) (moment W.written W.faults W.failed sink.new) (head_text number copy.now.readings copy.now.first ++ rows_text first.now.bytes copy.now.bytes) result }
+    ensures { Puts (sink_at W.Sink sink.old) (sink_at W.Sink sink.new) (head_text number copy.now.readings copy.now.first ++ rows_text first.now.bytes copy.now.bytes) result }
 {
     match write_line(sink, &head_line(number, copy.readings(), copy.first())) {
         Ok(()) => write_rows(first.bytes(), copy.bytes(), sink),
@@ -49,7 +50,7 @@ fn write_copy<W: Sink>(
 /// Writes the rows of a content against those of the first.
 fn write_rows<W: Sink>(first: &[u8], bytes: &[u8], sink: &mut W) -> Result<(), Failed>
     requires { length bytes.now ≤ MOST_SECTOR_BYTES }
-    ensures { Puts (moment W.written W.faults W.failed sink.old) (moment W.written W.faults W.failed sink.new) (rows_text first.now bytes.now) result }
+    ensures { Puts (sink_at W.Sink sink.old) (sink_at W.Sink sink.new) (rows_text first.now bytes.now) result }
 {
     for number in 0..(bytes.len() + 15) / 16 {
         match write_whole(sink, row_line(first, bytes, number).as_slice()) {

@@ -1,16 +1,14 @@
 //! One sector of a disk that is read of its dumps.
 
 ghost use Rattle.std.specs.Prelude.{◌≡◌, ◌≤◌, ◌<◌, ◌+◌, ◌*◌, List, [], length, IfOk};
-ghost use Rattle.dump_reading.specs.Files.{shelf_now};
+ghost use Rattle.dump_reading.specs.Files.{shelf_at};
 ghost use Rattle.dump_reading.specs.Outcomes.{disk_of};
-ghost use Rattle.flux_base.specs.Counts.{counts_of};
 ghost use Rattle.flux_engine.specs.Recordings.{track_at};
 ghost use Rattle.flux_engine.specs.Room.{MOST_READINGS};
 ghost use Rattle.sector_copies.specs.Notes.{SectorStandsFor};
 ghost use Rattle.sector_copies.specs.TrackReadings.{HasReadNext, HasReadTo, IsEmptyRoom, IsSameRoom};
 ghost use Rattle.sector_images.specs.Formats.{row};
 ghost use Rattle.sector_images.specs.Places.{IsSector, sector_place, tracks};
-ghost use Rattle.track_shelf.specs.Told.{told_by};
 ghost use Rattle.turn_merge.specs.Book.{MOST_NOTES};
 ghost use Rattle.turn_merge.specs.Readings.{NotedReading, verdict as verdict_over};
 
@@ -157,7 +155,7 @@ pub fn read_sector<H: Shelf>(dumps: &Dumps, room: &mut SectorRoom, shelf: &mut H
     requires none { SectorStandsFor room.old.known [] }
     requires no_passed { room.old.passed ≡ [] }
     requires few { length dumps.now.names.now ≤ 16 }
-    ensures read { HasReadTo (disk_of dumps.now room.old.format) room.old.number room.old.known.sector (length dumps.now.names.now) (shelf_now (told_by H.files H.left H.given H.handled shelf.old) (counts_of H.faults H.failed shelf.old)) (shelf_now (told_by H.files H.left H.given H.handled shelf.new) (counts_of H.faults H.failed shelf.new)) room.new.known room.new.passed }
+    ensures read { HasReadTo (disk_of dumps.now room.old.format) room.old.number room.old.known.sector (length dumps.now.names.now) (shelf_at H.Source H.Shelf.own shelf.old) (shelf_at H.Source H.Shelf.own shelf.new) room.new.known room.new.passed }
     ensures same { IsSameRoom room.old room.new }
 {
     for capture in 0..dumps.names.len() {
@@ -170,7 +168,7 @@ fn read_next<H: Shelf>(dumps: &Dumps, capture: u8, room: &mut SectorRoom, shelf:
     requires low { capture < length dumps.now.names.now }
     requires few { room.old.known.book.notes + 2 * MOST_READINGS ≤ MOST_NOTES }
     requires room { length room.old.passed < 16 }
-    ensures read { HasReadNext (disk_of dumps.now room.old.format) room.old.number capture (shelf_now (told_by H.files H.left H.given H.handled shelf.old) (counts_of H.faults H.failed shelf.old)) (shelf_now (told_by H.files H.left H.given H.handled shelf.new) (counts_of H.faults H.failed shelf.new)) room.old room.new }
+    ensures read { HasReadNext (disk_of dumps.now room.old.format) room.old.number capture (shelf_at H.Source H.Shelf.own shelf.old) (shelf_at H.Source H.Shelf.own shelf.new) room.old room.new }
     ensures same { IsSameRoom room.old room.new }
     ensures few { room.new.known.book.notes ≤ room.old.known.book.notes + 2 * MOST_READINGS }
     ensures passed { length room.new.passed ≤ length room.old.passed + 1 }

@@ -2,18 +2,17 @@
 
 ghost use Rattle.std.specs.Prelude.{◌≡◌, ◌≤◌, ◌++◌, [], length};
 ghost use Rattle.dump_reading.specs.Blamed.{dumps_blame};
-ghost use Rattle.dump_reading.specs.Files.{shelf_now};
+ghost use Rattle.dump_reading.specs.Files.{shelf_at};
 ghost use Rattle.dump_reading.specs.Outcomes.{disk_of};
 ghost use Rattle.dump_reading.specs.Reports.{passed_lines};
-ghost use Rattle.flux_base.specs.Blames.{CountsBy, no_counts, three_counts};
-ghost use Rattle.flux_base.specs.Counts.{counts_of};
-ghost use Rattle.flux_base.specs.Moments.{Puts, moment};
+ghost use Rattle.flux_base.specs.Blames.{CountsBy};
+ghost use Rattle.flux_base.specs.Moments.{Puts};
+ghost use Rattle.flux_base.specs.World.{sink_at, sinks_counts};
 ghost use Rattle.flux_engine.specs.Counts.{lost_in};
 ghost use Rattle.flux_engine.specs.Recordings.{track_at};
 ghost use Rattle.sector_copies.specs.Notes.{SectorStandsFor};
 ghost use Rattle.sector_copies.specs.Shown.{SaysOfSector, image_shown, notes_shown};
 ghost use Rattle.sector_copies.specs.Texts.{copies_text, copy_at, line_text, sector_text};
-ghost use Rattle.track_shelf.specs.Told.{told_by};
 
 use crate::copies::SectorCopy;
 use crate::lines::offset_line;
@@ -43,12 +42,12 @@ pub fn show_sector<H: Shelf, W: Sink, N: Sink>(
     requires none { SectorStandsFor room.old.known [] }
     requires no_passed { room.old.passed ≡ [] }
     requires few { length dumps.now.names.now ≤ 16 }
-    ensures says { SaysOfSector (record { disk = disk_of dumps.now room.old.format; number = room.old.number; sector = room.old.known.sector; alone = alone }) (shelf_now (told_by H.files H.left H.given H.handled shelf.old) (counts_of H.faults H.failed shelf.old)) (shelf_now (told_by H.files H.left H.given H.handled shelf.new) (counts_of H.faults H.failed shelf.new)) (W.written image.old) (W.written image.new) (N.written notes.old) (N.written notes.new) result }
+    ensures says { SaysOfSector (record { disk = disk_of dumps.now room.old.format; number = room.old.number; sector = room.old.known.sector; alone = alone }) (shelf_at H.Source H.Shelf.own shelf.old) (shelf_at H.Source H.Shelf.own shelf.new) (W.written image.old) (W.written image.new) (N.written notes.old) (N.written notes.new) result }
 
     // What the shelf did is in what came of it.
     ensures blames { CountsBy (dumps_blame result)
-        (three_counts no_counts (counts_of W.faults W.failed image.old) (counts_of N.faults N.failed notes.old))
-        (three_counts no_counts (counts_of W.faults W.failed image.new) (counts_of N.faults N.failed notes.new)) }
+        (sinks_counts W.Sink N.Sink image.old notes.old)
+        (sinks_counts W.Sink N.Sink image.new notes.new) }
 {
     match find_empty(dumps, room.format(), shelf) {
         None => {}
@@ -83,7 +82,7 @@ fn write_notes<N: Sink>(
     outcome: &Verdict,
     notes: &mut N,
 ) -> Result<(), Failed>
-    ensures { Puts (moment N.written N.faults N.failed notes.old) (moment N.written N.faults N.failed notes.new)
+    ensures { Puts (sink_at N.Sink notes.old) (sink_at N.Sink notes.new)
         (passed_lines (track_at room.now.format room.now.number) room.now.passed ++ notes_shown alone room.now.format room.now.number room.now.known.sector outcome.now) result }
 {
     match write_passed(room.track(), room.passed(), notes) {
@@ -99,7 +98,7 @@ fn write_line_alone<N: Sink>(
     outcome: &Verdict,
     notes: &mut N,
 ) -> Result<(), Failed>
-    ensures { Puts (moment N.written N.faults N.failed notes.old) (moment N.written N.faults N.failed notes.new) (notes_shown alone room.now.format room.now.number room.now.known.sector outcome.now) result }
+    ensures { Puts (sink_at N.Sink notes.old) (sink_at N.Sink notes.new) (notes_shown alone room.now.format room.now.number room.now.known.sector outcome.now) result }
 {
     match alone {
         None => write_whole(notes, &[]),
@@ -114,7 +113,7 @@ fn write_image<W: Sink>(
     outcome: &Verdict,
     image: &mut W,
 ) -> Result<(), Failed>
-    ensures { Puts (moment W.written W.faults W.failed image.old) (moment W.written W.faults W.failed image.new) (image_shown alone room.now.format room.now.number room.now.known.sector outcome.now room.now.known.copies) result }
+    ensures { Puts (sink_at W.Sink image.old) (sink_at W.Sink image.new) (image_shown alone room.now.format room.now.number room.now.known.sector outcome.now room.now.known.copies) result }
 {
     match alone {
         None => write_all(room, outcome, image),
@@ -124,7 +123,7 @@ fn write_image<W: Sink>(
 
 /// Writes where the sector's bytes stand in the image, all contents, and the sector's line.
 fn write_all<W: Sink>(room: &SectorRoom, outcome: &Verdict, image: &mut W) -> Result<(), Failed>
-    ensures { Puts (moment W.written W.faults W.failed image.old) (moment W.written W.faults W.failed image.new) (sector_text room.now.format room.now.number room.now.known.sector outcome.now room.now.known.copies) result }
+    ensures { Puts (sink_at W.Sink image.old) (sink_at W.Sink image.new) (sector_text room.now.format room.now.number room.now.known.sector outcome.now room.now.known.copies) result }
 {
     match write_line(image, &offset_line(room.image_place(), room.size())) {
         Ok(()) => write_copies_and_line(room, outcome, image),
@@ -138,7 +137,7 @@ fn write_copies_and_line<W: Sink>(
     outcome: &Verdict,
     image: &mut W,
 ) -> Result<(), Failed>
-    ensures { Puts (moment W.written W.faults W.failed image.old) (moment W.written W.faults W.failed image.new)
+    ensures { Puts (sink_at W.Sink image.old) (sink_at W.Sink image.new)
         (copies_text room.now.known.copies ++ line_text room.now.format room.now.number room.now.known.sector outcome.now) result }
 {
     match write_copies(room.copies(), image) {
@@ -149,7 +148,7 @@ fn write_copies_and_line<W: Sink>(
 
 /// Writes the bytes of one content, if there is such a one.
 fn write_one<W: Sink>(copies: &[SectorCopy], number: u32, image: &mut W) -> Result<(), Failed>
-    ensures { Puts (moment W.written W.faults W.failed image.old) (moment W.written W.faults W.failed image.new) (copy_at copies.now number).bytes result }
+    ensures { Puts (sink_at W.Sink image.old) (sink_at W.Sink image.new) (copy_at copies.now number).bytes result }
 {
     match copies.get(number as usize) {
         Some(copy) => write_whole(image, copy.bytes()),
@@ -163,7 +162,7 @@ fn write_sector_line<W: Sink>(
     outcome: &Verdict,
     sink: &mut W,
 ) -> Result<(), Failed>
-    ensures { Puts (moment W.written W.faults W.failed sink.old) (moment W.written W.faults W.failed sink.new) (line_text room.now.format room.now.number room.now.known.sector outcome.now) result }
+    ensures { Puts (sink_at W.Sink sink.old) (sink_at W.Sink sink.new) (line_text room.now.format room.now.number room.now.known.sector outcome.now) result }
 {
     let line = named_line(
         Naming::ByCaptureAndClock,

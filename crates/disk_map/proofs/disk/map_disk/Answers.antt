@@ -1,8 +1,8 @@
 use Rattle.std.proofs.Common.{true, false, refl, Ok, Err, subst}
 use Rattle.std.specs.Io.KnownBytes.{Appends}
 use Rattle.flux_base.specs.lemmas.Blaming.{CountsBy-image, CountsBy-then}
-use Rattle.flux_base.specs.Moments.{moment}
 use Rattle.flux_base.specs.Outside.{AppendsPart}
+use Rattle.flux_base.specs.World.{sink_at}
 use Rattle.kryo_stream.specs.Reads.{reads_at}
 use Rattle.sector_images.specs.declared.format.Format.{Format}
 use Rattle.flux_engine.specs.lemmas.Blamed.{CountsBy-unnoted}
@@ -30,8 +30,8 @@ returns-in-Err-clause-told g c = λ bytes told.
 pub returns-in-Err-decode_planned_tracks-clause-mapped : goal.returns-in-Err-decode_planned_tracks-clause-mapped
 returns-in-Err-decode_planned_tracks-clause-mapped g c =
     let e = c.in-Err-decode_planned_tracks.ensures in
-    let picture = moment g.P.Sink.written g.P.Sink.faults g.P.Sink.failed c.decode_planned_tracks.new.image in
-    let picture' = moment g.P.Sink.written g.P.Sink.faults g.P.Sink.failed c.end_early.new.picture in
+    let picture = sink_at g.P.Sink c.decode_planned_tracks.new.image in
+    let picture' = sink_at g.P.Sink c.end_early.new.picture in
     mapped_fault c.args.room.now.format _ _ _ (g.P.Sink.written c.write_top.new.picture) _ _ c.decode_planned_tracks.new.totals
     (subst (λ (f : Format). Appends (g.P.Sink.written c.args.picture.now) (g.P.Sink.written c.write_top.new.picture) (top_text f)) c.room_format-format.ensures c.in-Ok.ensures.ok)
     picture picture' c.in-Err-decode_planned_tracks.fault c.end_early.result e.err (no_notes_fault c.in-Err-decode_planned_tracks.fault (CountsBy-unnoted _ refl e.blames))
@@ -86,8 +86,8 @@ returns-in-Err-clause-blames g c = CountsBy-image _ _ true c.in-Err.ensures.coun
 
 pub returns-in-Err-decode_planned_tracks-clause-blames : goal.returns-in-Err-decode_planned_tracks-clause-blames
 returns-in-Err-decode_planned_tracks-clause-blames g c =
-    ended_blames (Unit {0}) Totals c.room_format-format.result c.decode_planned_tracks.new.totals _ _ _ (moment g.P.Sink.written g.P.Sink.faults g.P.Sink.failed c.decode_planned_tracks.new.image)
-    (moment g.P.Sink.written g.P.Sink.faults g.P.Sink.failed c.end_early.new.picture) c.in-Err-decode_planned_tracks.fault c.end_early.result c.end_early.ensures
+    ended_blames (Unit {0}) Totals c.room_format-format.result c.decode_planned_tracks.new.totals _ _ _ (sink_at g.P.Sink c.decode_planned_tracks.new.image)
+    (sink_at g.P.Sink c.end_early.new.picture) c.in-Err-decode_planned_tracks.fault c.end_early.result c.end_early.ensures
     (CountsBy-then _ (CountsBy-image _ _ false c.in-Ok.ensures.counts) (CountsBy-unnoted _ refl c.in-Err-decode_planned_tracks.ensures.blames))
 
 pub returns-in-Ok-write_text-clause-blames : goal.returns-in-Ok-write_text-clause-blames

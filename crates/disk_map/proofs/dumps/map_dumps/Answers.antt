@@ -1,9 +1,7 @@
 use Rattle.std.proofs.Common.{true, false, refl}
-use Rattle.flux_base.specs.Counts.{counts_of}
 use Rattle.flux_base.specs.lemmas.Blaming.{CountsBy-image, CountsBy-then}
 use Rattle.flux_engine.specs.lemmas.Blamed.{CountsBy-unnoted}
-use Rattle.track_shelf.specs.Told.{told_by}
-use Rattle.dump_reading.specs.Files.{shelf_now}
+use Rattle.dump_reading.specs.Files.{shelf_at}
 use Rattle.dump_reading.specs.Outcomes.{disk_of}
 use Rattle.disk_map.proofs.DrawnDumps.{drawn-all, drawn-stopped, no-foot, no-top}
 use Rattle.disk_map.proofs.dumps.map_dumps.Goals as goal
@@ -11,15 +9,15 @@ use Rattle.disk_map.proofs.dumps.map_dumps.Goals as goal
 pub returns-in-Err-clause-says : goal.returns-in-Err-clause-says
 returns-in-Err-clause-says g c =
     no-top (disk_of c.args.dumps.now c.args.room.now.format)
-    (shelf_now (told_by g.H.Shelf.files g.H.Source.left g.H.Source.given g.H.Shelf.handled c.args.shelf.now) (counts_of g.H.Source.faults g.H.Source.failed c.args.shelf.now)) (g.P.Sink.written c.args.picture.now) (g.P.Sink.written c.write_top.new.picture)
+    (shelf_at g.H.Source g.H.Shelf c.args.shelf.now) (g.P.Sink.written c.args.picture.now) (g.P.Sink.written c.write_top.new.picture)
     (rw c.room_format-format.ensures at c.in-Err.ensures.err)
 
 pub returns-in-Err-read_dump_tracks-clause-says : goal.returns-in-Err-read_dump_tracks-clause-says
 returns-in-Err-read_dump_tracks-clause-says g c =
     drawn-stopped (disk_of c.args.dumps.now c.args.room.now.format)
-    (shelf_now (told_by g.H.Shelf.files g.H.Source.left g.H.Source.given g.H.Shelf.handled c.args.shelf.now) (counts_of g.H.Source.faults g.H.Source.failed c.args.shelf.now))
+    (shelf_at g.H.Source g.H.Shelf c.args.shelf.now)
     (g.P.Sink.written c.args.picture.now)
-    (shelf_now (told_by g.H.Shelf.files g.H.Source.left g.H.Source.given g.H.Shelf.handled c.read_dump_tracks.new.shelf) (counts_of g.H.Source.faults g.H.Source.failed c.read_dump_tracks.new.shelf))
+    (shelf_at g.H.Source g.H.Shelf c.read_dump_tracks.new.shelf)
     (g.P.Sink.written c.write_top.new.picture) (rw c.room_format-format.ensures at c.in-Ok.ensures.ok) (g.P.Sink.written c.read_dump_tracks.new.image) _ _ c.in-Err-read_dump_tracks.fault _ _
     (CountsBy-unnoted _ refl c.in-Err-read_dump_tracks.ensures.blames) c.in-Err-read_dump_tracks.ensures.err
 
@@ -27,9 +25,9 @@ pub returns-in-Ok-write_foot-clause-says : goal.returns-in-Ok-write_foot-clause-
 returns-in-Ok-write_foot-clause-says g c = (
   rw (c.room_format-format.ensures, c.in-None.is) at c.find_empty.ensures.told,
   drawn-all (disk_of c.args.dumps.now c.args.room.now.format)
-      (shelf_now (told_by g.H.Shelf.files g.H.Source.left g.H.Source.given g.H.Shelf.handled c.args.shelf.now) (counts_of g.H.Source.faults g.H.Source.failed c.args.shelf.now))
+      (shelf_at g.H.Source g.H.Shelf c.args.shelf.now)
       (g.P.Sink.written c.args.picture.now)
-      (shelf_now (told_by g.H.Shelf.files g.H.Source.left g.H.Source.given g.H.Shelf.handled c.read_dump_tracks.new.shelf) (counts_of g.H.Source.faults g.H.Source.failed c.read_dump_tracks.new.shelf))
+      (shelf_at g.H.Source g.H.Shelf c.read_dump_tracks.new.shelf)
       (g.P.Sink.written c.write_top.new.picture) (rw c.room_format-format.ensures at c.in-Ok.ensures.ok) (g.P.Sink.written c.read_dump_tracks.new.image) _ _ (g.P.Sink.written c.write_foot.new.picture) c.in-Ok-read_dump_tracks.totals
       c.in-Ok-read_dump_tracks.ensures.ok (rw (c.of_format.ensures, c.room_format-format.ensures) at c.in-Ok-write_foot.ensures.ok),
 )
@@ -37,9 +35,9 @@ returns-in-Ok-write_foot-clause-says g c = (
 pub returns-in-Err-write_foot-clause-says : goal.returns-in-Err-write_foot-clause-says
 returns-in-Err-write_foot-clause-says g c =
     no-foot (disk_of c.args.dumps.now c.args.room.now.format)
-    (shelf_now (told_by g.H.Shelf.files g.H.Source.left g.H.Source.given g.H.Shelf.handled c.args.shelf.now) (counts_of g.H.Source.faults g.H.Source.failed c.args.shelf.now))
+    (shelf_at g.H.Source g.H.Shelf c.args.shelf.now)
     (g.P.Sink.written c.args.picture.now)
-    (shelf_now (told_by g.H.Shelf.files g.H.Source.left g.H.Source.given g.H.Shelf.handled c.read_dump_tracks.new.shelf) (counts_of g.H.Source.faults g.H.Source.failed c.read_dump_tracks.new.shelf))
+    (shelf_at g.H.Source g.H.Shelf c.read_dump_tracks.new.shelf)
     (g.P.Sink.written c.write_top.new.picture) (rw c.room_format-format.ensures at c.in-Ok.ensures.ok) (g.P.Sink.written c.read_dump_tracks.new.image) _ _ (g.P.Sink.written c.write_foot.new.picture) c.in-Ok-read_dump_tracks.totals
     c.in-Ok-read_dump_tracks.ensures.ok (rw (c.of_format.ensures, c.room_format-format.ensures) at c.in-Err-write_foot.ensures.err)
 

@@ -2,7 +2,8 @@ use Rattle.std.proofs.Common.{false, ◌≡◌, List}
 use Rattle.std.specs.Prelude.{map}
 use Rattle.std.specs.List.{flat_map, range_with_len}
 use Rattle.std.specs.Io.KnownBytes.{Appends}
-use Rattle.flux_base.specs.Counts.{Counts, counts_of}
+use Rattle.flux_base.specs.Counts.{Counts}
+use Rattle.flux_base.specs.World.{sink_counts}
 use Rattle.turn_merge.specs.Book.{StandsFor}
 use Rattle.turn_merge.specs.Readings.{NotedReading, verdict}
 use Rattle.flux_engine.specs.Tracks.{totals_of}
@@ -18,5 +19,5 @@ invariant-loop-index g l = record {
       → l.totals ≡ totals_of (map (verdict readings) (range_with_len l.sectors.first l.index));
   sum : IsSum l.totals;
   number : l.totals.sectors ≡ l.index;
-  counts : Counts false (counts_of g.P.Sink.faults g.P.Sink.failed l.initial.picture) (counts_of g.P.Sink.faults g.P.Sink.failed l.picture);
+  counts : Counts false (sink_counts g.P.Sink l.initial.picture) (sink_counts g.P.Sink l.picture);
 }

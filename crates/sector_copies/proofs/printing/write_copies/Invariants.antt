@@ -1,12 +1,13 @@
 use Rattle.std.proofs.Common.{false}
 use Rattle.std.specs.List.{flat_map, range_with_len}
 use Rattle.std.specs.Io.KnownBytes.{Appends}
-use Rattle.flux_base.specs.Counts.{Counts, counts_of}
+use Rattle.flux_base.specs.Counts.{Counts}
+use Rattle.flux_base.specs.World.{sink_counts}
 use Rattle.sector_copies.specs.Texts.{copy_text}
 use Rattle.sector_copies.proofs.printing.write_copies.Given as goal
 
 abbrev pub invariant-loop-number : goal.invariant-loop-number
 invariant-loop-number g l = record {
   grew : Appends (g.W.Sink.written l.initial.sink) (g.W.Sink.written l.sink) (flat_map (copy_text l.copies) (range_with_len 0 l.number));
-  counts : Counts false (counts_of g.W.Sink.faults g.W.Sink.failed l.initial.sink) (counts_of g.W.Sink.faults g.W.Sink.failed l.sink);
+  counts : Counts false (sink_counts g.W.Sink l.initial.sink) (sink_counts g.W.Sink l.sink);
 }

@@ -1,6 +1,5 @@
 use Rattle.std.specs.Prelude.{◌≡◌, ◌++◌}
 use Rattle.std.proofs.Common.{subst}
-use Rattle.flux_base.specs.Counts.{counts_of}
 use Rattle.flux_base.specs.declared.track.TrackId.{TrackId}
 use Rattle.index_turns.specs.Track.{TrackState}
 use Rattle.flux_engine.specs.Captured.{AreReadingsOf}
@@ -10,9 +9,8 @@ use Rattle.flux_engine.specs.Recordings.{track_at}
 use Rattle.flux_engine.specs.declared.plan.Clocks.TheVariants.{Both}
 use Rattle.flux_engine.specs.declared.plan.Rule.TheVariants.{Controller}
 use Rattle.flux_engine.specs.lemmas.TrackAt.{track_is}
-use Rattle.track_shelf.specs.Told.{told_by}
 use Rattle.dump_reading.specs.DumpStreams.{GaveOf}
-use Rattle.dump_reading.specs.Files.{ShelfNow, shelf_now}
+use Rattle.dump_reading.specs.Files.{ShelfNow, shelf_at}
 use Rattle.dump_reading.specs.Outcomes.{disk_of}
 use Rattle.sector_copies.specs.Notes.{NotesOf}
 use Rattle.sector_copies.specs.TrackReadings.{HasReadNext, SectorRoomState}
@@ -22,8 +20,8 @@ pub returns-clause-read : goal.returns-clause-read
 returns-clause-read g c =
     let inside = c.room.inside in
     let dumps = c.args.dumps.now in
-    let start : ShelfNow = shelf_now (told_by g.H.Shelf.files g.H.Source.left g.H.Source.given g.H.Shelf.handled c.args.shelf.now) (counts_of g.H.Source.faults g.H.Source.failed c.args.shelf.now) in
-    let now : ShelfNow = shelf_now (told_by g.H.Shelf.files g.H.Source.left g.H.Source.given g.H.Shelf.handled c.read-next.new.shelf) (counts_of g.H.Source.faults g.H.Source.failed c.read-next.new.shelf) in
+    let start : ShelfNow = shelf_at g.H.Source g.H.Shelf c.args.shelf.now in
+    let now : ShelfNow = shelf_at g.H.Source g.H.Shelf c.read-next.new.shelf in
     let next = c.read-next.result in
     let flux = c.read-next.new.stream.flux in
     let tools = c.note_next.new.tools in

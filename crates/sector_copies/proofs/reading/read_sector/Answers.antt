@@ -1,8 +1,6 @@
 use Rattle.std.proofs.Common.{ap, arith, length, refl, subst}
-use Rattle.flux_base.specs.Counts.{counts_of}
 use Rattle.sector_images.specs.declared.format.Format.{Format}
-use Rattle.track_shelf.specs.Told.{told_by}
-use Rattle.dump_reading.specs.Files.{shelf_now}
+use Rattle.dump_reading.specs.Files.{shelf_at}
 use Rattle.dump_reading.specs.Outcomes.{disk_of}
 use Rattle.sector_copies.specs.TrackReadings.{HasReadNext}
 use Rattle.sector_copies.proofs.Streams.{read_none, reads_on, same_room_on}
@@ -11,7 +9,7 @@ use Rattle.sector_copies.proofs.reading.read_sector.Goals as goal
 pub loop-capture-init : goal.loop-capture-init
 loop-capture-init g c = record {
   read = read_none (disk_of c.args.dumps.now c.args.room.now.format) c.args.room.now.number c.args.room.now.known.sector
-      (shelf_now (told_by g.H.Shelf.files g.H.Source.left g.H.Source.given g.H.Shelf.handled c.args.shelf.now) (counts_of g.H.Source.faults g.H.Source.failed c.args.shelf.now))
+      (shelf_at g.H.Source g.H.Shelf c.args.shelf.now)
       c.args.room.now.known c.args.room.now.passed c.requires.none c.requires.no_passed;
   same = record { format = refl; number = refl; sector = refl };
   few = (let none = c.requires.none.book.notes in omega (arith, none));
@@ -23,9 +21,9 @@ loop-capture-preserved g c =
     let disk = disk_of c.args.dumps.now c.args.room.now.format in
     let at = c.loop-capture in
     let inv = at.invariant in
-    let start = shelf_now (told_by g.H.Shelf.files g.H.Source.left g.H.Source.given g.H.Shelf.handled c.args.shelf.now) (counts_of g.H.Source.faults g.H.Source.failed c.args.shelf.now) in
-    let now = shelf_now (told_by g.H.Shelf.files g.H.Source.left g.H.Source.given g.H.Shelf.handled at.shelf) (counts_of g.H.Source.faults g.H.Source.failed at.shelf) in
-    let next = shelf_now (told_by g.H.Shelf.files g.H.Source.left g.H.Source.given g.H.Shelf.handled c.read_next.new.shelf) (counts_of g.H.Source.faults g.H.Source.failed c.read_next.new.shelf) in
+    let start = shelf_at g.H.Source g.H.Shelf c.args.shelf.now in
+    let now = shelf_at g.H.Source g.H.Shelf at.shelf in
+    let next = shelf_at g.H.Source g.H.Shelf c.read_next.new.shelf in
     record {
       read = reads_on disk c.args.room.now.number c.args.room.now.known.sector at.capture start now next at.room c.read_next.new.room c.loop-capture-test.true inv.same.number inv.same.sector inv.read
           (subst (λ (f : Format). HasReadNext (disk_of c.args.dumps.now f) at.room.number at.capture now next at.room c.read_next.new.room) inv.same.format c.read_next.ensures.read);

@@ -1,9 +1,7 @@
 use Rattle.std.specs.Prelude.{refl}
 use Rattle.std.proofs.Common.{false, true}
-use Rattle.flux_base.specs.Counts.{counts_of}
 use Rattle.flux_base.specs.lemmas.Blaming.{CountsBy-image, CountsBy-notes, CountsBy-then}
-use Rattle.track_shelf.specs.Told.{told_by}
-use Rattle.dump_reading.specs.Files.{shelf_now}
+use Rattle.dump_reading.specs.Files.{shelf_at}
 use Rattle.dump_reading.specs.Outcomes.{disk_of}
 use Rattle.sector_copies.proofs.Showing.{says_cut_image, says_cut_notes, says_shown}
 use Rattle.sector_copies.proofs.show.show_sector.Goals as goal
@@ -11,8 +9,8 @@ use Rattle.sector_copies.proofs.show.show_sector.Goals as goal
 pub returns-in-Ok-write_image-clause-says : goal.returns-in-Ok-write_image-clause-says
 returns-in-Ok-write_image-clause-says g c =
     says_shown (disk_of c.args.dumps.now c.args.room.now.format) c.args.alone
-    (shelf_now (told_by g.H.Shelf.files g.H.Source.left g.H.Source.given g.H.Shelf.handled c.args.shelf.now) (counts_of g.H.Source.faults g.H.Source.failed c.args.shelf.now))
-    (shelf_now (told_by g.H.Shelf.files g.H.Source.left g.H.Source.given g.H.Shelf.handled c.read_sector.new.shelf) (counts_of g.H.Source.faults g.H.Source.failed c.read_sector.new.shelf))
+    (shelf_at g.H.Source g.H.Shelf c.args.shelf.now)
+    (shelf_at g.H.Source g.H.Shelf c.read_sector.new.shelf)
     c.args.room.now c.read_sector.new.room c.verdict-outcome.result c.read_sector.ensures.same refl c.read_sector.ensures.read c.verdict-outcome.ensures
     (rw (c.format.ensures, c.in-None.is) at c.find_empty.ensures.told)
     (g.W.Sink.written c.args.image.now) (g.W.Sink.written c.write_image.new.image) (g.N.Sink.written c.args.notes.now) (g.N.Sink.written c.write_notes.new.notes)
@@ -21,8 +19,8 @@ returns-in-Ok-write_image-clause-says g c =
 pub returns-in-Err-write_image-clause-says : goal.returns-in-Err-write_image-clause-says
 returns-in-Err-write_image-clause-says g c =
     says_cut_image (disk_of c.args.dumps.now c.args.room.now.format) c.args.alone
-    (shelf_now (told_by g.H.Shelf.files g.H.Source.left g.H.Source.given g.H.Shelf.handled c.args.shelf.now) (counts_of g.H.Source.faults g.H.Source.failed c.args.shelf.now))
-    (shelf_now (told_by g.H.Shelf.files g.H.Source.left g.H.Source.given g.H.Shelf.handled c.read_sector.new.shelf) (counts_of g.H.Source.faults g.H.Source.failed c.read_sector.new.shelf))
+    (shelf_at g.H.Source g.H.Shelf c.args.shelf.now)
+    (shelf_at g.H.Source g.H.Shelf c.read_sector.new.shelf)
     c.args.room.now c.read_sector.new.room c.verdict-outcome.result c.read_sector.ensures.same refl c.read_sector.ensures.read c.verdict-outcome.ensures
     (rw (c.format.ensures, c.in-None.is) at c.find_empty.ensures.told)
     (g.W.Sink.written c.args.image.now) (g.W.Sink.written c.write_image.new.image) (g.N.Sink.written c.args.notes.now) (g.N.Sink.written c.write_notes.new.notes)
@@ -31,8 +29,8 @@ returns-in-Err-write_image-clause-says g c =
 pub returns-in-Err-clause-says : goal.returns-in-Err-clause-says
 returns-in-Err-clause-says g c =
     says_cut_notes (disk_of c.args.dumps.now c.args.room.now.format) c.args.alone
-    (shelf_now (told_by g.H.Shelf.files g.H.Source.left g.H.Source.given g.H.Shelf.handled c.args.shelf.now) (counts_of g.H.Source.faults g.H.Source.failed c.args.shelf.now))
-    (shelf_now (told_by g.H.Shelf.files g.H.Source.left g.H.Source.given g.H.Shelf.handled c.read_sector.new.shelf) (counts_of g.H.Source.faults g.H.Source.failed c.read_sector.new.shelf))
+    (shelf_at g.H.Source g.H.Shelf c.args.shelf.now)
+    (shelf_at g.H.Source g.H.Shelf c.read_sector.new.shelf)
     c.args.room.now c.read_sector.new.room c.verdict-outcome.result c.read_sector.ensures.same refl c.read_sector.ensures.read c.verdict-outcome.ensures
     (rw (c.format.ensures, c.in-None.is) at c.find_empty.ensures.told)
     (g.W.Sink.written c.args.image.now) (g.W.Sink.written c.args.image.now) (g.N.Sink.written c.args.notes.now) (g.N.Sink.written c.write_notes.new.notes)
