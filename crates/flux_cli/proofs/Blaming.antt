@@ -13,8 +13,9 @@ use Rattle.flux_words.specs.IdentityWords.{identity_words}
 use Rattle.flux_words.specs.SectorWords.{AskedSector, NamesShow}
 use Rattle.flux_cli.proofs.Often.{many-none}
 use Rattle.flux_cli.specs.Blamed.{CountsOfRun, CountsOfShelf, CountsOnShelf, all_counts, reads_dumps, shelf_blame, source_blame}
-use Rattle.flux_cli.specs.Runs.{Outside, RanOverSource, SaysBy}
+use Rattle.flux_cli.specs.Runs.{RanOverSource, SaysBy}
 use Rattle.flux_cli.specs.Works.{work_for}
+use Rattle.flux_cli.specs.World.{Outside}
 
 -- a call that has no notes
 pub CountsBy-noteless : {source source' image image' : FaultCounts} (notes : FaultCounts) (blame : Blame)

@@ -15,11 +15,12 @@ use Rattle.flux_engine.specs.Disks.{Decoded}
 use Rattle.flux_engine.specs.Rings.{IsImage}
 use Rattle.flux_cli.specs.Captured.{DecodesFolder, FolderCaptured, FolderErased, RunsCaptured, RunsErased, Wrote, WroteOrCut, WroteOrCutOnShelf}
 use Rattle.flux_cli.specs.Headlines.{Gave, GaveOrCut, IsExpected, IsOfDecoded, WasRead}
-use Rattle.flux_cli.specs.Runs.{Outside, Says, growth}
-use Rattle.flux_cli.specs.FolderRuns.{Began, DidBy, DoesFolder, OnShelf, ShelfMoment, as_source, over_shelf}
-use Rattle.flux_cli.specs.ShelfRuns.{AskOfShelf, OfShelf, a_folder, a_sector, an_identity, some_dumps, Ran, RanBy, Surroundings, on_shelf}
+use Rattle.flux_cli.specs.Runs.{Says, growth}
+use Rattle.flux_cli.specs.FolderRuns.{Began, DidBy, DoesFolder, over_shelf}
+use Rattle.flux_cli.specs.ShelfRuns.{AskOfShelf, OfShelf, a_folder, a_sector, an_identity, some_dumps, Ran, RanBy}
 use Rattle.flux_words.specs.FolderWords.{AreFolderWords}
 use Rattle.flux_cli.specs.Work.{Got}
+use Rattle.flux_cli.specs.World.{Outside, ShelfMoment, OnShelf, as_source, World, on_shelf}
 use Rattle.flux_words.specs.declared.command.Command.TheVariants.{Decode}
 use Rattle.flux_words.specs.declared.command.Output.TheVariants.{ImageAndReport}
 use Rattle.flux_cli.proofs.Headlines.{Laws, expected, gave_or_cut, runs_as_expected}
@@ -94,7 +95,7 @@ decode_gave laws before after format x word named told status says =
     gave_or_cut before after (Decode format) x told (IsExpected (Decode format) x)
     (λ o gives. expected laws x o (Decode format) (codes "decode" ∷ word ∷ []) (record { word = word; is = refl; named = named }) gives) status says
 
-module _ (laws : Laws) {S W N H : Type 0} (words : List (List ℕ)) (status : Status) (before after : Surroundings S W N H) (ran : Ran words status before after) where
+module _ (laws : Laws) {S W N H : Type 0} (words : List (List ℕ)) (status : Status) (before after : World S W N H) (ran : Ran words status before after) where
   -- what was done for `decode-folder`
   folder_did : (format : Format) (folder : List ℕ) → AreFolderWords format folder words → folder ≢ []
       → DoesFolder format folder status (on_shelf before) (on_shelf after)

@@ -15,9 +15,10 @@ use Rattle.sector_report.specs.declared.totals.Totals.{Totals}
 use Rattle.flux_words.specs.Commands.{command_for}
 use Rattle.flux_cli.specs.DisksRuns.{DecodesTo, SaysOfOutput}
 use Rattle.flux_cli.specs.DisksWork.{CutInReading, GotAll, disk_leaves, disk_outcome, disk_work, nowhere, refusal_of, status_of, to_notes}
-use Rattle.flux_cli.specs.Runs.{Does, Finished, IsAnswer, IsCut, NoCountFell, Outside, SaysBy, WasReadWhereNeeded, growth}
+use Rattle.flux_cli.specs.Runs.{Does, Finished, IsAnswer, IsCut, NoCountFell, SaysBy, WasReadWhereNeeded, growth}
 use Rattle.flux_cli.specs.Work.{Got, GotNothing, GotPart, Growth}
 use Rattle.flux_cli.specs.Works.{work_of}
+use Rattle.flux_cli.specs.World.{Outside}
 use Rattle.flux_words.specs.declared.command.Output.{Output}
 use Rattle.flux_words.specs.declared.command.Output.TheVariants.{ImageAndReport, ReportAlone}
 use Rattle.flux_cli.proofs.Inputs.{Rest, rest}

@@ -47,7 +47,7 @@ use Rattle.flux_words.specs.Commands.{command_for}
 use Rattle.flux_cli.specs.DisksRuns.{DecodesTo}
 use Rattle.flux_cli.specs.DisksWork.{status_of}
 use Rattle.flux_cli.specs.Endings.{EndsBy, disk_ending, file_ending, image_ending, plan_ending, refuses, written_status}
-use Rattle.flux_cli.specs.FolderRuns.{RefusesMissing, ShelfMoment, on}
+use Rattle.flux_cli.specs.FolderRuns.{RefusesMissing}
 use Rattle.flux_words.specs.G64Disks.{format_of}
 use Rattle.flux_cli.specs.G64Work.{from_g64_work}
 use Rattle.flux_cli.specs.ImagesWork.{image_work}
@@ -55,10 +55,11 @@ use Rattle.flux_cli.specs.MapWork.{map_work}
 use Rattle.flux_cli.specs.PagesWork.{page_work}
 use Rattle.flux_cli.specs.PlanRuns.{IsByPlan}
 use Rattle.flux_cli.specs.PlanWork.{planned_work, stop_text}
-use Rattle.flux_cli.specs.Runs.{Does, DoesBy, NoCountFell, Outside, WasReadWhereNeeded, outside}
+use Rattle.flux_cli.specs.Runs.{Does, DoesBy, NoCountFell, WasReadWhereNeeded}
 use Rattle.flux_words.specs.declared.command.Command.{Command}
 use Rattle.flux_cli.specs.TrialWork.{trial_work}
 use Rattle.flux_cli.specs.TurnsWork.{turns_work}
+use Rattle.flux_cli.specs.World.{Outside, outside, ShelfMoment, on}
 use Rattle.flux_words.specs.declared.command.Command.TheVariants.{FromG64, Map, Tell, Trial, Turns}
 use Rattle.flux_words.specs.declared.command.Output.{Output}
 use Rattle.flux_words.specs.declared.g64_disk.G64Disk.{G64Disk}

@@ -4,7 +4,8 @@ use Rattle.flux_base.specs.declared.outside.Failed.{Failed}
 use Rattle.flux_base.specs.declared.status.Status.{Status}
 use Rattle.flux_base.specs.declared.status.Status.TheVariants.{AllGood, NotAllGood, Refused, Usage, ReadFault, ImageFault, NotesFault, Memory, ShelfFault}
 use Rattle.sector_images.specs.declared.format.Format.{Format}
-use Rattle.flux_cli.specs.FolderRuns.{Began, DecodesShelf, DidBy, DidFolder, OnShelf, RefusesMissing, ShelfMoment, over_shelf}
+use Rattle.flux_cli.specs.FolderRuns.{Began, DecodesShelf, DidBy, DidFolder, RefusesMissing, over_shelf}
+use Rattle.flux_cli.specs.World.{ShelfMoment, OnShelf}
 
 -- a status that is no fault of the source is the shelf's too
 pub other_status : (s : Status) → (s ≡ ReadFault → ⊥) → s ≡ over_shelf s

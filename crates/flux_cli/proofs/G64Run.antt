@@ -21,8 +21,9 @@ use Rattle.sector_report.specs.declared.totals.Totals.{Totals}
 use Rattle.flux_cli.specs.DisksWork.{status_of}
 use Rattle.flux_words.specs.G64Disks.{format_of}
 use Rattle.flux_cli.specs.G64Work.{CutInFileReport, IsWholeInput, file_refusal, file_status, from_g64_leaves, from_g64_outcome, from_g64_work}
-use Rattle.flux_cli.specs.Runs.{Does, Finished, IsCut, NoCountFell, Outside, WasReadWhereNeeded, growth}
+use Rattle.flux_cli.specs.Runs.{Does, Finished, IsCut, NoCountFell, WasReadWhereNeeded, growth}
 use Rattle.flux_cli.specs.Work.{Got}
+use Rattle.flux_cli.specs.World.{Outside}
 use Rattle.flux_words.specs.declared.command.Command.TheVariants.{FromG64}
 use Rattle.flux_words.specs.declared.g64_disk.G64Disk.{G64Disk}
 use Rattle.flux_cli.proofs.Inputs.{rest}

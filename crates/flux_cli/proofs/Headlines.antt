@@ -31,10 +31,11 @@ use Rattle.flux_words.specs.G64Disks.{format_of}
 use Rattle.flux_cli.specs.G64Work.{file_refusal, file_status, from_g64_outcome}
 use Rattle.flux_cli.specs.Headlines.{AreRightInFile, AreRightOnDisk, Gave, GaveOrCut, IsExpected, IsOfDecoded, IsOfFile, IsOfPlanned, OfDisk, OfFile, OfRescue, OfSet, OfTrial, RunsAsExpected, WasRead}
 use Rattle.flux_cli.specs.PlanWork.{IsRead, planned_outcome, planned_refusal, planned_status}
-use Rattle.flux_cli.specs.Runs.{Finished, Outside, Says, SaysBy}
-use Rattle.flux_cli.specs.ShelfRuns.{AskOfShelf, OfShelf, a_folder, a_sector, an_identity, some_dumps, Ran, RanBy, Surroundings}
+use Rattle.flux_cli.specs.Runs.{Finished, Says, SaysBy}
+use Rattle.flux_cli.specs.ShelfRuns.{AskOfShelf, OfShelf, a_folder, a_sector, an_identity, some_dumps, Ran, RanBy}
 use Rattle.flux_cli.specs.Work.{Outcome}
 use Rattle.flux_cli.specs.Works.{work_for, work_of}
+use Rattle.flux_cli.specs.World.{Outside, World}
 use Rattle.flux_words.specs.declared.command.Command.{Command}
 use Rattle.flux_words.specs.declared.command.Command.TheVariants.{Turns, Decode, Report, Map, Write, Trial, ToG64, FromG64, DecodeSet, Rescue, Tell}
 use Rattle.flux_words.specs.declared.command.Output.{Output}
@@ -242,7 +243,7 @@ asked_is : WordsNameFormats → (words : List (List ℕ)) (command : Command) (a
 asked_is names words command None are asks = absurd (asks command are)
 asked_is names words command (Some other) are asks = ap Some (one_command names words other command asks are)
 
-module _ (names : WordsNameFormats) {S W N H : Type 0} (words : List (List ℕ)) (status : Status) (before after : Surroundings S W N H) (ran : Ran words status before after) where
+module _ (names : WordsNameFormats) {S W N H : Type 0} (words : List (List ℕ)) (status : Status) (before after : World S W N H) (ran : Ran words status before after) where
   -- what was done for a command over the source
   pub says_of : (command : Command) → AreWordsOf command words → Says command status before.outside after.outside
   says_of command are = by ran.asked ran.asks ran.did
@@ -256,7 +257,7 @@ module _ (names : WordsNameFormats) {S W N H : Type 0} (words : List (List ℕ))
       by (Some (an_identity dump)) name_is did = absurd (no_identity command words are dump name_is.0)
       by (Some (a_sector asked)) sector_is did = absurd (no_show command words are asked sector_is.2.0 sector_is.2.1)
 
-pub runs_as_expected : Laws → {S W N H : Type 0} (words : List (List ℕ)) (status : Status) (before after : Surroundings S W N H) → Ran words status before after
+pub runs_as_expected : Laws → {S W N H : Type 0} (words : List (List ℕ)) (status : Status) (before after : World S W N H) → Ran words status before after
     → RunsAsExpected words status before.outside after.outside
 runs_as_expected laws words status before after ran command x are told =
     gave_or_cut before.outside after.outside command x told (IsExpected command x) (λ o gives. expected laws x o command words are gives) status

@@ -14,8 +14,9 @@ use Rattle.sector_images.specs.Formats.{row}
 use Rattle.sector_images.specs.declared.format.Format.{Format}
 use Rattle.sector_report.specs.Lines.{image_text}
 use Rattle.flux_cli.specs.ImagesWork.{image_outcome, image_work}
-use Rattle.flux_cli.specs.Runs.{Finished, IsCut, Outside, growth}
+use Rattle.flux_cli.specs.Runs.{Finished, IsCut, growth}
 use Rattle.flux_cli.specs.Work.{GivesFront, Got, GotNothing, GotPart, Outcome}
+use Rattle.flux_cli.specs.World.{Outside}
 use Rattle.flux_cli.proofs.Inputs.{rest}
 
 abbrev written : (List ℕ → List ℕ) → List ℕ → Outcome

@@ -15,8 +15,9 @@ use Rattle.sector_report.specs.Lines.{refused_text}
 use Rattle.sector_report.specs.declared.totals.Totals.{Totals}
 use Rattle.flux_cli.specs.DisksWork.{disk_leaves, refusal_of, status_of}
 use Rattle.flux_cli.specs.MapWork.{map_outcome, map_work}
-use Rattle.flux_cli.specs.Runs.{Does, Finished, NoCountFell, Outside, WasReadWhereNeeded, growth}
+use Rattle.flux_cli.specs.Runs.{Does, Finished, NoCountFell, WasReadWhereNeeded, growth}
 use Rattle.flux_cli.specs.Work.{Got, GotPart}
+use Rattle.flux_cli.specs.World.{Outside}
 use Rattle.flux_words.specs.declared.command.Command.TheVariants.{Map}
 use Rattle.flux_cli.proofs.Inputs.{rest}
 

@@ -5,8 +5,9 @@ use Rattle.flux_base.specs.declared.status.Status.TheVariants.{AllGood, ImageFau
 use Rattle.flux_help.specs.Pages.{page_text}
 use Rattle.flux_help.specs.declared.page.Page.{Page}
 use Rattle.flux_cli.specs.PagesWork.{page_work}
-use Rattle.flux_cli.specs.Runs.{Finished, IsCut, Outside, growth}
+use Rattle.flux_cli.specs.Runs.{Finished, IsCut, growth}
 use Rattle.flux_cli.specs.Work.{Got, GotNothing, GotPart}
+use Rattle.flux_cli.specs.World.{Outside}
 use Rattle.flux_cli.proofs.Inputs.{rest}
 
 module _ {S W N : Type 0} (page : Page) (before after : Outside S W N) (unread : Consumes before.source.bytes after.source.bytes []) where

@@ -18,9 +18,10 @@ use Rattle.sector_report.specs.declared.totals.Totals.{Totals}
 use Rattle.flux_cli.specs.DisksWork.{status_of}
 use Rattle.flux_cli.specs.PlanRuns.{IsByPlan}
 use Rattle.flux_cli.specs.PlanWork.{CutInPlannedReading, IsRead, planned_leaves, planned_outcome, planned_refusal, planned_status, planned_work, stop_text}
-use Rattle.flux_cli.specs.Runs.{Does, Finished, IsAnswer, IsCut, NoCountFell, Outside, SaysBy, WasReadWhereNeeded, growth}
+use Rattle.flux_cli.specs.Runs.{Does, Finished, IsAnswer, IsCut, NoCountFell, SaysBy, WasReadWhereNeeded, growth}
 use Rattle.flux_cli.specs.Work.{Got, GotPart, Work}
 use Rattle.flux_cli.specs.Works.{work_of}
+use Rattle.flux_cli.specs.World.{Outside}
 use Rattle.flux_words.specs.declared.command.Command.{Command}
 use Rattle.flux_words.specs.declared.command.Command.TheVariants.{DecodeSet, Rescue}
 use Rattle.flux_cli.proofs.Inputs.{rest}

@@ -19,13 +19,13 @@ use Rattle.flux_words.specs.DumpParts.{options_in}
 use Rattle.flux_words.specs.DumpWords.{AreReadWords, Asked, option_words, shown_of}
 use Rattle.flux_cli.specs.AskedDisks.{asked_disk}
 use Rattle.flux_engine.specs.Plans.{Seen}
-use Rattle.flux_cli.specs.FolderRuns.{OnShelf, now_at}
 use Rattle.flux_cli.specs.ReadHeadline.{GaveDumpsOrCut, GaveEmpty, GaveShown, OfDumps, ReadsAsExpected}
 use Rattle.flux_cli.specs.ReadRuns.{IsShown, read_status, read_work}
 use Rattle.flux_cli.specs.Runs.{growth}
-use Rattle.flux_cli.specs.ShelfRuns.{AskOfShelf, OfShelf, a_folder, a_sector, an_identity, some_dumps, Ran, RanBy, Surroundings, on_shelf}
+use Rattle.flux_cli.specs.ShelfRuns.{AskOfShelf, OfShelf, a_folder, a_sector, an_identity, some_dumps, Ran, RanBy}
 use Rattle.flux_cli.specs.ShelfWork.{DidOnShelf, FinishedOnShelf, FirstEmpty, SaysOnShelf, TellsEmpty}
 use Rattle.flux_cli.specs.Work.{Got}
+use Rattle.flux_cli.specs.World.{OnShelf, now_at, World, on_shelf}
 use Rattle.flux_words.specs.declared.dump_words.DumpOptions.{DumpOptions}
 use Rattle.flux_words.specs.declared.dump_words.Shown.{Shown}
 use Rattle.flux_words.specs.declared.dump_words.Shown.TheVariants.{Image, Picture}
@@ -178,7 +178,7 @@ module _ (laws : DumpLaws) {H W N : Type 0} (disk : DumpDisk) (files : List File
   gave_or_cut shown Memory says = says
   gave_or_cut shown ShelfFault says = gave shown ShelfFault shelf_refused says.0
 
-pub reads_as_expected : DumpLaws → WordsBeginWithLetters → WordsNameFormats → {S W N H : Type 0} (words : List (List ℕ)) (status : Status) (before after : Surroundings S W N H)
+pub reads_as_expected : DumpLaws → WordsBeginWithLetters → WordsNameFormats → {S W N H : Type 0} (words : List (List ℕ)) (status : Status) (before after : World S W N H)
     → Ran words status before after → ReadsAsExpected words status (on_shelf before) (on_shelf after)
 reads_as_expected laws letters names_formats words status before after ran asked files are can told =
     gave_or_cut laws (asked_disk asked) files (omega (arith, can.most)) (on_shelf before) (on_shelf after) told (shown_of asked.options) status (by ran.asked ran.asks ran.did).says

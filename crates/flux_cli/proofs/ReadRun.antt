@@ -24,10 +24,10 @@ use Rattle.flux_cli.proofs.EndingLaws.{AnswersOften, IsDone, done-if}
 use Rattle.flux_cli.proofs.Often.{fails-by, many-none, often-either, often-if}
 use Rattle.flux_cli.proofs.ShelfEnded.{Answers, none-of-disk, none-or-empty, one-empty, same-kept, same-nothing}
 use Rattle.flux_cli.specs.Blamed.{FailsOften}
-use Rattle.flux_cli.specs.FolderRuns.{OnShelf}
 use Rattle.flux_cli.specs.ReadRuns.{AreFailedAlike, FailedAsRead, IsOutcomeOfDumps, IsShown, came_shown, read_outcome, read_status, read_work}
 use Rattle.flux_cli.specs.ShelfWork.{DidOnShelf, empty_outcome}
 use Rattle.flux_cli.specs.Work.{Got, Growth, Outcome}
+use Rattle.flux_cli.specs.World.{OnShelf}
 use Rattle.flux_words.specs.declared.dump_words.Shown.{Shown}
 use Rattle.flux_words.specs.declared.dump_words.Shown.TheVariants.{Image, Picture}
 

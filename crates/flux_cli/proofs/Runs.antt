@@ -7,9 +7,10 @@ use Rattle.flux_engine.specs.declared.plan.Plan.{Plan}
 use Rattle.flux_engine.specs.lemmas.ReadLaws.{no_reads}
 use Rattle.sector_images.specs.declared.format.Format.{Format}
 use Rattle.flux_cli.specs.PlanRuns.{IsByPlan}
-use Rattle.flux_cli.specs.Runs.{Does, DoesBy, Finished, IsAnswer, IsCut, NoCountFell, Outside, SaysBy, TakesMemory, WasReadWhereNeeded, growth, reads_of}
+use Rattle.flux_cli.specs.Runs.{Does, DoesBy, Finished, IsAnswer, IsCut, NoCountFell, SaysBy, TakesMemory, WasReadWhereNeeded, growth, reads_of}
 use Rattle.flux_cli.specs.Work.{Got, GotNothing, GotPart, Work}
 use Rattle.flux_cli.specs.Works.{usage_work, work_of}
+use Rattle.flux_cli.specs.World.{Outside}
 use Rattle.flux_words.specs.Commands.{command_for}
 use Rattle.flux_words.specs.declared.command.Command.{Command}
 use Rattle.flux_words.specs.declared.command.Command.TheVariants.{Turns, Decode, Report, Map, Write, Trial, ToG64, FromG64, DecodeSet, Rescue, Tell}

@@ -20,10 +20,10 @@ use Rattle.flux_cli.proofs.Often.{fails-by, often-either, often-if}
 use Rattle.flux_cli.proofs.ReadRun.{Failed, still-failed}
 use Rattle.flux_cli.proofs.ShelfEnded.{Answers, none-of-disk, none-or-empty, one-empty, same-kept}
 use Rattle.flux_cli.specs.Blamed.{FailsOften}
-use Rattle.flux_cli.specs.FolderRuns.{OnShelf}
 use Rattle.flux_cli.specs.SectorRuns.{FailedAsShown, IsOutcomeOfSector, ReadingsOfShown, sector_outcome, sector_status, sector_work}
 use Rattle.flux_cli.specs.ShelfWork.{DidOnShelf, empty_outcome}
 use Rattle.flux_cli.specs.Work.{Growth, Outcome}
+use Rattle.flux_cli.specs.World.{OnShelf}
 
 -- whether files failed, and whether there is one content
 pub sector-done : (totals : SectorTotals) → IsDone (sector_status totals)

@@ -20,10 +20,10 @@ use Rattle.track_shelf.specs.Told.{ShelfTold, with_failed}
 use Rattle.flux_cli.proofs.EndingLaws.{AnswersOften, IsDone, ends-refused, ends-with}
 use Rattle.flux_cli.specs.Blamed.{FailsOften}
 use Rattle.flux_cli.specs.Endings.{EndsDumps}
-use Rattle.flux_cli.specs.FolderRuns.{OnShelf, ShelfMoment, now_at, on}
 use Rattle.flux_cli.specs.Runs.{growth}
 use Rattle.flux_cli.specs.ShelfWork.{CutInEmpty, FirstEmpty, SaysOnShelf, ShelfWork, TellsEmpty, empty_outcome}
 use Rattle.flux_cli.specs.Work.{Got, Growth, Outcome}
+use Rattle.flux_cli.specs.World.{ShelfMoment, OnShelf, now_at, on}
 
 -- nothing was written
 pub same-kept : (old new : Option (List ℕ)) → new ≡ old → Keeps old new

@@ -8,12 +8,11 @@ use Rattle.flux_base.specs.declared.status.Status.TheVariants.{AllGood, NotAllGo
 use Rattle.flux_base.specs.lemmas.Counting.{Counts-then}
 use Rattle.flux_cli.specs.Blamed.{CountsOfNotes, CountsOfRun, all_counts}
 use Rattle.flux_cli.specs.Captured.{FolderCaptured, FolderErased, RunsCaptured, RunsErased}
-use Rattle.flux_cli.specs.FolderRuns.{OnShelf}
 use Rattle.flux_cli.specs.Headlines.{RunsAsExpected}
 use Rattle.flux_cli.specs.OutputTold.{RanAndTold, ToldIf, failed_output_text, is_told, tells_faults, with_notes}
 use Rattle.flux_cli.specs.ReadHeadline.{ReadsAsExpected}
-use Rattle.flux_cli.specs.Runs.{Outside}
-use Rattle.flux_cli.specs.ShelfRuns.{Ran, Surroundings, on_shelf}
+use Rattle.flux_cli.specs.ShelfRuns.{Ran}
+use Rattle.flux_cli.specs.World.{Outside, OnShelf, World, on_shelf}
 
 -- the line that was written, or cut
 pub told-line : {N : Type 0} (told : Bool) (before after : Moment N) (answer : Result (Unit {0}) Failed) → told ≡ true → Puts before after failed_output_text answer
@@ -56,7 +55,7 @@ module _ {N : Type 0} (words : List (List ℕ)) (left after : Moment N) where
     counts-told ShelfFault told c = subst (λ (m : Moment N). CountsOfRun dumps false ShelfFault (all_counts source shelf image notes) (all_counts source' shelf' image' m.counts)) (sym told) c
 
 -- what a run over all objects left before the line, and what is said of it behind the line
-module _ {S W N H : Type 0} {words : List (List ℕ)} {status : Status} {before left : Surroundings S W N H} (ran : Ran words status before left) (notes : Moment N)
+module _ {S W N H : Type 0} {words : List (List ℕ)} {status : Status} {before left : World S W N H} (ran : Ran words status before left) (notes : Moment N)
     (told : ToldIf (is_told words status) left.outside.notes notes) where
   pub ran-told : RanAndTold words status before (with_notes notes left)
   ran-told = record { notes = left.outside.notes; ran = ran; told = told }

@@ -3,9 +3,10 @@ use Rattle.std.proofs.Common.{ℕ, List, [], refl}
 use Rattle.flux_base.specs.declared.status.Status.TheVariants.{AllGood, ImageFault}
 use Rattle.flux_trial.specs.Tracks.{IsTrialLine}
 use Rattle.sector_images.specs.declared.format.Format.{Format}
-use Rattle.flux_cli.specs.Runs.{Finished, IsCut, Outside, growth}
+use Rattle.flux_cli.specs.Runs.{Finished, IsCut, growth}
 use Rattle.flux_cli.specs.TrialWork.{trial_work}
 use Rattle.flux_cli.specs.Work.{Got, GotNothing, GotPart}
+use Rattle.flux_cli.specs.World.{Outside}
 use Rattle.flux_cli.proofs.Inputs.{rest}
 use Rattle.std.specs.Io.KnownBytes.{Consumes}
 

@@ -11,10 +11,11 @@ use Rattle.kryo_stream.specs.Stream.{first_fault, times, indexes, stream_length}
 use Rattle.kryo_stream.specs.Outcome.{DoNotTell, IsRead, IsReadWhereNeeded, IsStream}
 use Rattle.kryo_stream.specs.Reads.{SourceMoment}
 use Rattle.sector_report.specs.Lines.{refused_text}
-use Rattle.flux_cli.specs.Runs.{Outside, Finished, IsCut, growth}
+use Rattle.flux_cli.specs.Runs.{Finished, IsCut, growth}
 use Rattle.flux_cli.specs.Turns.{turns_text}
 use Rattle.flux_cli.specs.TurnsWork.{MOST_AT_ONCE, turns_by, turns_work}
 use Rattle.flux_cli.specs.Work.{Got, GotNothing, GotPart, GivesFront}
+use Rattle.flux_cli.specs.World.{Outside}
 use Rattle.flux_cli.proofs.Inputs.{rest}
 
 behind-one : (x : List ℕ) → behind x 1 ≡ drop (stream_length x) x

@@ -6,6 +6,7 @@ use Rattle.flux_base.specs.Blames.{Blame, OutsideCounts, is_image, is_notes, is_
 use Rattle.flux_base.specs.Counts.{Counts, FaultCounts}
 use Rattle.flux_base.specs.declared.status.Status.{Status}
 use Rattle.flux_base.specs.declared.status.Status.TheVariants.{ReadFault, ImageFault, NotesFault, ShelfFault}
+use Rattle.flux_cli.specs.World.{World}
 
 abbrev pub source_blame : Status → Blame
 source_blame ReadFault = the_source
@@ -53,6 +54,9 @@ pub record AllCounts : Type 0 where
 
 abbrev pub all_counts : (source shelf image notes : FaultCounts) → AllCounts
 all_counts source shelf image notes = record { source = source; shelf = shelf; image = image; notes = notes }
+
+abbrev pub world_counts : {S W N H : Type 0} → World S W N H → AllCounts
+world_counts now = all_counts now.outside.source.counts now.shelf.source.counts now.outside.image.counts now.outside.notes.counts
 
 -- The notes behind a fault of the output that is told: they failed in its line, or never. Else as the status says.
 abbrev pub CountsOfNotes : (told fails : Bool) → (before after : FaultCounts) → Type 0

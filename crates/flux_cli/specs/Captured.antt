@@ -10,10 +10,10 @@ use Rattle.law_captured_disks.specs.Inputs.{IsCapturedDisk, IsErasedDisk}
 use Rattle.flux_engine.specs.Disks.{Decoded}
 use Rattle.flux_engine.specs.Rings.{IsImage}
 use Rattle.flux_words.specs.Commands.{AreWordsOf}
-use Rattle.flux_cli.specs.FolderRuns.{OnShelf, as_source}
 use Rattle.flux_words.specs.FolderWords.{AreFolderWords}
-use Rattle.flux_cli.specs.Runs.{Outside, growth}
+use Rattle.flux_cli.specs.Runs.{growth}
 use Rattle.flux_cli.specs.Work.{Got}
+use Rattle.flux_cli.specs.World.{Outside, OnShelf, as_source}
 use Rattle.flux_words.specs.declared.command.Command.TheVariants.{Decode}
 
 -- the sinks got the image and the report of a decoded disk, of which this holds

@@ -6,9 +6,10 @@ use Rattle.flux_engine.specs.declared.fault.EngineFault.TheVariants.{ReadFault, 
 use Rattle.sector_images.specs.Places.{tracks}
 use Rattle.sector_images.specs.declared.format.Format.{Format}
 use Rattle.flux_cli.specs.DisksWork.{CutByImage, CutByNotes, CutInReading, GotAll, disk_work}
-use Rattle.flux_cli.specs.Runs.{IsInput, NoCountFell, Outside, WasReadWhereNeeded, growth}
+use Rattle.flux_cli.specs.Runs.{IsInput, NoCountFell, WasReadWhereNeeded, growth}
 use Rattle.flux_cli.specs.TurnsWork.{MOST_AT_ONCE}
 use Rattle.flux_cli.specs.Work.{Growth}
+use Rattle.flux_cli.specs.World.{Outside}
 use Rattle.flux_words.specs.declared.command.Output.{Output}
 
 -- what the answer says, by the sink of the run whose fault it names

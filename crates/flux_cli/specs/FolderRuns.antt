@@ -1,7 +1,6 @@
 -- What `decode-folder` does: `decode` with the shelf as its source, once the shelf has all wanted files.
 use Rattle.std.specs.Prelude.{◌≡◌, ◌≢◌, ◌⊎◌, ◌<◌, ◌≤◌, ℕ, List, length, Option, Some, None, Result, Ok, Err, IfOk, IfSome, OnErr}
 use Rattle.std.specs.List.{slice_get}
-use Rattle.dump_reading.specs.Files.{ShelfNow, shelf_now}
 use Rattle.flux_base.specs.Moments.{Moment}
 use Rattle.flux_base.specs.Outside.{Rose}
 use Rattle.flux_base.specs.declared.outside.Failed.{Failed}
@@ -10,50 +9,18 @@ use Rattle.flux_base.specs.declared.status.Status.TheVariants.{Refused, ReadFaul
 use Rattle.flux_base.specs.declared.track.TrackId.{TrackId}
 use Rattle.sector_images.specs.Places.{tracks}
 use Rattle.sector_images.specs.declared.format.Format.{Format}
-use Rattle.track_shelf.specs.Files.{File, LeavesWanted, NamesMissing}
-use Rattle.track_shelf.specs.Handled.{Handled}
+use Rattle.track_shelf.specs.Files.{LeavesWanted, NamesMissing}
 use Rattle.track_shelf.specs.Names.{missing_text}
-use Rattle.track_shelf.specs.Told.{ShelfTold, with_failed}
-use Rattle.flux_cli.specs.Runs.{Does, Outside, growth}
+use Rattle.track_shelf.specs.Told.{with_failed}
+use Rattle.flux_cli.specs.Runs.{Does, growth}
 use Rattle.flux_cli.specs.Work.{Got, GotPart}
+use Rattle.flux_cli.specs.World.{ShelfMoment, OnShelf, as_source, told_at}
 use Rattle.flux_words.specs.declared.command.Command.TheVariants.{Decode}
-
--- the shelf at a moment: as a source, with what each of its reads so far gave; the files that lie on it, and which of them are open and which failed, if
--- it tells them
-pub record ShelfMoment (H : Type 0) : Type 0 where
-  pub source : Moment H
-  pub given : Option (List (List ℕ))
-  pub files : Option (List File)
-  pub handled : Option Handled
-
-abbrev pub shelf_moment : {H : Type 0} → Moment H → Option (List (List ℕ)) → Option (List File) → Option Handled → ShelfMoment H
-shelf_moment source given files handled = record { source = source; given = given; files = files; handled = handled }
-
--- what the shelf tells of itself at that moment
-abbrev pub told_at : {H : Type 0} → ShelfMoment H → ShelfTold
-told_at now = record { files = now.files; left = now.source.bytes; given = now.given; handled = now.handled }
-
--- that, and what it has counted
-abbrev pub now_at : {H : Type 0} → ShelfMoment H → ShelfNow
-now_at now = shelf_now (told_at now) now.source.counts
 
 -- The shelf stayed as it was but for how often it failed, and for which of its files did: the files that lie on it, none of which is open that was not,
 -- its own bytes as a source, and what its reads gave.
 abbrev pub ShelfStays : {H : Type 0} → (before after : ShelfMoment H) → Type 0
 ShelfStays before after = (paths : List (List ℕ)) × (told_at after ≡ with_failed paths (told_at before))
-
--- the shelf and both sinks at a moment
-pub record OnShelf (H W N : Type 0) : Type 0 where
-  pub shelf : ShelfMoment H
-  pub image : Moment W
-  pub notes : Moment N
-
-abbrev pub on : {H W N : Type 0} → ShelfMoment H → Moment W → Moment N → OnShelf H W N
-on shelf image notes = record { shelf = shelf; image = image; notes = notes }
-
--- the same with the shelf as the source
-abbrev pub as_source : {H W N : Type 0} → OnShelf H W N → Outside H W N
-as_source now = record { source = now.shelf.source; given = now.shelf.given; image = now.image; notes = now.notes }
 
 -- what `begin` answered, and what the shelf was before it and after it
 pub record Began {H : Type 0} (folder : List ℕ) (format : Format) (answer : Result (Option ℕ) Failed) (before after : ShelfMoment H) : Type 0 where

@@ -33,8 +33,9 @@ use Rattle.turn_merge.specs.declared.verdict.Verdict.TheVariants.{Good}
 use Rattle.flux_words.specs.Commands.{AreWordsOf}
 use Rattle.flux_cli.specs.DisksWork.{to_image, to_notes}
 use Rattle.flux_words.specs.G64Disks.{format_of}
-use Rattle.flux_cli.specs.Runs.{Outside, growth}
+use Rattle.flux_cli.specs.Runs.{growth}
 use Rattle.flux_cli.specs.Work.{Got, Outcome}
+use Rattle.flux_cli.specs.World.{Outside}
 use Rattle.flux_words.specs.declared.command.Command.{Command}
 use Rattle.flux_words.specs.declared.command.Command.TheVariants.{Decode, DecodeSet, FromG64, Report, Rescue, Trial}
 use Rattle.flux_words.specs.declared.command.Output.{Output}

@@ -1,4 +1,5 @@
 pub mod AskedDisks
+pub mod World
 pub mod Turns
 pub mod Work
 pub mod TurnsWork
@@ -26,3 +27,4 @@ pub mod OutputTold
 pub mod ReadHeadline
 pub mod Captured
 pub mod Headlines
+pub mod Promises

@@ -7,7 +7,8 @@ use Rattle.flux_base.specs.declared.status.Status.{Status}
 use Rattle.flux_base.specs.declared.status.Status.TheVariants.{ImageFault}
 use Rattle.flux_help.specs.Verbs.{is_own, verb_of}
 use Rattle.flux_help.specs.declared.verb.Verb.{Verb}
-use Rattle.flux_cli.specs.ShelfRuns.{Ran, Surroundings}
+use Rattle.flux_cli.specs.ShelfRuns.{Ran}
+use Rattle.flux_cli.specs.World.{World}
 
 -- the line
 abbrev pub failed_output_text : List ℕ
@@ -33,11 +34,11 @@ ToldIf true before after = (answer : Result (Unit {0}) Failed) × Puts before af
 ToldIf false before after = after ≡ before
 
 -- the same objects with other notes
-abbrev pub with_notes : {S W N H : Type 0} → Moment N → Surroundings S W N H → Surroundings S W N H
+abbrev pub with_notes : {S W N H : Type 0} → Moment N → World S W N H → World S W N H
 with_notes notes now = record now { outside = record now.outside { notes = notes } }
 
 -- What a run with these words did: all that the words ask for, by the notes that it left, and then the line, where one is told.
-pub record RanAndTold {S W N H : Type 0} (words : List (List ℕ)) (status : Status) (before after : Surroundings S W N H) : Type 0 where
+pub record RanAndTold {S W N H : Type 0} (words : List (List ℕ)) (status : Status) (before after : World S W N H) : Type 0 where
   pub notes : Moment N
   pub ran : Ran words status before (with_notes notes after)
   pub told : ToldIf (is_told words status) notes after.outside.notes

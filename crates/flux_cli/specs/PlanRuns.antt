@@ -5,7 +5,8 @@ use Rattle.disk_rescue.specs.Rescued.{rescuing}
 use Rattle.flux_base.specs.declared.status.Status.{Status}
 use Rattle.flux_engine.specs.declared.plan.Plan.{Plan}
 use Rattle.sector_images.specs.declared.format.Format.{Format}
-use Rattle.flux_cli.specs.Runs.{Does, Outside}
+use Rattle.flux_cli.specs.Runs.{Does}
+use Rattle.flux_cli.specs.World.{Outside}
 use Rattle.flux_words.specs.declared.command.Command.{Command}
 use Rattle.flux_words.specs.declared.command.Command.TheVariants.{DecodeSet, Rescue}
 

@@ -21,10 +21,10 @@ use Rattle.track_shelf.specs.Files.{File}
 use Rattle.turn_merge.specs.Readings.{verdict}
 use Rattle.flux_words.specs.DumpWords.{AreReadWords, Asked, CanBeRead, shown_of}
 use Rattle.flux_cli.specs.AskedDisks.{asked_disk}
-use Rattle.flux_cli.specs.FolderRuns.{OnShelf, now_at}
 use Rattle.flux_cli.specs.ReadRuns.{read_status}
 use Rattle.flux_cli.specs.Runs.{growth}
 use Rattle.flux_cli.specs.Work.{Got}
+use Rattle.flux_cli.specs.World.{OnShelf, now_at}
 use Rattle.flux_words.specs.declared.dump_words.Shown.{Shown}
 use Rattle.flux_words.specs.declared.dump_words.Shown.TheVariants.{Image, Picture}
 

@@ -10,18 +10,9 @@ use Rattle.kryo_stream.specs.Reads.{SourceMoment}
 use Rattle.flux_words.specs.Commands.{AskFor}
 use Rattle.flux_cli.specs.Work.{Outcome, Growth, Got, Work}
 use Rattle.flux_cli.specs.Works.{work_for, work_of}
+use Rattle.flux_cli.specs.World.{Outside}
 use Rattle.flux_words.specs.declared.command.Command.{Command}
 use Rattle.flux_words.specs.declared.command.Command.TheVariants.{Tell}
-
--- the outside at a moment: the source, with what each of its reads so far gave, if it tells that, and both sinks
-pub record Outside (S W N : Type 0) : Type 0 where
-  pub source : Moment S
-  pub given : Option (List (List ℕ))
-  pub image : Moment W
-  pub notes : Moment N
-
-abbrev pub outside : {S W N : Type 0} → Moment S → Option (List (List ℕ)) → Moment W → Moment N → Outside S W N
-outside source given image notes = record { source = source; given = given; image = image; notes = notes }
 
 abbrev pub growth : {A : Type 0} → Moment A → Moment A → Growth
 growth before after = record { before = before.bytes; after = after.bytes }

@@ -4,26 +4,16 @@ use Rattle.flux_base.specs.declared.status.Status.{Status}
 use Rattle.sector_images.specs.declared.format.Format.{Format}
 use Rattle.flux_words.specs.DumpWords.{Asked, NamesDumps, shown_of}
 use Rattle.flux_cli.specs.AskedDisks.{asked_disk, shown_sector}
-use Rattle.flux_cli.specs.FolderRuns.{DoesFolder, OnShelf, ShelfMoment}
+use Rattle.flux_cli.specs.FolderRuns.{DoesFolder}
 use Rattle.flux_words.specs.FolderWords.{NamesFolder}
 use Rattle.flux_cli.specs.IdentityRuns.{identity_work}
 use Rattle.flux_words.specs.IdentityWords.{NamesIdentity}
 use Rattle.flux_cli.specs.ReadRuns.{read_work}
-use Rattle.flux_cli.specs.Runs.{Outside, RanOverSource}
+use Rattle.flux_cli.specs.Runs.{RanOverSource}
 use Rattle.flux_cli.specs.SectorRuns.{sector_work}
 use Rattle.flux_words.specs.SectorWords.{AskedSector, NamesShow}
 use Rattle.flux_cli.specs.ShelfWork.{DidOnShelf}
-
--- all objects at a moment
-pub record Surroundings (S W N H : Type 0) : Type 0 where
-  pub outside : Outside S W N
-  pub shelf : ShelfMoment H
-
-abbrev pub surroundings : {S W N H : Type 0} → Outside S W N → ShelfMoment H → Surroundings S W N H
-surroundings outside shelf = record { outside = outside; shelf = shelf }
-
-abbrev pub on_shelf : {S W N H : Type 0} → Surroundings S W N H → OnShelf H W N
-on_shelf now = record { shelf = now.shelf; image = now.outside.image; notes = now.outside.notes }
+use Rattle.flux_cli.specs.World.{OnShelf, World, on_shelf}
 
 -- what is asked of the shelf
 pub data OfShelf : Type 0 where
@@ -48,13 +38,13 @@ DoesOnShelf (an_identity dump) status before after = DidOnShelf (identity_work d
 DoesOnShelf (a_sector asked) status before after = DidOnShelf (sector_work (shown_sector asked)) status before after
 
 -- where the words ask for something of the shelf, the source is not touched; else the shelf is not
-abbrev pub RanBy : {S W N H : Type 0} → Option OfShelf → (words : List (List ℕ)) → Status → (before after : Surroundings S W N H) → Type 0
+abbrev pub RanBy : {S W N H : Type 0} → Option OfShelf → (words : List (List ℕ)) → Status → (before after : World S W N H) → Type 0
 RanBy None words status before after = RanOverSource words status before.outside after.outside × (after.shelf ≡ before.shelf)
 RanBy (Some asked) words status before after =
     DoesOnShelf asked status (on_shelf before) (on_shelf after) × (after.outside.source ≡ before.outside.source) × (after.outside.given ≡ before.outside.given)
 
 -- what a run with these words did
-pub record Ran {S W N H : Type 0} (words : List (List ℕ)) (status : Status) (before after : Surroundings S W N H) : Type 0 where
+pub record Ran {S W N H : Type 0} (words : List (List ℕ)) (status : Status) (before after : World S W N H) : Type 0 where
   pub asked : Option OfShelf
   pub asks : AskOfShelf words asked
   pub did : RanBy asked words status before after

@@ -9,9 +9,10 @@ use Rattle.track_shelf.specs.DumpKinds.{IsKindOf}
 use Rattle.flux_cli.specs.EmptyText.{empty_text}
 use Rattle.track_shelf.specs.Files.{File}
 use Rattle.track_shelf.specs.declared.kind.DumpKind.{DumpKind}
-use Rattle.flux_cli.specs.FolderRuns.{OnShelf, ShelfStays, now_at}
+use Rattle.flux_cli.specs.FolderRuns.{ShelfStays}
 use Rattle.flux_cli.specs.Runs.{growth}
 use Rattle.flux_cli.specs.Work.{Got, GotNothing, GotPart, Growth, Outcome}
+use Rattle.flux_cli.specs.World.{OnShelf, now_at}
 
 -- The row of one command.
 pub record ShelfWork : Type 1 where

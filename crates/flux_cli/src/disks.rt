@@ -1,14 +1,14 @@
 ghost use Rattle.std.specs.Prelude.{◌≡◌, ◌≢◌, None};
 ghost use Rattle.flux_engine.specs.Blamed.{engine_blame};
-ghost use Rattle.flux_base.specs.Blames.{CountsBy, three_counts};
-ghost use Rattle.flux_base.specs.Counts.{counts_of};
+ghost use Rattle.flux_base.specs.Blames.{CountsBy};
 ghost use Rattle.flux_cli.specs.Blamed.{source_blame};
-ghost use Rattle.flux_base.specs.Moments.{moment};
 ghost use Rattle.flux_base.specs.declared.status.Status.{Status};
+ghost use Rattle.flux_base.specs.World.{counts_at};
 ghost use Rattle.flux_words.specs.Commands.{command_for};
 ghost use Rattle.flux_cli.specs.DisksRuns.{DecodesTo};
 ghost use Rattle.flux_cli.specs.DisksWork.{status_of};
-ghost use Rattle.flux_cli.specs.Runs.{Does, outside};
+ghost use Rattle.flux_cli.specs.Runs.{Does};
+ghost use Rattle.flux_cli.specs.World.{outside_at};
 ghost use Rattle.flux_words.specs.declared.command.Output.TheVariants.{ReportAlone};
 ghost use Rattle.flux_engine.specs.Room.{fresh};
 
@@ -28,11 +28,11 @@ pub fn decode<S: Source, W: Sink, N: Sink>(
 ) -> Status
     requires { room.old ≡ fresh room.old.format }
     ensures does { Does (command_for output room.old.format) result
-        (outside (moment S.left S.faults S.failed source.old) (S.given source.old) (moment W.written W.faults W.failed image.old) (moment N.written N.faults N.failed notes.old))
-        (outside (moment S.left S.faults S.failed source.new) (S.given source.new) (moment W.written W.faults W.failed image.new) (moment N.written N.faults N.failed notes.new)) }
+        (outside_at S.Source W.Sink N.Sink source.old image.old notes.old)
+        (outside_at S.Source W.Sink N.Sink source.new image.new notes.new) }
     ensures blames { CountsBy (source_blame result)
-        (three_counts (counts_of S.faults S.failed source.old) (counts_of W.faults W.failed image.old) (counts_of N.faults N.failed notes.old))
-        (three_counts (counts_of S.faults S.failed source.new) (counts_of W.faults W.failed image.new) (counts_of N.faults N.failed notes.new)) }
+        (counts_at S.Source W.Sink N.Sink source.old image.old notes.old)
+        (counts_at S.Source W.Sink N.Sink source.new image.new notes.new) }
     ensures no_shelf { result ≢ Status.ShelfFault }
     ensures memory { result ≢ Status.Memory }
 {
@@ -50,11 +50,11 @@ fn decode_to<S: Source, W: Sink, N: Sink>(
 ) -> Result<Totals, EngineFault>
     requires { room.old ≡ fresh room.old.format }
     ensures to { DecodesTo output room.old.format
-        (outside (moment S.left S.faults S.failed source.old) (S.given source.old) (moment W.written W.faults W.failed image.old) (moment N.written N.faults N.failed notes.old))
-        (outside (moment S.left S.faults S.failed source.new) (S.given source.new) (moment W.written W.faults W.failed image.new) (moment N.written N.faults N.failed notes.new)) result }
+        (outside_at S.Source W.Sink N.Sink source.old image.old notes.old)
+        (outside_at S.Source W.Sink N.Sink source.new image.new notes.new) result }
     ensures blames { CountsBy (engine_blame result)
-        (three_counts (counts_of S.faults S.failed source.old) (counts_of W.faults W.failed image.old) (counts_of N.faults N.failed notes.old))
-        (three_counts (counts_of S.faults S.failed source.new) (counts_of W.faults W.failed image.new) (counts_of N.faults N.failed notes.new)) }
+        (counts_at S.Source W.Sink N.Sink source.old image.old notes.old)
+        (counts_at S.Source W.Sink N.Sink source.new image.new notes.new) }
 {
     match output {
         Output::ImageAndReport => decode_disk(room, source, image, notes),

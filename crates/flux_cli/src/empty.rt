@@ -1,7 +1,8 @@
 //! What is told of a dump that has none of the files that were looked for.
 
 ghost use Rattle.std.specs.Prelude.{◌≡◌, ◌++◌, codes, decimal};
-ghost use Rattle.flux_base.specs.Moments.{Puts, moment};
+ghost use Rattle.flux_base.specs.Moments.{Puts};
+ghost use Rattle.flux_base.specs.World.{sink_at};
 ghost use Rattle.flux_cli.specs.EmptyText.{empty_text, kind_text, told_path};
 
 use flux_base::{Failed, Sink, write_whole};
@@ -19,7 +20,7 @@ pub(crate) fn write_empty<N: Sink>(
     kind: &DumpKind,
     notes: &mut N,
 ) -> Result<(), Failed>
-    ensures { Puts (moment N.written N.faults N.failed notes.old) (moment N.written N.faults N.failed notes.new) (empty_text number dump.now kind.now) result }
+    ensures { Puts (sink_at N.Sink notes.old) (sink_at N.Sink notes.new) (empty_text number dump.now kind.now) result }
 {
     match write_line(notes, &front_line(number)) {
         Ok(()) => write_path_and_kind(dump, kind, notes),
@@ -40,7 +41,7 @@ fn front_line(number: u8) -> Line
 
 /// Writes its path, and what is there.
 fn write_path_and_kind<N: Sink>(dump: &[u8], kind: &DumpKind, notes: &mut N) -> Result<(), Failed>
-    ensures { Puts (moment N.written N.faults N.failed notes.old) (moment N.written N.faults N.failed notes.new) (told_path dump.now ++ kind_text kind.now) result }
+    ensures { Puts (sink_at N.Sink notes.old) (sink_at N.Sink notes.new) (told_path dump.now ++ kind_text kind.now) result }
 {
     match write_path(dump, notes) {
         Ok(()) => write_kind(kind, notes),
@@ -51,7 +52,7 @@ fn write_path_and_kind<N: Sink>(dump: &[u8], kind: &DumpKind, notes: &mut N) -> 
 /// Writes a path: of a long one the end, which tells the most.
 #[tactic(auto, unfolding(crate::specs::EmptyText::told_path))]
 fn write_path<N: Sink>(path: &[u8], notes: &mut N) -> Result<(), Failed>
-    ensures { Puts (moment N.written N.faults N.failed notes.old) (moment N.written N.faults N.failed notes.new) (told_path path.now) result }
+    ensures { Puts (sink_at N.Sink notes.old) (sink_at N.Sink notes.new) (told_path path.now) result }
 {
     if path.len() <= MOST_TOLD {
         return write_whole(notes, path);
@@ -65,7 +66,7 @@ fn write_path<N: Sink>(path: &[u8], notes: &mut N) -> Result<(), Failed>
 
 /// Writes what is there, to the line's end.
 fn write_kind<N: Sink>(kind: &DumpKind, notes: &mut N) -> Result<(), Failed>
-    ensures { Puts (moment N.written N.faults N.failed notes.old) (moment N.written N.faults N.failed notes.new) (kind_text kind.now) result }
+    ensures { Puts (sink_at N.Sink notes.old) (sink_at N.Sink notes.new) (kind_text kind.now) result }
 {
     match kind {
         DumpKind::NotThere => write_whole(notes, " is not there\n".as_bytes()),
@@ -82,7 +83,7 @@ fn write_kind<N: Sink>(kind: &DumpKind, notes: &mut N) -> Result<(), Failed>
 
 /// Writes with what the names of the files that are there begin.
 fn write_named<N: Sink>(prefix: &Prefix, notes: &mut N) -> Result<(), Failed>
-    ensures { Puts (moment N.written N.faults N.failed notes.old) (moment N.written N.faults N.failed notes.new) (codes " has files " ++ (prefix.now ++ codes "CC.H.raw: name one of them\n")) result }
+    ensures { Puts (sink_at N.Sink notes.old) (sink_at N.Sink notes.new) (codes " has files " ++ (prefix.now ++ codes "CC.H.raw: name one of them\n")) result }
 {
     match write_whole(notes, " has files ".as_bytes()) {
         Ok(()) => write_prefix(prefix, notes),
@@ -91,7 +92,7 @@ fn write_named<N: Sink>(prefix: &Prefix, notes: &mut N) -> Result<(), Failed>
 }
 
 fn write_prefix<N: Sink>(prefix: &Prefix, notes: &mut N) -> Result<(), Failed>
-    ensures { Puts (moment N.written N.faults N.failed notes.old) (moment N.written N.faults N.failed notes.new) (prefix.now ++ codes "CC.H.raw: name one of them\n") result }
+    ensures { Puts (sink_at N.Sink notes.old) (sink_at N.Sink notes.new) (prefix.now ++ codes "CC.H.raw: name one of them\n") result }
 {
     match write_whole(notes, prefix.as_str().as_bytes()) {
         Ok(()) => write_whole(notes, "CC.H.raw: name one of them\n".as_bytes()),

@@ -1,11 +1,11 @@
 //! How a command ends by what its work answered: one function for each kind of answer. Notes say why an input is refused.
 
 ghost use Rattle.std.specs.Prelude.{◌≡◌, [], get_or};
-ghost use Rattle.flux_base.specs.Moments.{moment};
 ghost use Rattle.flux_cli.specs.Endings.{EndsBy, EndsDumps, EndsFault, disk_ending, file_ending, image_ending, plan_ending, refusal, refuses, written_status};
 ghost use Rattle.flux_cli.specs.IdentityRuns.{identity_status};
 ghost use Rattle.flux_cli.specs.ReadRuns.{read_status};
 ghost use Rattle.flux_cli.specs.SectorRuns.{sector_status};
+ghost use Rattle.flux_base.specs.World.{sink_at};
 
 use crate::disks::status_of;
 use crate::empty::write_empty;
@@ -23,7 +23,7 @@ use track_shelf::Shelf;
 
 /// Writes the line that says why an input is refused.
 pub(crate) fn refuse<N: Sink>(line: &Line, notes: &mut N) -> Status
-    ensures { EndsBy (refuses line.now.bytes) result (moment N.written N.faults N.failed notes.old) (moment N.written N.faults N.failed notes.new) }
+    ensures { EndsBy (refuses line.now.bytes) result (sink_at N.Sink notes.old) (sink_at N.Sink notes.new) }
 {
     refused_by(write_line(notes, line))
 }
@@ -40,7 +40,7 @@ pub(crate) fn end_of_writing(answer: Result<(), Failed>) -> Status
 
 /// Ends a disk that was decoded, or whose report was written.
 pub(crate) fn end_of_disk<N: Sink>(answer: Result<Totals, EngineFault>, notes: &mut N) -> Status
-    ensures { EndsBy (disk_ending answer) result (moment N.written N.faults N.failed notes.old) (moment N.written N.faults N.failed notes.new) }
+    ensures { EndsBy (disk_ending answer) result (sink_at N.Sink notes.old) (sink_at N.Sink notes.new) }
 {
     match answer {
         Ok(totals) => status_of(&totals),
@@ -63,7 +63,7 @@ pub(crate) fn end_of_plan<N: Sink>(
     answer: Result<Totals, PlanFault>,
     notes: &mut N,
 ) -> Status
-    ensures { EndsBy (plan_ending naming answer) result (moment N.written N.faults N.failed notes.old) (moment N.written N.faults N.failed notes.new) }
+    ensures { EndsBy (plan_ending naming answer) result (sink_at N.Sink notes.old) (sink_at N.Sink notes.new) }
 {
     match answer {
         Ok(totals) => status_of(&totals),
@@ -83,7 +83,7 @@ pub(crate) fn end_of_plan<N: Sink>(
 
 /// Ends what is made of an image.
 pub(crate) fn end_of_image<N: Sink>(answer: Result<(), WriteFault>, notes: &mut N) -> Status
-    ensures { EndsBy (image_ending answer) result (moment N.written N.faults N.failed notes.old) (moment N.written N.faults N.failed notes.new) }
+    ensures { EndsBy (image_ending answer) result (sink_at N.Sink notes.old) (sink_at N.Sink notes.new) }
 {
     match answer {
         Ok(()) => Status::AllGood,
@@ -95,7 +95,7 @@ pub(crate) fn end_of_image<N: Sink>(answer: Result<(), WriteFault>, notes: &mut 
 
 /// Ends a file that was read.
 pub(crate) fn end_of_file<N: Sink>(answer: Result<Totals, FromStop>, notes: &mut N) -> Status
-    ensures { EndsBy (file_ending answer) result (moment N.written N.faults N.failed notes.old) (moment N.written N.faults N.failed notes.new) }
+    ensures { EndsBy (file_ending answer) result (sink_at N.Sink notes.old) (sink_at N.Sink notes.new) }
 {
     match answer {
         Ok(totals) => status_of(&totals),
@@ -113,7 +113,7 @@ fn end_of_fault<H: Shelf, N: Sink>(
     shelf: &H,
     notes: &mut N,
 ) -> Status
-    ensures { EndsFault (H.files shelf.now) dumps.now fault result (moment N.written N.faults N.failed notes.old) (moment N.written N.faults N.failed notes.new) }
+    ensures { EndsFault (H.files shelf.now) dumps.now fault result (sink_at N.Sink notes.old) (sink_at N.Sink notes.new) }
 {
     match fault {
         DumpsFault::NoFiles { dump } => {
@@ -152,7 +152,7 @@ pub(crate) fn end_of_dumps<H: Shelf, N: Sink>(
     shelf: &H,
     notes: &mut N,
 ) -> Status
-    ensures { EndsDumps (H.files shelf.now) dumps.now read_status answer result (moment N.written N.faults N.failed notes.old) (moment N.written N.faults N.failed notes.new) }
+    ensures { EndsDumps (H.files shelf.now) dumps.now read_status answer result (sink_at N.Sink notes.old) (sink_at N.Sink notes.new) }
 {
     match answer {
         Ok(totals) => status_of_dumps(&totals),
@@ -167,7 +167,7 @@ pub(crate) fn end_of_identity<H: Shelf, N: Sink>(
     shelf: &H,
     notes: &mut N,
 ) -> Status
-    ensures { EndsDumps (H.files shelf.now) dumps.now identity_status answer result (moment N.written N.faults N.failed notes.old) (moment N.written N.faults N.failed notes.new) }
+    ensures { EndsDumps (H.files shelf.now) dumps.now identity_status answer result (sink_at N.Sink notes.old) (sink_at N.Sink notes.new) }
 {
     match answer {
         Ok(identity) => status_of_identity(&identity),
@@ -182,7 +182,7 @@ pub(crate) fn end_of_sector<H: Shelf, N: Sink>(
     shelf: &H,
     notes: &mut N,
 ) -> Status
-    ensures { EndsDumps (H.files shelf.now) dumps.now sector_status answer result (moment N.written N.faults N.failed notes.old) (moment N.written N.faults N.failed notes.new) }
+    ensures { EndsDumps (H.files shelf.now) dumps.now sector_status answer result (sink_at N.Sink notes.old) (sink_at N.Sink notes.new) }
 {
     match answer {
         Ok(totals) => status_of_sector(&totals),

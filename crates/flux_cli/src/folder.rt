@@ -1,12 +1,12 @@
 //! A dump as it lies on the disk: a folder of track files.
 
 ghost use Rattle.std.specs.Prelude.{◌≡◌, ◌≢◌};
-ghost use Rattle.flux_base.specs.Blames.{CountsBy, three_counts};
-ghost use Rattle.flux_base.specs.Counts.{counts_of};
+ghost use Rattle.flux_base.specs.Blames.{CountsBy};
 ghost use Rattle.flux_cli.specs.Blamed.{shelf_blame};
-ghost use Rattle.flux_base.specs.Moments.{moment};
 ghost use Rattle.flux_base.specs.declared.status.Status.{Status};
-ghost use Rattle.flux_cli.specs.FolderRuns.{DidFolder, on, shelf_moment};
+ghost use Rattle.flux_base.specs.World.{counts_at};
+ghost use Rattle.flux_cli.specs.FolderRuns.{DidFolder};
+ghost use Rattle.flux_cli.specs.World.{on_shelf_at};
 ghost use Rattle.flux_engine.specs.Room.{fresh};
 
 use crate::disks::decode;
@@ -28,11 +28,11 @@ pub fn decode_folder<H: Shelf, W: Sink, N: Sink>(
 ) -> Status
     requires { room.old ≡ fresh format }
     ensures did { DidFolder format folder.now result
-        (on (shelf_moment (moment H.left H.faults H.failed shelf.old) (H.given shelf.old) (H.files shelf.old) (H.handled shelf.old)) (moment W.written W.faults W.failed image.old) (moment N.written N.faults N.failed notes.old))
-        (on (shelf_moment (moment H.left H.faults H.failed shelf.new) (H.given shelf.new) (H.files shelf.new) (H.handled shelf.new)) (moment W.written W.faults W.failed image.new) (moment N.written N.faults N.failed notes.new)) }
+        (on_shelf_at H.Source H.Shelf.own W.Sink N.Sink shelf.old image.old notes.old)
+        (on_shelf_at H.Source H.Shelf.own W.Sink N.Sink shelf.new image.new notes.new) }
     ensures blames { CountsBy (shelf_blame result)
-        (three_counts (counts_of H.faults H.failed shelf.old) (counts_of W.faults W.failed image.old) (counts_of N.faults N.failed notes.old))
-        (three_counts (counts_of H.faults H.failed shelf.new) (counts_of W.faults W.failed image.new) (counts_of N.faults N.failed notes.new)) }
+        (counts_at H.Source W.Sink N.Sink shelf.old image.old notes.old)
+        (counts_at H.Source W.Sink N.Sink shelf.new image.new notes.new) }
     ensures no_source { result ≢ Status.ReadFault }
     ensures memory { result ≢ Status.Memory }
 {

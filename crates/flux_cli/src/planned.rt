@@ -1,13 +1,12 @@
 //! Disks that are read by a plan.
 
 ghost use Rattle.std.specs.Prelude.{◌≡◌, ◌≤◌};
-ghost use Rattle.flux_base.specs.Blames.{CountsBy, three_counts};
-ghost use Rattle.flux_base.specs.Counts.{counts_of};
-ghost use Rattle.flux_base.specs.Moments.{moment};
+ghost use Rattle.flux_base.specs.Blames.{CountsBy};
+ghost use Rattle.flux_base.specs.World.{counts_at};
 ghost use Rattle.flux_cli.specs.Blamed.{source_blame};
 ghost use Rattle.flux_cli.specs.PlanRuns.{DoesPlanned};
 ghost use Rattle.flux_cli.specs.PlanWork.{stop_text};
-ghost use Rattle.flux_cli.specs.Runs.{outside};
+ghost use Rattle.flux_cli.specs.World.{outside_at};
 
 use crate::endings::end_of_plan;
 use flux_base::{Memory, Sink, Source, Status};
@@ -28,11 +27,11 @@ pub(crate) fn decode_by_plan<S: Source, W: Sink, N: Sink>(
 ) -> Status
     requires { plan.captures ≤ 16 }
     ensures does { DoesPlanned plan format result
-        (outside (moment S.left S.faults S.failed source.old) (S.given source.old) (moment W.written W.faults W.failed image.old) (moment N.written N.faults N.failed notes.old))
-        (outside (moment S.left S.faults S.failed source.new) (S.given source.new) (moment W.written W.faults W.failed image.new) (moment N.written N.faults N.failed notes.new)) }
+        (outside_at S.Source W.Sink N.Sink source.old image.old notes.old)
+        (outside_at S.Source W.Sink N.Sink source.new image.new notes.new) }
     ensures blames { CountsBy (source_blame result)
-        (three_counts (counts_of S.faults S.failed source.old) (counts_of W.faults W.failed image.old) (counts_of N.faults N.failed notes.old))
-        (three_counts (counts_of S.faults S.failed source.new) (counts_of W.faults W.failed image.new) (counts_of N.faults N.failed notes.new)) }
+        (counts_at S.Source W.Sink N.Sink source.old image.old notes.old)
+        (counts_at S.Source W.Sink N.Sink source.new image.new notes.new) }
 {
     match DiskRoom::reserve(alloc, format) {
         Ok(mut room) => {

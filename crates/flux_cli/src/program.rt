@@ -1,15 +1,12 @@
 ghost use Rattle.std.specs.Prelude.{false};
-ghost use Rattle.flux_base.specs.Blames.{CountsBy, three_counts};
-ghost use Rattle.flux_base.specs.Counts.{counts_of};
-ghost use Rattle.flux_cli.specs.Blamed.{CountsOfRun, all_counts, reads_dumps, source_blame};
-ghost use Rattle.flux_base.specs.Moments.{moment};
-ghost use Rattle.flux_cli.specs.Captured.{FolderCaptured, FolderErased, RunsCaptured, RunsErased};
-ghost use Rattle.flux_cli.specs.FolderRuns.{on, shelf_moment};
-ghost use Rattle.flux_cli.specs.Headlines.{RunsAsExpected};
-ghost use Rattle.flux_cli.specs.ReadHeadline.{ReadsAsExpected};
-ghost use Rattle.flux_cli.specs.Runs.{RanOverSource, outside};
+ghost use Rattle.flux_base.specs.Blames.{CountsBy};
+ghost use Rattle.flux_base.specs.World.{counts_at};
+ghost use Rattle.flux_cli.specs.Blamed.{CountsOfRun, reads_dumps, source_blame, world_counts};
+ghost use Rattle.flux_cli.specs.Promises.{Promises};
+ghost use Rattle.flux_cli.specs.Runs.{RanOverSource};
 ghost use Rattle.flux_cli.specs.OutputTold.{RanAndTold, is_told};
-ghost use Rattle.flux_cli.specs.ShelfRuns.{Ran, surroundings};
+ghost use Rattle.flux_cli.specs.ShelfRuns.{Ran};
+ghost use Rattle.flux_cli.specs.World.{outside_at, world_at};
 
 use crate::output_told::tell_output;
 use crate::shelf_task::{DecodeFolder, Identify, ShelfTask};
@@ -44,65 +41,25 @@ pub fn run<S: Source, W: Sink, N: Sink, H: Shelf>(
     notes: &mut N,
     shelf: &mut H,
 ) -> Status
-    // It finished, and gave all that the input comes to; or a counted fault of one object cut it at a place that the
-    // command's row states; or there was no memory to begin, and all objects are as they were. The source is
-    // read only where the bytes that it gave do not tell what there is to do, so that nothing is awaited on an open pipe
-    // that isn't needed. Where the words name a folder, the shelf stands in the source's place, and where a wanted file is
-    // missing, the notes say so and nothing is read; where they name dumps, or ask which disk a dump is of, the files of these are read on the shelf, which
-    // itself stays as it was but for how often it failed; else the shelf is not touched.
+    // It finished, and gave all that its input comes to; or a counted fault of one object cut it at a place that the command's row states;
+    // or there was no memory to begin, and the world is as it was. The source is read only where the bytes before do not tell what there is
+    // to do. Words that name a folder or dumps are done over the shelf, which stays as it was but for what failed; all others over the source.
     // Behind a fault of the output, under words that the usage line does not name, the notes got one line more, or a front of it.
     ensures ran { RanAndTold words.now result
-        (surroundings (outside (moment S.left S.faults S.failed source.old) (S.given source.old) (moment W.written W.faults W.failed image.old) (moment N.written N.faults N.failed notes.old))
-        (shelf_moment (moment H.left H.faults H.failed shelf.old) (H.given shelf.old) (H.files shelf.old) (H.handled shelf.old)))
-        (surroundings (outside (moment S.left S.faults S.failed source.new) (S.given source.new) (moment W.written W.faults W.failed image.new) (moment N.written N.faults N.failed notes.new))
-        (shelf_moment (moment H.left H.faults H.failed shelf.new) (H.given shelf.new) (H.files shelf.new) (H.handled shelf.new))) }
+        (world_at S.Source W.Sink N.Sink H.Source H.Shelf.own source.old image.old notes.old shelf.old)
+        (world_at S.Source W.Sink N.Sink H.Source H.Shelf.own source.new image.new notes.new shelf.new) }
 
-    // A fault of one object is told where that object failed once, in the last call of all that could, and no other one failed; and a run that finished
-    // had no fault; but under words that read dumps the shelf failed as often as files did that were passed over. Where the notes got a line behind a fault of the output, they may have failed once too, in that line.
+    // A fault is told where that object failed once, in the last call of all that could, and no other one failed; and a run that finished
+    // had none. But under words that read dumps the shelf failed as often as files did that were passed over, and the notes may have failed
+    // once too in the line behind a fault of the output.
     ensures counts { CountsOfRun (reads_dumps words.now) (is_told words.now result) result
-        (all_counts (counts_of S.faults S.failed source.old) (counts_of H.faults H.failed shelf.old) (counts_of W.faults W.failed image.old) (counts_of N.faults N.failed notes.old))
-        (all_counts (counts_of S.faults S.failed source.new) (counts_of H.faults H.failed shelf.new) (counts_of W.faults W.failed image.new) (counts_of N.faults N.failed notes.new)) }
+        (world_counts (world_at S.Source W.Sink N.Sink H.Source H.Shelf.own source.old image.old notes.old shelf.old))
+        (world_counts (world_at S.Source W.Sink N.Sink H.Source H.Shelf.own source.new image.new notes.new shelf.new)) }
 
-    // From any streams that carry an image's written tracks, disturbed within the bounds, `decode` writes exactly that
-    // image, every sector good; or a counted fault cut it, or there was no memory to begin.
-    ensures captured { RunsCaptured words.now result
-        (outside (moment S.left S.faults S.failed source.old) (S.given source.old) (moment W.written W.faults W.failed image.old) (moment N.written N.faults N.failed notes.old))
-        (outside (moment S.left S.faults S.failed source.new) (S.given source.new) (moment W.written W.faults W.failed image.new) (moment N.written N.faults N.failed notes.new)) }
-
-    // Beside erased stretches it keeps each sector of which one place lies whole between them, and calls no sector
-    // contradictory.
-    ensures erased { RunsErased words.now result
-        (outside (moment S.left S.faults S.failed source.old) (S.given source.old) (moment W.written W.faults W.failed image.old) (moment N.written N.faults N.failed notes.old))
-        (outside (moment S.left S.faults S.failed source.new) (S.given source.new) (moment W.written W.faults W.failed image.new) (moment N.written N.faults N.failed notes.new)) }
-
-    // Of what is read of standard input, whatever it is: a sector's line that says good, of a disk that was not refused, names a
-    // place of the capture and the clock that it names whose cells hold the sector, with the bytes that the image has at its place.
-    //
-    // Of the words whose inputs the laws speak of: `report` writes such a disk's report; a captured set comes to the image, a
-    // sector good that one capture has whole; `rescue` calls a captured disk's sectors good with their own bytes or contradictory,
-    // and all good where the drive keeps its speed; a file that was written of an image comes back by `from-g64`; and a trial of a
-    // number without a hole prints the line that is known beforehand.
-    ensures expected { RunsAsExpected words.now result
-        (outside (moment S.left S.faults S.failed source.old) (S.given source.old) (moment W.written W.faults W.failed image.old) (moment N.written N.faults N.failed notes.old))
-        (outside (moment S.left S.faults S.failed source.new) (S.given source.new) (moment W.written W.faults W.failed image.new) (moment N.written N.faults N.failed notes.new)) }
-
-    // The same of `decode-folder`, where the files of a folder are such streams and none is missing.
-    ensures folder_captured { FolderCaptured words.now result
-        (on (shelf_moment (moment H.left H.faults H.failed shelf.old) (H.given shelf.old) (H.files shelf.old) (H.handled shelf.old)) (moment W.written W.faults W.failed image.old) (moment N.written N.faults N.failed notes.old))
-        (on (shelf_moment (moment H.left H.faults H.failed shelf.new) (H.given shelf.new) (H.files shelf.new) (H.handled shelf.new)) (moment W.written W.faults W.failed image.new) (moment N.written N.faults N.failed notes.new)) }
-    ensures folder_erased { FolderErased words.now result
-        (on (shelf_moment (moment H.left H.faults H.failed shelf.old) (H.given shelf.old) (H.files shelf.old) (H.handled shelf.old)) (moment W.written W.faults W.failed image.old) (moment N.written N.faults N.failed notes.old))
-        (on (shelf_moment (moment H.left H.faults H.failed shelf.new) (H.given shelf.new) (H.files shelf.new) (H.handled shelf.new)) (moment W.written W.faults W.failed image.new) (moment N.written N.faults N.failed notes.new)) }
-
-    // Of `read`, where the shelf tells its files: each sector's line and its bytes are those that all readings of the dumps bear out, and
-    // each line that has the text of a sector's line, or of a stream's that is passed over, is that one. All is good exactly where each
-    // sector is and no header that names none of its track's sectors has whole data, at any place of any stream that was read. A sector
-    // that is good by the strict rule in one dump is good with the same bytes or contradictory, and so is one that a dump has whole, with
-    // its own bytes; it is good where the other files are captures too or passed over and the drives kept their speed. A picture of
-    // them is that of such a report.
-    ensures dumps { ReadsAsExpected words.now result
-        (on (shelf_moment (moment H.left H.faults H.failed shelf.old) (H.given shelf.old) (H.files shelf.old) (H.handled shelf.old)) (moment W.written W.faults W.failed image.old) (moment N.written N.faults N.failed notes.old))
-        (on (shelf_moment (moment H.left H.faults H.failed shelf.new) (H.given shelf.new) (H.files shelf.new) (H.handled shelf.new)) (moment W.written W.faults W.failed image.new) (moment N.written N.faults N.failed notes.new)) }
+    // From streams within the bounds `decode` writes exactly the image, every sector good; and what else is promised of each command.
+    ensures promises { Promises words.now result
+        (world_at S.Source W.Sink N.Sink H.Source H.Shelf.own source.old image.old notes.old shelf.old)
+        (world_at S.Source W.Sink N.Sink H.Source H.Shelf.own source.new image.new notes.new shelf.new) }
 {
     words_name_formats();
     captured_disks_decode();
@@ -137,13 +94,11 @@ fn run_words<S: Source, W: Sink, N: Sink, H: Shelf>(
     shelf: &mut H,
 ) -> Status
     ensures ran { Ran words.now result
-        (surroundings (outside (moment S.left S.faults S.failed source.old) (S.given source.old) (moment W.written W.faults W.failed image.old) (moment N.written N.faults N.failed notes.old))
-        (shelf_moment (moment H.left H.faults H.failed shelf.old) (H.given shelf.old) (H.files shelf.old) (H.handled shelf.old)))
-        (surroundings (outside (moment S.left S.faults S.failed source.new) (S.given source.new) (moment W.written W.faults W.failed image.new) (moment N.written N.faults N.failed notes.new))
-        (shelf_moment (moment H.left H.faults H.failed shelf.new) (H.given shelf.new) (H.files shelf.new) (H.handled shelf.new))) }
+        (world_at S.Source W.Sink N.Sink H.Source H.Shelf.own source.old image.old notes.old shelf.old)
+        (world_at S.Source W.Sink N.Sink H.Source H.Shelf.own source.new image.new notes.new shelf.new) }
     ensures counts { CountsOfRun (reads_dumps words.now) false result
-        (all_counts (counts_of S.faults S.failed source.old) (counts_of H.faults H.failed shelf.old) (counts_of W.faults W.failed image.old) (counts_of N.faults N.failed notes.old))
-        (all_counts (counts_of S.faults S.failed source.new) (counts_of H.faults H.failed shelf.new) (counts_of W.faults W.failed image.new) (counts_of N.faults N.failed notes.new)) }
+        (world_counts (world_at S.Source W.Sink N.Sink H.Source H.Shelf.own source.old image.old notes.old shelf.old))
+        (world_counts (world_at S.Source W.Sink N.Sink H.Source H.Shelf.own source.new image.new notes.new shelf.new)) }
 {
     match folder_of(words) {
         None => match dumps_of(words) {
@@ -169,11 +124,11 @@ fn run_over_source<S: Source, W: Sink, N: Sink>(
     notes: &mut N,
 ) -> Status
     ensures ran { RanOverSource words.now result
-        (outside (moment S.left S.faults S.failed source.old) (S.given source.old) (moment W.written W.faults W.failed image.old) (moment N.written N.faults N.failed notes.old))
-        (outside (moment S.left S.faults S.failed source.new) (S.given source.new) (moment W.written W.faults W.failed image.new) (moment N.written N.faults N.failed notes.new)) }
+        (outside_at S.Source W.Sink N.Sink source.old image.old notes.old)
+        (outside_at S.Source W.Sink N.Sink source.new image.new notes.new) }
     ensures blames { CountsBy (source_blame result)
-        (three_counts (counts_of S.faults S.failed source.old) (counts_of W.faults W.failed image.old) (counts_of N.faults N.failed notes.old))
-        (three_counts (counts_of S.faults S.failed source.new) (counts_of W.faults W.failed image.new) (counts_of N.faults N.failed notes.new)) }
+        (counts_at S.Source W.Sink N.Sink source.old image.old notes.old)
+        (counts_at S.Source W.Sink N.Sink source.new image.new notes.new) }
 {
     match command_of(words) {
         None => match write_wrong_words(words, notes) {

@@ -2,14 +2,12 @@
 
 ghost use Rattle.std.specs.Prelude.{◌≢◌, ◌≡◌, ◌≤◌, length, true};
 ghost use Rattle.flux_base.specs.declared.status.Status.{Status};
-ghost use Rattle.flux_base.specs.Blames.{three_counts};
-ghost use Rattle.flux_base.specs.Counts.{counts_of};
+ghost use Rattle.flux_base.specs.World.{counts_at};
 ghost use Rattle.flux_cli.specs.Blamed.{CountsOnShelf};
 ghost use Rattle.dump_reading.specs.Outcomes.{disk_of};
-ghost use Rattle.flux_base.specs.Moments.{moment};
-ghost use Rattle.flux_cli.specs.FolderRuns.{on, shelf_moment};
 ghost use Rattle.flux_cli.specs.ReadRuns.{read_status, read_work};
 ghost use Rattle.flux_cli.specs.ShelfWork.{DidOnShelf};
+ghost use Rattle.flux_cli.specs.World.{on_shelf_at};
 ghost use Rattle.flux_engine.specs.Room.{fresh};
 
 use crate::endings::end_of_dumps;
@@ -32,11 +30,11 @@ pub fn show<H: Shelf, W: Sink, N: Sink>(
     requires fresh { room.old ≡ fresh room.old.format }
     requires few { length dumps.now.names.now ≤ 16 }
     ensures did { DidOnShelf (read_work shown (disk_of dumps.now room.old.format)) result
-        (on (shelf_moment (moment H.left H.faults H.failed shelf.old) (H.given shelf.old) (H.files shelf.old) (H.handled shelf.old)) (moment W.written W.faults W.failed image.old) (moment N.written N.faults N.failed notes.old))
-        (on (shelf_moment (moment H.left H.faults H.failed shelf.new) (H.given shelf.new) (H.files shelf.new) (H.handled shelf.new)) (moment W.written W.faults W.failed image.new) (moment N.written N.faults N.failed notes.new)) }
+        (on_shelf_at H.Source H.Shelf.own W.Sink N.Sink shelf.old image.old notes.old)
+        (on_shelf_at H.Source H.Shelf.own W.Sink N.Sink shelf.new image.new notes.new) }
     ensures blames { CountsOnShelf true result
-        (three_counts (counts_of H.faults H.failed shelf.old) (counts_of W.faults W.failed image.old) (counts_of N.faults N.failed notes.old))
-        (three_counts (counts_of H.faults H.failed shelf.new) (counts_of W.faults W.failed image.new) (counts_of N.faults N.failed notes.new)) }
+        (counts_at H.Source W.Sink N.Sink shelf.old image.old notes.old)
+        (counts_at H.Source W.Sink N.Sink shelf.new image.new notes.new) }
     ensures no_source { result ≢ Status.ReadFault }
 {
     match shown {

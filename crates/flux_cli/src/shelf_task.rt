@@ -1,15 +1,13 @@
 //! What a command over the shelf promises, whichever it is, and each of these commands.
 
 ghost use Rattle.std.specs.Prelude.{◌≢◌, ◌≤◌, ◌<◌, Bool, true, false, length};
-ghost use Rattle.flux_base.specs.Blames.{three_counts};
-ghost use Rattle.flux_base.specs.Counts.{counts_of};
-ghost use Rattle.flux_base.specs.Moments.{moment};
 ghost use Rattle.flux_base.specs.declared.status.Status.{Status};
+ghost use Rattle.flux_base.specs.World.{counts_at};
 ghost use Rattle.flux_cli.specs.Blamed.{CountsOnShelf};
 ghost use Rattle.flux_words.specs.DumpWords.{asked_of};
-ghost use Rattle.flux_cli.specs.FolderRuns.{on, shelf_moment};
 ghost use Rattle.flux_words.specs.SectorWords.{asked_sector};
 ghost use Rattle.flux_cli.specs.ShelfRuns.{DoesOnShelf, OfShelf, a_folder, a_sector, an_identity, some_dumps};
+ghost use Rattle.flux_cli.specs.World.{on_shelf_at};
 ghost use Rattle.flux_engine.specs.Recordings.{track_at};
 ghost use Rattle.sector_images.specs.Places.{IsSector, tracks};
 
@@ -42,11 +40,11 @@ pub(crate) trait ShelfTask<H: Shelf, W: Sink, N: Sink> {
     fn run(&self, alloc: Global, shelf: &mut H, image: &mut W, notes: &mut N) -> Status
         requires { is_bounded self.now }
         ensures did { DoesOnShelf (asked self.now) result
-            (on (shelf_moment (moment H.left H.faults H.failed shelf.old) (H.given shelf.old) (H.files shelf.old) (H.handled shelf.old)) (moment W.written W.faults W.failed image.old) (moment N.written N.faults N.failed notes.old))
-            (on (shelf_moment (moment H.left H.faults H.failed shelf.new) (H.given shelf.new) (H.files shelf.new) (H.handled shelf.new)) (moment W.written W.faults W.failed image.new) (moment N.written N.faults N.failed notes.new)) }
+            (on_shelf_at H.Source H.Shelf.own W.Sink N.Sink shelf.old image.old notes.old)
+            (on_shelf_at H.Source H.Shelf.own W.Sink N.Sink shelf.new image.new notes.new) }
         ensures blames { CountsOnShelf (over_dumps self.now) result
-            (three_counts (counts_of H.faults H.failed shelf.old) (counts_of W.faults W.failed image.old) (counts_of N.faults N.failed notes.old))
-            (three_counts (counts_of H.faults H.failed shelf.new) (counts_of W.faults W.failed image.new) (counts_of N.faults N.failed notes.new)) }
+            (counts_at H.Source W.Sink N.Sink shelf.old image.old notes.old)
+            (counts_at H.Source W.Sink N.Sink shelf.new image.new notes.new) }
         ensures no_source { result ≢ Status.ReadFault };
 }
 

@@ -1,12 +1,12 @@
 //! What a command over the source promises, whichever it is, and each of these commands.
 
 ghost use Rattle.std.specs.Prelude.{◌≤◌};
-ghost use Rattle.flux_base.specs.Blames.{CountsBy, three_counts};
-ghost use Rattle.flux_base.specs.Counts.{counts_of};
-ghost use Rattle.flux_base.specs.Moments.{moment};
+ghost use Rattle.flux_base.specs.Blames.{CountsBy};
+ghost use Rattle.flux_base.specs.World.{counts_at};
 ghost use Rattle.flux_cli.specs.Blamed.{source_blame};
 ghost use Rattle.flux_words.specs.Commands.{command_for};
-ghost use Rattle.flux_cli.specs.Runs.{Does, outside};
+ghost use Rattle.flux_cli.specs.Runs.{Does};
+ghost use Rattle.flux_cli.specs.World.{outside_at};
 ghost use Rattle.flux_words.specs.declared.command.Command.{Command};
 ghost use Rattle.flux_words.specs.declared.command.Command.TheVariants.{DecodeSet as SetCommand, FromG64 as FromCommand, Map as MapCommand, Rescue as RescueCommand, Tell as TellCommand, ToG64 as ToCommand, Trial as TrialCommand, Turns as TurnsCommand, Write as WriteCommand};
 
@@ -40,11 +40,11 @@ pub(crate) trait Task<S: Source, W: Sink, N: Sink> {
     fn run(&self, alloc: Global, source: &mut S, image: &mut W, notes: &mut N) -> Status
         requires { is_bounded self.now }
         ensures does { Does (command self.now) result
-            (outside (moment S.left S.faults S.failed source.old) (S.given source.old) (moment W.written W.faults W.failed image.old) (moment N.written N.faults N.failed notes.old))
-            (outside (moment S.left S.faults S.failed source.new) (S.given source.new) (moment W.written W.faults W.failed image.new) (moment N.written N.faults N.failed notes.new)) }
+            (outside_at S.Source W.Sink N.Sink source.old image.old notes.old)
+            (outside_at S.Source W.Sink N.Sink source.new image.new notes.new) }
         ensures blames { CountsBy (source_blame result)
-            (three_counts (counts_of S.faults S.failed source.old) (counts_of W.faults W.failed image.old) (counts_of N.faults N.failed notes.old))
-            (three_counts (counts_of S.faults S.failed source.new) (counts_of W.faults W.failed image.new) (counts_of N.faults N.failed notes.new)) };
+            (counts_at S.Source W.Sink N.Sink source.old image.old notes.old)
+            (counts_at S.Source W.Sink N.Sink source.new image.new notes.new) };
 }
 
 /// Reads one stream, and prints its transitions and turns.

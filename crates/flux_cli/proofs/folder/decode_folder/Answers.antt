@@ -1,10 +1,10 @@
 use Rattle.std.proofs.Common.{true, false, arith, Ok, refl, ap, ◌∙◌, subst}
 use Rattle.flux_base.specs.declared.status.Status.TheVariants.{ReadFault}
 use Rattle.flux_base.specs.lemmas.Blaming.{CountsBy-source, CountsBy-then}
+use Rattle.flux_base.specs.World.{sink_at}
 use Rattle.flux_cli.proofs.Blaming.{other_blames}
 use Rattle.flux_cli.proofs.Ended.{missing-refused}
 use Rattle.flux_cli.proofs.EndingLaws.{IsOverShelf, IsOverSource, ended-by-line, ends-blame}
-use Rattle.flux_base.specs.Moments.{moment}
 use Rattle.flux_cli.specs.Endings.{refuses}
 use Rattle.flux_cli.specs.Blamed.{shelf_blame}
 use Rattle.flux_cli.proofs.FolderRun.{folder-decodes, folder-fails, folder-lacks, other_status}
@@ -66,7 +66,7 @@ returns-in_default-clause-blames g c =
 
 pub returns-in-Ok-Some-clause-blames : goal.returns-in-Ok-Some-clause-blames
 returns-in-Ok-Some-clause-blames g c =
-    ends-blame shelf_blame refl refl (refuses c.missing_line.result.bytes) c.refuse.result (moment g.N.Sink.written g.N.Sink.faults g.N.Sink.failed c.args.notes.now) (moment g.N.Sink.written g.N.Sink.faults g.N.Sink.failed c.refuse.new.notes)
+    ends-blame shelf_blame refl refl (refuses c.missing_line.result.bytes) c.refuse.result (sink_at g.N.Sink c.args.notes.now) (sink_at g.N.Sink c.refuse.new.notes)
     (CountsBy-source _ _ false (record { later = c.begin.ensures.later; cause = tt; counted = c.in-Ok-Some.ensures.counted })) c.refuse.ensures
 
 pub returns-in-Ok-Some-clause-no_source : goal.returns-in-Ok-Some-clause-no_source

@@ -1,4 +1,5 @@
-use Rattle.flux_base.specs.Moments.{Moment, moment}
+use Rattle.flux_base.specs.Moments.{Moment}
+use Rattle.flux_base.specs.World.{sink_at}
 use Rattle.flux_cli.specs.Blamed.{reads_dumps}
 use Rattle.flux_cli.proofs.Captured.{folder_captured, folder_erased, runs_captured, runs_erased}
 use Rattle.flux_cli.proofs.Headlines.{Laws, runs_as_expected}
@@ -29,7 +30,7 @@ laws g c = record {
 
 -- the notes at the end
 abbrev behind : (g : Over) (c : goal.After-tell_output g) → Moment g.row.N.Denot
-behind g c = moment g.N.Sink.written g.N.Sink.faults g.N.Sink.failed c.tell_output.new.notes
+behind g c = sink_at g.N.Sink c.tell_output.new.notes
 
 pub returns-clause-ran : goal.returns-clause-ran
 returns-clause-ran g c = ran-told c.run_words-status.ensures.ran (behind g c) c.tell_output.ensures
@@ -37,47 +38,34 @@ returns-clause-ran g c = ran-told c.run_words-status.ensures.ran (behind g c) c.
 pub returns-clause-counts : goal.returns-clause-counts
 returns-clause-counts g c = counts-told c.args.words.now _ (behind g c) (reads_dumps c.args.words.now) _ _ _ _ _ _ _ c.run_words-status.result c.tell_output.ensures c.run_words-status.ensures.counts
 
-pub returns-clause-captured : goal.returns-clause-captured
-returns-clause-captured g c =
-    captured-told c.run_words-status.ensures.ran (behind g c) c.tell_output.ensures (runs_captured (laws g c) _ _ _ _ c.run_words-status.ensures.ran)
-
-pub returns-clause-erased : goal.returns-clause-erased
-returns-clause-erased g c =
-    erased-told c.run_words-status.ensures.ran (behind g c) c.tell_output.ensures (runs_erased (laws g c) _ _ _ _ c.run_words-status.ensures.ran)
-
-pub returns-clause-expected : goal.returns-clause-expected
-returns-clause-expected g c =
-    expected-told c.run_words-status.ensures.ran (behind g c) c.tell_output.ensures (runs_as_expected (laws g c) _ _ _ _ c.run_words-status.ensures.ran)
-
-pub returns-clause-folder_captured : goal.returns-clause-folder_captured
-returns-clause-folder_captured g c =
-    folder-captured-told c.run_words-status.ensures.ran (behind g c) c.tell_output.ensures (folder_captured (laws g c) _ _ _ _ c.run_words-status.ensures.ran)
-
-pub returns-clause-folder_erased : goal.returns-clause-folder_erased
-returns-clause-folder_erased g c =
-    folder-erased-told c.run_words-status.ensures.ran (behind g c) c.tell_output.ensures (folder_erased (laws g c) _ _ _ _ c.run_words-status.ensures.ran)
-
-pub returns-clause-dumps : goal.returns-clause-dumps
-returns-clause-dumps g c =
+pub returns-clause-promises : goal.returns-clause-promises
+returns-clause-promises g c =
     let said = c.dumps_say_each_sector.ensures in
     let lines = c.dump_reports_have_lines.ensures in
     let told = c.dump_lines_tell.ensures in
     let read = c.captured_dumps_are_read.ensures in
-    dumps-told c.run_words-status.ensures.ran (behind g c) c.tell_output.ensures (reads_as_expected (record {
-      said = said.said;
-      of_files = said.of_files;
-      of_files_beside = said.beside_of_files;
-      right = said.right;
-      numbered = lines.numbered;
-      told = told.told;
-      once = told.once;
-      passed = lines.passed;
-      passed_beside = lines.passed_beside;
-      passed_told = told.passed_told;
-      count = lines.count;
-      complete = c.complete_dumps_are_all_read.ensures;
-      stays = said.stays;
-      whole = read.never_wrong;
-      steady = read.well;
-      pictures = c.dumps_are_drawn_as_reported.ensures;
-    }) c.words_name_formats.ensures.letters c.words_name_formats.ensures.one _ _ _ _ c.run_words-status.ensures.ran)
+    record {
+      captured = captured-told c.run_words-status.ensures.ran (behind g c) c.tell_output.ensures (runs_captured (laws g c) _ _ _ _ c.run_words-status.ensures.ran);
+      erased = erased-told c.run_words-status.ensures.ran (behind g c) c.tell_output.ensures (runs_erased (laws g c) _ _ _ _ c.run_words-status.ensures.ran);
+      expected = expected-told c.run_words-status.ensures.ran (behind g c) c.tell_output.ensures (runs_as_expected (laws g c) _ _ _ _ c.run_words-status.ensures.ran);
+      folder_captured = folder-captured-told c.run_words-status.ensures.ran (behind g c) c.tell_output.ensures (folder_captured (laws g c) _ _ _ _ c.run_words-status.ensures.ran);
+      folder_erased = folder-erased-told c.run_words-status.ensures.ran (behind g c) c.tell_output.ensures (folder_erased (laws g c) _ _ _ _ c.run_words-status.ensures.ran);
+      dumps = dumps-told c.run_words-status.ensures.ran (behind g c) c.tell_output.ensures (reads_as_expected (record {
+        said = said.said;
+        of_files = said.of_files;
+        of_files_beside = said.beside_of_files;
+        right = said.right;
+        numbered = lines.numbered;
+        told = told.told;
+        once = told.once;
+        passed = lines.passed;
+        passed_beside = lines.passed_beside;
+        passed_told = told.passed_told;
+        count = lines.count;
+        complete = c.complete_dumps_are_all_read.ensures;
+        stays = said.stays;
+        whole = read.never_wrong;
+        steady = read.well;
+        pictures = c.dumps_are_drawn_as_reported.ensures;
+      }) c.words_name_formats.ensures.letters c.words_name_formats.ensures.one _ _ _ _ c.run_words-status.ensures.ran);
+    }

@@ -1,10 +1,10 @@
 use Rattle.std.proofs.Common.{true, false, arith, refl}
 use Rattle.std.proofs.KnownBytes.{Appends-nil, Keeps-refl}
 use Rattle.flux_base.specs.lemmas.Blaming.{CountsBy-image, CountsBy-source, CountsBy-then}
+use Rattle.flux_base.specs.World.{sink_at}
 use Rattle.flux_cli.proofs.Ended.{turns-refused}
 use Rattle.flux_cli.proofs.EndingLaws.{ends-blame}
 use Rattle.flux_cli.proofs.TurnsRun.{turns-finish, turns-cut-read, turns-cut-image, turns-reads}
-use Rattle.flux_base.specs.Moments.{moment}
 use Rattle.flux_cli.specs.Endings.{refuses}
 use Rattle.flux_cli.specs.Blamed.{source_blame}
 use Rattle.flux_cli.proofs.turns.print_turns.Goals as goal
@@ -60,5 +60,5 @@ returns-in-Err-ReadFault-clause-blames g c = CountsBy-source _ _ true (rw c.in-E
 
 pub returns-in-Err-Refused-clause-blames : goal.returns-in-Err-Refused-clause-blames
 returns-in-Err-Refused-clause-blames g c =
-    ends-blame source_blame refl refl (refuses c.refused_line.result.bytes) c.refuse.result (moment g.N.Sink.written g.N.Sink.faults g.N.Sink.failed c.args.notes.now) (moment g.N.Sink.written g.N.Sink.faults g.N.Sink.failed c.refuse.new.notes)
+    ends-blame source_blame refl refl (refuses c.refused_line.result.bytes) c.refuse.result (sink_at g.N.Sink c.args.notes.now) (sink_at g.N.Sink c.refuse.new.notes)
     (CountsBy-source _ _ false (rw c.in-Err-Refused.field-0-is at c.in-Err-Refused.ensures.counts)) c.refuse.ensures
