@@ -1,5 +1,5 @@
 -- Which finding is the best of some.
-use Rattle.std.proofs.Common.{◌≡◌, ◌<◌, ◌≤◌, ◌⊎◌, ◌≢◌, inl, inr, ℕ, zero, suc, Bool, true, false, List, [], ◌∷◌, ◌++◌, length, Option, None, Some, arith, refl, sym, ap, subst, ◌∙◌, append-nil, append_assoc}
+use Rattle.std.proofs.Common.{◌≡◌, ◌<◌, ◌≤◌, ◌⊎◌, ◌≢◌, inl, inr, ℕ, Bool, true, false, List, [], ◌∷◌, ◌++◌, Option, None, Some, arith, refl, sym, ap, subst, ◌∙◌, append-nil, append_assoc}
 use Rattle.std.specs.Prelude.{◌&&◌, All, cond, find, nat_eq, nat_lt, not}
 use Rattle.std.specs.Option.{option_or}
 use Rattle.std.specs.Bool.{Decides}
@@ -247,6 +247,12 @@ pub best-among : (findings : List Finding) (best : Finding) → best_of findings
 best-among findings best is =
     let leads : Leads findings best = subst (LeadsAll findings) is (leads-best findings) in
     (leads.front, leads.back, leads.is)
+
+-- it has a good sector
+pub best-good : (findings : List Finding) (best : Finding) → best_of findings ≡ Some best → has_good best ≡ true
+best-good findings best is =
+    let leads : Leads findings best = subst (LeadsAll findings) is (leads-best findings) in
+    (good-decides best).1 leads.good
 
 -- the best of some and one more
 pub best-next : (findings : List Finding) (next : Finding) → best_of (findings ++ next ∷ []) ≡ next-best (best_of findings) next

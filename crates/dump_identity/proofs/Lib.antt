@@ -1,3 +1,4 @@
+pub mod AllFiles
 pub mod Best
 pub mod Complete
 pub mod Moments

@@ -66,11 +66,11 @@ module _ (dump : List ℕ) (files : List File) where
   -- what a dump comes to as a disk is the same where the same files failed
   module _ (dumps_are_one : DumpsAreOne) where
     one-read : (disk : DumpDisk) (a b : DumpsRead) (told told' : Option (List File)) → told ≡ Some files → told' ≡ Some files → (p : IsDumpsRead disk told a) (q : IsDumpsRead disk told' b)
-        → FailedAlike p.streams q.streams → a ≡ b
+        → FailedAlike p.streams q.streams → FailedAlike p.beside.came q.beside.came → a ≡ b
     one-read disk a b told told' first second =
-        subst (λ (t : Option (List File)). (p : IsDumpsRead disk t a) (q : IsDumpsRead disk told' b) → FailedAlike p.streams q.streams → a ≡ b)
+        subst (λ (t : Option (List File)). (p : IsDumpsRead disk t a) (q : IsDumpsRead disk told' b) → FailedAlike p.streams q.streams → FailedAlike p.beside.came q.beside.came → a ≡ b)
         (sym first)
-        (subst (λ (t : Option (List File)). (p : IsDumpsRead disk (Some files) a) (q : IsDumpsRead disk t b) → FailedAlike p.streams q.streams → a ≡ b)
+        (subst (λ (t : Option (List File)). (p : IsDumpsRead disk (Some files) a) (q : IsDumpsRead disk t b) → FailedAlike p.streams q.streams → FailedAlike p.beside.came q.beside.came → a ≡ b)
         (sym second) (dumps_are_one disk files a b))
 
     module _ (start now start' now' : ShelfNow) (first : start.told.files ≡ Some files) (second : start'.told.files ≡ Some files) where
@@ -81,7 +81,7 @@ module _ (dump : List ℕ) (files : List File) where
       one-totals candidate (Some t) None x y alike = absurd (false-true (sym (y.0 files second).0 ∙ x.some files first 0 (omega arith)))
       one-totals candidate (Some t) (Some s) x y alike =
           ap Some (x.totals_are ∙ ap (λ (o : DumpsRead). o.totals)
-          (one-read (disk_as dump candidate) x.outcome y.outcome start.told.files start'.told.files first second x.is y.is alike) ∙ sym y.totals_are)
+          (one-read (disk_as dump candidate) x.outcome y.outcome start.told.files start'.told.files first second x.is y.is alike.0 alike.1) ∙ sym y.totals_are)
 
       -- where the second candidate is the first one
       one-of : (candidate candidate' : Candidate) → candidate ≡ candidate' → (a b : Option DumpTotals) (x : ComesTo dump start now candidate a) (y : ComesTo dump start' now' candidate' b)

@@ -1,8 +1,9 @@
 -- What reading a dump as one disk says.
-use Rattle.std.proofs.Common.{◌≡◌, ℕ, List, [], ◌∷◌, length, Option, None, Some, Ok, Err, arith, sym, ap, subst, ◌∙◌}
+use Rattle.std.proofs.Common.{◌≡◌, ℕ, List, [], ◌∷◌, Option, None, Some, Ok, Err, arith, sym, ap, subst, ◌∙◌}
 use Rattle.dump_reading.specs.Files.{ShelfNow}
 use Rattle.dump_reading.specs.Outcomes.{DumpDisk, IsToldEmpty, SaysOfDumps}
 use Rattle.dump_reading.specs.declared.fault.DumpsFault.TheVariants.{NoFiles}
+use Rattle.dump_reading.specs.declared.looks.Looks.TheVariants.{WhereGood}
 use Rattle.dump_reading.specs.declared.totals.DumpTotals.{DumpTotals}
 use Rattle.flux_engine.specs.Room.{RoomState, fresh}
 use Rattle.flux_engine.specs.declared.plan.Clocks.TheVariants.{FollowingAlone}
@@ -26,10 +27,10 @@ module _ (dump : List ℕ) (start now : ShelfNow) (candidate : Candidate) (disk 
 
 -- the dump alone, as the candidate's disk
 pub same-disk : (dump : List ℕ) (candidate : Candidate) (names : List (List ℕ)) (format : Format) → names ≡ dump ∷ [] → format ≡ candidate.format
-    → ◌≡◌ {A = DumpDisk} (record { stepping = candidate.stepping; dumps = names; format = format; clocks = FollowingAlone }) (disk_as dump candidate)
+    → ◌≡◌ {A = DumpDisk} (record { stepping = candidate.stepping; dumps = names; format = format; clocks = FollowingAlone; looks = WhereGood }) (disk_as dump candidate)
 same-disk dump candidate names format one same =
-    ap (λ (ns : List (List ℕ)). let d : DumpDisk = record { stepping = candidate.stepping; dumps = ns; format = format; clocks = FollowingAlone } in d) one
-    ∙ ap (λ (f : Format). let d : DumpDisk = record { stepping = candidate.stepping; dumps = dump ∷ []; format = f; clocks = FollowingAlone } in d) same
+    ap (λ (ns : List (List ℕ)). let d : DumpDisk = record { stepping = candidate.stepping; dumps = ns; format = format; clocks = FollowingAlone; looks = WhereGood } in d) one
+    ∙ ap (λ (f : Format). let d : DumpDisk = record { stepping = candidate.stepping; dumps = dump ∷ []; format = f; clocks = FollowingAlone; looks = WhereGood } in d) same
 
 -- a fresh room is one of its own format
 pub format-of : (room : RoomState) (format : Format) → room ≡ fresh format → room.format ≡ format

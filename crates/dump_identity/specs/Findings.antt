@@ -3,6 +3,7 @@ use Rattle.std.specs.Prelude.{◌≡◌, ◌&&◌, if◌then◌else◌, ℕ, Boo
 use Rattle.std.specs.List.{list_all, list_any}
 use Rattle.std.specs.Option.{is_some}
 use Rattle.flux_engine.specs.declared.plan.Clocks.TheVariants.{FollowingAlone}
+use Rattle.dump_reading.specs.declared.looks.Looks.TheVariants.{WhereGood}
 use Rattle.dump_reading.specs.Files.{ShelfNow}
 use Rattle.dump_reading.specs.Outcomes.{DumpDisk, DumpsRead, FilesFailed, IsDumpsRead, IsToldEmpty}
 use Rattle.dump_reading.specs.Totals.{is_complete as are_complete}
@@ -12,16 +13,17 @@ use Rattle.dump_identity.specs.declared.finding.Finding.{Finding}
 use Rattle.dump_identity.specs.declared.identity.Identity.{Identity}
 use Rattle.dump_identity.specs.declared.tried.Tried.{Tried}
 
--- a dump as a candidate's disk, read by the clock that follows the drive alone
+-- A dump as a candidate's disk, read by the clock that follows the drive alone. The files beside those of its tracks are looked at where a sector is
+-- good: only such a candidate has a line, or can be the best.
 abbrev pub disk_as : (dump : List ℕ) → Candidate → DumpDisk
-disk_as dump candidate = record { stepping = candidate.stepping; dumps = dump ∷ []; format = candidate.format; clocks = FollowingAlone }
+disk_as dump candidate = record { stepping = candidate.stepping; dumps = dump ∷ []; format = candidate.format; clocks = FollowingAlone; looks = WhereGood }
 
 -- It has the file of one of the disk's tracks, and this is what it came to in numbers as it was read between two moments of the shelf.
 pub record CameTo (dump : List ℕ) (start now : ShelfNow) (candidate : Candidate) (totals : DumpTotals) : Type 0 where
   pub some : IsToldEmpty (disk_as dump candidate) start.told.files None
   pub outcome : DumpsRead
   pub is : IsDumpsRead (disk_as dump candidate) start.told.files outcome
-  pub shelf : FilesFailed (disk_as dump candidate) start now is.streams
+  pub shelf : FilesFailed (disk_as dump candidate) start now is.streams is.beside.came
   pub totals_are : totals ≡ outcome.totals
 
 -- what it comes to between two moments of the shelf: none, and nothing is read, where the dump has the file of none of the disk's tracks

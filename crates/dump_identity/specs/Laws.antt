@@ -3,18 +3,34 @@ use Rattle.std.specs.Prelude.{◌≡◌, ℕ, true, List, ◌∷◌, Option, Som
 use Rattle.track_shelf.specs.Files.{File}
 use Rattle.dump_reading.specs.DumpStreams.{FailedAlike}
 use Rattle.dump_reading.specs.Files.{ShelfNow}
-use Rattle.dump_reading.specs.Outcomes.{DumpsRead, IsDumpsRead}
+use Rattle.dump_reading.specs.Outcomes.{DumpDisk, DumpsRead, IsDumpsRead}
 use Rattle.dump_reading.specs.Totals.{is_complete as are_complete}
+use Rattle.dump_reading.specs.declared.looks.Looks.TheVariants.{Always}
 use Rattle.dump_reading.specs.declared.totals.DumpTotals.{DumpTotals}
-use Rattle.dump_identity.specs.Findings.{AreFindings, ComesTo, disk_as, is_complete}
+use Rattle.dump_identity.specs.Findings.{AreFindings, CameTo, ComesTo, disk_as, has_good, is_complete}
 use Rattle.dump_identity.specs.Outcomes.{HasNoFiles, Identified, IsIdentified}
 use Rattle.dump_identity.specs.declared.candidate.Candidate.{Candidate}
 use Rattle.dump_identity.specs.declared.finding.Finding.{Finding}
 
--- the dump as the candidate's disk, read by the clock that follows the drive alone: every sector is good, and no other name has data
+-- a dump as a candidate's disk, by the clock that follows the drive alone, with all of its files
+abbrev pub all_as : (dump : List ℕ) → Candidate → DumpDisk
+all_as dump candidate = record (disk_as dump candidate) { looks = Always }
+
+-- these are its numbers so
+pub record IsOfAllFiles (dump : List ℕ) (told : Option (List File)) (candidate : Candidate) (totals : DumpTotals) : Type 0 where
+  pub outcome : DumpsRead
+  pub is : IsDumpsRead (all_as dump candidate) told outcome
+  pub totals_are : totals ≡ outcome.totals
+
+-- where a sector is good, so that there is a line, none of the dump's files is left out
+abbrev pub LinesAreOfAllFiles : Type 0
+LinesAreOfAllFiles = (dump : List ℕ) (start now : ShelfNow) (candidate : Candidate) (totals : DumpTotals) → CameTo dump start now candidate totals
+    → has_good (record { candidate = candidate; totals = Some totals }) ≡ true → IsOfAllFiles dump start.told.files candidate totals
+
+-- so read, every sector is good, and no other name has data
 pub record IsReadWhole (dump : List ℕ) (told : Option (List File)) (candidate : Candidate) : Type 0 where
   pub outcome : DumpsRead
-  pub is : IsDumpsRead (disk_as dump candidate) told outcome
+  pub is : IsDumpsRead (all_as dump candidate) told outcome
   pub whole : are_complete outcome.totals ≡ true
 
 -- so it is where the best of all is complete
@@ -26,7 +42,7 @@ CompleteIsReadWhole = (dump : List ℕ) (start now : ShelfNow) (o : Identified) 
 abbrev pub FailedAlikeAs : (dump : List ℕ) (start now start' now' : ShelfNow) (candidate candidate' : Candidate) (totals totals' : Option DumpTotals)
     → ComesTo dump start now candidate totals → ComesTo dump start' now' candidate' totals' → Type 0
 FailedAlikeAs dump start now start' now' candidate candidate' (Some totals) (Some totals') one other =
-    FailedAlike one.is.streams other.is.streams
+    FailedAlike one.is.streams other.is.streams × FailedAlike one.is.beside.came other.is.beside.came
 FailedAlikeAs dump start now start' now' candidate candidate' _ _ one other = Unit {0}
 
 -- as each disk

@@ -18,7 +18,7 @@ use crate::identity::Identity;
 use crate::lines::{best_line, finding_line};
 use crate::room::{IdentityRoom, Trial};
 use crate::tried::Tried;
-use dump_reading::{DumpTotals, Dumps, DumpsFault, read_dumps_by};
+use dump_reading::{DumpTotals, Dumps, DumpsFault, Looks, read_dumps_by};
 use flux_base::{CountingSink, Failed, Sink, Word};
 use flux_engine::{Clocks, DiskRoom};
 use sector_report::write_line;
@@ -26,10 +26,10 @@ use std::slice::from_ref;
 use track_shelf::Shelf;
 
 /// Says which disk a dump is of. It is read as a disk of each format that has a name, in the order of their table, with one step for each cylinder,
-/// and for those of up to 42 cylinders then with two: as `read_dumps` reads it, by the clock that follows the drive alone. Each that
-/// has a good sector gets a line as soon as it was read, which also tells how many files failed, and the last line names the best: the one
-/// with most good sectors, of those the one with fewest other names that have whole data, of those the one with fewest sectors, and of those the
-/// first. A file that fails is passed over, each time. No answer is for want of memory.
+/// and for those of up to 42 cylinders then with two: as `read_dumps` reads it, by the clock that follows the drive alone. The files beside the
+/// disk's tracks are looked at where a sector is good. Each disk that has a good sector gets a line as soon as it was read, which also tells how
+/// many files failed, and the last line names the best: the one with most good sectors, of those the one with fewest other names that have whole
+/// data, of those the one with fewest sectors, and of those the first. A file that fails is passed over, each time. No answer is for want of memory.
 ///
 /// A dump that has no file of any track is refused, and nothing is written. After a fault of the sink nothing more is read or written, and the
 /// lines before are written whole. `ImageFault` is that of the lines. No notes are written, so `NotesFault` does not come.
@@ -128,6 +128,7 @@ fn read_as<H: Shelf>(
     let mut notes = CountingSink::new();
     match read_dumps_by(
         Clocks::FollowingAlone,
+        Looks::WhereGood,
         &dumps,
         disk,
         shelf,

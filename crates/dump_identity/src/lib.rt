@@ -14,5 +14,5 @@ pub use candidate::Candidate;
 pub use finding::Finding;
 pub use identifying::identify;
 pub use identity::Identity;
-pub use laws::{complete_is_read_whole, identities_are_one};
+pub use laws::{complete_is_read_whole, identities_are_one, lines_are_of_all_files};
 pub use room::IdentityRoom;

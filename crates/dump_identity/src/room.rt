@@ -41,7 +41,7 @@ impl Model for IdentityRoom {
 }
 
 impl IdentityRoom {
-    /// Takes it.
+    /// Takes it. What is in it then is the invariant: all candidates in order, each with an empty book.
     pub fn reserve(alloc: Global) -> Result<IdentityRoom, Memory> {
         let disk = DiskRoom::reserve(alloc, Format::Ibm3740)?;
         let mut trials = Vec::new(alloc);
