@@ -1,3 +1,4 @@
+mod beside;
 mod dumps;
 mod identities;
 mod names;
