@@ -2,13 +2,13 @@
 
 ghost use Rattle.std.specs.Prelude.{◌≡◌, is_err, IfOk, OnErr};
 ghost use Rattle.flux_base.specs.Blames.{CountsBy, no_counts, three_counts};
-ghost use Rattle.flux_base.specs.Counts.{Counts, counts_of};
-ghost use Rattle.flux_base.specs.Moments.{Puts, moment};
+ghost use Rattle.flux_base.specs.Counts.{Counts};
+ghost use Rattle.flux_base.specs.Moments.{Puts};
+ghost use Rattle.flux_base.specs.World.{sink_at, sink_counts};
 ghost use Rattle.flux_engine.specs.Room.{empty_book, fresh};
 ghost use Rattle.dump_reading.specs.Blamed.{dumps_blame};
-ghost use Rattle.dump_reading.specs.Files.{shelf_now};
+ghost use Rattle.dump_reading.specs.Files.{shelf_at};
 ghost use Rattle.dump_identity.specs.Findings.{ComesTo};
-ghost use Rattle.track_shelf.specs.Told.{told_by};
 ghost use Rattle.dump_identity.specs.Lines.{line_of};
 ghost use Rattle.dump_identity.specs.Outcomes.{CutLine, FoundOne, HasTried, SaysOfIdentity, WroteIntoLine};
 
@@ -39,12 +39,12 @@ pub fn identify<H: Shelf, W: Sink>(
     shelf: &mut H,
     lines: &mut W,
 ) -> Result<Identity, DumpsFault>
-    ensures says { SaysOfIdentity dump.now (shelf_now (told_by H.files H.left H.given H.handled shelf.old) (counts_of H.faults H.failed shelf.old)) (shelf_now (told_by H.files H.left H.given H.handled shelf.new) (counts_of H.faults H.failed shelf.new)) (W.written lines.old) (W.written lines.new) result }
+    ensures says { SaysOfIdentity dump.now (shelf_at H.Source H.Shelf.own shelf.old) (shelf_at H.Source H.Shelf.own shelf.new) (W.written lines.old) (W.written lines.new) result }
 
     // What the shelf did is in what came of it.
     ensures blames { CountsBy (dumps_blame result)
-        (three_counts no_counts (counts_of W.faults W.failed lines.old) no_counts)
-        (three_counts no_counts (counts_of W.faults W.failed lines.new) no_counts) }
+        (three_counts no_counts (sink_counts W.Sink lines.old) no_counts)
+        (three_counts no_counts (sink_counts W.Sink lines.new) no_counts) }
 {
     let tried = match try_all(dump, room, shelf, lines) {
         Ok(tried) => tried,
@@ -69,9 +69,9 @@ fn try_all<H: Shelf, W: Sink>(
     shelf: &mut H,
     lines: &mut W,
 ) -> Result<Tried, Failed>
-    ensures ok { IfOk result (HasTried dump.now (shelf_now (told_by H.files H.left H.given H.handled shelf.old) (counts_of H.faults H.failed shelf.old)) (shelf_now (told_by H.files H.left H.given H.handled shelf.new) (counts_of H.faults H.failed shelf.new)) (W.written lines.old) (W.written lines.new)) }
-    ensures err { OnErr result (WroteIntoLine dump.now (shelf_now (told_by H.files H.left H.given H.handled shelf.old) (counts_of H.faults H.failed shelf.old)) (shelf_now (told_by H.files H.left H.given H.handled shelf.new) (counts_of H.faults H.failed shelf.new)) (W.written lines.old) (W.written lines.new)) }
-    ensures counts { Counts (is_err result) (counts_of W.faults W.failed lines.old) (counts_of W.faults W.failed lines.new) }
+    ensures ok { IfOk result (HasTried dump.now (shelf_at H.Source H.Shelf.own shelf.old) (shelf_at H.Source H.Shelf.own shelf.new) (W.written lines.old) (W.written lines.new)) }
+    ensures err { OnErr result (WroteIntoLine dump.now (shelf_at H.Source H.Shelf.own shelf.old) (shelf_at H.Source H.Shelf.own shelf.new) (W.written lines.old) (W.written lines.new)) }
+    ensures counts { Counts (is_err result) (sink_counts W.Sink lines.old) (sink_counts W.Sink lines.new) }
 {
     let mut disk = room.disk;
     let mut tried = Tried::none();
@@ -93,9 +93,9 @@ fn try_one<H: Shelf, W: Sink>(
     lines: &mut W,
 ) -> Result<Finding, Failed>
     requires { trial.book ≡ empty_book trial.candidate.format }
-    ensures ok { IfOk result (FoundOne dump.now (shelf_now (told_by H.files H.left H.given H.handled shelf.old) (counts_of H.faults H.failed shelf.old)) (shelf_now (told_by H.files H.left H.given H.handled shelf.new) (counts_of H.faults H.failed shelf.new)) (W.written lines.old) (W.written lines.new) trial.candidate) }
-    ensures err { OnErr result (CutLine dump.now (shelf_now (told_by H.files H.left H.given H.handled shelf.old) (counts_of H.faults H.failed shelf.old)) (shelf_now (told_by H.files H.left H.given H.handled shelf.new) (counts_of H.faults H.failed shelf.new)) (W.written lines.old) (W.written lines.new) trial.candidate) }
-    ensures counts { Counts (is_err result) (counts_of W.faults W.failed lines.old) (counts_of W.faults W.failed lines.new) }
+    ensures ok { IfOk result (FoundOne dump.now (shelf_at H.Source H.Shelf.own shelf.old) (shelf_at H.Source H.Shelf.own shelf.new) (W.written lines.old) (W.written lines.new) trial.candidate) }
+    ensures err { OnErr result (CutLine dump.now (shelf_at H.Source H.Shelf.own shelf.old) (shelf_at H.Source H.Shelf.own shelf.new) (W.written lines.old) (W.written lines.new) trial.candidate) }
+    ensures counts { Counts (is_err result) (sink_counts W.Sink lines.old) (sink_counts W.Sink lines.new) }
 {
     let candidate = trial.candidate;
     disk.begin_format(candidate.format, trial.book);
@@ -118,7 +118,7 @@ fn read_as<H: Shelf>(
     shelf: &mut H,
 ) -> Option<DumpTotals>
     requires { disk.old ≡ fresh candidate.format }
-    ensures { ComesTo dump.now (shelf_now (told_by H.files H.left H.given H.handled shelf.old) (counts_of H.faults H.failed shelf.old)) (shelf_now (told_by H.files H.left H.given H.handled shelf.new) (counts_of H.faults H.failed shelf.new)) candidate result }
+    ensures { ComesTo dump.now (shelf_at H.Source H.Shelf.own shelf.old) (shelf_at H.Source H.Shelf.own shelf.new) candidate result }
 {
     let dumps = Dumps {
         names: from_ref(dump),
@@ -145,7 +145,7 @@ fn read_as<H: Shelf>(
 
 /// Writes the line of a candidate, where it has a good sector.
 fn write_finding<W: Sink>(finding: &Finding, lines: &mut W) -> Result<(), Failed>
-    ensures { Puts (moment W.written W.faults W.failed lines.old) (moment W.written W.faults W.failed lines.new) (line_of finding.now) result }
+    ensures { Puts (sink_at W.Sink lines.old) (sink_at W.Sink lines.new) (line_of finding.now) result }
 {
     if !finding.has_good() {
         return Ok(());

@@ -1,8 +1,6 @@
 use Rattle.std.proofs.Common.{true, false, inl, inr}
-use Rattle.flux_base.specs.Counts.{counts_of}
 use Rattle.flux_base.specs.lemmas.Blaming.{CountsBy-image, CountsBy-then}
-use Rattle.track_shelf.specs.Told.{told_by}
-use Rattle.dump_reading.specs.Files.{shelf_now}
+use Rattle.dump_reading.specs.Files.{shelf_at}
 use Rattle.dump_identity.proofs.Tries.{tried-cut, tried-none, tried-wrote}
 use Rattle.dump_identity.proofs.identifying.identify.Goals as goal
 
@@ -11,21 +9,21 @@ returns-in-Err-clause-says g c = inl c.in-Err.ensures.err
 
 pub returns-then-not-tried-clause-says : goal.returns-then-not-tried-clause-says
 returns-then-not-tried-clause-says g c =
-    tried-none c.args.dump.now (shelf_now (told_by g.H.Shelf.files g.H.Source.left g.H.Source.given g.H.Shelf.handled c.args.shelf.now) (counts_of g.H.Source.faults g.H.Source.failed c.args.shelf.now))
-    (shelf_now (told_by g.H.Shelf.files g.H.Source.left g.H.Source.given g.H.Shelf.handled c.try_all.new.shelf) (counts_of g.H.Source.faults g.H.Source.failed c.try_all.new.shelf))
+    tried-none c.args.dump.now (shelf_at g.H.Source g.H.Shelf c.args.shelf.now)
+    (shelf_at g.H.Source g.H.Shelf c.try_all.new.shelf)
     (g.W.Sink.written c.args.lines.now) (g.W.Sink.written c.try_all.new.lines) c.in-Ok.tried c.in-Ok.ensures.ok c.if-not-tried.true
 
 pub returns-in-Ok-write_line-clause-says : goal.returns-in-Ok-write_line-clause-says
 returns-in-Ok-write_line-clause-says g c =
-    tried-wrote c.args.dump.now (shelf_now (told_by g.H.Shelf.files g.H.Source.left g.H.Source.given g.H.Shelf.handled c.args.shelf.now) (counts_of g.H.Source.faults g.H.Source.failed c.args.shelf.now))
-    (shelf_now (told_by g.H.Shelf.files g.H.Source.left g.H.Source.given g.H.Shelf.handled c.try_all.new.shelf) (counts_of g.H.Source.faults g.H.Source.failed c.try_all.new.shelf))
+    tried-wrote c.args.dump.now (shelf_at g.H.Source g.H.Shelf c.args.shelf.now)
+    (shelf_at g.H.Source g.H.Shelf c.try_all.new.shelf)
     (g.W.Sink.written c.args.lines.now) (g.W.Sink.written c.try_all.new.lines) c.in-Ok.tried c.in-Ok.ensures.ok
     c.if-not-tried.false (g.W.Sink.written c.write_line.new.sink) (rw c.best_line.ensures at c.in-Ok-write_line.ensures.ok)
 
 pub returns-in-Err-write_line-clause-says : goal.returns-in-Err-write_line-clause-says
 returns-in-Err-write_line-clause-says g c =
-    inr (tried-cut c.args.dump.now (shelf_now (told_by g.H.Shelf.files g.H.Source.left g.H.Source.given g.H.Shelf.handled c.args.shelf.now) (counts_of g.H.Source.faults g.H.Source.failed c.args.shelf.now))
-    (shelf_now (told_by g.H.Shelf.files g.H.Source.left g.H.Source.given g.H.Shelf.handled c.try_all.new.shelf) (counts_of g.H.Source.faults g.H.Source.failed c.try_all.new.shelf))
+    inr (tried-cut c.args.dump.now (shelf_at g.H.Source g.H.Shelf c.args.shelf.now)
+    (shelf_at g.H.Source g.H.Shelf c.try_all.new.shelf)
     (g.W.Sink.written c.args.lines.now) (g.W.Sink.written c.try_all.new.lines) c.in-Ok.tried c.in-Ok.ensures.ok
     (g.W.Sink.written c.write_line.new.sink) (rw c.best_line.ensures at c.in-Err-write_line.ensures.err))
 

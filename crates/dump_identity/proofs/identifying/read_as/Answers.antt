@@ -1,6 +1,4 @@
-use Rattle.flux_base.specs.Counts.{counts_of}
-use Rattle.track_shelf.specs.Told.{told_by}
-use Rattle.dump_reading.specs.Files.{shelf_now}
+use Rattle.dump_reading.specs.Files.{shelf_at}
 use Rattle.dump_identity.proofs.Readings.{comes-none, comes-read, format-of, fresh-own, same-disk}
 use Rattle.dump_identity.proofs.identifying.read_as.Goals as goal
 
@@ -10,8 +8,8 @@ read_dumps_by-requires-clause-fresh g c = fresh-own c.args.disk.now c.args.candi
 pub returns-in-Ok : goal.returns-in-Ok
 returns-in-Ok g c =
     comes-read c.args.dump.now
-    (shelf_now (told_by g.H.Shelf.files g.H.Source.left g.H.Source.given g.H.Shelf.handled c.args.shelf.now) (counts_of g.H.Source.faults g.H.Source.failed c.args.shelf.now))
-    (shelf_now (told_by g.H.Shelf.files g.H.Source.left g.H.Source.given g.H.Shelf.handled c.read_dumps_by.new.shelf) (counts_of g.H.Source.faults g.H.Source.failed c.read_dumps_by.new.shelf))
+    (shelf_at g.H.Source g.H.Shelf c.args.shelf.now)
+    (shelf_at g.H.Source g.H.Shelf c.read_dumps_by.new.shelf)
     c.args.candidate _
     (same-disk c.args.dump.now c.args.candidate c.from_ref.result.now c.args.disk.now.format c.from_ref.ensures.value (format-of c.args.disk.now c.args.candidate.format c.requires)) _ _ _ _
     c.in-Ok.totals c.in-Ok.ensures.says
@@ -20,8 +18,8 @@ pub returns-in-Err-NoFiles : goal.returns-in-Err-NoFiles
 returns-in-Err-NoFiles g c =
     let e = c.in-Err-NoFiles in
     comes-none c.args.dump.now
-    (shelf_now (told_by g.H.Shelf.files g.H.Source.left g.H.Source.given g.H.Shelf.handled c.args.shelf.now) (counts_of g.H.Source.faults g.H.Source.failed c.args.shelf.now))
-    (shelf_now (told_by g.H.Shelf.files g.H.Source.left g.H.Source.given g.H.Shelf.handled c.read_dumps_by.new.shelf) (counts_of g.H.Source.faults g.H.Source.failed c.read_dumps_by.new.shelf))
+    (shelf_at g.H.Source g.H.Shelf c.args.shelf.now)
+    (shelf_at g.H.Source g.H.Shelf c.read_dumps_by.new.shelf)
     c.args.candidate _
     (same-disk c.args.dump.now c.args.candidate c.from_ref.result.now c.args.disk.now.format c.from_ref.ensures.value (format-of c.args.disk.now c.args.candidate.format c.requires)) _ _ _ _
     e.field-0-0 (rw e.field-0-is at e.ensures.says)
