@@ -16,9 +16,10 @@ SHORT = index_block(0, 0, 0) + b"\x60\x60" + index_block(2, 5, 24) + b"\r\x03\x0
 
 @dataclasses.dataclass
 class Row:
-    """A run of the program: its words, what it reads on standard input, its exit code, and the bytes that standard output and standard error have to have.
+    """A run of the program: its words, what it reads on standard input, its exit code, the bytes that standard output and standard error have to have, and
+    the files of the folder in which it runs, by their paths.
 
-    What it reads may be a function of the program. Where bytes are None, `also` alone looks at them: it says of both what is wrong, or nothing."""
+    What it reads and the files may be functions of the program. Where bytes are None, `also` alone looks at them: it says of both what is wrong, or nothing."""
     name: str
     words: list
     given: object
@@ -26,6 +27,7 @@ class Row:
     output: object = b""
     errors: object = b""
     also: object = None
+    files: object = ()
 
 
 # Rings and streams
@@ -130,7 +132,7 @@ class Disk:
         yield Row(f"{name}, report", ["report", self.form.word], given, code, self.report())
 
     def refused(self, name, line, given, words=None):
-        """`decode` gives what the tracks so far come to, and then this line."""
+        """`decode`, or the command of these words, gives what the tracks so far come to, and then this line."""
         return Row(name, words or ["decode", self.form.word], given, 2, self.image(), "".join([*self.lines, line]).encode())
 
 
@@ -141,6 +143,16 @@ def verdicts_of(text):
         head, _, place = verdict.rpartition(" ")
         for number in range(int(count)):
             yield f"{head} {int(place) + number * int(step)}" if "+" in part else verdict
+
+
+def track_file(folder, cylinder, head):
+    """The path of a track's file in the folder of a dump."""
+    return f"{folder}/track{cylinder:02}.{head}.raw"
+
+
+def files_of(folder, word, streams):
+    """A file for each track of a disk."""
+    return {track_file(folder, *track): stream for track, stream in zip(plain.FORMATS[word].tracks, streams, strict=True)}
 
 
 def pc_verdicts():

@@ -1,5 +1,5 @@
-//! Images of all formats that are written as streams and read back, disks of which several streams capture each track, and
-//! dumps whose files lie on a shelf in memory: tests alone, of `flux_cli::run` and of the calls below it.
+//! Images that are written, disks of which several streams capture each track, and dumps whose files lie on a shelf in memory,
+//! where a call fails or is counted: tests alone, of `flux_cli::run`. What needs neither is a row of `.ci/rows`.
 #![tactic(auto)]
 
 #[cfg(test)]

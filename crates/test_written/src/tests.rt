@@ -1,10 +1,7 @@
 mod captures;
 mod dumps;
 mod folders;
-mod images;
 mod pc_disk;
 mod runs;
 mod sectors;
-mod sets;
 mod shelves;
-mod tracks;

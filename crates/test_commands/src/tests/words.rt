@@ -52,7 +52,12 @@ const NO_COMMANDS: &[&[&str]] = &[
     &["decode-set", "amiga", "0"],
     &["decode-set", "amiga", "00"],
     &["decode-set", "amiga", "17"],
+    &["decode-set", "amiga", "20"],
+    &["decode-set", "amiga", "99"],
     &["decode-set", "amiga", "001"],
+    &["decode-set", "amiga", "016"],
+    &["decode-set", "amiga", "1 "],
+    &["decode-set", "amiga", "-1"],
     &["decode-set", "amiga", "+1"],
     &["decode-set", "amiga", "2x"],
 ];

@@ -1,13 +1,10 @@
-//! The streams of a 720 KB image of bytes F6, and what goes wrong with them.
+//! The streams of a 720 KB image of bytes F6, of which a write or a read fails.
 use super::runs::{streams_of, write};
 use flux_base::{Memory, MemorySink};
-use std::alloc::{AllocError, Global};
+use std::alloc::Global;
 use std::process::Abort;
 use std::test::Fail;
-use test_rows::{
-    IBM_720, Mismatch, Run, Want, decode, first_bytes, first_lines, first_lines_and, gives,
-    short_streams, turns,
-};
+use test_rows::{IBM_720, Mismatch, Run, Want, decode, first_bytes, first_lines, gives};
 
 /// The bytes of a track's part of the image.
 const PART: usize = 4608;
@@ -36,9 +33,9 @@ struct Written {
 }
 
 fn write_image(rt: &impl Abort, alloc: Global) -> Result<Written, Fail> {
-    let image = image_of(alloc, 0xF6)?;
+    let image: Vec<u8> = vec![in alloc; 0xF6; 737_280]?;
     let streams = streams_of(rt, alloc, IBM_720, &image)?;
-    let lines = report_of(alloc, &LINES)?;
+    let lines = report_of(alloc)?;
     Ok(Written {
         image,
         streams,
@@ -46,32 +43,19 @@ fn write_image(rt: &impl Abort, alloc: Global) -> Result<Written, Fail> {
     })
 }
 
-/// An image of bytes F6, but for those of the first sector.
-pub fn image_of(alloc: Global, first: u8) -> Result<Vec<u8>, AllocError> {
-    let mut image: Vec<u8> = vec![in alloc; first; 512]?;
-    image.resize(737_280, 0xF6)?;
-    Ok(image)
-}
-
-/// The report of a good disk, of which each track's lines have these texts after the track's name.
-pub fn report_of(alloc: Global, texts: &[&str]) -> Result<Vec<u8>, Memory> {
+/// The report of the disk.
+fn report_of(alloc: Global) -> Result<Vec<u8>, Memory> {
     let mut lines = Vec::new(alloc);
     for cylinder in 0..80u8 {
-        push_lines(alloc, &mut lines, cylinder, 0, texts)?;
-        push_lines(alloc, &mut lines, cylinder, 1, texts)?;
+        push_lines(alloc, &mut lines, cylinder, 0)?;
+        push_lines(alloc, &mut lines, cylinder, 1)?;
     }
     lines.extend_from_slice(b"total 1440 good 1440 bad 0 missing 0 contradictory 0\n")?;
     Ok(lines)
 }
 
-fn push_lines(
-    alloc: Global,
-    lines: &mut Vec<u8>,
-    cylinder: u8,
-    head: u8,
-    texts: &[&str],
-) -> Result<(), Memory> {
-    for text in texts {
+fn push_lines(alloc: Global, lines: &mut Vec<u8>, cylinder: u8, head: u8) -> Result<(), Memory> {
+    for text in LINES {
         let line = format!(in alloc; "{cylinder:02}.{head} {text}\n")?;
         lines.extend_from_slice(line.as_bytes())?;
     }
@@ -92,40 +76,6 @@ pub fn first_stream(bytes: &[u8]) -> &[u8] {
         }
     }
     bytes
-}
-
-#[test]
-fn an_image_comes_back(rt: HostRuntime) -> Result<(), Fail> {
-    let alloc = rt.alloc();
-    let disk = write_image(&rt, alloc)?;
-    let streams = disk.streams.bytes();
-    assert!(rt; streams.starts_with(b"\x60\x60\x60\x90"));
-    let want = Want {
-        code: 0,
-        image: b"transitions 132933\nturn 1 4805468\nturn 2 4805469\nturn 3 4805469\n",
-        notes: &[],
-    };
-    gives(alloc, turns(first_stream(streams)), want)?;
-    gives_disk(alloc, &disk, streams)?;
-    gives_disk(alloc, &disk, &with_cylinders(alloc, streams)?)?;
-    Ok(())
-}
-
-/// The streams come to the disk's image and lines.
-fn gives_disk(alloc: Global, disk: &Written, streams: &[u8]) -> Result<usize, Mismatch> {
-    let want = Want {
-        code: 0,
-        image: &disk.image,
-        notes: &disk.lines,
-    };
-    gives(alloc, decode(IBM_720, streams), want)
-}
-
-/// The streams, and those of four more cylinders.
-fn with_cylinders(alloc: Global, streams: &[u8]) -> Result<Vec<u8>, AllocError> {
-    let mut input = streams.to_vec(alloc)?;
-    input.extend_from_slice(&short_streams(alloc, 8, 0)?)?;
-    Ok(input)
 }
 
 /// Where a run is cut: its exit code, and how many bytes of the image and how many lines it gave before.
@@ -179,44 +129,6 @@ fn a_write_fails(alloc: Global, disk: &Written, call: usize) -> Result<usize, Mi
         lines: call,
     };
     is_cut(alloc, disk, notes_run, notes_cut)
-}
-
-#[test]
-fn the_second_stream_is_refused(rt: HostRuntime) -> Result<(), Fail> {
-    let alloc = rt.alloc();
-    let disk = write_image(&rt, alloc)?;
-    let input = with_refused(alloc, first_stream(disk.streams.bytes()))?;
-    is_refused(alloc, &disk, &input)
-}
-
-/// A stream, and then an in-stream block and a block of the type 00.
-fn with_refused(alloc: Global, first: &[u8]) -> Result<Vec<u8>, AllocError> {
-    let mut input = first.to_vec(alloc)?;
-    input.extend_from_slice(&[0x60, 0x0D, 0, 0, 0])?;
-    Ok(input)
-}
-
-/// Behind the first track's part and lines stands the line, and its write can fail.
-fn is_refused(alloc: Global, disk: &Written, input: &[u8]) -> Result<(), Fail> {
-    let run = Run {
-        failing_notes: Some(9),
-        ..decode(IBM_720, input)
-    };
-    let cut = Cut {
-        code: 6,
-        bytes: PART,
-        lines: 9,
-    };
-    is_cut(alloc, disk, run, cut)?;
-    let line = "refused track 1 block 1 UnknownType 0\n";
-    let notes = first_lines_and(alloc, &disk.lines, 9, line)?;
-    let want = Want {
-        code: 2,
-        image: first_bytes(&disk.image, PART),
-        notes: &notes,
-    };
-    gives(alloc, decode(IBM_720, input), want)?;
-    Ok(())
 }
 
 // The image is read in 180 pieces of 4096 bytes, and the next read finds its end. The streams are written in pieces of at
