@@ -41,7 +41,7 @@ fn reads_fail(
     lines: usize,
 ) -> Result<(), Fail> {
     let mut dump = short_dump(alloc, disk)?;
-    dump.input.extend_from_slice(&short_streams(alloc, 7, 0)?)?;
+    dump.input.extend_from_slice(&short_streams(alloc, 7)?)?;
     for call in 0..700usize {
         let tracks = call.saturating_mul(7) / 50;
         let cut = Want {
@@ -169,7 +169,7 @@ fn refuse_a_track(alloc: Global, input: &mut Vec<u8>) -> Result<(), AllocError> 
     let kept = input.len().saturating_sub(37 * 50);
     input.truncate(kept);
     input.extend_from_slice(&[0x60, 0x0D, 0, 0, 0])?;
-    input.extend_from_slice(&short_streams(alloc, 36, 0)?)
+    input.extend_from_slice(&short_streams(alloc, 36)?)
 }
 
 const REFUSED: &str = "refused track 40 block 1 UnknownType 0\n";

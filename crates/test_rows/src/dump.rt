@@ -38,25 +38,19 @@ impl Dump {
     /// The next track is captured in three turns of this ring, and its sectors are good, with these bytes in the
     /// image.
     pub fn good(&mut self, alloc: Global, ring: &Cells, part: &[u8]) -> Result<(), Memory> {
-        let ticks = self.disk.zone(self.cylinder).ticks;
-        let stream = three_rings(alloc, ticks, ring, ring, ring)?;
-        self.good_stream(alloc, &stream, part)
-    }
-
-    /// The same with a stream of three turns.
-    pub fn good_stream(&mut self, alloc: Global, stream: &[u8], part: &[u8]) -> Result<(), Memory> {
-        self.input.extend_from_slice(stream)?;
+        let disk = self.disk;
+        let stream = three_rings(alloc, disk.ticks, ring, ring, ring)?;
+        self.input.extend_from_slice(&stream)?;
         self.image.extend_from_slice(part)?;
-        let zone = self.disk.zone(self.cylinder);
-        let mut place = zone.place;
-        for index in 0..zone.sectors {
-            let sector = self.disk.first_sector.saturating_add(index);
+        let mut place = disk.place;
+        for index in 0..disk.sectors {
+            let sector = disk.first_sector.saturating_add(index);
             let (cylinder, head) = (self.cylinder, self.head);
             let line = format!(in alloc; "{cylinder:02}.{head} {sector:02} good 3 0 1 {place}\n")?;
             self.lines.extend_from_slice(line.as_bytes())?;
-            place = place.saturating_add(zone.step);
+            place = place.saturating_add(disk.step);
         }
-        self.good = self.good.saturating_add(u32::from(zone.sectors));
+        self.good = self.good.saturating_add(u32::from(disk.sectors));
         self.next();
         Ok(())
     }
@@ -71,32 +65,27 @@ impl Dump {
 
     fn missing_track(&mut self, alloc: Global) -> Result<(), Memory> {
         self.input.extend_from_slice(&SHORT)?;
-        let zone = self.disk.zone(self.cylinder);
-        for index in 0..zone.sectors {
-            let sector = self.disk.first_sector.saturating_add(index);
+        let disk = self.disk;
+        for index in 0..disk.sectors {
+            let sector = disk.first_sector.saturating_add(index);
             let (cylinder, head) = (self.cylinder, self.head);
             let line = format!(in alloc; "{cylinder:02}.{head} {sector:02} missing 0 0\n")?;
             self.lines.extend_from_slice(line.as_bytes())?;
-            let end = self.image.len().saturating_add(usize::from(self.disk.size));
+            let end = self.image.len().saturating_add(usize::from(disk.size));
             self.image.resize(end, 0)?;
         }
-        self.missing = self.missing.saturating_add(u32::from(zone.sectors));
+        self.missing = self.missing.saturating_add(u32::from(disk.sectors));
         self.next();
         Ok(())
     }
 
-    /// The next track has the other head, or is the first of the next cylinder. Of a disk with all of a head in a row it has
-    /// the next cylinder, or is the first of the other head.
+    /// The next track has the other head, or is the first of the next cylinder.
     fn next(&mut self) {
-        let disk = self.disk;
-        let (cylinder, head) = if disk.by_head {
-            let (head, cylinder) = stepped(self.head, self.cylinder, disk.cylinders);
-            (cylinder, head)
-        } else {
-            stepped(self.cylinder, self.head, disk.heads)
-        };
-        self.cylinder = cylinder;
-        self.head = head;
+        self.head = self.head.saturating_add(1);
+        if self.head >= self.disk.heads {
+            self.cylinder = self.cylinder.saturating_add(1);
+            self.head = 0;
+        }
     }
 
     /// Appends the total line.
@@ -108,16 +97,6 @@ impl Dump {
         )?;
         self.lines.extend_from_slice(line.as_bytes())?;
         Ok(())
-    }
-}
-
-/// The next two numbers, of which the inner one goes up to a count, and then the outer one.
-fn stepped(outer: u8, inner: u8, count: u8) -> (u8, u8) {
-    let next = inner.saturating_add(1);
-    if next < count {
-        (outer, next)
-    } else {
-        (outer.saturating_add(1), 0)
     }
 }
 

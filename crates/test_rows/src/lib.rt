@@ -11,16 +11,12 @@ mod short_sink;
 mod streams;
 mod text;
 
-pub use disk::{
-    ACORN_DFS_40, AMIGA, AMIGA_HD, APPLE_DO, APPLE_DOS33, APPLE_PO, APPLE_PRODOS, ATARI_ST_800,
-    C1541, C1541_40, C1571, CylinderZone, Disk, IBM_320, IBM_360, IBM_720, IBM_1200, IBM_1440,
-    IBM_3740, MAC_400, MAC_800, Zones,
-};
+pub use disk::{ACORN_DFS_40, Disk, IBM_360, IBM_720, IBM_3740};
 pub use dump::{Dump, short_dump};
 pub use runs::{
-    Ended, Files, Mismatch, Run, RunPart, Want, comes_to, decode, decode_folder, decode_set,
-    end_of, gives, is_cut, report, turns,
+    Ended, Files, Mismatch, Run, RunPart, Want, decode, decode_folder, decode_set, end_of, gives,
+    is_cut, report, turns,
 };
 pub use short_sink::ShortSink;
-pub use streams::{SHORT, content_of, ring_of, short_streams, three_rings, with_word};
-pub use text::{first_bytes, first_lines, first_lines_and, with_line};
+pub use streams::{SHORT, content_of, ring_of, short_streams, three_rings};
+pub use text::{first_bytes, first_lines, first_lines_and};

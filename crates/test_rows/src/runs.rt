@@ -1,6 +1,5 @@
 //! Runs of the program over objects in memory.
 use crate::disk::Disk;
-use crate::dump::Dump;
 use crate::short_sink::ShortSink;
 use flux_base::{Memory, MemorySink, MemorySource, TrackId, Word};
 use flux_cli::run;
@@ -284,22 +283,5 @@ fn push_word(alloc: Global, words: &mut Vec<Word>, text: Option<&str>) -> Result
     if let Some(text) = text {
         words.push(Word::new(text.to_string(alloc)?))?;
     }
-    Ok(())
-}
-
-/// `decode` gives the dump's image and lines with this exit code, and `report` the lines alone.
-pub fn comes_to(alloc: Global, dump: &Dump, code: u8) -> Result<(), Mismatch> {
-    let decoded = Want {
-        code,
-        image: &dump.image,
-        notes: &dump.lines,
-    };
-    gives(alloc, decode(dump.disk, &dump.input), decoded)?;
-    let reported = Want {
-        code,
-        image: &dump.lines,
-        notes: &[],
-    };
-    gives(alloc, report(dump.disk, &dump.input), reported)?;
     Ok(())
 }

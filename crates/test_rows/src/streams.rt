@@ -13,14 +13,10 @@ pub const SHORT: [u8; 50] = [
     0, 0, 0, 24, 0, 0, 0, 0x0D, 3, 8, 0, 2, 0, 0, 0, 0, 0, 0, 0, 0x0D, 0x0D, 0x0D, 0x0D,
 ];
 
-/// So many shortest streams, with so many bytes of padding between two of them.
-pub fn short_streams(alloc: Global, count: usize, padding: usize) -> Result<Vec<u8>, AllocError> {
-    let pad: Vec<u8> = vec![in alloc; 0x0D; padding]?;
+/// So many shortest streams.
+pub fn short_streams(alloc: Global, count: usize) -> Result<Vec<u8>, AllocError> {
     let mut bytes = Vec::new(alloc);
-    for number in 0..count {
-        if number > 0 {
-            bytes.extend_from_slice(&pad)?;
-        }
+    for _ in 0..count {
         bytes.extend_from_slice(&SHORT)?;
     }
     Ok(bytes)
@@ -50,19 +46,6 @@ pub fn ring_of<R: Recording>(
         Ok(()) => Ok(ring),
         Err(Memory) => Err(Memory),
     }
-}
-
-/// The ring with 16 other cells from this place on.
-pub fn with_word(alloc: Global, ring: &Cells, place: usize, word: u16) -> Result<Cells, Memory> {
-    let mut changed = Cells::new(alloc);
-    for at in 0..ring.len() {
-        if at == place {
-            changed.push_word(u32::from(word), 16)?;
-        } else if at < place || at - place >= 16 {
-            changed.push_cell(ring.cell(at))?;
-        }
-    }
-    Ok(changed)
 }
 
 /// A stream that is being made.

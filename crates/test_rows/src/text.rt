@@ -31,16 +31,3 @@ pub fn first_lines_and(
     lines.extend_from_slice(line.as_bytes())?;
     Ok(lines)
 }
-
-/// A text with another line in the place of the one of this number, from 0.
-pub fn with_line(
-    alloc: Global,
-    text: &[u8],
-    number: usize,
-    line: &str,
-) -> Result<Vec<u8>, AllocError> {
-    let mut lines = first_lines_and(alloc, text, number, line)?;
-    let behind = first_lines(text, number.saturating_add(1)).len();
-    lines.extend_from_slice(text.get(behind..).unwrap_or(&[]))?;
-    Ok(lines)
-}

@@ -234,7 +234,7 @@ impl SmallRun {
 
 /// So many shortest streams, and the first bytes of one more.
 pub fn streams_and_front(alloc: Global, count: usize, front: usize) -> Result<Vec<u8>, AllocError> {
-    let mut input = short_streams(alloc, count, 0)?;
+    let mut input = short_streams(alloc, count)?;
     input.extend_from_slice(first_bytes(&SHORT, front))?;
     Ok(input)
 }
