@@ -91,13 +91,8 @@ fn listed(alloc: Global, call: Option<u64>) -> Result<Vec<u64>, AllocError> {
 
 fn run_of(alloc: Global, row: &Row) -> Result<Ended, Memory> {
     let input = joined(alloc, row.input)?;
-    run_over(alloc, row, &input)
-}
-
-/// The row's run over these bytes.
-fn run_over(alloc: Global, row: &Row, input: &[u8]) -> Result<Ended, Memory> {
     let words = words_of(alloc, row.words)?;
-    let mut source = source_of(alloc, row, input)?;
+    let mut source = source_of(alloc, row, &input)?;
     let mut image = sink_of(alloc, row.failing.image)?;
     let mut notes = sink_of(alloc, row.failing.notes)?;
     let mut shelf = MemoryShelf::new(&[], 1, &[]);

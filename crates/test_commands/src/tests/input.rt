@@ -14,13 +14,9 @@ pub enum Part {
     TwoTransitions,
     /// An Index block of this stream position and sample counter.
     Index(u32, u32),
-    /// A StreamEnd block of this stream position, without an error.
-    StreamEnd(u32),
     End,
-    /// So many overflow blocks.
-    Overflows(usize),
-    /// So many Info blocks of the longest text.
-    Texts(usize),
+    /// An Info block of the longest text.
+    Text,
 }
 
 pub fn joined(alloc: Global, parts: &[Part]) -> Result<Vec<u8>, AllocError> {
@@ -36,10 +32,8 @@ fn push(alloc: Global, bytes: &mut Vec<u8>, part: Part) -> Result<(), AllocError
         Part::Bytes(more) => bytes.extend_from_slice(more),
         Part::TwoTransitions => bytes.extend_from_slice(&TWO_TRANSITIONS),
         Part::Index(position, sample) => push_index(bytes, position, sample),
-        Part::StreamEnd(position) => push_stream_end(bytes, position),
         Part::End => bytes.extend_from_slice(&[0x0D; 4]),
-        Part::Overflows(count) => push_repeated(alloc, bytes, 0x0B, count),
-        Part::Texts(count) => push_texts(alloc, bytes, count),
+        Part::Text => push_text(alloc, bytes),
     }
 }
 
@@ -50,26 +44,8 @@ fn push_index(bytes: &mut Vec<u8>, position: u32, sample: u32) -> Result<(), All
     bytes.extend_from_slice(&[0; 4])
 }
 
-fn push_stream_end(bytes: &mut Vec<u8>, position: u32) -> Result<(), AllocError> {
-    bytes.extend_from_slice(&[0x0D, 3, 8, 0])?;
-    bytes.extend_from_slice(&position.to_le_bytes())?;
-    bytes.extend_from_slice(&[0; 4])
-}
-
-fn push_repeated(
-    alloc: Global,
-    bytes: &mut Vec<u8>,
-    byte: u8,
-    count: usize,
-) -> Result<(), AllocError> {
-    let more: Vec<u8> = vec![in alloc; byte; count]?;
-    bytes.extend_from_slice(&more)
-}
-
-fn push_texts(alloc: Global, bytes: &mut Vec<u8>, count: usize) -> Result<(), AllocError> {
-    for _ in 0..count {
-        bytes.extend_from_slice(&[0x0D, 4, 0xFF, 0xFF])?;
-        push_repeated(alloc, bytes, 0x20, 65535)?;
-    }
-    Ok(())
+fn push_text(alloc: Global, bytes: &mut Vec<u8>) -> Result<(), AllocError> {
+    let text: Vec<u8> = vec![in alloc; 0x20; 65535]?;
+    bytes.extend_from_slice(&[0x0D, 4, 0xFF, 0xFF])?;
+    bytes.extend_from_slice(&text)
 }
