@@ -1,6 +1,5 @@
 //! Acorn disks, 40 tracks of ten sectors of 256 bytes, of which up to sixteen streams capture each track.
 use std::alloc::Global;
-use std::process::Abort;
 use std::test::Fail;
 use test_rows::{ACORN_DFS_40, Run, Want, decode_set, gives, short_dump, short_streams};
 
