@@ -18,5 +18,5 @@ pub use runs::{
     is_cut, report, turns,
 };
 pub use short_sink::ShortSink;
-pub use streams::{SHORT, content_of, ring_of, short_streams, three_rings};
+pub use streams::{SHORT, content_of, ring_of, short_streams};
 pub use text::{first_bytes, first_lines, first_lines_and};

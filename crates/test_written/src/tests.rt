@@ -3,5 +3,4 @@ mod dumps;
 mod folders;
 mod pc_disk;
 mod runs;
-mod sectors;
 mod shelves;

@@ -62,22 +62,6 @@ fn push_lines(alloc: Global, lines: &mut Vec<u8>, cylinder: u8, head: u8) -> Res
     Ok(())
 }
 
-/// The bytes to the end of the first End block.
-pub fn first_stream(bytes: &[u8]) -> &[u8] {
-    let mut run = 0u8;
-    for (place, byte) in bytes.iter().enumerate() {
-        run = if *byte == 0x0D {
-            run.saturating_add(1)
-        } else {
-            0
-        };
-        if run == 4 {
-            return first_bytes(bytes, place.saturating_add(1));
-        }
-    }
-    bytes
-}
-
 /// Where a run is cut: its exit code, and how many bytes of the image and how many lines it gave before.
 #[derive(Clone, Copy)]
 struct Cut {
