@@ -41,10 +41,11 @@ pub fn run<S: Source, W: Sink, N: Sink, H: Shelf>(
     notes: &mut N,
     shelf: &mut H,
 ) -> Status
-    // It finished, and gave all that its input comes to; or a counted fault of one object cut it at a place that the command's row states;
-    // or there was no memory to begin, and the world is as it was. The source is read only where the bytes before do not tell what there is
-    // to do. Words that name a folder or dumps are done over the shelf, which stays as it was but for what failed; all others over the source.
-    // Behind a fault of the output, under words that the usage line does not name, the notes got one line more, or a front of it.
+    // It finished, and gave all that its input comes to; or a counted fault of one object cut it at a place that the row of the command
+    // states; or there was no memory to begin, and the world is as it was. The source is read only where the bytes before do not tell what
+    // there is to do. Words that name a folder or dumps are done over the shelf, which stays as it was but for what failed. All others are
+    // done over the source. Behind a fault of the output, under words that the usage line does not name, the notes got one line more, or a
+    // front of it.
     ensures ran { RanAndTold words.now result
         (world_at S.Source W.Sink N.Sink H.Source H.Shelf.own source.old image.old notes.old shelf.old)
         (world_at S.Source W.Sink N.Sink H.Source H.Shelf.own source.new image.new notes.new shelf.new) }
