@@ -1,7 +1,9 @@
 //! What the places of sectors come to.
 
 ghost use Rattle.sector_images.specs.Formats.{PrintedWordsNameFormats, WordsBeginWithLetters, WordsNameFormats};
-ghost use Rattle.sector_images.specs.Places.{FormatsHaveTracks, ImagesAreSmall, NumbersHoldSectors, NumbersNameTracks, SectorsFillTracks, SectorsLieInImages, TracksAreFew, TracksFillImages, TracksJoin, TracksKeepBounds};
+ghost use Rattle.sector_images.specs.Places.{FormatsHaveTracks, ImagesAreSmall, NumbersHoldSectors, NumbersNameTracks};
+ghost use Rattle.sector_images.specs.Places.{SectorsFillTracks, SectorsLieInImages, TracksAreFew, TracksFillImages};
+ghost use Rattle.sector_images.specs.Places.{TracksJoin, TracksKeepBounds};
 
 use ibm_disks::words_name_disks;
 

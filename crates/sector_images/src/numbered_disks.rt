@@ -15,7 +15,8 @@ pub(crate) fn geometry_of(disk: IbmDisk) -> Geometry
     ensures heads { result.heads ≡ heads_of disk }
     ensures first_sector { result.first_sector ≡ (track_of_disk disk).first_sector }
     ensures sector_size { result.sector_size ≡ size_of (track_of_disk disk).size }
-    ensures image_size { result.image_size ≡ cylinders_of disk * (track_of_disk disk).sectors * heads_of disk * size_of (track_of_disk disk).size }
+    ensures image_size { result.image_size
+        ≡ cylinders_of disk * (track_of_disk disk).sectors * heads_of disk * size_of (track_of_disk disk).size }
     ensures order { option_map (λ order. order.now) result.order ≡ None }
 {
     let track = disk.track();
