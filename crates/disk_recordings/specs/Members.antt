@@ -3,7 +3,8 @@ use Rattle.std.specs.Prelude.{ℕ, Bool, List}
 use Rattle.flux_base.specs.declared.header_name.HeaderName.{HeaderName}
 use Rattle.flux_base.specs.declared.track.TrackId.{TrackId}
 use Rattle.sector_images.specs.declared.format.Format.{Format}
-use Rattle.sector_images.specs.declared.format.Format.TheVariants.{AppleDo, ApplePo, AppleDos33, AppleProdos}
+use Rattle.sector_images.specs.declared.format.Format.TheVariants.{AppleDo, ApplePo, AppleDos33}
+use Rattle.sector_images.specs.declared.format.Format.TheVariants.{AppleProdos}
 use Rattle.disk_recordings.specs.Recordings.{ANY_ID, recording_of}
 use Rattle.disk_recordings.specs.contracts.meaning.DiskRecordingMeaning.TheImpl.{ghosts}
 use Rattle.disk_recordings.specs.declared.disk_id.DiskId.{DiskId}
@@ -16,7 +17,8 @@ header_at format = ghosts.header_at (recording_of format ANY_ID)
 abbrev pub sector_at : Format → TrackId → List Bool → ℕ → List ℕ → Type 0
 sector_at format = ghosts.sector_at (recording_of format ANY_ID)
 
--- by the second rule, as controllers read: data of the header at the front of the cells stand at this place, with these bytes
+-- by the second rule, as controllers read: data of the header at the front of the cells stand
+-- at this place, with these bytes
 abbrev pub data_at : Format → List Bool → ℕ → List ℕ → Type 0
 data_at format = ghosts.data_at (recording_of format ANY_ID)
 
@@ -28,11 +30,13 @@ named_at format = ghosts.named_at (recording_of format ANY_ID)
 abbrev pub is_name_of : Format → TrackId → HeaderName → ℕ → Type 0
 is_name_of format = ghosts.is_name_of (recording_of format ANY_ID)
 
--- by the second rule: data of the size that this name tells stand after the header at the front of the cells, which has this name
+-- by the second rule: data of the size that this name tells stand after the header at the front of
+-- the cells, which has this name
 abbrev pub whole_data_of : Format → List Bool → HeaderName → Type 0
 whole_data_of format = ghosts.whole_data_of (recording_of format ANY_ID)
 
--- The format as which a controller reads the format's disks: it waits for the one with which a byte of an Apple disk begins.
+-- The format as which a controller reads the format's disks: it waits for the one with which a
+-- byte of an Apple disk begins.
 abbrev pub as_controllers_read : Format → Format
 as_controllers_read AppleDo = AppleDos33
 as_controllers_read ApplePo = AppleProdos

@@ -1,7 +1,10 @@
 //! What the laws of the recordings come to for the formats: for all tracks, ids, bytes and cells.
 
 ghost use Rattle.sector_images.specs.declared.format.Format.TheVariants.{AppleDo, ApplePo, AppleDos33, AppleProdos};
-ghost use Rattle.disk_recordings.specs.Laws.{AreReadToo, DataAreRead, FramesAreWhole, FramesHaveCells, NamesAreTold, NoOtherStands, OnlyOwnDataStand, OnlyOwnStand, RewrittenStandAlone, RingsHaveCells, SectorsStand, SectorsStandToo, StandAlone, StretchesHaveOnlyOwn, TracksAreRead};
+ghost use Rattle.disk_recordings.specs.Laws.{AreReadToo, DataAreRead, FramesAreWhole, FramesHaveCells, NamesAreTold};
+ghost use Rattle.disk_recordings.specs.Laws.{NoOtherStands, OnlyOwnDataStand, OnlyOwnStand, RewrittenStandAlone};
+ghost use Rattle.disk_recordings.specs.Laws.{RingsHaveCells, SectorsStand, SectorsStandToo, StandAlone};
+ghost use Rattle.disk_recordings.specs.Laws.{StretchesHaveOnlyOwn, TracksAreRead};
 
 use crate::recordings::DiskRecording;
 use apple_gcr::rules_agree;
