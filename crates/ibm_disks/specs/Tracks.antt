@@ -1,6 +1,8 @@
--- The numbers of the tracks that have names. Gaps are in bytes. A track has 6250 bytes in double density, and the high density ones
--- 10416 at 360 revolutions a minute (15 sectors) and 12500 (18 sectors); in single density the 3740's has 5208, and Acorn's 3125.
-use Rattle.ibm_disks.specs.declared.sector_size.SectorSize.TheVariants.{Bytes128, Bytes256, Bytes512}
+-- The numbers of the tracks that have names. Gaps are in bytes. A track has 6250 bytes in double
+-- density, and the high density ones 10416 at 360 revolutions a minute (15 sectors) and 12500 (18
+-- sectors); in single density the 3740's has 5208, and Acorn's 3125.
+use Rattle.ibm_disks.specs.declared.sector_size.SectorSize.TheVariants.{Bytes128, Bytes256}
+use Rattle.ibm_disks.specs.declared.sector_size.SectorSize.TheVariants.{Bytes512}
 use Rattle.ibm_disks.specs.declared.track_numbers.LeadIn.TheVariants.{Indexed, Bare}
 use Rattle.ibm_disks.specs.declared.track_numbers.TrackNumbers.{TrackNumbers}
 

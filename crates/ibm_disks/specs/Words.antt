@@ -1,8 +1,11 @@
--- How a word writes the numbers of a disk (own): the density and the rate, then cylinders, heads, sectors and the bytes of a sector, with
--- `x` between them, and `@` and the number of the first sector where that is not 1. All numbers are decimal, without zeros before them.
-use Rattle.std.specs.Prelude.{◌≡◌, ◌≢◌, ◌⊎◌, ℕ, ◌<◌, List, [], ◌∷◌, ◌++◌, ◌&&◌, ◌||◌, Bool, codes, decimal, get_or, if◌then◌else◌, nat_eq}
+-- How a word writes the numbers of a disk (own): the density and the rate, then cylinders, heads,
+-- sectors and the bytes of a sector, with `x` between them, and `@` and the number of the first
+-- sector where that is not 1. All numbers are decimal, without zeros before them.
+use Rattle.std.specs.Prelude.{◌≡◌, ◌≢◌, ◌⊎◌, ℕ, ◌<◌, List, [], ◌∷◌, ◌++◌, ◌&&◌, ◌||◌, Bool, codes}
+use Rattle.std.specs.Prelude.{decimal, get_or, if◌then◌else◌, nat_eq}
 use Rattle.ibm_disks.specs.declared.rate.Rate.{Rate}
-use Rattle.ibm_disks.specs.declared.rate.Rate.TheVariants.{Double, High, HighAt360, Single, SingleAt360}
+use Rattle.ibm_disks.specs.declared.rate.Rate.TheVariants.{Double, High, HighAt360, Single}
+use Rattle.ibm_disks.specs.declared.rate.Rate.TheVariants.{SingleAt360}
 use Rattle.ibm_disks.specs.declared.track_numbers.TrackNumbers.{TrackNumbers}
 use Rattle.ibm_disks.specs.declared.word.DiskNumbers.{DiskNumbers}
 use Rattle.ibm_disks.specs.Numbers.{size_of}
@@ -27,7 +30,8 @@ IsWordOfRate density name rate = (density ≡ density_word rate) × (name ≡ ra
 
 -- the end of a word: the bytes of a sector, and the number of the first one, or else it is 1
 abbrev pub EndsWith : List ℕ → (bytes first : ℕ) → Type 0
-EndsWith text bytes first = (text ≡ decimal bytes ++ 64 ∷ decimal first) ⊎ ((text ≡ decimal bytes) × (first ≡ 1))
+EndsWith text bytes first =
+    (text ≡ decimal bytes ++ 64 ∷ decimal first) ⊎ ((text ≡ decimal bytes) × (first ≡ 1))
 
 -- the numbers that stand behind the rate
 pub record AreBehindRate (rate : Rate) (text : List ℕ) (n : DiskNumbers) : Type 0 where
@@ -52,14 +56,18 @@ first_word first = if nat_eq first 1 then [] else 64 ∷ decimal first
 
 abbrev pub numbers_word : Rate → (cylinders heads : ℕ) → TrackNumbers → List ℕ
 numbers_word rate cylinders heads track =
-    density_word rate ++ 45 ∷ (rate_word rate ++ 45 ∷ (decimal cylinders ++ 120 ∷ (decimal heads ++ 120 ∷ (decimal track.sectors ++ 120 ∷ (decimal (size_of track.size)
+    density_word rate ++ 45
+    ∷ (rate_word rate ++ 45
+    ∷ (decimal cylinders ++ 120
+    ∷ (decimal heads ++ 120 ∷ (decimal track.sectors ++ 120 ∷ (decimal (size_of track.size)
     ++ first_word track.first_sector)))))
 
 -- a word begins as those do that write numbers
 abbrev pub begins_numbers : List ℕ → Bool
 begins_numbers word =
     (nat_eq (get_or word 0 0) 102 && nat_eq (get_or word 1 0) 109 && nat_eq (get_or word 2 0) 45)
-    || (nat_eq (get_or word 0 0) 109 && nat_eq (get_or word 1 0) 102 && nat_eq (get_or word 2 0) 109 && nat_eq (get_or word 3 0) 45)
+    || (nat_eq (get_or word 0 0) 109 && nat_eq (get_or word 1 0) 102 && nat_eq (get_or word 2 0) 109
+    && nat_eq (get_or word 3 0) 45)
 
 -- numbers of at most four digits
 pub record AreShort (n : DiskNumbers) : Type 0 where

@@ -1,5 +1,7 @@
 ghost use Rattle.std.specs.Prelude.{◌≡◌, ◌≤◌, IfNone, IfSome, length};
-ghost use Rattle.ibm_disks.specs.Disks.{AllHaveDisks, HasTrack, IsDiskOf, IsWordOfDisk, PrintedWordsNameDisks, WordsNameDisks, WritesDisk, are_few, cylinders_of, disk_label, disk_word, fill_at, heads_of, is_disk, rate_of, sound, track_of_disk};
+ghost use Rattle.ibm_disks.specs.Disks.{AllHaveDisks, HasTrack, IsDiskOf, IsWordOfDisk, PrintedWordsNameDisks};
+ghost use Rattle.ibm_disks.specs.Disks.{WordsNameDisks, WritesDisk, are_few, cylinders_of, disk_label, disk_word};
+ghost use Rattle.ibm_disks.specs.Disks.{fill_at, heads_of, is_disk, rate_of, sound, track_of_disk};
 ghost use Rattle.ibm_disks.specs.Named.{same_disk};
 ghost use Rattle.ibm_disks.specs.Plans.{FillsTrackOf, density_of};
 
@@ -56,8 +58,8 @@ impl IbmDisk {
         }
     }
 
-    /// The disk of these numbers: 1 to 99 cylinders, one head or two, and a track of so many sectors. None where there is
-    /// no such disk.
+    /// The disk of these numbers: 1 to 99 cylinders, one head or two, and a track of so many sectors.
+    /// None where there is no such disk.
     pub fn of_numbers(numbers: DiskNumbers) -> Option<IbmDisk>
         ensures some { IfSome result (IsDiskOf numbers) }
         ensures none { IfNone result ((disk : IbmDisk) → ¬ IsDiskOf numbers disk) }
@@ -121,7 +123,8 @@ impl IbmDisk {
         }
     }
 
-    /// What people call it, its cylinders, its heads where there are two, and the sectors of a track, where it has a name.
+    /// What people call it, its cylinders, its heads where there are two, and the sectors of a track, where it has a
+    /// name.
     #[tactic(auto, unfolding(crate::specs::Disks::disk_label))]
     pub fn label(self) -> &'static str
         ensures text { result.now ≡ disk_label self }

@@ -1,7 +1,9 @@
 //! The track that a disk's numbers make, where they say nothing of its gaps.
 
 ghost use Rattle.std.specs.Prelude.{◌≡◌, IfSome, ◌≤◌, ◌<◌};
-ghost use Rattle.ibm_disks.specs.Plans.{FillsTrackOf, IsCountOfSectors, double_track, left as left_by, narrow_gap as narrow_gap_of, single_track, track_of, track_with, wide_gap as wide_gap_of};
+ghost use Rattle.ibm_disks.specs.Plans.{FillsTrackOf, IsCountOfSectors, double_track, left as left_by};
+ghost use Rattle.ibm_disks.specs.Plans.{narrow_gap as narrow_gap_of, single_track, track_of, track_with};
+ghost use Rattle.ibm_disks.specs.Plans.{wide_gap as wide_gap_of};
 
 use crate::rate::{Density, Rate};
 use crate::sector_size::SectorSize;
@@ -88,7 +90,8 @@ impl Plan {
         None
     }
 
-    /// What the sectors leave of the track, where so many bytes stand before the first one and around the bytes of each.
+    /// What the sectors leave of the track, where so many bytes stand before the first one and around the bytes of
+    /// each.
     fn left(self, before: u16, around: u16) -> u32
         ensures left { result ≡ left_by before around self }
         ensures most { result ≤ 65535 }

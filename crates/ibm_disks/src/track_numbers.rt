@@ -1,5 +1,6 @@
 ghost use Rattle.std.specs.Prelude.{◌≡◌, ◌*◌, ◌-◌, IsFalse, IsTrue};
-ghost use Rattle.ibm_disks.specs.Numbers.{FillTrack, fm_before as fm_bytes_before, mfm_before as mfm_bytes_before, mfm_zeros as mfm_zeros_of, used as used_by};
+ghost use Rattle.ibm_disks.specs.Numbers.{FillTrack, fm_before as fm_bytes_before, mfm_before as mfm_bytes_before};
+ghost use Rattle.ibm_disks.specs.Numbers.{mfm_zeros as mfm_zeros_of, used as used_by};
 ghost use Rattle.ibm_disks.specs.Named.{same_track};
 
 use crate::sector_size::SectorSize;

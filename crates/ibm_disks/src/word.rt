@@ -1,14 +1,16 @@
 //! Disks by their numbers, as a word writes them: `mfm-dd-80x2x9x512`, or `fm-sd-40x1x10x256@0`.
 
-ghost use Rattle.std.specs.Prelude.{◌≡◌, ◌≢◌, ℕ, ◌<◌, ◌≤◌, ◌++◌, ◌∷◌, List, [], IfNone, IfSome, IsFalse, IsTrue, decimal, get_or, length};
+ghost use Rattle.std.specs.Prelude.{◌≡◌, ◌≢◌, ℕ, ◌<◌, ◌≤◌, ◌++◌, ◌∷◌, List, [], IfNone, IfSome, IsFalse, IsTrue};
+ghost use Rattle.std.specs.Prelude.{decimal, get_or, length};
 ghost use Rattle.std.specs.Str.Parse.{AllDigits, digits_value};
-ghost use Rattle.ibm_disks.specs.Words.{AreBehindRate, AreShort, EndsWith, HasNo, IsWordOf, IsWordOfRate, density_word, rate_word};
+ghost use Rattle.ibm_disks.specs.Words.{AreBehindRate, AreShort, EndsWith, HasNo, IsWordOf, IsWordOfRate, density_word};
+ghost use Rattle.ibm_disks.specs.Words.{rate_word};
 
 use crate::rate::Rate;
 use std::str;
 
-/// The numbers of a disk: how many cylinders and heads it has, how many sectors a track has, of how many bytes each, and
-/// the number of the first of them.
+/// The numbers of a disk: how many cylinders and heads it has, how many sectors a track has, of how many bytes each,
+/// and the number of the first of them.
 #[derive(Clone, Copy, Debug, PartialEq, Eq)]
 pub struct DiskNumbers {
     pub rate: Rate,

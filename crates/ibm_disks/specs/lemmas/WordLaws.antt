@@ -3,7 +3,8 @@ use Rattle.std.specs.Prelude.{◌≡◌, ℕ, ◌∷◌, ◌++◌, List, true, r
 use Rattle.std.proofs.Common.{ap, ◌∙◌}
 use Rattle.ibm_disks.specs.declared.disk.IbmDisk.{IbmDisk}
 use Rattle.ibm_disks.specs.declared.rate.Rate.{Rate}
-use Rattle.ibm_disks.specs.declared.rate.Rate.TheVariants.{Double, High, HighAt360, Single, SingleAt360}
+use Rattle.ibm_disks.specs.declared.rate.Rate.TheVariants.{Double, High, HighAt360, Single}
+use Rattle.ibm_disks.specs.declared.rate.Rate.TheVariants.{SingleAt360}
 use Rattle.ibm_disks.specs.Disks.{WritesDisk}
 use Rattle.ibm_disks.specs.Words.{begins_numbers, density_word, rate_word}
 
@@ -14,6 +15,8 @@ rate-begins HighAt360 rest = refl
 rate-begins Single rest = refl
 rate-begins SingleAt360 rest = refl
 
-pub writes-begins : (word : List ℕ) (disk : IbmDisk) → WritesDisk word disk → begins_numbers word ≡ true
+pub writes-begins : (word : List ℕ) (disk : IbmDisk) → WritesDisk word disk
+    → begins_numbers word ≡ true
 writes-begins word disk is =
-    ap begins_numbers is.written.is ∙ rate-begins is.numbers.rate (rate_word is.numbers.rate ++ 45 ∷ is.written.rest)
+    ap begins_numbers is.written.is
+    ∙ rate-begins is.numbers.rate (rate_word is.numbers.rate ++ 45 ∷ is.written.rest)
