@@ -1,10 +1,12 @@
--- Group code of the Commodore 1541: each nibble is written as a code of five cells, each byte as ten cells.
-use Rattle.std.specs.Prelude.{◌≡◌, ℕ, ◌/◌, ◌%◌, ◌<◌, Bool, List, [], ◌∷◌, ◌++◌, take, drop, get_or, flat_map}
+-- Group code of the Commodore 1541: each nibble is written as a code of five
+-- cells, each byte as ten cells.
+use Rattle.std.specs.Prelude.{◌≡◌, ℕ, ◌/◌, ◌%◌, ◌<◌, Bool, List, [], ◌∷◌, ◌++◌, take, drop, get_or}
+use Rattle.std.specs.Prelude.{flat_map}
 use Rattle.cell_bits.specs.Word.{word_cells}
 use Rattle.frame_law.specs.WordRows.{ListStands}
 
--- the codes of the nibbles 0 to F as numbers of five bits: 01010, 01011, 10010, 10011, 01110, 01111, 10110, 10111, 01001, 11001,
--- 11010, 11011, 01101, 11101, 11110, 10101
+-- the codes of the nibbles 0 to F as numbers of five bits: 01010, 01011, 10010, 10011, 01110,
+-- 01111, 10110, 10111, 01001, 11001, 11010, 11011, 01101, 11101, 11110, 10101
 abbrev pub CODES : List ℕ
 CODES =
     0x0A ∷ 0x0B ∷ 0x12 ∷ 0x13 ∷ 0x0E ∷ 0x0F ∷ 0x16 ∷ 0x17

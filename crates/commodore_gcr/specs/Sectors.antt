@@ -1,11 +1,13 @@
--- The sectors of the Commodore 1541's disks (group code): the bytes of their two blocks, what a header names and what data hold.
+-- The sectors of the Commodore 1541's disks (group code): the bytes of their two blocks, what a
+-- header names and what data hold.
 use Rattle.std.specs.Prelude.{◌≡◌, ℕ, ◌+◌, Bool, List, [], ◌∷◌, ◌++◌, length}
 use Rattle.flux_base.specs.declared.track.TrackId.{TrackId}
 use Rattle.cell_bits.specs.Word.{Stands}
 use Rattle.check_values.specs.Sums.{xor}
 use Rattle.frame_law.specs.Frames.{DataStand, HeaderStands as Header, SectorStands as Sector}
 use Rattle.flux_base.specs.declared.header_name.HeaderName.{HeaderName}
-use Rattle.flux_base.specs.declared.header_name.HeaderName.TheVariants.{Address, TrackSector, TrackSectorSide}
+use Rattle.flux_base.specs.declared.header_name.HeaderName.TheVariants.{Address, TrackSector}
+use Rattle.flux_base.specs.declared.header_name.HeaderName.TheVariants.{TrackSectorSide}
 use Rattle.commodore_gcr.specs.Coding.{ByteAt, BytesAt}
 use Rattle.commodore_gcr.specs.Zones.{sectors_of, track_number}
 
@@ -63,7 +65,8 @@ SYNC_ONES = 10
 abbrev pub HEADER_CELLS : ℕ
 HEADER_CELLS = 70
 
--- a header names the numbers of a track and a sector: the header's bytes of these stand in it, for some id
+-- a header names the numbers of a track and a sector: the header's bytes of
+-- these stand in it, for some id
 pub record NamesNumbers (number : ℕ) (cells : List Bool) (sector : ℕ) : Type 0 where
   pub id1 : ℕ
   pub id2 : ℕ
@@ -103,8 +106,10 @@ pub record Hold (cells : List Bool) (sync : ℕ) (bytes : List ℕ) : Type 0 whe
 
 -- a header and a sector stand, as on any track
 abbrev pub HeaderStands : TrackId → List Bool → ℕ → Type 0
-HeaderStands track cells sector = Header SYNC SYNC_CELLS (λ some. HEADER_CELLS) 0 (sectors_of track) (NamesSector track) cells sector
+HeaderStands track cells sector = Header SYNC SYNC_CELLS (λ some. HEADER_CELLS) 0 (sectors_of track)
+    (NamesSector track) cells sector
 
 abbrev pub SectorStands : TrackId → List Bool → ℕ → List ℕ → Type 0
 SectorStands track cells sector bytes =
-    Sector (HeaderStands track cells sector) (DataStand (λ some. HEADER_CELLS) (λ some sync. sync + DATA_CELLS) IsSync Hold cells bytes)
+    Sector (HeaderStands track cells sector)
+    (DataStand (λ some. HEADER_CELLS) (λ some sync. sync + DATA_CELLS) IsSync Hold cells bytes)
