@@ -77,8 +77,8 @@ fn noisy_track(alloc: Global, track: Track, transitions: usize) -> Result<TrackF
     Ok(flux)
 }
 
-/// The ticks from a transition to the next, drawn by a random number: in MFM two to four cells with some noise, else any
-/// length up to nine cells.
+/// The ticks from a transition to the next, drawn by a random number: in MFM two to four cells with some noise,
+/// else any length up to nine cells.
 fn interval(track: Track, random: u32) -> u64
     ensures { result ≤ 1000 }
 {

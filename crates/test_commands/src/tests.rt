@@ -119,8 +119,8 @@ fn comes_true(rt: &impl Abort, alloc: Global, row: &Row) -> Result<(), Memory> {
     Ok(())
 }
 
-// What a run is compared with stands in functions of its own over a reference, since each comparison in a test is one more
-// way out of it, on which all its values are let go.
+// What a run is compared with stands in functions of its own over a reference, since each comparison in a test is one
+// more way out of it, on which all its values are let go.
 
 fn ended_so(rt: &impl Abort, end: &Ended, row: &Row) {
     let (name, words) = (row.name, row.words);

@@ -30,9 +30,9 @@ fn each_read_of_a_360_kb_disk_fails_once(rt: HostRuntime) -> Result<(), Fail> {
     reads_fail(rt.alloc(), IBM_360, 572, 4608, 9)
 }
 
-/// The shortest streams take so many reads of 7 bytes. Each of them fails once, and a later one is not made, though seven streams
-/// more follow. After a fault the tracks are written, each with this part of the image and so many lines, whose 50 bytes were read
-/// before it.
+/// The shortest streams take so many reads of 7 bytes. Each of them fails once, and a later one is not made, though
+/// seven streams more follow. After a fault the tracks are written, each with this part of the image and so many lines,
+/// whose 50 bytes were read before it.
 fn reads_fail(
     alloc: Global,
     disk: Disk,

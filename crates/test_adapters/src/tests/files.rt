@@ -48,8 +48,8 @@ impl Record {
     }
 }
 
-/// The system's files: each one's path and bytes. Of the folders that are listed each one's path, with a slash behind it, and the names in it,
-/// with a byte 0 behind each.
+/// The system's files: each one's path and bytes. Of the folders that are listed each one's path, with a slash behind
+/// it, and the names in it, with a byte 0 behind each.
 #[derive(Drop)]
 pub struct StandIn<'a> {
     pub files: &'a [(&'a str, &'a [u8])],

@@ -1,4 +1,5 @@
-//! The shelf over files that stand in for the system's: which of them it opens, in which order, and what it answers where a call fails.
+//! The shelf over files that stand in for the system's: which of them it opens, in which order, and what
+//! it answers where a call fails.
 use super::FAULTS;
 use super::files::{Opened, Record, StandIn};
 use flux_base::{Failed, Source, TrackId};
@@ -23,8 +24,8 @@ const FILES: [(&str, &[u8]); 6] = [
     ("shelf/disk07.1.raw", b"uvw"),
 ];
 
-/// What the disk's folder comes to, by reads of up to four bytes: each call of the system in its turn, and the bytes that it gives. First it
-/// is seen whether all files are there.
+/// What the disk's folder comes to, by reads of up to four bytes: each call of the system in its turn, and the bytes
+/// that it gives. First it is seen whether all files are there.
 const CALLS: [(&str, &[u8]); 16] = [
     ("open dump/track00.0.raw", b""),
     ("open dump/track00.1.raw", b""),
@@ -195,7 +196,8 @@ const SINGLE: [(&str, u8, u8, &str, Option<&[u8]>); 7] = [
     ("shelf/disk07.1.raw", 0, 1, "shelf/disk00.1.raw", None),
 ];
 
-/// Opens a track's file where the first call fails so, and writes down the answer: whether it is a file, if there is an answer, and the calls.
+/// Opens a track's file where the first call fails so, and writes down the answer: whether it is a file, if
+/// there is an answer, and the calls.
 fn open_single(
     alloc: Global,
     dump: &str,

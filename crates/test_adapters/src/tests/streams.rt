@@ -16,7 +16,8 @@ enum End {
     Fails(ErrorKind),
 }
 
-/// The first calls are interrupted, the next one ends so, and those behind it move one byte each. It tells how often it was called, and what it took.
+/// The first calls are interrupted, the next one ends so, and those behind it move one byte each. It tells how often it
+/// was called, and what it took.
 #[derive(Drop)]
 struct Device {
     interrupted: u32,
@@ -72,7 +73,8 @@ impl Write for Device {
     }
 }
 
-/// How often the system's call for four bytes is interrupted, what it comes to then, how often it is made, and what a read and a write answer.
+/// How often the system's call for four bytes is interrupted, what it comes to then, how often it is made, and
+/// what a read and a write answer.
 type Row = (u32, End, u32, Result<usize, Failed>, Result<usize, Failed>);
 
 const ROWS: [Row; 9] = [

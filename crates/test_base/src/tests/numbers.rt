@@ -1,8 +1,8 @@
 //! Disks that words write by their numbers.
 use ibm_disks::{IbmDisk, LeadIn, Rate, SectorSize, TrackNumbers};
 
-/// What a word asks for: the rate, and how many cylinders, heads and sectors of a track there are, the number of the first one, and
-/// their bytes.
+/// What a word asks for: the rate, and how many cylinders, heads and sectors of a track there are, the number of
+/// the first one, and their bytes.
 type Asked = (Rate, (u8, u8, u8), u8, SectorSize);
 
 /// Words, what they ask for, and the bytes of the gap after each sector and of the whole track.
@@ -64,8 +64,9 @@ const DISKS: [(&str, Asked, (u8, u16)); 11] = [
     ),
 ];
 
-/// No cylinder, or too many; no head, or too many; no sector, too many of them, or too many for the track or for 8 bits; a size that there
-/// is none of; a rate of the other recording; zeros, letters, words that are too short or too long.
+/// No cylinder, or too many; no head, or too many; no sector, too many of them, or too many for the
+/// track or for 8 bits; a size that there is none of; a rate of the other recording; zeros, letters,
+/// words that are too short or too long.
 const NO_DISKS: [&str; 24] = [
     "mfm-dd-0x2x9x512",
     "mfm-dd-100x2x9x512",

@@ -30,8 +30,8 @@ fn a_sink_takes_what_fits_its_room(rt: HostRuntime) -> Result<(), Fail> {
     Ok(())
 }
 
-/// Reads into a buffer with so much room, of five bytes that come two at a time, and of which the second read fails; and
-/// what the buffer holds afterwards.
+/// Reads into a buffer with so much room, of five bytes that come two at a time, and of which the second read fails;
+/// and what the buffer holds afterwards.
 const READS: [(usize, Result<usize, Failed>, [u8; 4]); 5] = [
     (4, Ok(2), *b"ab\0\0"),
     (4, Err(Failed), *b"ab\0\0"),

@@ -65,8 +65,8 @@ fn a_command_has_an_example(rt: HostRuntime) -> Result<(), Fail> {
     Ok(())
 }
 
-/// Words that no format has, and the format that is named in their place: a letter left out, put in or changed, parts of a word, and of two that
-/// are as near the first of the table.
+/// Words that no format has, and the format that is named in their place: a letter left out, put in or changed, parts
+/// of a word, and of two that are as near the first of the table.
 const NEAREST: &[(&str, &str)] = &[
     ("ibm720", "ibm-720"),
     ("ibm-14400", "ibm-1440"),
@@ -87,8 +87,8 @@ fn the_nearest_format(rt: HostRuntime) -> Result<(), Fail> {
     Ok(())
 }
 
-/// Words behind a command in a format's place, and the line that they get: one that is spelled wrong, those that people have for files and disks,
-/// and numbers of which one is no disk's.
+/// Words behind a command in a format's place, and the line that they get: one that is spelled wrong, those that people
+/// have for files and disks, and numbers of which one is no disk's.
 const TOLD: &[(&str, &str)] = &[
     ("ibm720", "no format ibm720; nearest: ibm-720\n"),
     ("adf", "no format adf; try: amiga\n"),

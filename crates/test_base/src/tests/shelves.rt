@@ -53,8 +53,8 @@ fn first(cylinder: u8) -> TrackId {
     TrackId { cylinder, head: 0 }
 }
 
-/// A dump that is named by its files, and a folder. No file of the dump's third cylinder has bytes, and of two files of one
-/// path the first counts.
+/// A dump that is named by its files, and a folder. No file of the dump's third cylinder has bytes, and of two files
+/// of one path the first counts.
 fn files(alloc: Global) -> Result<Vec<ShelfFile>, AllocError> {
     let mut files = Vec::new(alloc);
     for (path, bytes) in [
@@ -70,8 +70,8 @@ fn files(alloc: Global) -> Result<Vec<ShelfFile>, AllocError> {
     Ok(files)
 }
 
-/// A dump and a cylinder whose file is opened; whether it is there; and what each read of it gives, or that it fails. The files
-/// are these, two bytes are given at a time, and two calls fail.
+/// A dump and a cylinder whose file is opened; whether it is there; and what each read of it gives, or that it fails.
+/// The files are these, two bytes are given at a time, and two calls fail.
 const OPENS: [(&str, u8, Result<bool, Failed>, &[Option<&[u8]>]); 8] = [
     (
         "d/x01.0.raw",
@@ -157,7 +157,8 @@ const KINDS: [(&str, &str, &str); 14] = [
     ("deep", "no files", ""),
 ];
 
-/// No name of these in `other` is that of a track's file: nothing stands before, a third head, a control character, no text.
+/// No name of these in `other` is that of a track's file: nothing stands before, a third head,
+/// a control character, no text.
 const LYING: [&[u8]; 12] = [
     b"dump/track05.1.raw",
     b"a.zip",

@@ -4,8 +4,8 @@ use check_values::{Crc16, amiga_xor, crc16, xor_bytes};
 use mfm_coding::{Symbol, push_bytes, push_run, push_symbol};
 use std::test::Fail;
 
-/// The header of cylinder 0, head 0, sector 1 in the 3740 and System 34 formats, the three marks before a System 34 field,
-/// and the check string of the CRC catalogues.
+/// The header of cylinder 0, head 0, sector 1 in the 3740 and System 34 formats, the three marks before a System 34
+/// field, and the check string of the CRC catalogues.
 const MESSAGES: [(u16, &[u8], u16); 5] = [
     (0xffff, &[0xfe, 0x00, 0x00, 0x01, 0x00], 0xd2c3),
     (0xcdb4, &[0xfe, 0x00, 0x00, 0x01, 0x02], 0xca6f),

@@ -108,8 +108,8 @@ fn others_as_they_come(rt: HostRuntime) -> Result<(), Fail> {
     Ok(())
 }
 
-/// So many names without data and a header with data behind them, of this sector. Of which name it is: how many names are told, how many
-/// of these have data, and whether data follow a name that is not told.
+/// So many names without data and a header with data behind them, of this sector. Of which name it is: how many names
+/// are told, how many of these have data, and whether data follow a name that is not told.
 const BEHIND: [(u8, u8, (usize, usize, bool)); 5] = [
     (0, 0, (1, 1, false)),
     (63, 63, (64, 1, false)),

@@ -231,8 +231,8 @@ fn goes_on_behind_a_stretch(rt: HostRuntime) -> Result<(), Memory> {
     Ok(())
 }
 
-// 64 pulses half a cell apart pull the mean to the band's lower end of 36 ticks, where intervals of 96 are two and three cells by
-// turns. Where the first period is held they are two of 48 each, as before the burst.
+// 64 pulses half a cell apart pull the mean to the band's lower end of 36 ticks, where intervals of 96 are two and
+// three cells by turns. Where the first period is held they are two of 48 each, as before the burst.
 #[test]
 fn a_held_period_reads_on_behind_a_burst(rt: HostRuntime) -> Result<(), Memory> {
     let mut times = even_times(rt.alloc(), 101, 96)?;
@@ -247,9 +247,10 @@ fn a_held_period_reads_on_behind_a_burst(rt: HostRuntime) -> Result<(), Memory> 
     Ok(())
 }
 
-// Four cells at a time, each transition six ticks early and the last one six ticks late, where a period of 42240 is held, 55 64ths of
-// the nominal cell. At a local period of 43264, a 48th of the nominal cell more, the last four are four still; at 43520, a 38th more,
-// they are counted as five. The times are the ideal ones from tick 20 on, 4 * 43264 / 1024 = 169 ticks or 170 apart.
+// Four cells at a time, each transition six ticks early and the last one six ticks late, where a period of 42240 is
+// held, 55 64ths of the nominal cell. At a local period of 43264, a 48th of the nominal cell more, the last four are
+// four still; at 43520, a 38th more, they are counted as five. The times are the ideal ones from tick 20 on, 4 * 43264
+// / 1024 = 169 ticks or 170 apart.
 #[test]
 fn a_held_period_bears_a_steady_speed(rt: HostRuntime) -> Result<(), Memory> {
     let slow = LoopStart {

@@ -45,8 +45,8 @@ fn two_sides(alloc: Global) -> Result<Vec<ShelfFile>, Memory> {
     Ok(files)
 }
 
-/// So many sectors, of which so many are good, and all others are missing; so many streams that are passed over, and so many other names, which
-/// all have data.
+/// So many sectors, of which so many are good, and all others are missing; so many streams that are passed over, and so
+/// many other names, which all have data.
 fn numbers(sectors: u32, good: u32, unread: u32, others: u32) -> DumpTotals {
     DumpTotals {
         sectors: Totals {
@@ -73,8 +73,8 @@ const ROWS: [Row; 4] = [
     ("ibm-180", (360, 9, 39, 9), false),
 ];
 
-/// What is told of the other side, where it is not asked for, of its first name. It stands in the first quarter of a turn, of which the stream has
-/// four, and both clocks read it.
+/// What is told of the other side, where it is not asked for, of its first name. It stands in the first quarter of a
+/// turn, of which the stream has four, and both clocks read it.
 const OTHER_SIDE: &str = "\n00.1 other 0 1 1 2 8 8 ";
 
 #[test]
@@ -174,9 +174,10 @@ const LAST: &str = "76.0 26 missing 0 0\n";
 
 const END: &str = "total 2002 good 0 bad 0 missing 2002 contradictory 0\n";
 
-/// The call of the shelf that fails, if one does, how many files failed, how many bytes of the file on the other side are a stream, and what is told
-/// of it between these lines. The calls are an open and a read of the first track's file, and an open for each of the other 76: the next one opens
-/// the file of the other side, which is there, and the next one reads it. No other file is missed.
+/// The call of the shelf that fails, if one does, how many files failed, how many bytes of the file on the other side
+/// are a stream, and what is told of it between these lines. The calls are an open and a read of the first track's
+/// file, and an open for each of the other 76: the next one opens the file of the other side, which is there, and the
+/// next one reads it. No other file is missed.
 const FAILED: [(&[u64], u32, usize, &str); 4] = [
     (&[], 0, 50, "unread 76 other 0 whole 0\n"),
     (

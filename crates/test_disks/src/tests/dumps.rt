@@ -16,7 +16,8 @@ const SHORT: [u8; 50] = [
     0, 0, 0, 24, 0, 0, 0, 0x0D, 3, 8, 0, 2, 0, 0, 0, 0, 0, 0, 0, 0x0D, 0x0D, 0x0D, 0x0D,
 ];
 
-/// The first dump has the file of the first cylinder, and the second one that of the second, which ends inside its fifth block.
+/// The first dump has the file of the first cylinder, and the second one that of the second,
+/// which ends inside its fifth block.
 fn files(alloc: Global) -> Result<Vec<ShelfFile>, AllocError> {
     let mut files = Vec::new(alloc);
     for (folder, cylinder, size) in [("a", 0, 50), ("b", 1, 40)] {
@@ -106,8 +107,8 @@ const REFUSED: [(&[&str], &[u64], DumpsFault); 3] = [
     (&["a", "c"], &[0], DumpsFault::NoFiles { dump: 1 }),
 ];
 
-/// The call of the shelf that fails, how many streams are passed over then, and what is told of the track. Of each track the first dump's file is
-/// opened and read, and then the second one's.
+/// The call of the shelf that fails, how many streams are passed over then, and what is told of the track. Of each
+/// track the first dump's file is opened and read, and then the second one's.
 const FAILED: [(u64, u32, &str); 3] = [
     (
         0,
@@ -152,7 +153,8 @@ fn dumps_without_files_are_refused(rt: HostRuntime) -> Result<(), Fail> {
     Ok(())
 }
 
-/// Draws the same disk of these dumps. The call of the shelf and the write of the picture with these numbers fail, if some do.
+/// Draws the same disk of these dumps. The call of the shelf and the write of the picture with
+/// these numbers fail, if some do.
 fn draw(
     alloc: Global,
     names: &[&str],
@@ -172,7 +174,8 @@ fn draw(
     Ok((answer, picture))
 }
 
-/// A row of the picture of both dumps: its title, a field, what it counts right of the legend, below one grid of 26 rows, and its end.
+/// A row of the picture of both dumps: its title, a field, what it counts right of the legend, below one
+/// grid of 26 rows, and its end.
 const PARTS: [&str; 3] = [
     "<title>flux read ibm-3740</title>\n",
     "<path fill=\"#8c8c8c\" d=\"M40 56v10h10v-10zm2 2h6v6h-6z\"><title>00.0 01 missing 0 0\n</title></path>\n",

@@ -16,7 +16,8 @@ const SHORT: [u8; 50] = [
     0, 0, 0, 24, 0, 0, 0, 0x0D, 3, 8, 0, 2, 0, 0, 0, 0, 0, 0, 0, 0x0D, 0x0D, 0x0D, 0x0D,
 ];
 
-/// A file with the stream of the first track of Acorn's disk, ten sectors of zeros. What stands behind it is not looked at.
+/// A file with the stream of the first track of Acorn's disk, ten sectors of zeros. What
+/// stands behind it is not looked at.
 fn acorn_track(alloc: Global) -> Result<Vec<u8>, Memory> {
     let image = vec![in alloc; 0u8; 102_400]?;
     let mut source = MemorySource::new(image, 4096, Vec::new(alloc));
@@ -33,8 +34,8 @@ struct Said {
     lines: MemorySink,
 }
 
-/// Says which disk a dump is of that has this file for its first track. The call of the shelf with this number fails, if one does,
-/// and the sink takes so many bytes.
+/// Says which disk a dump is of that has this file for its first track. The call of the shelf with this number fails,
+/// if one does, and the sink takes so many bytes.
 fn say(
     alloc: Global,
     dump: &str,
@@ -112,8 +113,8 @@ const NONE_FAILED: Identity = Identity {
     failed: true,
 };
 
-/// The name of the dump, the calls of the shelf that fail, the bytes that the sink takes, what is answered, and what is written. Each disk opens
-/// the file anew.
+/// The name of the dump, the calls of the shelf that fail, the bytes that the sink takes, what is answered, and what is
+/// written. Each disk opens the file anew.
 const ENDS: [(&str, &[u64], usize, Result<Identity, DumpsFault>, &[u8]); 4] = [
     ("dump", &[], 4096, Ok(NONE), b"best none\n"),
     ("dump", &[], 3, Err(DumpsFault::ImageFault), b"bes"),

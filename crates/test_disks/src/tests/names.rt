@@ -39,8 +39,8 @@ fn push_field(cells: &mut Cells, bytes: &[u8]) -> Result<(), Memory> {
     cells.push_mfm((check % 256) as u8)
 }
 
-/// A turn with headers of cylinder 5 for sectors of 128 bytes, from 1 on: behind 80 bytes of a gap 30 bytes for each, of which 8 are
-/// a gap. Behind the last one its data stand, if they do.
+/// A turn with headers of cylinder 5 for sectors of 128 bytes, from 1 on: behind 80 bytes of a gap 30 bytes for each,
+/// of which 8 are a gap. Behind the last one its data stand, if they do.
 fn turn_of(alloc: Global, headers: u8, has_data: bool) -> Result<Cells, Memory> {
     let mut cells = Cells::new(alloc);
     push_bytes(&mut cells, 80, 0x4E)?;
@@ -75,13 +75,13 @@ fn dump_of(rt: &impl Abort, alloc: Global, turn: &Cells) -> Result<Vec<ShelfFile
     Ok(files)
 }
 
-/// Headers of so many names on the first track, whether whole data stand behind the last one, what is told of them behind the track's
-/// sectors, and the last line but one.
+/// Headers of so many names on the first track, whether whole data stand behind the last one, what is told of them
+/// behind the track's sectors, and the last line but one.
 type Row = (u8, bool, &'static str, &'static str);
 
-/// A header begins at its first mark: header 63, from 0, at cell 80 * 16 + 63 * 480 + 192 = 31712 of a turn. The stream begins
-/// with 25000 cells of the turn before and is cut in front of its first one, the second cell: it is cell 56711 there. Both clocks
-/// read it in each of three turns.
+/// A header begins at its first mark: header 63, from 0, at cell 80 * 16 + 63 * 480 + 192 = 31712 of a turn. The stream
+/// begins with 25000 cells of the turn before and is cut in front of its first one, the second cell: it is cell 56711
+/// there. Both clocks read it in each of three turns.
 const ROWS: [Row; 6] = [
     (0, false, "", "unread 159 other 0 whole 0"),
     (3, false, "00.0 traces 3\n", "unread 159 other 3 whole 0"),

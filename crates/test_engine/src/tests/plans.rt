@@ -20,8 +20,8 @@ struct Planned {
     notes: MemorySink,
 }
 
-/// Reads a disk of IBM 3740 by a rule, of two captures by both clocks. The first capture of its first track has no sector, and the
-/// second has all. Then come these bytes, so often.
+/// Reads a disk of IBM 3740 by a rule, of two captures by both clocks. The first capture of its first track has no
+/// sector, and the second has all. Then come these bytes, so often.
 fn read_planned(alloc: Global, rule: Rule, then: &[u8], times: u32) -> Result<Planned, Fail> {
     let mut ring = Cells::new(alloc);
     IbmFm::IBM_3740.ring(TRACK, &[0xE5; 3328], &mut ring)?;
@@ -49,7 +49,8 @@ fn read_planned(alloc: Global, rule: Rule, then: &[u8], times: u32) -> Result<Pl
     })
 }
 
-// Three turns by two clocks are six readings, all of the second capture, and the first of them is by the clock that follows the drive.
+// Three turns by two clocks are six readings, all of the second capture, and the first of them is by the
+// clock that follows the drive.
 fn comes_to_six_readings(rt: &impl Abort, planned: &Planned) {
     let totals = Totals {
         sectors: 2002,

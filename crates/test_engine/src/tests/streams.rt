@@ -108,7 +108,8 @@ const ROWS: &[Row] = &[
         stream: b"\x0D\x02\x0C\0\0\0\0\0\0\0\0\0\0\0\0\0\x0D\x02\x0C\0\x02\0\0\0\x64\0\0\0\x0C\x40\0\0\
             \x0B\x0B\x0B\x0E\x0D\x03\x08\0\x04\0\0\0\0\0\0\0\x0D\x0D\x0D\x0D",
     },
-    // An index at exactly a transition's time belongs to the next interval, and one just before an interval's end to it.
+    // An index at exactly a transition's time belongs to the next interval, and one just
+    // before an interval's end to it.
     Row {
         name: "an index at a transition stands after it",
         times: &[96, 65632, 67680],

@@ -125,8 +125,8 @@ const TRACKS: &[Row] = &[
         }),
         "refused g64 ShortTrack 1 3\n",
     ),
-    // The first track with a fault is named. Track 1 ends past the end, and track 2 begins there; of a half track between
-    // them nothing is looked at.
+    // The first track with a fault is named. Track 1 ends past the end, and track 2 begins there; of a half track
+    // between them nothing is looked at.
     (
         b"GCR-1541\0\x03\xF8\x1E\x24\0\0\0\x63\0\0\0\x63\0\0\0\0\0\0\0\0\0\0\0\0\0\0\0\0\x01",
         0,

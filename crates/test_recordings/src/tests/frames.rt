@@ -102,8 +102,8 @@ pub fn assert_rewritten<R: Recording, F: HandMade>(
     Ok(())
 }
 
-/// What a frame is, the frame, the name of its header, which is none of the track's sectors', and whether data of the size
-/// that the name tells stand after it by the second rule.
+/// What a frame is, the frame, the name of its header, which is none of the track's sectors', and whether data of the
+/// size that the name tells stand after it by the second rule.
 pub type Other<F> = (&'static str, F, HeaderName, bool);
 
 /// Each frame has the header of an other, and data as its row says.

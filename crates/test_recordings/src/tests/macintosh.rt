@@ -297,8 +297,8 @@ const NUMBERS: Numbers = Numbers {
     step: 5988,
 };
 
-/// The header of sector 0, whose check value is 3, and what closes it, its data's mark and first nibbles, and what closes
-/// them; the self-syncs before the first header and after the last sector.
+/// The header of sector 0, whose check value is 3, and what closes it, its data's mark and first nibbles, and what
+/// closes them; the self-syncs before the first header and after the last sector.
 const WORDS: &[Word] = &[
     (0, 10, 0x3FC),
     (150, 10, 0x3FC),

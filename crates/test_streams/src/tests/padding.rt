@@ -19,7 +19,8 @@ const ROWS: &[Row] = &[
     ("0D 0D 60", 2, &[b"\x60\x60\x60", ONE_TURN], UNKNOWN),
     // A transition has no padding before it, and is counted from the first byte.
     ("transitions", 0, &[b"\x60\x60", ONE_TURN], LATE),
-    // Of 15 and of 16 bytes before a block all are padding, of 17 the first 16: the last one begins a block of the type 0D.
+    // Of 15 and of 16 bytes before a block all are padding, of 17 the first 16: the last one
+    // begins a block of the type 0D.
     ("15 bytes", 15, &[ONE_TURN], TURN),
     ("16 bytes", 16, &[ONE_TURN], TURN),
     ("17 bytes", 17, &[ONE_TURN], SIZED),

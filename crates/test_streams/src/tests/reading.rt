@@ -6,9 +6,9 @@ use std::alloc::Global;
 use std::process::Abort;
 use std::test::Fail;
 
-/// An Index, 17 transitions of one byte, one of two and one of three, an Overflow, a transition of one byte, a Nop of three
-/// bytes, a transition of two bytes and one of one, an Index behind the transition of two bytes, and one behind all. 17 bytes
-/// are more than are looked at at once.
+/// An Index, 17 transitions of one byte, one of two and one of three, an Overflow, a transition of one byte, a Nop of
+/// three bytes, a transition of two bytes and one of one, an Index behind the transition of two bytes, and one behind
+/// all. 17 bytes are more than are looked at at once.
 const MIXED: &[u8] =
     b"\x0D\x02\x0C\0\0\0\0\0\0\0\0\0\0\0\0\0\x60\x60\x60\x60\x60\x60\x60\x60\x60\x60\x60\x60\x60\x60\x60\x60\x60\
     \x01\x20\x0C\x10\0\x0B\x0E\x0A\0\0\0\x05\xFF\x0D\x02\x0C\0\x13\0\0\0\x07\0\0\0\0\0\0\0\

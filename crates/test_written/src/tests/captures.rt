@@ -3,8 +3,8 @@ use std::alloc::Global;
 use std::test::Fail;
 use test_rows::{ACORN_DFS_40, Run, Want, decode_set, gives, short_dump, short_streams};
 
-/// A number of captures, and how many bytes are left of 641 streams of 50 bytes, each of which is read at once: 40 are read for
-/// each capture.
+/// A number of captures, and how many bytes are left of 641 streams of 50 bytes, each of which is read at once:
+/// 40 are read for each capture.
 const COUNTS: [(&str, usize); 6] = [
     ("1", 30_050),
     ("01", 30_050),

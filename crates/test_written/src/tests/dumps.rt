@@ -9,8 +9,8 @@ use std::test::Fail;
 use test_rows::SHORT;
 use track_shelf::{MemoryShelf, ShelfFile};
 
-/// Dumps of shortest streams, in which no sector stands: the first has that of cylinder 0, the second one of cylinder 1, which
-/// is cut in its fifth block.
+/// Dumps of shortest streams, in which no sector stands: the first has that of cylinder 0, the second one of cylinder
+/// 1, which is cut in its fifth block.
 fn short_files(alloc: Global) -> Result<Vec<ShelfFile>, Memory> {
     let mut files = Vec::new(alloc);
     for (folder, cylinder, size) in [("a", 0, 50), ("b", 1, 40)] {
@@ -34,8 +34,8 @@ const LOST: &str = "00.0 dump 0 failed\n00.0 dump 1 missing\n00.0 01 missing 0 0
 const LOST_READ: &str =
     "unread 154 other 0 whole 0\ntotal 2002 good 0 bad 0 missing 2002 contradictory 0\n";
 
-/// The call of the shelf that fails, of the first file's open and its read and of the second file, and how the report begins and
-/// ends.
+/// The call of the shelf that fails, of the first file's open and its read and of the second file, and
+/// how the report begins and ends.
 const FAILING: [(u64, &str, &str); 3] = [
     (0, LOST, LOST_READ),
     (1, LOST, LOST_READ),

@@ -9,9 +9,9 @@ use test_rows::{IBM_720, Mismatch, Run, Want, decode, first_bytes, first_lines, 
 /// The bytes of a track's part of the image.
 const PART: usize = 4608;
 
-/// The lines of each track, after its name. A stream has the ring's last quarter, three turns and the first quarter. The
-/// first transition lies one cell after its begin, so that a sector stands one cell before its place in what is written.
-/// Sector 3's last header stands whole in the closing quarter and its data do not.
+/// The lines of each track, after its name. A stream has the ring's last quarter, three turns and the first quarter.
+/// The first transition lies one cell after its begin, so that a sector stands one cell before its place in what is
+/// written. Sector 3's last header stands whole in the closing quarter and its data do not.
 const LINES: [&str; 9] = [
     "01 good 4 0 1 27527",
     "02 good 4 0 1 37991",
@@ -115,8 +115,8 @@ fn a_write_fails(alloc: Global, disk: &Written, call: usize) -> Result<usize, Mi
     is_cut(alloc, disk, notes_run, notes_cut)
 }
 
-// The image is read in 180 pieces of 4096 bytes, and the next read finds its end. The streams are written in pieces of at
-// most 4096 bytes, of which the first stream has some 30.
+// The image is read in 180 pieces of 4096 bytes, and the next read finds its end. The streams are written in pieces of
+// at most 4096 bytes, of which the first stream has some 30.
 #[test]
 fn a_call_of_write_fails(rt: HostRuntime) -> Result<(), Fail> {
     let alloc = rt.alloc();

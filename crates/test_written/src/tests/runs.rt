@@ -1,4 +1,5 @@
-//! Runs of the program over objects in memory that have room for the streams of any image, and over shelves with any files.
+//! Runs of the program over objects in memory that have room for the streams of any image, and over shelves with any
+//! files.
 use flux_base::{Memory, MemorySink, MemorySource, Word};
 use flux_cli::run;
 use std::alloc::Global;
@@ -18,7 +19,8 @@ pub struct Ended {
     pub notes: MemorySink,
 }
 
-/// Runs the program with these words over a source and a shelf. The write of the image with this number fails, if one does.
+/// Runs the program with these words over a source and a shelf. The write of the image with
+/// this number fails, if one does.
 pub fn ends(
     alloc: Global,
     texts: &[&str],

@@ -97,7 +97,8 @@ fn tells_headers_of_no_sector(rt: HostRuntime) -> Result<(), Fail> {
     assert_others(&rt, rt.alloc(), &DISK, TRACK, OTHERS)
 }
 
-/// The code of a length, so many bytes of data, the cells of the last one, and whether data as long as the code tells stand.
+/// The code of a length, so many bytes of data, the cells of the last one, and whether data as
+/// long as the code tells stand.
 const LONG_DATA: &[(u8, u16, u32, bool)] = &[
     (4, 2048, 0xFFFF, true),
     (4, 2048, 0xFFFE, false),
@@ -111,7 +112,8 @@ const LONG_DATA: &[(u8, u16, u32, bool)] = &[
     (7, 16384, 0xFFFF, false),
 ];
 
-/// Data may have more bytes than any sector of a format, up to 8192. Where one of their cells is another, there are none.
+/// Data may have more bytes than any sector of a format, up to 8192. Where one of their cells is another, there are
+/// none.
 #[test]
 fn tells_data_longer_than_a_sector(rt: HostRuntime) -> Result<(), Fail> {
     for (size, bytes, last_cells, whole) in LONG_DATA {
