@@ -14,7 +14,8 @@ use Rattle.amiga_mfm.specs.declared.layout.Row.TheVariants.{Run, Header, Content
 use Rattle.amiga_mfm.specs.Longs.{HALF_CELLS, half_bytes, halves, longs_of}
 use Rattle.amiga_mfm.specs.Sectors.{FORMAT_BYTE, SECTOR_SIZE, track_number}
 
--- a sector: two bytes of zeros and its frame; and after the last sector the gap that fills the track
+-- a sector: two bytes of zeros and its frame; and after the last sector the gap that fills the
+-- track
 abbrev pub rows : Rows Row
 rows = record {
   lead_in = [];
@@ -30,7 +31,8 @@ halves_symbols some = bytes_as_data (flat_map half_bytes some)
 
 -- the info: FF, track, sector, and the number of sectors from it to the gap
 abbrev pub info_of : Disk → TrackId → ℕ → ℕ
-info_of disk track sector = from_be_bytes w32 (FORMAT_BYTE ∷ track_number track ∷ sector ∷ (disk.sectors - sector) ∷ [])
+info_of disk track sector =
+    from_be_bytes w32 (FORMAT_BYTE ∷ track_number track ∷ sector ∷ (disk.sectors - sector) ∷ [])
 
 -- the label: four longs of zeros
 abbrev pub label : List ℕ
@@ -53,16 +55,18 @@ content_halves longs = halves (check_of_data longs ∷ []) ++ halves longs
 -- the bytes and marks of a row of the disk's track, for this sector with these bytes
 abbrev pub row_symbols : Disk → TrackId → ℕ → List ℕ → Row → List Symbol
 row_symbols disk track sector bytes (Run count symbol) = replicate count symbol
-row_symbols disk track sector bytes Header = halves_symbols (header_halves (info_of disk track sector))
+row_symbols disk track sector bytes Header =
+    halves_symbols (header_halves (info_of disk track sector))
 row_symbols disk track sector bytes Content = halves_symbols (content_halves (longs_of bytes))
 row_symbols disk track sector bytes TrackGap = replicate disk.track_gap (Data 0x00)
 
 -- its cells, after the last data bit before it
 abbrev pub row_cells : Disk → TrackId → Bool → ℕ → List ℕ → Row → List Bool
-row_cells disk track before sector bytes row = coded before (row_symbols disk track sector bytes row)
+row_cells disk track before sector bytes row =
+    coded before (row_symbols disk track sector bytes row)
 
--- how many they are: 16 for each byte and each mark, and two halves for each long, of info, label and check value, and of check
--- value and data
+-- how many they are: 16 for each byte and each mark, and two halves for each long, of info, label
+-- and check value, and of check value and data
 abbrev pub row_size : Disk → ℕ → Row → ℕ
 row_size disk count (Run symbols symbol) = 16 * symbols
 row_size disk count Header = 2 * HALF_CELLS * 6
@@ -71,4 +75,5 @@ row_size disk count TrackGap = 16 * disk.track_gap
 
 -- the ring
 abbrev pub ring_of : Disk → TrackId → List ℕ → List Bool
-ring_of disk track bytes = ring_of_rows true (row_cells disk track) 0 disk.sectors SECTOR_SIZE bytes rows
+ring_of disk track bytes =
+    ring_of_rows true (row_cells disk track) 0 disk.sectors SECTOR_SIZE bytes rows

@@ -1,11 +1,13 @@
--- The sectors of Amiga disks (Amiga trackdisk): what a header names and what data hold. A frame is the sync, two marks A1, and then
--- longs: the info, the label of four longs, the check value of both, the check value of the data, and the data. There is no second sync.
+-- The sectors of Amiga disks (Amiga trackdisk): what a header names and what data hold. A frame is
+-- the sync, two marks A1, and then longs: the info, the label of four longs, the check value of
+-- both, the check value of the data, and the data. There is no second sync.
 use Rattle.std.specs.Prelude.{◌≡◌, ℕ, ◌+◌, ◌*◌, ◌^◌, Bool, List, [], ◌∷◌, take}
 use Rattle.std.specs.Int.{to_be_bytes, w32}
 use Rattle.flux_base.specs.declared.track.TrackId.{TrackId}
 use Rattle.check_values.specs.Sums.{data_xor}
 use Rattle.flux_base.specs.declared.header_name.HeaderName.{HeaderName}
-use Rattle.flux_base.specs.declared.header_name.HeaderName.TheVariants.{Address, TrackSector, TrackSectorSide}
+use Rattle.flux_base.specs.declared.header_name.HeaderName.TheVariants.{Address, TrackSector}
+use Rattle.flux_base.specs.declared.header_name.HeaderName.TheVariants.{TrackSectorSide}
 use Rattle.mfm_coding.specs.Coding.{SYNC_MARK}
 use Rattle.amiga_mfm.specs.Longs.{HALF_CELLS, bytes_at, long_at, raw_longs}
 
@@ -52,10 +54,12 @@ HEADER_CELLS = 480
 abbrev pub DATA_CELLS : ℕ
 DATA_CELLS = 8192
 
--- A header names the numbers of a track and a sector: the bytes of the info are FF, these two, and the number of sectors to the gap,
--- which is not looked at; and the check value is that of the halves of info and label.
+-- A header names the numbers of a track and a sector: the bytes of the info are FF, these two,
+-- and the number of sectors to the gap, which is not looked at; and the check value is that of
+-- the halves of info and label.
 pub record NamesNumbers (track : ℕ) (cells : List Bool) (sector : ℕ) : Type 0 where
-  pub info : take 3 (to_be_bytes w32 (long_at cells INFO HALF_CELLS)) ≡ FORMAT_BYTE ∷ track ∷ sector ∷ []
+  pub info : take 3 (to_be_bytes w32 (long_at cells INFO HALF_CELLS))
+      ≡ FORMAT_BYTE ∷ track ∷ sector ∷ []
   pub check : long_at cells HEADER_CHECK HALF_CELLS ≡ data_xor (raw_longs cells INFO HEADER_HALVES)
 
 -- it has a name
@@ -79,4 +83,5 @@ content_at cells place = bytes_at cells place (HALF_CELLS * SECTOR_LONGS) SECTOR
 -- data hold bytes: these, and the check value of their halves
 pub record Hold (cells : List Bool) (place : ℕ) (bytes : List ℕ) : Type 0 where
   pub content : content_at cells place ≡ bytes
-  pub check : long_at cells DATA_CHECK HALF_CELLS ≡ data_xor (raw_longs cells place (2 * SECTOR_LONGS))
+  pub check : long_at cells DATA_CHECK HALF_CELLS
+      ≡ data_xor (raw_longs cells place (2 * SECTOR_LONGS))

@@ -24,8 +24,8 @@ use flux_base::{HeaderName, Memory, TrackId};
 use frame_law::{CellsFrom, Coding, Layout, SectorBuffer, SectorBytes};
 use mfm_coding::CODING;
 
-/// The recording of Amiga disks (Amiga trackdisk). Its tracks are the cylinders 0 to 79 with the heads 0 and 1; sectors are
-/// numbered from 0.
+/// The recording of Amiga disks (Amiga trackdisk). Its tracks are the cylinders 0 to 79 with the heads 0 and
+/// 1; sectors are numbered from 0.
 #[derive(Clone, Copy, Debug, PartialEq, Eq)]
 pub enum AmigaMfm {
     /// Double density: 11 sectors on a track.
@@ -169,9 +169,11 @@ impl Layout for AmigaMfm {
     ghost sums = { λ r track known. sums r };
 
     ghost row_length = { λ r track before s bytes row.
-        length-coded before (row_symbols (numbers_of r) track s bytes row) ∙ symbols_sized (numbers_of r) track s bytes row };
+        length-coded before (row_symbols (numbers_of r) track s bytes row)
+        ∙ symbols_sized (numbers_of r) track s bytes row };
 
-    ghost row_follows = { λ r track s bytes row known content. symbols-follow (row_symbols (numbers_of r) track s bytes row) };
+    ghost row_follows = { λ r track s bytes row known content.
+        symbols-follow (row_symbols (numbers_of r) track s bytes row) };
 
     ghost ends = { λ r track before known. ends r track before };
 

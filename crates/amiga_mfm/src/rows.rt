@@ -2,7 +2,8 @@ ghost use Rattle.std.specs.Prelude.{◌≡◌, ℕ, ◌<◌, ◌≤◌, length, 
 ghost use Rattle.check_values.specs.Sums.{xor};
 ghost use Rattle.mfm_coding.specs.Writes.{AppendsSymbols};
 ghost use Rattle.amiga_mfm.specs.Longs.{half_of, halves};
-ghost use Rattle.amiga_mfm.specs.Layout.{check_of_data, check_of_header, content_halves, halves_symbols, header_halves, info_of, row_symbols};
+ghost use Rattle.amiga_mfm.specs.Layout.{check_of_data, check_of_header, content_halves, halves_symbols, header_halves};
+ghost use Rattle.amiga_mfm.specs.Layout.{info_of, row_symbols};
 ghost use Rattle.amiga_mfm.specs.Disks.{IsAmigaTrack};
 
 use crate::half::{Half, half_bytes};

@@ -1,4 +1,5 @@
--- 4-and-4, the coding of Apple's address fields: a byte as two, each with four of its bits and ones between them.
+-- 4-and-4, the coding of Apple's address fields: a byte as two, each with four of
+-- its bits and ones between them.
 use Rattle.std.specs.Prelude.{◌≡◌, ℕ, ◌/◌, ◌<◌, Bool, List, [], ◌∷◌, bit_or}
 use Rattle.apple_nibbles.specs.Nibbles.{bytes_cells}
 

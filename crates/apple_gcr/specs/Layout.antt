@@ -6,7 +6,8 @@ use Rattle.track_rings.specs.Rows.{Rows, ring_of as ring_of_rows}
 use Rattle.apple_gcr.specs.declared.layout.Mark.{Mark}
 use Rattle.apple_gcr.specs.declared.layout.Mark.TheVariants.{AddressField, DataField, Epilogue}
 use Rattle.apple_gcr.specs.declared.layout.Row.{Row}
-use Rattle.apple_gcr.specs.declared.layout.Row.TheVariants.{SelfSyncs, Mark as AMark, Address, Content}
+use Rattle.apple_gcr.specs.declared.layout.Row.TheVariants.{SelfSyncs, Mark as AMark, Address}
+use Rattle.apple_gcr.specs.declared.layout.Row.TheVariants.{Content}
 use Rattle.apple_gcr.specs.FourAndFour.{four_and_four}
 use Rattle.apple_gcr.specs.Sectors.{SECTORS, SECTOR_SIZE, check_of}
 use Rattle.apple_gcr.specs.SixAndTwo.{data_nibbles}
@@ -27,19 +28,22 @@ word_of AddressField = ADDRESS_MARK
 word_of DataField = DATA_MARK
 word_of Epilogue = EPILOGUE
 
--- before the first sector self-syncs; a sector's address field, gap, data field and gap; and after the last sector nothing
+-- before the first sector self-syncs; a sector's address field, gap, data field and gap; and
+-- after the last sector nothing
 abbrev pub rows : Rows Row
 rows = record {
   lead_in = SelfSyncs 33 ∷ [];
   before = [];
-  frame = AMark AddressField ∷ Address ∷ AMark Epilogue ∷ SelfSyncs 6 ∷ AMark DataField ∷ Content ∷ [];
+  frame =
+      AMark AddressField ∷ Address ∷ AMark Epilogue ∷ SelfSyncs 6 ∷ AMark DataField ∷ Content ∷ [];
   after = AMark Epilogue ∷ SelfSyncs 14 ∷ [];
   lead_out = [];
 }
 
 -- an address: volume, track, sector and check value
 abbrev pub address_of : TrackId → ℕ → List ℕ
-address_of track sector = VOLUME ∷ track.cylinder ∷ sector ∷ check_of VOLUME track.cylinder sector ∷ []
+address_of track sector =
+    VOLUME ∷ track.cylinder ∷ sector ∷ check_of VOLUME track.cylinder sector ∷ []
 
 -- the cells of a row, for this sector with these bytes
 abbrev pub row_cells : TrackId → Bool → ℕ → List ℕ → Row → List Bool

@@ -10,16 +10,20 @@ use Rattle.apple_gcr.specs.Sectors.{HeaderStands, SectorStands}
 
 -- by the strict rule a byte is read every eight cells
 abbrev pub StrictReadsInARow : Type 0
-StrictReadsInARow = (cells : List Bool) (from k : ℕ) → byte_read (zeros_passed Strict) cells from k ≡ disk_byte cells (from + BYTE_CELLS * k)
+StrictReadsInARow = (cells : List Bool) (from k : ℕ)
+    → byte_read (zeros_passed Strict) cells from k ≡ disk_byte cells (from + BYTE_CELLS * k)
 
 -- by the controller's rule it begins at the next one, where unbroken cells reach so far
 abbrev pub ControllerWaitsForOnes : Type 0
-ControllerWaitsForOnes = (cells : List Bool) (from end : ℕ) → from + BYTE_CELLS ≤ end → end ≤ length cells → Unbroken cells 0 end
+ControllerWaitsForOnes = (cells : List Bool) (from end : ℕ) → from + BYTE_CELLS ≤ end
+    → end ≤ length cells → Unbroken cells 0 end
     → IsFirstOne cells from end (Some (byte_place (zeros_passed Controller) cells from))
 
 -- what stands by the strict rule stands by the controller's, with the same bytes
 pub record StrictStandsByController : Type 0 where
-  pub headers : (track : TrackId) (cells : List Bool) (s : ℕ) → HeaderStands (zeros_passed Strict) track cells s
+  pub headers : (track : TrackId) (cells : List Bool) (s : ℕ)
+      → HeaderStands (zeros_passed Strict) track cells s
       → HeaderStands (zeros_passed Controller) track cells s
-  pub sectors : (track : TrackId) (cells : List Bool) (s : ℕ) (bytes : List ℕ) → SectorStands (zeros_passed Strict) track cells s bytes
+  pub sectors : (track : TrackId) (cells : List Bool) (s : ℕ) (bytes : List ℕ)
+      → SectorStands (zeros_passed Strict) track cells s bytes
       → SectorStands (zeros_passed Controller) track cells s bytes

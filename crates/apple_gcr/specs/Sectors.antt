@@ -4,7 +4,8 @@ use Rattle.flux_base.specs.declared.track.TrackId.{TrackId}
 use Rattle.check_values.specs.Sums.{xor}
 use Rattle.frame_law.specs.Frames.{DataStand, HeaderStands as Header, SectorStands as Sector}
 use Rattle.flux_base.specs.declared.header_name.HeaderName.{HeaderName}
-use Rattle.flux_base.specs.declared.header_name.HeaderName.TheVariants.{Address, TrackSector, TrackSectorSide}
+use Rattle.flux_base.specs.declared.header_name.HeaderName.TheVariants.{Address, TrackSector}
+use Rattle.flux_base.specs.declared.header_name.HeaderName.TheVariants.{TrackSectorSide}
 use Rattle.apple_gcr.specs.DiskBytes.{byte_place, byte_read, bytes_end}
 use Rattle.apple_gcr.specs.FourAndFour.{AreHalves}
 use Rattle.apple_gcr.specs.SixAndTwo.{AreCoded, Carries, NIBBLES}
@@ -28,7 +29,8 @@ SECTOR_SIZE = 256
 abbrev pub check_of : ℕ → ℕ → ℕ → ℕ
 check_of volume cylinder sector = xor (volume ∷ cylinder ∷ sector ∷ [])
 
--- an address, which is eight disk bytes: any volume, the track of this number, this sector, and their check value, each in 4-and-4
+-- an address, which is eight disk bytes: any volume, the track of this number, this sector, and
+-- their check value, each in 4-and-4
 pub record IsAddress (track : ℕ) (read : ℕ → ℕ) (sector : ℕ) : Type 0 where
   pub volume : ℕ
   pub has_volume : AreHalves (read 0) (read 1) volume
@@ -53,7 +55,8 @@ Names passed cells name = IsAddressOf (byte_read passed cells MARK_CELLS) name
 
 -- it names a sector of this track
 abbrev pub NamesSector : (passed : ℕ) → TrackId → List Bool → ℕ → Type 0
-NamesSector passed track cells sector = IsAddress track.cylinder (byte_read passed cells MARK_CELLS) sector
+NamesSector passed track cells sector =
+    IsAddress track.cylinder (byte_read passed cells MARK_CELLS) sector
 
 -- it ends after them
 abbrev pub header_end : (passed : ℕ) → List Bool → ℕ
@@ -79,8 +82,10 @@ data_end passed cells sync = bytes_end passed cells (opening_end passed cells sy
 
 -- a header, and a sector: its header and the data at the first sync after it
 abbrev pub HeaderStands : (passed : ℕ) → TrackId → List Bool → ℕ → Type 0
-HeaderStands passed track cells sector = Header ADDRESS_MARK MARK_CELLS (header_end passed) 0 SECTORS (NamesSector passed track) cells sector
+HeaderStands passed track cells sector = Header ADDRESS_MARK MARK_CELLS (header_end passed) 0
+    SECTORS (NamesSector passed track) cells sector
 
 abbrev pub SectorStands : (passed : ℕ) → TrackId → List Bool → ℕ → List ℕ → Type 0
 SectorStands passed track cells sector bytes =
-    Sector (HeaderStands passed track cells sector) (DataStand (header_end passed) (data_end passed) IsSync (Hold passed) cells bytes)
+    Sector (HeaderStands passed track cells sector)
+    (DataStand (header_end passed) (data_end passed) IsSync (Hold passed) cells bytes)

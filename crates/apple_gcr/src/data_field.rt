@@ -12,7 +12,8 @@ use frame_law::{CellsFrom, SectorBuffer};
 /// Where the data end whose sync stands at the offset. None where they are not whole.
 pub(crate) fn data_end(rule: ByteRule, frame: &CellsFrom, sync: usize) -> Option<usize>
     requires { sync < 2 ^ 31 }
-    ensures some { IfSome result (λ end. (end ≡ data_end (zeros_passed rule) frame.now sync) × (end ≤ length frame.now)) }
+    ensures some { IfSome result
+        (λ end. (end ≡ data_end (zeros_passed rule) frame.now sync) × (end ≤ length frame.now)) }
     ensures none { IfNone result (length frame.now < data_end (zeros_passed rule) frame.now sync) }
 {
     let opening_end = bytes_end(rule, frame, sync + DATA_BYTE_PLACE, 1)?;
@@ -49,7 +50,8 @@ fn values_from(rule: ByteRule, frame: &CellsFrom, from: usize) -> Option<Values>
     requires near { from < 2 ^ 32 }
     requires whole { bytes_end (zeros_passed rule) frame.now from 343 ≤ length frame.now }
     ensures some { IfSome result (λ values. AreCoded (byte_read (zeros_passed rule) frame.now from) values.items) }
-    ensures none { IfNone result ((values : List ℕ) → ¬ AreCoded (byte_read (zeros_passed rule) frame.now from) values) }
+    ensures none { IfNone result
+        ((values : List ℕ) → ¬ AreCoded (byte_read (zeros_passed rule) frame.now from) values) }
 {
     let mut values = Values::new();
     let mut value = 0;

@@ -65,7 +65,8 @@ pub(crate) fn bytes_end(
 ) -> Option<usize>
     requires near { from < 2 ^ 32 }
     requires few { count < 2 ^ 32 }
-    ensures some { IfSome result (λ end. (end ≡ bytes_end (zeros_passed rule) frame.now from count) × (end ≤ length frame.now)) }
+    ensures some { IfSome result
+        (λ end. (end ≡ bytes_end (zeros_passed rule) frame.now from count) × (end ≤ length frame.now)) }
     ensures none { IfNone result (length frame.now < bytes_end (zeros_passed rule) frame.now from count) }
 {
     match rule {
@@ -74,7 +75,8 @@ pub(crate) fn bytes_end(
     }
 }
 
-/// The same by the controller's rule. Nearly always each byte begins right behind the one before, so four of them are looked at at once.
+/// The same by the controller's rule. Nearly always each byte begins right behind the one before, so four
+/// of them are looked at at once.
 fn controller_end(frame: &CellsFrom, from: usize, count: usize) -> Option<usize>
     requires near { from < 2 ^ 32 }
     requires few { count < 2 ^ 32 }

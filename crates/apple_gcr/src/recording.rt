@@ -9,7 +9,8 @@ ghost use Rattle.apple_gcr.specs.DiskBytes.{zeros_passed};
 ghost use Rattle.apple_gcr.specs.Sectors.{Hold, IsAppleTrack, Names, NamesSector, data_end, header_end};
 ghost use Rattle.apple_nibbles.specs.Marks.{IsSync};
 ghost use Rattle.apple_gcr.specs.lemmas.ByteLaws.{zeros-few};
-ghost use Rattle.apple_gcr.specs.lemmas.StandLaws.{named_sector, one_content, one_name, sizes, sums, tells, tells_ends, within_reach};
+ghost use Rattle.apple_gcr.specs.lemmas.StandLaws.{named_sector, one_content, one_name, sizes, sums, tells, tells_ends};
+ghost use Rattle.apple_gcr.specs.lemmas.StandLaws.{within_reach};
 ghost use Rattle.apple_gcr.specs.lemmas.Syncs.{own_syncs};
 ghost use Rattle.apple_nibbles.specs.lemmas.FieldSyncs.{mark_syncs};
 

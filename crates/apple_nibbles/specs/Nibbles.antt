@@ -1,5 +1,7 @@
--- The bytes of Apple's disks: eight cells each, the first of which is a one, and the 64 of them that data are made of.
-use Rattle.std.specs.Prelude.{ℕ, ◌+◌, Bool, false, ◌&&◌, ◌||◌, cond, nat_le, List, [], ◌∷◌, filter, flat_map, get_or}
+-- The bytes of Apple's disks: eight cells each, the first of which is a one, and the 64
+-- of them that data are made of.
+use Rattle.std.specs.Prelude.{ℕ, ◌+◌, Bool, false, ◌&&◌, ◌||◌, cond, nat_le, List, [], ◌∷◌, filter}
+use Rattle.std.specs.Prelude.{flat_map, get_or}
 use Rattle.std.specs.List.{range_with_len}
 use Rattle.cell_bits.specs.Word.{digit, word, word_cells}
 
@@ -27,9 +29,11 @@ zero_pairs [] = 0
 zero_pairs (bit ∷ []) = 0
 zero_pairs (bit ∷ next ∷ bits) = cond (bit || next) 0 1 + zero_pairs (next ∷ bits)
 
--- a nibble: its high bit is a one, two others side by side are ones, and at one place at most two side by side are zeros
+-- a nibble: its high bit is a one, two others side by side are ones, and at one place at
+-- most two side by side are zeros
 unfoldable pub is_nibble : ℕ → Bool
-is_nibble byte = digit byte 7 && has_two_ones (word_cells 7 byte) && nat_le (zero_pairs (word_cells 8 byte)) 1
+is_nibble byte =
+    digit byte 7 && has_two_ones (word_cells 7 byte) && nat_le (zero_pairs (word_cells 8 byte)) 1
 
 -- the nibbles, in rising order
 unfoldable pub nibbles : List ℕ

@@ -1,4 +1,5 @@
--- Bytes in cells (IBM 3740 for FM, IBM System 34 for MFM): each data bit takes a clock cell and a data cell.
+-- Bytes in cells (IBM 3740 for FM, IBM System 34 for MFM): each data bit takes
+-- a clock cell and a data cell.
 use Rattle.std.specs.Prelude.{ℕ, Bool, true, false, not, ◌||◌, List, [], ◌∷◌, take, drop}
 use Rattle.cell_bits.specs.Word.{word_cells, number_of}
 
@@ -7,7 +8,8 @@ unfoldable pub fm_cells : List Bool → List Bool
 fm_cells [] = []
 fm_cells (bit ∷ bits) = true ∷ bit ∷ fm_cells bits
 
--- MFM, after a given data bit: a clock cell is a one exactly where the data bit before it and the one after it are zeros
+-- MFM, after a given data bit: a clock cell is a one exactly where the data bit before it
+-- and the one after it are zeros
 unfoldable pub mfm_cells : Bool → List Bool → List Bool
 mfm_cells before [] = []
 mfm_cells before (bit ∷ bits) = not (before || bit) ∷ bit ∷ mfm_cells bit bits

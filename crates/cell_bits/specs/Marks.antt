@@ -1,5 +1,5 @@
--- The address marks: bytes whose cells break the rule for clock cells, so that no data byte looks like one
--- (IBM 3740 for FM, IBM System 34 for MFM). Each is given as a word of 16 cells.
+-- The address marks: bytes whose cells break the rule for clock cells, so that no data byte looks
+-- like one (IBM 3740 for FM, IBM System 34 for MFM). Each is given as a word of 16 cells.
 use Rattle.std.specs.Prelude.{ℕ, Bool, List, [], ◌∷◌}
 use Rattle.cell_bits.specs.Word.{word_cells, number_of}
 

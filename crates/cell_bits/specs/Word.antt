@@ -1,5 +1,6 @@
 -- A word of cells: as on the disk, its high bit comes first.
-use Rattle.std.specs.Prelude.{◌≡◌, ℕ, zero, suc, ◌+◌, ◌*◌, ◌/◌, ◌%◌, ◌^◌, Bool, ◌==◌, cond, List, [], ◌∷◌, length, take, drop}
+use Rattle.std.specs.Prelude.{◌≡◌, ℕ, zero, suc, ◌+◌, ◌*◌, ◌/◌, ◌%◌, ◌^◌, Bool, ◌==◌, cond, List}
+use Rattle.std.specs.Prelude.{[], ◌∷◌, length, take, drop}
 
 -- the binary digit of a number that is worth 2 ^ place
 abbrev pub digit : ℕ → ℕ → Bool

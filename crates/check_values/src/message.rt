@@ -9,7 +9,8 @@ pub fn crc16(start: u16, bytes: &[u8]) -> u16
     ensures value { result ≡ crc start bytes.now }
 
     // Where `start` is the CRC of the bytes before, the result is that of all of them.
-    ensures joined { (first : ℕ) (before : List ℕ) → start ≡ crc first before → result ≡ crc first (before ++ bytes.now) }
+    ensures joined { (first : ℕ) (before : List ℕ) → start ≡ crc first before
+        → result ≡ crc first (before ++ bytes.now) }
 {
     let (fours, rest) = bytes.as_chunks::<4>();
     let mut remainder = start;
@@ -22,9 +23,9 @@ pub fn crc16(start: u16, bytes: &[u8]) -> u16
     remainder
 }
 
-/// Four more bytes of the message, as four calls of `with_byte`. The remainder is linear: the register and each byte have
-/// shares of their own in it, and a table has the share of what so many bits follow. The register's two bytes are those
-/// that the first two bytes of the message meet.
+/// Four more bytes of the message, as four calls of `with_byte`. The remainder is linear: the register and each byte
+/// have shares of their own in it, and a table has the share of what so many bits follow. The register's two bytes are
+/// those that the first two bytes of the message meet.
 fn with_four(remainder: u16, bytes: [u8; 4]) -> u16
     ensures { result ≡ crc remainder bytes }
 {

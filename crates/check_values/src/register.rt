@@ -30,7 +30,8 @@ impl Crc16 {
         ensures step { self.new ≡ crc self.old (byte ∷ []) }
 
         // After any adds it stands at the CRC of the bytes added.
-        ensures added { (start : ℕ) (bytes : List ℕ) → self.old ≡ crc start bytes → self.new ≡ crc start (bytes ++ byte ∷ []) }
+        ensures added { (start : ℕ) (bytes : List ℕ) → self.old ≡ crc start bytes
+            → self.new ≡ crc start (bytes ++ byte ∷ []) }
     {
         self.remainder = with_byte(self.remainder, byte);
     }

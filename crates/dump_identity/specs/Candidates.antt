@@ -10,9 +10,11 @@ use Rattle.dump_identity.specs.declared.candidate.Candidate.{Candidate}
 abbrev pub candidate_of : Stepping → Format → Candidate
 candidate_of stepping format = record { stepping = stepping; format = format }
 
--- those of a format: with one step for each cylinder, and with two where such a drive reaches all tracks
+-- those of a format: with one step for each cylinder, and with two where
+-- such a drive reaches all tracks
 unfoldable pub candidates_of : Format → List Candidate
-candidates_of format = candidate_of Single format ∷ (if reaches_all Double format then candidate_of Double format ∷ [] else [])
+candidates_of format = candidate_of Single format
+    ∷ (if reaches_all Double format then candidate_of Double format ∷ [] else [])
 
 -- all of them, in the order of the formats
 unfoldable pub candidates : List Candidate

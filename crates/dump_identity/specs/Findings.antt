@@ -1,5 +1,6 @@
 -- What reading a dump as each disk comes to, and which disk is the best.
-use Rattle.std.specs.Prelude.{◌≡◌, ◌&&◌, if◌then◌else◌, ℕ, Bool, false, not, nat_eq, nat_lt, List, [], ◌∷◌, find, Option, Some, None}
+use Rattle.std.specs.Prelude.{◌≡◌, ◌&&◌, if◌then◌else◌, ℕ, Bool, false, not, nat_eq, nat_lt, List}
+use Rattle.std.specs.Prelude.{[], ◌∷◌, find, Option, Some, None}
 use Rattle.std.specs.List.{list_all, list_any}
 use Rattle.std.specs.Option.{is_some}
 use Rattle.flux_engine.specs.declared.plan.Clocks.TheVariants.{FollowingAlone}
@@ -13,28 +14,42 @@ use Rattle.dump_identity.specs.declared.finding.Finding.{Finding}
 use Rattle.dump_identity.specs.declared.identity.Identity.{Identity}
 use Rattle.dump_identity.specs.declared.tried.Tried.{Tried}
 
--- A dump as a candidate's disk, read by the clock that follows the drive alone. The files beside those of its tracks are looked at where a sector is
--- good: only such a candidate has a line, or can be the best.
+-- A dump as a candidate's disk, read by the clock that follows the drive alone. The files
+-- beside those of its tracks are looked at where a sector is good: only such a candidate
+-- has a line, or can be the best.
 abbrev pub disk_as : (dump : List ℕ) → Candidate → DumpDisk
-disk_as dump candidate = record { stepping = candidate.stepping; dumps = dump ∷ []; format = candidate.format; clocks = FollowingAlone; looks = WhereGood }
+disk_as dump candidate =
+    record {
+      stepping = candidate.stepping;
+      dumps = dump ∷ [];
+      format = candidate.format;
+      clocks = FollowingAlone;
+      looks = WhereGood;
+    }
 
--- It has the file of one of the disk's tracks, and this is what it came to in numbers as it was read between two moments of the shelf.
-pub record CameTo (dump : List ℕ) (start now : ShelfNow) (candidate : Candidate) (totals : DumpTotals) : Type 0 where
+-- It has the file of one of the disk's tracks, and this is what it came to in numbers as it was
+-- read between two moments of the shelf.
+pub record CameTo (dump : List ℕ) (start now : ShelfNow) (candidate : Candidate)
+    (totals : DumpTotals) : Type 0 where
   pub some : IsToldEmpty (disk_as dump candidate) start.told.files None
   pub outcome : DumpsRead
   pub is : IsDumpsRead (disk_as dump candidate) start.told.files outcome
   pub shelf : FilesFailed (disk_as dump candidate) start now is.streams is.beside.came
   pub totals_are : totals ≡ outcome.totals
 
--- what it comes to between two moments of the shelf: none, and nothing is read, where the dump has the file of none of the disk's tracks
-abbrev pub ComesTo : (dump : List ℕ) → (start now : ShelfNow) → Candidate → Option DumpTotals → Type 0
-ComesTo dump start now candidate None = IsToldEmpty (disk_as dump candidate) start.told.files (Some 0) × (now ≡ start)
+-- what it comes to between two moments of the shelf: none, and nothing is read, where the dump has
+-- the file of none of the disk's tracks
+abbrev pub ComesTo : (dump : List ℕ) → (start now : ShelfNow) → Candidate → Option DumpTotals
+    → Type 0
+ComesTo dump start now candidate None =
+    IsToldEmpty (disk_as dump candidate) start.told.files (Some 0) × (now ≡ start)
 ComesTo dump start now candidate (Some totals) = CameTo dump start now candidate totals
 
 -- what each of some candidates came to, one after the other
 abbrev pub AreFindings : (dump : List ℕ) → (start now : ShelfNow) → List Finding → Type 0
 AreFindings dump start now [] = now ≡ start
-AreFindings dump start now (f ∷ findings) = (next : ShelfNow) × ComesTo dump start next f.candidate f.totals × AreFindings dump next now findings
+AreFindings dump start now (f ∷ findings) = (next : ShelfNow)
+    × ComesTo dump start next f.candidate f.totals × AreFindings dump next now findings
 
 -- how many sectors are good, and how many other names have whole data
 abbrev pub good_in : Option DumpTotals → ℕ
@@ -69,11 +84,14 @@ has_failed f = nat_lt 0 (lost_in f.totals)
 -- more is good; or as much, and fewer others have data; or that too, and the disk has fewer sectors
 abbrev pub is_over : (good whole sectors good' whole' sectors' : ℕ) → Bool
 is_over good whole sectors good' whole' sectors' =
-    if nat_eq good good' then (if nat_eq whole whole' then nat_lt sectors sectors' else nat_lt whole whole') else nat_lt good' good
+    if nat_eq good good'
+    then (if nat_eq whole whole' then nat_lt sectors sectors' else nat_lt whole whole')
+    else nat_lt good' good
 
 abbrev pub beats : Finding → Finding → Bool
 beats f g =
-    is_over (good_in f.totals) (whole_in f.totals) (sectors_in f.totals) (good_in g.totals) (whole_in g.totals) (sectors_in g.totals)
+    is_over (good_in f.totals) (whole_in f.totals) (sectors_in f.totals) (good_in g.totals)
+    (whole_in g.totals) (sectors_in g.totals)
 
 -- a sector is good, and none of these is better
 abbrev pub is_unbeaten : List Finding → Finding → Bool
@@ -97,4 +115,9 @@ identity_of findings = record { best = best_of findings; failed = list_any has_f
 
 -- the same, and whether the dump has a file of a track of one of them
 abbrev pub tried_of : List Finding → Tried
-tried_of findings = record { best = best_of findings; has_files = list_any has_files findings; failed = list_any has_failed findings }
+tried_of findings =
+    record {
+      best = best_of findings;
+      has_files = list_any has_files findings;
+      failed = list_any has_failed findings;
+    }

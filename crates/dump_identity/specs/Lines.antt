@@ -1,5 +1,6 @@
 -- What is said of the disks that a dump may be of.
-use Rattle.std.specs.Prelude.{if◌then◌else◌, ℕ, List, [], ◌++◌, codes, decimal, flat_map, nat_lt, Option, Some, None}
+use Rattle.std.specs.Prelude.{if◌then◌else◌, ℕ, List, [], ◌++◌, codes, decimal, flat_map, nat_lt}
+use Rattle.std.specs.Prelude.{Option, Some, None}
 use Rattle.sector_images.specs.Formats.{row}
 use Rattle.track_shelf.specs.declared.stepping.Stepping.{Stepping}
 use Rattle.track_shelf.specs.declared.stepping.Stepping.TheVariants.{Single, Double}
@@ -21,10 +22,12 @@ candidate_text candidate = stepping_text candidate.stepping ++ (row candidate.fo
 abbrev pub failed_text : ℕ → List ℕ
 failed_text lost = if nat_lt 0 lost then codes " failed " ++ decimal lost else []
 
--- how many of a candidate's sectors are good, how many other names have whole data, and how many files failed
+-- how many of a candidate's sectors are good, how many other names have whole
+-- data, and how many files failed
 unfoldable pub finding_text : Candidate → DumpTotals → List ℕ
 finding_text candidate totals =
-    candidate_text candidate ++ (codes " good " ++ decimal totals.sectors.good) ++ (codes " of " ++ decimal totals.sectors.sectors)
+    candidate_text candidate ++ (codes " good " ++ decimal totals.sectors.good)
+    ++ (codes " of " ++ decimal totals.sectors.sectors)
     ++ (codes " other " ++ decimal totals.whole) ++ failed_text totals.lost ++ codes "\n"
 
 -- the line of one that has a good sector

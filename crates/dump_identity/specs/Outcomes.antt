@@ -1,14 +1,18 @@
--- What saying which disk a dump is of may answer, and what that says of the dump and of the bytes that were written.
-use Rattle.std.specs.Prelude.{◌≡◌, ◌⊎◌, ℕ, true, false, List, [], ◌∷◌, ◌++◌, map, Option, Result, Ok, Err}
+-- What saying which disk a dump is of may answer, and what that says of the dump and
+-- of the bytes that were written.
+use Rattle.std.specs.Prelude.{◌≡◌, ◌⊎◌, ℕ, true, false, List, [], ◌∷◌, ◌++◌, map, Option, Result}
+use Rattle.std.specs.Prelude.{Ok, Err}
 use Rattle.std.specs.Io.KnownBytes.{Appends, Keeps}
 use Rattle.std.specs.List.{list_any}
 use Rattle.flux_base.specs.Outside.{AppendsPart}
 use Rattle.flux_engine.specs.Answers.{AppendsAndPart}
 use Rattle.dump_reading.specs.Files.{ShelfNow}
 use Rattle.dump_reading.specs.declared.fault.DumpsFault.{DumpsFault}
-use Rattle.dump_reading.specs.declared.fault.DumpsFault.TheVariants.{NoFiles, ImageFault, NotesFault}
+use Rattle.dump_reading.specs.declared.fault.DumpsFault.TheVariants.{NoFiles, ImageFault}
+use Rattle.dump_reading.specs.declared.fault.DumpsFault.TheVariants.{NotesFault}
 use Rattle.dump_identity.specs.Candidates.{candidates}
-use Rattle.dump_identity.specs.Findings.{AreFindings, ComesTo, best_of, has_files, identity_of, tried_of}
+use Rattle.dump_identity.specs.Findings.{AreFindings, ComesTo, best_of, has_files, identity_of}
+use Rattle.dump_identity.specs.Findings.{tried_of}
 use Rattle.dump_identity.specs.Lines.{best_text, line_of, lines_of}
 use Rattle.dump_identity.specs.declared.candidate.Candidate.{Candidate}
 use Rattle.dump_identity.specs.declared.finding.Finding.{Finding}
@@ -19,12 +23,14 @@ abbrev pub candidates_in : List Finding → List Candidate
 candidates_in findings = map (λ f. f.candidate) findings
 
 -- what all candidates come to, in order
-pub record AreAllFindings (dump : List ℕ) (start now : ShelfNow) (findings : List Finding) : Type 0 where
+pub record AreAllFindings (dump : List ℕ) (start now : ShelfNow)
+    (findings : List Finding) : Type 0 where
   pub all : candidates_in findings ≡ candidates
   pub are : AreFindings dump start now findings
 
 -- what the first candidates come to
-pub record AreFirstFindings (dump : List ℕ) (start now : ShelfNow) (findings : List Finding) : Type 0 where
+pub record AreFirstFindings (dump : List ℕ) (start now : ShelfNow)
+    (findings : List Finding) : Type 0 where
   pub behind : List Candidate
   pub first : candidates_in findings ++ behind ≡ candidates
   pub are : AreFindings dump start now findings
@@ -39,7 +45,11 @@ pub record IsIdentified (dump : List ℕ) (start now : ShelfNow) (o : Identified
   pub findings : List Finding
   pub all : AreAllFindings dump start now findings
   pub some : list_any has_files findings ≡ true
-  pub is : o ≡ record { lines = lines_of findings ++ best_text (best_of findings); identity = identity_of findings }
+  pub is : o
+      ≡ record {
+        lines = lines_of findings ++ best_text (best_of findings);
+        identity = identity_of findings;
+      }
 
 -- the dump has no file of any track of any of these disks
 pub record HasNoFiles (dump : List ℕ) (start now : ShelfNow) : Type 0 where
@@ -48,48 +58,60 @@ pub record HasNoFiles (dump : List ℕ) (start now : ShelfNow) : Type 0 where
   pub none : list_any has_files findings ≡ false
 
 -- all of it was written
-pub record WroteIdentity (dump : List ℕ) (start now : ShelfNow) (lines lines' : Option (List ℕ)) (identity : Identity) : Type 0 where
+pub record WroteIdentity (dump : List ℕ) (start now : ShelfNow) (lines lines' : Option (List ℕ))
+    (identity : Identity) : Type 0 where
   pub outcome : Identified
   pub is : IsIdentified dump start now outcome
   pub grew : Appends lines lines' outcome.lines
   pub identity_is : identity ≡ outcome.identity
 
--- the lines of the first candidates were written, and of the next one's line a part that is shorter than it
-pub record WroteIntoLine (dump : List ℕ) (start now : ShelfNow) (lines lines' : Option (List ℕ)) : Type 0 where
+-- the lines of the first candidates were written, and of the next one's line
+-- a part that is shorter than it
+pub record WroteIntoLine (dump : List ℕ) (start now : ShelfNow)
+    (lines lines' : Option (List ℕ)) : Type 0 where
   pub findings : List Finding
   pub next : Finding
   pub first : AreFirstFindings dump start now (findings ++ next ∷ [])
   pub grew : AppendsAndPart lines lines' (lines_of findings) (line_of next)
 
 -- all was written but the last line: of it a part that is shorter than it
-pub record WroteIntoBest (dump : List ℕ) (start now : ShelfNow) (lines lines' : Option (List ℕ)) : Type 0 where
+pub record WroteIntoBest (dump : List ℕ) (start now : ShelfNow)
+    (lines lines' : Option (List ℕ)) : Type 0 where
   pub findings : List Finding
   pub all : AreAllFindings dump start now findings
   pub grew : AppendsAndPart lines lines' (lines_of findings) (best_text (best_of findings))
 
--- What an answer says. A dump without files is told before anything is written, as the first and only one, and nothing of it was read; a file
--- that fails ends nothing. Nothing is written to notes.
-abbrev pub SaysOfIdentity : (dump : List ℕ) → (start now : ShelfNow) → (lines lines' : Option (List ℕ)) → Result Identity DumpsFault → Type 0
-SaysOfIdentity dump start now lines lines' (Ok identity) = WroteIdentity dump start now lines lines' identity
-SaysOfIdentity dump start now lines lines' (Err (NoFiles number)) = (number ≡ 0) × HasNoFiles dump start now × (now ≡ start) × Keeps lines lines'
-SaysOfIdentity dump start now lines lines' (Err ImageFault) = WroteIntoLine dump start now lines lines' ⊎ WroteIntoBest dump start now lines lines'
+-- What an answer says. A dump without files is told before anything is written, as
+-- the first and only one, and nothing of it was read; a file that fails ends
+-- nothing. Nothing is written to notes.
+abbrev pub SaysOfIdentity : (dump : List ℕ) → (start now : ShelfNow)
+    → (lines lines' : Option (List ℕ)) → Result Identity DumpsFault → Type 0
+SaysOfIdentity dump start now lines lines' (Ok identity) =
+    WroteIdentity dump start now lines lines' identity
+SaysOfIdentity dump start now lines lines' (Err (NoFiles number)) =
+    (number ≡ 0) × HasNoFiles dump start now × (now ≡ start) × Keeps lines lines'
+SaysOfIdentity dump start now lines lines' (Err ImageFault) =
+    WroteIntoLine dump start now lines lines' ⊎ WroteIntoBest dump start now lines lines'
 SaysOfIdentity dump start now lines lines' (Err NotesFault) = ⊥
 
 -- all candidates were tried, and the lines of those that have a good sector were written
-pub record HasTried (dump : List ℕ) (start now : ShelfNow) (lines lines' : Option (List ℕ)) (tried : Tried) : Type 0 where
+pub record HasTried (dump : List ℕ) (start now : ShelfNow) (lines lines' : Option (List ℕ))
+    (tried : Tried) : Type 0 where
   pub findings : List Finding
   pub all : AreAllFindings dump start now findings
   pub grew : Appends lines lines' (lines_of findings)
   pub tried_is : tried ≡ tried_of findings
 
 -- one was
-pub record FoundOne (dump : List ℕ) (start now : ShelfNow) (lines lines' : Option (List ℕ)) (candidate : Candidate) (f : Finding) : Type 0 where
+pub record FoundOne (dump : List ℕ) (start now : ShelfNow) (lines lines' : Option (List ℕ))
+    (candidate : Candidate) (f : Finding) : Type 0 where
   pub of : f.candidate ≡ candidate
   pub comes : ComesTo dump start now f.candidate f.totals
   pub grew : Appends lines lines' (line_of f)
 
 -- its line was cut
-pub record CutLine (dump : List ℕ) (start now : ShelfNow) (lines lines' : Option (List ℕ)) (candidate : Candidate) : Type 0 where
+pub record CutLine (dump : List ℕ) (start now : ShelfNow) (lines lines' : Option (List ℕ))
+    (candidate : Candidate) : Type 0 where
   pub finding : Finding
   pub of : finding.candidate ≡ candidate
   pub comes : ComesTo dump start now finding.candidate finding.totals

@@ -1,7 +1,8 @@
 //! What reading a dump as a disk comes to.
 
 ghost use Rattle.std.specs.Prelude.{◌≡◌};
-ghost use Rattle.dump_identity.specs.Findings.{beats, good_in, has_failed, has_files, has_good, is_complete, lost_in, sectors_in, whole_in};
+ghost use Rattle.dump_identity.specs.Findings.{beats, good_in, has_failed, has_files, has_good, is_complete, lost_in};
+ghost use Rattle.dump_identity.specs.Findings.{sectors_in, whole_in};
 
 use crate::candidate::Candidate;
 use dump_reading::DumpTotals;
@@ -36,8 +37,8 @@ impl Finding {
         self.lost() > 0
     }
 
-    /// Whether the disk explains the dump better than another: it has more good sectors; or as many, and fewer other names have data;
-    /// or that too, and it has fewer sectors.
+    /// Whether the disk explains the dump better than another: it has more good sectors; or as many, and fewer other
+    /// names have data; or that too, and it has fewer sectors.
     pub fn beats(&self, other: &Finding) -> bool
         ensures { result ≡ beats self.now other.now }
     {

@@ -25,21 +25,25 @@ use sector_report::write_line;
 use std::slice::from_ref;
 use track_shelf::Shelf;
 
-/// Says which disk a dump is of. It is read as a disk of each format that has a name, in the order of their table, with one step for each cylinder,
-/// and for those of up to 42 cylinders then with two: as `read_dumps` reads it, by the clock that follows the drive alone. The files beside the
-/// disk's tracks are looked at where a sector is good. Each disk that has a good sector gets a line as soon as it was read, which also tells how
-/// many files failed, and the last line names the best: the one with most good sectors, of those the one with fewest other names that have whole
-/// data, of those the one with fewest sectors, and of those the first. A file that fails is passed over, each time. No answer is for want of memory.
+/// Says which disk a dump is of. It is read as a disk of each format that has a name, in the order of their table,
+/// with one step for each cylinder, and for those of up to 42 cylinders then with two: as `read_dumps` reads it, by
+/// the clock that follows the drive alone. The files beside the disk's tracks are looked at where a sector is good.
+/// Each disk that has a good sector gets a line as soon as it was read, which also tells how many files failed, and
+/// the last line names the best: the one with most good sectors, of those the one with fewest other names that have
+/// whole data, of those the one with fewest sectors, and of those the first. A file that fails is passed over, each
+/// time. No answer is for want of memory.
 ///
-/// A dump that has no file of any track is refused, and nothing is written. After a fault of the sink nothing more is read or written, and the
-/// lines before are written whole. `ImageFault` is that of the lines. No notes are written, so `NotesFault` does not come.
+/// A dump that has no file of any track is refused, and nothing is written. After a fault of the sink nothing more is
+/// read or written, and the lines before are written whole. `ImageFault` is that of the lines. No notes are written,
+/// so `NotesFault` does not come.
 pub fn identify<H: Shelf, W: Sink>(
     dump: &Word,
     room: IdentityRoom,
     shelf: &mut H,
     lines: &mut W,
 ) -> Result<Identity, DumpsFault>
-    ensures says { SaysOfIdentity dump.now (shelf_at H.Source H.Shelf.own shelf.old) (shelf_at H.Source H.Shelf.own shelf.new) (W.written lines.old) (W.written lines.new) result }
+    ensures says { SaysOfIdentity dump.now (shelf_at H.Source H.Shelf.own shelf.old)
+        (shelf_at H.Source H.Shelf.own shelf.new) (W.written lines.old) (W.written lines.new) result }
 
     // What the shelf did is in what came of it.
     ensures blames { CountsBy (dumps_blame result)
@@ -69,8 +73,12 @@ fn try_all<H: Shelf, W: Sink>(
     shelf: &mut H,
     lines: &mut W,
 ) -> Result<Tried, Failed>
-    ensures ok { IfOk result (HasTried dump.now (shelf_at H.Source H.Shelf.own shelf.old) (shelf_at H.Source H.Shelf.own shelf.new) (W.written lines.old) (W.written lines.new)) }
-    ensures err { OnErr result (WroteIntoLine dump.now (shelf_at H.Source H.Shelf.own shelf.old) (shelf_at H.Source H.Shelf.own shelf.new) (W.written lines.old) (W.written lines.new)) }
+    ensures ok { IfOk result
+        (HasTried dump.now (shelf_at H.Source H.Shelf.own shelf.old) (shelf_at H.Source H.Shelf.own shelf.new)
+        (W.written lines.old) (W.written lines.new)) }
+    ensures err { OnErr result
+        (WroteIntoLine dump.now (shelf_at H.Source H.Shelf.own shelf.old) (shelf_at H.Source H.Shelf.own shelf.new)
+        (W.written lines.old) (W.written lines.new)) }
     ensures counts { Counts (is_err result) (sink_counts W.Sink lines.old) (sink_counts W.Sink lines.new) }
 {
     let mut disk = room.disk;
@@ -93,8 +101,12 @@ fn try_one<H: Shelf, W: Sink>(
     lines: &mut W,
 ) -> Result<Finding, Failed>
     requires { trial.book ≡ empty_book trial.candidate.format }
-    ensures ok { IfOk result (FoundOne dump.now (shelf_at H.Source H.Shelf.own shelf.old) (shelf_at H.Source H.Shelf.own shelf.new) (W.written lines.old) (W.written lines.new) trial.candidate) }
-    ensures err { OnErr result (CutLine dump.now (shelf_at H.Source H.Shelf.own shelf.old) (shelf_at H.Source H.Shelf.own shelf.new) (W.written lines.old) (W.written lines.new) trial.candidate) }
+    ensures ok { IfOk result
+        (FoundOne dump.now (shelf_at H.Source H.Shelf.own shelf.old) (shelf_at H.Source H.Shelf.own shelf.new)
+        (W.written lines.old) (W.written lines.new) trial.candidate) }
+    ensures err { OnErr result
+        (CutLine dump.now (shelf_at H.Source H.Shelf.own shelf.old) (shelf_at H.Source H.Shelf.own shelf.new)
+        (W.written lines.old) (W.written lines.new) trial.candidate) }
     ensures counts { Counts (is_err result) (sink_counts W.Sink lines.old) (sink_counts W.Sink lines.new) }
 {
     let candidate = trial.candidate;
@@ -109,8 +121,8 @@ fn try_one<H: Shelf, W: Sink>(
     }
 }
 
-/// Reads a dump as a candidate's disk, by the clock that follows the drive alone, and counts what it comes to. None where the dump
-/// has the file of none of its tracks.
+/// Reads a dump as a candidate's disk, by the clock that follows the drive alone, and counts what it comes to. None
+/// where the dump has the file of none of its tracks.
 fn read_as<H: Shelf>(
     candidate: Candidate,
     dump: &Word,
@@ -118,7 +130,8 @@ fn read_as<H: Shelf>(
     shelf: &mut H,
 ) -> Option<DumpTotals>
     requires { disk.old ≡ fresh candidate.format }
-    ensures { ComesTo dump.now (shelf_at H.Source H.Shelf.own shelf.old) (shelf_at H.Source H.Shelf.own shelf.new) candidate result }
+    ensures { ComesTo dump.now (shelf_at H.Source H.Shelf.own shelf.old) (shelf_at H.Source H.Shelf.own shelf.new)
+        candidate result }
 {
     let dumps = Dumps {
         names: from_ref(dump),

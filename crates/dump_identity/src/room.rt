@@ -52,7 +52,8 @@ impl IdentityRoom {
     }
 }
 
-/// Appends the candidates of a format: with one step for each cylinder, and with two where such a drive reaches all tracks.
+/// Appends the candidates of a format: with one step for each cylinder, and with two where
+/// such a drive reaches all tracks.
 #[tactic(auto, unfolding(crate::specs::Candidates::candidates_of))]
 fn push_trials(alloc: Global, format: Format, trials: &mut Vec<Trial>) -> Result<(), Memory>
     ensures { OnOk result (trials.new.items ≡ trials.old.items ++ map trial_of (candidates_of format)) }
@@ -71,7 +72,8 @@ fn push_trial(
     format: Format,
     trials: &mut Vec<Trial>,
 ) -> Result<(), Memory>
-    ensures { OnOk result (trials.new.items ≡ trials.old.items ++ trial_of (record { stepping = stepping; format = format }) ∷ []) }
+    ensures { OnOk result
+        (trials.new.items ≡ trials.old.items ++ trial_of (record { stepping = stepping; format = format }) ∷ []) }
 {
     let book = format_book(alloc, format)?;
     let candidate = Candidate { stepping, format };

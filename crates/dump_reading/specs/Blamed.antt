@@ -1,4 +1,5 @@
--- Whom an answer blames: a file that fails is told, and ends nothing, so of the shelf no answer tells a fault.
+-- Whom an answer blames: a file that fails is told, and ends nothing, so of the
+-- shelf no answer tells a fault.
 use Rattle.std.specs.Prelude.{Result, Err}
 use Rattle.flux_base.specs.Blames.{Blame, no_one, the_image, the_notes}
 use Rattle.dump_reading.specs.declared.fault.DumpsFault.{DumpsFault}

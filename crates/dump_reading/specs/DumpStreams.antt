@@ -1,5 +1,6 @@
 -- What came of the files of dumps: what each of them says, or that it failed.
-use Rattle.std.specs.Prelude.{◌≡◌, ◌<◌, ◌⊎◌, ℕ, ◌+◌, ◌*◌, ◌/◌, ◌%◌, Bool, false, cond, flat_map, get_or, List, [], ◌∷◌, length, Option, Some, None}
+use Rattle.std.specs.Prelude.{◌≡◌, ◌<◌, ◌⊎◌, ℕ, ◌+◌, ◌*◌, ◌/◌, ◌%◌, Bool, false, cond, flat_map}
+use Rattle.std.specs.Prelude.{get_or, List, [], ◌∷◌, length, Option, Some, None}
 use Rattle.std.specs.List.{range_with_len}
 use Rattle.flux_base.specs.Counts.{Counts}
 use Rattle.flux_base.specs.declared.track.TrackId.{TrackId}
@@ -24,9 +25,11 @@ use Rattle.dump_reading.specs.Files.{CountsMany, ShelfNow}
 abbrev pub passed_over : Passed → Seen
 passed_over why = record { fault = None; passed = Some why; times = []; indexes = [] }
 
--- bytes that begin with a stream say its transitions and index times; where it is refused, it is passed over
+-- bytes that begin with a stream say its transitions and index times; where it
+-- is refused, it is passed over
 abbrev pub seen_unless : List ℕ → Option (ℕ × StreamFault) → Seen
-seen_unless bytes None = record { fault = None; passed = None; times = times bytes; indexes = indexes bytes }
+seen_unless bytes None =
+    record { fault = None; passed = None; times = times bytes; indexes = indexes bytes }
 seen_unless bytes (Some fault) = passed_over (Refused fault.0 fault.1)
 
 abbrev pub seen_file : List ℕ → Seen
@@ -49,7 +52,8 @@ FailedAlike a b = (i : ℕ) → is_failed (seen_at a i).passed ≡ is_failed (se
 abbrev pub path_in : Stepping → (dumps : List (List ℕ)) → TrackId → (dump : ℕ) → List ℕ
 path_in stepping dumps track dump = path_text (get_or dumps dump []) (file_track stepping track)
 
--- Some tracks of dumps, by their numbers: how the drive stepped, the dumps, how many streams each track has, and which tracks they are.
+-- Some tracks of dumps, by their numbers: how the drive stepped, the dumps, how many streams each
+-- track has, and which tracks they are.
 pub record DumpTracks : Type 0 where
   pub stepping : Stepping
   pub dumps : List (List ℕ)
@@ -58,7 +62,8 @@ pub record DumpTracks : Type 0 where
 
 -- those of a format
 abbrev pub of_disk : Stepping → (dumps : List (List ℕ)) → (count : ℕ) → Format → DumpTracks
-of_disk stepping dumps count format = record { stepping = stepping; dumps = dumps; count = count; track_of = track_at format }
+of_disk stepping dumps count format =
+    record { stepping = stepping; dumps = dumps; count = count; track_of = track_at format }
 
 -- the path of the file of stream number i, where the streams of each track follow one another
 abbrev pub path_at : DumpTracks → (i : ℕ) → List ℕ
@@ -74,11 +79,14 @@ failed_paths of came = flat_map (failed_path of came) (range_with_len 0 (length 
 -- these streams came of the files, where they are told
 abbrev pub AreOfDumps : DumpTracks → (told : Option (List File)) → List Seen → Type 0
 AreOfDumps of told came =
-    (files : List File) → told ≡ Some files → (n dump : ℕ) → dump < length of.dumps → dump < of.count → n * of.count + dump < length came
-    → IsOrFailed (seen_at came (n * of.count + dump)) (seen_of (file_at files (path_in of.stepping of.dumps (of.track_of n) dump)))
+    (files : List File) → told ≡ Some files → (n dump : ℕ) → dump < length of.dumps
+    → dump < of.count → n * of.count + dump < length came
+    → IsOrFailed (seen_at came (n * of.count + dump))
+    (seen_of (file_at files (path_in of.stepping of.dumps (of.track_of n) dump)))
 
--- They came. What the shelf tells of itself stayed as it was, but that these files failed: its files, of which none is open that was not, and
--- its own bytes as a source, of which none was read. As many calls failed as files did.
+-- They came. What the shelf tells of itself stayed as it was, but that these files failed: its
+-- files, of which none is open that was not, and its own bytes as a source, of which none was read.
+-- As many calls failed as files did.
 pub record HaveComeOf (of : DumpTracks) (start now : ShelfNow) (came : List Seen) : Type 0 where
   pub told : now.told ≡ with_failed (failed_paths of came) start.told
   pub counts : CountsMany (lost_count came) start.counts now.counts
@@ -94,7 +102,11 @@ abbrev pub lost_path : (path : List ℕ) → NextStream → List (List ℕ)
 lost_path path next = cond (is_lost next) (path ∷ []) []
 
 -- One file of a track was read between two moments of the shelf.
-pub record GaveOf (stepping : Stepping) (dumps : List (List ℕ)) (track : TrackId) (dump : ℕ) (start now : ShelfNow) (here : Seen) : Type 0 where
-  pub told : now.told ≡ with_failed (cond (is_failed here.passed) (path_in stepping dumps track dump ∷ []) []) start.told
+pub record GaveOf (stepping : Stepping) (dumps : List (List ℕ)) (track : TrackId) (dump : ℕ)
+    (start now : ShelfNow) (here : Seen) : Type 0 where
+  pub told : now.told
+      ≡ with_failed (cond (is_failed here.passed) (path_in stepping dumps track dump ∷ []) [])
+      start.told
   pub counts : Counts (is_failed here.passed) start.counts now.counts
-  pub is : (files : List File) → start.told.files ≡ Some files → dump < length dumps → IsOrFailed here (seen_of (file_at files (path_in stepping dumps track dump)))
+  pub is : (files : List File) → start.told.files ≡ Some files → dump < length dumps
+      → IsOrFailed here (seen_of (file_at files (path_in stepping dumps track dump)))

@@ -1,8 +1,10 @@
 -- What dumps of a disk come to: the report of a track, and the end of the report.
-use Rattle.std.specs.Prelude.{ℕ, Bool, not, cond, List, [], ◌++◌, count_by, filter, flat_map, nat_lt}
+use Rattle.std.specs.Prelude.{ℕ, Bool, not, cond, List, [], ◌++◌, count_by, filter, flat_map}
+use Rattle.std.specs.Prelude.{nat_lt}
 use Rattle.flux_base.specs.declared.track.TrackId.{TrackId}
 use Rattle.sector_images.specs.declared.format.Format.{Format}
-use Rattle.sector_report.specs.DumpLines.{other_text, passed_text, traces_text, unread_text, untold_text}
+use Rattle.sector_report.specs.DumpLines.{other_text, passed_text, traces_text, unread_text}
+use Rattle.sector_report.specs.DumpLines.{untold_text}
 use Rattle.sector_report.specs.Lines.{total_text}
 use Rattle.sector_report.specs.declared.naming.Naming.TheVariants.{ByCaptureAndClock}
 use Rattle.turn_merge.specs.Others.{has_data, has_untold, others_over}
@@ -16,9 +18,11 @@ use Rattle.flux_engine.specs.declared.plan.Plan.{Plan}
 use Rattle.flux_engine.specs.declared.plan.Rule.TheVariants.{Controller}
 use Rattle.dump_reading.specs.declared.totals.DumpTotals.{DumpTotals}
 
--- the plan by which so many dumps are read by these clocks: as controllers read, with lines that name the dump and the clock
+-- the plan by which so many dumps are read by these clocks: as controllers read, with lines
+-- that name the dump and the clock
 abbrev pub plan_by : Clocks → (dumps : ℕ) → Plan
-plan_by clocks dumps = record { captures = dumps; rule = Controller; clocks = clocks; naming = ByCaptureAndClock }
+plan_by clocks dumps =
+    record { captures = dumps; rule = Controller; clocks = clocks; naming = ByCaptureAndClock }
 
 -- the same by both clocks
 abbrev pub dump_plan : (dumps : ℕ) → Plan
@@ -44,18 +48,22 @@ abbrev pub trace_count : List OtherTold → ℕ
 trace_count told = count_by (λ t. not (has_data t)) told
 
 abbrev pub traces_lines : TrackId → List OtherTold → List ℕ
-traces_lines track told = cond (nat_lt 0 (trace_count told)) (traces_text track (trace_count told)) []
+traces_lines track told =
+    cond (nat_lt 0 (trace_count told)) (traces_text track (trace_count told)) []
 
 -- the lines of other headers
 abbrev pub other_lines : TrackId → List OtherTold → (untold : Bool) → List ℕ
-other_lines track told untold = data_lines track told ++ (untold_lines track untold ++ traces_lines track told)
+other_lines track told untold =
+    data_lines track told ++ (untold_lines track untold ++ traces_lines track told)
 
--- What a track comes to: in the report a line for each stream that is passed over, one for each sector, and those of other headers.
+-- What a track comes to: in the report a line for each stream that is passed over, one for each
+-- sector, and those of other headers.
 abbrev pub read_part : Format → TrackId → TrackNotes → TrackPart
 read_part format track notes = record {
   image = (named_part ByCaptureAndClock format track notes.readings).image;
   lines =
-      passed_lines track notes.passed ++ (lines_by ByCaptureAndClock track (sectors_of format track) notes.readings
+      passed_lines track notes.passed
+      ++ (lines_by ByCaptureAndClock track (sectors_of format track) notes.readings
       ++ other_lines track (others_over notes.others) (has_untold notes.others));
   totals = (named_part ByCaptureAndClock format track notes.readings).totals;
 }

@@ -1,7 +1,8 @@
 //! The tracks that dumps may have files of beside those of the format: no sector of them is wanted, and all headers in
 //! them are others.
 
-ghost use Rattle.std.specs.Prelude.{◌≡◌, ◌≤◌, ◌<◌, ◌+◌, ◌*◌, ℕ, List, [], Some, length, is_err, is_some, slice_get, IfSome, OnErr, OnOk};
+ghost use Rattle.std.specs.Prelude.{◌≡◌, ◌≤◌, ◌<◌, ◌+◌, ◌*◌, ℕ, List, [], Some, length, is_err, is_some, slice_get};
+ghost use Rattle.std.specs.Prelude.{IfSome, OnErr, OnOk};
 ghost use Rattle.flux_base.specs.Counts.{Counts};
 ghost use Rattle.flux_base.specs.Moments.{Puts};
 ghost use Rattle.flux_base.specs.declared.track.TrackId.{TrackId as Id};
@@ -11,7 +12,8 @@ ghost use Rattle.flux_engine.specs.Plans.{Seen};
 ghost use Rattle.flux_engine.specs.Recordings.{track_at};
 ghost use Rattle.sector_images.specs.Places.{tracks};
 ghost use Rattle.turn_merge.specs.Others.{NotedOther, OthersStandFor};
-ghost use Rattle.dump_reading.specs.Beside.{LinesOf, beside_lines, is_track, most_cylinders, near_track, no_lines, of_tracks};
+ghost use Rattle.dump_reading.specs.Beside.{LinesOf, beside_lines, is_track, most_cylinders, near_track, no_lines};
+ghost use Rattle.dump_reading.specs.Beside.{of_tracks};
 ghost use Rattle.dump_reading.specs.DumpStreams.{HaveComeOf};
 ghost use Rattle.dump_reading.specs.Files.{ShelfNow, shelf_at};
 ghost use Rattle.dump_reading.specs.Looks.{HasTakenTo, LooksAsAsked, LooksAtOne, LooksInto};
@@ -43,7 +45,8 @@ pub trait BesideWriter {
     ) -> Result<(), Failed>
         requires { track.cylinder < 100 }
         ensures { (others : List NotedOther) → OthersStandFor gathered.now.others others
-            → Puts (sink_at N.Sink notes.old) (sink_at N.Sink notes.new) (lines_of self.now track gathered.now.passed.items others) result };
+            → Puts (sink_at N.Sink notes.old) (sink_at N.Sink notes.new)
+            (lines_of self.now track gathered.now.passed.items others) result };
 }
 
 /// The lines of the report.
@@ -83,9 +86,10 @@ impl BesideWriter for Unsaid {
     }
 }
 
-/// Looks at the files of all tracks beside the format's, by their cylinders and then by their heads, where that is asked
-/// for by what the format's tracks came to. What was counted of these is counted on. The room's tracks are done with: it
-/// is used again for each of those beside, which is read with the ring and the cell of the format's nearest track.
+/// Looks at the files of all tracks beside the format's, by their cylinders and then by their heads, where
+/// that is asked for by what the format's tracks came to. What was counted of these is counted on. The room's
+/// tracks are done with: it is used again for each of those beside, which is read with the ring and the cell
+/// of the format's nearest track.
 pub(crate) fn read_beside<B: BesideWriter, H: Shelf, N: Sink>(
     clocks: Clocks,
     looks: Looks,
@@ -98,8 +102,14 @@ pub(crate) fn read_beside<B: BesideWriter, H: Shelf, N: Sink>(
 ) -> Result<(), Failed>
     requires few { length dumps.now.names.now ≤ 16 }
     requires below { AreCountsBelow room.old (length (tracks room.old.format)) }
-    ensures ok { OnOk result (LooksAsAsked (B.lines_of writer.now) (disk_by clocks looks dumps.now room.old.format) sectors.now (shelf_at H.Source H.Shelf.own shelf.old) (shelf_at H.Source H.Shelf.own shelf.new) room.old room.new (N.written notes.old) (N.written notes.new)) }
-    ensures err { OnErr result (LooksInto (B.lines_of writer.now) (disk_by clocks looks dumps.now room.old.format) sectors.now (shelf_at H.Source H.Shelf.own shelf.old) (shelf_at H.Source H.Shelf.own shelf.new) (N.written notes.old) (N.written notes.new)) }
+    ensures ok { OnOk result
+        (LooksAsAsked (B.lines_of writer.now) (disk_by clocks looks dumps.now room.old.format) sectors.now
+        (shelf_at H.Source H.Shelf.own shelf.old) (shelf_at H.Source H.Shelf.own shelf.new) room.old room.new
+        (N.written notes.old) (N.written notes.new)) }
+    ensures err { OnErr result
+        (LooksInto (B.lines_of writer.now) (disk_by clocks looks dumps.now room.old.format) sectors.now
+        (shelf_at H.Source H.Shelf.own shelf.old) (shelf_at H.Source H.Shelf.own shelf.new) (N.written notes.old)
+        (N.written notes.new)) }
     ensures counts { Counts (is_err result) (sink_counts N.Sink notes.old) (sink_counts N.Sink notes.new) }
 {
     if !looks.wants(sectors) {
@@ -134,9 +144,13 @@ fn read_one<B: BesideWriter, H: Shelf, N: Sink>(
     requires cylinder { track.cylinder < 100 }
     requires few { length dumps.now.names.now ≤ 16 }
     requires below { AreCountsBelow room.old 1000 }
-    ensures looked { (track_of : ℕ → Id) (number : ℕ) (start : ShelfNow) (before : List Seen) → track_of number ≡ track → length before ≡ number * length dumps.now.names.now
-        → HaveComeOf (of_tracks dumps.now.stepping dumps.now.names.now track_of) start (shelf_at H.Source H.Shelf.own shelf.old) before
-        → LooksAtOne (B.lines_of writer.now) (plan_by clocks (length dumps.now.names.now)) track (of_tracks dumps.now.stepping dumps.now.names.now track_of) start (shelf_at H.Source H.Shelf.own shelf.new) before room.old room.new (sink_at N.Sink notes.old) (sink_at N.Sink notes.new) result }
+    ensures looked { (track_of : ℕ → Id) (number : ℕ) (start : ShelfNow) (before : List Seen) → track_of number ≡ track
+        → length before ≡ number * length dumps.now.names.now
+        → HaveComeOf (of_tracks dumps.now.stepping dumps.now.names.now track_of) start
+        (shelf_at H.Source H.Shelf.own shelf.old) before
+        → LooksAtOne (B.lines_of writer.now) (plan_by clocks (length dumps.now.names.now)) track
+        (of_tracks dumps.now.stepping dumps.now.names.now track_of) start (shelf_at H.Source H.Shelf.own shelf.new)
+        before room.old room.new (sink_at N.Sink notes.old) (sink_at N.Sink notes.new) result }
     ensures format { room.new.format ≡ room.old.format }
     ensures below { (n : ℕ) → AreCountsBelow room.old n → AreCountsBelow room.new (n + 1) }
 {
@@ -160,10 +174,21 @@ fn take_all<H: Shelf>(
     requires none { room.old.captures ≡ 0 }
     requires none_passed { room.old.passed ≡ [] }
     requires no_others { OthersStandFor room.old.others [] }
-    ensures taken { (track_of : ℕ → Id) (number : ℕ) (start : ShelfNow) (before : List Seen) → track_of number ≡ track → length before ≡ number * length dumps.now.names.now
-        → HaveComeOf (of_tracks dumps.now.stepping dumps.now.names.now track_of) start (shelf_at H.Source H.Shelf.own shelf.old) before
-        → HasTakenTo (plan_by clocks (length dumps.now.names.now)) (track_at room.old.format room.old.started) (of_tracks dumps.now.stepping dumps.now.names.now track_of) start (shelf_at H.Source H.Shelf.own shelf.new) before room.new (length dumps.now.names.now) }
-    ensures kept { room.new ≡ record room.old { held = room.new.held; used = room.new.used; captures = room.new.captures; passed = room.new.passed; others = room.new.others } }
+    ensures taken { (track_of : ℕ → Id) (number : ℕ) (start : ShelfNow) (before : List Seen) → track_of number ≡ track
+        → length before ≡ number * length dumps.now.names.now
+        → HaveComeOf (of_tracks dumps.now.stepping dumps.now.names.now track_of) start
+        (shelf_at H.Source H.Shelf.own shelf.old) before
+        → HasTakenTo (plan_by clocks (length dumps.now.names.now)) (track_at room.old.format room.old.started)
+        (of_tracks dumps.now.stepping dumps.now.names.now track_of) start (shelf_at H.Source H.Shelf.own shelf.new)
+        before room.new (length dumps.now.names.now) }
+    ensures kept { room.new
+        ≡ record room.old {
+          held = room.new.held;
+          used = room.new.used;
+          captures = room.new.captures;
+          passed = room.new.passed;
+          others = room.new.others;
+        } }
     ensures passed { length room.new.passed ≤ 16 }
 {
     for dump in 0..dumps.names.len() {

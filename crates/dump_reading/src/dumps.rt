@@ -4,7 +4,8 @@ ghost use Rattle.std.specs.Prelude.{◌≡◌, ◌<◌, List, ℕ, Some};
 ghost use Rattle.flux_base.specs.Counts.{Counts, counts_of};
 ghost use Rattle.flux_base.specs.World.{source_counts};
 ghost use Rattle.track_shelf.specs.World.{told_at};
-ghost use Rattle.dump_reading.specs.DumpStreams.{GaveOf, HaveComeOf, IsOrFailed, is_lost, lost_path, of_disk, seen_file, seen_of};
+ghost use Rattle.dump_reading.specs.DumpStreams.{GaveOf, HaveComeOf, IsOrFailed, is_lost, lost_path, of_disk};
+ghost use Rattle.dump_reading.specs.DumpStreams.{seen_file, seen_of};
 ghost use Rattle.dump_reading.specs.lemmas.Coming.{none_came};
 ghost use Rattle.dump_reading.specs.Files.{IsFresh, shelf_at};
 ghost use Rattle.flux_engine.specs.LoopProgress.{IsBoundedNext, seen_next};
@@ -29,8 +30,8 @@ pub struct Dumps<'a> {
 }
 
 impl<'a> Dumps<'a> {
-    /// Reads the file of a track in the dump of this number: the stream at its begin. One that is missing or refused is passed over, and so is
-    /// one that fails as it is opened or read. There may be no such dump. No memory is taken.
+    /// Reads the file of a track in the dump of this number: the stream at its begin. One that is missing or refused is
+    /// passed over, and so is one that fails as it is opened or read. There may be no such dump. No memory is taken.
     pub fn read<H: Shelf>(
         &self,
         track: TrackId,
@@ -39,7 +40,8 @@ impl<'a> Dumps<'a> {
         stream: &mut StreamRoom,
     ) -> NextStream
         requires { track.cylinder < 128 }
-        ensures gave { GaveOf self.now.stepping self.now.names.now track dump (shelf_at H.Source H.Shelf.own shelf.old) (shelf_at H.Source H.Shelf.own shelf.new) (seen_next result stream.new.flux) }
+        ensures gave { GaveOf self.now.stepping self.now.names.now track dump (shelf_at H.Source H.Shelf.own shelf.old)
+            (shelf_at H.Source H.Shelf.own shelf.new) (seen_next result stream.new.flux) }
         ensures bounded { IsBoundedNext result stream.new.flux }
     {
         let track = self.stepping.file_track(track);
@@ -52,7 +54,9 @@ impl<'a> Dumps<'a> {
 }
 
 impl<'a, H: Shelf> TrackStreams<H> for Dumps<'a> {
-    ghost came = { λ dumps plan format start now held used before. HaveComeOf (of_disk dumps.stepping dumps.names.now plan.captures format) (shelf_at H.Source H.Shelf.own start) (shelf_at H.Source H.Shelf.own now) before };
+    ghost came = { λ dumps plan format start now held used before.
+        HaveComeOf (of_disk dumps.stepping dumps.names.now plan.captures format) (shelf_at H.Source H.Shelf.own start)
+        (shelf_at H.Source H.Shelf.own now) before };
 
     // No file ends a disk.
     ghost ended = { λ dumps plan format start now before fault. ⊥ };
@@ -69,12 +73,15 @@ impl<'a, H: Shelf> TrackStreams<H> for Dumps<'a> {
         Ok(self.read(track_id(format, number), capture, source, stream))
     }
 
-    ghost begins = { λ dumps plan format now. none_came (of_disk dumps.stepping dumps.names.now plan.captures format) (shelf_at H.Source H.Shelf.own now) };
+    ghost begins = { λ dumps plan format now.
+        none_came (of_disk dumps.stepping dumps.names.now plan.captures format) (shelf_at H.Source H.Shelf.own now) };
 }
 
 /// Tracks by their ids, whether the format has them or not.
 impl<'a, H: Shelf> NamedStreams<H> for Dumps<'a> {
-    ghost gave = { λ dumps old new track capture here. GaveOf dumps.stepping dumps.names.now track capture (shelf_at H.Source H.Shelf.own old) (shelf_at H.Source H.Shelf.own new) here };
+    ghost gave = { λ dumps old new track capture here.
+        GaveOf dumps.stepping dumps.names.now track capture (shelf_at H.Source H.Shelf.own old)
+        (shelf_at H.Source H.Shelf.own new) here };
 
     fn stream_of(
         &self,
@@ -87,16 +94,18 @@ impl<'a, H: Shelf> NamedStreams<H> for Dumps<'a> {
     }
 }
 
-/// Reads the file of a track of a dump: the stream at its begin. One that is missing or refused is passed over, and so is one that fails as it
-/// is opened or read.
+/// Reads the file of a track of a dump: the stream at its begin. One that is missing or refused is passed over, and so
+/// is one that fails as it is opened or read.
 fn read_dump<H: Shelf>(
     dump: &[u8],
     track: TrackId,
     shelf: &mut H,
     stream: &mut StreamRoom,
 ) -> NextStream
-    ensures seen { (files : List File) → H.files shelf.old ≡ Some files → IsOrFailed (seen_next result stream.new.flux) (seen_of (file_at files (path_text dump.now track))) }
-    ensures told { told_at H.Source H.Shelf.own shelf.new ≡ with_failed (lost_path (path_text dump.now track) result) (told_at H.Source H.Shelf.own shelf.old) }
+    ensures seen { (files : List File) → H.files shelf.old ≡ Some files
+        → IsOrFailed (seen_next result stream.new.flux) (seen_of (file_at files (path_text dump.now track))) }
+    ensures told { told_at H.Source H.Shelf.own shelf.new
+        ≡ with_failed (lost_path (path_text dump.now track) result) (told_at H.Source H.Shelf.own shelf.old) }
     ensures bounded { IsBoundedNext result stream.new.flux }
     ensures counts { Counts (is_lost result) (source_counts H.Source shelf.old) (source_counts H.Source shelf.new) }
 {
@@ -107,12 +116,14 @@ fn read_dump<H: Shelf>(
     }
 }
 
-/// Reads an open file, and gives it back: the stream at its begin, which is passed over where it is refused, or where a read fails. What
-/// follows its End is not looked at.
+/// Reads an open file, and gives it back: the stream at its begin, which is passed over where it is refused, or where a
+/// read fails. What follows its End is not looked at.
 fn read_file<H: Shelf>(file: H::File, shelf: &mut H, stream: &mut StreamRoom) -> NextStream
-    ensures seen { (bytes : List ℕ) → H.File.left file ≡ Some bytes → IsOrFailed (seen_next result stream.new.flux) (seen_file bytes) }
+    ensures seen { (bytes : List ℕ) → H.File.left file ≡ Some bytes
+        → IsOrFailed (seen_next result stream.new.flux) (seen_file bytes) }
     ensures told { IsFresh (counts_of H.File.faults H.File.failed file) (source_counts H.Source shelf.old)
-        → told_at H.Source H.Shelf.own shelf.new ≡ with_closed (is_lost result) (told_at H.Source H.Shelf.own shelf.old) }
+        → told_at H.Source H.Shelf.own shelf.new
+        ≡ with_closed (is_lost result) (told_at H.Source H.Shelf.own shelf.old) }
     ensures bounded { IsBoundedNext result stream.new.flux }
     ensures counts { IsFresh (counts_of H.File.faults H.File.failed file) (source_counts H.Source shelf.old)
         → Counts (is_lost result) (source_counts H.Source shelf.old) (source_counts H.Source shelf.new) }

@@ -1,6 +1,6 @@
-//! Disks that are read of several dumps: of each track the files of all dumps are read, one that is missing or refused is passed
-//! over, and one verdict for each sector is given over all readings. What becomes of the verdicts is a writer's (`read_dump_tracks`): the
-//! image and the report here, a picture in `disk_map`.
+//! Disks that are read of several dumps: of each track the files of all dumps are read, one that is missing or refused
+//! is passed over, and one verdict for each sector is given over all readings. What becomes of the verdicts is a
+//! writer's (`read_dump_tracks`): the image and the report here, a picture in `disk_map`.
 #![tactic(auto)]
 
 mod beside;

@@ -8,11 +8,12 @@ use crate::dumps::Dumps;
 use sector_images::{Format, track_count, track_id, tracks_keep_bounds};
 use track_shelf::{Shelf, Stepping};
 
-/// The number of the first dump that has the file of none of the format's tracks, if one has none. Nothing is opened to be read, and nothing
-/// fails.
+/// The number of the first dump that has the file of none of the format's tracks, if one has none. Nothing is opened
+/// to be read, and nothing fails.
 pub fn find_empty<H: Shelf>(dumps: &Dumps, format: Format, shelf: &H) -> Option<u8>
     requires few { length dumps.now.names.now ≤ 16 }
-    ensures told { (files : List File) → H.files shelf.now ≡ Some files → IsFirstEmpty (disk_of dumps.now format) files result }
+    ensures told { (files : List File) → H.files shelf.now ≡ Some files
+        → IsFirstEmpty (disk_of dumps.now format) files result }
     ensures bound { IfSome result (λ number. number < length dumps.now.names.now) }
 {
     for number in 0..dumps.names.len() {

@@ -25,14 +25,14 @@ use sector_report::{total_line, unread_line, write_line};
 use track_shelf::Shelf;
 
 /// Reads a disk of its dumps, and then writes the last two lines to `notes`. Of each track in order the files of all
-/// dumps are read as controllers read, in the order of the dumps; one that is missing or refused, or that fails, is told
-/// and passed over. One verdict for each sector is given over all readings by both clocks, and the names of headers are
-/// told that are those of none of the track's sectors: one by one where whole data follow them. Then the files of all
-/// other tracks are looked at, of which no sector is wanted: all names in them are others, and one of these files that is
-/// missing is not told. No answer is for want of memory.
+/// dumps are read as controllers read, in the order of the dumps; one that is missing or refused, or that fails, is
+/// told and passed over. One verdict for each sector is given over all readings by both clocks, and the names of
+/// headers are told that are those of none of the track's sectors: one by one where whole data follow them. Then the
+/// files of all other tracks are looked at, of which no sector is wanted: all names in them are others, and one of
+/// these files that is missing is not told. No answer is for want of memory.
 ///
-/// A dump that has the file of none of the format's tracks is refused before anything is written. After a fault of a sink
-/// nothing more is read or written, and the tracks before are written whole.
+/// A dump that has the file of none of the format's tracks is refused before anything is written. After a fault of a
+/// sink nothing more is read or written, and the tracks before are written whole.
 pub fn read_dumps<H: Shelf, W: Sink, N: Sink>(
     dumps: &Dumps,
     room: &mut DiskRoom,
@@ -42,7 +42,9 @@ pub fn read_dumps<H: Shelf, W: Sink, N: Sink>(
 ) -> Result<DumpTotals, DumpsFault>
     requires fresh { room.old ≡ fresh room.old.format }
     requires few { length dumps.now.names.now ≤ 16 }
-    ensures says { SaysOfDumps (disk_of dumps.now room.old.format) (shelf_at H.Source H.Shelf.own shelf.old) (shelf_at H.Source H.Shelf.own shelf.new) (W.written image.old) (W.written image.new) (N.written notes.old) (N.written notes.new) result }
+    ensures says { SaysOfDumps (disk_of dumps.now room.old.format) (shelf_at H.Source H.Shelf.own shelf.old)
+        (shelf_at H.Source H.Shelf.own shelf.new) (W.written image.old) (W.written image.new) (N.written notes.old)
+        (N.written notes.new) result }
 
     // What the shelf did is in what came of it.
     ensures blames { CountsBy (dumps_blame result)
@@ -72,7 +74,9 @@ pub fn read_dumps_by<H: Shelf, W: Sink, N: Sink>(
 ) -> Result<DumpTotals, DumpsFault>
     requires fresh { room.old ≡ fresh room.old.format }
     requires few { length dumps.now.names.now ≤ 16 }
-    ensures says { SaysOfDumps (disk_by clocks looks dumps.now room.old.format) (shelf_at H.Source H.Shelf.own shelf.old) (shelf_at H.Source H.Shelf.own shelf.new) (W.written image.old) (W.written image.new) (N.written notes.old) (N.written notes.new) result }
+    ensures says { SaysOfDumps (disk_by clocks looks dumps.now room.old.format)
+        (shelf_at H.Source H.Shelf.own shelf.old) (shelf_at H.Source H.Shelf.own shelf.new) (W.written image.old)
+        (W.written image.new) (N.written notes.old) (N.written notes.new) result }
 
     // What the shelf did is in what came of it.
     ensures blames { CountsBy (dumps_blame result)
@@ -105,8 +109,8 @@ pub fn read_dumps_by<H: Shelf, W: Sink, N: Sink>(
 }
 
 /// Reads all tracks of a disk of its dumps, and those beside them where that is asked for, as `read_dumps_by` does, and
-/// gives what was gathered of each to a writer. That dumps have files is not looked at here, so `NoFiles` does not come.
-/// After a fault nothing more is read or written, and the tracks before are written whole.
+/// gives what was gathered of each to a writer. That dumps have files is not looked at here, so `NoFiles` does not
+/// come. After a fault nothing more is read or written, and the tracks before are written whole.
 pub fn read_dump_tracks<O: TrackWriter, B: BesideWriter, H: Shelf, W: Sink, N: Sink>(
     clocks: Clocks,
     looks: Looks,
@@ -120,8 +124,14 @@ pub fn read_dump_tracks<O: TrackWriter, B: BesideWriter, H: Shelf, W: Sink, N: S
 ) -> Result<DumpTotals, DumpsFault>
     requires fresh { room.old ≡ fresh room.old.format }
     requires few { length dumps.now.names.now ≤ 16 }
-    ensures ok { IfOk result (HasTracksBy (O.part_of writer.now) (B.lines_of beside.now) (disk_by clocks looks dumps.now room.old.format) (shelf_at H.Source H.Shelf.own shelf.old) (shelf_at H.Source H.Shelf.own shelf.new) (W.written image.old) (W.written image.new) (N.written notes.old) (N.written notes.new)) }
-    ensures err { IfErr result (StopsBy (O.part_of writer.now) (B.lines_of beside.now) (disk_by clocks looks dumps.now room.old.format) (shelf_at H.Source H.Shelf.own shelf.old) (shelf_at H.Source H.Shelf.own shelf.new) (W.written image.old) (W.written image.new) (N.written notes.old) (N.written notes.new)) }
+    ensures ok { IfOk result
+        (HasTracksBy (O.part_of writer.now) (B.lines_of beside.now) (disk_by clocks looks dumps.now room.old.format)
+        (shelf_at H.Source H.Shelf.own shelf.old) (shelf_at H.Source H.Shelf.own shelf.new) (W.written image.old)
+        (W.written image.new) (N.written notes.old) (N.written notes.new)) }
+    ensures err { IfErr result
+        (StopsBy (O.part_of writer.now) (B.lines_of beside.now) (disk_by clocks looks dumps.now room.old.format)
+        (shelf_at H.Source H.Shelf.own shelf.old) (shelf_at H.Source H.Shelf.own shelf.new) (W.written image.old)
+        (W.written image.new) (N.written notes.old) (N.written notes.new)) }
 
     // What the shelf did is in what came of it.
     ensures blames { CountsBy (dumps_blame result)

@@ -3,7 +3,8 @@
 ghost use Rattle.std.specs.Prelude.{◌≡◌, ◌<◌, [], cond};
 ghost use Rattle.flux_base.specs.Moments.{Puts};
 ghost use Rattle.flux_base.specs.World.{sink_at};
-ghost use Rattle.dump_reading.specs.Reports.{data_lines, other_lines, passed_lines, read_part, trace_count as traces_in};
+ghost use Rattle.dump_reading.specs.Reports.{data_lines, other_lines, passed_lines, read_part};
+ghost use Rattle.dump_reading.specs.Reports.{trace_count as traces_in};
 
 use flux_base::{Failed, Sink, TrackId};
 use flux_engine::{
@@ -18,9 +19,9 @@ use turn_merge::{OtherTold, Others};
 /// How the lines name the places of readings: by the dump, and by the clock.
 pub(crate) const NAMING: Naming = Naming::ByCaptureAndClock;
 
-/// The track's part of the image, and its lines of the report: one for each of its streams that was passed over, one for each of
-/// its sectors, one for each name of other headers that is told and has whole data, one where such data follow a name that is not told,
-/// and one that tells how many of the names that are told have none.
+/// The track's part of the image, and its lines of the report: one for each of its streams that was passed over, one
+/// for each of its sectors, one for each name of other headers that is told and has whole data, one where such data
+/// follow a name that is not told, and one that tells how many of the names that are told have none.
 #[derive(Clone, Copy, Debug)]
 pub(crate) struct DumpReport;
 
@@ -87,7 +88,8 @@ pub(crate) fn write_others<N: Sink>(
     notes: &mut N,
 ) -> Result<(), Failed>
     requires { track.cylinder < 100 }
-    ensures { Puts (sink_at N.Sink notes.old) (sink_at N.Sink notes.new) (other_lines track others.now.told others.now.untold) result }
+    ensures { Puts (sink_at N.Sink notes.old) (sink_at N.Sink notes.new)
+        (other_lines track others.now.told others.now.untold) result }
 {
     match write_names(track, others.told(), notes) {
         Ok(()) => {}

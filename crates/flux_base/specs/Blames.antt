@@ -1,4 +1,5 @@
--- What a call does to the counts of several objects of the outside: it tells a fault of one of them, or of none.
+-- What a call does to the counts of several objects of the outside: it tells a
+-- fault of one of them, or of none.
 use Rattle.std.specs.Prelude.{Bool, true, false, None}
 use Rattle.flux_base.specs.Counts.{FaultCounts, Counts}
 
@@ -34,7 +35,8 @@ three_counts source image notes = record { source = source; image = image; notes
 abbrev pub no_counts : FaultCounts
 no_counts = record { faults = 0; failed = None }
 
--- The object of which a fault is told failed once, in the last call that could fail, and the others did not; no one's count fell.
+-- The object of which a fault is told failed once, in the last call that could fail, and the others
+-- did not; no one's count fell.
 pub record CountsBy (blame : Blame) (before after : OutsideCounts) : Type 0 where
   pub source : Counts (is_source blame) before.source after.source
   pub image : Counts (is_image blame) before.image after.image

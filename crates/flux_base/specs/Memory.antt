@@ -1,5 +1,6 @@
 -- The objects of the outside that live in memory: what they hold, and which of their calls fail.
-use Rattle.std.specs.Prelude.{if◌then◌else◌, ℕ, ◌-◌, ◌==◌, ◌&&◌, ◌||◌, ◌++◌, nat_lt, nat_le, min, Bool, List, length, take, drop, Result, Ok, Err}
+use Rattle.std.specs.Prelude.{if◌then◌else◌, ℕ, ◌-◌, ◌==◌, ◌&&◌, ◌||◌, ◌++◌, nat_lt, nat_le, min}
+use Rattle.std.specs.Prelude.{Bool, List, length, take, drop, Result, Ok, Err}
 use Rattle.std.specs.List.{list_any}
 use Rattle.flux_base.specs.Outside.{risen}
 use Rattle.flux_base.specs.declared.outside.Failed.{Failed}
@@ -53,17 +54,23 @@ source_after s buffer =
 abbrev pub taken_of : SinkState → ℕ → ℕ
 taken_of s piece = min piece (s.room - length s.written)
 
--- a write of a piece of this length fails: its number is on the list, or a piece that is not empty finds no room
+-- a write of a piece of this length fails: its number is on the list, or a piece
+-- that is not empty finds no room
 abbrev pub write_fails : SinkState → ℕ → Bool
-write_fails s piece = is_failing s.failing s.calls || (nat_lt 0 piece && nat_le s.room (length s.written))
+write_fails s piece =
+    is_failing s.failing s.calls || (nat_lt 0 piece && nat_le s.room (length s.written))
 
 -- what a write of a piece answers
 abbrev pub write_of : SinkState → List ℕ → Result ℕ Failed
-write_of s piece = if write_fails s (length piece) then Err (record {}) else Ok (taken_of s (length piece))
+write_of s piece =
+    if write_fails s (length piece) then Err (record {}) else Ok (taken_of s (length piece))
 
 -- the sink after that write
 abbrev pub sink_after : SinkState → List ℕ → SinkState
 sink_after s piece =
     if write_fails s (length piece)
     then record s { calls = risen s.calls; faults = risen s.faults }
-    else record s { written = s.written ++ take (taken_of s (length piece)) piece; calls = risen s.calls }
+    else record s {
+      written = s.written ++ take (taken_of s (length piece)) piece;
+      calls = risen s.calls;
+    }

@@ -1,5 +1,6 @@
 -- What a call may do to an object of the outside: the bytes that it tells, and its count of faults.
-use Rattle.std.specs.Prelude.{◌≡◌, ◌<◌, ◌≤◌, ℕ, ◌+◌, ◌++◌, min, Bool, true, false, List, [], ◌∷◌, length, take, Option, Some, None, Result, Ok, Err}
+use Rattle.std.specs.Prelude.{◌≡◌, ◌<◌, ◌≤◌, ℕ, ◌+◌, ◌++◌, min, Bool, true, false, List, [], ◌∷◌}
+use Rattle.std.specs.Prelude.{length, take, Option, Some, None, Result, Ok, Err}
 use Rattle.std.specs.Io.KnownBytes.{Appends}
 use Rattle.flux_base.specs.declared.outside.Failed.{Failed}
 
@@ -20,8 +21,9 @@ abbrev pub one_more : Option ℕ → Option ℕ
 one_more None = None
 one_more (Some count) = Some (risen count)
 
--- One failed call was counted where a call fails, and else none. So of the calls that were made in one that does not fail none failed, and of
--- those in one that fails one did, behind which none was made that could.
+-- One failed call was counted where a call fails, and else none. So of the calls that were
+-- made in one that does not fail none failed, and of those in one that fails one did, behind
+-- which none was made that could.
 abbrev pub IsCounted : Bool → (before now : Option ℕ) → Type 0
 IsCounted true before now = now ≡ one_more before
 IsCounted false before now = now ≡ before
@@ -38,6 +40,7 @@ Gives (Some given) None pieces = Unit {0}
 Gives (Some given) (Some given') pieces = given' ≡ given ++ pieces
 
 -- a read gave the buffer's first bytes, or nothing where it failed
-abbrev pub GivesPiece : Option (List (List ℕ)) → Option (List (List ℕ)) → Result ℕ Failed → List ℕ → Type 0
+abbrev pub GivesPiece : Option (List (List ℕ)) → Option (List (List ℕ)) → Result ℕ Failed → List ℕ
+    → Type 0
 GivesPiece old new (Ok count) buffer = Gives old new (take count buffer ∷ [])
 GivesPiece old new (Err _) buffer = Gives old new ([] ∷ [])

@@ -1,6 +1,8 @@
 use Rattle.std.specs.Prelude.{ℕ}
 use Rattle.flux_base.specs.declared.status.Status.{Status}
-use Rattle.flux_base.specs.declared.status.Status.TheVariants.{AllGood, NotAllGood, Refused, Usage, ReadFault, ImageFault, NotesFault, Memory, ShelfFault}
+use Rattle.flux_base.specs.declared.status.Status.TheVariants.{AllGood, NotAllGood, Refused, Usage}
+use Rattle.flux_base.specs.declared.status.Status.TheVariants.{ReadFault, ImageFault, NotesFault}
+use Rattle.flux_base.specs.declared.status.Status.TheVariants.{Memory, ShelfFault}
 
 -- the program's exit code
 abbrev pub code_of : Status → ℕ

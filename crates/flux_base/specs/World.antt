@@ -1,4 +1,5 @@
--- Each object of the outside at a moment, as one word: all that contracts see of it, and how often it failed.
+-- Each object of the outside at a moment, as one word: all that contracts see
+-- of it, and how often it failed.
 use Rattle.flux_base.specs.Blames.{OutsideCounts, no_counts, three_counts}
 use Rattle.flux_base.specs.Counts.{FaultCounts, counts_of}
 use Rattle.flux_base.specs.Moments.{Moment, moment}
@@ -20,9 +21,12 @@ abbrev pub sink_counts : {W : Type 0} → SinkGhosts W → W → FaultCounts
 sink_counts members sink = counts_of members.faults members.failed sink
 
 -- how often a source, the sink of an image and that of the notes failed
-abbrev pub counts_at : {S W N : Type 0} → SourceGhosts S → SinkGhosts W → SinkGhosts N → S → W → N → OutsideCounts
-counts_at ofs ofw ofn source image notes = three_counts (source_counts ofs source) (sink_counts ofw image) (sink_counts ofn notes)
+abbrev pub counts_at : {S W N : Type 0} → SourceGhosts S → SinkGhosts W → SinkGhosts N → S → W → N
+    → OutsideCounts
+counts_at ofs ofw ofn source image notes =
+    three_counts (source_counts ofs source) (sink_counts ofw image) (sink_counts ofn notes)
 
 -- the same where there is no source
 abbrev pub sinks_counts : {W N : Type 0} → SinkGhosts W → SinkGhosts N → W → N → OutsideCounts
-sinks_counts ofw ofn image notes = three_counts no_counts (sink_counts ofw image) (sink_counts ofn notes)
+sinks_counts ofw ofn image notes =
+    three_counts no_counts (sink_counts ofw image) (sink_counts ofn notes)

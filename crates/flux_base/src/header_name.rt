@@ -16,8 +16,8 @@ pub enum HeaderName {
         track: u8,
         sector: u8,
     },
-    /// The Macintosh's: the low six bits of the cylinder, the sector's number, the head with the cylinder's seventh bit, and
-    /// a number that says how the disk was formatted.
+    /// The Macintosh's: the low six bits of the cylinder, the sector's number, the head with the cylinder's seventh
+    /// bit, and a number that says how the disk was formatted.
     TrackSectorSide {
         track: u8,
         sector: u8,
@@ -64,8 +64,8 @@ impl HeaderName {
         Some(sector)
     }
 
-    /// The sector that it names on this track and side of the Macintosh's, however the disk was formatted. None where it
-    /// names none there.
+    /// The sector that it names on this track and side of the Macintosh's, however the disk was formatted.
+    /// None where it names none there.
     pub fn sector_of_side(self, track: u8, side: u8) -> Option<u8>
         ensures named { IfSome result (λ sector. (format : ℕ) × (self ≡ TrackSectorSide track sector side format)) }
         ensures none { IfNone result ((sector format : ℕ) → self ≢ TrackSectorSide track sector side format) }

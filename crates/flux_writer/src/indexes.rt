@@ -28,7 +28,8 @@ impl<'a> Model for IndexTimes<'a> {
 
     ghost view = { λ t. map (ticks_of t.unit) t.places.now };
 
-    ghost invariant = { λ t. AreCounted t.unit t.places.now × (t.next ≡ slice_get (map (ticks_of t.unit) t.places.now) 0) };
+    ghost invariant = { λ t.
+        AreCounted t.unit t.places.now × (t.next ≡ slice_get (map (ticks_of t.unit) t.places.now) 0) };
 }
 
 impl<'a> IndexTimes<'a> {

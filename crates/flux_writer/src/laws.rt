@@ -3,7 +3,8 @@ ghost use Rattle.std.specs.List.Sorted.{IsNonDecreasing, IsStrictlyIncreasing};
 ghost use Rattle.flux_writer.specs.Reading.{MOST_RING_CELLS, EndsWithTransition, HasOneAfter, HasEarlyOne, IsStreamOf};
 ghost use Rattle.kryo_stream.specs.Protocol.{OVERFLOW_TICKS};
 ghost use Rattle.track_rings.specs.Rings.{last_in};
-ghost use Rattle.flux_writer.specs.Written.{stream_of_times, stream_of_turns, stream_of, cell_time, ones_of, track_cells, track_turns};
+ghost use Rattle.flux_writer.specs.Written.{stream_of_times, stream_of_turns, stream_of, cell_time, ones_of};
+ghost use Rattle.flux_writer.specs.Written.{track_cells, track_turns};
 
 use kryo_stream::blocks_law;
 

@@ -1,7 +1,8 @@
 //! Writes streams of flux transitions (KryoFlux stream protocol): of given times, of a list of bit cells, and of a
 //! track's ring.
 //!
-//! Spellings are gathered in a piece of 4096 bytes, so that the sink is called once a piece. No answer is for want of memory.
+//! Spellings are gathered in a piece of 4096 bytes, so that the sink is called once a piece. No
+//! answer is for want of memory.
 #![tactic(auto)]
 
 mod indexes;

@@ -5,7 +5,8 @@ ghost use Rattle.kryo_stream.specs.Spelling.{spelling, flux_spelling};
 ghost use Rattle.flux_writer.specs.inside.Gathering.{Holds};
 ghost use Rattle.kryo_stream.specs.Sequence.{spellings};
 ghost use Rattle.flux_writer.specs.Written.{index_block, interval_blocks};
-ghost use Rattle.flux_writer.specs.inside.Writing.{ticks_of, AreCounted, indexes_before, indexes_from, next_blocks, last_blocks};
+ghost use Rattle.flux_writer.specs.inside.Writing.{ticks_of, AreCounted, indexes_before, indexes_from, next_blocks};
+ghost use Rattle.flux_writer.specs.inside.Writing.{last_blocks};
 
 use crate::indexes::{IndexTimes, IndexUnit};
 use crate::piece::OutputPiece;
@@ -89,7 +90,8 @@ impl<'a> StreamWriter<'a> {
         requires begun { All (λ index. self.old.time ≤ index) self.old.indexes }
         requires few { self.old.position + (end - self.old.time) / 65536 < 2 ^ 32 }
         ensures holds { Holds (sink_at W.Sink sink.old) (sink_at W.Sink sink.new) self.old.piece self.new.piece
-            (spellings (map (index_block self.old.position self.old.time) (indexes_before end self.old.indexes))) result }
+            (spellings (map (index_block self.old.position self.old.time) (indexes_before end self.old.indexes)))
+            result }
         ensures position { self.new.position ≡ self.old.position }
         ensures time { self.new.time ≡ self.old.time }
         ensures indexes { OnOk result (self.new.indexes ≡ indexes_from end self.old.indexes) }

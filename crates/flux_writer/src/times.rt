@@ -17,7 +17,8 @@ pub fn write_times<W: Sink>(flux: &TrackFlux, sink: &mut W) -> Result<(), Failed
     requires last { EndsWithTransition flux.now.times flux.now.indexes }
     requires few { length flux.now.times + length flux.now.indexes ≤ 1048576 }
     requires early { All (λ time. time ≤ 2 ^ 39) flux.now.times }
-    ensures { Puts (sink_at W.Sink sink.old) (sink_at W.Sink sink.new) (stream_of_times flux.now.times flux.now.indexes) result }
+    ensures { Puts (sink_at W.Sink sink.old) (sink_at W.Sink sink.new) (stream_of_times flux.now.times flux.now.indexes)
+        result }
 {
     let mut stream = StreamWriter::new(flux.indexes(), IndexUnit::Ticks);
     for time in flux.times() {

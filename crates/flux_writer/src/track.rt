@@ -33,7 +33,8 @@ pub fn write_turns<W: Sink>(
     requires few { length cells.now.cells ≤ 2097152 }
     requires order { IsStrictlyIncreasing turns.now }
     requires ones { All (HasOneAfter cells.now.cells) turns.now }
-    ensures { Puts (sink_at W.Sink sink.old) (sink_at W.Sink sink.new) (stream_of_turns cells.now.cells turns.now nominal) result }
+    ensures { Puts (sink_at W.Sink sink.old) (sink_at W.Sink sink.new)
+        (stream_of_turns cells.now.cells turns.now nominal) result }
 {
     let mut stream = StreamWriter::new(turns, IndexUnit::Cells { nominal });
     let whole = RingPart {

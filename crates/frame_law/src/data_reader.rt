@@ -18,14 +18,15 @@ pub(crate) trait DataReader {
     fn clear(&mut self)
         ensures { keeps self.new [] };
 
-    /// Whether the data that have so many bytes and whose sync stands at the place hold bytes. Then the reader, which had
-    /// none, keeps these.
+    /// Whether the data that have so many bytes and whose sync stands at the place hold bytes. Then the
+    /// reader, which had none, keeps these.
     fn read<L: Layout>(&mut self, layout: &L, size: u16, frame: &CellsFrom, sync: usize) -> bool
         requires fits { fits size }
         requires sync { IsSyncInReach (L.header_end layout.now frame.now) (L.is_sync layout.now frame.now) sync }
         requires whole { L.data_end layout.now size frame.now sync ≤ length frame.now }
         requires empty { keeps self.old [] }
-        ensures good { IsTrue result → (bytes : List ℕ) × keeps self.new bytes × L.hold layout.now size frame.now sync bytes }
+        ensures good { IsTrue result
+            → (bytes : List ℕ) × keeps self.new bytes × L.hold layout.now size frame.now sync bytes }
         ensures bad { result ≡ false → (bytes : List ℕ) → ¬ L.hold layout.now size frame.now sync bytes };
 }
 

@@ -1,6 +1,7 @@
 //! The search for a header's data by the second rule, as controllers read.
 
-ghost use Rattle.std.specs.Prelude.{◌≡◌, ℕ, ◌+◌, ◌^◌, ◌<◌, ◌≤◌, ◌↔◌, [], List, false, drop, length, IfNone, IfSome, IsTrue};
+ghost use Rattle.std.specs.Prelude.{◌≡◌, ℕ, ◌+◌, ◌^◌, ◌<◌, ◌≤◌, ◌↔◌, [], List, false, drop, length, IfNone, IfSome};
+ghost use Rattle.std.specs.Prelude.{IsTrue};
 ghost use Rattle.cell_bits.specs.Word.{Stands};
 ghost use Rattle.frame_law.specs.Controller.{DataStandAt, FirstData, FirstKeptData, NamedHeaderStands, WholeDataAt};
 ghost use Rattle.flux_base.specs.declared.header_name.HeaderName.{HeaderName};
@@ -25,8 +26,11 @@ fn next_data<L: Layout, D: DataReader>(
     reader: &mut D,
 ) -> Option<usize>
     requires fits { D.fits size }
-    ensures { let header = NamedHeaderStands L.CODING.sync L.CODING.sync_cells (L.header_end layout.now) (L.names layout.now) in
-        FirstKeptData (D.keeps reader.new) (DataStandAt (L.header_end layout.now) (L.data_end layout.now size) (L.is_sync layout.now) (L.hold layout.now size) header frame.now)
+    ensures { let header =
+        NamedHeaderStands L.CODING.sync L.CODING.sync_cells (L.header_end layout.now) (L.names layout.now) in
+        FirstKeptData (D.keeps reader.new)
+        (DataStandAt (L.header_end layout.now) (L.data_end layout.now size) (L.is_sync layout.now)
+        (L.hold layout.now size) header frame.now)
         from result }
 {
     reader.clear();
@@ -55,9 +59,11 @@ fn has_header<L: Layout>(layout: &L, frame: &CellsFrom, from: usize, to: usize) 
     requires order { from ≤ to }
     requires near { to < 2 ^ 31 }
     ensures some { IsTrue result → (place : ℕ) × (name : HeaderName) × (from ≤ place) × (place < to)
-        × NamedHeaderStands L.CODING.sync L.CODING.sync_cells (L.header_end layout.now) (L.names layout.now) (drop place frame.now) name }
+        × NamedHeaderStands L.CODING.sync L.CODING.sync_cells (L.header_end layout.now) (L.names layout.now)
+        (drop place frame.now) name }
     ensures none { result ≡ false → (place : ℕ) (name : HeaderName) → from ≤ place → place < to
-        → ¬ NamedHeaderStands L.CODING.sync L.CODING.sync_cells (L.header_end layout.now) (L.names layout.now) (drop place frame.now) name }
+        → ¬ NamedHeaderStands L.CODING.sync L.CODING.sync_cells (L.header_end layout.now) (L.names layout.now)
+        (drop place frame.now) name }
 {
     let mut start = from;
     while let Some(place) = frame.find_word(start, to, L::CODING.sync, L::CODING.sync_cells) {
@@ -72,8 +78,14 @@ fn has_header<L: Layout>(layout: &L, frame: &CellsFrom, from: usize, to: usize) 
 /// The name of the header at the front of the cells, where the sync stands. None where no header stands.
 pub(crate) fn standing_name<L: Layout>(layout: &L, frame: &CellsFrom) -> Option<HeaderName>
     requires sync { Stands frame.now L.CODING.sync L.CODING.sync_cells 0 }
-    ensures stands { IfSome result (λ name. NamedHeaderStands L.CODING.sync L.CODING.sync_cells (L.header_end layout.now) (L.names layout.now) frame.now name) }
-    ensures none { IfNone result ((name : HeaderName) → ¬ NamedHeaderStands L.CODING.sync L.CODING.sync_cells (L.header_end layout.now) (L.names layout.now) frame.now name) }
+    ensures stands { IfSome result
+        (λ name.
+        NamedHeaderStands L.CODING.sync L.CODING.sync_cells (L.header_end layout.now) (L.names layout.now) frame.now
+        name) }
+    ensures none { IfNone result
+        ((name : HeaderName)
+        → ¬ NamedHeaderStands L.CODING.sync L.CODING.sync_cells (L.header_end layout.now) (L.names layout.now) frame.now
+        name) }
 {
     let Some(header_end) = layout.header_end(frame) else {
         return None;
@@ -95,9 +107,12 @@ pub(crate) fn own_data<L: Layout>(
     from: usize,
     buffer: &mut SectorBuffer,
 ) -> Option<usize>
-    ensures { let header = NamedHeaderStands L.CODING.sync L.CODING.sync_cells (L.header_end layout.now) (L.names layout.now) in
+    ensures { let header =
+        NamedHeaderStands L.CODING.sync L.CODING.sync_cells (L.header_end layout.now) (L.names layout.now) in
         let size = L.sector_bytes layout.now in
-        FirstData (DataStandAt (L.header_end layout.now) (L.data_end layout.now size) (L.is_sync layout.now) (L.hold layout.now size) header frame.now)
+        FirstData
+        (DataStandAt (L.header_end layout.now) (L.data_end layout.now size) (L.is_sync layout.now)
+        (L.hold layout.now size) header frame.now)
         from result buffer.new.items }
 {
     next_data(layout, layout.sector_bytes(), frame, from, buffer)
@@ -105,9 +120,12 @@ pub(crate) fn own_data<L: Layout>(
 
 /// Whether data of the size that the name tells stand after the header at the front of the cells.
 pub(crate) fn has_named_data<L: Layout>(layout: &L, frame: &CellsFrom, name: HeaderName) -> bool
-    ensures { let header = NamedHeaderStands L.CODING.sync L.CODING.sync_cells (L.header_end layout.now) (L.names layout.now) in
+    ensures { let header =
+        NamedHeaderStands L.CODING.sync L.CODING.sync_cells (L.header_end layout.now) (L.names layout.now) in
         IsTrue result ↔ HasNamedData (L.size_named layout.now name)
-        (λ size place bytes. DataStandAt (L.header_end layout.now) (L.data_end layout.now size) (L.is_sync layout.now) (L.hold layout.now size) header frame.now place bytes) }
+        (λ size place bytes.
+        DataStandAt (L.header_end layout.now) (L.data_end layout.now size) (L.is_sync layout.now)
+        (L.hold layout.now size) header frame.now place bytes) }
 {
     let Some(size) = layout.size_named(name) else {
         return false;
@@ -115,8 +133,8 @@ pub(crate) fn has_named_data<L: Layout>(layout: &L, frame: &CellsFrom, name: Hea
     next_data(layout, size, frame, 0, &mut NoBytes).is_some()
 }
 
-/// Whether data stand at the sync, but for the headers before it. Then the reader, which had none, keeps their bytes. What
-/// they hold is looked at last: it takes longest.
+/// Whether data stand at the sync, but for the headers before it. Then the reader, which had none, keeps their bytes.
+/// What they hold is looked at last: it takes longest.
 fn stands_at_sync<L: Layout, D: DataReader>(
     layout: &L,
     size: u16,
@@ -128,8 +146,11 @@ fn stands_at_sync<L: Layout, D: DataReader>(
     requires near { sync < 2 ^ 31 }
     requires fits { D.fits size }
     requires empty { D.keeps reader.old [] }
-    ensures good { IsTrue result → (bytes : List ℕ) × D.keeps reader.new bytes × WholeDataAt (L.data_end layout.now size) (L.hold layout.now size) frame.now sync bytes }
-    ensures bad { result ≡ false → (bytes : List ℕ) → ¬ WholeDataAt (L.data_end layout.now size) (L.hold layout.now size) frame.now sync bytes }
+    ensures good { IsTrue result
+        → (bytes : List ℕ) × D.keeps reader.new bytes
+        × WholeDataAt (L.data_end layout.now size) (L.hold layout.now size) frame.now sync bytes }
+    ensures bad { result ≡ false → (bytes : List ℕ)
+        → ¬ WholeDataAt (L.data_end layout.now size) (L.hold layout.now size) frame.now sync bytes }
 {
     let Some(end) = layout.data_end(size, frame, sync) else {
         return false;

@@ -24,8 +24,14 @@ pub(crate) fn read_frame<L: Layout>(
 ) -> Reading
     requires track { L.has_track layout.now track }
     requires sync { Stands frame.now L.CODING.sync L.CODING.sync_cells 0 }
-    ensures { let header : (s : ℕ) → Type 0 = λ s. HeaderStands L.CODING.sync L.CODING.sync_cells (L.header_end layout.now) (L.lowest_sector layout.now) (L.sector_count layout.now track) (L.names_sector layout.now track) frame.now s in
-        let content : List ℕ → Type 0 = λ bytes. DataStand (L.header_end layout.now) (L.data_end layout.now (L.sector_bytes layout.now)) (L.is_sync layout.now) (L.hold layout.now (L.sector_bytes layout.now)) frame.now bytes in
+    ensures { let header : (s : ℕ) → Type 0 =
+        λ s.
+        HeaderStands L.CODING.sync L.CODING.sync_cells (L.header_end layout.now) (L.lowest_sector layout.now)
+        (L.sector_count layout.now track) (L.names_sector layout.now track) frame.now s in
+        let content : List ℕ → Type 0 =
+        λ bytes.
+        DataStand (L.header_end layout.now) (L.data_end layout.now (L.sector_bytes layout.now))
+        (L.is_sync layout.now) (L.hold layout.now (L.sector_bytes layout.now)) frame.now bytes in
         Reads header (λ s bytes. SectorStands (header s) (content bytes)) result buffer.new.items }
 {
     buffer.clear();
@@ -64,8 +70,14 @@ pub(crate) fn header_sector<L: Layout>(
     requires end { header_end ≡ L.header_end layout.now frame.now }
     requires whole { header_end ≤ length frame.now }
     requires sync { Stands frame.now L.CODING.sync L.CODING.sync_cells 0 }
-    ensures stands { IfSome result (λ s. HeaderStands L.CODING.sync L.CODING.sync_cells (L.header_end layout.now) (L.lowest_sector layout.now) (L.sector_count layout.now track) (L.names_sector layout.now track) frame.now s) }
-    ensures none { IfNone result ((s : ℕ) → ¬ HeaderStands L.CODING.sync L.CODING.sync_cells (L.header_end layout.now) (L.lowest_sector layout.now) (L.sector_count layout.now track) (L.names_sector layout.now track) frame.now s) }
+    ensures stands { IfSome result
+        (λ s.
+        HeaderStands L.CODING.sync L.CODING.sync_cells (L.header_end layout.now) (L.lowest_sector layout.now)
+        (L.sector_count layout.now track) (L.names_sector layout.now track) frame.now s) }
+    ensures none { IfNone result
+        ((s : ℕ)
+        → ¬ HeaderStands L.CODING.sync L.CODING.sync_cells (L.header_end layout.now) (L.lowest_sector layout.now)
+        (L.sector_count layout.now track) (L.names_sector layout.now track) frame.now s) }
 {
     let sector = named_sector(layout, frame, track)?;
     if !frame.unbroken_to(header_end) {
@@ -78,8 +90,13 @@ pub(crate) fn header_sector<L: Layout>(
 fn named_sector<L: Layout>(layout: &L, frame: &CellsFrom, track: TrackId) -> Option<u8>
     requires track { L.has_track layout.now track }
     requires whole { L.header_end layout.now frame.now ≤ length frame.now }
-    ensures named { IfSome result (λ s. L.names_sector layout.now track frame.now s × IsSectorNumber (L.lowest_sector layout.now) (L.sector_count layout.now track) s) }
-    ensures none { IfNone result ((s : ℕ) → IsSectorNumber (L.lowest_sector layout.now) (L.sector_count layout.now track) s → ¬ L.names_sector layout.now track frame.now s) }
+    ensures named { IfSome result
+        (λ s.
+        L.names_sector layout.now track frame.now s
+        × IsSectorNumber (L.lowest_sector layout.now) (L.sector_count layout.now track) s) }
+    ensures none { IfNone result
+        ((s : ℕ) → IsSectorNumber (L.lowest_sector layout.now) (L.sector_count layout.now track) s
+        → ¬ L.names_sector layout.now track frame.now s) }
 {
     let Some(name) = layout.read_name(frame) else {
         return None;
@@ -94,8 +111,14 @@ pub(crate) fn sector_with_name<L: Layout>(
     name: HeaderName,
 ) -> Option<u8>
     requires track { L.has_track layout.now track }
-    ensures named { IfSome result (λ s. IsSectorName (L.is_name_of layout.now track) (L.lowest_sector layout.now) (L.sector_count layout.now track) name s) }
-    ensures none { IfNone result ((s : ℕ) → ¬ IsSectorName (L.is_name_of layout.now track) (L.lowest_sector layout.now) (L.sector_count layout.now track) name s) }
+    ensures named { IfSome result
+        (λ s.
+        IsSectorName (L.is_name_of layout.now track) (L.lowest_sector layout.now) (L.sector_count layout.now track) name
+        s) }
+    ensures none { IfNone result
+        ((s : ℕ)
+        → ¬ IsSectorName (L.is_name_of layout.now track) (L.lowest_sector layout.now) (L.sector_count layout.now track)
+        name s) }
 {
     let Some(sector) = layout.sector_named(track, name) else {
         return None;
@@ -121,8 +144,12 @@ fn read_content<L: Layout>(
     requires end { header_end ≡ L.header_end layout.now frame.now }
     requires near { header_end ≤ LONGEST_RING }
     requires empty { buffer.old.items ≡ [] }
-    ensures good { IsTrue result → DataStand (L.header_end layout.now) (L.data_end layout.now (L.sector_bytes layout.now)) (L.is_sync layout.now) (L.hold layout.now (L.sector_bytes layout.now)) frame.now buffer.new.items }
-    ensures bad { result ≡ false → (bytes : List ℕ) → ¬ DataStand (L.header_end layout.now) (L.data_end layout.now (L.sector_bytes layout.now)) (L.is_sync layout.now) (L.hold layout.now (L.sector_bytes layout.now)) frame.now bytes }
+    ensures good { IsTrue result
+        → DataStand (L.header_end layout.now) (L.data_end layout.now (L.sector_bytes layout.now)) (L.is_sync layout.now)
+        (L.hold layout.now (L.sector_bytes layout.now)) frame.now buffer.new.items }
+    ensures bad { result ≡ false → (bytes : List ℕ)
+        → ¬ DataStand (L.header_end layout.now) (L.data_end layout.now (L.sector_bytes layout.now))
+        (L.is_sync layout.now) (L.hold layout.now (L.sector_bytes layout.now)) frame.now bytes }
 {
     let reach = header_end + DATA_REACH;
     let Some(sync) = layout.next_sync(frame, header_end, reach) else {

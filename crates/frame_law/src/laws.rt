@@ -3,8 +3,10 @@
 ghost use Rattle.std.specs.Prelude.{◌≡◌, ◌≤◌, ℕ, ◌+◌, List, Bool, length, drop};
 ghost use Rattle.cell_bits.specs.Broken.{Unbroken};
 ghost use Rattle.flux_base.specs.declared.track.TrackId.{TrackId};
-ghost use Rattle.frame_law.specs.Controller.{DataAreTold, DataStandAlone, HasHeaderData, HasOnlyOwnData, SearchesFindAll, SectorStandsBy, StrictHasData};
-ghost use Rattle.frame_law.specs.Laws.{HasOnlyOwn, HasOnlyOwnBetweenZeros, ReadingsAreAll, ReadingsAreOne, SectorsAreTold, StandsAlone};
+ghost use Rattle.frame_law.specs.Controller.{DataAreTold, DataStandAlone, HasHeaderData, HasOnlyOwnData};
+ghost use Rattle.frame_law.specs.Controller.{SearchesFindAll, SectorStandsBy, StrictHasData};
+ghost use Rattle.frame_law.specs.Laws.{HasOnlyOwn, HasOnlyOwnBetweenZeros, ReadingsAreAll, ReadingsAreOne};
+ghost use Rattle.frame_law.specs.Laws.{SectorsAreTold, StandsAlone};
 ghost use Rattle.frame_law.specs.Others.{HasNoOtherBetweenZeros, HeadersAreTold, NamedDataAreOwn};
 ghost use Rattle.track_rings.specs.Rings.{AreSectors, IsSectorNumber, IsSpaced, LiesAt, bytes_of, stretch};
 
@@ -50,7 +52,8 @@ pub fn rings_hold_sectors<R: Recording>()
 pub fn only_own<R: Recording>()
     ensures alone { (r : R) (track : TrackId) → R.has_track r track
         → StandsAlone (R.header_at r track) (R.sector_at r track) }
-    ensures between_zeros { (r : R) (track : TrackId) (bytes : List ℕ) (zeros from count behind : ℕ) → R.has_track r track
+    ensures between_zeros { (r : R) (track : TrackId) (bytes : List ℕ) (zeros from count behind : ℕ)
+        → R.has_track r track
         → AreSectors (R.sectors r track) (R.sector_size r) bytes
         → HasOnlyOwnBetweenZeros (R.header_at r track) (R.sector_at r track) (R.ring r track bytes)
         (R.ring_cells r track) (R.sector_place r track)
@@ -63,20 +66,23 @@ pub fn only_own<R: Recording>()
 {}
 
 /// By the second rule, as controllers read: repeated searches find all data of a header, and all headers with all their
-/// data, once each and by rising place; data at a place are one thing; and what stands by the strict rule stands by this
-/// one, with the same bytes.
+/// data, once each and by rising place; data at a place are one thing; and what stands by the strict rule stands by
+/// this one, with the same bytes.
 pub fn data_are_read<R: Recording>()
     ensures of_header { (r : R) (cells : List Bool) → SearchesFindAll (R.data_at r cells) }
-    ensures of_track { (r : R) (track : TrackId) (cells : List Bool) → SearchesFindAll (HasHeaderData (R.header_at r track) (R.data_at r) cells) }
+    ensures of_track { (r : R) (track : TrackId) (cells : List Bool)
+        → SearchesFindAll (HasHeaderData (R.header_at r track) (R.data_at r) cells) }
     ensures told { (r : R) → DataAreTold (R.data_at r) (R.sector_size r) }
     ensures strict { (r : R) (track : TrackId) → StrictHasData (R.sector_at r track) (R.data_at r) }
 {}
 
-/// The cells tell the name of each header, and which of the track's sectors it is of, if any; repeated searches find all
-/// headers, once each and by rising place; and whole data of a sector's name are the sector's.
+/// The cells tell the name of each header, and which of the track's sectors it is of, if any; repeated searches find
+/// all headers, once each and by rising place; and whole data of a sector's name are the sector's.
 pub fn headers_are_told<R: Recording>()
-    ensures told { (r : R) (track : TrackId) → HeadersAreTold (R.named_at r) (R.is_name_of r track) (R.header_at r track) }
-    ensures own_data { (r : R) (track : TrackId) → NamedDataAreOwn (R.whole_data_of r) (R.is_name_of r track) (R.data_at r) }
+    ensures told { (r : R) (track : TrackId)
+        → HeadersAreTold (R.named_at r) (R.is_name_of r track) (R.header_at r track) }
+    ensures own_data { (r : R) (track : TrackId)
+        → NamedDataAreOwn (R.whole_data_of r) (R.is_name_of r track) (R.data_at r) }
 {}
 
 /// No other header than those of its sectors stands in any stretch of a repeated ring between zeros.
@@ -91,9 +97,11 @@ pub fn no_others<R: Recording>()
 /// sector stands wherever its frame lies whole.
 pub fn only_own_data<R: Recording>()
     ensures alone { (r : R) (track : TrackId) → DataStandAlone (R.header_at r track) (R.data_at r) }
-    ensures between_zeros { (r : R) (track : TrackId) (bytes : List ℕ) (zeros from count behind : ℕ) → R.has_track r track
+    ensures between_zeros { (r : R) (track : TrackId) (bytes : List ℕ) (zeros from count behind : ℕ)
+        → R.has_track r track
         → AreSectors (R.sectors r track) (R.sector_size r) bytes
-        → HasOnlyOwnData (R.header_at r track) (R.data_at r) (R.ring r track bytes) (R.ring_cells r track) (R.sector_place r track)
+        → HasOnlyOwnData (R.header_at r track) (R.data_at r) (R.ring r track bytes) (R.ring_cells r track)
+        (R.sector_place r track)
         (bytes_of (R.first_sector r) (R.sector_size r) bytes) zeros from count behind }
     ensures stand { (r : R) (track : TrackId) (bytes : List ℕ) (s from count place : ℕ) → R.has_track r track
         → AreSectors (R.sectors r track) (R.sector_size r) bytes

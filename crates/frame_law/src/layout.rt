@@ -1,17 +1,21 @@
-ghost use Rattle.std.specs.Prelude.{◌≡◌, ℕ, ◌+◌, ◌*◌, ◌^◌, ◌<◌, ◌≤◌, ◌⊎◌, ◌&&◌, List, [], ◌++◌, Bool, false, length, Option, Some, IfSome, IfNone, IsTrue};
+ghost use Rattle.std.specs.Prelude.{◌≡◌, ℕ, ◌+◌, ◌*◌, ◌^◌, ◌<◌, ◌≤◌, ◌⊎◌, ◌&&◌, List, [], ◌++◌, Bool, false, length};
+ghost use Rattle.std.specs.Prelude.{Option, Some, IfSome, IfNone, IsTrue};
 ghost use Rattle.cell_bits.specs.Bytes.{last_cell};
 ghost use Rattle.flux_base.specs.Bounds.{LONGEST_RING, MOST_SECTOR_BYTES};
 ghost use Rattle.flux_base.specs.declared.track.TrackId.{TrackId};
 ghost use Rattle.frame_law.specs.declared.coding.Coding.{Coding};
-ghost use Rattle.frame_law.specs.Frames.{AreSizes, EndsAt, FrameStands, IsFirstSync, IsSyncInReach, IsWithinReach, NoSync};
+ghost use Rattle.frame_law.specs.Frames.{AreSizes, EndsAt, FrameStands, IsFirstSync, IsSyncInReach, IsWithinReach};
+ghost use Rattle.frame_law.specs.Frames.{NoSync};
 ghost use Rattle.flux_base.specs.declared.header_name.HeaderName.{HeaderName};
 ghost use Rattle.frame_law.specs.lemmas.OwnData.{AreSyncsOrNone, BeginAtOnce, HasOwnDataSyncs};
 ghost use Rattle.frame_law.specs.lemmas.FrameLaws.{frame_within, ring_length, sector_stands};
-ghost use Rattle.frame_law.specs.lemmas.OwnFrames.{HasOwnSyncs, TellsEarly, TellsEnds, TellsTrack, header_within, sector_syncs, some_cells, tells_sector};
+ghost use Rattle.frame_law.specs.lemmas.OwnFrames.{HasOwnSyncs, TellsEarly, TellsEnds, TellsTrack, header_within};
+ghost use Rattle.frame_law.specs.lemmas.OwnFrames.{sector_syncs, some_cells, tells_sector};
 ghost use Rattle.frame_law.specs.Others.{NamesSectors};
 ghost use Rattle.frame_law.specs.Writing.{AppendsCells};
 ghost use Rattle.track_rings.specs.Rings.{AreSectors, IsSectorNumber, AreBytes, bytes_of};
-ghost use Rattle.track_rings.specs.Rows.{IsContent, Rows, frame_size, last_of, place_of, ring_of, ring_size, rows_cells, sector_rows};
+ghost use Rattle.track_rings.specs.Rows.{IsContent, Rows, frame_size, last_of, place_of, ring_of, ring_size};
+ghost use Rattle.track_rings.specs.Rows.{rows_cells, sector_rows};
 ghost use Rattle.track_rings.specs.Spaced.{MayFollow};
 
 use crate::{CellsFrom, Coding, SectorBuffer, SectorBytes};
@@ -66,16 +70,16 @@ pub trait Layout {
     /// How many bytes there are in the data of a header with this name. None where it tells a size that no data have.
     ghost size_named: { Self → HeaderName → Option ℕ };
 
-    /// The data of the frame at the front of the cells, which have so many bytes and whose sync stands at this place, hold
-    /// these bytes.
+    /// The data of the frame at the front of the cells, which have so many bytes and whose sync stands at
+    /// this place, hold these bytes.
     ghost hold: { Self → ℕ → List Bool → ℕ → List ℕ → Type 0 };
 
-    /// Where the data of the frame at the front of the cells end, which have so many bytes and whose sync stands at this
-    /// place.
+    /// Where the data of the frame at the front of the cells end, which have so many bytes and
+    /// whose sync stands at this place.
     ghost data_end: { Self → ℕ → List Bool → ℕ → ℕ };
 
-    /// How many cells data have that are written, from the begin of their sync on. None that are read with as many bytes have
-    /// fewer.
+    /// How many cells data have that are written, from the begin of their sync on. None that are read
+    /// with as many bytes have fewer.
     ghost data_cells: { Self → ℕ };
 
     /// The rows of a track.
@@ -141,7 +145,8 @@ pub trait Layout {
         requires sector { IsSectorNumber (lowest_sector self.now) (sector_count self.now of.now.track) of.now.sector }
         requires bytes { (length of.now.bytes.now ≡ 0) ⊎ (length of.now.bytes.now ≡ sector_bytes self.now) }
         ensures { let before = asks && last_cell cells.old.cells in
-            AppendsCells cells.old cells.new (row_cells self.now of.now.track before of.now.sector of.now.bytes.now row) result };
+            AppendsCells cells.old cells.new (row_cells self.now of.now.track before of.now.sector of.now.bytes.now row)
+            result };
 
     /// Where the header at the front of the cells ends. None where it is not whole.
     fn header_end(&self, frame: &CellsFrom) -> Option<usize>
@@ -173,8 +178,8 @@ pub trait Layout {
         ensures some { IfSome result (λ end. (end ≡ data_end self.now size frame.now sync) × (end ≤ length frame.now)) }
         ensures none { IfNone result (length frame.now < data_end self.now size frame.now sync) };
 
-    /// Whether the data that have so many bytes and whose sync stands at the place hold bytes. Then the buffer, which was
-    /// empty, has them.
+    /// Whether the data that have so many bytes and whose sync stands at the place hold bytes. Then the
+    /// buffer, which was empty, has them.
     fn read_data(
         &self,
         size: u16,
@@ -202,7 +207,8 @@ pub trait Layout {
 
     /// A sector's number has 8 bits, and its bytes fit the buffer.
     ghost counts: { (r : Self) (track : TrackId) → has_track r track →
-        (1 ≤ sector_count r track) × (lowest_sector r + sector_count r track ≤ 256) × (sector_bytes r ≤ MOST_SECTOR_BYTES) };
+        (1 ≤ sector_count r track) × (lowest_sector r + sector_count r track ≤ 256)
+        × (sector_bytes r ≤ MOST_SECTOR_BYTES) };
 
     /// The data of a frame that is written begin within reach of its header.
     ghost reach: { (r : Self) → IsWithinReach header_cells (data_place r) (data_cells r) };
@@ -228,7 +234,8 @@ pub trait Layout {
         (asks && last_of before last) ≡ false };
 
     /// A header names a sector of a track where it has a name of it, which no other sector of the track has.
-    ghost named_sector: { (r : Self) (track : TrackId) → NamesSectors (names r) (is_name_of r track) (names_sector r track) };
+    ghost named_sector: { (r : Self) (track : TrackId)
+        → NamesSectors (names r) (is_name_of r track) (names_sector r track) };
 
     /// The name of a sector tells the size that the recording's sectors have.
     ghost own_size: { (r : Self) (track : TrackId) (name : HeaderName) (s : ℕ) →
@@ -252,7 +259,8 @@ pub trait Layout {
     ghost frame_stands: { (r : Self) (track : TrackId) (s : ℕ) (bytes : List ℕ) (before : Bool) (rest : List Bool) →
         has_track r track → IsSectorNumber (lowest_sector r) (sector_count r track) s →
         AreBytes bytes → length bytes ≡ sector_bytes r →
-        FrameStands CODING.sync CODING.sync_cells header_cells (data_place r) (names_sector r track) (is_sync r) (hold r (sector_bytes r))
+        FrameStands CODING.sync CODING.sync_cells header_cells (data_place r) (names_sector r track) (is_sync r)
+        (hold r (sector_bytes r))
         (rows_cells asks (row_cells r track) before s bytes (rows r track).frame ++ rest) s bytes };
 
     /// A frame that is written ends after the cells of its header and of its data.
@@ -263,7 +271,8 @@ pub trait Layout {
         (rows_cells asks (row_cells r track) before s bytes (rows r track).frame ++ rest) };
 
     /// Where a header and data end is told by their own cells.
-    ghost tells_ends: { (r : Self) → TellsEnds header_cells (data_cells r) (header_end r) (data_end r (sector_bytes r)) };
+    ghost tells_ends: { (r : Self)
+        → TellsEnds header_cells (data_cells r) (header_end r) (data_end r (sector_bytes r)) };
 
     /// What a header names, and what data hold, is told by their own cells, and by all of these but the last seven.
     ghost tells: { (r : Self) →
@@ -275,34 +284,45 @@ pub trait Layout {
         HasOwnSyncs CODING.sync CODING.sync_cells header_cells (lowest_sector r) (sector_count r track) (names r)
         (place_of (row_size r track) (lowest_sector r) (sector_bytes r) (rows r track))
         (AreSectors (sector_count r track) (sector_bytes r))
-        (λ bytes. ring_of asks (row_cells r track) (lowest_sector r) (sector_count r track) (sector_bytes r) bytes (rows r track)) };
+        (λ bytes.
+        ring_of asks (row_cells r track) (lowest_sector r) (sector_count r track) (sector_bytes r) bytes
+        (rows r track)) };
 
     /// A header after another is a data sync, or data begin where their header ends.
-    ghost header_syncs: { (r : Self) → AreSyncsOrNone CODING.sync CODING.sync_cells (header_end r) (names r) (is_sync r) };
+    ghost header_syncs: { (r : Self)
+        → AreSyncsOrNone CODING.sync CODING.sync_cells (header_end r) (names r) (is_sync r) };
 
     /// Data begin where their header ends, or their first cells stand in a ring only where data do, and within headers.
     ghost own_data: { (r : Self) (track : TrackId) → has_track r track →
         BeginAtOnce (header_end r) (is_sync r)
-        ⊎ HasOwnDataSyncs header_cells (data_cells r) (data_place r) (lowest_sector r) (sector_count r track) (header_end r)
+        ⊎ HasOwnDataSyncs header_cells (data_cells r) (data_place r) (lowest_sector r) (sector_count r track)
+        (header_end r)
         (is_sync r) (hold r (sector_bytes r))
         (place_of (row_size r track) (lowest_sector r) (sector_bytes r) (rows r track))
         (AreSectors (sector_count r track) (sector_bytes r))
-        (λ bytes. ring_of asks (row_cells r track) (lowest_sector r) (sector_count r track) (sector_bytes r) bytes (rows r track)) };
+        (λ bytes.
+        ring_of asks (row_cells r track) (lowest_sector r) (sector_count r track) (sector_bytes r) bytes
+        (rows r track)) };
 
     /// So what cells tell of names they tell of sectors.
     ghost sector_tells: { (r : Self) (track : TrackId) →
         TellsEarly CODING.sync_cells header_cells (data_cells r) (header_end r) (data_end r (sector_bytes r))
         (names_sector r track) (is_sync r) (hold r (sector_bytes r)) } = { λ r track.
             tells_sector (names r) (is_name_of r track) (names_sector r track) (named_sector r track)
-            CODING.sync_cells header_cells (data_cells r) (header_end r) (data_end r (sector_bytes r)) (is_sync r) (hold r (sector_bytes r)) (tells r) };
+            CODING.sync_cells header_cells (data_cells r) (header_end r) (data_end r (sector_bytes r)) (is_sync r)
+            (hold r (sector_bytes r)) (tells r) };
 
     /// And all that the laws of a track's own sectors rest on is told.
     ghost track_told: { (r : Self) (track : TrackId) → has_track r track →
-        TellsTrack header_cells (data_cells r) (header_end r) (data_end r (sector_bytes r)) (is_sync r) (hold r (sector_bytes r))
-        CODING.sync CODING.sync_cells (data_place r) (lowest_sector r) (sector_count r track) (names r) (names_sector r track)
+        TellsTrack header_cells (data_cells r) (header_end r) (data_end r (sector_bytes r)) (is_sync r)
+        (hold r (sector_bytes r))
+        CODING.sync CODING.sync_cells (data_place r) (lowest_sector r) (sector_count r track) (names r)
+        (names_sector r track)
         (place_of (row_size r track) (lowest_sector r) (sector_bytes r) (rows r track))
         (AreSectors (sector_count r track) (sector_bytes r))
-        (λ bytes. ring_of asks (row_cells r track) (lowest_sector r) (sector_count r track) (sector_bytes r) bytes (rows r track))
+        (λ bytes.
+        ring_of asks (row_cells r track) (lowest_sector r) (sector_count r track) (sector_bytes r) bytes
+        (rows r track))
         (track_cells r track) (bytes_of (lowest_sector r) (sector_bytes r)) } = { λ r track known. record {
           ends = tells_ends r;
           tells = sector_tells r track;
@@ -311,7 +331,9 @@ pub trait Layout {
               CODING.sync CODING.sync_cells header_cells (lowest_sector r) (sector_count r track)
               (place_of (row_size r track) (lowest_sector r) (sector_bytes r) (rows r track))
               (AreSectors (sector_count r track) (sector_bytes r))
-              (λ bytes. ring_of asks (row_cells r track) (lowest_sector r) (sector_count r track) (sector_bytes r) bytes (rows r track))
+              (λ bytes.
+              ring_of asks (row_cells r track) (lowest_sector r) (sector_count r track) (sector_bytes r) bytes
+              (rows r track))
               (own_syncs r track known);
           leads = (own_syncs r track known).leads;
           some = some_cells sizes (reach r);
@@ -335,7 +357,8 @@ pub trait Layout {
               (lowest_sector r) (sector_count r track) (sector_bytes r) (rows r track)
               CODING.shortest CODING.longest last_zeros CODING.sync_cells header_cells sizes
               (λ m content row. row_follows r track m content row known)
-              (data_cells r) CODING.sync (data_place r) (header_end r) (data_end r (sector_bytes r)) (is_sync r) (hold r (sector_bytes r))
+              (data_cells r) CODING.sync (data_place r) (header_end r) (data_end r (sector_bytes r)) (is_sync r)
+              (hold r (sector_bytes r))
               (names_sector r track)
               bytes n from count place (track_cells r track) given number
               (λ content before rest fit long. (

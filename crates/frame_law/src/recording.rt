@@ -1,4 +1,5 @@
-ghost use Rattle.std.specs.Prelude.{◌≡◌, ℕ, ◌+◌, ◌*◌, ◌^◌, ◌<◌, ◌≤◌, ◌↔◌, List, [], Bool, false, length, drop, replicate, IfNone, IfSome, IsTrue, OnOk, OnErr, IsOk};
+ghost use Rattle.std.specs.Prelude.{◌≡◌, ℕ, ◌+◌, ◌*◌, ◌^◌, ◌<◌, ◌≤◌, ◌↔◌, List, [], Bool, false, length, drop};
+ghost use Rattle.std.specs.Prelude.{replicate, IfNone, IfSome, IsTrue, OnOk, OnErr, IsOk};
 ghost use Rattle.cell_bits.specs.Broken.{Unbroken};
 ghost use Rattle.cell_bits.specs.State.{room};
 ghost use Rattle.cell_bits.specs.Word.{Stands};
@@ -45,8 +46,8 @@ pub trait Recording {
     /// This sector of the track stands at the front of the cells, with these bytes.
     ghost sector_at: { Self → TrackId → List Bool → ℕ → List ℕ → Type 0 };
 
-    /// By the second rule, as controllers read: data with these bytes stand at this place, counted from the front of the
-    /// cells, where a header stands. It may have data at several places.
+    /// By the second rule, as controllers read: data with these bytes stand at this place, counted from the front of
+    /// the cells, where a header stands. It may have data at several places.
     ghost data_at: { Self → List Bool → ℕ → List ℕ → Type 0 };
 
     /// A header of this name stands at the front of the cells, whole and unbroken, with its check value.
@@ -55,8 +56,8 @@ pub trait Recording {
     /// A header of this name is one of this sector of the track.
     ghost is_name_of: { Self → TrackId → HeaderName → ℕ → Type 0 };
 
-    /// By the second rule: data of the size that this name tells stand at some place after the header at the front of the cells,
-    /// which has this name.
+    /// By the second rule: data of the size that this name tells stand at some place after the header at the front of
+    /// the cells, which has this name.
     ghost whole_data_of: { Self → List Bool → HeaderName → Type 0 };
 
     /// The ring of a track: its cells, from one index hole to the next, with these bytes of all its sectors.
@@ -172,8 +173,8 @@ pub trait Recording {
         ensures named { IfSome result (λ sector. is_name_of self.now track name sector) }
         ensures none { IfNone result ((sector : ℕ) → ¬ is_name_of self.now track name sector) };
 
-    /// Whether data of the size that the name tells stand by the second rule after the header at the place, which has this
-    /// name. They may have more bytes than a buffer has room for.
+    /// Whether data of the size that the name tells stand by the second rule after the header at the place, which has
+    /// this name. They may have more bytes than a buffer has room for.
     fn has_data(&self, cells: &Cells, place: usize, name: HeaderName) -> bool
         ensures { IsTrue result ↔ whole_data_of self.now (drop place cells.now.cells) name };
 
@@ -204,7 +205,8 @@ pub trait Recording {
     /// A sector's number has 8 bits, its bytes fit the buffer, and a ring is not too long.
     ghost sizes: { (r : Self) (track : TrackId) →
         has_track r track →
-        (first_sector r + sectors r track ≤ 256) × (sector_size r ≤ MOST_SECTOR_BYTES) × (ring_cells r track ≤ LONGEST_RING) };
+        (first_sector r + sectors r track ≤ 256) × (sector_size r ≤ MOST_SECTOR_BYTES)
+        × (ring_cells r track ≤ LONGEST_RING) };
 
     /// A ring has the length that `ring_cells` says.
     ghost ring_length: { (r : Self) (track : TrackId) (bytes : List ℕ) →
@@ -251,7 +253,9 @@ pub trait Recording {
         header_at r track (drop place (between_zeros (ring r track bytes) zeros from count behind)) s →
         IsOwnPlace (ring_cells r track) (sector_place r track s) zeros from place };
 
-    ghost sector_own: { (r : Self) (track : TrackId) (bytes : List ℕ) (s zeros from count behind place : ℕ) (xs : List ℕ) →
+    ghost sector_own: { (r : Self) (track : TrackId) (bytes : List ℕ) (s zeros from count behind place : ℕ)
+        (xs : List ℕ)
+        →
         has_track r track → AreSectors (sectors r track) (sector_size r) bytes →
         sector_at r track (drop place (between_zeros (ring r track bytes) zeros from count behind)) s xs →
         xs ≡ bytes_of (first_sector r) (sector_size r) bytes s };
@@ -264,16 +268,20 @@ pub trait Recording {
         named_at r cells n → named_at r cells m → n ≡ m };
 
     /// A sector's header is one that has a name of the sector, which no other sector of the track has.
-    ghost header_named: { (r : Self) (track : TrackId) → NamesSectors (named_at r) (is_name_of r track) (header_at r track) };
+    ghost header_named: { (r : Self) (track : TrackId)
+        → NamesSectors (named_at r) (is_name_of r track) (header_at r track) };
 
     /// After a header of a sector's name whole data stand exactly where the sector's do.
-    ghost named_data: { (r : Self) (track : TrackId) → NamedDataAreOwn (whole_data_of r) (is_name_of r track) (data_at r) };
+    ghost named_data: { (r : Self) (track : TrackId)
+        → NamedDataAreOwn (whole_data_of r) (is_name_of r track) (data_at r) };
 
     ghost named_alone: { (r : Self) (cells : List Bool) (name : HeaderName) →
         named_at r cells name → IsAlone (λ others. named_at r others name) cells };
 
     /// In a stretch of the repeated ring between zeros, each header is that of one of the ring's own sectors.
-    ghost no_other: { (r : Self) (track : TrackId) (bytes : List ℕ) (zeros from count behind place : ℕ) (name : HeaderName) →
+    ghost no_other: { (r : Self) (track : TrackId) (bytes : List ℕ) (zeros from count behind place : ℕ)
+        (name : HeaderName)
+        →
         has_track r track → AreSectors (sectors r track) (sector_size r) bytes →
         named_at r (drop place (between_zeros (ring r track bytes) zeros from count behind)) name →
         (s : ℕ) × header_at r track (drop place (between_zeros (ring r track bytes) zeros from count behind)) s };
@@ -296,7 +304,9 @@ pub trait Recording {
         data_at r cells place xs → IsAloneWithin START_ZEROS (λ others. data_at r others place xs) cells };
 
     /// In a stretch of the repeated ring between zeros, data after a header are its sector's.
-    ghost data_own: { (r : Self) (track : TrackId) (bytes : List ℕ) (s zeros from count behind place at : ℕ) (xs : List ℕ) →
+    ghost data_own: { (r : Self) (track : TrackId) (bytes : List ℕ) (s zeros from count behind place at : ℕ)
+        (xs : List ℕ)
+        →
         has_track r track → AreSectors (sectors r track) (sector_size r) bytes →
         header_at r track (drop place (between_zeros (ring r track bytes) zeros from count behind)) s →
         data_at r (drop place (between_zeros (ring r track bytes) zeros from count behind)) at xs →

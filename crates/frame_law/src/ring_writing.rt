@@ -19,7 +19,8 @@ pub(crate) fn append_track<L: Layout>(
 ) -> Result<(), Memory>
     requires track { L.has_track layout.now track }
     requires bytes { length bytes.now ≡ L.sector_count layout.now track * L.sector_bytes layout.now }
-    ensures { let parts = track_parts (L.lowest_sector layout.now) (L.sector_count layout.now track) (L.sector_bytes layout.now) bytes.now (L.rows layout.now track) in
+    ensures { let parts = track_parts (L.lowest_sector layout.now) (L.sector_count layout.now track)
+        (L.sector_bytes layout.now) bytes.now (L.rows layout.now track) in
         AppendsParts L.asks (L.row_cells layout.now track) cells.old cells.new parts result }
 {
     let first = layout.lowest_sector();
@@ -37,7 +38,8 @@ fn append_sectors<L: Layout>(
 ) -> Result<(), Memory>
     requires track { L.has_track layout.now track }
     requires bytes { length bytes.now ≡ L.sector_count layout.now track * L.sector_bytes layout.now }
-    ensures { let sector = sector_parts (L.lowest_sector layout.now) (L.sector_bytes layout.now) bytes.now (L.rows layout.now track) in
+    ensures { let sector =
+        sector_parts (L.lowest_sector layout.now) (L.sector_bytes layout.now) bytes.now (L.rows layout.now track) in
         let all = flat_map sector (range_with_len (L.lowest_sector layout.now) (L.sector_count layout.now track)) in
         AppendsParts L.asks (L.row_cells layout.now track) cells.old cells.new all result }
 {
@@ -64,7 +66,8 @@ fn append_rows<L: Layout>(
     requires track { L.has_track layout.now track }
     requires sector { IsSectorNumber (L.lowest_sector layout.now) (L.sector_count layout.now track) sector }
     requires bytes { (length bytes.now ≡ 0) ⊎ (length bytes.now ≡ L.sector_bytes layout.now) }
-    ensures { AppendsParts L.asks (L.row_cells layout.now track) cells.old cells.new (parts_of sector bytes.now rows.now) result }
+    ensures { AppendsParts L.asks (L.row_cells layout.now track) cells.old cells.new
+        (parts_of sector bytes.now rows.now) result }
 {
     let content = SectorBytes {
         track,

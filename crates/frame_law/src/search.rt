@@ -7,8 +7,8 @@ use crate::{FoundHeader, Reading, Recording, SectorBuffer};
 use cell_bits::Cells;
 use flux_base::{HeaderName, TrackId};
 
-/// The first place that is at least `from` and at which a header of the track stands, and its sector. None exactly where
-/// there is none.
+/// The first place that is at least `from` and at which a header of the track stands, and its sector.
+/// None exactly where there is none.
 pub fn next_header<R: Recording>(
     recording: &R,
     cells: &Cells,
@@ -16,7 +16,8 @@ pub fn next_header<R: Recording>(
     track: TrackId,
 ) -> Option<(usize, u8)>
     requires { R.has_track recording.now track }
-    ensures first { FirstAt (λ place sector. R.header_at recording.now track (drop place cells.now.cells) sector) from result }
+    ensures first { FirstAt (λ place sector. R.header_at recording.now track (drop place cells.now.cells) sector) from
+        result }
     ensures within { IfSome result (λ found. found.0 < length cells.now.cells) }
 {
     let word = recording.sync();
@@ -31,8 +32,8 @@ pub fn next_header<R: Recording>(
     None
 }
 
-/// The first place that is at least `from` and at which a header of any name stands, and whether it is one of the track's
-/// sectors or another. None exactly where there is none.
+/// The first place that is at least `from` and at which a header of any name stands, and whether it is one of the
+/// track's sectors or another. None exactly where there is none.
 pub fn next_found<R: Recording>(
     recording: &R,
     cells: &Cells,

@@ -6,9 +6,13 @@ ghost use Rattle.frame_law.specs.Frames.{DataStand, HeaderStands, SectorStands};
 ghost use Rattle.frame_law.specs.Controller.{DataStandAt, NamedHeaderStands};
 ghost use Rattle.frame_law.specs.Others.{HasNamedData, IsSectorName};
 ghost use Rattle.frame_law.specs.lemmas.Named.{named_header, own_named_data};
-ghost use Rattle.frame_law.specs.lemmas.ControllerLaws.{data_alone, data_within, named_alone, own_content, strict_has_data};
-ghost use Rattle.frame_law.specs.lemmas.FrameLaws.{frames-apart, frame_within, one_content, ring_length, ring_spaced, sector_stands};
-ghost use Rattle.frame_law.specs.lemmas.OwnFrames.{header_alone, same_sector, sector_alone, some_cells, some_header, track-header_agrees, track-header_own, track-named_own, track-no_header, track-sector_own};
+ghost use Rattle.frame_law.specs.lemmas.ControllerLaws.{data_alone, data_within, named_alone, own_content};
+ghost use Rattle.frame_law.specs.lemmas.ControllerLaws.{strict_has_data};
+ghost use Rattle.frame_law.specs.lemmas.FrameLaws.{frames-apart, frame_within, one_content, ring_length, ring_spaced};
+ghost use Rattle.frame_law.specs.lemmas.FrameLaws.{sector_stands};
+ghost use Rattle.frame_law.specs.lemmas.OwnFrames.{header_alone, same_sector, sector_alone, some_cells, some_header};
+ghost use Rattle.frame_law.specs.lemmas.OwnFrames.{track-header_agrees, track-header_own, track-named_own};
+ghost use Rattle.frame_law.specs.lemmas.OwnFrames.{track-no_header, track-sector_own};
 ghost use Rattle.track_rings.specs.OwnSectors.{between_zeros};
 ghost use Rattle.track_rings.specs.Rings.{AreSectors, bytes_of};
 ghost use Rattle.track_rings.specs.Rows.{place_of, ring_of};
@@ -36,18 +40,22 @@ impl<L: Layout> Recording for L {
     ghost has_track = { λ r track. L.has_track r track };
 
     ghost header_at = { λ r track cells s.
-        HeaderStands L.CODING.sync L.CODING.sync_cells (L.header_end r) (L.lowest_sector r) (L.sector_count r track) (L.names_sector r track) cells s };
+        HeaderStands L.CODING.sync L.CODING.sync_cells (L.header_end r) (L.lowest_sector r) (L.sector_count r track)
+        (L.names_sector r track) cells s };
 
     ghost sector_at = { λ r track cells s bytes.
         SectorStands
-        (HeaderStands L.CODING.sync L.CODING.sync_cells (L.header_end r) (L.lowest_sector r) (L.sector_count r track) (L.names_sector r track) cells s)
-        (DataStand (L.header_end r) (L.data_end r (L.sector_bytes r)) (L.is_sync r) (L.hold r (L.sector_bytes r)) cells bytes) };
+        (HeaderStands L.CODING.sync L.CODING.sync_cells (L.header_end r) (L.lowest_sector r) (L.sector_count r track)
+        (L.names_sector r track) cells s)
+        (DataStand (L.header_end r) (L.data_end r (L.sector_bytes r)) (L.is_sync r) (L.hold r (L.sector_bytes r)) cells
+        bytes) };
 
     ghost data_at = { λ r cells place bytes.
         DataStandAt (L.header_end r) (L.data_end r (L.sector_bytes r)) (L.is_sync r) (L.hold r (L.sector_bytes r))
         (NamedHeaderStands L.CODING.sync L.CODING.sync_cells (L.header_end r) (L.names r)) cells place bytes };
 
-    ghost named_at = { λ r cells name. NamedHeaderStands L.CODING.sync L.CODING.sync_cells (L.header_end r) (L.names r) cells name };
+    ghost named_at = { λ r cells name.
+        NamedHeaderStands L.CODING.sync L.CODING.sync_cells (L.header_end r) (L.names r) cells name };
 
     ghost is_name_of = { λ r track name s.
         IsSectorName (L.is_name_of r track) (L.lowest_sector r) (L.sector_count r track) name s };
@@ -59,7 +67,8 @@ impl<L: Layout> Recording for L {
         (NamedHeaderStands L.CODING.sync L.CODING.sync_cells (L.header_end r) (L.names r)) cells place bytes) };
 
     ghost ring = { λ r track bytes.
-        ring_of L.asks (L.row_cells r track) (L.lowest_sector r) (L.sector_count r track) (L.sector_bytes r) bytes (L.rows r track) };
+        ring_of L.asks (L.row_cells r track) (L.lowest_sector r) (L.sector_count r track) (L.sector_bytes r) bytes
+        (L.rows r track) };
 
     ghost sector_place = { λ r track s.
         place_of (L.row_size r track) (L.lowest_sector r) (L.sector_bytes r) (L.rows r track) s };
@@ -169,7 +178,8 @@ impl<L: Layout> Recording for L {
         cells cells s t (λ n m. L.one_name r cells n m) first.named second.named };
 
     ghost one_content = { λ r track cells s t xs ys first second.
-        one_content (L.header_end r) (L.data_end r (L.sector_bytes r)) (L.is_sync r) (L.hold r (L.sector_bytes r)) cells xs ys (L.one_content r cells)
+        one_content (L.header_end r) (L.data_end r (L.sector_bytes r)) (L.is_sync r) (L.hold r (L.sector_bytes r)) cells
+        xs ys (L.one_content r cells)
         first.content second.content };
 
     ghost header_of_sector = { λ r track cells s xs sector. sector.header };
@@ -202,7 +212,8 @@ impl<L: Layout> Recording for L {
         (L.lowest_sector r) (L.sector_count r track) (L.sector_bytes r) (L.rows r track)
         L.CODING.shortest L.CODING.longest L.last_zeros L.CODING.sync_cells L.header_cells L.sizes
         (λ n content row. L.row_follows r track n content row known)
-        (L.data_cells r) L.CODING.sync (L.data_place r) (L.header_end r) (L.data_end r (L.sector_bytes r)) (L.is_sync r) (L.hold r (L.sector_bytes r))
+        (L.data_cells r) L.CODING.sync (L.data_place r) (L.header_end r) (L.data_end r (L.sector_bytes r)) (L.is_sync r)
+        (L.hold r (L.sector_bytes r))
         (L.names_sector r track)
         bytes s from count place (L.track_cells r track) given number
         (λ content before rest fit long. (
@@ -250,7 +261,8 @@ impl<L: Layout> Recording for L {
     ghost one_name = { λ r cells n m first second. L.one_name r cells n m first.named second.named };
 
     ghost header_named = { λ r track.
-        named_header L.CODING.sync L.CODING.sync_cells (L.header_end r) (L.lowest_sector r) (L.sector_count r track) (L.names r) (L.is_name_of r track)
+        named_header L.CODING.sync L.CODING.sync_cells (L.header_end r) (L.lowest_sector r) (L.sector_count r track)
+        (L.names r) (L.is_name_of r track)
         (L.names_sector r track)
         (L.named_sector r track) };
 
@@ -262,7 +274,8 @@ impl<L: Layout> Recording for L {
         (L.hold r (L.sector_bytes r)) L.CODING.sync L.CODING.sync_cells (L.names r)
         (L.tells_ends r) (L.tells r) cells name (some_header L.sizes) header };
 
-    ghost data_is_one = { λ r cells place xs ys first second. L.one_content r cells place xs ys first.rest.held second.rest.held };
+    ghost data_is_one = { λ r cells place xs ys first second.
+        L.one_content r cells place xs ys first.rest.held second.rest.held };
 
     ghost data_size = { λ r cells place xs content. L.content_size r cells place xs content.rest.held };
 
@@ -284,16 +297,22 @@ impl<L: Layout> Recording for L {
     ghost data_own = { λ r track bytes s zeros from count behind place at xs known given header content.
         own_content L.header_cells (L.data_cells r) (L.header_end r) (L.data_end r (L.sector_bytes r)) (L.is_sync r)
         (L.hold r (L.sector_bytes r)) L.CODING.sync L.CODING.sync_cells (L.names r)
-        (L.tells_ends r) (L.tells r) (L.data_place r) (L.data_place r + L.data_cells r) (L.lowest_sector r) (L.sector_count r track)
+        (L.tells_ends r) (L.tells r) (L.data_place r) (L.data_place r + L.data_cells r) (L.lowest_sector r)
+        (L.sector_count r track)
         (place_of (L.row_size r track) (L.lowest_sector r) (L.sector_bytes r) (L.rows r track))
         (AreSectors (L.sector_count r track) (L.sector_bytes r))
-        (λ content. ring_of L.asks (L.row_cells r track) (L.lowest_sector r) (L.sector_count r track) (L.sector_bytes r) content (L.rows r track))
+        (λ content.
+        ring_of L.asks (L.row_cells r track) (L.lowest_sector r) (L.sector_count r track) (L.sector_bytes r) content
+        (L.rows r track))
         bytes given refl
-        (frames-apart (L.row_size r track) (L.lowest_sector r) (L.sector_count r track) (L.sector_bytes r) (L.rows r track)
+        (frames-apart (L.row_size r track) (L.lowest_sector r) (L.sector_count r track) (L.sector_bytes r)
+        (L.rows r track)
         (L.data_place r + L.data_cells r) (L.sums r track known).0)
         (L.header_syncs r) (L.own_data r track known)
         s at (bytes_of (L.lowest_sector r) (L.sector_bytes r) bytes s) xs
-        (drop place (between_zeros (ring_of L.asks (L.row_cells r track) (L.lowest_sector r) (L.sector_count r track) (L.sector_bytes r) bytes
+        (drop place
+        (between_zeros
+        (ring_of L.asks (L.row_cells r track) (L.lowest_sector r) (L.sector_count r track) (L.sector_bytes r) bytes
         (L.rows r track)) zeros from count behind))
         (track-header_agrees (L.track_told r track known) bytes given zeros from count behind place s header)
         content };

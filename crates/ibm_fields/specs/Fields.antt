@@ -1,12 +1,16 @@
--- The fields of the IBM formats, single density (3740) and double density (System 34): bytes that stand after a mark, and
--- their check value. A byte takes 16 cells, and is read from its data cells alone.
-use Rattle.std.specs.Prelude.{ℕ, zero, suc, ◌+◌, ◌*◌, ◌/◌, ◌%◌, ◌^◌, Bool, List, [], ◌∷◌, Option, Some, None, if◌then◌else◌, nat_le}
+-- The fields of the IBM formats, single density (3740) and double density (System 34):
+-- bytes that stand after a mark, and their check value. A byte takes 16 cells, and is
+-- read from its data cells alone.
+use Rattle.std.specs.Prelude.{ℕ, zero, suc, ◌+◌, ◌*◌, ◌/◌, ◌%◌, ◌^◌, Bool, List, [], ◌∷◌, Option}
+use Rattle.std.specs.Prelude.{Some, None, if◌then◌else◌, nat_le}
 use Rattle.flux_base.specs.declared.track.TrackId.{TrackId}
 use Rattle.cell_bits.specs.Bytes.{data_byte}
 use Rattle.flux_base.specs.declared.header_name.HeaderName.{HeaderName}
-use Rattle.flux_base.specs.declared.header_name.HeaderName.TheVariants.{Address, TrackSector, TrackSectorSide}
+use Rattle.flux_base.specs.declared.header_name.HeaderName.TheVariants.{Address, TrackSector}
+use Rattle.flux_base.specs.declared.header_name.HeaderName.TheVariants.{TrackSectorSide}
 
--- the bytes with which fields begin: that of a header, and those that open data, which are data and deleted data
+-- the bytes with which fields begin: that of a header, and those that open data,
+-- which are data and deleted data
 abbrev pub ID_BYTE : ℕ
 ID_BYTE = 0xFE
 

@@ -1,7 +1,8 @@
 ghost use Rattle.std.specs.Prelude.{◌≡◌, ℕ, ◌+◌, ◌*◌, ◌^◌, ◌<◌, ◌≤◌, ◌++◌, [], List, length};
 ghost use Rattle.check_values.specs.Crc.{crc};
 ghost use Rattle.flux_base.specs.Bounds.{MOST_SECTOR_BYTES};
-ghost use Rattle.ibm_fields.specs.Fields.{address_named, bytes_at, number_at as number_of_bytes, size_named as bytes_named};
+ghost use Rattle.ibm_fields.specs.Fields.{address_named, bytes_at, number_at as number_of_bytes};
+ghost use Rattle.ibm_fields.specs.Fields.{size_named as bytes_named};
 
 use check_values::crc16;
 use flux_base::HeaderName;
@@ -38,8 +39,8 @@ pub fn name_of(address: [u8; 4]) -> HeaderName
 /// The greatest code of a size, which is that of 8192 bytes.
 const MOST_SIZE_CODE: u8 = 6;
 
-/// How many bytes there are in the data of a header with this name, by the code of their size: 128 to 8192. None where the
-/// code is greater than 6, and where the name has none.
+/// How many bytes there are in the data of a header with this name, by the code of their size: 128 to 8192. None where
+/// the code is greater than 6, and where the name has none.
 pub fn size_named(name: HeaderName) -> Option<u16>
     ensures { result ≡ bytes_named name }
 {
@@ -86,7 +87,8 @@ pub fn check_of_bytes(frame: &CellsFrom, offset: usize, count: u16, start: u16) 
     ensures value { result ≡ crc start (bytes_at frame.now offset count) }
 
     // Where `start` is the check value of bytes before, the result is that of all of them.
-    ensures joined { (first : ℕ) (before : List ℕ) → start ≡ crc first before → result ≡ crc first (before ++ bytes_at frame.now offset count) }
+    ensures joined { (first : ℕ) (before : List ℕ) → start ≡ crc first before
+        → result ≡ crc first (before ++ bytes_at frame.now offset count) }
 {
     let count = usize::from(count);
     let fours = count / 4;

@@ -12,7 +12,8 @@ use Rattle.ibm_fields.specs.Fields.{DATA_BYTE, ID_BYTE, high_first}
 use Rattle.ibm_fm.specs.declared.layout.Mark.{Mark}
 use Rattle.ibm_fm.specs.declared.layout.Mark.TheVariants.{Index, Id, Data}
 use Rattle.ibm_fm.specs.declared.layout.Row.{Row}
-use Rattle.ibm_fm.specs.declared.layout.Row.TheVariants.{Run, Mark as AMark, Address, Content, SectorGap, TrackGap}
+use Rattle.ibm_fm.specs.declared.layout.Row.TheVariants.{Run, Mark as AMark, Address, Content}
+use Rattle.ibm_fm.specs.declared.layout.Row.TheVariants.{SectorGap, TrackGap}
 use Rattle.ibm_fm.specs.Sectors.{ID_MARK, DATA_MARK, INDEX_MARK, address_of, check_of}
 
 -- before the first sector a gap, the index mark, and a gap; or a gap alone
@@ -20,7 +21,8 @@ abbrev pub lead_in_rows : LeadIn → List Row
 lead_in_rows Indexed = Run 40 0xFF ∷ Run 6 0x00 ∷ AMark Index ∷ Run 26 0xFF ∷ []
 lead_in_rows Bare = Run 16 0xFF ∷ []
 
--- a sector's header, gap and data, between six bytes of 00 and a gap; and after the last sector the gap that fills the track
+-- a sector's header, gap and data, between six bytes of 00 and a gap; and after the last
+-- sector the gap that fills the track
 abbrev pub rows_of : TrackNumbers → Rows Row
 rows_of numbers = record {
   lead_in = lead_in_rows numbers.lead_in;
@@ -52,10 +54,12 @@ field_cells mark bytes = fm_bytes (bytes ++ high_first (check_of mark bytes))
 abbrev pub row_cells : TrackNumbers → TrackId → Bool → ℕ → List ℕ → Row → List Bool
 row_cells numbers track before sector bytes (Run count byte) = fm_bytes (replicate count byte)
 row_cells numbers track before sector bytes (AMark mark) = word_cells 16 (word_of mark)
-row_cells numbers track before sector bytes Address = field_cells ID_BYTE (address_of (code_of numbers.size) track sector)
+row_cells numbers track before sector bytes Address =
+    field_cells ID_BYTE (address_of (code_of numbers.size) track sector)
 row_cells numbers track before sector bytes Content = field_cells DATA_BYTE bytes
 row_cells numbers track before sector bytes SectorGap = fm_bytes (replicate numbers.sector_gap 0xFF)
-row_cells numbers track before sector bytes TrackGap = fm_bytes (replicate (track_gap_of numbers) 0xFF)
+row_cells numbers track before sector bytes TrackGap =
+    fm_bytes (replicate (track_gap_of numbers) 0xFF)
 
 -- how many they are: 16 for each byte and each mark
 abbrev pub row_size : TrackNumbers → ℕ → Row → ℕ

@@ -1,14 +1,16 @@
--- The sectors of single density (IBM 3740, FM): what a header names and what data hold. A byte takes 16 cells. Clock cells are looked at in marks alone.
+-- The sectors of single density (IBM 3740, FM): what a header names and what data hold. A byte
+-- takes 16 cells. Clock cells are looked at in marks alone.
 use Rattle.std.specs.Prelude.{◌≡◌, ℕ, ◌+◌, ◌*◌, Bool, List, ◌∷◌, ◌⊎◌}
 use Rattle.flux_base.specs.declared.track.TrackId.{TrackId}
 use Rattle.cell_bits.specs.Bytes.{data_byte}
 use Rattle.cell_bits.specs.Word.{Stands}
 use Rattle.check_values.specs.Crc.{crc}
 use Rattle.flux_base.specs.declared.header_name.HeaderName.{HeaderName}
-use Rattle.ibm_fields.specs.Fields.{CHECK_START, ID_BYTE, address, address_named, bytes_at, number_at, sector_name}
+use Rattle.ibm_fields.specs.Fields.{CHECK_START, ID_BYTE, address, address_named, bytes_at}
+use Rattle.ibm_fields.specs.Fields.{number_at, sector_name}
 
--- the address marks by their cells: the ID mark is the byte FE, the data mark FB and the deleted data mark F8, with clock
--- C7, and the index mark FC with clock D7
+-- the address marks by their cells: the ID mark is the byte FE, the data mark FB and the deleted
+-- data mark F8, with clock C7, and the index mark FC with clock D7
 abbrev pub ID_MARK : ℕ
 ID_MARK = 0xF57E
 
@@ -75,8 +77,10 @@ CONTENT_PLACE = 16
 abbrev pub CONTENT_CHECK_PLACE : ℕ → ℕ
 CONTENT_CHECK_PLACE size = 16 * (size + 1)
 
--- data hold so many bytes: a mark that opens them, the bytes, and the check value of the mark's byte and of them
+-- data hold so many bytes: a mark that opens them, the bytes, and the check value
+-- of the mark's byte and of them
 pub record Hold (size : ℕ) (cells : List Bool) (sync : ℕ) (bytes : List ℕ) : Type 0 where
   pub opens : DataMarkAt cells sync
   pub content : bytes_at cells (sync + CONTENT_PLACE) size ≡ bytes
-  pub check : number_at cells (sync + CONTENT_CHECK_PLACE size) ≡ check_of (data_byte cells sync) bytes
+  pub check : number_at cells (sync + CONTENT_CHECK_PLACE size)
+      ≡ check_of (data_byte cells sync) bytes

@@ -29,8 +29,8 @@ pub(crate) fn next_sync(frame: &CellsFrom, from: usize, to: usize) -> Option<usi
     Some(sync)
 }
 
-/// The least place from `from` to below `end` at which a mark stands that opens data, or `end` where there is none. What both of
-/// them begin with is sought, which no ordinary bytes have.
+/// The least place from `from` to below `end` at which a mark stands that opens data, or `end` where there is none.
+/// What both of them begin with is sought, which no ordinary bytes have.
 fn first_data_mark(frame: &CellsFrom, from: usize, end: usize) -> usize
     requires order { from ≤ end }
     requires near { end < 2 ^ 32 }

@@ -204,7 +204,9 @@ impl Layout for IbmFm {
     ghost frame_ends = { λ r track s bytes before rest known number fit long.
         record { header_ends = refl; data_ends = refl } };
 
-    ghost tells_ends = { λ r. fixed_ends 112 (DATA_CELLS (size_of r.numbers.size)) (data_long (size_of r.numbers.size)) (header_short r.numbers.size) };
+    ghost tells_ends = { λ r.
+        fixed_ends 112 (DATA_CELLS (size_of r.numbers.size)) (data_long (size_of r.numbers.size))
+        (header_short r.numbers.size) };
 
     ghost tells = { λ r. tells (size_of r.numbers.size) };
 

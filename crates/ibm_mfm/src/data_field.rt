@@ -80,8 +80,8 @@ fn opens_data(frame: &CellsFrom, sync: usize) -> bool
     first == DATA_BYTE || first == DELETED_DATA_BYTE
 }
 
-/// The check value of data whose sync stands at the place: of the marks' bytes, of the byte after these, and of so many bytes
-/// after it.
+/// The check value of data whose sync stands at the place: of the marks' bytes, of the byte after these,
+/// and of so many bytes after it.
 fn content_check(frame: &CellsFrom, sync: usize, size: u16) -> u16
     requires near { sync < 2 ^ 31 }
     requires whole { sync + DATA_CELLS size ≤ length frame.now }

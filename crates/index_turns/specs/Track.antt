@@ -1,8 +1,9 @@
 -- What contracts see of the transitions and index moments of one captured track.
-use Rattle.std.specs.Prelude.{ℕ, ◌+◌, ◌-◌, ◌≤◌, List, [], ◌∷◌, length, count_by, nat_le, slice_index}
+use Rattle.std.specs.Prelude.{ℕ, ◌+◌, ◌-◌, ◌≤◌, List, [], ◌∷◌, length, count_by, nat_le}
+use Rattle.std.specs.Prelude.{slice_index}
 
--- the times of the transitions, the index times, both in ticks, and how many more of each fit without
--- taking memory
+-- the times of the transitions, the index times, both in ticks, and how many more of
+-- each fit without taking memory
 pub record TrackState : Type 0 where
   pub times : List ℕ
   pub indexes : List ℕ
@@ -22,10 +23,12 @@ pub record KeepsRoom (old new : TrackState) : Type 0 where
   pub times : room_of_times old ≤ room_of_times new
   pub indexes : room_of_indexes old ≤ room_of_indexes new
 
--- the times of transitions that follow one another at these intervals, the first of them so long after `start`
+-- the times of transitions that follow one another at these intervals, the first
+-- of them so long after `start`
 abbrev pub times_after : ℕ → List ℕ → List ℕ
 times_after start [] = []
-times_after start (interval ∷ intervals) = (start + interval) ∷ times_after (start + interval) intervals
+times_after start (interval ∷ intervals) =
+    (start + interval) ∷ times_after (start + interval) intervals
 
 -- the turn in which a time lies: how many index times are at or before it
 abbrev pub turn_at : List ℕ → ℕ → ℕ

@@ -1,22 +1,26 @@
 -- What resolving the index positions of a stream needs of its blocks.
-use Rattle.std.specs.Prelude.{◌≡◌, ◌≤◌, ◌<◌, ℕ, ◌+◌, ◌-◌, ◌*◌, ◌^◌, ◌++◌, ◌&&◌, List, [], ◌∷◌, All, length, count_by, get_or, slice_index, nat_lt, nat_le, if◌then◌else◌, ◌⊎◌, Some}
+use Rattle.std.specs.Prelude.{◌≡◌, ◌≤◌, ◌<◌, ℕ, ◌+◌, ◌-◌, ◌*◌, ◌^◌, ◌++◌, ◌&&◌, List, [], ◌∷◌, All}
+use Rattle.std.specs.Prelude.{length, count_by, get_or, slice_index, nat_lt, nat_le, if◌then◌else◌}
+use Rattle.std.specs.Prelude.{◌⊎◌, Some}
 use Rattle.std.specs.List.Sorted.{IsNonDecreasing}
 use Rattle.kryo_stream.specs.declared.block.Block.{Block}
-use Rattle.kryo_stream.specs.declared.block.Block.TheVariants.{Flux, Overflow, Nop, StreamInfo, Index, StreamEnd, Info, End}
+use Rattle.kryo_stream.specs.declared.block.Block.TheVariants.{Flux, Overflow, Nop, StreamInfo}
+use Rattle.kryo_stream.specs.declared.block.Block.TheVariants.{Index, StreamEnd, Info, End}
 use Rattle.kryo_stream.specs.declared.block.SpelledBlock.{SpelledBlock}
 use Rattle.kryo_stream.specs.declared.block.Mark.{Mark}
 use Rattle.kryo_stream.specs.declared.fault.StreamFault.TheVariants.{IndexPosition, IndexOrder}
 use Rattle.kryo_stream.specs.declared.fault.TrackFault.{TrackFault}
 use Rattle.kryo_stream.specs.declared.fault.TrackFault.TheVariants.{ReadFault, Memory, Refused}
 use Rattle.kryo_stream.specs.Protocol.{OVERFLOW_TICKS, LIMIT}
-use Rattle.kryo_stream.specs.Stream.{is_in_stream, in_stream_bytes, total_bytes, times_of, marks, turn_fault}
+use Rattle.kryo_stream.specs.Stream.{is_in_stream, in_stream_bytes, total_bytes, times_of, marks}
+use Rattle.kryo_stream.specs.Stream.{turn_fault}
 
 -- the most Index blocks of one stream: each takes 16 bytes
 abbrev pub MOST_MARKS : ℕ
 MOST_MARKS = 262144
 
--- the stream positions after the Flux blocks, the stream positions of the Overflow blocks, the Index blocks, and how
--- many more of each fit without taking memory
+-- the stream positions after the Flux blocks, the stream positions of the Overflow blocks, the
+-- Index blocks, and how many more of each fit without taking memory
 pub record BenchState : Type 0 where
   pub ends : List ℕ
   pub overflows : List ℕ
@@ -40,7 +44,8 @@ pub record KeepsNotes (old new : BenchState) : Type 0 where
 -- no room is lower than it was
 pub record KeepsBenchRoom (old new : BenchState) : Type 0 where
   pub for_ends : length old.ends + old.spare_ends ≤ length new.ends + new.spare_ends
-  pub for_overflows : length old.overflows + old.spare_overflows ≤ length new.overflows + new.spare_overflows
+  pub for_overflows : length old.overflows + old.spare_overflows
+      ≤ length new.overflows + new.spare_overflows
   pub for_indexes : length old.indexes + old.spare_indexes ≤ length new.indexes + new.spare_indexes
 
 -- how far a block moves the stream position
@@ -54,7 +59,8 @@ end_of _ _ = []
 -- the stream positions after the Flux blocks, where the first block stands at this position
 abbrev pub flux_ends : ℕ → List SpelledBlock → List ℕ
 flux_ends position [] = []
-flux_ends position (p ∷ ps) = end_of (position + stream_step p) p.block ++ flux_ends (position + stream_step p) ps
+flux_ends position (p ∷ ps) =
+    end_of (position + stream_step p) p.block ++ flux_ends (position + stream_step p) ps
 
 abbrev pub overflow_of : ℕ → Block → List ℕ
 overflow_of position Overflow = position ∷ []
@@ -63,9 +69,11 @@ overflow_of _ _ = []
 -- the stream positions of the Overflow blocks
 abbrev pub overflow_begins : ℕ → List SpelledBlock → List ℕ
 overflow_begins position [] = []
-overflow_begins position (p ∷ ps) = overflow_of position p.block ++ overflow_begins (position + stream_step p) ps
+overflow_begins position (p ∷ ps) =
+    overflow_of position p.block ++ overflow_begins (position + stream_step p) ps
 
--- a block takes a byte at least, an Overflow one and an Index 16; a flux value is below 65536, a sample counter below 2 ^ 32
+-- a block takes a byte at least, an Overflow one and an Index 16; a flux value is below 65536,
+-- a sample counter below 2 ^ 32
 abbrev pub IsSizedBlock : Block → ℕ → Type 0
 IsSizedBlock (Flux ticks) bytes = (1 ≤ bytes) × (ticks < 2 ^ 16)
 IsSizedBlock Overflow bytes = bytes ≡ 1
@@ -86,16 +94,20 @@ pub record IsNoted (ps : List SpelledBlock) (b : BenchState) : Type 0 where
   pub overflow : b.overflows ≡ overflow_begins 0 ps
   pub index : b.indexes ≡ marks ps
 
--- the time at which the block begins that the byte at this position belongs to: that of the last transition whose block
--- ends before the byte, and 65536 ticks for each Overflow between them
+-- the time at which the block begins that the byte at this position belongs to: that of the last
+-- transition whose block ends before the byte, and 65536 ticks for each Overflow between them
 abbrev pub base_time : List ℕ → List ℕ → List ℕ → ℕ → ℕ
 base_time ends overflows times position =
     let count = count_by (λ end. nat_le end position) ends in
     get_or (0 ∷ times) count 0
-    + OVERFLOW_TICKS * count_by (λ begin. nat_le (get_or (0 ∷ ends) count 0) begin && nat_lt begin position) overflows
+    + OVERFLOW_TICKS
+    * count_by (λ begin. nat_le (get_or (0 ∷ ends) count 0) begin && nat_lt begin position)
+    overflows
 
--- a bench that holds all blocks of a stream, with the times of their transitions and the number of all in-stream bytes
-pub record IsComplete (ps : List SpelledBlock) (b : BenchState) (transitions : List ℕ) (total end : ℕ) : Type 0 where
+-- a bench that holds all blocks of a stream, with the times of their transitions and the
+-- number of all in-stream bytes
+pub record IsComplete (ps : List SpelledBlock) (b : BenchState) (transitions : List ℕ)
+    (total end : ℕ) : Type 0 where
   pub noted : IsNoted ps b
   pub times : transitions ≡ times_of ps
   pub counted : total ≡ in_stream_bytes ps

@@ -1,4 +1,5 @@
--- What a stream without a fault is when more bytes follow it, the same, and how many transitions it has at most.
+-- What a stream without a fault is when more bytes follow it, the same, and how
+-- many transitions it has at most.
 use Rattle.std.specs.Prelude.{◌≡◌, ◌≤◌, ℕ, ◌++◌, List, length, None}
 use Rattle.kryo_stream.specs.Padding.{unpadded}
 use Rattle.kryo_stream.specs.Protocol.{LIMIT}
@@ -15,11 +16,13 @@ StreamsStay = (x later : List ℕ) → first_fault x ≡ None → StaysStream x 
 
 -- the padding before a stream without a fault stays what it is
 abbrev pub PaddingStays : Type 0
-PaddingStays = (x later : List ℕ) → first_fault (unpadded x) ≡ None → unpadded (x ++ later) ≡ unpadded x ++ later
+PaddingStays = (x later : List ℕ) → first_fault (unpadded x) ≡ None
+    → unpadded (x ++ later) ≡ unpadded x ++ later
 
 -- a stream has no more transitions, and no more index times, than it may have bytes
 abbrev pub StreamsAreShort : Type 0
-StreamsAreShort = (x : List ℕ) → first_fault x ≡ None → (length (times x) ≤ LIMIT) × (length (indexes x) ≤ LIMIT)
+StreamsAreShort =
+    (x : List ℕ) → first_fault x ≡ None → (length (times x) ≤ LIMIT) × (length (indexes x) ≤ LIMIT)
 
 -- nor has it more bytes
 abbrev pub StreamsKeepTheLimit : Type 0

@@ -5,13 +5,15 @@ use Rattle.kryo_stream.specs.declared.intake.More.{More}
 use Rattle.kryo_stream.specs.declared.intake.More.TheVariants.{Taken, End}
 use Rattle.kryo_stream.specs.Reads.{SourceMoment, Takes}
 
--- what contracts see of an intake: the bytes that it holds, and whether a stream was read through it
+-- what contracts see of an intake: the bytes that it holds, and whether a stream was read through
+-- it
 pub record IntakeState : Type 0 where
   pub held : List ℕ
   pub used : Bool
 
 -- bytes that came from the source were put after the held ones
-pub record Took (IsOpen : List ℕ → Type 0) (old new : SourceMoment) (held held' : List ℕ) : Type 0 where
+pub record Took (IsOpen : List ℕ → Type 0) (old new : SourceMoment)
+    (held held' : List ℕ) : Type 0 where
   pub taken : List ℕ
   pub takes : Takes IsOpen old new taken
   pub grown : held' ≡ held ++ taken

@@ -9,7 +9,8 @@ use Rattle.kryo_stream.specs.Pieces.{piece, piece_at}
 use Rattle.kryo_stream.specs.Progress.{ReadsOn}
 use Rattle.kryo_stream.specs.Protocol.{LIMIT}
 
--- the block at the front of the bytes is this transition, wherever it stands within the limit and before the end of the stream
+-- the block at the front of the bytes is this transition, wherever it stands within the limit
+-- and before the end of the stream
 abbrev pub IsLongFlux : List ℕ → LongFlux → Type 0
 IsLongFlux bytes long = (offset counted : ℕ) → offset + long.bytes ≤ LIMIT
     → piece_at offset counted false bytes ≡ piece (Flux long.ticks) long.bytes
@@ -32,15 +33,18 @@ pub record AddsEnds (count : ℕ) (added : List ℕ) (old new : BenchState) : Ty
 
 -- what stands before the block behind so many bytes of in-stream blocks
 abbrev pub past : Before → ℕ → ℕ → Before
-past b bytes time = record { offset = b.offset + bytes; counted = b.counted + bytes; ended = b.ended; time = time }
+past b bytes time =
+    record { offset = b.offset + bytes; counted = b.counted + bytes; ended = b.ended; time = time }
 
--- the transitions in the first `place` of these bytes are kept, up to this time, whatever stands behind the bytes, and room
--- is left for one more a byte
-pub record KeepsFlux (bytes : List ℕ) (b : Before) (old new : TrackState) (bench bench' : BenchState) (place time : ℕ) : Type 0 where
+-- the transitions in the first `place` of these bytes are kept, up to this time, whatever stands
+-- behind the bytes, and room is left for one more a byte
+pub record KeepsFlux (bytes : List ℕ) (b : Before) (old new : TrackState)
+    (bench bench' : BenchState) (place time : ℕ) : Type 0 where
   pub inside : place ≤ length bytes
   pub more : length old.times ≤ length new.times
   pub fewer : length new.times ≤ length old.times + place
-  pub reading : (rest : List ℕ) → ReadsOn (length new.times - length old.times) (bytes ++ rest) (drop place bytes ++ rest)
+  pub reading : (rest : List ℕ)
+      → ReadsOn (length new.times - length old.times) (bytes ++ rest) (drop place bytes ++ rest)
       b (past b place time) old.times new.times bench bench'
   pub indexes : new.indexes ≡ old.indexes
   pub room : KeepsRoom old new

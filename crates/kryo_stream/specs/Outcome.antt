@@ -1,5 +1,7 @@
 -- What reading one track may answer, and what that says of the input.
-use Rattle.std.specs.Prelude.{◌≡◌, ◌≤◌, ◌<◌, ◌^◌, All, ◌+◌, ◌++◌, ℕ, Bool, true, false, if◌then◌else◌, List, [], length, take, drop, Option, Some, None, Result, Ok, Err}
+use Rattle.std.specs.Prelude.{◌≡◌, ◌≤◌, ◌<◌, ◌^◌, All, ◌+◌, ◌++◌, ℕ, Bool, true, false}
+use Rattle.std.specs.Prelude.{if◌then◌else◌, List, [], length, take, drop, Option, Some, None}
+use Rattle.std.specs.Prelude.{Result, Ok, Err}
 use Rattle.std.specs.List.{concat}
 use Rattle.std.specs.Io.KnownBytes.{Consumes, IsAtEnd}
 use Rattle.flux_base.specs.Counts.{RoseIf}
@@ -48,9 +50,11 @@ input_of used x = if used then unpadded x else x
 abbrev pub most_padding : Bool → ℕ
 most_padding used = if used then MOST_PADDING else 0
 
--- the call took these bytes, which with the held ones are no more than padding, a stream and an intake can be, and its
--- answer is right whatever follows them; only where it says that the input ends inside a block, nothing follows
-pub record IsRead (left left' : Option (List ℕ)) (used : Bool) (held held' : List ℕ) (flux : TrackState) (answer : Answer) : Type 0 where
+-- the call took these bytes, which with the held ones are no more than padding, a stream and an
+-- intake can be, and its answer is right whatever follows them; only where it says that the input
+-- ends inside a block, nothing follows
+pub record IsRead (left left' : Option (List ℕ)) (used : Bool) (held held' : List ℕ)
+    (flux : TrackState) (answer : Answer) : Type 0 where
   pub taken : List ℕ
   pub consumed : Consumes left left' taken
   pub few : length (held ++ taken) ≤ most_padding used + (LIMIT + MOST_HELD)
@@ -63,8 +67,8 @@ pub record IsRead (left left' : Option (List ℕ)) (used : Bool) (held held' : L
 abbrev pub DoNotTell : Bool → List ℕ → Type 0
 DoNotTell used bytes = (block : ℕ) × (first_fault (input_of used bytes) ≡ Some (block, Truncated))
 
--- each read of the source was made where the held bytes, with those that the reads before it gave, did not tell the answer;
--- without a read the count of faults stays
+-- each read of the source was made where the held bytes, with those that the reads before it gave,
+-- did not tell the answer; without a read the count of faults stays
 pub record IsReadWhereNeeded (old new : SourceMoment) (used : Bool) (held : List ℕ) : Type 0 where
   pub pieces : List (List ℕ)
   pub gave : Gives old.given new.given pieces
@@ -86,7 +90,8 @@ is_read_fault _ = false
 abbrev pub TrackCause : ℕ → ℕ → Answer → Type 0
 TrackCause before now answer = RoseIf (is_read_fault answer) before now
 
--- what a stream's limit makes of its times: a block has at most 65536 ticks a byte, and a sample counter 32 bits
+-- what a stream's limit makes of its times: a block has at most 65536 ticks a
+-- byte, and a sample counter 32 bits
 pub record IsSmall (flux : TrackState) : Type 0 where
   pub few_times : length flux.times ≤ LIMIT
   pub few_indexes : length flux.indexes ≤ 262144

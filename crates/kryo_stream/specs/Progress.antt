@@ -1,5 +1,6 @@
 -- How far the reading of a stream has come.
-use Rattle.std.specs.Prelude.{◌≡◌, ◌≤◌, ◌<◌, ◌+◌, ◌++◌, ℕ, Bool, List, [], length, drop, false, Option, Result, Ok, Err}
+use Rattle.std.specs.Prelude.{◌≡◌, ◌≤◌, ◌<◌, ◌+◌, ◌++◌, ℕ, Bool, List, [], length, drop, false}
+use Rattle.std.specs.Prelude.{Option, Result, Ok, Err}
 use Rattle.std.specs.Io.KnownBytes.{IsAtEnd}
 use Rattle.flux_base.specs.declared.outside.Failed.{Failed}
 use Rattle.kryo_stream.specs.declared.before.Before.{Before}
@@ -14,12 +15,15 @@ use Rattle.kryo_stream.specs.Reads.{SourceMoment, Takes}
 use Rattle.kryo_stream.specs.Stream.{pieces, stops_at}
 use Rattle.kryo_stream.specs.Tally.{IsTally}
 
--- these bytes were taken from the source, each piece of them where the bytes at hand did not tell the answer
+-- these bytes were taken from the source, each piece of them where the bytes
+-- at hand did not tell the answer
 abbrev pub TakesOpenly : Bool → List ℕ → SourceMoment → SourceMoment → List ℕ → Type 0
-TakesOpenly used held old new taken = Takes (λ so_far. DoNotTell used (held ++ so_far)) old new taken
+TakesOpenly used held old new taken =
+    Takes (λ so_far. DoNotTell used (held ++ so_far)) old new taken
 
 -- n blocks of x were read and noted, none of them an End, and these bytes are left
-pub record IsReading (x : List ℕ) (n : ℕ) (rest : List ℕ) (b : Before) (times : List ℕ) (bench : BenchState) : Type 0 where
+pub record IsReading (x : List ℕ) (n : ℕ) (rest : List ℕ) (b : Before) (times : List ℕ)
+    (bench : BenchState) : Type 0 where
   pub place : rest ≡ drop b.offset x
   pub inside : b.offset ≤ length x
   pub count : n ≤ b.offset
@@ -29,12 +33,15 @@ pub record IsReading (x : List ℕ) (n : ℕ) (rest : List ℕ) (b : Before) (ti
   pub noted : IsNoted (pieces x n) bench
 
 -- so many blocks more are read of what is held, whatever was read before them
-abbrev pub ReadsOn : ℕ → List ℕ → List ℕ → Before → Before → List ℕ → List ℕ → BenchState → BenchState → Type 0
-ReadsOn count rest rest' b b' times times' bench bench' = (x : List ℕ) (n : ℕ) → IsReading x n rest b times bench
+abbrev pub ReadsOn : ℕ → List ℕ → List ℕ → Before → Before → List ℕ → List ℕ → BenchState
+    → BenchState → Type 0
+ReadsOn count rest rest' b b' times times' bench bench' =
+    (x : List ℕ) (n : ℕ) → IsReading x n rest b times bench
     → IsReading x (n + count) rest' b' times' bench'
 
 -- the same of the bytes that were held and taken
-pub record Progress (old new : SourceMoment) (held held' : List ℕ) (n : ℕ) (b : Before) (times : List ℕ) (bench : BenchState)
+pub record Progress (old new : SourceMoment) (held held' : List ℕ) (n : ℕ) (b : Before)
+    (times : List ℕ) (bench : BenchState)
     : Type 0 where
   pub taken : List ℕ
   pub takes : TakesOpenly false held old new taken
@@ -45,14 +52,17 @@ abbrev pub IsBlockOpen : Before → List ℕ → List ℕ → Type 0
 IsBlockOpen b held taken = piece_at b.offset b.counted b.ended (held ++ taken) ≡ Err Truncated
 
 -- what the reading of a block says of the bytes from the block on: a block is passed over
-abbrev pub BlockSays : Before → Result BlockOrFault Failed → List ℕ → List ℕ → Option (List ℕ) → Type 0
-BlockSays b (Ok (Ok p)) bytes held' left' = (piece_at b.offset b.counted b.ended bytes ≡ Ok p) × (held' ≡ drop p.bytes bytes)
+abbrev pub BlockSays : Before → Result BlockOrFault Failed → List ℕ → List ℕ → Option (List ℕ)
+    → Type 0
+BlockSays b (Ok (Ok p)) bytes held' left' =
+    (piece_at b.offset b.counted b.ended bytes ≡ Ok p) × (held' ≡ drop p.bytes bytes)
 BlockSays b (Ok (Err fault)) bytes held' left' =
     (piece_at b.offset b.counted b.ended bytes ≡ Err fault) × (fault ≡ Truncated → IsAtEnd left')
 BlockSays b (Err _) bytes held' left' = piece_at b.offset b.counted b.ended bytes ≡ Err Truncated
 
 -- the next block was read, with what had to be taken for it
-pub record TakesBlock (old new : SourceMoment) (held held' : List ℕ) (b : Before) (answer : Result BlockOrFault Failed) : Type 0 where
+pub record TakesBlock (old new : SourceMoment) (held held' : List ℕ) (b : Before)
+    (answer : Result BlockOrFault Failed) : Type 0 where
   pub taken : List ℕ
   pub takes : Takes (IsBlockOpen b held) old new taken
   pub few : b.offset + length (held ++ taken) ≤ LIMIT + MOST_HELD
@@ -75,7 +85,8 @@ SkipSays count (Ok Taken) bytes held' left' = (count ≤ length bytes) × (held'
 SkipSays count (Ok End) bytes held' left' = (length bytes < count) × IsAtEnd left'
 SkipSays count (Err _) bytes held' left' = length bytes < count
 
-pub record IsSkipped (old new : SourceMoment) (held held' : List ℕ) (count : ℕ) (answer : Result More Failed) : Type 0 where
+pub record IsSkipped (old new : SourceMoment) (held held' : List ℕ) (count : ℕ)
+    (answer : Result More Failed) : Type 0 where
   pub taken : List ℕ
   pub takes : Takes (AreFew count held) old new taken
   pub says : SkipSays count answer (held ++ taken) held' new.left
@@ -83,12 +94,15 @@ pub record IsSkipped (old new : SourceMoment) (held held' : List ℕ) (count : �
 -- what passing over the padding came to: a stream may stand after it, or the input is padding alone
 abbrev pub PaddingSays : Bool → Result More Failed → List ℕ → List ℕ → Option (List ℕ) → Type 0
 PaddingSays used (Ok Taken) bytes held' left' =
-    ((later : List ℕ) → input_of used (bytes ++ later) ≡ held' ++ later) × (length bytes ≤ most_padding used + length held')
+    ((later : List ℕ) → input_of used (bytes ++ later) ≡ held' ++ later)
+    × (length bytes ≤ most_padding used + length held')
 PaddingSays used (Ok End) bytes held' left' =
     (input_of used bytes ≡ []) × (length bytes ≤ most_padding used) × IsAtEnd left'
-PaddingSays used (Err _) bytes held' left' = (input_of used bytes ≡ []) × (length bytes ≤ most_padding used)
+PaddingSays used (Err _) bytes held' left' =
+    (input_of used bytes ≡ []) × (length bytes ≤ most_padding used)
 
-pub record IsUnpadded (old new : SourceMoment) (used : Bool) (held held' : List ℕ) (answer : Result More Failed) : Type 0 where
+pub record IsUnpadded (old new : SourceMoment) (used : Bool) (held held' : List ℕ)
+    (answer : Result More Failed) : Type 0 where
   pub taken : List ℕ
   pub takes : TakesOpenly used held old new taken
   pub says : PaddingSays used answer (held ++ taken) held' new.left

@@ -5,17 +5,23 @@ use Rattle.std.specs.Io.KnownBytes.{Consumes}
 use Rattle.flux_base.specs.Outside.{Gives}
 use Rattle.flux_base.specs.declared.outside.Source.{Ghosts}
 
--- what contracts see of a source at one moment: the bytes still to come and what each read so far gave, where it tells
--- them, and its count of faults
+-- what contracts see of a source at one moment: the bytes still to come and what each read so far
+-- gave, where it tells them, and its count of faults
 pub record SourceMoment : Type 0 where
   pub left : Option (List ℕ)
   pub given : Option (List (List ℕ))
   pub faults : ℕ
 
 abbrev pub reads_at : {S : Type 0} → Ghosts S → S → SourceMoment
-reads_at members source = record { left = members.left source; given = members.given source; faults = members.faults source }
+reads_at members source =
+    record {
+      left = members.left source;
+      given = members.given source;
+      faults = members.faults source;
+    }
 
--- reads gave these pieces one after the other, each where all that was taken before it left the question open
+-- reads gave these pieces one after the other, each where all that was taken
+-- before it left the question open
 abbrev pub AreNeeded : (List ℕ → Type 0) → List ℕ → List (List ℕ) → Type 0
 AreNeeded IsOpen taken [] = Unit {0}
 AreNeeded IsOpen taken (piece ∷ pieces) = IsOpen taken × AreNeeded IsOpen (taken ++ piece) pieces

@@ -3,11 +3,12 @@ use Rattle.std.specs.Prelude.{◌≡◌, ℕ, Bool, false, List, [], Result, Ok,
 use Rattle.index_turns.specs.Track.{TrackState}
 use Rattle.kryo_stream.specs.declared.fault.CaptureFault.{CaptureFault}
 use Rattle.kryo_stream.specs.declared.fault.CaptureFault.TheVariants.{ReadFault, Refused}
-use Rattle.kryo_stream.specs.declared.fault.TrackFault.TheVariants.{ReadFault as TrackReadFault, Refused as TrackRefused}
+use Rattle.kryo_stream.specs.declared.fault.TrackFault.TheVariants.{ReadFault as TrackReadFault}
+use Rattle.kryo_stream.specs.declared.fault.TrackFault.TheVariants.{Refused as TrackRefused}
 use Rattle.kryo_stream.specs.Outcome.{Answer}
 
--- the bytes that were taken from a source and not used yet, whether a stream was read, and the transitions and index times
--- of the last one
+-- the bytes that were taken from a source and not used yet, whether a stream was read, and the
+-- transitions and index times of the last one
 pub record StreamRoomState : Type 0 where
   pub held : List ℕ
   pub used : Bool

@@ -1,5 +1,6 @@
 -- A stream as a list of blocks that are spelled one after another (KryoFlux stream protocol).
-use Rattle.std.specs.Prelude.{◌≡◌, ◌≤◌, ◌<◌, ◌+◌, ◌++◌, ◌↔◌, ℕ, true, List, [], ◌∷◌, length, map, flat_map, None}
+use Rattle.std.specs.Prelude.{◌≡◌, ◌≤◌, ◌<◌, ◌+◌, ◌++◌, ◌↔◌, ℕ, true, List, [], ◌∷◌, length, map}
+use Rattle.std.specs.Prelude.{flat_map, None}
 use Rattle.std.specs.List.Sorted.{IsStrictlyIncreasing}
 use Rattle.kryo_stream.specs.declared.block.Block.{Block}
 use Rattle.kryo_stream.specs.declared.block.Block.TheVariants.{Index}
@@ -7,7 +8,8 @@ use Rattle.kryo_stream.specs.declared.block.SpelledBlock.{SpelledBlock}
 use Rattle.kryo_stream.specs.Bench.{stream_step}
 use Rattle.kryo_stream.specs.Protocol.{LIMIT}
 use Rattle.kryo_stream.specs.Spelling.{spelling, IsWritable}
-use Rattle.kryo_stream.specs.Stream.{in_stream_bytes, has_ended, block_ticks, ticks, is_end, first_fault, times, indexes, stream_length}
+use Rattle.kryo_stream.specs.Stream.{in_stream_bytes, has_ended, block_ticks, ticks, is_end}
+use Rattle.kryo_stream.specs.Stream.{first_fault, times, indexes, stream_length}
 use Rattle.kryo_stream.specs.Tally.{new_times}
 use Rattle.kryo_stream.specs.WellFormed.{MayStand}
 
@@ -22,8 +24,8 @@ spelled block = record { block = block; bytes = length (spelling block) }
 abbrev pub all_spelled : List Block → List SpelledBlock
 all_spelled blocks = map spelled blocks
 
--- a block may stand between these and those: its numbers fit its fields, the protocol lets it stand there, and it is an
--- End exactly where no block stands after it
+-- a block may stand between these and those: its numbers fit its fields, the protocol lets it stand
+-- there, and it is an End exactly where no block stands after it
 pub record StandsBetween (before : List Block) (block : Block) (behind : List Block) : Type 0 where
   pub numbers : IsWritable block
   pub place : MayStand (in_stream_bytes (all_spelled before)) (has_ended (all_spelled before)) block
@@ -34,14 +36,15 @@ abbrev pub transitions_from : ℕ → List Block → List ℕ
 transitions_from time [] = []
 transitions_from time (b ∷ bs) = new_times time b ++ transitions_from (time + block_ticks b) bs
 
--- a stream position lies before the end of the first block after these, so that the in-stream byte there is that block's;
--- where no block follows them, it is their own end
+-- a stream position lies before the end of the first block after these, so that the in-stream byte
+-- there is that block's; where no block follows them, it is their own end
 abbrev pub IsHeld : List SpelledBlock → List SpelledBlock → ℕ → Type 0
 IsHeld before [] position = position ≡ in_stream_bytes before
 IsHeld before (p ∷ ps) position = position < in_stream_bytes before + stream_step p
 
--- an Index block of this position and sample counter is at this time: it counts from the time at which the block begins
--- that the in-stream byte at the position belongs to, and after the last byte from the time after all blocks
+-- an Index block of this position and sample counter is at this time: it counts from the time at
+-- which the block begins that the in-stream byte at the position belongs to, and after the last
+-- byte from the time after all blocks
 pub record IsTurnAt (blocks : List Block) (position sample time : ℕ) : Type 0 where
   pub before : List Block
   pub behind : List Block
@@ -54,20 +57,23 @@ pub record IsTurnAt (blocks : List Block) (position sample time : ℕ) : Type 0 
 abbrev pub TurnsAre : List Block → List Block → List ℕ → Type 0
 TurnsAre blocks [] turns = turns ≡ []
 TurnsAre blocks (Index position sample _ ∷ some) [] = ⊥
-TurnsAre blocks (Index position sample _ ∷ some) (turn ∷ turns) = IsTurnAt blocks position sample turn × TurnsAre blocks some turns
+TurnsAre blocks (Index position sample _ ∷ some) (turn ∷ turns) =
+    IsTurnAt blocks position sample turn × TurnsAre blocks some turns
 TurnsAre blocks (_ ∷ some) turns = TurnsAre blocks some turns
 
--- the blocks obey the protocol's order: each may stand where it stands, they take no more bytes than the longest stream, and
--- their Index blocks, at least two, are at these times, which rise
+-- the blocks obey the protocol's order: each may stand where it stands, they take no more bytes
+-- than the longest stream, and their Index blocks, at least two, are at these times, which rise
 pub record AreInOrder (blocks : List Block) (turns : List ℕ) : Type 0 where
   pub limit : length (spellings blocks) ≤ LIMIT
-  pub each : (before : List Block) (block : Block) (behind : List Block) → before ++ block ∷ behind ≡ blocks
+  pub each : (before : List Block) (block : Block) (behind : List Block)
+      → before ++ block ∷ behind ≡ blocks
       → StandsBetween before block behind
   pub turns_are : TurnsAre blocks blocks turns
   pub enough : 2 ≤ length turns
   pub order : IsStrictlyIncreasing turns
 
--- the bytes are one stream without a fault, with these transitions and index times, and nothing stands after it
+-- the bytes are one stream without a fault, with these transitions and index
+-- times, and nothing stands after it
 pub record IsStreamOf (bytes transitions turns : List ℕ) : Type 0 where
   pub no_fault : first_fault bytes ≡ None
   pub transitions_are : times bytes ≡ transitions

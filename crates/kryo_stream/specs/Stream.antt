@@ -1,13 +1,17 @@
 -- A stream as a whole: its blocks, its times, and its first fault (KryoFlux stream protocol).
-use Rattle.std.specs.Prelude.{ℕ, zero, suc, ◌+◌, ◌-◌, ◌++◌, ◌&&◌, Bool, true, false, List, [], ◌∷◌, length, take, drop, map, sum_by, find, get_or, slice_get, nat_lt, nat_le, if◌then◌else◌, Option, Some, None, unwrap_or, Ok, Err}
+use Rattle.std.specs.Prelude.{ℕ, zero, suc, ◌+◌, ◌-◌, ◌++◌, ◌&&◌, Bool, true, false, List, [], ◌∷◌}
+use Rattle.std.specs.Prelude.{length, take, drop, map, sum_by, find, get_or, slice_get, nat_lt}
+use Rattle.std.specs.Prelude.{nat_le, if◌then◌else◌, Option, Some, None, unwrap_or, Ok, Err}
 use Rattle.std.specs.List.{list_any, filter_map, range_with_len}
 use Rattle.std.specs.Option.{option_and_then, option_or}
 use Rattle.kryo_stream.specs.declared.block.Block.{Block}
-use Rattle.kryo_stream.specs.declared.block.Block.TheVariants.{Flux, Overflow, Nop, StreamInfo, Index, StreamEnd, Info, End}
+use Rattle.kryo_stream.specs.declared.block.Block.TheVariants.{Flux, Overflow, Nop, StreamInfo}
+use Rattle.kryo_stream.specs.declared.block.Block.TheVariants.{Index, StreamEnd, Info, End}
 use Rattle.kryo_stream.specs.declared.block.Mark.{Mark}
 use Rattle.kryo_stream.specs.declared.block.SpelledBlock.{SpelledBlock}
 use Rattle.kryo_stream.specs.declared.fault.StreamFault.{StreamFault}
-use Rattle.kryo_stream.specs.declared.fault.StreamFault.TheVariants.{IndexPosition, IndexOrder, NoTurn}
+use Rattle.kryo_stream.specs.declared.fault.StreamFault.TheVariants.{IndexPosition, IndexOrder}
+use Rattle.kryo_stream.specs.declared.fault.StreamFault.TheVariants.{NoTurn}
 use Rattle.kryo_stream.specs.Protocol.{OVERFLOW_TICKS}
 use Rattle.kryo_stream.specs.Pieces.{BlockOrFault, piece_at}
 
@@ -61,7 +65,8 @@ abbrev pub times_of : List SpelledBlock → List ℕ
 times_of ps = filter_map (time_at ps) (range_with_len 0 (length ps))
 
 abbrev pub mark_of : ℕ → Block → Option Mark
-mark_of number (Index position sample _) = Some (record { number = number; position = position; sample = sample })
+mark_of number (Index position sample _) =
+    Some (record { number = number; position = position; sample = sample })
 mark_of number _ = None
 
 abbrev pub mark_at : List SpelledBlock → ℕ → Option Mark
@@ -74,13 +79,17 @@ marks ps = filter_map (mark_at ps) (range_with_len 0 (length ps))
 -- the in-stream byte at this stream position belongs to block number j
 abbrev pub holds_byte : List SpelledBlock → ℕ → ℕ → Bool
 holds_byte ps position j =
-    nat_le (in_stream_bytes (take j ps)) position && nat_lt position (in_stream_bytes (take (j + 1) ps))
+    nat_le (in_stream_bytes (take j ps)) position
+    && nat_lt position (in_stream_bytes (take (j + 1) ps))
 
--- the number of the block that the byte belongs to, and after the last byte the number of all blocks
+-- the number of the block that the byte belongs to, and after the last
+-- byte the number of all blocks
 abbrev pub block_of_byte : List SpelledBlock → ℕ → ℕ
-block_of_byte ps position = unwrap_or (find (holds_byte ps position) (range_with_len 0 (length ps))) (length ps)
+block_of_byte ps position =
+    unwrap_or (find (holds_byte ps position) (range_with_len 0 (length ps))) (length ps)
 
--- an index time counts from the time at which the block begins that the Index's position names (our own choice)
+-- an index time counts from the time at which the block begins that the Index's
+-- position names (our own choice)
 abbrev pub index_time : List SpelledBlock → Mark → ℕ
 index_time ps mark = ticks (take (block_of_byte ps mark.position) ps) + mark.sample
 
@@ -88,12 +97,13 @@ index_time ps mark = ticks (take (block_of_byte ps mark.position) ps) + mark.sam
 abbrev pub indexes_of : List SpelledBlock → List ℕ
 indexes_of ps = map (index_time ps) (marks ps)
 
--- the fault of Index number k, which is this one: its position is past the stream's end, or else its time is not above
--- that of the Index before it
+-- the fault of Index number k, which is this one: its position is past the stream's end, or else
+-- its time is not above that of the Index before it
 abbrev pub mark_fault : List SpelledBlock → ℕ → Mark → Option (ℕ × StreamFault)
 mark_fault ps k mark =
     if nat_lt (in_stream_bytes ps) mark.position then Some (mark.number, IndexPosition)
-    else (if nat_lt 0 k && nat_le (index_time ps mark) (get_or (indexes_of ps) (k - 1) 0) then Some (mark.number, IndexOrder)
+    else (if nat_lt 0 k && nat_le (index_time ps mark) (get_or (indexes_of ps) (k - 1) 0)
+    then Some (mark.number, IndexOrder)
     else None)
 
 abbrev pub mark_fault_at : List SpelledBlock → ℕ → Option (ℕ × StreamFault)
@@ -103,8 +113,8 @@ mark_fault_at ps k = option_and_then (mark_fault ps k) (slice_get (marks ps) k)
 abbrev pub mark_faults : List SpelledBlock → List (ℕ × StreamFault)
 mark_faults ps = filter_map (mark_fault_at ps) (range_with_len 0 (length (marks ps)))
 
--- what is wrong with the turns of a stream whose blocks have no fault: the first fault of an Index block, or else fewer
--- than two Index blocks, which is a fault of the End block
+-- what is wrong with the turns of a stream whose blocks have no fault: the first fault of an Index
+-- block, or else fewer than two Index blocks, which is a fault of the End block
 abbrev pub turn_fault : List SpelledBlock → Option (ℕ × StreamFault)
 turn_fault ps = option_or (slice_get (mark_faults ps) 0)
     (if nat_lt (length (marks ps)) 2 then Some (length ps - 1, NoTurn) else None)
@@ -151,7 +161,8 @@ abbrev pub fault_at : List ℕ → ℕ → BlockOrFault → Option (ℕ × Strea
 fault_at x n (Ok _) = turn_fault (pieces x (n + 1))
 fault_at x n (Err fault) = Some (n, fault)
 
--- the first fault of x, with its block's number: of a block up to the first End, or else of its turns
+-- the first fault of x, with its block's number: of a block up to the
+-- first End, or else of its turns
 abbrev pub first_fault : List ℕ → Option (ℕ × StreamFault)
 first_fault x = fault_at x (last_block x) (piece_behind x (pieces x (last_block x)))
 

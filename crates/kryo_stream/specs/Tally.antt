@@ -1,11 +1,13 @@
 -- What a reader keeps of the blocks so far.
-use Rattle.std.specs.Prelude.{◌≡◌, ◌≤◌, ℕ, ◌+◌, ◌*◌, ◌||◌, false, List, [], ◌∷◌, length, All, if◌then◌else◌}
+use Rattle.std.specs.Prelude.{◌≡◌, ◌≤◌, ℕ, ◌+◌, ◌*◌, ◌||◌, false, List, [], ◌∷◌, length, All}
+use Rattle.std.specs.Prelude.{if◌then◌else◌}
 use Rattle.kryo_stream.specs.declared.block.Block.{Block}
 use Rattle.kryo_stream.specs.declared.block.Block.TheVariants.{Flux}
 use Rattle.kryo_stream.specs.declared.block.SpelledBlock.{SpelledBlock}
 use Rattle.kryo_stream.specs.declared.before.Before.{Before}
 use Rattle.kryo_stream.specs.Protocol.{OVERFLOW_TICKS, LIMIT}
-use Rattle.kryo_stream.specs.Stream.{total_bytes, is_in_stream, in_stream_bytes, is_stream_end, has_ended, block_ticks, ticks, times_of}
+use Rattle.kryo_stream.specs.Stream.{total_bytes, is_in_stream, in_stream_bytes, is_stream_end}
+use Rattle.kryo_stream.specs.Stream.{has_ended, block_ticks, ticks, times_of}
 
 -- what stands before the first block
 abbrev pub at_start : Before

@@ -1,4 +1,5 @@
-ghost use Rattle.std.specs.Prelude.{◌≡◌, ◌≤◌, ◌<◌, ◌+◌, ◌-◌, ◌^◌, ◌++◌, ℕ, List, [], ◌∷◌, length, All, OnOk, OnErr, IfErr, IsOk, count_by, get_or, nat_lt, nat_le, slice_index, vec_len};
+ghost use Rattle.std.specs.Prelude.{◌≡◌, ◌≤◌, ◌<◌, ◌+◌, ◌-◌, ◌^◌, ◌++◌, ℕ, List, [], ◌∷◌, length, All, OnOk, OnErr};
+ghost use Rattle.std.specs.Prelude.{IfErr, IsOk, count_by, get_or, nat_lt, nat_le, slice_index, vec_len};
 ghost use Rattle.std.specs.List.{range_with_len};
 ghost use Rattle.std.specs.List.Sorted.{IsNonDecreasing};
 ghost use Rattle.std.specs.Vec.{vec_capacity};
@@ -6,7 +7,9 @@ ghost use Rattle.kryo_stream.specs.Protocol.{LIMIT};
 ghost use Rattle.kryo_stream.specs.Stream.{in_stream_bytes, total_bytes, turn_fault, indexes_of};
 ghost use Rattle.index_turns.specs.Track.{KeepsRoom};
 ghost use Rattle.kryo_stream.specs.Keeping.{AddsEnds};
-ghost use Rattle.kryo_stream.specs.Bench.{HasFullBench, KeepsBenchRoom, KeepsNotes, IsNoted, IsSized, IsComplete, IsSearchable, TurnCause, PlaceCause, base_time, mark_time, end_of, overflow_of};
+ghost use Rattle.kryo_stream.specs.Bench.{HasFullBench, KeepsBenchRoom, KeepsNotes, IsNoted, IsSized, IsComplete};
+ghost use Rattle.kryo_stream.specs.Bench.{IsSearchable, TurnCause, PlaceCause, base_time, mark_time, end_of};
+ghost use Rattle.kryo_stream.specs.Bench.{overflow_of};
 
 use crate::block::{Block, Mark, SpelledBlock};
 use crate::fault::{StreamFault, TrackFault};
@@ -175,8 +178,10 @@ impl StreamBench {
         piece: &SpelledBlock,
     ) -> Result<(), Memory>
         requires end { position + piece.now.bytes < 2 ^ 32 }
-        ensures ends { OnOk result (self.new.ends ≡ self.old.ends ++ end_of (position + piece.now.bytes) piece.now.block) }
-        ensures overflows { OnOk result (self.new.overflows ≡ self.old.overflows ++ overflow_of position piece.now.block) }
+        ensures ends { OnOk result
+            (self.new.ends ≡ self.old.ends ++ end_of (position + piece.now.bytes) piece.now.block) }
+        ensures overflows { OnOk result
+            (self.new.overflows ≡ self.old.overflows ++ overflow_of position piece.now.block) }
         ensures indexes { self.new.indexes ≡ self.old.indexes }
         ensures room { KeepsBenchRoom self.old self.new }
         ensures succeeds { 0 < self.old.spare_ends → 0 < self.old.spare_overflows → IsOk result }
@@ -205,7 +210,8 @@ impl StreamBench {
             → turn_fault ps ≡ None) }
         ensures indexes { OnOk result ((ps : List SpelledBlock) → IsComplete ps self.now flux.old.times total end
             → flux.new.indexes ≡ indexes_of ps) }
-        ensures cause { IfErr result (λ fault. (ps : List SpelledBlock) → IsComplete ps self.now flux.old.times total end
+        ensures cause { IfErr result
+            (λ fault. (ps : List SpelledBlock) → IsComplete ps self.now flux.old.times total end
             → TurnCause ps flux.old.spare_indexes fault) }
         ensures times { flux.new.times ≡ flux.old.times }
         ensures room { KeepsRoom flux.old flux.new }
@@ -228,12 +234,14 @@ impl StreamBench {
     /// Appends the index time of the next Index block.
     fn place(&self, mark: Mark, total: u32, flux: &mut TrackFlux) -> Result<(), TrackFault>
         requires searchable { IsSearchable self.now flux.old.times }
-        ensures indexes { OnOk result (flux.new.indexes ≡ flux.old.indexes ++ mark_time self.now flux.old.times mark ∷ []) }
+        ensures indexes { OnOk result
+            (flux.new.indexes ≡ flux.old.indexes ++ mark_time self.now flux.old.times mark ∷ []) }
         ensures within { OnOk result (mark.position ≤ total) }
         ensures rises { OnOk result (0 < length flux.old.indexes
             → slice_index flux.old.indexes (length flux.old.indexes - 1) < mark_time self.now flux.old.times mark) }
         ensures spare { OnOk result (flux.old.spare_indexes ≤ flux.new.spare_indexes + 1) }
-        ensures cause { IfErr result (PlaceCause self.now flux.old.times flux.old.indexes total mark flux.old.spare_indexes) }
+        ensures cause { IfErr result
+            (PlaceCause self.now flux.old.times flux.old.indexes total mark flux.old.spare_indexes) }
         ensures times { flux.new.times ≡ flux.old.times }
         ensures room { KeepsRoom flux.old flux.new }
     {

@@ -1,9 +1,11 @@
-ghost use Rattle.std.specs.Prelude.{◌≡◌, ◌≤◌, ◌<◌, ◌+◌, ◌^◌, ℕ, false, length, take, drop, get_or, slice_index, All, IfOk, IfSome, IfNone, Some, Ok, true};
+ghost use Rattle.std.specs.Prelude.{◌≡◌, ◌≤◌, ◌<◌, ◌+◌, ◌^◌, ℕ, false, length, take, drop, get_or, slice_index, All};
+ghost use Rattle.std.specs.Prelude.{IfOk, IfSome, IfNone, Some, Ok, true};
 ghost use Rattle.byteorder.specs.Endian.{little_number};
 ghost use Rattle.kryo_stream.specs.Bench.{IsSized};
 ghost use Rattle.kryo_stream.specs.Blocks.{IsShortFlux};
 ghost use Rattle.kryo_stream.specs.Keeping.{IsLongFlux};
-ghost use Rattle.kryo_stream.specs.Pieces.{has, in_stream_piece, info_piece, stream_info_piece, index_piece, stream_end_piece, out_of_band_piece, piece_at, IsText};
+ghost use Rattle.kryo_stream.specs.Pieces.{has, in_stream_piece, info_piece, stream_info_piece, index_piece};
+ghost use Rattle.kryo_stream.specs.Pieces.{stream_end_piece, out_of_band_piece, piece_at, IsText};
 ghost use Rattle.kryo_stream.specs.Stream.{is_in_stream};
 ghost use Rattle.kryo_stream.specs.Tally.{MayFollow};
 
@@ -45,8 +47,8 @@ pub fn front(before: &Before, bytes: &[u8]) -> Result<SpelledBlock, StreamFault>
     in_stream(before.offset, bytes)
 }
 
-/// How many of the bytes may be those of transitions: the ones within the limit, and none where another block comes first
-/// or the stream has ended.
+/// How many of the bytes may be those of transitions: the ones within the limit, and none where another block comes
+/// first or the stream has ended.
 pub fn flux_reach(before: &Before, bytes: &[u8]) -> usize
     requires offset { before.now.offset ≤ 4194304 }
     ensures inside { result ≤ length bytes.now }
@@ -62,8 +64,8 @@ pub fn flux_reach(before: &Before, bytes: &[u8]) -> usize
     }
 }
 
-/// How many transitions of one byte the bytes begin with, of which the first is one: up to 16, which are all looked at at
-/// once. Fewer than 16 bytes are taken one by one.
+/// How many transitions of one byte the bytes begin with, of which the first is one: up to 16, which are all looked at
+/// at once. Fewer than 16 bytes are taken one by one.
 #[inline(always)]
 pub fn short_row(bytes: &[u8]) -> usize
     requires first { 14 ≤ get_or bytes.now 0 0 }
@@ -116,7 +118,8 @@ pub fn long_flux(bytes: &[u8]) -> Option<LongFlux>
 #[inline(always)]
 pub fn whole_block(before: &Before, bytes: &[u8]) -> Option<SpelledBlock>
     requires offset { before.now.offset ≤ 4194304 }
-    ensures reading { IfSome result (λ piece. piece_at before.now.offset before.now.counted before.now.ended bytes.now ≡ Ok piece) }
+    ensures reading { IfSome result
+        (λ piece. piece_at before.now.offset before.now.counted before.now.ended bytes.now ≡ Ok piece) }
     ensures follows { IfSome result (MayFollow before.now) }
     ensures inside { IfSome result (λ piece. piece.bytes ≤ length bytes.now) }
     ensures sized { IfSome result IsSized }
@@ -204,7 +207,9 @@ fn in_stream(offset: u32, bytes: &[u8]) -> Result<SpelledBlock, StreamFault>
 fn out_of_band(before: &Before, bytes: &[u8]) -> Result<SpelledBlock, StreamFault>
     requires offset { before.now.offset ≤ 4194304 }
     requires header { 4 ≤ length bytes.now }
-    ensures value { result ≡ out_of_band_piece before.now.offset before.now.counted (slice_index bytes.now 1) (little_number 2 (drop 2 bytes.now)) bytes.now }
+    ensures value { result
+        ≡ out_of_band_piece before.now.offset before.now.counted (slice_index bytes.now 1)
+        (little_number 2 (drop 2 bytes.now)) bytes.now }
     ensures sized { IfOk result IsSized }
 {
     let size = LittleEndian::read_u16(&bytes[2..]);

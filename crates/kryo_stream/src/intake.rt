@@ -1,4 +1,5 @@
-ghost use Rattle.std.specs.Prelude.{◌≡◌, ℕ, ◌+◌, ◌-◌, ◌≤◌, ◌<◌, [], length, take, drop, false, true, is_err, IfOk, OnErr};
+ghost use Rattle.std.specs.Prelude.{◌≡◌, ℕ, ◌+◌, ◌-◌, ◌≤◌, ◌<◌, [], length, take, drop, false, true, is_err, IfOk};
+ghost use Rattle.std.specs.Prelude.{OnErr};
 ghost use Rattle.std.specs.Io.KnownBytes.{ReadConsumes};
 ghost use Rattle.flux_base.specs.Counts.{Counts};
 ghost use Rattle.flux_base.specs.Outside.{GivesPiece};
@@ -104,12 +105,14 @@ impl Intake {
     /// Takes at least one more byte from the source, unless that has ended or fails.
     pub(crate) fn more<S: Source>(&mut self, source: &mut S) -> Result<More, Failed>
         requires { length self.old.held < 4096 }
-        ensures took { Took IsNothing (reads_at S.Source source.old) (reads_at S.Source source.new) self.old.held self.new.held }
+        ensures took { Took IsNothing (reads_at S.Source source.old) (reads_at S.Source source.new) self.old.held
+            self.new.held }
         ensures more { IfOk result (λ more. IsMore more self.old.held self.new.held (S.left source.new)) }
         ensures kept { OnErr result (self.new.held ≡ self.old.held) }
         ensures bound { length self.new.held ≤ 4096 }
         ensures used { self.new.used ≡ self.old.used }
-        ensures counts { Counts (is_err result) (source_counts S.Source source.old) (source_counts S.Source source.new) }
+        ensures counts { Counts (is_err result) (source_counts S.Source source.old)
+            (source_counts S.Source source.new) }
     {
         let held = self.end - self.start;
         let outcome = take_more(&mut self.buffer, self.start, self.end, source);

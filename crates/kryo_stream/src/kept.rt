@@ -20,11 +20,12 @@ pub struct Kept {
     pub time: u64,
 }
 
-/// Keeps the transitions that the bytes begin with, as far as they stand there whole. The track and the bench, which have
-/// room for one a byte, are handed over by value and given back, so that the places and the lengths of their lists stay in
-/// registers.
+/// Keeps the transitions that the bytes begin with, as far as they stand there whole. The track and the bench,
+/// which have room for one a byte, are handed over by value and given back, so that the places and the lengths of
+/// their lists stay in registers.
 pub fn keep_flux(before: &Before, flux: TrackFlux, bench: StreamBench, bytes: &[u8]) -> Kept
-    requires read { (x : List ℕ) × (n : ℕ) × (rest : List ℕ) × IsReading x n (bytes.now ++ rest) before.now flux.times bench }
+    requires read { (x : List ℕ) × (n : ℕ) × (rest : List ℕ)
+        × IsReading x n (bytes.now ++ rest) before.now flux.times bench }
     requires going { before.now.ended ≡ false }
     requires limit { before.now.offset + length bytes.now ≤ 4194304 }
     requires room { length bytes.now ≤ flux.spare_times }
@@ -61,7 +62,8 @@ impl Kept {
         requires room { length row.now ≤ self.old.flux.spare_times }
         requires bench { length row.now ≤ self.old.bench.spare_ends }
         ensures flux { AddsTimes (length row.now) (times_after self.old.time row.now) self.old.flux self.new.flux }
-        ensures bench { AddsEnds (length row.now) (range_with_len (begin + self.old.place + 1) (length row.now)) self.old.bench self.new.bench }
+        ensures bench { AddsEnds (length row.now) (range_with_len (begin + self.old.place + 1) (length row.now))
+            self.old.bench self.new.bench }
         ensures place { self.new.place ≡ self.old.place + length row.now }
         ensures time { self.new.time ≡ self.old.time + sum row.now }
     {
@@ -82,7 +84,8 @@ impl Kept {
         requires room { length run.now ≤ self.old.flux.spare_times }
         requires bench { length run.now ≤ self.old.bench.spare_ends }
         ensures flux { AddsTimes (length run.now) (times_after self.old.time run.now) self.old.flux self.new.flux }
-        ensures bench { AddsEnds (length run.now) (range_with_len (begin + self.old.place + 1) (length run.now)) self.old.bench self.new.bench }
+        ensures bench { AddsEnds (length run.now) (range_with_len (begin + self.old.place + 1) (length run.now))
+            self.old.bench self.new.bench }
         ensures place { self.new.place ≡ self.old.place + length run.now }
         ensures time { self.new.time ≡ self.old.time + sum run.now }
     {

@@ -1,4 +1,5 @@
-ghost use Rattle.std.specs.Prelude.{◌≡◌, ℕ, List, ◌+◌, ◌^◌, ◌≤◌, ◌<◌, ◌++◌, [], ◌∷◌, length, Some, All, is_err, IfOk, OnOk, OnErr, IsOk, Err, true, false};
+ghost use Rattle.std.specs.Prelude.{◌≡◌, ℕ, List, ◌+◌, ◌^◌, ◌≤◌, ◌<◌, ◌++◌, [], ◌∷◌, length, Some, All, is_err, IfOk};
+ghost use Rattle.std.specs.Prelude.{OnOk, OnErr, IsOk, Err, true, false};
 ghost use Rattle.std.specs.Io.KnownBytes.{IsAtEnd};
 ghost use Rattle.flux_base.specs.Counts.{Counts};
 ghost use Rattle.flux_base.specs.World.{source_counts};
@@ -6,9 +7,11 @@ ghost use Rattle.index_turns.specs.Track.{KeepsRoom};
 ghost use Rattle.kryo_stream.specs.declared.fault.StreamFault.TheVariants.{Truncated};
 ghost use Rattle.kryo_stream.specs.Bench.{HasFullBench, KeepsBenchRoom, IsNoted, IsSized};
 ghost use Rattle.kryo_stream.specs.Held.{Took};
-ghost use Rattle.kryo_stream.specs.Outcome.{IsRead, IsReadOfInput, IsReadWhereNeeded, IsNotMemory, TrackCause, is_read_fault, HasFullRoom, IsSmall, input_of};
+ghost use Rattle.kryo_stream.specs.Outcome.{IsRead, IsReadOfInput, IsReadWhereNeeded, IsNotMemory, TrackCause};
+ghost use Rattle.kryo_stream.specs.Outcome.{is_read_fault, HasFullRoom, IsSmall, input_of};
 ghost use Rattle.kryo_stream.specs.Pieces.{piece_at, IsText};
-ghost use Rattle.kryo_stream.specs.Progress.{TakesOpenly, IsReading, ReadsOn, IsBlockOpen, TakesBlock, IsSkipped, IsUnpadded};
+ghost use Rattle.kryo_stream.specs.Progress.{TakesOpenly, IsReading, ReadsOn, IsBlockOpen, TakesBlock, IsSkipped};
+ghost use Rattle.kryo_stream.specs.Progress.{IsUnpadded};
 ghost use Rattle.kryo_stream.specs.Reads.{reads_at};
 ghost use Rattle.kryo_stream.specs.Stream.{in_stream_bytes, total_bytes};
 ghost use Rattle.kryo_stream.specs.Tally.{IsWithin, MayFollow, new_times};
@@ -38,13 +41,17 @@ pub fn read_track<S: Source>(
     bench: &mut StreamBench,
 ) -> Result<(), TrackFault>
     // What the answer says, whether the source tells its bytes or not, and of the input where it does.
-    ensures read { IsRead (S.left source.old) (S.left source.new) intake.old.used intake.old.held intake.new.held flux.new result }
-    ensures told { (bytes : List ℕ) → S.left source.old ≡ Some bytes → IsReadOfInput (input_of intake.old.used (intake.old.held ++ bytes)) (S.left source.new) intake.new.held flux.new result }
+    ensures read { IsRead (S.left source.old) (S.left source.new) intake.old.used intake.old.held intake.new.held
+        flux.new result }
+    ensures told { (bytes : List ℕ) → S.left source.old ≡ Some bytes
+        → IsReadOfInput (input_of intake.old.used (intake.old.held ++ bytes)) (S.left source.new) intake.new.held
+        flux.new result }
     ensures used { intake.new.used ≡ true }
     ensures bound { length intake.new.held ≤ 4096 }
 
     // The source is read only where the bytes at hand do not tell the answer.
-    ensures needed { IsReadWhereNeeded (reads_at S.Source source.old) (reads_at S.Source source.new) intake.old.used intake.old.held }
+    ensures needed { IsReadWhereNeeded (reads_at S.Source source.old) (reads_at S.Source source.new) intake.old.used
+        intake.old.held }
 
     // The track is as small as the limit of a stream makes it.
     ensures few_times { length flux.new.times ≤ 4194304 }
@@ -61,7 +68,8 @@ pub fn read_track<S: Source>(
 
     ensures later { S.faults source.old ≤ S.faults source.new }
     ensures cause { TrackCause (S.faults source.old) (S.faults source.new) result }
-    ensures counts { Counts (is_read_fault result) (source_counts S.Source source.old) (source_counts S.Source source.new) }
+    ensures counts { Counts (is_read_fault result) (source_counts S.Source source.old)
+        (source_counts S.Source source.new) }
 {
     flux.clear();
     match begin(source, intake) {
@@ -86,7 +94,8 @@ pub fn read_track<S: Source>(
 /// Notes that a stream is read through the intake, and passes over the padding in front of it. `End` says
 /// that the input is nothing but padding.
 fn begin<S: Source>(source: &mut S, intake: &mut Intake) -> Result<More, Failed>
-    ensures unpadded { IsUnpadded (reads_at S.Source source.old) (reads_at S.Source source.new) intake.old.used intake.old.held intake.new.held result }
+    ensures unpadded { IsUnpadded (reads_at S.Source source.old) (reads_at S.Source source.new) intake.old.used
+        intake.old.held intake.new.held result }
     ensures used { intake.new.used ≡ true }
     ensures bound { length intake.new.held ≤ 4096 }
     ensures counts { Counts (is_err result) (source_counts S.Source source.old) (source_counts S.Source source.new) }
@@ -100,7 +109,8 @@ fn begin<S: Source>(source: &mut S, intake: &mut Intake) -> Result<More, Failed>
 
 /// Passes over the padding at the front of the input.
 fn pass_padding<S: Source>(source: &mut S, intake: &mut Intake) -> Result<More, Failed>
-    ensures unpadded { IsUnpadded (reads_at S.Source source.old) (reads_at S.Source source.new) true intake.old.held intake.new.held result }
+    ensures unpadded { IsUnpadded (reads_at S.Source source.old) (reads_at S.Source source.new) true intake.old.held
+        intake.new.held result }
     ensures used { intake.new.used ≡ intake.old.used }
     ensures bound { length intake.new.held ≤ 4096 }
     ensures counts { Counts (is_err result) (source_counts S.Source source.old) (source_counts S.Source source.new) }
@@ -132,19 +142,23 @@ fn read_stream<S: Source>(
     requires indexes { flux.old.indexes ≡ [] }
     requires bound { length intake.old.held ≤ 4096 }
     ensures small { OnOk result (IsSmall flux.new) }
-    ensures takes { (taken : List ℕ) × TakesOpenly false intake.old.held (reads_at S.Source source.old) (reads_at S.Source source.new) taken }
-    ensures read { IsRead (S.left source.old) (S.left source.new) false intake.old.held intake.new.held flux.new result }
+    ensures takes { (taken : List ℕ)
+        × TakesOpenly false intake.old.held (reads_at S.Source source.old) (reads_at S.Source source.new) taken }
+    ensures read { IsRead (S.left source.old) (S.left source.new) false intake.old.held intake.new.held flux.new
+        result }
     ensures bound { length intake.new.held ≤ 4096 }
     ensures used { intake.new.used ≡ intake.old.used }
     ensures room { KeepsRoom flux.old flux.new }
     ensures bench { KeepsBenchRoom bench.old bench.new }
     ensures memory { HasFullRoom flux.old → HasFullBench bench.old → IsNotMemory result }
-    ensures counts { Counts (is_read_fault result) (source_counts S.Source source.old) (source_counts S.Source source.new) }
+    ensures counts { Counts (is_read_fault result) (source_counts S.Source source.old)
+        (source_counts S.Source source.new) }
 {
     bench.clear();
     let mut before = Before::start();
     let mut number = 0;
-    // Each round passes over one block, and over the in-stream blocks before it, which are nearly all blocks of a track.
+    // Each round passes over one block, and over the in-stream blocks before it, which are
+    // nearly all blocks of a track.
     for _ in 0..LIMIT + 1 {
         match pass_in_stream(&mut before, intake, flux, bench) {
             Ok(count) => number += count,
@@ -175,8 +189,8 @@ fn read_stream<S: Source>(
     unreachable!()
 }
 
-/// Passes over the in-stream blocks that the bytes at hand begin with, as far as they stand there whole, and keeps them.
-/// Gives how many they are. Their way is written out, since the way of all blocks takes many times as long.
+/// Passes over the in-stream blocks that the bytes at hand begin with, as far as they stand there whole, and keeps
+/// them. Gives how many they are. Their way is written out, since the way of all blocks takes many times as long.
 fn pass_in_stream(
     before: &mut Before,
     intake: &mut Intake,
@@ -184,7 +198,10 @@ fn pass_in_stream(
     bench: &mut StreamBench,
 ) -> Result<u32, Memory>
     requires read { (x : List ℕ) × (n : ℕ) × IsReading x n intake.old.held before.old flux.old.times bench.old }
-    ensures reading { IfOk result (λ count. ReadsOn count intake.old.held intake.new.held before.old before.new flux.old.times flux.new.times bench.old bench.new) }
+    ensures reading { IfOk result
+        (λ count.
+        ReadsOn count intake.old.held intake.new.held before.old before.new flux.old.times flux.new.times bench.old
+        bench.new) }
     ensures bound { length intake.new.held ≤ 4096 }
     ensures used { intake.new.used ≡ intake.old.used }
     ensures indexes { flux.new.indexes ≡ flux.old.indexes }
@@ -203,8 +220,8 @@ fn pass_in_stream(
     }
 }
 
-/// Passes over the transitions that the bytes at hand begin with, as far as they stand there whole, and keeps them. Gives
-/// how many they are.
+/// Passes over the transitions that the bytes at hand begin with, as far as they stand there whole, and keeps
+/// them. Gives how many they are.
 fn pass_flux(
     before: &mut Before,
     intake: &mut Intake,
@@ -212,7 +229,10 @@ fn pass_flux(
     bench: &mut StreamBench,
 ) -> Result<u32, Memory>
     requires read { (x : List ℕ) × (n : ℕ) × IsReading x n intake.old.held before.old flux.old.times bench.old }
-    ensures reading { IfOk result (λ count. ReadsOn count intake.old.held intake.new.held before.old before.new flux.old.times flux.new.times bench.old bench.new) }
+    ensures reading { IfOk result
+        (λ count.
+        ReadsOn count intake.old.held intake.new.held before.old before.new flux.old.times flux.new.times bench.old
+        bench.new) }
     ensures fewer { IfOk result (λ count. length intake.new.held + count ≤ length intake.old.held) }
     ensures held { OnErr result (intake.new.held ≡ intake.old.held) }
     ensures bound { length intake.new.held ≤ 4096 }
@@ -243,8 +263,8 @@ fn pass_flux(
     Ok((flux.times().len() - first) as u32)
 }
 
-/// Passes over the in-stream block that the bytes at hand begin with, if one stands there whole, and keeps it. Gives how
-/// many it is.
+/// Passes over the in-stream block that the bytes at hand begin with, if one stands there whole, and
+/// keeps it. Gives how many it is.
 fn pass_block(
     before: &mut Before,
     intake: &mut Intake,
@@ -253,7 +273,10 @@ fn pass_block(
 ) -> Result<u32, Memory>
     requires within { IsWithin before.old }
     requires times { All (λ time. time ≤ before.old.time) flux.old.times }
-    ensures reading { IfOk result (λ count. ReadsOn count intake.old.held intake.new.held before.old before.new flux.old.times flux.new.times bench.old bench.new) }
+    ensures reading { IfOk result
+        (λ count.
+        ReadsOn count intake.old.held intake.new.held before.old before.new flux.old.times flux.new.times bench.old
+        bench.new) }
     ensures fewer { IfOk result (λ count. length intake.new.held + count ≤ length intake.old.held) }
     ensures held { OnErr result (intake.new.held ≡ intake.old.held) }
     ensures bound { length intake.new.held ≤ 4096 }
@@ -284,7 +307,8 @@ fn take_block<S: Source>(
     before: &Before,
 ) -> Result<Result<SpelledBlock, StreamFault>, Failed>
     requires within { IsWithin before.now }
-    ensures takes { TakesBlock (reads_at S.Source source.old) (reads_at S.Source source.new) intake.old.held intake.new.held before.now result }
+    ensures takes { TakesBlock (reads_at S.Source source.old) (reads_at S.Source source.new) intake.old.held
+        intake.new.held before.now result }
     ensures sized { IfOk result (λ reading. IfOk reading IsSized) }
     ensures bound { length intake.new.held ≤ 4096 }
     ensures used { intake.new.used ≡ intake.old.used }
@@ -313,9 +337,11 @@ fn take_text<S: Source>(
 ) -> Result<Result<SpelledBlock, StreamFault>, Failed>
     requires within { IsWithin before.now }
     requires bound { length intake.old.held ≤ 4096 }
-    requires truncated { piece_at before.now.offset before.now.counted before.now.ended intake.old.held ≡ Err Truncated }
+    requires truncated { piece_at before.now.offset before.now.counted before.now.ended intake.old.held
+        ≡ Err Truncated }
     requires ended { ((size : ℕ) → IsText before.now.offset intake.old.held size → ⊥) → IsAtEnd (S.left source.old) }
-    ensures takes { TakesBlock (reads_at S.Source source.old) (reads_at S.Source source.new) intake.old.held intake.new.held before.now result }
+    ensures takes { TakesBlock (reads_at S.Source source.old) (reads_at S.Source source.new) intake.old.held
+        intake.new.held before.now result }
     ensures sized { IfOk result (λ reading. IfOk reading IsSized) }
     ensures bound { length intake.new.held ≤ 4096 }
     ensures used { intake.new.used ≡ intake.old.used }
@@ -339,7 +365,8 @@ fn take_text<S: Source>(
 /// Passes over so many bytes of the input, which may be more than an intake holds.
 fn skip<S: Source>(source: &mut S, intake: &mut Intake, count: usize) -> Result<More, Failed>
     requires count { count < 2 ^ 32 }
-    ensures skipped { IsSkipped (reads_at S.Source source.old) (reads_at S.Source source.new) intake.old.held intake.new.held count result }
+    ensures skipped { IsSkipped (reads_at S.Source source.old) (reads_at S.Source source.new) intake.old.held
+        intake.new.held count result }
     ensures bound { length intake.new.held ≤ 4096 }
     ensures used { intake.new.used ≡ intake.old.used }
     ensures counts { Counts (is_err result) (source_counts S.Source source.old) (source_counts S.Source source.new) }
@@ -369,12 +396,18 @@ fn next_block<S: Source>(
     before: &Before,
 ) -> Result<Result<SpelledBlock, StreamFault>, Failed>
     requires within { IsWithin before.now }
-    ensures took { Took (IsBlockOpen before.now intake.old.held) (reads_at S.Source source.old) (reads_at S.Source source.new) intake.old.held intake.new.held }
+    ensures took { Took (IsBlockOpen before.now intake.old.held) (reads_at S.Source source.old)
+        (reads_at S.Source source.new) intake.old.held intake.new.held }
     ensures bound { length intake.new.held ≤ 4096 }
-    ensures reading { IfOk result (λ reading. reading ≡ piece_at before.now.offset before.now.counted before.now.ended intake.new.held) }
+    ensures reading { IfOk result
+        (λ reading. reading ≡ piece_at before.now.offset before.now.counted before.now.ended intake.new.held) }
     ensures sized { IfOk result (λ reading. IfOk reading IsSized) }
-    ensures ended { IfOk result (λ reading. reading ≡ Err Truncated → ((size : ℕ) → IsText before.now.offset intake.new.held size → ⊥) → IsAtEnd (S.left source.new)) }
-    ensures failed { OnErr result (piece_at before.now.offset before.now.counted before.now.ended intake.new.held ≡ Err Truncated) }
+    ensures ended { IfOk result
+        (λ reading.
+        reading ≡ Err Truncated → ((size : ℕ) → IsText before.now.offset intake.new.held size → ⊥)
+        → IsAtEnd (S.left source.new)) }
+    ensures failed { OnErr result
+        (piece_at before.now.offset before.now.counted before.now.ended intake.new.held ≡ Err Truncated) }
     ensures used { intake.new.used ≡ intake.old.used }
     ensures counts { Counts (is_err result) (source_counts S.Source source.old) (source_counts S.Source source.new) }
 {
@@ -411,9 +444,12 @@ fn note(
     ensures times { OnOk result (flux.new.times ≡ flux.old.times ++ new_times before.now.time piece.now.block) }
     ensures indexes { flux.new.indexes ≡ flux.old.indexes }
     ensures room { KeepsRoom flux.old flux.new }
-    ensures noted { OnOk result ((ps : List SpelledBlock) → IsNoted ps bench.old → length ps ≡ number → in_stream_bytes ps ≡ before.now.counted → IsNoted (ps ++ piece.now ∷ []) bench.new) }
+    ensures noted { OnOk result
+        ((ps : List SpelledBlock) → IsNoted ps bench.old → length ps ≡ number → in_stream_bytes ps ≡ before.now.counted
+        → IsNoted (ps ++ piece.now ∷ []) bench.new) }
     ensures bench { KeepsBenchRoom bench.old bench.new }
-    ensures succeeds { 0 < flux.old.spare_times → HasFullBench bench.old → (ps : List SpelledBlock) → IsNoted ps bench.old → total_bytes ps + piece.now.bytes ≤ LIMIT → IsOk result }
+    ensures succeeds { 0 < flux.old.spare_times → HasFullBench bench.old → (ps : List SpelledBlock)
+        → IsNoted ps bench.old → total_bytes ps + piece.now.bytes ≤ LIMIT → IsOk result }
 {
     note_time(piece, before, flux)?;
     bench.note(number, before.counted, *piece)

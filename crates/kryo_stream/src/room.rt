@@ -1,7 +1,8 @@
 ghost use Rattle.std.specs.Prelude.{◌≡◌, ◌≤◌, ◌++◌, ℕ, List, [], length, Some, true, IfOk, OnErr};
 ghost use Rattle.flux_base.specs.Counts.{Counts};
 ghost use Rattle.flux_base.specs.World.{source_counts};
-ghost use Rattle.kryo_stream.specs.Outcome.{IsRead, IsReadOfInput, IsReadWhereNeeded, IsSmall, TrackCause, is_read_fault, input_of};
+ghost use Rattle.kryo_stream.specs.Outcome.{IsRead, IsReadOfInput, IsReadWhereNeeded, IsSmall, TrackCause};
+ghost use Rattle.kryo_stream.specs.Outcome.{is_read_fault, input_of};
 ghost use Rattle.kryo_stream.specs.Reads.{reads_at};
 
 use crate::bench::{MOST_INDEXES, MOST_TIMES, StreamBench};
@@ -55,8 +56,8 @@ impl StreamRoom {
         })
     }
 
-    /// Begins anew, as after `reserve`: bytes that were taken and not used yet are forgotten, and so is the stream that was
-    /// read last. The next stream may come of another source, at whose first byte it begins.
+    /// Begins anew, as after `reserve`: bytes that were taken and not used yet are forgotten, and so is the stream that
+    /// was read last. The next stream may come of another source, at whose first byte it begins.
     pub fn restart(&mut self)
         ensures { IsFresh self.new }
     {
@@ -67,9 +68,13 @@ impl StreamRoom {
     /// Reads one stream, as `read_track` does. After each `Err` the track is empty, and the room may not be
     /// used again for reading before it begins anew.
     pub fn read<S: Source>(&mut self, source: &mut S) -> Result<(), CaptureFault>
-        ensures read { IsRead (S.left source.old) (S.left source.new) self.old.used self.old.held self.new.held self.new.flux (track_answer result) }
-        ensures told { (bytes : List ℕ) → S.left source.old ≡ Some bytes → IsReadOfInput (input_of self.old.used (self.old.held ++ bytes)) (S.left source.new) self.new.held self.new.flux (track_answer result) }
-        ensures needed { IsReadWhereNeeded (reads_at S.Source source.old) (reads_at S.Source source.new) self.old.used self.old.held }
+        ensures read { IsRead (S.left source.old) (S.left source.new) self.old.used self.old.held self.new.held
+            self.new.flux (track_answer result) }
+        ensures told { (bytes : List ℕ) → S.left source.old ≡ Some bytes
+            → IsReadOfInput (input_of self.old.used (self.old.held ++ bytes)) (S.left source.new) self.new.held
+            self.new.flux (track_answer result) }
+        ensures needed { IsReadWhereNeeded (reads_at S.Source source.old) (reads_at S.Source source.new) self.old.used
+            self.old.held }
         ensures used { self.new.used ≡ true }
         ensures bound { length self.new.held ≤ 4096 }
         ensures small { IsSmall self.new.flux }
@@ -77,7 +82,8 @@ impl StreamRoom {
         ensures no_indexes { OnErr result (self.new.flux.indexes ≡ []) }
         ensures later { S.faults source.old ≤ S.faults source.new }
         ensures cause { TrackCause (S.faults source.old) (S.faults source.new) (track_answer result) }
-        ensures counts { Counts (is_read_fault (track_answer result)) (source_counts S.Source source.old) (source_counts S.Source source.new) }
+        ensures counts { Counts (is_read_fault (track_answer result)) (source_counts S.Source source.old)
+            (source_counts S.Source source.new) }
     {
         match read_track(source, &mut self.intake, &mut self.flux, &mut self.bench) {
             Ok(()) => Ok(()),

@@ -73,7 +73,8 @@ pub fn index_spelling(position: u32, sample: u32, counter: u32) -> [u8; 16]
 
 /// Writes an Info of `length` blanks.
 fn write_info<W: Sink>(length: u16, sink: &mut W) -> Result<(), Failed>
-    ensures { Puts (sink_at W.Sink sink.old) (sink_at W.Sink sink.new) (out_of_band 4 length ++ replicate length 32) result }
+    ensures { Puts (sink_at W.Sink sink.old) (sink_at W.Sink sink.new) (out_of_band 4 length ++ replicate length 32)
+        result }
 {
     let mut header = [0x0D, 4, 0, 0];
     LittleEndian::write_u16(&mut header[2..], length);

@@ -1,8 +1,11 @@
--- The cells of a track that was recovered in pieces of its ring, with erased stretches between them.
-use Rattle.std.specs.Prelude.{◌≡◌, ℕ, ◌+◌, ◌<◌, ◌≤◌, Bool, false, List, ◌++◌, flat_map, replicate, slice_get, sum_by, take, Some}
+-- The cells of a track that was recovered in pieces of its ring, with
+-- erased stretches between them.
+use Rattle.std.specs.Prelude.{◌≡◌, ℕ, ◌+◌, ◌<◌, ◌≤◌, Bool, false, List, ◌++◌, flat_map, replicate}
+use Rattle.std.specs.Prelude.{slice_get, sum_by, take, Some}
 use Rattle.track_rings.specs.Rings.{stretch}
 
--- a part of the endlessly repeated ring: the place of the ring at which it begins, and how many cells it has
+-- a part of the endlessly repeated ring: the place of the ring at which it
+-- begins, and how many cells it has
 pub record RingPiece : Type 0 where
   pub from : ℕ
   pub count : ℕ
@@ -17,7 +20,8 @@ piece_cells ring piece = stretch ring piece.from piece.count
 -- the cells of the pieces, one after another, with the zeros of an erased stretch between two
 abbrev pub cells_of_ring_pieces : List Bool → RingPiece → List RingPiece → List Bool
 cells_of_ring_pieces ring first later =
-    piece_cells ring first ++ flat_map (λ piece. replicate ERASED_ZEROS false ++ piece_cells ring piece) later
+    piece_cells ring first
+    ++ flat_map (λ piece. replicate ERASED_ZEROS false ++ piece_cells ring piece) later
 
 -- the place at which piece number `index` begins in these cells
 abbrev pub begin_of_piece : List RingPiece → ℕ → ℕ

@@ -1,4 +1,5 @@
--- What the lines of a report of dumps tell: which of them are those of sectors, and which are those of streams that were passed over.
+-- What the lines of a report of dumps tell: which of them are those of sectors, and which are those
+-- of streams that were passed over.
 use Rattle.std.specs.Prelude.{◌≡◌, ◌≤◌, ◌<◌, ◌⊎◌, ℕ, List, length, Some}
 use Rattle.dump_reading.specs.Outcomes.{DumpDisk, DumpsRead, IsDumpsRead}
 use Rattle.flux_base.specs.declared.track.TrackId.{TrackId}
@@ -19,9 +20,12 @@ use Rattle.turn_merge.specs.Others.{NotedOther}
 use Rattle.turn_merge.specs.Readings.{verdict}
 use Rattle.turn_merge.specs.declared.verdict.Verdict.{Verdict}
 
--- The line is that of this sector of the disk and stands at its number, and the verdict, with the dumps, the clocks and the places that it
--- names, is the one over all readings of the sector's track.
-pub record IsTold (disk : DumpDisk) (came : Streams) (o : DumpsRead) (others : List (List NotedOther)) (track : TrackId) (sector : ℕ) (outcome : Verdict) (number : ℕ) : Type 0 where
+-- The line is that of this sector of the disk and stands at its number, and the
+-- verdict, with the dumps, the clocks and the places that it names, is the one over all
+-- readings of the sector's track.
+pub record IsTold (disk : DumpDisk) (came : Streams) (o : DumpsRead)
+    (others : List (List NotedOther)) (track : TrackId) (sector : ℕ) (outcome : Verdict)
+    (number : ℕ) : Type 0 where
   pub n : ℕ
   pub track_is : track ≡ track_at disk.format n
   pub one : IsSectorOf disk.format n sector
@@ -29,28 +33,39 @@ pub record IsTold (disk : DumpDisk) (came : Streams) (o : DumpsRead) (others : L
   pub is : verdict (joined said.captures) sector ≡ outcome
   pub number_is : number ≡ line_number disk came others n sector
 
--- so it is with each line of a report that has the text of a sector's line, of whatever numbers that fit in it
+-- so it is with each line of a report that has the text of a sector's line, of
+-- whatever numbers that fit in it
 abbrev pub AreTold : DumpDisk → Streams → DumpsRead → (others : List (List NotedOther)) → Type 0
-AreTold disk came o others = (track : TrackId) (sector : ℕ) (outcome : Verdict) (number : ℕ) → LineFits ByCaptureAndClock track sector outcome
-    → HasLine o.notes (named_text ByCaptureAndClock track sector outcome) number → IsTold disk came o others track sector outcome number
+AreTold disk came o others = (track : TrackId) (sector : ℕ) (outcome : Verdict) (number : ℕ)
+    → LineFits ByCaptureAndClock track sector outcome
+    → HasLine o.notes (named_text ByCaptureAndClock track sector outcome) number
+    → IsTold disk came o others track sector outcome number
 
 abbrev pub LinesTell : Type 0
-LinesTell = (disk : DumpDisk) (files : List File) (o : DumpsRead) (is : IsDumpsRead disk (Some files) o) → length disk.dumps ≤ 16
+LinesTell =
+    (disk : DumpDisk) (files : List File) (o : DumpsRead) (is : IsDumpsRead disk (Some files) o)
+    → length disk.dumps ≤ 16
     → AreTold disk (came_in is) o is.others
 
--- a report tells no sector twice: two lines that have the texts of lines of one sector are one line, with one verdict
+-- a report tells no sector twice: two lines that have the texts of lines of one sector
+-- are one line, with one verdict
 abbrev pub TellsOnce : (notes : List ℕ) → Type 0
 TellsOnce notes = (track : TrackId) (sector : ℕ) (outcome other : Verdict) (number another : ℕ)
-    → LineFits ByCaptureAndClock track sector outcome → LineFits ByCaptureAndClock track sector other
-    → HasLine notes (named_text ByCaptureAndClock track sector outcome) number → HasLine notes (named_text ByCaptureAndClock track sector other) another
+    → LineFits ByCaptureAndClock track sector outcome
+    → LineFits ByCaptureAndClock track sector other
+    → HasLine notes (named_text ByCaptureAndClock track sector outcome) number
+    → HasLine notes (named_text ByCaptureAndClock track sector other) another
     → (outcome ≡ other) × (number ≡ another)
 
 abbrev pub NoSectorIsToldTwice : Type 0
-NoSectorIsToldTwice = (disk : DumpDisk) (files : List File) (o : DumpsRead) → IsDumpsRead disk (Some files) o → length disk.dumps ≤ 16 → TellsOnce o.notes
+NoSectorIsToldTwice = (disk : DumpDisk) (files : List File) (o : DumpsRead)
+    → IsDumpsRead disk (Some files) o → length disk.dumps ≤ 16 → TellsOnce o.notes
 
--- The line is that of this dump's stream of one of these tracks, which is passed over, for a reason that is told by the same text. Where the
--- line says that the file is missing, or that it failed, so it is.
-pub record IsPassedTold (disk : DumpDisk) (at : LookedAt) (track : TrackId) (dump : ℕ) (why : Passed) : Type 0 where
+-- The line is that of this dump's stream of one of these tracks, which is passed over,
+-- for a reason that is told by the same text. Where the line says that the file is
+-- missing, or that it failed, so it is.
+pub record IsPassedTold (disk : DumpDisk) (at : LookedAt) (track : TrackId) (dump : ℕ)
+    (why : Passed) : Type 0 where
   pub n : ℕ
   pub low : n < at.many
   pub track_is : track ≡ at.track_of n
@@ -61,11 +76,16 @@ pub record IsPassedTold (disk : DumpDisk) (at : LookedAt) (track : TrackId) (dum
   pub missing : why ≡ Absent → reason ≡ Absent
   pub failed : why ≡ Failed → reason ≡ Failed
 
--- so it is with each line of a report that has the text of such a stream's line: of a track of the format, or of one beside
+-- so it is with each line of a report that has the text of such a stream's line: of a track
+-- of the format, or of one beside
 abbrev pub ArePassedTold : DumpDisk → (format beside : LookedAt) → DumpsRead → Type 0
-ArePassedTold disk format beside o = (track : TrackId) (dump : ℕ) (why : Passed) (number : ℕ) → PassedLineFits track dump why
-    → HasLine o.notes (passed_text track dump why) number → IsPassedTold disk format track dump why ⊎ IsPassedTold disk beside track dump why
+ArePassedTold disk format beside o =
+    (track : TrackId) (dump : ℕ) (why : Passed) (number : ℕ) → PassedLineFits track dump why
+    → HasLine o.notes (passed_text track dump why) number
+    → IsPassedTold disk format track dump why ⊎ IsPassedTold disk beside track dump why
 
 abbrev pub PassedLinesAreTold : Type 0
-PassedLinesAreTold = (disk : DumpDisk) (files : List File) (o : DumpsRead) (is : IsDumpsRead disk (Some files) o) → length disk.dumps ≤ 16
+PassedLinesAreTold =
+    (disk : DumpDisk) (files : List File) (o : DumpsRead) (is : IsDumpsRead disk (Some files) o)
+    → length disk.dumps ≤ 16
     → ArePassedTold disk (format_tracks is) (other_tracks is) o

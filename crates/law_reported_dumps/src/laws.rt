@@ -10,8 +10,8 @@ use phase_loop::cells_are_few;
 use sector_images::{sectors_lie_in_images, tracks_fill_images, tracks_keep_bounds};
 use sector_report::{dumps_have_lines, sector_lines_tell};
 
-/// Each line of a report that has the text of a sector's line is that one, with the sector's verdict, so that no sector is told twice. Each
-/// line that has the text of the line of a stream that is passed over is one.
+/// Each line of a report that has the text of a sector's line is that one, with the sector's verdict, so that no sector
+/// is told twice. Each line that has the text of the line of a stream that is passed over is one.
 pub fn dump_lines_tell()
     ensures told { LinesTell }
     ensures once { NoSectorIsToldTwice }

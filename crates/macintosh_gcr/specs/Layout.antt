@@ -1,4 +1,5 @@
--- The rows of a track of the Macintosh's disks: its sectors one after another, and then self-syncs to the ring's end.
+-- The rows of a track of the Macintosh's disks: its sectors one after another, and then
+-- self-syncs to the ring's end.
 use Rattle.std.specs.Prelude.{ℕ, ◌-◌, ◌*◌, ◌/◌, Bool, false, List, [], ◌∷◌, map}
 use Rattle.flux_base.specs.declared.track.TrackId.{TrackId}
 use Rattle.cell_bits.specs.Word.{word_cells}
@@ -11,9 +12,11 @@ use Rattle.macintosh_gcr.specs.Sectors.{SECTOR_SIZE, header_values, sectors_of, 
 use Rattle.macintosh_gcr.specs.declared.layout.Mark.{Mark}
 use Rattle.macintosh_gcr.specs.declared.layout.Mark.TheVariants.{AddressField, DataField, Epilogue}
 use Rattle.macintosh_gcr.specs.declared.layout.Row.{Row}
-use Rattle.macintosh_gcr.specs.declared.layout.Row.TheVariants.{SelfSyncs, Mark as AMark, Header, Content, ZoneGap}
+use Rattle.macintosh_gcr.specs.declared.layout.Row.TheVariants.{SelfSyncs, Mark as AMark, Header}
+use Rattle.macintosh_gcr.specs.declared.layout.Row.TheVariants.{Content, ZoneGap}
 use Rattle.macintosh_gcr.specs.declared.recording.MacintoshGcr.{MacintoshGcr}
-use Rattle.macintosh_gcr.specs.declared.recording.MacintoshGcr.TheVariants.{SingleSided, DoubleSided}
+use Rattle.macintosh_gcr.specs.declared.recording.MacintoshGcr.TheVariants.{SingleSided}
+use Rattle.macintosh_gcr.specs.declared.recording.MacintoshGcr.TheVariants.{DoubleSided}
 
 -- DE AA FF, which closes each field and is not looked at
 abbrev pub EPILOGUE : ℕ
@@ -30,12 +33,14 @@ word_of AddressField = ADDRESS_MARK
 word_of DataField = DATA_MARK
 word_of Epilogue = EPILOGUE
 
--- A sector: self-syncs, header, gap and data. Its frame goes from the header's mark to the data's end.
+-- A sector: self-syncs, header, gap and data. Its frame goes from the
+-- header's mark to the data's end.
 abbrev pub rows : Rows Row
 rows = record {
   lead_in = [];
   before = SelfSyncs 16 ∷ [];
-  frame = AMark AddressField ∷ Header ∷ AMark Epilogue ∷ SelfSyncs 6 ∷ AMark DataField ∷ Content ∷ [];
+  frame =
+      AMark AddressField ∷ Header ∷ AMark Epilogue ∷ SelfSyncs 6 ∷ AMark DataField ∷ Content ∷ [];
   after = AMark Epilogue ∷ [];
   lead_out = ZoneGap ∷ [];
 }
@@ -60,7 +65,8 @@ field_values sector bytes = sector ∷ data_values 0 NO_SUMS (with_tags bytes)
 abbrev pub row_cells : MacintoshGcr → TrackId → Bool → ℕ → List ℕ → Row → List Bool
 row_cells disk track before sector bytes (SelfSyncs count) = self_syncs count
 row_cells disk track before sector bytes (AMark mark) = word_cells MARK_CELLS (word_of mark)
-row_cells disk track before sector bytes Header = nibble_cells (header_values track sector (format_of disk))
+row_cells disk track before sector bytes Header =
+    nibble_cells (header_values track sector (format_of disk))
 row_cells disk track before sector bytes Content = nibble_cells (field_values sector bytes)
 row_cells disk track before sector bytes ZoneGap = self_syncs (gap_syncs (zone_of track))
 
@@ -74,4 +80,5 @@ row_size zone bytes ZoneGap = 10 * gap_syncs zone
 
 -- the ring
 abbrev pub ring_of : MacintoshGcr → TrackId → List ℕ → List Bool
-ring_of disk track bytes = ring_of_rows false (row_cells disk track) 0 (sectors_of track) SECTOR_SIZE bytes rows
+ring_of disk track bytes =
+    ring_of_rows false (row_cells disk track) 0 (sectors_of track) SECTOR_SIZE bytes rows

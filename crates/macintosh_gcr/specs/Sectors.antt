@@ -1,17 +1,20 @@
 -- The sectors of the Macintosh's disks of 400 and 800 KB: what a header names and what data hold.
-use Rattle.std.specs.Prelude.{◌≡◌, ℕ, ◌+◌, ◌*◌, ◌/◌, ◌%◌, ◌<◌, Bool, List, [], ◌∷◌, ◌++◌, length, get_or}
+use Rattle.std.specs.Prelude.{◌≡◌, ℕ, ◌+◌, ◌*◌, ◌/◌, ◌%◌, ◌<◌, Bool, List, [], ◌∷◌, ◌++◌, length}
+use Rattle.std.specs.Prelude.{get_or}
 use Rattle.flux_base.specs.declared.track.TrackId.{TrackId}
 use Rattle.check_values.specs.Sums.{xor}
 use Rattle.disk_zones.specs.Zones.{macintosh_zone}
 use Rattle.disk_zones.specs.declared.zones.Zone.{Zone}
 use Rattle.frame_law.specs.Frames.{DataStand, HeaderStands as Header, SectorStands as Sector}
 use Rattle.flux_base.specs.declared.header_name.HeaderName.{HeaderName}
-use Rattle.flux_base.specs.declared.header_name.HeaderName.TheVariants.{Address, TrackSector, TrackSectorSide}
+use Rattle.flux_base.specs.declared.header_name.HeaderName.TheVariants.{Address, TrackSector}
+use Rattle.flux_base.specs.declared.header_name.HeaderName.TheVariants.{TrackSectorSide}
 use Rattle.apple_nibbles.specs.Marks.{ADDRESS_MARK, DATA_BYTE, IsSync, MARK_CELLS}
 use Rattle.apple_nibbles.specs.Nibbles.{disk_byte, nibble}
 use Rattle.macintosh_gcr.specs.Coding.{IsCoded, TAGS}
 use Rattle.macintosh_gcr.specs.declared.recording.MacintoshGcr.{MacintoshGcr}
-use Rattle.macintosh_gcr.specs.declared.recording.MacintoshGcr.TheVariants.{SingleSided, DoubleSided}
+use Rattle.macintosh_gcr.specs.declared.recording.MacintoshGcr.TheVariants.{SingleSided}
+use Rattle.macintosh_gcr.specs.declared.recording.MacintoshGcr.TheVariants.{DoubleSided}
 
 -- the heads of a disk
 abbrev pub heads_of : MacintoshGcr → ℕ
@@ -37,16 +40,19 @@ SECTOR_SIZE = 512
 
 -- Nibbles of these values stand one after another from a place on.
 abbrev pub NibblesAt : List Bool → ℕ → List ℕ → Type 0
-NibblesAt cells place values = (k : ℕ) → k < length values → disk_byte cells (place + 8 * k) ≡ nibble (get_or values k 0)
+NibblesAt cells place values =
+    (k : ℕ) → k < length values → disk_byte cells (place + 8 * k) ≡ nibble (get_or values k 0)
 
--- the values by which a header names a track: the low six bits of its cylinder, and its head with the cylinder's seventh bit
+-- the values by which a header names a track: the low six bits of its cylinder, and its head
+-- with the cylinder's seventh bit
 abbrev pub low_value : TrackId → ℕ
 low_value track = track.cylinder % 64
 
 abbrev pub side_value : TrackId → ℕ
 side_value track = 32 * track.head + track.cylinder / 64
 
--- the values of a name: those of the track, the sector's number between them, and a number that says how the disk was formatted
+-- the values of a name: those of the track, the sector's number between them, and a number that
+-- says how the disk was formatted
 abbrev pub named_values : ℕ → ℕ → ℕ → ℕ → List ℕ
 named_values low side sector format = low ∷ sector ∷ side ∷ format ∷ []
 
@@ -78,11 +84,13 @@ Names cells (TrackSectorSide low sector side format) = NamesValues low side form
 
 -- a name is one of a sector of this track, whatever the disk's format
 abbrev pub IsNameOf : TrackId → HeaderName → ℕ → Type 0
-IsNameOf track name sector = (format : ℕ) × (name ≡ TrackSectorSide (low_value track) sector (side_value track) format)
+IsNameOf track name sector =
+    (format : ℕ) × (name ≡ TrackSectorSide (low_value track) sector (side_value track) format)
 
 -- a header names a sector of this track
 abbrev pub NamesSector : TrackId → List Bool → ℕ → Type 0
-NamesSector track cells sector = (format : ℕ) × NamesValues (low_value track) (side_value track) format cells sector
+NamesSector track cells sector =
+    (format : ℕ) × NamesValues (low_value track) (side_value track) format cells sector
 
 -- the cells of a header: its mark and five nibbles
 abbrev pub HEADER_CELLS : ℕ
@@ -92,8 +100,9 @@ HEADER_CELLS = 64
 abbrev pub SECTOR_PLACE : ℕ
 SECTOR_PLACE = 32
 
--- Data hold a sector's bytes: AD after their sync, the nibble of the sector's number as the header has it, and the nibbles of the
--- bytes with tags before them. What the tags and the two spare bits are does not matter.
+-- Data hold a sector's bytes: AD after their sync, the nibble of the sector's number as the
+-- header has it, and the nibbles of the bytes with tags before them. What the tags and the two
+-- spare bits are does not matter.
 pub record Hold (cells : List Bool) (sync : ℕ) (bytes : List ℕ) : Type 0 where
   pub opens : disk_byte cells (sync + 16) ≡ DATA_BYTE
   pub of_sector : disk_byte cells (sync + 24) ≡ disk_byte cells SECTOR_PLACE
@@ -111,8 +120,10 @@ DATA_CELLS = 5656
 -- a header and a sector stand, as on any track
 abbrev pub HeaderStands : TrackId → List Bool → ℕ → Type 0
 HeaderStands track cells sector =
-    Header ADDRESS_MARK MARK_CELLS (λ some. HEADER_CELLS) 0 (sectors_of track) (NamesSector track) cells sector
+    Header ADDRESS_MARK MARK_CELLS (λ some. HEADER_CELLS) 0 (sectors_of track) (NamesSector track)
+    cells sector
 
 abbrev pub SectorStands : TrackId → List Bool → ℕ → List ℕ → Type 0
 SectorStands track cells sector bytes =
-    Sector (HeaderStands track cells sector) (DataStand (λ some. HEADER_CELLS) (λ some sync. sync + DATA_CELLS) IsSync Hold cells bytes)
+    Sector (HeaderStands track cells sector)
+    (DataStand (λ some. HEADER_CELLS) (λ some sync. sync + DATA_CELLS) IsSync Hold cells bytes)

@@ -1,7 +1,10 @@
 //! The values of a data field out of its bytes, and the bytes out of the values.
 
-ghost use Rattle.std.specs.Prelude.{◌≡◌, ℕ, ◌+◌, ◌<◌, ◌≤◌, List, ◌++◌, get_or, drop, length, IfNone, IfSome, IsTrue, ◌↔◌};
-ghost use Rattle.macintosh_gcr.specs.Coding.{AreSixBits, IsCoded, NO_SUMS, after_two, check_values as check_values_of, data_values, stored_first, stored_second, stored_third, three_values, two_values, with_tags};
+ghost use Rattle.std.specs.Prelude.{◌≡◌, ℕ, ◌+◌, ◌<◌, ◌≤◌, List, ◌++◌, get_or, drop, length, IfNone, IfSome, IsTrue};
+ghost use Rattle.std.specs.Prelude.{◌↔◌};
+ghost use Rattle.macintosh_gcr.specs.Coding.{AreSixBits, IsCoded, NO_SUMS, after_two, check_values as check_values_of};
+ghost use Rattle.macintosh_gcr.specs.Coding.{data_values, stored_first, stored_second, stored_third, three_values};
+ghost use Rattle.macintosh_gcr.specs.Coding.{two_values, with_tags};
 ghost use Rattle.macintosh_gcr.specs.lemmas.Taking.{TakesThree, TakesTwo};
 
 use crate::sums::Sums;
@@ -62,7 +65,10 @@ fn byte_or_zero(bytes: &[u8], index: usize) -> u8
 /// Appends the four values of a group of three bytes.
 fn push_three(values: &mut Values, sums: Sums, first: u8, second: u8, third: u8)
     requires { length values.old.items + 4 ≤ 703 }
-    ensures { values.new.items ≡ values.old.items ++ three_values (stored_first sums first) (stored_second sums first second) (stored_third sums first second third) }
+    ensures { values.new.items
+        ≡ values.old.items
+        ++ three_values (stored_first sums first) (stored_second sums first second)
+        (stored_third sums first second third) }
 {
     let one = sums.stored_first(first);
     let two = sums.stored_second(first, second);
@@ -76,7 +82,10 @@ fn push_three(values: &mut Values, sums: Sums, first: u8, second: u8, third: u8)
 /// Appends the three values of the last two bytes, and the check values after them.
 fn push_last(values: &mut Values, sums: Sums, first: u8, second: u8)
     requires { length values.old.items + 7 ≤ 703 }
-    ensures { values.new.items ≡ values.old.items ++ (two_values 0 (stored_first sums first) (stored_second sums first second) ++ check_values_of (after_two sums first second)) }
+    ensures { values.new.items
+        ≡ values.old.items
+        ++ (two_values 0 (stored_first sums first) (stored_second sums first second)
+        ++ check_values_of (after_two sums first second)) }
 {
     let one = sums.stored_first(first);
     let two = sums.stored_second(first, second);

@@ -1,4 +1,5 @@
-ghost use Rattle.std.specs.Prelude.{◌≡◌, ℕ, ◌+◌, ◌*◌, ◌^◌, ◌<◌, ◌≤◌, [], List, false, drop, length, IfNone, IfSome, IsTrue};
+ghost use Rattle.std.specs.Prelude.{◌≡◌, ℕ, ◌+◌, ◌*◌, ◌^◌, ◌<◌, ◌≤◌, [], List, false, drop, length, IfNone, IfSome};
+ghost use Rattle.std.specs.Prelude.{IsTrue};
 ghost use Rattle.macintosh_gcr.specs.Coding.{AreSixBits};
 ghost use Rattle.macintosh_gcr.specs.Sectors.{Hold, NibblesAt};
 
@@ -39,7 +40,8 @@ fn values_from(frame: &CellsFrom, from: usize) -> Option<Values>
     ensures size { IfSome result (λ values. length values.items ≡ 703) }
     ensures fit { IfSome result (λ values. AreSixBits values.items) }
     ensures stand { IfSome result (λ values. NibblesAt frame.now from values.items) }
-    ensures none { IfNone result ((values : List ℕ) → length values ≡ 703 → AreSixBits values → ¬ NibblesAt frame.now from values) }
+    ensures none { IfNone result
+        ((values : List ℕ) → length values ≡ 703 → AreSixBits values → ¬ NibblesAt frame.now from values) }
 {
     let mut values = Values::new();
     for index in 0..VALUES {

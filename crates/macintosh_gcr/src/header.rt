@@ -1,7 +1,8 @@
 ghost use Rattle.std.specs.Prelude.{◌≡◌, ℕ, ◌+◌, ◌*◌, ◌/◌, ◌<◌, ◌≤◌, List, length, IfNone, IfSome};
 ghost use Rattle.macintosh_gcr.specs.Coding.{AreSixBits};
 ghost use Rattle.macintosh_gcr.specs.Layout.{format_of};
-ghost use Rattle.macintosh_gcr.specs.Sectors.{IsMacintoshTrack, IsNameOf, Names, NibblesAt, header_values as values_of_header};
+ghost use Rattle.macintosh_gcr.specs.Sectors.{IsMacintoshTrack, IsNameOf, Names, NibblesAt};
+ghost use Rattle.macintosh_gcr.specs.Sectors.{header_values as values_of_header};
 ghost use Rattle.flux_base.specs.declared.header_name.HeaderName.{HeaderName};
 
 use crate::layout::NAME_PLACE;
@@ -46,7 +47,8 @@ fn header_values_at(frame: &CellsFrom) -> Option<[u8; 5]>
     ensures size { IfSome result (λ values. length values ≡ 5) }
     ensures fit { IfSome result (λ values. AreSixBits values) }
     ensures stand { IfSome result (λ values. NibblesAt frame.now 24 values) }
-    ensures none { IfNone result ((values : List ℕ) → length values ≡ 5 → AreSixBits values → ¬ NibblesAt frame.now 24 values) }
+    ensures none { IfNone result
+        ((values : List ℕ) → length values ≡ 5 → AreSixBits values → ¬ NibblesAt frame.now 24 values) }
 {
     Some([
         value_of(disk_byte_at(frame, NAME_PLACE))?,

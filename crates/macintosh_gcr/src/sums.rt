@@ -1,5 +1,6 @@
 ghost use Rattle.std.specs.Prelude.{◌≡◌, ◌%◌, ◌<◌};
-ghost use Rattle.macintosh_gcr.specs.Coding.{NO_SUMS, a_sum, after_three, after_two, b_sum, c_sum, check_values, stored_first, stored_second, stored_third, turned};
+ghost use Rattle.macintosh_gcr.specs.Coding.{NO_SUMS, a_sum, after_three, after_two, b_sum, c_sum, check_values};
+ghost use Rattle.macintosh_gcr.specs.Coding.{stored_first, stored_second, stored_third, turned};
 
 /// The three sums that run over the bytes of a data field, eight bits each.
 #[derive(Clone, Copy, Debug)]

@@ -1,4 +1,5 @@
--- Bytes and marks in a row as MFM cells (IBM System 34): each takes 16 cells, which ask for the last data bit before them.
+-- Bytes and marks in a row as MFM cells (IBM System 34): each takes 16 cells, which ask for
+-- the last data bit before them.
 use Rattle.std.specs.Prelude.{ℕ, Bool, true, false, List, [], ◌∷◌, ◌++◌, map}
 use Rattle.cell_bits.specs.Bytes.{mfm}
 use Rattle.cell_bits.specs.Word.{digit, word_cells}

@@ -9,5 +9,7 @@ use Rattle.mfm_coding.specs.declared.symbol.Symbol.{Symbol}
 use Rattle.mfm_coding.specs.Coding.{coded}
 
 -- Ok says that they were appended. There is no want of memory where there was room for them.
-abbrev pub AppendsSymbols : CellsState → CellsState → List Symbol → Result (Unit {0}) Memory → Type 0
-AppendsSymbols old new symbols result = AppendsCells old new (coded (last_cell old.cells) symbols) result
+abbrev pub AppendsSymbols : CellsState → CellsState → List Symbol → Result (Unit {0}) Memory
+    → Type 0
+AppendsSymbols old new symbols result =
+    AppendsCells old new (coded (last_cell old.cells) symbols) result

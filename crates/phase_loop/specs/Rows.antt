@@ -1,7 +1,9 @@
 -- The rule by which the times of transitions become counts of cells (this project's own rule).
 -- Times are in ticks; places, periods and fine times in fine units, of which 1024 make a tick.
 -- Transitions are numbered from 0.
-use Rattle.std.specs.Prelude.{ℕ, zero, suc, ◌+◌, ◌-◌, ◌*◌, ◌/◌, max, List, [], ◌∷◌, ◌++◌, map, length, drop, slice_index, slice_index_or, if◌then◌else◌, nat_lt, Bool, true}
+use Rattle.std.specs.Prelude.{ℕ, zero, suc, ◌+◌, ◌-◌, ◌*◌, ◌/◌, max, List, [], ◌∷◌, ◌++◌, map}
+use Rattle.std.specs.Prelude.{length, drop, slice_index, slice_index_or, if◌then◌else◌, nat_lt}
+use Rattle.std.specs.Prelude.{Bool, true}
 use Rattle.std.specs.List.{sum_by, flat_map}
 use Rattle.cell_bits.specs.Run.{run_cells}
 use Rattle.phase_loop.specs.Start.{FINE_PER_TICK, INTERVALS, LONGEST, in_band}
@@ -42,23 +44,26 @@ row_at rows number = slice_index_or rows number no_row
 abbrev pub last_row : List Row → Row
 last_row rows = row_at rows (length rows - 1)
 
--- How many periods a time lies after the place, to the nearest, and at least one. For a time before the place
--- the exact quotient is below a half, and the one with the cut-off difference is a half: both floors are below
--- one, so that both give one.
+-- How many periods a time lies after the place, to the nearest, and at least one. For a time before
+-- the place the exact quotient is below a half, and the one with the cut-off difference is a half:
+-- both floors are below one, so that both give one.
 abbrev pub periods_since : Row → ℕ → ℕ
-periods_since before fine = max 1 ((2 * (fine - before.place) + before.period) / (2 * before.period))
+periods_since before fine =
+    max 1 ((2 * (fine - before.place) + before.period) / (2 * before.period))
 
--- The period after the transition that follows these rows: the mean of its last 64 intervals, taken from two
--- times and kept in the start's band, once 64 intervals have passed since the restart; before that the first period.
+-- The period after the transition that follows these rows: the mean of its last 64 intervals, taken
+-- from two times and kept in the start's band, once 64 intervals have passed since the restart;
+-- before that the first period.
 abbrev pub period_behind : LoopStart → List Row → (restart fine count : ℕ) → ℕ
 period_behind start rows restart fine count =
     let number = length rows in
     if nat_lt (number - restart) INTERVALS then start.first
     else in_band start.band
-    ((fine - (row_at rows (number - INTERVALS)).fine) / (sum_by (λ row. row.count) (drop (number - (INTERVALS - 1)) rows) + count))
+    ((fine - (row_at rows (number - INTERVALS)).fine)
+    / (sum_by (λ row. row.count) (drop (number - (INTERVALS - 1)) rows) + count))
 
--- The row of the transition that follows these rows, where it lies this many periods after the place. Past 32
--- the loop starts anew.
+-- The row of the transition that follows these rows, where it lies this many periods after the
+-- place. Past 32 the loop starts anew.
 abbrev pub row_at_distance : LoopStart → List Row → Row → (fine periods : ℕ) → Row
 row_at_distance start rows before fine periods =
     if nat_lt LONGEST periods then row_of_start start (length rows) fine LONGEST
@@ -82,7 +87,8 @@ with_next_row start rows fine = rows ++ next_row start rows fine ∷ []
 unfoldable pub rows_to : LoopStart → List ℕ → ℕ → List Row
 rows_to start times zero = row_of_start start 0 (FINE_PER_TICK * slice_index times 0) 0 ∷ []
 rows_to start times (suc number) =
-    with_next_row start (rows_to start times number) (FINE_PER_TICK * slice_index times (suc number))
+    with_next_row start (rows_to start times number)
+    (FINE_PER_TICK * slice_index times (suc number))
 
 -- the rows of all transitions, of which there is at least one
 abbrev pub rows_of : LoopStart → List ℕ → List Row

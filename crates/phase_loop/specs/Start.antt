@@ -1,4 +1,5 @@
--- Where a loop starts: the nominal cell, the first period and the band of its periods, in fine units of which 1024 make a tick.
+-- Where a loop starts: the nominal cell, the first period and the band of its periods, in fine
+-- units of which 1024 make a tick.
 use Rattle.std.specs.Prelude.{◌≡◌, ℕ, ◌*◌, ◌/◌, ◌≤◌, min, max}
 use Rattle.phase_loop.specs.declared.start.Band.{Band}
 use Rattle.phase_loop.specs.declared.start.LoopStart.{LoopStart}
@@ -42,7 +43,8 @@ pub record IsNominal (nominal : ℕ) : Type 0 where
   pub shortest : SHORTEST_CELL ≤ nominal
   pub longest : nominal ≤ LONGEST_CELL
 
--- the nominal cell is one, the start's band lies in the one about it, and the first period lies in the start's band
+-- the nominal cell is one, the start's band lies in the one about it, and the first
+-- period lies in the start's band
 pub record IsStart (start : LoopStart) : Type 0 where
   pub nominal : IsNominal start.nominal
   pub low : 3 * start.nominal / 4 ≤ start.band.lowest
@@ -54,8 +56,8 @@ pub record IsStart (start : LoopStart) : Type 0 where
 abbrev pub HasWholeBand : LoopStart → Type 0
 HasWholeBand start = start.band ≡ band_of start.nominal
 
--- the start for a track whose first turn has these ticks and this many cells: the first period is the turn's mean, and the period
--- may follow the drive through the whole band
+-- the start for a track whose first turn has these ticks and this many cells: the first period is
+-- the turn's mean, and the period may follow the drive through the whole band
 abbrev pub start_for : ℕ → ℕ → ℕ → LoopStart
 start_for nominal turn_ticks ring_cells = record {
   nominal = nominal;
@@ -63,7 +65,8 @@ start_for nominal turn_ticks ring_cells = record {
   band = band_of nominal;
 }
 
--- a start whose band has the first period as both its ends, so that the period is always the first one
+-- a start whose band has the first period as both its ends, so that the
+-- period is always the first one
 abbrev pub held : LoopStart → LoopStart
 held start = record {
   nominal = start.nominal;

@@ -8,8 +8,8 @@ use Rattle.phase_loop.specs.declared.start.Band.{Band}
 use Rattle.phase_loop.specs.declared.start.LoopStart.{LoopStart}
 use Rattle.phase_loop.specs.declared.window.Interval.{Interval}
 
--- the first period and the band, the last transition's fine time and place, the period, and the last intervals since the restart, at
--- most 64
+-- the first period and the band, the last transition's fine time and place, the period, and the
+-- last intervals since the restart, at most 64
 pub record LoopState : Type 0 where
   pub first : ℕ
   pub band : Band
@@ -43,8 +43,8 @@ state_behind start rows = let last = last_row rows in record {
   recent = keep_last INTERVALS (drop last.restart (intervals rows));
 }
 
--- the state is what the rule gives at the last of these times, of which there is one at least, and which never
--- fall from one to the next
+-- the state is what the rule gives at the last of these times, of which there is one at least, and
+-- which never fall from one to the next
 pub record Holds (state : LoopState) (start : LoopStart) (times : List ℕ) : Type 0 where
   pub some : 0 < length times
   pub rising : IsNonDecreasing times

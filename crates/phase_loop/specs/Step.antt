@@ -1,5 +1,6 @@
 -- One step of a loop, from what it holds.
-use Rattle.std.specs.Prelude.{ℕ, ◌+◌, ◌-◌, ◌*◌, ◌/◌, min, max, List, [], ◌∷◌, ◌++◌, length, if◌then◌else◌, nat_lt}
+use Rattle.std.specs.Prelude.{ℕ, ◌+◌, ◌-◌, ◌*◌, ◌/◌, min, max, List, [], ◌∷◌, ◌++◌, length}
+use Rattle.std.specs.Prelude.{if◌then◌else◌, nat_lt}
 use Rattle.circular_buffer.specs.Buffer.{keep_last}
 use Rattle.phase_loop.specs.Start.{INTERVALS, LONGEST, in_band}
 use Rattle.phase_loop.specs.Window.{fine_total, count_total}
@@ -23,7 +24,8 @@ restarted state fine = record {
 
 -- the last intervals, and the one that ends at the time
 abbrev pub recent_after : LoopState → (fine periods : ℕ) → List Interval
-recent_after state fine periods = keep_last INTERVALS (state.recent ++ record { fine = fine - state.fine; count = periods } ∷ [])
+recent_after state fine periods =
+    keep_last INTERVALS (state.recent ++ record { fine = fine - state.fine; count = periods } ∷ [])
 
 -- the period that these intervals give
 abbrev pub period_from : LoopState → List Interval → ℕ
@@ -45,7 +47,8 @@ joined state fine periods = record {
 -- the state after a transition at the time, and its count
 abbrev pub state_after : LoopState → ℕ → LoopState
 state_after state fine =
-    if nat_lt LONGEST (periods_to state fine) then restarted state fine else joined state fine (periods_to state fine)
+    if nat_lt LONGEST (periods_to state fine) then restarted state fine
+    else joined state fine (periods_to state fine)
 
 abbrev pub count_after : LoopState → ℕ → ℕ
 count_after state fine = min LONGEST (periods_to state fine)

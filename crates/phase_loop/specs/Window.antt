@@ -11,8 +11,8 @@ fine_total intervals = sum_by (λ interval. interval.fine) intervals
 abbrev pub count_total : List Interval → ℕ
 count_total intervals = sum_by (λ interval. interval.count) intervals
 
--- The longest interval at which the loop does not start anew: up to 32 and a half periods after the place, which
--- is up to one period ahead of the transition before.
+-- The longest interval at which the loop does not start anew: up to 32 and a half periods after the
+-- place, which is up to one period ahead of the transition before.
 abbrev pub WIDEST : ℕ
 WIDEST = (LONGEST + 2) * LONGEST_PERIOD
 

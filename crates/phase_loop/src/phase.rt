@@ -1,5 +1,6 @@
 //! The loop that follows a track's clock.
-ghost use Rattle.std.specs.Prelude.{◌≡◌, ℕ, ◌+◌, ◌*◌, ◌/◌, ◌^◌, ◌≤◌, ◌<◌, max, [], ◌∷◌, ◌++◌, List, length, IfOk, ◌↔◌, IsTrue};
+ghost use Rattle.std.specs.Prelude.{◌≡◌, ℕ, ◌+◌, ◌*◌, ◌/◌, ◌^◌, ◌≤◌, ◌<◌, max, [], ◌∷◌, ◌++◌, List, length, IfOk, ◌↔◌};
+ghost use Rattle.std.specs.Prelude.{IsTrue};
 
 mod certain;
 mod doubt;
@@ -54,7 +55,8 @@ impl Loop {
     /// A loop with room for its 64 intervals. It stands as one that was started at time 0 with a nominal cell
     /// and a period of 16 ticks.
     pub fn new(alloc: Global) -> Result<Loop, Memory>
-        ensures { IfOk result (λ loop. Holds loop (record { nominal = 16384; first = 16384; band = band_of 16384 }) (0 ∷ [])) }
+        ensures { IfOk result
+            (λ loop. Holds loop (record { nominal = 16384; first = 16384; band = band_of 16384 }) (0 ∷ [])) }
     {
         let window = Window::new(alloc)?;
         Ok(Loop {

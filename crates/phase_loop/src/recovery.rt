@@ -16,9 +16,9 @@ use index_turns::TrackFlux;
 /// the one of its count. Times are at most 2^39 ticks. `bench` is the loop that does the work; what it holds
 /// before does not matter, and its window stays bounded. After `Memory` there are no cells.
 ///
-/// Where the period may follow the drive through the whole band, and the times carry a ring within the bounds of disturbance, the
-/// cells are the ring's; where they carry it in pieces, those of the pieces. So it is too where the period is held and the drive
-/// keeps its speed.
+/// Where the period may follow the drive through the whole band, and the times carry a ring within the bounds of
+/// disturbance, the cells are the ring's; where they carry it in pieces, those of the pieces. So it is too where the
+/// period is held and the drive keeps its speed.
 pub fn recover(
     flux: &TrackFlux,
     start: LoopStart,
@@ -28,10 +28,14 @@ pub fn recover(
     requires start { IsStart start }
     requires times { All (λ time. time ≤ 2 ^ 39) flux.now.times }
     ensures ok { OnOk result (cells.new.cells ≡ recovered start flux.now.times) }
-    ensures ring { OnOk result (HasWholeBand start → FollowsRing start.nominal start.first flux.now.times cells.new.cells) }
-    ensures pieces { OnOk result (HasWholeBand start → FollowsPieces start.nominal start.first flux.now.times cells.new.cells) }
-    ensures steady_ring { OnOk result (IsHeld start → FollowsSteadyRing start.nominal start.first flux.now.times cells.new.cells) }
-    ensures steady_pieces { OnOk result (IsHeld start → FollowsSteadyPieces start.nominal start.first flux.now.times cells.new.cells) }
+    ensures ring { OnOk result
+        (HasWholeBand start → FollowsRing start.nominal start.first flux.now.times cells.new.cells) }
+    ensures pieces { OnOk result
+        (HasWholeBand start → FollowsPieces start.nominal start.first flux.now.times cells.new.cells) }
+    ensures steady_ring { OnOk result
+        (IsHeld start → FollowsSteadyRing start.nominal start.first flux.now.times cells.new.cells) }
+    ensures steady_pieces { OnOk result
+        (IsHeld start → FollowsSteadyPieces start.nominal start.first flux.now.times cells.new.cells) }
     ensures err { OnErr result (cells.new.cells ≡ []) }
     ensures window { length bench.new.recent ≤ INTERVALS }
     ensures room { room cells.old ≤ room cells.new }

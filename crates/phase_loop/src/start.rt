@@ -44,7 +44,8 @@ impl Band {
     {
         let lowest = u64::from(self.lowest);
         let highest = u64::from(self.highest);
-        // One comparison, since the two sides are met in no order: a period below the band wraps to more than any width.
+        // One comparison, since the two sides are met in no order: a period below the band
+        // wraps to more than any width.
         if highest.saturating_sub(lowest) < period.wrapping_sub(lowest) {
             return end_of_band(lowest, highest, period);
         }
@@ -73,7 +74,8 @@ impl LoopStart {
         }
     }
 
-    /// The same start with its first period held: the band has it as both its ends, so that each period is the first one.
+    /// The same start with its first period held: the band has it as both its ends, so that
+    /// each period is the first one.
     pub fn held(self) -> LoopStart
         requires { IsStart self }
         ensures start { result ≡ held self }

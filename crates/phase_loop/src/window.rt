@@ -1,5 +1,6 @@
 //! The last intervals since the loop started, with their totals.
-ghost use Rattle.std.specs.Prelude.{◌≡◌, ◌+◌, ◌*◌, ◌/◌, ◌<◌, ◌≤◌, [], ◌∷◌, ◌++◌, length, take, map, All, IfOk, IsTrue, ◌↔◌, MatchOption};
+ghost use Rattle.std.specs.Prelude.{◌≡◌, ◌+◌, ◌*◌, ◌/◌, ◌<◌, ◌≤◌, [], ◌∷◌, ◌++◌, length, take, map, All, IfOk, IsTrue};
+ghost use Rattle.std.specs.Prelude.{◌↔◌, MatchOption};
 ghost use Rattle.phase_loop.specs.Window.{IsShort};
 ghost use Rattle.std.specs.List.{sum_by};
 ghost use Rattle.circular_buffer.specs.Buffer.{buffer, keep_last};

@@ -1,12 +1,14 @@
 -- What is noted of one sector of a track.
-use Rattle.std.specs.Prelude.{◌≡◌, ◌≤◌, ℕ, ◌+◌, List, [], ◌++◌, ◌∷◌, filter, flat_map, length, nat_eq}
+use Rattle.std.specs.Prelude.{◌≡◌, ◌≤◌, ℕ, ◌+◌, List, [], ◌++◌, ◌∷◌, filter, flat_map, length}
+use Rattle.std.specs.Prelude.{nat_eq}
 use Rattle.flux_base.specs.Bounds.{MOST_SECTOR_BYTES}
 use Rattle.turn_merge.specs.Book.{Knowledge, StandsFor}
 use Rattle.turn_merge.specs.Readings.{NotedReading, good_ones, good_reading}
 use Rattle.turn_merge.specs.declared.verdict.Place.{Place}
 use Rattle.sector_copies.specs.Copies.{AreFewer, Copy, copies_over}
 
--- the sector's number, what a book of this sector alone knows of it, and the contents that are kept of it
+-- the sector's number, what a book of this sector alone knows of it, and
+-- the contents that are kept of it
 pub record SectorKnown : Type 0 where
   pub sector : ℕ
   pub book : Knowledge
@@ -23,11 +25,13 @@ pub record SectorStandsFor (known : SectorKnown) (readings : List NotedReading) 
 
 -- a call appends these to whatever list of readings of the sector is stood for
 abbrev pub AppendsNotes : SectorKnown → SectorKnown → List NotedReading → Type 0
-AppendsNotes old new more = (readings : List NotedReading) → SectorStandsFor old readings → SectorStandsFor new (readings ++ more)
+AppendsNotes old new more = (readings : List NotedReading) → SectorStandsFor old readings
+    → SectorStandsFor new (readings ++ more)
 
 -- of whatever list has all these readings of a track, a call notes those of the sector
 abbrev pub NotesOf : (AreAll : List NotedReading → Type 0) → SectorKnown → SectorKnown → Type 0
-NotesOf AreAll old new = (readings : List NotedReading) → AreAll readings → AppendsNotes old new (of_sector old.sector readings)
+NotesOf AreAll old new = (readings : List NotedReading) → AreAll readings
+    → AppendsNotes old new (of_sector old.sector readings)
 
 -- the good readings of a header of a sector: one for each of its data
 abbrev pub data_readings : (sector : ℕ) → Place → List (ℕ × List ℕ) → List NotedReading

@@ -1,5 +1,7 @@
 -- What is printed of the contents of a sector.
-use Rattle.std.specs.Prelude.{ℕ, ◌+◌, ◌*◌, ◌/◌, ◌%◌, Bool, true, false, List, [], ◌∷◌, ◌++◌, codes, decimal, drop, flat_map, get_or, if◌then◌else◌, length, map, nat_lt, take}
+use Rattle.std.specs.Prelude.{ℕ, ◌+◌, ◌*◌, ◌/◌, ◌%◌, Bool, true, false, List, [], ◌∷◌, ◌++◌, codes}
+use Rattle.std.specs.Prelude.{decimal, drop, flat_map, get_or, if◌then◌else◌, length, map, nat_lt}
+use Rattle.std.specs.Prelude.{take}
 use Rattle.std.specs.List.{range_with_len}
 use Rattle.std.specs.Str.{bytes_eq}
 use Rattle.sector_images.specs.Formats.{row}
@@ -15,12 +17,15 @@ use Rattle.sector_copies.specs.Copies.{Copy}
 
 -- where a sector's bytes stand in the image, and how many they are
 unfoldable pub offset_text : (place size : ℕ) → List ℕ
-offset_text place size = codes "image offset " ++ decimal place ++ (codes " bytes " ++ decimal size) ++ codes "\n"
+offset_text place size =
+    codes "image offset " ++ decimal place ++ (codes " bytes " ++ decimal size) ++ codes "\n"
 
--- the number of a content from 0, how many good readings hold it, and where the first of them stands: the dump, the clock, the revolution, the cell
+-- the number of a content from 0, how many good readings hold it, and where the first of them
+-- stands: the dump, the clock, the revolution, the cell
 unfoldable pub head_text : (number readings : ℕ) → Place → List ℕ
 head_text number readings first =
-    codes "copy " ++ decimal number ++ codes " readings " ++ decimal readings ++ place_text ByCaptureAndClock first ++ codes "\n"
+    codes "copy " ++ decimal number ++ codes " readings " ++ decimal readings
+    ++ place_text ByCaptureAndClock first ++ codes "\n"
 
 -- the digit of a number below 16, in ASCII
 abbrev pub digit : ℕ → ℕ
@@ -46,19 +51,26 @@ mark false = codes "> "
 -- a row of a content: the offset in four digits, the bytes, and what they show
 unfoldable pub row_text : (first bytes : List ℕ) → (number : ℕ) → List ℕ
 row_text first bytes number =
-    mark (bytes_eq (row_bytes first number) (row_bytes bytes number)) ++ two_hex (16 * number / 256) ++ two_hex (16 * number % 256) ++ codes " "
-    ++ flat_map (λ byte. 32 ∷ two_hex byte) (row_bytes bytes number) ++ codes "  " ++ map shown (row_bytes bytes number) ++ codes "\n"
+    mark (bytes_eq (row_bytes first number) (row_bytes bytes number)) ++ two_hex (16 * number / 256)
+    ++ two_hex (16 * number % 256) ++ codes " "
+    ++ flat_map (λ byte. 32 ∷ two_hex byte) (row_bytes bytes number) ++ codes "  "
+    ++ map shown (row_bytes bytes number) ++ codes "\n"
 
 -- how many rows so many bytes have
 abbrev pub row_count : ℕ → ℕ
 row_count size = (size + 15) / 16
 
 abbrev pub rows_text : (first bytes : List ℕ) → List ℕ
-rows_text first bytes = flat_map (row_text first bytes) (range_with_len 0 (row_count (length bytes)))
+rows_text first bytes =
+    flat_map (row_text first bytes) (range_with_len 0 (row_count (length bytes)))
 
 -- what stands for a content where there is none
 abbrev pub no_copy : Copy
-no_copy = record { bytes = []; readings = 0; first = record { capture = 0; clock = Following; turn = 0; cell = 0 } }
+no_copy = record {
+  bytes = [];
+  readings = 0;
+  first = record { capture = 0; clock = Following; turn = 0; cell = 0 };
+}
 
 -- a content by its number
 abbrev pub copy_at : List Copy → ℕ → Copy
@@ -80,4 +92,5 @@ line_text format n sector outcome = named_text ByCaptureAndClock (track_at forma
 -- all of it
 abbrev pub sector_text : Format → (n sector : ℕ) → Verdict → List Copy → List ℕ
 sector_text format n sector outcome copies =
-    offset_text (sector_place format (track_at format n) sector) (row format).sector_size ++ (copies_text copies ++ line_text format n sector outcome)
+    offset_text (sector_place format (track_at format n) sector) (row format).sector_size
+    ++ (copies_text copies ++ line_text format n sector outcome)

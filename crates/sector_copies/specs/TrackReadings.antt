@@ -22,7 +22,8 @@ use Rattle.dump_reading.specs.Reports.{dump_plan}
 use Rattle.sector_copies.specs.Copies.{Copy, copies_over}
 use Rattle.sector_copies.specs.Notes.{NotesOf, SectorKnown, SectorStandsFor, of_sector}
 
--- the format, the track's number, what is known of the sector, and which of the track's streams were passed over
+-- the format, the track's number, what is known of the sector, and which of the
+-- track's streams were passed over
 pub record SectorRoomState : Type 0 where
   pub format : Format
   pub number : ℕ
@@ -37,8 +38,10 @@ pub record IsEmptyRoom (format : Format) (number sector : ℕ) (room : SectorRoo
   pub none : SectorStandsFor room.known []
   pub no_passed : room.passed ≡ []
 
--- the room is for one of the format's sectors, and has room for the most cells that a stream can make
-pub record IsRoomFor (format : Format) (number : ℕ) (known : SectorKnown) (cells : CellsState) : Type 0 where
+-- the room is for one of the format's sectors, and has room for the most cells that a stream can
+-- make
+pub record IsRoomFor (format : Format) (number : ℕ) (known : SectorKnown)
+    (cells : CellsState) : Type 0 where
   pub low : number < length (tracks format)
   pub sector : IsSector format (track_at format number) known.sector
   pub size : known.book.size ≡ (row format).sector_size
@@ -52,32 +55,45 @@ pub record IsSameRoom (old new : SectorRoomState) : Type 0 where
 
 -- one track of a disk's dumps, by itself: it stands for all
 abbrev pub of_track : DumpDisk → (n : ℕ) → DumpTracks
-of_track disk n = record { stepping = disk.stepping; dumps = disk.dumps; count = length disk.dumps; track_of = λ _. track_at disk.format n }
+of_track disk n =
+    record {
+      stepping = disk.stepping;
+      dumps = disk.dumps;
+      count = length disk.dumps;
+      track_of = λ _. track_at disk.format n;
+    }
 
 -- what came of its files, dump by dump, as streams of a disk
 abbrev pub streams_of : List Seen → Streams
 streams_of came n q = seen_at came q
 
--- The file of the track in the next dump was read or passed over: of whatever list has all readings of it, those of the sector were noted.
-pub record HasReadNext (disk : DumpDisk) (n q : ℕ) (start now : ShelfNow) (old new : SectorRoomState) : Type 0 where
+-- The file of the track in the next dump was read or passed over: of whatever list has all readings
+-- of it, those of the sector were noted.
+pub record HasReadNext (disk : DumpDisk) (n q : ℕ) (start now : ShelfNow)
+    (old new : SectorRoomState) : Type 0 where
   pub here : Seen
   pub gave : GaveOf disk.stepping disk.dumps (track_at disk.format n) q start now here
-  pub noted : NotesOf (AreReadingsOf Controller Both disk.format (track_at disk.format n) here.times here.indexes q) old.known new.known
+  pub noted : NotesOf
+      (AreReadingsOf Controller Both disk.format (track_at disk.format n) here.times here.indexes q)
+      old.known new.known
   pub passed_are : new.passed ≡ old.passed ++ passed_one q here.passed
 
--- The files of the track in the first q dumps came: what is known stands for all readings of the sector in them, whatever lists have all
--- readings of each, and these were passed over.
-pub record HasReadTo (disk : DumpDisk) (n sector q : ℕ) (start now : ShelfNow) (known : SectorKnown) (passed : List PassedStream) : Type 0 where
+-- The files of the track in the first q dumps came: what is known stands for all readings of the
+-- sector in them, whatever lists have all readings of each, and these were passed over.
+pub record HasReadTo (disk : DumpDisk) (n sector q : ℕ) (start now : ShelfNow) (known : SectorKnown)
+    (passed : List PassedStream) : Type 0 where
   pub came : List Seen
   pub many : length came ≡ q
   pub are : HaveComeOf (of_track disk n) start now came
-  pub stands : (captures : List (List NotedReading)) → length captures ≡ q → AreCaptures (dump_plan (length disk.dumps)) disk.format (streams_of came) n captures
+  pub stands : (captures : List (List NotedReading)) → length captures ≡ q
+      → AreCaptures (dump_plan (length disk.dumps)) disk.format (streams_of came) n captures
       → SectorStandsFor known (of_sector sector (joined captures))
   pub passed_are : passed ≡ passed_to (streams_of came) n q
   pub lost_are : lost_in passed ≡ lost_count came
 
--- What is told of a sector of a track that has these readings: the verdict over those of the sector, and the distinct contents of its good
--- ones.
-pub record TellsOf (sector : ℕ) (readings : List NotedReading) (outcome : Verdict) (copies : List Copy) : Type 0 where
+-- What is told of a sector of a track that has these readings: the verdict over those of the
+-- sector, and the distinct contents of its good ones.
+pub record TellsOf (sector : ℕ) (readings : List NotedReading) (outcome : Verdict)
+    (copies : List Copy) : Type 0 where
   pub verdict_is : outcome ≡ verdict readings sector
   pub copies_are : copies ≡ copies_over (good_ones readings sector)

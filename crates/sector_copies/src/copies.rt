@@ -16,8 +16,8 @@ use turn_merge::Place;
 /// The most contents that are kept of a sector.
 const MOST_COPIES: usize = 16;
 
-/// One of the contents that good readings of a sector hold. Contracts see its bytes, how many readings hold it and where the
-/// first of them stands.
+/// One of the contents that good readings of a sector hold. Contracts see its bytes, how many readings hold it and
+/// where the first of them stands.
 #[derive(Debug, Drop)]
 pub struct SectorCopy {
     bytes: ArrayVec<u8, MOST_SECTOR_BYTES>,
@@ -83,13 +83,15 @@ impl SectorCopy {
     /// Counts one more reading.
     fn count(&mut self)
         requires { self.old.readings < MOST_NOTES }
-        ensures { self.new ≡ record { bytes = self.old.bytes; readings = self.old.readings + 1; first = self.old.first } }
+        ensures { self.new
+            ≡ record { bytes = self.old.bytes; readings = self.old.readings + 1; first = self.old.first } }
     {
         self.readings += 1;
     }
 }
 
-/// The contents of a sector in the order in which they were first met, at most 16. Only `new` may answer want of memory.
+/// The contents of a sector in the order in which they were first met, at most 16. Only `new` may answer want of
+/// memory.
 #[derive(Debug, Drop)]
 pub(crate) struct Copies {
     held: Vec<SectorCopy>,

@@ -1,5 +1,5 @@
-//! One sector of a disk that is read of several dumps: the verdict over its readings, and the distinct contents that its good ones hold.
-//! The track's files of all dumps are read, as `dump_reading` reads them, and no others.
+//! One sector of a disk that is read of several dumps: the verdict over its readings, and the distinct contents that
+//! its good ones hold. The track's files of all dumps are read, as `dump_reading` reads them, and no others.
 #![tactic(auto)]
 
 mod copies;

@@ -27,8 +27,8 @@ pub(crate) fn offset_line(place: u32, size: u16) -> Line
     line
 }
 
-/// The number of a content from 0, how many good readings hold it, and where the first of them stands: the dump, the clock, the
-/// revolution and the cell.
+/// The number of a content from 0, how many good readings hold it, and where the first of them stands: the dump, the
+/// clock, the revolution and the cell.
 #[tactic(auto, unfolding(crate::specs::Texts::head_text))]
 pub(crate) fn head_line(number: usize, readings: u64, first: Place) -> Line
     ensures { result.bytes ≡ head_text number readings first }
@@ -43,8 +43,8 @@ pub(crate) fn head_line(number: usize, readings: u64, first: Place) -> Line
     line
 }
 
-/// A row of a content by its number from 0: the offset, the bytes in hexadecimal and as characters. Before it stands `>` where the bytes
-/// are not those of the first content.
+/// A row of a content by its number from 0: the offset, the bytes in hexadecimal and as characters. Before it stands
+/// `>` where the bytes are not those of the first content.
 #[tactic(auto, unfolding(crate::specs::Texts::row_text))]
 pub(crate) fn row_line(first: &[u8], bytes: &[u8], number: usize) -> Row
     requires { number ≤ 64 }

@@ -78,7 +78,8 @@ impl SectorNotes {
 
     /// What the readings say together.
     pub(crate) fn verdict(&self) -> Verdict
-        ensures { (readings : List NotedReading) → SectorStandsFor self.now readings → result ≡ verdict_over readings self.now.sector }
+        ensures { (readings : List NotedReading) → SectorStandsFor self.now readings
+            → result ≡ verdict_over readings self.now.sector }
     {
         self.book.verdict(self.sector)
     }

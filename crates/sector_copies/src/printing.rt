@@ -39,7 +39,8 @@ fn write_copy<W: Sink>(
     copy: &SectorCopy,
     sink: &mut W,
 ) -> Result<(), Failed>
-    ensures { Puts (sink_at W.Sink sink.old) (sink_at W.Sink sink.new) (head_text number copy.now.readings copy.now.first ++ rows_text first.now.bytes copy.now.bytes) result }
+    ensures { Puts (sink_at W.Sink sink.old) (sink_at W.Sink sink.new)
+        (head_text number copy.now.readings copy.now.first ++ rows_text first.now.bytes copy.now.bytes) result }
 {
     match write_line(sink, &head_line(number, copy.readings(), copy.first())) {
         Ok(()) => write_rows(first.bytes(), copy.bytes(), sink),

@@ -27,9 +27,11 @@ use std::marker::Model;
 use track_shelf::Shelf;
 use turn_merge::Verdict;
 
-/// All that reading one sector of a disk's dumps takes, less than 128 MiB: no answer of a call on it is for want of memory.
+/// All that reading one sector of a disk's dumps takes, less than 128 MiB: no answer of a call on it is for want of
+/// memory.
 ///
-/// Contracts see the format, the track's number, what is known of the sector, and which of the track's streams were passed over.
+/// Contracts see the format, the track's number, what is known of the sector, and which of the
+/// track's streams were passed over.
 #[derive(Drop)]
 pub struct SectorRoom {
     format: Format,
@@ -44,7 +46,8 @@ impl Model for SectorRoom {
 
     ghost Value = { SectorRoomState };
 
-    ghost view = { λ r. record { format = r.format; number = r.number; known = r.tools.notes; passed = r.tools.passed.items } };
+    ghost view = { λ r.
+        record { format = r.format; number = r.number; known = r.tools.notes; passed = r.tools.passed.items } };
 
     ghost invariant = { λ r. IsRoomFor r.format r.number r.tools.notes r.tools.cells };
 }
@@ -116,7 +119,8 @@ impl SectorRoom {
 
     /// The place of the sector's first byte in the image.
     pub(crate) fn image_place(&self) -> u32
-        ensures { result ≡ sector_place self.now.format (track_at self.now.format self.now.number) self.now.known.sector }
+        ensures { result
+            ≡ sector_place self.now.format (track_at self.now.format self.now.number) self.now.known.sector }
     {
         tracks_keep_bounds();
         image_place(
@@ -143,19 +147,23 @@ impl SectorRoom {
 
     /// What the sector's readings say together.
     pub(crate) fn verdict(&self) -> Verdict
-        ensures { (readings : List NotedReading) → SectorStandsFor self.now.known readings → result ≡ verdict_over readings self.now.known.sector }
+        ensures { (readings : List NotedReading) → SectorStandsFor self.now.known readings
+            → result ≡ verdict_over readings self.now.known.sector }
     {
         self.tools.notes.verdict()
     }
 }
 
-/// Reads one sector of a disk of its dumps: of its track the files of all dumps as controllers read, in the order of the dumps, by both
-/// clocks. One that is missing or refused, or that fails, is passed over. No other track's file is opened.
+/// Reads one sector of a disk of its dumps: of its track the files of all dumps as controllers read, in the
+/// order of the dumps, by both clocks. One that is missing or refused, or that fails, is passed over. No
+/// other track's file is opened.
 pub fn read_sector<H: Shelf>(dumps: &Dumps, room: &mut SectorRoom, shelf: &mut H)
     requires none { SectorStandsFor room.old.known [] }
     requires no_passed { room.old.passed ≡ [] }
     requires few { length dumps.now.names.now ≤ 16 }
-    ensures read { HasReadTo (disk_of dumps.now room.old.format) room.old.number room.old.known.sector (length dumps.now.names.now) (shelf_at H.Source H.Shelf.own shelf.old) (shelf_at H.Source H.Shelf.own shelf.new) room.new.known room.new.passed }
+    ensures read { HasReadTo (disk_of dumps.now room.old.format) room.old.number room.old.known.sector
+        (length dumps.now.names.now) (shelf_at H.Source H.Shelf.own shelf.old) (shelf_at H.Source H.Shelf.own shelf.new)
+        room.new.known room.new.passed }
     ensures same { IsSameRoom room.old room.new }
 {
     for capture in 0..dumps.names.len() {
@@ -168,7 +176,8 @@ fn read_next<H: Shelf>(dumps: &Dumps, capture: u8, room: &mut SectorRoom, shelf:
     requires low { capture < length dumps.now.names.now }
     requires few { room.old.known.book.notes + 2 * MOST_READINGS ≤ MOST_NOTES }
     requires room { length room.old.passed < 16 }
-    ensures read { HasReadNext (disk_of dumps.now room.old.format) room.old.number capture (shelf_at H.Source H.Shelf.own shelf.old) (shelf_at H.Source H.Shelf.own shelf.new) room.old room.new }
+    ensures read { HasReadNext (disk_of dumps.now room.old.format) room.old.number capture
+        (shelf_at H.Source H.Shelf.own shelf.old) (shelf_at H.Source H.Shelf.own shelf.new) room.old room.new }
     ensures same { IsSameRoom room.old room.new }
     ensures few { room.new.known.book.notes ≤ room.old.known.book.notes + 2 * MOST_READINGS }
     ensures passed { length room.new.passed ≤ length room.old.passed + 1 }

@@ -26,11 +26,12 @@ use sector_report::{Naming, named_line, write_line};
 use track_shelf::Shelf;
 use turn_merge::Verdict;
 
-/// Shows a sector of a disk of its dumps. The track's files of all dumps are read as `read_dumps` reads them, and no others; which of
-/// them were passed over, or failed, is told in the notes. Then each distinct content of the sector's good readings is written, at most 16
-/// in the order in which they were first met, and last the sector's line. Where one content is asked for alone by its number, its bytes
-/// are written and nothing else, if there is such a content, and the line goes to the notes. The answer is how many contents there are,
-/// and how many files failed. No answer is for want of memory.
+/// Shows a sector of a disk of its dumps. The track's files of all dumps are read as `read_dumps` reads them, and no
+/// others; which of them were passed over, or failed, is told in the notes. Then each distinct content of the
+/// sector's good readings is written, at most 16 in the order in which they were first met, and last the sector's
+/// line. Where one content is asked for alone by its number, its bytes are written and nothing else, if there is such
+/// a content, and the line goes to the notes. The answer is how many contents there are, and how many files failed.
+/// No answer is for want of memory.
 pub fn show_sector<H: Shelf, W: Sink, N: Sink>(
     dumps: &Dumps,
     alone: Option<u32>,
@@ -42,7 +43,15 @@ pub fn show_sector<H: Shelf, W: Sink, N: Sink>(
     requires none { SectorStandsFor room.old.known [] }
     requires no_passed { room.old.passed ≡ [] }
     requires few { length dumps.now.names.now ≤ 16 }
-    ensures says { SaysOfSector (record { disk = disk_of dumps.now room.old.format; number = room.old.number; sector = room.old.known.sector; alone = alone }) (shelf_at H.Source H.Shelf.own shelf.old) (shelf_at H.Source H.Shelf.own shelf.new) (W.written image.old) (W.written image.new) (N.written notes.old) (N.written notes.new) result }
+    ensures says { SaysOfSector
+        (record {
+          disk = disk_of dumps.now room.old.format;
+          number = room.old.number;
+          sector = room.old.known.sector;
+          alone = alone;
+        })
+        (shelf_at H.Source H.Shelf.own shelf.old) (shelf_at H.Source H.Shelf.own shelf.new) (W.written image.old)
+        (W.written image.new) (N.written notes.old) (N.written notes.new) result }
 
     // What the shelf did is in what came of it.
     ensures blames { CountsBy (dumps_blame result)
@@ -83,7 +92,8 @@ fn write_notes<N: Sink>(
     notes: &mut N,
 ) -> Result<(), Failed>
     ensures { Puts (sink_at N.Sink notes.old) (sink_at N.Sink notes.new)
-        (passed_lines (track_at room.now.format room.now.number) room.now.passed ++ notes_shown alone room.now.format room.now.number room.now.known.sector outcome.now) result }
+        (passed_lines (track_at room.now.format room.now.number) room.now.passed
+        ++ notes_shown alone room.now.format room.now.number room.now.known.sector outcome.now) result }
 {
     match write_passed(room.track(), room.passed(), notes) {
         Ok(()) => write_line_alone(alone, room, outcome, notes),
@@ -98,7 +108,8 @@ fn write_line_alone<N: Sink>(
     outcome: &Verdict,
     notes: &mut N,
 ) -> Result<(), Failed>
-    ensures { Puts (sink_at N.Sink notes.old) (sink_at N.Sink notes.new) (notes_shown alone room.now.format room.now.number room.now.known.sector outcome.now) result }
+    ensures { Puts (sink_at N.Sink notes.old) (sink_at N.Sink notes.new)
+        (notes_shown alone room.now.format room.now.number room.now.known.sector outcome.now) result }
 {
     match alone {
         None => write_whole(notes, &[]),
@@ -113,7 +124,9 @@ fn write_image<W: Sink>(
     outcome: &Verdict,
     image: &mut W,
 ) -> Result<(), Failed>
-    ensures { Puts (sink_at W.Sink image.old) (sink_at W.Sink image.new) (image_shown alone room.now.format room.now.number room.now.known.sector outcome.now room.now.known.copies) result }
+    ensures { Puts (sink_at W.Sink image.old) (sink_at W.Sink image.new)
+        (image_shown alone room.now.format room.now.number room.now.known.sector outcome.now room.now.known.copies)
+        result }
 {
     match alone {
         None => write_all(room, outcome, image),
@@ -123,7 +136,8 @@ fn write_image<W: Sink>(
 
 /// Writes where the sector's bytes stand in the image, all contents, and the sector's line.
 fn write_all<W: Sink>(room: &SectorRoom, outcome: &Verdict, image: &mut W) -> Result<(), Failed>
-    ensures { Puts (sink_at W.Sink image.old) (sink_at W.Sink image.new) (sector_text room.now.format room.now.number room.now.known.sector outcome.now room.now.known.copies) result }
+    ensures { Puts (sink_at W.Sink image.old) (sink_at W.Sink image.new)
+        (sector_text room.now.format room.now.number room.now.known.sector outcome.now room.now.known.copies) result }
 {
     match write_line(image, &offset_line(room.image_place(), room.size())) {
         Ok(()) => write_copies_and_line(room, outcome, image),
@@ -138,7 +152,8 @@ fn write_copies_and_line<W: Sink>(
     image: &mut W,
 ) -> Result<(), Failed>
     ensures { Puts (sink_at W.Sink image.old) (sink_at W.Sink image.new)
-        (copies_text room.now.known.copies ++ line_text room.now.format room.now.number room.now.known.sector outcome.now) result }
+        (copies_text room.now.known.copies
+        ++ line_text room.now.format room.now.number room.now.known.sector outcome.now) result }
 {
     match write_copies(room.copies(), image) {
         Ok(()) => write_sector_line(room, outcome, image),
@@ -162,7 +177,8 @@ fn write_sector_line<W: Sink>(
     outcome: &Verdict,
     sink: &mut W,
 ) -> Result<(), Failed>
-    ensures { Puts (sink_at W.Sink sink.old) (sink_at W.Sink sink.new) (line_text room.now.format room.now.number room.now.known.sector outcome.now) result }
+    ensures { Puts (sink_at W.Sink sink.old) (sink_at W.Sink sink.new)
+        (line_text room.now.format room.now.number room.now.known.sector outcome.now) result }
 {
     let line = named_line(
         Naming::ByCaptureAndClock,

@@ -25,7 +25,8 @@ use phase_loop::Loop;
 use sector_images::Format;
 use turn_merge::Clock;
 
-/// What the streams of a track are worked on with, what is noted of one sector, and which of the streams were passed over.
+/// What the streams of a track are worked on with, what is noted of one sector, and which of
+/// the streams were passed over.
 #[derive(Drop)]
 pub(crate) struct SectorTools {
     pub clock: Loop,
@@ -49,8 +50,11 @@ pub(crate) fn note_next(
     requires size { tools.old.notes.book.size ≡ (row format).sector_size }
     requires few { tools.old.notes.book.notes + 2 * MOST_READINGS ≤ MOST_NOTES }
     requires room { length tools.old.passed.items < 16 }
-    ensures noted { NotesOf (AreReadingsOf Controller Both format track (seen_next next flux.now).times (seen_next next flux.now).indexes capture) tools.old.notes tools.new.notes }
-    ensures passed { tools.new.passed.items ≡ tools.old.passed.items ++ passed_one capture (seen_next next flux.now).passed }
+    ensures noted { NotesOf
+        (AreReadingsOf Controller Both format track (seen_next next flux.now).times (seen_next next flux.now).indexes
+        capture) tools.old.notes tools.new.notes }
+    ensures passed { tools.new.passed.items
+        ≡ tools.old.passed.items ++ passed_one capture (seen_next next flux.now).passed }
     ensures same { IsSameSector tools.old.notes tools.new.notes }
     ensures few { tools.new.notes.book.notes ≤ tools.old.notes.book.notes + 2 * MOST_READINGS }
     ensures cells { MOST_CELLS ≤ room tools.new.cells }
@@ -76,7 +80,8 @@ fn note_stream(
     requires cells { MOST_CELLS ≤ room tools.old.cells }
     requires size { tools.old.notes.book.size ≡ (row format).sector_size }
     requires few { tools.old.notes.book.notes + 2 * MOST_READINGS ≤ MOST_NOTES }
-    ensures noted { NotesOf (AreReadingsOf Controller Both format track flux.now.times flux.now.indexes capture) tools.old.notes tools.new.notes }
+    ensures noted { NotesOf (AreReadingsOf Controller Both format track flux.now.times flux.now.indexes capture)
+        tools.old.notes tools.new.notes }
     ensures kept { tools.new.passed ≡ tools.old.passed }
     ensures same { IsSameSector tools.old.notes tools.new.notes }
     ensures few { tools.new.notes.book.notes ≤ tools.old.notes.book.notes + 2 * MOST_READINGS }
@@ -100,7 +105,8 @@ fn note_by_clock(
     requires cells { MOST_CELLS ≤ room tools.old.cells }
     requires size { tools.old.notes.book.size ≡ (row format).sector_size }
     requires few { tools.old.notes.book.notes + MOST_READINGS ≤ MOST_NOTES }
-    ensures noted { NotesOf (AreReadingsBy Controller clock format track flux.now.times flux.now.indexes capture) tools.old.notes tools.new.notes }
+    ensures noted { NotesOf (AreReadingsBy Controller clock format track flux.now.times flux.now.indexes capture)
+        tools.old.notes tools.new.notes }
     ensures kept { tools.new.passed ≡ tools.old.passed }
     ensures same { IsSameSector tools.old.notes tools.new.notes }
     ensures few { tools.new.notes.book.notes ≤ tools.old.notes.book.notes + MOST_READINGS }

@@ -17,8 +17,8 @@ use frame_law::{Recording, SectorBuffer, data_are_read, next_header};
 use index_turns::TrackFlux;
 use turn_merge::{Clock, Place};
 
-/// Notes all readings of the sector in the cells that a clock recovered of a capture, as controllers read: a good one for each of the
-/// data of its headers, and a bad one for a header that has none.
+/// Notes all readings of the sector in the cells that a clock recovered of a capture, as controllers read: a good one
+/// for each of the data of its headers, and a bad one for a header that has none.
 pub(crate) fn note_cells<R: Recording>(
     recording: &R,
     track: TrackId,
@@ -37,8 +37,11 @@ pub(crate) fn note_cells<R: Recording>(
     ensures few { notes.new.book.notes ≤ notes.old.book.notes + MOST_READINGS }
 
     // Whatever list has all that can be read in the cells.
-    ensures noted { (found : List Found) → AreReadByControllers (R.header_at recording.now track) (R.data_at recording.now) cells.now.cells found
-        → AppendsNotes notes.old notes.new (of_sector notes.old.sector (readings_in capture clock flux.now.times flux.now.indexes cells.now.cells found)) }
+    ensures noted { (found : List Found)
+        → AreReadByControllers (R.header_at recording.now track) (R.data_at recording.now) cells.now.cells found
+        → AppendsNotes notes.old notes.new
+        (of_sector notes.old.sector
+        (readings_in capture clock flux.now.times flux.now.indexes cells.now.cells found)) }
 {
     data_are_read::<R>();
     let mut buffer = SectorBuffer::new();
@@ -116,7 +119,8 @@ fn note_data<R: Recording>(
     requires few { notes.old.book.notes + length cells.now.cells ≤ MOST_NOTES + from }
     ensures same { IsSameSector notes.old notes.new }
     ensures few { notes.new.book.notes + from ≤ notes.old.book.notes + length cells.now.cells }
-    ensures noted { (found : List (ℕ × List ℕ)) → AreFound (R.data_at recording.now (drop cell cells.now.cells)) from found
+    ensures noted { (found : List (ℕ × List ℕ))
+        → AreFound (R.data_at recording.now (drop cell cells.now.cells)) from found
         → AppendsNotes notes.old notes.new (data_readings notes.old.sector place found) }
 {
     let mut start = from;

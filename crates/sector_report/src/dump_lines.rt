@@ -2,7 +2,8 @@
 
 ghost use Rattle.std.specs.Prelude.{◌≡◌, ◌+◌, ◌≤◌, ◌<◌, ◌++◌, codes, decimal};
 ghost use Rattle.arrayvec.specs.ArrayString.{array_string_len};
-ghost use Rattle.sector_report.specs.DumpLines.{dump_name, name_text, other_text, passed_text, traces_text, unread_text, untold_text};
+ghost use Rattle.sector_report.specs.DumpLines.{dump_name, name_text, other_text, passed_text, traces_text};
+ghost use Rattle.sector_report.specs.DumpLines.{unread_text, untold_text};
 
 use crate::line::{Line, put, put_named, put_u8, put_u64};
 use crate::naming::Naming;
@@ -49,9 +50,9 @@ pub fn passed_line(track: TrackId, dump: u8, passed: &Passed) -> Line
     line
 }
 
-/// What is told of a name that headers of a track have and none of its sectors: `CC.H other`, the name's numbers, how many
-/// headers have it, after how many of them whole data stand, and the place of the first one, with that part of its source.
-/// The cylinder is below 100.
+/// What is told of a name that headers of a track have and none of its sectors: `CC.H other`, the name's numbers, how
+/// many headers have it, after how many of them whole data stand, and the place of the first one, with that part of its
+/// source. The cylinder is below 100.
 #[tactic(auto, unfolding(crate::specs::DumpLines::other_text))]
 pub fn other_line(naming: Naming, track: TrackId, told: &OtherTold) -> Line
     requires { track.cylinder < 100 }
@@ -70,8 +71,8 @@ pub fn other_line(naming: Naming, track: TrackId, told: &OtherTold) -> Line
     line
 }
 
-/// That whole data stand after a header of a track whose name is that of none of its sectors, and is not told: `CC.H others not
-/// told`. The cylinder is below 100.
+/// That whole data stand after a header of a track whose name is that of none of its sectors, and is not told: `CC.H
+/// others not told`. The cylinder is below 100.
 #[tactic(auto, unfolding(crate::specs::DumpLines::untold_text))]
 pub fn untold_line(track: TrackId) -> Line
     requires { track.cylinder < 100 }
@@ -83,8 +84,8 @@ pub fn untold_line(track: TrackId) -> Line
     line
 }
 
-/// How many names headers of a track have and none of its sectors, after none of which whole data stand: `CC.H traces N`. The
-/// cylinder is below 100.
+/// How many names headers of a track have and none of its sectors, after none of which whole data stand: `CC.H traces
+/// N`. The cylinder is below 100.
 #[tactic(auto, unfolding(crate::specs::DumpLines::traces_text))]
 pub fn traces_line(track: TrackId, count: u64) -> Line
     requires { track.cylinder < 100 }
@@ -155,7 +156,10 @@ fn put_name(line: &mut Line, name: HeaderName)
 /// Appends four numbers, each with a blank before it.
 fn put_four(line: &mut Line, first: u8, second: u8, third: u8, fourth: u8)
     requires { array_string_len line.old + 16 ≤ 192 }
-    ensures bytes { line.new.bytes ≡ line.old.bytes ++ (codes " " ++ decimal first ++ codes " " ++ decimal second ++ codes " " ++ decimal third ++ codes " " ++ decimal fourth) }
+    ensures bytes { line.new.bytes
+        ≡ line.old.bytes
+        ++ (codes " " ++ decimal first ++ codes " " ++ decimal second ++ codes " " ++ decimal third ++ codes " "
+        ++ decimal fourth) }
     ensures len { array_string_len line.new ≤ array_string_len line.old + 16 }
 {
     put_number(line, first);

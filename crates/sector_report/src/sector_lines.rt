@@ -1,6 +1,7 @@
 ghost use Rattle.std.specs.Prelude.{◌≡◌, ◌+◌, ◌≤◌, ◌<◌, ◌++◌, length, codes, decimal};
 ghost use Rattle.arrayvec.specs.ArrayString.{array_string_len};
-ghost use Rattle.sector_report.specs.Lines.{named_text, number_of_clock, place_text, sector_name, sector_text, source_text, total_text, two_digits, verdict_text};
+ghost use Rattle.sector_report.specs.Lines.{named_text, number_of_clock, place_text, sector_name, sector_text};
+ghost use Rattle.sector_report.specs.Lines.{source_text, total_text, two_digits, verdict_text};
 
 use crate::line::{Line, put, put_named, put_u8, put_u32, put_u64};
 use crate::naming::Naming;
@@ -8,9 +9,9 @@ use crate::totals::Totals;
 use flux_base::TrackId;
 use turn_merge::{Clock, Place, Verdict};
 
-/// What is said of one sector of a track with one stream that one clock read: `CC.H SS` and the verdict, with the numbers
-/// of good and of bad readings and the turn and cell of the readings that it names. The cylinder is below 100; a sector of
-/// three digits has three.
+/// What is said of one sector of a track with one stream that one clock read: `CC.H SS` and the verdict, with the
+/// numbers of good and of bad readings and the turn and cell of the readings that it names. The cylinder is below 100;
+/// a sector of three digits has three.
 pub fn sector_line(track: TrackId, sector: u8, verdict: &Verdict) -> Line
     requires { track.cylinder < 100 }
     ensures { result.bytes ≡ sector_text track sector verdict.now }

@@ -24,10 +24,10 @@ struct Wanted {
     number: u32,
 }
 
-/// The files of the system as a shelf. No memory is taken. Each error of std is counted as a fault, save where `begin` and
-/// `open_file` do not find a file, and where it is only looked whether or what something is; so is a name that is no text, and
-/// a path of more than 4096 bytes. To `open_file` a file whose folder is a file is not there. A folder in the place of a
-/// track's file fails when it is read. It tells no bytes and no files.
+/// The files of the system as a shelf. No memory is taken. Each error of std is counted as a fault, save where `begin`
+/// and `open_file` do not find a file, and where it is only looked whether or what something is; so is a name that is
+/// no text, and a path of more than 4096 bytes. To `open_file` a file whose folder is a file is not there. A folder in
+/// the place of a track's file fails when it is read. It tells no bytes and no files.
 #[derive(Drop)]
 pub struct StdShelf<'a, R: Files> {
     files: &'a R,
@@ -48,8 +48,8 @@ impl<'a, R: Files> StdShelf<'a, R> {
         }
     }
 
-    /// Looks for all wanted files, and goes to the first where all are found. The answer is the number of the first track
-    /// whose file is not found, if one is not.
+    /// Looks for all wanted files, and goes to the first where all are found. The answer is the number of the first
+    /// track whose file is not found, if one is not.
     fn look(&mut self, folder: &[u8], format: Format) -> Result<Option<u32>, Failed>
         ensures kept { self.new.faults ≡ self.old.faults }
         ensures bound { IfOk result (λ missing. IfSome missing (λ number. number < length (tracks format))) }

@@ -1,5 +1,7 @@
--- A track's ring, which the turning disk repeats endlessly, and where its sectors lie in a part of the repetition.
-use Rattle.std.specs.Prelude.{◌≡◌, ℕ, zero, suc, ◌+◌, ◌-◌, ◌*◌, ◌%◌, ◌<◌, ◌≤◌, Bool, true, false, List, [], ◌∷◌, length, take, drop, get_or, slice_index}
+-- A track's ring, which the turning disk repeats endlessly, and where its sectors
+-- lie in a part of the repetition.
+use Rattle.std.specs.Prelude.{◌≡◌, ℕ, zero, suc, ◌+◌, ◌-◌, ◌*◌, ◌%◌, ◌<◌, ◌≤◌, Bool, true, false}
+use Rattle.std.specs.Prelude.{List, [], ◌∷◌, length, take, drop, get_or, slice_index}
 
 -- the cell at a place of the endlessly repeated ring
 abbrev pub cell_of : List Bool → ℕ → Bool
@@ -21,10 +23,12 @@ pub record AreNeighbours (ring : List Bool) (place distance : ℕ) : Type 0 wher
   pub behind : 0 < distance
   pub zeros : (k : ℕ) → 0 < k → k < distance → cell_of ring (place + k) ≡ false
 
--- the ring has a one, and its neighbouring ones, read cyclically, are `shortest` to `longest` cells apart
+-- the ring has a one, and its neighbouring ones, read cyclically, are
+-- `shortest` to `longest` cells apart
 pub record IsSpaced (shortest longest : ℕ) (ring : List Bool) : Type 0 where
   pub has_one : (place : ℕ) × (place < length ring) × (cell_of ring place ≡ true)
-  pub apart : (place distance : ℕ) → AreNeighbours ring place distance → (shortest ≤ distance) × (distance ≤ longest)
+  pub apart : (place distance : ℕ) → AreNeighbours ring place distance
+      → (shortest ≤ distance) × (distance ≤ longest)
 
 -- the bytes of so many sectors of `size` bytes, one after another
 pub record AreSectors (sectors size : ℕ) (bytes : List ℕ) : Type 0 where
@@ -40,8 +44,8 @@ pub record IsSectorNumber (first sectors sector : ℕ) : Type 0 where
   pub least : first ≤ sector
   pub most : sector < first + sectors
 
--- In `count` cells from place `from` of the repeated ring on, a frame that begins at `begin` of the ring lies whole at
--- `place`.
+-- In `count` cells from place `from` of the repeated ring on, a frame that begins at `begin` of
+-- the ring lies whole at `place`.
 pub record LiesAt (ring_cells begin frame_cells from count place : ℕ) : Type 0 where
   pub same : (from + place) % ring_cells ≡ begin
   pub whole : place + frame_cells ≤ count

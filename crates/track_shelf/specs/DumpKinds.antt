@@ -1,11 +1,13 @@
 -- What lies under the name of a dump.
-use Rattle.std.specs.Prelude.{◌≡◌, ◌+◌, ◌-◌, ◌&&◌, ◌==◌, if◌then◌else◌, ℕ, Bool, not, List, [], ◌∷◌, ◌++◌, length, take, drop, nat_le, codes, Option, Some, None, is_some}
+use Rattle.std.specs.Prelude.{◌≡◌, ◌+◌, ◌-◌, ◌&&◌, ◌==◌, if◌then◌else◌, ℕ, Bool, not, List, [], ◌∷◌}
+use Rattle.std.specs.Prelude.{◌++◌, length, take, drop, nat_le, codes, Option, Some, None, is_some}
 use Rattle.std.specs.List.{filter_map, list_all, list_any}
 use Rattle.std.specs.Str.{bytes_eq, is_utf8}
 use Rattle.track_shelf.specs.Files.{File, file_at}
 use Rattle.track_shelf.specs.Names.{ENDING_SIZE, names_file}
 use Rattle.track_shelf.specs.declared.kind.DumpKind.{DumpKind}
-use Rattle.track_shelf.specs.declared.kind.DumpKind.TheVariants.{NotThere, AFile, NoFiles, OtherTracks, Named}
+use Rattle.track_shelf.specs.declared.kind.DumpKind.TheVariants.{NotThere, AFile, NoFiles}
+use Rattle.track_shelf.specs.declared.kind.DumpKind.TheVariants.{OtherTracks, Named}
 
 -- a byte of a name: no control character, and no slash
 abbrev pub is_plain : ℕ → Bool
@@ -28,7 +30,8 @@ prefix_of name =
 -- what stands in a path behind a folder and a slash
 unfoldable pub name_in : (folder path : List ℕ) → Option (List ℕ)
 name_in folder path =
-    if bytes_eq (take (length folder + 1) path) (folder ++ codes "/") then Some (drop (length folder + 1) path) else None
+    if bytes_eq (take (length folder + 1) path) (folder ++ codes "/")
+    then Some (drop (length folder + 1) path) else None
 
 -- the names of what lies in a folder
 abbrev pub names_in : List File → (folder : List ℕ) → List (List ℕ)
@@ -40,7 +43,8 @@ first_named [] = NoFiles
 first_named (prefix ∷ rest) = Named prefix
 
 abbrev pub kind_by : (prefixes : List (List ℕ)) → DumpKind
-kind_by prefixes = if list_any (bytes_eq (codes "track")) prefixes then OtherTracks else first_named prefixes
+kind_by prefixes =
+    if list_any (bytes_eq (codes "track")) prefixes then OtherTracks else first_named prefixes
 
 -- a folder, by the names of what lies in it; no folder is empty
 unfoldable pub kind_of_folder : (names : List (List ℕ)) → DumpKind

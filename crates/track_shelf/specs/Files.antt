@@ -1,5 +1,6 @@
 -- The files of dumps, and which of them a folder and a path have.
-use Rattle.std.specs.Prelude.{◌≡◌, ℕ, zero, suc, Bool, List, [], Option, Some, None, Result, Ok, Err}
+use Rattle.std.specs.Prelude.{◌≡◌, ℕ, zero, suc, Bool, List, [], Option, Some, None, Result, Ok}
+use Rattle.std.specs.Prelude.{Err}
 use Rattle.std.specs.List.{find, flat_map, position_from}
 use Rattle.std.specs.Option.{is_none}
 use Rattle.std.specs.Str.{bytes_eq}
@@ -29,7 +30,8 @@ file_of files folder track = file_at files (folder_path folder track)
 
 -- the number of the format's first track whose file the folder lacks, if it lacks one
 unfoldable pub first_missing : List File → List ℕ → Format → Option ℕ
-first_missing files folder format = position_from (λ track. is_none (file_of files folder track)) 0 (tracks format)
+first_missing files folder format =
+    position_from (λ track. is_none (file_of files folder track)) 0 (tracks format)
 
 -- the bytes of a file, if there is one
 abbrev pub bytes_in : Option File → List ℕ
@@ -40,7 +42,8 @@ bytes_in (Some file) = file.bytes
 abbrev pub track_bytes : List File → List ℕ → TrackId → List ℕ
 track_bytes files folder track = bytes_in (file_of files folder track)
 
--- the wanted files joined: the bytes of the files of all the format's tracks, in the order of their numbers
+-- the wanted files joined: the bytes of the files of all the format's tracks,
+-- in the order of their numbers
 unfoldable pub joined : List File → List ℕ → Format → List ℕ
 joined files folder format = flat_map (track_bytes files folder) (tracks format)
 
@@ -49,17 +52,22 @@ abbrev pub NamesMissing : Option (List File) → List ℕ → Format → Result 
 NamesMissing (Some files) folder format (Ok missing) = missing ≡ first_missing files folder format
 NamesMissing _ folder format _ = Unit {0}
 
--- what is left by an answer: the wanted files joined, where none is missing and the files are told; else what was left before
-abbrev pub LeavesWanted : Option (List File) → List ℕ → Format → Result (Option ℕ) Failed → (old new : Option (List ℕ)) → Type 0
+-- what is left by an answer: the wanted files joined, where none is missing and the files are
+-- told; else what was left before
+abbrev pub LeavesWanted : Option (List File) → List ℕ → Format → Result (Option ℕ) Failed
+    → (old new : Option (List ℕ)) → Type 0
 LeavesWanted (Some files) folder format (Ok None) old new = new ≡ Some (joined files folder format)
 LeavesWanted None folder format (Ok None) old new = Unit {0}
 LeavesWanted told folder format (Ok (Some number)) old new = new ≡ old
 LeavesWanted told folder format (Err _) old new = new ≡ old
 
--- an answer hands out the file of a path, all of whose bytes are still to come, where the files are told; none, where there is none
-abbrev pub Opens : {F : Type 0} → (left : F → Option (List ℕ)) → Option (List File) → (path : List ℕ) → Result (Option F) Failed → Type 0
+-- an answer hands out the file of a path, all of whose bytes are still to come, where the files are
+-- told; none, where there is none
+abbrev pub Opens : {F : Type 0} → (left : F → Option (List ℕ)) → Option (List File)
+    → (path : List ℕ) → Result (Option F) Failed → Type 0
 Opens left (Some files) path (Ok None) = file_at files path ≡ None
-Opens left (Some files) path (Ok (Some opened)) = (file : File) × (file_at files path ≡ Some file) × (left opened ≡ Some file.bytes)
+Opens left (Some files) path (Ok (Some opened)) =
+    (file : File) × (file_at files path ≡ Some file) × (left opened ≡ Some file.bytes)
 Opens left _ path _ = Unit {0}
 
 -- what is handed out has not failed
@@ -73,7 +81,8 @@ none_yet None = None
 none_yet (Some count) = Some 0
 
 -- what is handed out tells how many of its calls failed where the shelf does, and they are none yet
-abbrev pub CountsFromNone : {F : Type 0} → (failed : F → Option ℕ) → (shelf : Option ℕ) → Result (Option F) Failed → Type 0
+abbrev pub CountsFromNone : {F : Type 0} → (failed : F → Option ℕ) → (shelf : Option ℕ)
+    → Result (Option F) Failed → Type 0
 CountsFromNone failed shelf (Ok (Some opened)) = failed opened ≡ none_yet shelf
 CountsFromNone failed shelf _ = Unit {0}
 

@@ -1,5 +1,7 @@
--- A shelf in memory: what it holds, what is still to come of the wanted files, and which of its calls fail.
-use Rattle.std.specs.Prelude.{if◌then◌else◌, ℕ, Bool, true, false, ◌+◌, max, min, List, [], ◌∷◌, length, drop, map, filter, Option, Some, None, Result, Ok, Err}
+-- A shelf in memory: what it holds, what is still to come of the wanted
+-- files, and which of its calls fail.
+use Rattle.std.specs.Prelude.{if◌then◌else◌, ℕ, Bool, true, false, ◌+◌, max, min, List, [], ◌∷◌}
+use Rattle.std.specs.Prelude.{length, drop, map, filter, Option, Some, None, Result, Ok, Err}
 use Rattle.std.specs.List.{slice_get}
 use Rattle.flux_base.specs.Memory.{is_failing}
 use Rattle.flux_base.specs.Outside.{GREATEST_COUNT, risen}
@@ -56,11 +58,16 @@ abbrev pub after_read : ShelfState → ℕ → ShelfState
 after_read s buffer =
     if is_failing s.failing s.calls
     then after_fault s
-    else record s { ahead = with_bytes (cut_first (given_of s buffer) s.ahead); calls = risen s.calls }
+    else record s {
+      ahead = with_bytes (cut_first (given_of s buffer) s.ahead);
+      calls = risen s.calls;
+    }
 
 -- what `begin` answers
 abbrev pub begin_of : ShelfState → List ℕ → Format → Result (Option ℕ) Failed
-begin_of s folder format = if is_failing s.failing s.calls then Err (record {}) else Ok (first_missing s.files folder format)
+begin_of s folder format =
+    if is_failing s.failing s.calls then Err (record {})
+    else Ok (first_missing s.files folder format)
 
 -- the pieces ahead where none is missing, or else those that were ahead before
 abbrev pub ahead_by : Option ℕ → (old new : List (List ℕ)) → List (List ℕ)
@@ -73,7 +80,8 @@ after_begin s folder format =
     if is_failing s.failing s.calls
     then after_fault s
     else record s {
-      ahead = ahead_by (first_missing s.files folder format) s.ahead (with_bytes (map (track_bytes s.files folder) (tracks format)));
+      ahead = ahead_by (first_missing s.files folder format) s.ahead
+          (with_bytes (map (track_bytes s.files folder) (tracks format)));
       calls = risen s.calls;
     }
 
@@ -84,26 +92,35 @@ pieces_of (Some file) = file.bytes ∷ []
 
 -- the shelf after `open_file`
 abbrev pub after_open : ShelfState → ShelfState
-after_open s = if is_failing s.failing s.calls then after_fault s else record s { calls = risen s.calls }
+after_open s =
+    if is_failing s.failing s.calls then after_fault s else record s { calls = risen s.calls }
 
--- What is handed out then is a shelf from which this file alone is to be read: its calls are counted on from those so far, and fail by the
--- same list, and none has failed.
+-- What is handed out then is a shelf from which this file alone is to be read: its calls are
+-- counted on from those so far, and fail by the same list, and none has failed.
 abbrev pub opened_of : ShelfState → Option File → Option ShelfState
 opened_of s None = None
 opened_of s (Some file) = Some (record s { ahead = with_bytes (pieces_of (Some file)); faults = 0 })
 
 -- what `open_file` answers for a path
 abbrev pub open_of : ShelfState → (path : List ℕ) → Result (Option ShelfState) Failed
-open_of s path = if is_failing s.failing s.calls then Err (record {}) else Ok (opened_of (after_open s) (file_at s.files path))
+open_of s path =
+    if is_failing s.failing s.calls then Err (record {})
+    else Ok (opened_of (after_open s) (file_at s.files path))
 
 -- the shelf after an open file was taken back: calls are counted on from the file's
 abbrev pub after_close : ShelfState → (file : ShelfState) → ShelfState
-after_close s file = record s { calls = max s.calls file.calls; faults = min (s.faults + file.faults) GREATEST_COUNT }
+after_close s file =
+    record s {
+      calls = max s.calls file.calls;
+      faults = min (s.faults + file.faults) GREATEST_COUNT;
+    }
 
 -- the bytes of the file at a place among the files
 abbrev pub bytes_at : List File → (place : ℕ) → List ℕ
 bytes_at files place = bytes_in (slice_get files place)
 
--- what is ahead of the files at these places, from a number among the places on, and from a byte of that file on
+-- what is ahead of the files at these places, from a number among the places on,
+-- and from a byte of that file on
 unfoldable pub ahead_from : List File → (places : List ℕ) → (number start : ℕ) → List (List ℕ)
-ahead_from files places number start = with_bytes (cut_first start (map (bytes_at files) (drop number places)))
+ahead_from files places number start =
+    with_bytes (cut_first start (map (bytes_at files) (drop number places)))

@@ -1,5 +1,6 @@
 -- How the files of a dump are named, and what is said of one that is missing.
-use Rattle.std.specs.Prelude.{◌≡◌, ◌<◌, ◌-◌, ◌&&◌, ◌||◌, ◌==◌, if◌then◌else◌, ℕ, Bool, false, true, List, ◌∷◌, ◌++◌, length, take, drop, nat_le, nat_lt, codes, decimal}
+use Rattle.std.specs.Prelude.{◌≡◌, ◌<◌, ◌-◌, ◌&&◌, ◌||◌, ◌==◌, if◌then◌else◌, ℕ, Bool, false, true}
+use Rattle.std.specs.Prelude.{List, ◌∷◌, ◌++◌, length, take, drop, nat_le, nat_lt, codes, decimal}
 use Rattle.std.specs.Str.{bytes_eq}
 use Rattle.flux_base.specs.declared.track.TrackId.{TrackId}
 use Rattle.sector_report.specs.Lines.{two_digits}
@@ -21,7 +22,9 @@ is_digit byte = nat_le 48 byte && nat_le byte 57
 -- two digits, a point, 0 or 1, and `.raw`
 unfoldable pub is_ending : List ℕ → Bool
 is_ending (tens ∷ ones ∷ point ∷ head ∷ rest) =
-    is_digit tens && (is_digit ones && (point == 46 && ((head == 48 || head == 49) && bytes_eq rest (codes ".raw"))))
+    is_digit tens
+    && (is_digit ones
+    && (point == 46 && ((head == 48 || head == 49) && bytes_eq rest (codes ".raw"))))
 is_ending few = false
 
 -- how many bytes the ending of a file's name has
@@ -30,13 +33,15 @@ ENDING_SIZE = 8
 
 -- a dump is named by one of its files: its name ends like one's, and something stands before
 unfoldable pub names_file : (dump : List ℕ) → Bool
-names_file dump = nat_lt ENDING_SIZE (length dump) && is_ending (drop (length dump - ENDING_SIZE) dump)
+names_file dump =
+    nat_lt ENDING_SIZE (length dump) && is_ending (drop (length dump - ENDING_SIZE) dump)
 
--- The path of a track's file in a dump. The files of a dump that is named by one of them begin with what stands before the
--- ending of its name; any other dump is a folder.
+-- The path of a track's file in a dump. The files of a dump that is named by one of them begin with
+-- what stands before the ending of its name; any other dump is a folder.
 unfoldable pub path_text : (dump : List ℕ) → TrackId → List ℕ
 path_text dump track =
-    if names_file dump then take (length dump - ENDING_SIZE) dump ++ ending_text track else folder_path dump track
+    if names_file dump then take (length dump - ENDING_SIZE) dump ++ ending_text track
+    else folder_path dump track
 
 -- a track's numbers have two digits and one, 0 or 1
 pub record IsNamed (track : TrackId) : Type 0 where
@@ -45,16 +50,20 @@ pub record IsNamed (track : TrackId) : Type 0 where
 
 -- a dump is named as well by any of its files
 abbrev pub FilesNameDumps : Type 0
-FilesNameDumps = (dump : List ℕ) (one track : TrackId) → IsNamed one → path_text (path_text dump one) track ≡ path_text dump track
+FilesNameDumps = (dump : List ℕ) (one track : TrackId) → IsNamed one
+    → path_text (path_text dump one) track ≡ path_text dump track
 
 -- and what names it so is one of its files
 abbrev pub NamesAreFiles : Type 0
-NamesAreFiles = (dump : List ℕ) → names_file dump ≡ true → (track : TrackId) × IsNamed track × (path_text dump track ≡ dump)
+NamesAreFiles = (dump : List ℕ) → names_file dump ≡ true
+    → (track : TrackId) × IsNamed track × (path_text dump track ≡ dump)
 
 -- a path in a folder tells the folder and the track
 abbrev pub FolderPathsTell : Type 0
-FolderPathsTell = (folder folder' : List ℕ) (track track' : TrackId) → IsNamed track → IsNamed track'
+FolderPathsTell =
+    (folder folder' : List ℕ) (track track' : TrackId) → IsNamed track → IsNamed track'
     → folder_path folder track ≡ folder_path folder' track' → (folder ≡ folder') × (track ≡ track')
 
 unfoldable pub missing_text : ℕ → TrackId → List ℕ
-missing_text number track = codes "refused track " ++ decimal number ++ codes " missing " ++ file_name_text track ++ codes "\n"
+missing_text number track = codes "refused track " ++ decimal number ++ codes " missing "
+    ++ file_name_text track ++ codes "\n"

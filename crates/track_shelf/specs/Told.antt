@@ -3,16 +3,18 @@ use Rattle.std.specs.Prelude.{ℕ, Bool, List, Option, option_map}
 use Rattle.track_shelf.specs.Files.{File}
 use Rattle.track_shelf.specs.Handled.{Handled, handled_close, more_blamed}
 
--- the files that lie on it; of the shelf itself, as a source, the bytes still to come; what each read of it so far gave; and which of its
--- files are open, and which failed
+-- the files that lie on it; of the shelf itself, as a source, the bytes still to come; what each
+-- read of it so far gave; and which of its files are open, and which failed
 pub record ShelfTold : Type 0 where
   pub files : Option (List File)
   pub left : Option (List ℕ)
   pub given : Option (List (List ℕ))
   pub handled : Option Handled
 
-abbrev pub told_by : {H : Type 0} → (H → Option (List File)) → (H → Option (List ℕ)) → (H → Option (List (List ℕ))) → (H → Option Handled) → H → ShelfTold
-told_by files left given handled shelf = record { files = files shelf; left = left shelf; given = given shelf; handled = handled shelf }
+abbrev pub told_by : {H : Type 0} → (H → Option (List File)) → (H → Option (List ℕ))
+    → (H → Option (List (List ℕ))) → (H → Option Handled) → H → ShelfTold
+told_by files left given handled shelf =
+    record { files = files shelf; left = left shelf; given = given shelf; handled = handled shelf }
 
 -- The same, where these files failed: none is open that was not, and nothing else changed.
 abbrev pub with_failed : (paths : List (List ℕ)) → ShelfTold → ShelfTold

@@ -31,8 +31,8 @@ impl Model for Prefix {
 }
 
 impl Prefix {
-    /// The prefix in a file's name. None where the name does not end as that of a track's file (two digits, a point, 0 or 1,
-    /// `.raw`, and something before them), and where what stands before is no such text.
+    /// The prefix in a file's name. None where the name does not end as that of a track's file (two digits, a point, 0
+    /// or 1, `.raw`, and something before them), and where what stands before is no such text.
     #[tactic(auto, unfolding(crate::specs::DumpKinds::prefix_of))]
     pub fn of_name(name: &[u8]) -> Option<Prefix>
         ensures { result ≡ prefix_of name.now }
@@ -123,7 +123,8 @@ pub enum DumpKind {
 impl DumpKind {
     /// What a folder is that holds one file more, of this name.
     pub fn with_name(self, name: &[u8]) -> DumpKind
-        ensures { (names : List (List ℕ)) → self ≡ kind_of_folder names → result ≡ kind_of_folder (names ++ name.now ∷ []) }
+        ensures { (names : List (List ℕ)) → self ≡ kind_of_folder names
+            → result ≡ kind_of_folder (names ++ name.now ∷ []) }
     {
         self.with_prefix(Prefix::of_name(name))
     }

@@ -1,4 +1,5 @@
-ghost use Rattle.std.specs.Prelude.{◌≡◌, ℕ, List, ◌<◌, ◌≤◌, ◌++◌, [], false, true, Some, Ok, get_or, length, is_err, map, option_map, drop, min, take, IfOk, IfSome, IfErr, IfNone, OnErr, OnOk, None};
+ghost use Rattle.std.specs.Prelude.{◌≡◌, ℕ, List, ◌<◌, ◌≤◌, ◌++◌, [], false, true, Some, Ok, get_or, length, is_err};
+ghost use Rattle.std.specs.Prelude.{map, option_map, drop, min, take, IfOk, IfSome, IfErr, IfNone, OnErr, OnOk, None};
 ghost use Rattle.std.specs.Io.{ReadsAtMost};
 ghost use Rattle.std.specs.Io.KnownBytes.{ReadConsumes};
 ghost use Rattle.std.specs.List.{concat, cons_option, position_from};
@@ -7,9 +8,12 @@ ghost use Rattle.std.specs.Option.{is_some};
 ghost use Rattle.flux_base.specs.Memory.{is_failing};
 ghost use Rattle.flux_base.specs.Outside.{GivesPiece, IsCounted, Rose, risen};
 ghost use Rattle.sector_images.specs.Places.{tracks};
-ghost use Rattle.track_shelf.specs.Files.{CountsFromNone, LeavesWanted, NamesMissing, NoneFailed, Opens, file_at, first_missing, has_path, taken_over, track_bytes};
+ghost use Rattle.track_shelf.specs.Files.{CountsFromNone, LeavesWanted, NamesMissing, NoneFailed, Opens, file_at};
+ghost use Rattle.track_shelf.specs.Files.{first_missing, has_path, taken_over, track_bytes};
 ghost use Rattle.track_shelf.specs.DumpKinds.{kind_in, kind_of_folder, name_in, names_in};
-ghost use Rattle.track_shelf.specs.Memory.{ShelfState, after_begin, after_close, after_fault, after_open, after_read, ahead_from, begin_of, bytes_at, cut_first, first_piece, open_of, pieces_of, read_of, with_bytes};
+ghost use Rattle.track_shelf.specs.Memory.{ShelfState, after_begin, after_close, after_fault, after_open, after_read};
+ghost use Rattle.track_shelf.specs.Memory.{ahead_from, begin_of, bytes_at, cut_first, first_piece, open_of, pieces_of};
+ghost use Rattle.track_shelf.specs.Memory.{read_of, with_bytes};
 ghost use Rattle.track_shelf.specs.Names.{folder_path, path_text};
 
 use crate::kind::{DumpKind, Prefix};
@@ -220,7 +224,8 @@ fn find_file(files: &[ShelfFile], path: &TrackPath) -> Places
 /// The places of the files of all the format's tracks, in a folder. Else the number of the first track whose file is
 /// missing.
 fn find_wanted(files: &[ShelfFile], folder: &[u8], format: Format) -> Result<Places, u32>
-    ensures missing { IfErr result (λ number. (first_missing files.now folder.now format ≡ Some number) × (number < length (tracks format))) }
+    ensures missing { IfErr result
+        (λ number. (first_missing files.now folder.now format ≡ Some number) × (number < length (tracks format))) }
     ensures found { IfOk result (λ places. (first_missing files.now folder.now format ≡ None)
         × (map (bytes_at files.now) places.items ≡ map (track_bytes files.now folder.now) (tracks format))) }
 {
@@ -285,8 +290,11 @@ fn give(
     buffer: &mut [u8],
 ) -> (Next, usize)
     requires { 0 < most }
-    ensures count { result.1 ≡ min (min most (length buffer.old)) (length (first_piece (ahead_from files.now places.now from.number from.start))) }
-    ensures front { take result.1 buffer.new ≡ take result.1 (first_piece (ahead_from files.now places.now from.number from.start)) }
+    ensures count { result.1
+        ≡ min (min most (length buffer.old))
+        (length (first_piece (ahead_from files.now places.now from.number from.start))) }
+    ensures front { take result.1 buffer.new
+        ≡ take result.1 (first_piece (ahead_from files.now places.now from.number from.start)) }
     ensures len { length buffer.new ≡ length buffer.old }
     ensures later { ahead_from files.now places.now result.0.number result.0.start
         ≡ with_bytes (cut_first result.1 (ahead_from files.now places.now from.number from.start)) }
@@ -324,7 +332,15 @@ impl<'a> Model for MemoryShelf<'a> {
 
     ghost Value = { ShelfState };
 
-    ghost view = { λ s. record { files = s.files.now; ahead = ahead_from s.files.now s.places.items s.next.number s.next.start; chunk = s.chunk; failing = s.failing.now; calls = s.calls; faults = s.faults } };
+    ghost view = { λ s.
+        record {
+          files = s.files.now;
+          ahead = ahead_from s.files.now s.places.items s.next.number s.next.start;
+          chunk = s.chunk;
+          failing = s.failing.now;
+          calls = s.calls;
+          faults = s.faults;
+        } };
 
     ghost invariant = { λ s. 0 < s.chunk };
 }
@@ -334,7 +350,8 @@ impl<'a> MemoryShelf<'a> {
     /// counts. The chunk is at least 1.
     pub fn new(files: &'a [ShelfFile], chunk: u32, failing: &'a [u64]) -> MemoryShelf<'a>
         requires { 0 < chunk }
-        ensures { result ≡ record { files = files.now; ahead = []; chunk = chunk; failing = failing.now; calls = 0; faults = 0 } }
+        ensures { result
+            ≡ record { files = files.now; ahead = []; chunk = chunk; failing = failing.now; calls = 0; faults = 0 } }
     {
         MemoryShelf {
             files,
@@ -352,8 +369,11 @@ impl<'a> MemoryShelf<'a> {
 
     /// Counts a call. One whose number is on the list fails, and is counted as a fault.
     fn count_call(&mut self) -> Result<(), Failed>
-        ensures ok { OnOk result ((is_failing self.old.failing self.old.calls ≡ false) × (self.new ≡ record self.old { calls = risen self.old.calls })) }
-        ensures err { OnErr result ((is_failing self.old.failing self.old.calls ≡ true) × (self.new ≡ after_fault self.old)) }
+        ensures ok { OnOk result
+            ((is_failing self.old.failing self.old.calls ≡ false)
+            × (self.new ≡ record self.old { calls = risen self.old.calls })) }
+        ensures err { OnErr result
+            ((is_failing self.old.failing self.old.calls ≡ true) × (self.new ≡ after_fault self.old)) }
         ensures later { self.old.faults ≤ self.new.faults }
     {
         let failing = self.failing.contains(&self.calls);
@@ -378,7 +398,8 @@ impl<'a> MemoryShelf<'a> {
 
     /// The same files, from which those at these places are to be read.
     fn opened(&self, places: Places) -> MemoryShelf<'a>
-        ensures { result ≡ record self.now { ahead = with_bytes (map (bytes_at self.now.files) places.items); faults = 0 } }
+        ensures { result
+            ≡ record self.now { ahead = with_bytes (map (bytes_at self.now.files) places.items); faults = 0 } }
     {
         MemoryShelf {
             files: self.files,
@@ -427,7 +448,8 @@ impl<'a> Shelf for MemoryShelf<'a> {
     fn begin(&mut self, folder: &[u8], format: Format) -> Result<Option<u32>, Failed>
         ensures bound { IfOk result (λ missing. IfSome missing (λ number. number < length (tracks format))) }
         ensures missing { NamesMissing (Some self.old.files) folder.now format result }
-        ensures left { LeavesWanted (Some self.old.files) folder.now format result (Some (concat self.old.ahead)) (Some (concat self.new.ahead)) }
+        ensures left { LeavesWanted (Some self.old.files) folder.now format result (Some (concat self.old.ahead))
+            (Some (concat self.new.ahead)) }
         ensures kept { self.new.files ≡ self.old.files }
         ensures later { self.old.faults ≤ self.new.faults }
         ensures cause { OnErr result (Rose self.old.faults self.new.faults) }
@@ -454,7 +476,8 @@ impl<'a> Shelf for MemoryShelf<'a> {
     }
 
     fn open_file(&mut self, dump: &[u8], track: TrackId) -> Result<Option<MemoryShelf<'a>>, Failed>
-        ensures opened { Opens (λ (file : ShelfState). Some (concat file.ahead)) (Some self.old.files) (path_text dump.now track) result }
+        ensures opened { Opens (λ (file : ShelfState). Some (concat file.ahead)) (Some self.old.files)
+            (path_text dump.now track) result }
         ensures sound { NoneFailed (λ (file : ShelfState). file.faults) result }
         ensures fresh { CountsFromNone (λ (file : ShelfState). Some file.faults) (Some self.old.faults) result }
         ensures left { Some (concat self.new.ahead) ≡ Some (concat self.old.ahead) }

@@ -14,7 +14,8 @@ pub type Path = ArrayString<4096>;
 /// How many bytes the ending of a file's name has, `CC.H.raw`.
 pub(crate) const ENDING_SIZE: usize = 8;
 
-/// The path of a track's file, which takes no memory of its own: a part of the dump's name, and what the track adds to it.
+/// The path of a track's file, which takes no memory of its own: a part of the dump's name,
+/// and what the track adds to it.
 #[derive(Debug, Drop)]
 pub struct TrackPath<'a> {
     front: &'a [u8],
@@ -44,8 +45,8 @@ impl<'a> TrackPath<'a> {
         }
     }
 
-    /// In a dump. A dump whose name ends like that of a track's file (two digits, a point, 0 or 1, `.raw`, and something
-    /// before them) has all its files beside this one, `PREFIXCC.H.raw`. Any other is a folder.
+    /// In a dump. A dump whose name ends like that of a track's file (two digits, a point, 0 or 1, `.raw`, and
+    /// something before them) has all its files beside this one, `PREFIXCC.H.raw`. Any other is a folder.
     #[tactic(auto, unfolding(crate::specs::Names::path_text))]
     pub fn of_dump(dump: &'a [u8], track: TrackId) -> TrackPath<'a>
         ensures { result ≡ path_text dump.now track }
@@ -98,7 +99,8 @@ pub(crate) fn folder_end(track: TrackId) -> Line
     end
 }
 
-/// Whether a dump is named by one of its files: whether its name ends like that of a track's file, with something before that.
+/// Whether a dump is named by one of its files: whether its name ends like that of a track's
+/// file, with something before that.
 #[tactic(auto, unfolding(crate::specs::Names::names_file))]
 pub fn names_file(dump: &[u8]) -> bool
     ensures { result ≡ names_file dump.now }

@@ -1,7 +1,9 @@
-ghost use Rattle.std.specs.Prelude.{◌≡◌, ℕ, ◌<◌, ◌≤◌, List, None, Some, Option, length, is_err, is_some, option_map, IfOk, IfSome, OnErr};
+ghost use Rattle.std.specs.Prelude.{◌≡◌, ℕ, ◌<◌, ◌≤◌, List, None, Some, Option, length, is_err, is_some, option_map};
+ghost use Rattle.std.specs.Prelude.{IfOk, IfSome, OnErr};
 ghost use Rattle.flux_base.specs.Outside.{IsCounted, Rose};
 ghost use Rattle.sector_images.specs.Places.{tracks};
-ghost use Rattle.track_shelf.specs.Files.{CountsFromNone, File, LeavesWanted, NamesMissing, NoneFailed, Opens, file_at, taken_over};
+ghost use Rattle.track_shelf.specs.Files.{CountsFromNone, File, LeavesWanted, NamesMissing, NoneFailed, Opens, file_at};
+ghost use Rattle.track_shelf.specs.Files.{taken_over};
 ghost use Rattle.track_shelf.specs.Handled.{CountsToo, Handled, handled_close, handled_open, has_failed};
 ghost use Rattle.track_shelf.specs.DumpKinds.{IsKindOf};
 ghost use Rattle.track_shelf.specs.Names.{path_text};
@@ -10,8 +12,8 @@ use crate::kind::DumpKind;
 use flux_base::{Failed, Source, TrackId};
 use sector_images::Format;
 
-/// A source whose bytes lie in files, one for each track of a dump. All wanted files of a folder are read as one source, by
-/// `begin`. Single files are opened by `open_file`, and read apart from the shelf.
+/// A source whose bytes lie in files, one for each track of a dump. All wanted files of a folder are read as one
+/// source, by `begin`. Single files are opened by `open_file`, and read apart from the shelf.
 pub trait Shelf: Source {
     /// An open file.
     type File: Source + Drop;
@@ -31,7 +33,8 @@ pub trait Shelf: Source {
         ensures missing { NamesMissing (files self.old) folder.now format result }
 
         // Where a file is missing, and after `Failed`, the bytes still to come are as they were.
-        ensures left { LeavesWanted (files self.old) folder.now format result (Self.left self.old) (Self.left self.new) }
+        ensures left { LeavesWanted (files self.old) folder.now format result (Self.left self.old)
+            (Self.left self.new) }
         ensures kept { files self.new ≡ files self.old }
         ensures unhandled { handled self.new ≡ handled self.old }
         ensures unread { Self.given self.new ≡ Self.given self.old }
@@ -39,21 +42,23 @@ pub trait Shelf: Source {
         ensures cause { OnErr result (Rose (Self.faults self.old) (Self.faults self.new)) }
         ensures counted { IsCounted (is_err result) (Self.failed self.old) (Self.failed self.new) };
 
-    /// Whether the file of a track of a dump is there. Nothing fails: a file that cannot be looked at is there, and fails as
-    /// it is opened.
+    /// Whether the file of a track of a dump is there. Nothing fails: a file that cannot be looked at is
+    /// there, and fails as it is opened.
     fn holds(&self, dump: &[u8], track: TrackId) -> bool
-        ensures { (told : List File) → files self.now ≡ Some told → result ≡ is_some (file_at told (path_text dump.now track)) };
+        ensures { (told : List File) → files self.now ≡ Some told
+            → result ≡ is_some (file_at told (path_text dump.now track)) };
 
-    /// What lies under a dump's name, of which none of the wanted files is there. Nothing fails: what cannot be looked at is
-    /// `Unknown`.
+    /// What lies under a dump's name, of which none of the wanted files is there. Nothing fails: what
+    /// cannot be looked at is `Unknown`.
     fn kind_of(&self, dump: &[u8]) -> DumpKind
         ensures { IsKindOf (files self.now) dump.now result };
 
-    /// Opens the file of a track of a dump, which is a folder, or is named by one of its files. None where there is no such
-    /// file. What is done with the file touches nothing of the shelf. No memory is taken.
+    /// Opens the file of a track of a dump, which is a folder, or is named by one of its files. None where there is no
+    /// such file. What is done with the file touches nothing of the shelf. No memory is taken.
     fn open_file(&mut self, dump: &[u8], track: TrackId) -> Result<Option<Self::File>, Failed>
         ensures opened { Opens Self.File.left (files self.old) (path_text dump.now track) result }
-        ensures handles { handled self.new ≡ option_map (handled_open (path_text dump.now track) result) (handled self.old) }
+        ensures handles { handled self.new
+            ≡ option_map (handled_open (path_text dump.now track) result) (handled self.old) }
         ensures sound { NoneFailed Self.File.faults result }
         ensures fresh { CountsFromNone Self.File.failed (Self.failed self.old) result }
         ensures left { Self.left self.new ≡ Self.left self.old }
@@ -65,7 +70,8 @@ pub trait Shelf: Source {
 
     /// Takes the file back that was opened last. How often it failed is counted with the shelf's own faults.
     fn close_file(&mut self, file: Self::File)
-        ensures handles { handled self.new ≡ option_map (handled_close (has_failed (Self.File.failed file))) (handled self.old) }
+        ensures handles { handled self.new
+            ≡ option_map (handled_close (has_failed (Self.File.failed file))) (handled self.old) }
         ensures cause { Rose 0 (Self.File.faults file) → Rose (Self.faults self.old) (Self.faults self.new) }
         ensures left { Self.left self.new ≡ Self.left self.old }
         ensures kept { files self.new ≡ files self.old }

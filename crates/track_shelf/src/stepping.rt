@@ -12,7 +12,8 @@ const MOST_DOUBLE_CYLINDERS: u8 = 42;
 pub enum Stepping {
     /// One step for each cylinder of the disk: the file of cylinder C has its tracks.
     Single,
-    /// Two, as a drive of 80 cylinders makes them for a disk of 40: the file of cylinder 2C has the tracks of cylinder C.
+    /// Two, as a drive of 80 cylinders makes them for a disk of 40: the file of cylinder 2C
+    /// has the tracks of cylinder C.
     Double,
 }
 

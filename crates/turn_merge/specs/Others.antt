@@ -1,8 +1,10 @@
 -- Headers that name none of a track's sectors: what is told of them, by their names.
-use Rattle.std.specs.Prelude.{◌≡◌, ◌<◌, ℕ, ◌+◌, Bool, false, not, cond, ◌&&◌, ◌||◌, List, [], ◌∷◌, ◌++◌, length, take, map, filter, nat_eq, nat_lt, All}
+use Rattle.std.specs.Prelude.{◌≡◌, ◌<◌, ℕ, ◌+◌, Bool, false, not, cond, ◌&&◌, ◌||◌, List, [], ◌∷◌}
+use Rattle.std.specs.Prelude.{◌++◌, length, take, map, filter, nat_eq, nat_lt, All}
 use Rattle.std.specs.List.{list_any}
 use Rattle.flux_base.specs.declared.header_name.HeaderName.{HeaderName}
-use Rattle.flux_base.specs.declared.header_name.HeaderName.TheVariants.{Address, TrackSector, TrackSectorSide}
+use Rattle.flux_base.specs.declared.header_name.HeaderName.TheVariants.{Address, TrackSector}
+use Rattle.flux_base.specs.declared.header_name.HeaderName.TheVariants.{TrackSectorSide}
 use Rattle.turn_merge.specs.declared.others.OtherTold.{OtherTold}
 use Rattle.turn_merge.specs.declared.verdict.Place.{Place}
 
@@ -16,8 +18,10 @@ pub record NotedOther : Type 0 where
 abbrev pub same_name : HeaderName → HeaderName → Bool
 same_name (Address cylinder head sector code) (Address cylinder' head' sector' code') =
     nat_eq cylinder cylinder' && nat_eq head head' && nat_eq sector sector' && nat_eq code code'
-same_name (TrackSector track sector) (TrackSector track' sector') = nat_eq track track' && nat_eq sector sector'
-same_name (TrackSectorSide track sector side format) (TrackSectorSide track' sector' side' format') =
+same_name (TrackSector track sector) (TrackSector track' sector') =
+    nat_eq track track' && nat_eq sector sector'
+same_name (TrackSectorSide track sector side format)
+    (TrackSectorSide track' sector' side' format') =
     nat_eq track track' && nat_eq sector sector' && nat_eq side side' && nat_eq format format'
 same_name _ _ = false
 
@@ -50,7 +54,8 @@ told_of others one = record {
 abbrev pub MOST_TOLD : ℕ
 MOST_TOLD = 64
 
--- what is told of the headers that were noted: the first names, in the order in which they were first met
+-- what is told of the headers that were noted: the first names, in the
+-- order in which they were first met
 unfoldable pub others_over : List NotedOther → List OtherTold
 others_over others = map (told_of others) (take MOST_TOLD (first_ones others))
 
@@ -68,10 +73,11 @@ has_untold others = list_any (λ o. o.whole && not (is_told o.name (others_over 
 
 -- whole data stand after some header exactly where a name that is told has some, or one that is not
 abbrev pub DataAreKnown : Type 0
-DataAreKnown = (others : List NotedOther) → list_any (λ o. o.whole) others ≡ (list_any has_data (others_over others) || has_untold others)
+DataAreKnown = (others : List NotedOther)
+    → list_any (λ o. o.whole) others ≡ (list_any has_data (others_over others) || has_untold others)
 
--- How many headers were noted since the list of names was made or cleared, what is told of them, and whether whole data stand after one
--- whose name is not told.
+-- How many headers were noted since the list of names was made or cleared, what is told of them,
+-- and whether whole data stand after one whose name is not told.
 pub record OthersKnown : Type 0 where
   pub notes : ℕ
   pub told : List OtherTold
@@ -85,13 +91,19 @@ pub record OthersStandFor (known : OthersKnown) (others : List NotedOther) : Typ
 
 -- a call appends the header to whatever list of headers is stood for
 abbrev pub AppendsOther : OthersKnown → OthersKnown → NotedOther → Type 0
-AppendsOther old new other = (others : List NotedOther) → OthersStandFor old others → OthersStandFor new (others ++ other ∷ [])
+AppendsOther old new other = (others : List NotedOther) → OthersStandFor old others
+    → OthersStandFor new (others ++ other ∷ [])
 
 -- what is told of a name with one more header, where that has this name
 abbrev pub with_header : HeaderName → Bool → OtherTold → OtherTold
 with_header name whole told =
     cond (same_name told.name name)
-    (record { name = told.name; headers = told.headers + 1; whole = told.whole + cond whole 1 0; first = told.first })
+    (record {
+      name = told.name;
+      headers = told.headers + 1;
+      whole = told.whole + cond whole 1 0;
+      first = told.first;
+    })
     told
 
 -- all numbers are below this one

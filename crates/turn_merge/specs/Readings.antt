@@ -1,11 +1,13 @@
 -- What all readings of a sector say together.
-use Rattle.std.specs.Prelude.{ℕ, not, ◌&&◌, List, [], ◌∷◌, length, filter, find, nat_eq, Option, Some, None, is_some, is_none, unwrap_or, if◌then◌else◌}
+use Rattle.std.specs.Prelude.{ℕ, not, ◌&&◌, List, [], ◌∷◌, length, filter, find, nat_eq, Option}
+use Rattle.std.specs.Prelude.{Some, None, is_some, is_none, unwrap_or, if◌then◌else◌}
 use Rattle.std.specs.Str.{bytes_eq}
 use Rattle.turn_merge.specs.declared.verdict.Place.{Place}
 use Rattle.turn_merge.specs.declared.verdict.Verdict.{Verdict}
 use Rattle.turn_merge.specs.declared.verdict.Verdict.TheVariants.{Good, Contradictory, Bad, Missing}
 
--- one reading: the sector that its header names, where it stands, and its data; no data where only the header stands
+-- one reading: the sector that its header names, where it stands, and its data; no
+-- data where only the header stands
 pub record NotedReading : Type 0 where
   pub sector : ℕ
   pub place : Place
@@ -43,12 +45,14 @@ abbrev pub verdict_of : List NotedReading → List NotedReading → Verdict
 verdict_of [] [] = Missing
 verdict_of [] (first ∷ more) = Bad (length (first ∷ more)) first.place
 verdict_of (first ∷ more) bad =
-    verdict_with (length (first ∷ more)) (length bad) first.place (first_other (bytes_of first) more)
+    verdict_with (length (first ∷ more)) (length bad) first.place
+    (first_other (bytes_of first) more)
 
 -- the data that all good readings hold, where there is one and no two differ
 abbrev pub agreed_of : List NotedReading → Option (List ℕ)
 agreed_of [] = None
-agreed_of (first ∷ more) = if is_none (first_other (bytes_of first) more) then Some (bytes_of first) else None
+agreed_of (first ∷ more) =
+    if is_none (first_other (bytes_of first) more) then Some (bytes_of first) else None
 
 -- the verdict over a sector's readings among all of a track
 unfoldable pub verdict : List NotedReading → ℕ → Verdict

@@ -1,5 +1,5 @@
-/// By which clock the cells of a track were recovered. Both start at the mean cell of the track's first turn, kept in the band about the
-/// nominal cell.
+/// By which clock the cells of a track were recovered. Both start at the mean cell of the track's first turn, kept in
+/// the band about the nominal cell.
 #[derive(Clone, Copy, Debug, PartialEq, Eq)]
 pub enum Clock {
     /// It follows the drive's speed: the period is the mean of the last intervals, kept in that band.

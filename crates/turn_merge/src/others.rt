@@ -2,7 +2,8 @@
 
 ghost use Rattle.std.specs.Prelude.{◌≡◌, ◌+◌, ◌<◌, [], map, cond, IfOk};
 ghost use Rattle.turn_merge.specs.Book.{MOST_NOTES};
-ghost use Rattle.turn_merge.specs.Others.{AppendsOther, AreBelow, DataAreKnown, OthersStandFor, has_data, is_told, same_name, with_header};
+ghost use Rattle.turn_merge.specs.Others.{AppendsOther, AreBelow, DataAreKnown, OthersStandFor, has_data, is_told};
+ghost use Rattle.turn_merge.specs.Others.{same_name, with_header};
 
 use crate::verdict::Place;
 use flux_base::{HeaderName, Memory};
@@ -145,7 +146,13 @@ fn is_of(other: &OtherTold, name: HeaderName) -> bool
 /// What is told of a name with one more header.
 fn with_one_more(other: OtherTold, whole: bool) -> OtherTold
     requires { (other.headers < MOST_NOTES) × (other.whole < MOST_NOTES) }
-    ensures { result ≡ record { name = other.name; headers = other.headers + 1; whole = other.whole + cond whole 1 0; first = other.first } }
+    ensures { result
+        ≡ record {
+          name = other.name;
+          headers = other.headers + 1;
+          whole = other.whole + cond whole 1 0;
+          first = other.first;
+        } }
 {
     OtherTold {
         headers: other.headers + 1,

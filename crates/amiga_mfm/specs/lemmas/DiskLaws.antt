@@ -13,8 +13,8 @@ use Rattle.amiga_mfm.specs.declared.recording.AmigaMfm.TheVariants.{DoubleDensit
 use Rattle.amiga_mfm.specs.Disks.{disk_of}
 use Rattle.amiga_mfm.specs.Layout.{row_cells, row_size, row_symbols, rows}
 
--- what a disk's numbers have to be: its rows fill its tracks, which are not too long and end with a gap, and its sectors have numbers
--- of 8 bits
+-- what a disk's numbers have to be: its rows fill its tracks, which are not too long and end with a
+-- gap, and its sectors have numbers of 8 bits
 pub record IsSound (disk : Disk) : Type 0 where
   pub filled : ring_size (row_size disk) disk.sectors 512 rows ≡ disk.cells
   pub few_cells : disk.cells ≤ LONGEST_RING
@@ -24,23 +24,33 @@ pub record IsSound (disk : Disk) : Type 0 where
 
 pub sound : (recording : AmigaMfm) → IsSound (disk_of recording)
 unfolding total
-sound DoubleDensity = record { filled = refl; few_cells = lit≤ tt; gap = lit≤ tt; some = lit≤ tt; few = lit≤ tt }
-sound HighDensity = record { filled = refl; few_cells = lit≤ tt; gap = lit≤ tt; some = lit≤ tt; few = lit≤ tt }
+sound DoubleDensity =
+    record { filled = refl; few_cells = lit≤ tt; gap = lit≤ tt; some = lit≤ tt; few = lit≤ tt }
+sound HighDensity =
+    record { filled = refl; few_cells = lit≤ tt; gap = lit≤ tt; some = lit≤ tt; few = lit≤ tt }
 
 module _ (recording : AmigaMfm) where
-  pub counts : (1 ≤ (disk_of recording).sectors) × (0 + (disk_of recording).sectors ≤ 256) × (512 ≤ MOST_SECTOR_BYTES)
+  pub counts : (1 ≤ (disk_of recording).sectors) × (0 + (disk_of recording).sectors ≤ 256)
+      × (512 ≤ MOST_SECTOR_BYTES)
   counts = ((sound recording).some, omega (arith, (sound recording).few), lit≤ tt)
 
   pub sums : (frame_size (row_size (disk_of recording)) 512 rows ≡ 8672)
-      × (ring_size (row_size (disk_of recording)) (disk_of recording).sectors 512 rows ≡ (disk_of recording).cells)
+      × (ring_size (row_size (disk_of recording)) (disk_of recording).sectors 512 rows
+      ≡ (disk_of recording).cells)
       × ((disk_of recording).cells ≤ LONGEST_RING)
   unfolding total
   sums = (refl, (sound recording).filled, (sound recording).few_cells)
 
   pub last_zero : (track : TrackId) (before : Bool)
-      → last_bit before (rows_symbols (row_symbols (disk_of recording) track) 0 [] rows.lead_out) ≡ false
-  last_zero track before = run-bit (Data 0x00) (disk_of recording).track_gap before (sound recording).gap
+      → last_bit before (rows_symbols (row_symbols (disk_of recording) track) 0 [] rows.lead_out)
+      ≡ false
+  last_zero track before =
+      run-bit (Data 0x00) (disk_of recording).track_gap before (sound recording).gap
 
   pub ends : (track : TrackId) (before : Bool)
-      → (true && last_of before (rows_cells true (row_cells (disk_of recording) track) before 0 [] rows.lead_out)) ≡ false
-  ends track before = rows-end (row_symbols (disk_of recording) track) before 0 [] rows.lead_out ∙ last_zero track before
+      → (true
+      && last_of before
+      (rows_cells true (row_cells (disk_of recording) track) before 0 [] rows.lead_out))
+      ≡ false
+  ends track before = rows-end (row_symbols (disk_of recording) track) before 0 [] rows.lead_out
+      ∙ last_zero track before

@@ -14,12 +14,15 @@ use Rattle.amiga_mfm.specs.declared.half.Half.TheVariants.{Odd, Even}
 use Rattle.amiga_mfm.specs.declared.layout.Disk.{Disk}
 use Rattle.amiga_mfm.specs.declared.layout.Row.{Row}
 use Rattle.amiga_mfm.specs.declared.layout.Row.TheVariants.{Run, Header, Content, TrackGap}
-use Rattle.amiga_mfm.specs.Layout.{content_halves, halves_symbols, header_halves, info_of, row_size, row_symbols}
+use Rattle.amiga_mfm.specs.Layout.{content_halves, halves_symbols, header_halves, info_of, row_size}
+use Rattle.amiga_mfm.specs.Layout.{row_symbols}
 use Rattle.amiga_mfm.specs.lemmas.LongLaws.{length-raw}
-use Rattle.amiga_mfm.specs.Longs.{half_bytes, half_of, halves, long_of_halves, longs_at, longs_of, raw_longs}
+use Rattle.amiga_mfm.specs.Longs.{half_bytes, half_of, halves, long_of_halves, longs_at, longs_of}
+use Rattle.amiga_mfm.specs.Longs.{raw_longs}
 use Rattle.amiga_mfm.specs.Sectors.{Hold, Names, NamesSector, track_number}
 use Rattle.flux_base.specs.declared.header_name.HeaderName.{HeaderName}
-use Rattle.flux_base.specs.declared.header_name.HeaderName.TheVariants.{Address, TrackSector, TrackSectorSide}
+use Rattle.flux_base.specs.declared.header_name.HeaderName.TheVariants.{Address, TrackSector}
+use Rattle.flux_base.specs.declared.header_name.HeaderName.TheVariants.{TrackSectorSide}
 use Rattle.frame_law.specs.Others.{NamesSectors}
 
 pub length-halves : (longs : List ℕ) → length (halves longs) ≡ 2 * length longs
@@ -45,9 +48,12 @@ length-longs_of (a ∷ b ∷ c ∷ d ∷ bytes) = let e = length-longs_of bytes 
 
 pub symbols_sized : (disk : Disk) (track : TrackId) (sector : ℕ) (bytes : List ℕ) (row : Row)
     → 16 * length (row_symbols disk track sector bytes row) ≡ row_size disk (length bytes) row
-symbols_sized disk track sector bytes (Run count symbol) = ap (λ (n : ℕ). 16 * n) (length-replicate count symbol)
-symbols_sized disk track sector bytes Header = ap (λ (n : ℕ). 16 * n) (length-halves_symbols (header_halves (info_of disk track sector)))
-symbols_sized disk track sector bytes TrackGap = ap (λ (n : ℕ). 16 * n) (length-replicate disk.track_gap (Data 0x00))
+symbols_sized disk track sector bytes (Run count symbol) =
+    ap (λ (n : ℕ). 16 * n) (length-replicate count symbol)
+symbols_sized disk track sector bytes Header =
+    ap (λ (n : ℕ). 16 * n) (length-halves_symbols (header_halves (info_of disk track sector)))
+symbols_sized disk track sector bytes TrackGap =
+    ap (λ (n : ℕ). 16 * n) (length-replicate disk.track_gap (Data 0x00))
 symbols_sized disk track sector bytes Content =
     let longs = longs_of bytes in
     let e = length-halves_symbols (content_halves longs) in
@@ -61,12 +67,15 @@ pub one_name : (cells : List Bool) (n m : HeaderName) → Names cells n → Name
 one_name cells (TrackSector track s) (TrackSector other t) first second =
     let same : 0xFF ∷ track ∷ s ∷ [] ≡ 0xFF ∷ other ∷ t ∷ [] = sym first.info ∙ second.info in
     cc
-one_name cells (TrackSector track s) (Address cylinder head sector size) first second = absurd second
-one_name cells (TrackSector track s) (TrackSectorSide number sector side format) first second = absurd second
+one_name cells (TrackSector track s) (Address cylinder head sector size) first second =
+    absurd second
+one_name cells (TrackSector track s) (TrackSectorSide number sector side format) first second =
+    absurd second
 one_name cells (Address cylinder head sector size) m first second = absurd first
 one_name cells (TrackSectorSide number sector side format) m first second = absurd first
 
-pub named_sector : (track : TrackId) → NamesSectors Names (λ name s. name ≡ TrackSector (track_number track) s) (NamesSector track)
+pub named_sector : (track : TrackId)
+    → NamesSectors Names (λ name s. name ≡ TrackSector (track_number track) s) (NamesSector track)
 named_sector track = named-by_numbers Names (track_number track)
 
 length-bytes : (longs : List ℕ) → length (flat_map (to_be_bytes w32) longs) ≡ 4 * length longs
@@ -75,10 +84,13 @@ length-bytes (long ∷ longs) =
     let e = length-append (to_be_bytes w32 long) (flat_map (to_be_bytes w32) longs) in
     omega (arith, e, length-bytes longs)
 
-pub bytes_held : (cells : List Bool) (place : ℕ) (xs : List ℕ) → Hold cells place xs → length xs ≡ 512
+pub bytes_held : (cells : List Bool) (place : ℕ) (xs : List ℕ) → Hold cells place xs
+    → length xs ≡ 512
 bytes_held cells place xs held =
     let odd = raw_longs cells place 128 in
     let even = raw_longs cells (place + 4096) 128 in
     let size = length-raw cells place 128 in
     sym (ap length held.content) ∙ length-bytes (longs_at cells place 4096 128)
-    ∙ ap (λ (n : ℕ). 4 * n) (length-zip2 long_of_halves odd even (size ∙ sym (length-raw cells (place + 4096) 128)) ∙ size)
+    ∙ ap (λ (n : ℕ). 4 * n)
+    (length-zip2 long_of_halves odd even (size ∙ sym (length-raw cells (place + 4096) 128))
+    ∙ size)

@@ -14,7 +14,8 @@ use Rattle.track_rings.specs.Spaced.{MayFollow, is_spaced}
 use Rattle.apple_gcr.specs.declared.layout.Mark.{Mark}
 use Rattle.apple_gcr.specs.declared.layout.Mark.TheVariants.{AddressField, DataField, Epilogue}
 use Rattle.apple_gcr.specs.declared.layout.Row.{Row}
-use Rattle.apple_gcr.specs.declared.layout.Row.TheVariants.{SelfSyncs, Mark as AMark, Address, Content}
+use Rattle.apple_gcr.specs.declared.layout.Row.TheVariants.{SelfSyncs, Mark as AMark, Address}
+use Rattle.apple_gcr.specs.declared.layout.Row.TheVariants.{Content}
 use Rattle.apple_gcr.specs.lemmas.HalfLaws.{AreFieldBytes-halves, address_cells, in_halves}
 use Rattle.apple_gcr.specs.FourAndFour.{four_and_four}
 use Rattle.apple_gcr.specs.Layout.{VOLUME, address_of, row_cells, row_size, word_of}
@@ -32,20 +33,24 @@ length-four_and_four byte = refl
 pub row_length : (track : TrackId) (before : Bool) (sector : ℕ) (bytes : List ℕ) (row : Row)
     → length (row_cells track before sector bytes row) ≡ row_size (length bytes) row
 row_length track before sector bytes (SelfSyncs count) =
-    length-row 10 (word_cells 10) (length-word_cells 10) (replicate count SELF_SYNC) ∙ ap (λ (n : ℕ). 10 * n) (length-replicate count SELF_SYNC)
+    length-row 10 (word_cells 10) (length-word_cells 10) (replicate count SELF_SYNC)
+    ∙ ap (λ (n : ℕ). 10 * n) (length-replicate count SELF_SYNC)
 row_length track before sector bytes (AMark mark) = length-word_cells 24 (word_of mark)
-row_length track before sector bytes Address = length-row 16 four_and_four length-four_and_four (address_of track sector)
+row_length track before sector bytes Address =
+    length-row 16 four_and_four length-four_and_four (address_of track sector)
 row_length track before sector bytes Content =
     length-bytes_cells (data_nibbles bytes) ∙ ap (λ (n : ℕ). 8 * n) (length-data_nibbles bytes)
 
 -- an address is made of bytes
-pub address-fits : (track : TrackId) (sector : ℕ) → IsAppleTrack track → sector < 16 → AreBytes (address_of track sector)
+pub address-fits : (track : TrackId) (sector : ℕ) → IsAppleTrack track → sector < 16
+    → AreBytes (address_of track sector)
 unfolding AreBytes
 address-fits track sector known few =
     let cylinder : track.cylinder < 256 = omega (arith, known.cylinder) in
     let number : sector < 256 = omega arith in
     let check : check_of VOLUME track.cylinder sector < 256 =
-    xor_of_8 (bit_xor VOLUME track.cylinder) sector (xor_of_8 VOLUME track.cylinder (lit< tt) cylinder) number in
+    xor_of_8 (bit_xor VOLUME track.cylinder) sector
+    (xor_of_8 VOLUME track.cylinder (lit< tt) cylinder) number in
     (lit< tt, (cylinder, (number, (check, tt))))
 
 mark-spaced : (mark : Mark) → is_spaced 1 3 2 (word_cells 24 (word_of mark)) ≡ true
@@ -54,12 +59,17 @@ mark-spaced AddressField = refl
 mark-spaced DataField = refl
 mark-spaced Epilogue = refl
 
-pub row_follows : (track : TrackId) (sector : ℕ) (bytes : List ℕ) (row : Row) → IsAppleTrack track → IsContent 0 16 256 sector bytes
+pub row_follows : (track : TrackId) (sector : ℕ) (bytes : List ℕ) (row : Row) → IsAppleTrack track
+    → IsContent 0 16 256 sector bytes
     → MayFollow 1 3 2 false (λ before. row_cells track before sector bytes row)
 row_follows track sector bytes (SelfSyncs count) known content = self_syncs-follow count
-row_follows track sector bytes (AMark mark) known content = follows (word_cells 24 (word_of mark)) (mark-spaced mark)
+row_follows track sector bytes (AMark mark) known content =
+    follows (word_cells 24 (word_of mark)) (mark-spaced mark)
 row_follows track sector bytes Address known content =
-    subst (λ (cells : List Bool). MayFollow 1 3 2 false (λ before. cells)) (sym (address_cells track sector))
+    subst (λ (cells : List Bool). MayFollow 1 3 2 false (λ before. cells))
+    (sym (address_cells track sector))
     (bytes-follow (in_halves (address_of track sector))
-    (AreFieldBytes-halves (address_of track sector) (address-fits track sector known (omega (arith, content.number.most)))))
-row_follows track sector bytes Content known content = bytes-follow (data_nibbles bytes) (data_nibbles-are bytes content.fit)
+    (AreFieldBytes-halves (address_of track sector)
+    (address-fits track sector known (omega (arith, content.number.most)))))
+row_follows track sector bytes Content known content =
+    bytes-follow (data_nibbles bytes) (data_nibbles-are bytes content.fit)

@@ -1,4 +1,5 @@
--- What is read by the strict rule is read so by every rule: all bytes that it looks at begin with a one.
+-- What is read by the strict rule is read so by every rule: all bytes that
+-- it looks at begin with a one.
 use Rattle.std.specs.Prelude.{◌≡◌, ℕ, zero, suc, ◌+◌, ◌<◌, ◌≤◌, Bool, List}
 use Rattle.std.proofs.Common.{ap, sym, subst, ◌∙◌, arith}
 use Rattle.flux_base.specs.declared.track.TrackId.{TrackId}
@@ -8,9 +9,11 @@ use Rattle.apple_gcr.specs.DiskBytes.{byte_read, bytes_end}
 use Rattle.apple_gcr.specs.FourAndFour.{AreHalves}
 use Rattle.apple_nibbles.specs.Nibbles.{disk_byte}
 use Rattle.apple_gcr.specs.Rules.{StrictStandsByController}
-use Rattle.apple_gcr.specs.Sectors.{HeaderStands, Hold, IsAddress, NamesSector, SectorStands, data_end, header_end, opening_end, opening_place}
+use Rattle.apple_gcr.specs.Sectors.{HeaderStands, Hold, IsAddress, NamesSector, SectorStands}
+use Rattle.apple_gcr.specs.Sectors.{data_end, header_end, opening_end, opening_place}
 use Rattle.apple_gcr.specs.SixAndTwo.{AreCoded, code_at}
-use Rattle.apple_gcr.specs.lemmas.ByteLaws.{AreHigh, lift-end, lift-read, place-here, strict-end, strict-place}
+use Rattle.apple_gcr.specs.lemmas.ByteLaws.{AreHigh, lift-end, lift-read, place-here, strict-end}
+use Rattle.apple_gcr.specs.lemmas.ByteLaws.{strict-place}
 use Rattle.apple_gcr.specs.lemmas.HalfLaws.{IsFieldByte-halves}
 use Rattle.apple_nibbles.specs.Marks.{IsSync}
 use Rattle.apple_nibbles.specs.lemmas.FieldBytes.{IsFieldByte-nibble}
@@ -23,21 +26,33 @@ high_half high low byte halves =
     let both = IsFieldByte-halves byte halves.fits in
     (omega (arith, halves.first, both.0.high), omega (arith, halves.second, both.1.high))
 
-address_high : (track : ℕ) (read : ℕ → ℕ) (s : ℕ) → IsAddress track read s → (k : ℕ) → k < 8 → 128 ≤ read k
+address_high : (track : ℕ) (read : ℕ → ℕ) (s : ℕ) → IsAddress track read s → (k : ℕ) → k < 8
+    → 128 ≤ read k
 address_high track read s address zero below = (high_half _ _ _ address.has_volume).0
 address_high track read s address (suc zero) below = (high_half _ _ _ address.has_volume).1
 address_high track read s address (suc (suc zero)) below = (high_half _ _ _ address.has_track).0
-address_high track read s address (suc (suc (suc zero))) below = (high_half _ _ _ address.has_track).1
-address_high track read s address (suc (suc (suc (suc zero)))) below = (high_half _ _ _ address.has_sector).0
-address_high track read s address (suc (suc (suc (suc (suc zero))))) below = (high_half _ _ _ address.has_sector).1
-address_high track read s address (suc (suc (suc (suc (suc (suc zero)))))) below = (high_half _ _ _ address.has_check).0
-address_high track read s address (suc (suc (suc (suc (suc (suc (suc zero))))))) below = (high_half _ _ _ address.has_check).1
-address_high track read s address (suc (suc (suc (suc (suc (suc (suc (suc k)))))))) below = absurd (omega arith)
+address_high track read s address (suc (suc (suc zero))) below =
+    (high_half _ _ _ address.has_track).1
+address_high track read s address (suc (suc (suc (suc zero)))) below =
+    (high_half _ _ _ address.has_sector).0
+address_high track read s address (suc (suc (suc (suc (suc zero))))) below =
+    (high_half _ _ _ address.has_sector).1
+address_high track read s address (suc (suc (suc (suc (suc (suc zero)))))) below =
+    (high_half _ _ _ address.has_check).0
+address_high track read s address (suc (suc (suc (suc (suc (suc (suc zero))))))) below =
+    (high_half _ _ _ address.has_check).1
+address_high track read s address (suc (suc (suc (suc (suc (suc (suc (suc k)))))))) below =
+    absurd (omega arith)
 
 -- so do nibbles
-coded_high : (read : ℕ → ℕ) (values : List ℕ) → AreCoded read values → (k : ℕ) → k < 343 → 128 ≤ read k
+coded_high : (read : ℕ → ℕ) (values : List ℕ) → AreCoded read values → (k : ℕ) → k < 343
+    → 128 ≤ read k
 coded_high read values coded k below =
-    omega (arith, coded.stand k below, (IsFieldByte-nibble (code_at values k) (code-fits values k coded.fit)).high)
+    omega (
+      arith,
+      coded.stand k below,
+      (IsFieldByte-nibble (code_at values k) (code-fits values k coded.fit)).high,
+    )
 
 module _ (passed : ℕ) where
   module _ (track : TrackId) (cells : List Bool) (s : ℕ) (names : NamesSector 0 track cells s) where
@@ -45,7 +60,8 @@ module _ (passed : ℕ) where
     high = address_high track.cylinder (byte_read 0 cells 24) s names
 
     pub names_by : NamesSector passed track cells s
-    names_by = same_address track.cylinder (byte_read 0 cells 24) (byte_read passed cells 24) s (λ k below. lift-read passed cells 24 k 8 below high) names
+    names_by = same_address track.cylinder (byte_read 0 cells 24) (byte_read passed cells 24) s
+        (λ k below. lift-read passed cells 24 k 8 below high) names
 
     pub header_same : header_end passed cells ≡ header_end 0 cells
     header_same = lift-end passed cells 24 8 high
@@ -57,7 +73,8 @@ module _ (passed : ℕ) where
     opening : opening_place passed cells sync ≡ opening_place 0 cells sync
     opening =
         let at = strict-place cells (sync + 16) in
-        let byte : disk_byte cells (sync + 16) ≡ 0xAD = ap (disk_byte cells) (sym at) ∙ hold.opens in
+        let byte : disk_byte cells (sync + 16) ≡ 0xAD =
+        ap (disk_byte cells) (sym at) ∙ hold.opens in
         place-here passed cells (sync + 16) (omega (arith, byte)) ∙ sym at
 
     opening_same : opening_end passed cells sync ≡ opening_end 0 cells sync
@@ -70,15 +87,19 @@ module _ (passed : ℕ) where
     hold_by = record {
       opens = ap (disk_byte cells) opening ∙ hold.opens;
       values = hold.values;
-      coded = same_coded (byte_read 0 cells (opening_end 0 cells sync)) (byte_read passed cells (opening_end passed cells sync)) hold.values
+      coded = same_coded (byte_read 0 cells (opening_end 0 cells sync))
+          (byte_read passed cells (opening_end passed cells sync)) hold.values
           (λ k below.
-          ap (λ (n : ℕ). byte_read passed cells n k) opening_same ∙ lift-read passed cells (opening_end 0 cells sync) k 343 below high_nibbles) hold.coded;
+          ap (λ (n : ℕ). byte_read passed cells n k) opening_same
+          ∙ lift-read passed cells (opening_end 0 cells sync) k 343 below high_nibbles)
+          hold.coded;
       carried = hold.carried;
     }
 
     pub data_same : data_end passed cells sync ≡ data_end 0 cells sync
     data_same =
-        ap (λ (n : ℕ). bytes_end passed cells n 343) opening_same ∙ lift-end passed cells (opening_end 0 cells sync) 343 high_nibbles
+        ap (λ (n : ℕ). bytes_end passed cells n 343) opening_same
+        ∙ lift-end passed cells (opening_end 0 cells sync) 343 high_nibbles
 
     pub data_ends : data_end passed cells sync ≡ sync + 2768
     data_ends =
@@ -86,7 +107,8 @@ module _ (passed : ℕ) where
         data_same ∙ omega (arith, strict-end cells (opening_end 0 cells sync) 343, at)
 
 -- so a header and a sector that stand by the strict rule stand by every rule
-pub strict_header : (passed : ℕ) (track : TrackId) (cells : List Bool) (s : ℕ) → HeaderStands 0 track cells s → HeaderStands passed track cells s
+pub strict_header : (passed : ℕ) (track : TrackId) (cells : List Bool) (s : ℕ)
+    → HeaderStands 0 track cells s → HeaderStands passed track cells s
 strict_header passed track cells s header =
     let same = header_same passed track cells s header.named in
     record {
@@ -97,7 +119,8 @@ strict_header passed track cells s header =
       unbroken = subst (Unbroken cells 0) (sym same) header.unbroken;
     }
 
-pub strict_sector : (passed : ℕ) (track : TrackId) (cells : List Bool) (s : ℕ) (bytes : List ℕ) → SectorStands 0 track cells s bytes
+pub strict_sector : (passed : ℕ) (track : TrackId) (cells : List Bool) (s : ℕ) (bytes : List ℕ)
+    → SectorStands 0 track cells s bytes
     → SectorStands passed track cells s bytes
 strict_sector passed track cells s bytes sector =
     let content = sector.content in
@@ -108,7 +131,8 @@ strict_sector passed track cells s bytes sector =
       header = strict_header passed track cells s sector.header;
       content = record {
         sync = place;
-        first_sync = subst (λ (n : ℕ). IsDataSync n (IsSync cells) place) (sym header) content.first_sync;
+        first_sync =
+            subst (λ (n : ℕ). IsDataSync n (IsSync cells) place) (sym header) content.first_sync;
         whole = omega (arith, same, content.whole);
         held = hold_by passed cells place bytes content.held;
         unbroken = subst (Unbroken cells 0) (sym same) content.unbroken;

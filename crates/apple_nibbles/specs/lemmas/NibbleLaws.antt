@@ -10,7 +10,8 @@ use Rattle.apple_nibbles.specs.Nibbles.{has_two_ones, is_nibble, nibble, nibbles
 use Rattle.cell_bits.specs.Word.{word_cells}
 
 -- what two lists of a function's values have in common, each number has
-pub agree-below : {X : Type 0} (f g : ℕ → X) (count k : ℕ) → k < count → map f (range_with_len 0 count) ≡ map g (range_with_len 0 count) → f k ≡ g k
+pub agree-below : {X : Type 0} (f g : ℕ → X) (count k : ℕ) → k < count
+    → map f (range_with_len 0 count) ≡ map g (range_with_len 0 count) → f k ≡ g k
 agree-below f g count k within same =
     sym (get_or-map-range_with_len f 0 count k k (f k) within (omega arith))
     ∙ ap (λ (values : List _). get_or values k (f k)) same
@@ -26,25 +27,33 @@ unfolding nibble
 nibble-is value = ap (λ (table : List ℕ). get_or table value 0) table_is
 
 -- the table of values finds the value of each nibble
-value_table : map (λ value. get_or VALUES_BY_BYTE (get_or NIBBLES value 0 % 128) 0) (range_with_len 0 64) ≡ map (λ value. value) (range_with_len 0 64)
+value_table : map (λ value. get_or VALUES_BY_BYTE (get_or NIBBLES value 0 % 128) 0)
+    (range_with_len 0 64)
+    ≡ map (λ value. value) (range_with_len 0 64)
 value_table = refl
 
-pub value-of_nibble : (value : ℕ) → value < 64 → get_or VALUES_BY_BYTE (nibble value % 128) 0 ≡ value
+pub value-of_nibble : (value : ℕ) → value < 64
+    → get_or VALUES_BY_BYTE (nibble value % 128) 0 ≡ value
 value-of_nibble value within =
     ap (λ (byte : ℕ). get_or VALUES_BY_BYTE (byte % 128) 0) (sym (nibble-is value))
-    ∙ agree-below (λ v. get_or VALUES_BY_BYTE (get_or NIBBLES v 0 % 128) 0) (λ v. v) 64 value within value_table
+    ∙ agree-below (λ v. get_or VALUES_BY_BYTE (get_or NIBBLES v 0 % 128) 0) (λ v. v) 64 value within
+    value_table
 
 pub one_value : (v w : ℕ) → v < 64 → w < 64 → nibble v ≡ nibble w → v ≡ w
 one_value v w first second same =
-    sym (value-of_nibble v first) ∙ ap (λ (byte : ℕ). get_or VALUES_BY_BYTE (byte % 128) 0) same ∙ value-of_nibble w second
+    sym (value-of_nibble v first) ∙ ap (λ (byte : ℕ). get_or VALUES_BY_BYTE (byte % 128) 0) same
+    ∙ value-of_nibble w second
 
 -- the table of values has values of six bits
-values_table : map (λ place. get_or VALUES_BY_BYTE place 0 % 64) (range_with_len 0 128) ≡ map (λ place. get_or VALUES_BY_BYTE place 0) (range_with_len 0 128)
+values_table : map (λ place. get_or VALUES_BY_BYTE place 0 % 64) (range_with_len 0 128)
+    ≡ map (λ place. get_or VALUES_BY_BYTE place 0) (range_with_len 0 128)
 values_table = refl
 
 pub value-fits : (place : ℕ) → place < 128 → get_or VALUES_BY_BYTE place 0 < 64
 value-fits place within =
-    subst (λ (n : ℕ). n < 64) (agree-below (λ p. get_or VALUES_BY_BYTE p 0 % 64) (λ p. get_or VALUES_BY_BYTE p 0) 128 place within values_table)
+    subst (λ (n : ℕ). n < 64)
+    (agree-below (λ p. get_or VALUES_BY_BYTE p 0 % 64) (λ p. get_or VALUES_BY_BYTE p 0) 128
+    place within values_table)
     (mod-lt (get_or VALUES_BY_BYTE place 0) (lit< tt))
 
 -- what was put before a number by exclusive or is taken off by it again

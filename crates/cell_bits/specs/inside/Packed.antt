@@ -1,5 +1,7 @@
--- How a list of cells lies in memory: 64 cells a word, high bit first, and the cells after the last whole word in a number of their own.
-use Rattle.std.specs.Prelude.{ℕ, ◌+◌, ◌-◌, ◌*◌, ◌^◌, ◌<◌, ◌≤◌, min, ◌++◌, flat_map, vec_len, vec_capacity}
+-- How a list of cells lies in memory: 64 cells a word, high bit first, and the cells after the last
+-- whole word in a number of their own.
+use Rattle.std.specs.Prelude.{ℕ, ◌+◌, ◌-◌, ◌*◌, ◌^◌, ◌<◌, ◌≤◌, min, ◌++◌, flat_map, vec_len}
+use Rattle.std.specs.Prelude.{vec_capacity}
 use Rattle.cell_bits.specs.State.{CellsState}
 use Rattle.cell_bits.specs.Word.{word_cells}
 use Rattle.cell_bits.specs.declared.cells.Cells.TheInside.{Inside}

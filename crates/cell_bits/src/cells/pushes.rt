@@ -1,4 +1,5 @@
-ghost use Rattle.std.specs.Prelude.{◌≡◌, ℕ, ◌+◌, ◌-◌, ◌*◌, ◌^◌, ◌<◌, ◌≤◌, [], ◌∷◌, ◌++◌, All, length, take, flat_map, OnOk, OnErr, IsOk};
+ghost use Rattle.std.specs.Prelude.{◌≡◌, ℕ, ◌+◌, ◌-◌, ◌*◌, ◌^◌, ◌<◌, ◌≤◌, [], ◌∷◌, ◌++◌, All, length, take, flat_map};
+ghost use Rattle.std.specs.Prelude.{OnOk, OnErr, IsOk};
 ghost use Rattle.cell_bits.specs.State.{room};
 ghost use Rattle.cell_bits.specs.Word.{word_cells};
 ghost use Rattle.cell_bits.specs.inside.Spread.{spread_of};
@@ -8,8 +9,8 @@ ghost use Rattle.cell_bits.specs.Bytes.{fm, mfm, last_cell};
 use super::{Cells, MOST_WORDS};
 use flux_base::Memory;
 
-/// The runs of any four counts, each of 1 to 4, as the low bits of a number, high bit first: at 64, 16, 4 and 1 times the
-/// counts, each less one.
+/// The runs of any four counts, each of 1 to 4, as the low bits of a number, high bit first: at 64, 16, 4 and 1
+/// times the counts, each less one.
 static FOUR_RUNS: [u16; 256] = [
     0x000f, 0x001d, 0x0039, 0x0071, 0x001b, 0x0035, 0x0069, 0x00d1, 0x0033, 0x0065, 0x00c9, 0x0191,
     0x0063, 0x00c5, 0x0189, 0x0311, 0x0017, 0x002d, 0x0059, 0x00b1, 0x002b, 0x0055, 0x00a9, 0x0151,
@@ -94,7 +95,8 @@ impl Cells {
     fn push_groups(&mut self, counts: &[u8]) -> Result<(), Memory>
         requires short { All IsShortRun counts.now }
         ensures cells { OnOk result (self.new.cells ≡ self.old.cells ++ flat_map run_cells counts.now) }
-        ensures part { OnErr result ((k : ℕ) × (self.new.cells ≡ self.old.cells ++ flat_map run_cells (take k counts.now))) }
+        ensures part { OnErr result
+            ((k : ℕ) × (self.new.cells ≡ self.old.cells ++ flat_map run_cells (take k counts.now))) }
         ensures room { room self.old ≤ room self.new }
         ensures succeeds { length (flat_map run_cells counts.now) ≤ self.old.spare → IsOk result }
     {

@@ -55,8 +55,8 @@ impl Cells {
         None
     }
 
-    /// Whether no eight zeros in a row lie at places from `from` to below `to`, for `from` <= `to` <= length. Where a track is
-    /// recorded, a look at each word tells.
+    /// Whether no eight zeros in a row lie at places from `from` to below `to`, for `from` <= `to` <= length. Where a
+    /// track is recorded, a look at each word tells.
     pub fn unbroken(&self, from: usize, to: usize) -> bool
         requires order { from ≤ to }
         requires within { to ≤ length self.now.cells }
@@ -104,8 +104,8 @@ const FEW: u32 = 3;
 /// Nor does it where fewer places are looked at, since the cells have to be gathered first.
 const SHORT: usize = 128;
 
-/// The cells of a word that it has fewer of, ones or zeros. Recorded cells have fewer of these too, as a rule, so that hardly a place is
-/// left where some of them stand.
+/// The cells of a word that it has fewer of, ones or zeros. Recorded cells have fewer of these too, as a rule, so that
+/// hardly a place is left where some of them stand.
 #[derive(Clone, Copy, Debug, PartialEq, Eq)]
 pub struct Rarer {
     /// Whether they are ones.
@@ -117,8 +117,8 @@ pub struct Rarer {
 }
 
 impl Rarer {
-    /// Those of the low `count` bits of a word, 1 to 32, high bit first, for a search at so many places. None of them where they
-    /// do not pay.
+    /// Those of the low `count` bits of a word, 1 to 32, high bit first, for a search at so many places. None
+    /// of them where they do not pay.
     fn of(word: u32, count: u8, places: usize) -> Rarer
         requires some { 1 ≤ count }
         requires most { count ≤ 32 }
@@ -166,8 +166,8 @@ impl Rarer {
     }
 }
 
-/// The places of the first of two blocks from which the low `count` bits of the word stand, 1 to 32, high bit first: a bit each,
-/// high bit first. The rarer cells of the word tell nearly always that there are none.
+/// The places of the first of two blocks from which the low `count` bits of the word stand, 1 to 32, high bit first: a
+/// bit each, high bit first. The rarer cells of the word tell nearly always that there are none.
 fn places_of(high: u64, low: u64, word: u32, count: u8, rarer: &Rarer) -> u64
     requires some { 1 ≤ count }
     requires most { count ≤ 32 }

@@ -1,5 +1,6 @@
 -- One step of writing a stream.
-use Rattle.std.specs.Prelude.{◌≡◌, ℕ, ◌<◌, ◌≤◌, ◌^◌, ◌+◌, ◌-◌, ◌*◌, ◌/◌, ◌++◌, All, Bool, cond, List, [], ◌∷◌, length, take, drop, map, nat_lt, Option}
+use Rattle.std.specs.Prelude.{◌≡◌, ℕ, ◌<◌, ◌≤◌, ◌^◌, ◌+◌, ◌-◌, ◌*◌, ◌/◌, ◌++◌, All, Bool, cond}
+use Rattle.std.specs.Prelude.{List, [], ◌∷◌, length, take, drop, map, nat_lt, Option}
 use Rattle.std.specs.List.{prefix_len}
 use Rattle.std.specs.List.Sorted.{IsStrictlyIncreasing}
 use Rattle.kryo_stream.specs.declared.block.Block.{Block}
@@ -48,7 +49,8 @@ last_blocks position = StreamEnd position 0 ∷ End ∷ []
 -- the stream position, the time and the index times that are left, after several transitions
 abbrev pub position_after : ℕ → ℕ → List ℕ → ℕ
 position_after position begin [] = position
-position_after position begin (time ∷ times) = position_after (next_position position begin time) time times
+position_after position begin (time ∷ times) =
+    position_after (next_position position begin time) time times
 
 abbrev pub time_after : ℕ → List ℕ → ℕ
 time_after begin [] = begin
@@ -65,15 +67,18 @@ many_blocks position begin (time ∷ times) indexes =
     next_blocks position begin time indexes
     ++ many_blocks (next_position position begin time) time times (indexes_from time indexes)
 
--- the times of the transitions of the cells from one place to below another, where the first of them has this number
+-- the times of the transitions of the cells from one place to below another, where the
+-- first of them has this number
 abbrev pub times_between : List Bool → ℕ → ℕ → ℕ → ℕ → List ℕ
-times_between cells from to number nominal = map (cell_time nominal) (ones_between cells from to number)
+times_between cells from to number nominal =
+    map (cell_time nominal) (ones_between cells from to number)
 
 -- the times of the transitions of a ring's cells that are written
 abbrev pub track_times : List Bool → ℕ → List ℕ
 track_times ring nominal = map (cell_time nominal) (ones_from 0 (track_cells ring))
 
--- a writer is at a time, up to which it wrote so many transitions or cells; no index time before it is left
+-- a writer is at a time, up to which it wrote so many transitions or cells;
+-- no index time before it is left
 pub record IsReady (position time count : ℕ) (indexes : List ℕ) : Type 0 where
   pub room : position ≤ time / OVERFLOW_TICKS + 3 * count
   pub begun : All (λ index. time ≤ index) indexes
@@ -84,10 +89,11 @@ pub record IsReadyAt (nominal position time number : ℕ) (indexes : List ℕ) :
   pub ready : IsReady position time number indexes
   pub reached : time ≤ cell_time nominal number
 
--- A writer that held these bytes, at this stream position and time, with these index times left, wrote the transitions at
--- `times`: what the sink took and what is held now are their blocks, and position, time and index times left are those after
--- them.
-pub record IsWritten (old new : Option (List ℕ)) (held : List ℕ) (position time : ℕ) (indexes held' : List ℕ) (position' time' : ℕ)
+-- A writer that held these bytes, at this stream position and time, with these index times left,
+-- wrote the transitions at `times`: what the sink took and what is held now are their blocks, and
+-- position, time and index times left are those after them.
+pub record IsWritten (old new : Option (List ℕ)) (held : List ℕ) (position time : ℕ)
+    (indexes held' : List ℕ) (position' time' : ℕ)
     (indexes' times : List ℕ) : Type 0 where
   pub bytes : Gathers old new held held' (spellings (many_blocks position time times indexes))
   pub position_is : position' ≡ position_after position time times

@@ -1,5 +1,6 @@
 -- Check values have 16 bits.
-use Rattle.std.specs.Prelude.{ℕ, ◌*◌, ◌%◌, ◌<◌, Bool, true, false, List, [], ◌∷◌, if◌then◌else◌, nat_eq, bit_xor}
+use Rattle.std.specs.Prelude.{ℕ, ◌*◌, ◌%◌, ◌<◌, Bool, true, false, List, [], ◌∷◌, if◌then◌else◌}
+use Rattle.std.specs.Prelude.{nat_eq, bit_xor}
 use Rattle.std.proofs.Common.{arith, lit<}
 use Rattle.std.proofs.lemmas.Nat.{xor_of_16}
 use Rattle.std.proofs.Math.Nat.{mod-lt}
@@ -14,7 +15,8 @@ unfolding with_bit
 with_bit-lt remainder bit =
     let moved = 2 * remainder % 65536 in
     let low : moved < 65536 = mod-lt (2 * remainder) (lit< tt) in
-    elim (nat_eq (bit_at remainder 15) bit) as (λ (same : Bool). (if same then moved else bit_xor moved GENERATOR) < 65536) [
+    elim (nat_eq (bit_at remainder 15)
+    bit) as (λ (same : Bool). (if same then moved else bit_xor moved GENERATOR) < 65536) [
       | true ↦ low
       | false ↦ xor_of_16 moved GENERATOR low (lit< tt)
     ]

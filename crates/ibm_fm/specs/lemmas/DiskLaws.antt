@@ -7,7 +7,8 @@ use Rattle.frame_law.specs.Frames.{IsWithinReach}
 use Rattle.track_rings.specs.Rows.{frame_size, pitch_of, ring_size, total}
 use Rattle.ibm_disks.specs.Numbers.{FM_AROUND, FillFmTrack, code_of, fm_before, size_of}
 use Rattle.ibm_disks.specs.declared.sector_size.SectorSize.{SectorSize}
-use Rattle.ibm_disks.specs.declared.sector_size.SectorSize.TheVariants.{Bytes128, Bytes256, Bytes512, Bytes1024}
+use Rattle.ibm_disks.specs.declared.sector_size.SectorSize.TheVariants.{Bytes128, Bytes256}
+use Rattle.ibm_disks.specs.declared.sector_size.SectorSize.TheVariants.{Bytes512, Bytes1024}
 use Rattle.ibm_disks.specs.declared.track_numbers.LeadIn.{LeadIn}
 use Rattle.ibm_disks.specs.declared.track_numbers.LeadIn.TheVariants.{Indexed, Bare}
 use Rattle.ibm_disks.specs.declared.track_numbers.TrackNumbers.{TrackNumbers}
@@ -34,27 +35,37 @@ module _ (disk : TrackNumbers) where
   lead_in-size Indexed = refl
   lead_in-size Bare = refl
 
-  pitch-size : pitch_of (row_size disk) (size_of disk.size) (rows_of disk) ≡ 16 * (FM_AROUND + size_of disk.size + disk.sector_gap)
+  pitch-size : pitch_of (row_size disk) (size_of disk.size) (rows_of disk)
+      ≡ 16 * (FM_AROUND + size_of disk.size + disk.sector_gap)
   unfolding total
   pitch-size = omega arith
 
-  framed : frame_size (row_size disk) (size_of disk.size) (rows_of disk) ≡ 384 + DATA_CELLS (size_of disk.size)
+  framed : frame_size (row_size disk) (size_of disk.size) (rows_of disk)
+      ≡ 384 + DATA_CELLS (size_of disk.size)
   unfolding total
   framed = omega arith
 
   module _ (fills : FillFmTrack disk) where
-    pub counts : (1 ≤ disk.sectors) × (disk.first_sector + disk.sectors ≤ 256) × (size_of disk.size ≤ MOST_SECTOR_BYTES)
+    pub counts : (1 ≤ disk.sectors) × (disk.first_sector + disk.sectors ≤ 256)
+        × (size_of disk.size ≤ MOST_SECTOR_BYTES)
     counts = (fills.some, fills.few, size-most disk.size)
 
-    filled : ring_size (row_size disk) disk.sectors (size_of disk.size) (rows_of disk) ≡ 16 * disk.bytes
+    filled : ring_size (row_size disk) disk.sectors (size_of disk.size) (rows_of disk)
+        ≡ 16 * disk.bytes
     unfolding total
     filled =
-        let all = cells-fill (fm_before disk.lead_in) (FM_AROUND + size_of disk.size + disk.sector_gap) disk.sectors disk.bytes
-        (total (row_size disk 0) (lead_in_rows disk.lead_in)) (pitch_of (row_size disk) (size_of disk.size) (rows_of disk)) (lead_in-size disk.lead_in)
+        let all = cells-fill (fm_before disk.lead_in)
+        (FM_AROUND + size_of disk.size + disk.sector_gap) disk.sectors disk.bytes
+        (total (row_size disk 0) (lead_in_rows disk.lead_in))
+        (pitch_of (row_size disk) (size_of disk.size) (rows_of disk))
+        (lead_in-size disk.lead_in)
         pitch-size fills.within in
         omega (arith, all)
 
-    pub sums : (frame_size (row_size disk) (size_of disk.size) (rows_of disk) ≡ 384 + DATA_CELLS (size_of disk.size))
-        × (ring_size (row_size disk) disk.sectors (size_of disk.size) (rows_of disk) ≡ 16 * disk.bytes)
+    pub sums
+        : (frame_size (row_size disk) (size_of disk.size) (rows_of disk)
+        ≡ 384 + DATA_CELLS (size_of disk.size))
+        × (ring_size (row_size disk) disk.sectors (size_of disk.size) (rows_of disk)
+        ≡ 16 * disk.bytes)
         × (16 * disk.bytes ≤ LONGEST_RING)
     sums = (framed, filled, omega (arith, fills.short))

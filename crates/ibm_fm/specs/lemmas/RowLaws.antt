@@ -1,5 +1,6 @@
 -- The cells of a row: how many they are, and how far their ones are apart.
-use Rattle.std.specs.Prelude.{◌≡◌, ℕ, zero, suc, ◌*◌, Bool, true, false, List, [], ◌∷◌, ◌++◌, length, replicate, refl}
+use Rattle.std.specs.Prelude.{◌≡◌, ℕ, zero, suc, ◌*◌, Bool, true, false, List, [], ◌∷◌, ◌++◌}
+use Rattle.std.specs.Prelude.{length, replicate, refl}
 use Rattle.std.proofs.Common.{ap, ◌∙◌, arith, lit≤, length-append}
 use Rattle.std.proofs.lemmas.List.{length-replicate}
 use Rattle.flux_base.specs.declared.track.TrackId.{TrackId}
@@ -14,7 +15,8 @@ use Rattle.ibm_disks.specs.declared.track_numbers.TrackNumbers.{TrackNumbers}
 use Rattle.ibm_fm.specs.declared.layout.Mark.{Mark}
 use Rattle.ibm_fm.specs.declared.layout.Mark.TheVariants.{Index, Id, Data}
 use Rattle.ibm_fm.specs.declared.layout.Row.{Row}
-use Rattle.ibm_fm.specs.declared.layout.Row.TheVariants.{Run, Mark as AMark, Address, Content, SectorGap, TrackGap}
+use Rattle.ibm_fm.specs.declared.layout.Row.TheVariants.{Run, Mark as AMark, Address, Content}
+use Rattle.ibm_fm.specs.declared.layout.Row.TheVariants.{SectorGap, TrackGap}
 use Rattle.ibm_fm.specs.Layout.{fm_bytes, row_cells, row_size, track_gap_of, word_of}
 use Rattle.ibm_fm.specs.Sectors.{address_of, check_of}
 
@@ -34,20 +36,25 @@ length-fm_bytes (byte ∷ bytes) =
     omega (arith, e, length-fm byte, length-fm_bytes bytes)
 
 length-run : (count byte : ℕ) → length (fm_bytes (replicate count byte)) ≡ 16 * count
-length-run count byte = length-fm_bytes (replicate count byte) ∙ ap (λ n. 16 * n) (length-replicate count byte)
+length-run count byte =
+    length-fm_bytes (replicate count byte) ∙ ap (λ n. 16 * n) (length-replicate count byte)
 
-pub row_length : (disk : TrackNumbers) (track : TrackId) (before : Bool) (sector : ℕ) (bytes : List ℕ) (row : Row)
+pub row_length : (disk : TrackNumbers) (track : TrackId) (before : Bool) (sector : ℕ)
+    (bytes : List ℕ) (row : Row)
     → length (row_cells disk track before sector bytes row) ≡ row_size disk (length bytes) row
 row_length disk track before sector bytes (Run count byte) = length-run count byte
 row_length disk track before sector bytes (AMark mark) = length-word_cells 16 (word_of mark)
-row_length disk track before sector bytes Address = length-fm_bytes (address_of (code_of disk.size) track sector ++ high_first (check_of 0xFE (address_of (code_of disk.size) track sector)))
+row_length disk track before sector bytes Address = length-fm_bytes
+    (address_of (code_of disk.size) track sector
+    ++ high_first (check_of 0xFE (address_of (code_of disk.size) track sector)))
 row_length disk track before sector bytes Content =
     length-fm_bytes (bytes ++ high_first (check_of 0xFB bytes))
     ∙ ap (λ n. 16 * n) (length-append bytes (high_first (check_of 0xFB bytes)))
 row_length disk track before sector bytes SectorGap = length-run disk.sector_gap 0xFF
 row_length disk track before sector bytes TrackGap = length-run (track_gap_of disk) 0xFF
 
--- FM has no two zeros in a row: each clock cell is a one, but in marks, whose missing clocks lie between ones
+-- FM has no two zeros in a row: each clock cell is a one, but in marks, whose
+-- missing clocks lie between ones
 bits-follow : (bits : List Bool) → MayFollow 1 2 1 false (λ before. fm_cells bits)
 unfolding fm_cells is_spaced zeros_after
 bits-follow [] seen low = (refl, low)
@@ -71,10 +78,14 @@ mark-follows Data zero low = (refl, lit≤ tt)
 mark-follows Data (suc zero) low = (refl, lit≤ tt)
 mark-follows mark (suc (suc seen)) low = absurd (omega arith)
 
-pub row_follows : (disk : TrackNumbers) (track : TrackId) (sector : ℕ) (bytes : List ℕ) (row : Row) → MayFollow 1 2 1 false (λ before. row_cells disk track before sector bytes row)
+pub row_follows : (disk : TrackNumbers) (track : TrackId) (sector : ℕ) (bytes : List ℕ) (row : Row)
+    → MayFollow 1 2 1 false (λ before. row_cells disk track before sector bytes row)
 row_follows disk track sector bytes (Run count byte) = bytes-follow (replicate count byte)
 row_follows disk track sector bytes (AMark mark) = mark-follows mark
-row_follows disk track sector bytes Address = bytes-follow (address_of (code_of disk.size) track sector ++ high_first (check_of 0xFE (address_of (code_of disk.size) track sector)))
-row_follows disk track sector bytes Content = bytes-follow (bytes ++ high_first (check_of 0xFB bytes))
+row_follows disk track sector bytes Address = bytes-follow
+    (address_of (code_of disk.size) track sector
+    ++ high_first (check_of 0xFE (address_of (code_of disk.size) track sector)))
+row_follows disk track sector bytes Content =
+    bytes-follow (bytes ++ high_first (check_of 0xFB bytes))
 row_follows disk track sector bytes SectorGap = bytes-follow (replicate disk.sector_gap 0xFF)
 row_follows disk track sector bytes TrackGap = bytes-follow (replicate (track_gap_of disk) 0xFF)

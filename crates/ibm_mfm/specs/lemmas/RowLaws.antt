@@ -11,7 +11,8 @@ use Rattle.mfm_coding.specs.lemmas.CodingLaws.{length-coded}
 use Rattle.mfm_coding.specs.lemmas.SymbolRows.{symbols-follow}
 use Rattle.ibm_disks.specs.declared.track_numbers.TrackNumbers.{TrackNumbers}
 use Rattle.ibm_mfm.specs.declared.layout.Row.{Row}
-use Rattle.ibm_mfm.specs.declared.layout.Row.TheVariants.{Run, HeaderZeros, Address, Content, SectorGap, TrackGap}
+use Rattle.ibm_mfm.specs.declared.layout.Row.TheVariants.{Run, HeaderZeros, Address, Content}
+use Rattle.ibm_mfm.specs.declared.layout.Row.TheVariants.{SectorGap, TrackGap}
 use Rattle.ibm_mfm.specs.Layout.{field, row_cells, row_size, row_symbols, track_gap_of}
 use Rattle.ibm_mfm.specs.Sectors.{address_of, check_of}
 
@@ -22,17 +23,24 @@ length-field first bytes =
 
 pub row_sized : (disk : TrackNumbers) (track : TrackId) (sector : ℕ) (bytes : List ℕ) (row : Row)
     → 16 * length (row_symbols disk track sector bytes row) ≡ row_size disk (length bytes) row
-row_sized disk track sector bytes (Run count symbol) = ap (λ n. 16 * n) (length-replicate count symbol)
-row_sized disk track sector bytes HeaderZeros = ap (λ n. 16 * n) (length-replicate (mfm_zeros disk.lead_in) (Data 0x00))
-row_sized disk track sector bytes Address = ap (λ n. 16 * n) (length-field 0xFE (address_of (code_of disk.size) track sector))
+row_sized disk track sector bytes (Run count symbol) =
+    ap (λ n. 16 * n) (length-replicate count symbol)
+row_sized disk track sector bytes HeaderZeros =
+    ap (λ n. 16 * n) (length-replicate (mfm_zeros disk.lead_in) (Data 0x00))
+row_sized disk track sector bytes Address =
+    ap (λ n. 16 * n) (length-field 0xFE (address_of (code_of disk.size) track sector))
 row_sized disk track sector bytes Content = ap (λ n. 16 * n) (length-field 0xFB bytes)
-row_sized disk track sector bytes SectorGap = ap (λ n. 16 * n) (length-replicate disk.sector_gap (Data 0x4E))
-row_sized disk track sector bytes TrackGap = ap (λ n. 16 * n) (length-replicate (track_gap_of disk) (Data 0x4E))
+row_sized disk track sector bytes SectorGap =
+    ap (λ n. 16 * n) (length-replicate disk.sector_gap (Data 0x4E))
+row_sized disk track sector bytes TrackGap =
+    ap (λ n. 16 * n) (length-replicate (track_gap_of disk) (Data 0x4E))
 
-pub row_length : (disk : TrackNumbers) (track : TrackId) (before : Bool) (sector : ℕ) (bytes : List ℕ) (row : Row)
+pub row_length : (disk : TrackNumbers) (track : TrackId) (before : Bool) (sector : ℕ)
+    (bytes : List ℕ) (row : Row)
     → length (row_cells disk track before sector bytes row) ≡ row_size disk (length bytes) row
 row_length disk track before sector bytes row =
-    length-coded before (row_symbols disk track sector bytes row) ∙ row_sized disk track sector bytes row
+    length-coded before (row_symbols disk track sector bytes row)
+    ∙ row_sized disk track sector bytes row
 
 pub row_follows : (disk : TrackNumbers) (track : TrackId) (sector : ℕ) (bytes : List ℕ) (row : Row)
     → MayFollow 2 4 2 true (λ before. row_cells disk track before sector bytes row)

@@ -25,11 +25,13 @@ third = refl
 
 module _ (cells : List Bool) (place : ℕ) where
   -- two marks and then a third one are a sync
-  pub sync-joined : Stands cells TWO_MARKS 32 place → Stands cells SYNC_MARK 16 (place + 32) → SyncAt cells place
+  pub sync-joined : Stands cells TWO_MARKS 32 place → Stands cells SYNC_MARK 16 (place + 32)
+      → SyncAt cells place
   sync-joined two last =
       take-add 32 16 (drop place cells)
       ∙ ap (λ (some : List Bool). some ++ take 16 (drop 32 (drop place cells))) two
-      ∙ ap (λ (some : List Bool). word_cells 32 TWO_MARKS ++ take 16 some) (drop-drop 32 place cells)
+      ∙ ap (λ (some : List Bool). word_cells 32 TWO_MARKS ++ take 16 some)
+      (drop-drop 32 place cells)
       ∙ ap (λ (some : List Bool). word_cells 32 TWO_MARKS ++ some) last
       ∙ sym three
 
@@ -38,4 +40,5 @@ module _ (cells : List Bool) (place : ℕ) where
 
   pub sync-third : SyncAt cells place → Stands cells SYNC_MARK 16 (place + 32)
   sync-third sync =
-      ap (take 16) (sym (drop-drop 32 place cells)) ∙ sym (drop-take 32 16 (drop place cells)) ∙ ap (drop 32) sync ∙ third
+      ap (take 16) (sym (drop-drop 32 place cells)) ∙ sym (drop-take 32 16 (drop place cells))
+      ∙ ap (drop 32) sync ∙ third

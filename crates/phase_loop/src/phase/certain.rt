@@ -1,14 +1,16 @@
 //! Stretches whose counts are certain before any place is followed.
 //!
-//! With each transition the distance from the loop's place to the transition's time is halved, and the interval to the next one is
-//! added. Where each interval is nearly a whole number of cells of one period, and the mean cell of each 64 of them nearly that period,
-//! the place is never far from the times, and each count is the nearest whole number. And what the place was at first is soon
-//! forgotten: followed from both ends of where it may lie, it is one after some transitions, and this is the place.
+//! With each transition the distance from the loop's place to the transition's time is halved, and the interval to the
+//! next one is added. Where each interval is nearly a whole number of cells of one period, and the mean cell of each 64
+//! of them nearly that period, the place is never far from the times, and each count is the nearest whole number. And
+//! what the place was at first is soon forgotten: followed from both ends of where it may lie, it is one after some
+//! transitions, and this is the place.
 ghost use Rattle.std.specs.Prelude.{◌≡◌, ℕ, ◌+◌, ◌-◌, ◌*◌, ◌^◌, ◌<◌, ◌≤◌, length, take, slice_index, IfSome};
 ghost use Rattle.std.specs.List.Sorted.{IsNonDecreasing};
 ghost use Rattle.std.specs.List.{All};
 ghost use Rattle.phase_loop.specs.Stretch.{counts_of, AreBetween, AreGuessed, TakesRuns};
-ghost use Rattle.phase_loop.specs.Certain.{AreCertain, AreSums, IsAbout, IsCertain, IsDrift, IsEarliest, IsIn, IsReach, IsRemainder, AreTicks, cells_in, low_difference, stand_at};
+ghost use Rattle.phase_loop.specs.Certain.{AreCertain, AreSums, IsAbout, IsCertain, IsDrift, IsEarliest, IsIn, IsReach};
+ghost use Rattle.phase_loop.specs.Certain.{IsRemainder, AreTicks, cells_in, low_difference, stand_at};
 
 use super::stretch::Stand;
 use super::{LONGEST, Loop};
@@ -44,8 +46,8 @@ pub struct Extent {
 }
 
 impl Loop {
-    /// The stand after a stretch, where its guesses are certain. None says only that they are not certain. The ticks of the
-    /// intervals, those of the window first, are used up.
+    /// The stand after a stretch, where its guesses are certain. None says only that they are not certain. The ticks of
+    /// the intervals, those of the window first, are used up.
     pub(super) fn take_certain(
         &self,
         times: &[u64],
@@ -112,15 +114,16 @@ impl Loop {
         self.reach_by(stand, fine, off, drift)
     }
 
-    /// How far the mean cell of each window of a stretch is at most from the period of its begin, by the remainders of the
-    /// intervals. No mean is further off than the intervals are. Where that is near enough no sums are looked at.
+    /// How far the mean cell of each window of a stretch is at most from the period of its begin, by the remainders of
+    /// the intervals. No mean is further off than the intervals are. Where that is near enough no sums are looked at.
     fn drift(&self, stand: Stand, fine: u64, off: u32, remainders: &[u32; SPAN], most: usize) -> u32
         requires fine { fine ≤ 2 ^ 49 }
         requires place { stand.place ≤ 2 ^ 50 }
         requires period { stand.period ≤ 163840 }
         requires off { 4 * off ≤ stand.period }
         requires most { most ≤ 2048 }
-        requires near { (place : ℕ) → place < 64 + most → IsAbout (slice_index remainders.now place) (32 * stand.period) off }
+        requires near { (place : ℕ) → place < 64 + most
+            → IsAbout (slice_index remainders.now place) (32 * stand.period) off }
         ensures { IsDrift remainders.now most stand.period result }
     {
         if self.reach_by(stand, fine, off, off).is_some() {
@@ -129,8 +132,8 @@ impl Loop {
         drift_by_sums(remainders, most, stand.period as u32)
     }
 
-    /// How far the place is from the times at most, where each interval is off by so much at most and each mean by so much, if no
-    /// count but the nearest can then be the rule's.
+    /// How far the place is from the times at most, where each interval is off by so much at most and each mean by so
+    /// much, if no count but the nearest can then be the rule's.
     fn reach_by(&self, stand: Stand, fine: u64, off: u32, drift: u32) -> Option<u64>
         requires fine { fine ≤ 2 ^ 49 }
         requires place { stand.place ≤ 2 ^ 50 }
@@ -151,7 +154,8 @@ impl Loop {
         Some(reach)
     }
 
-    /// The stand after a stretch whose counts are certain, if all places that it may have before its last transitions come to one.
+    /// The stand after a stretch whose counts are certain, if all places that it may have before its
+    /// last transitions come to one.
     fn settle(
         &self,
         times: &[u64],
@@ -195,7 +199,8 @@ impl Loop {
         Some(early)
     }
 
-    /// The stand with the earliest place that it may have after so many transitions of a stretch whose counts are certain.
+    /// The stand with the earliest place that it may have after so many transitions of a
+    /// stretch whose counts are certain.
     fn earliest(
         &self,
         times: &[u64],
@@ -253,7 +258,8 @@ const NONE: Extent = Extent {
     most: 0,
 };
 
-/// Puts the lengths in ticks of so many intervals, from a transition on. Of one of 2^32 ticks or more it is the low 32 bits.
+/// Puts the lengths in ticks of so many intervals, from a transition on. Of one of 2^32 ticks
+/// or more it is the low 32 bits.
 pub(super) fn put_ticks(times: &[u64], first: usize, many: usize, ticks: &mut [u32; SPAN])
     requires rising { IsNonDecreasing times.now }
     requires inside { first + many < length times.now }
@@ -272,7 +278,9 @@ fn make_remainders(ticks: &mut [u32; SPAN], counts: &[u8; SPAN], period: u32, ma
     requires ticks { (place : ℕ) → place < many → slice_index ticks.old place < 2 ^ 21 }
     requires counts { (place : ℕ) → place < many → slice_index counts.now place ≤ 32 }
     requires period { period ≤ 163840 }
-    ensures remainders { (place : ℕ) → place < many → IsRemainder (slice_index ticks.old place) (slice_index counts.now place) period (slice_index ticks.new place) }
+    ensures remainders { (place : ℕ) → place < many
+        → IsRemainder (slice_index ticks.old place) (slice_index counts.now place) period
+        (slice_index ticks.new place) }
     ensures extent { (place : ℕ) → place < many → IsIn result (slice_index ticks.new place) }
 {
     let mut extent = NONE;
@@ -314,7 +322,8 @@ fn put_sums(numbers: &[u32; SPAN], many: usize, sums: &mut [u32; SUMS])
 /// The extent of the sums of 64 numbers in a row, from each of the first places up to this one on.
 fn windows_extent(sums: &[u32; SUMS], most: usize) -> Extent
     requires most { most ≤ 2048 }
-    ensures { (place : ℕ) → place ≤ most → IsIn result (low_difference (slice_index sums.now (place + 64)) (slice_index sums.now place)) }
+    ensures { (place : ℕ) → place ≤ most
+        → IsIn result (low_difference (slice_index sums.now (place + 64)) (slice_index sums.now place)) }
 {
     let mut extent = NONE;
     for place in 0..most + 1 {

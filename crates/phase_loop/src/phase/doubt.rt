@@ -3,14 +3,15 @@ ghost use Rattle.std.specs.Prelude.{◌≤◌};
 
 use crate::window::STRETCH;
 
-/// The most transitions of a stretch where the one before was not certain, and for how many it is not tried after the first such.
+/// The most transitions of a stretch where the one before was not certain, and for how many it is
+/// not tried after the first such.
 const SHORTER: usize = 512;
 
 /// For how many transitions at most it is not tried.
 const LONGEST: usize = 8192;
 
-/// After a stretch that was not certain, as noise has them, it is not tried for some transitions, and twice as long each
-/// further time: what it costs in vain is spared there.
+/// After a stretch that was not certain, as noise has them, it is not tried for some transitions, and twice as long
+/// each further time: what it costs in vain is spared there.
 #[derive(Clone, Copy, Debug, PartialEq, Eq)]
 pub struct Doubt {
     /// How many transitions.

@@ -9,9 +9,9 @@ const WHOLE: u32 = 1 << 16;
 
 /// Guesses how many cells lie from a transition to the next, by the period with which a stretch begins.
 ///
-/// A count hangs on the place and the period, which are known last of all, so that each transition would wait for the one
-/// before. A guess hangs on two times alone. It is nearly always right, since the period hardly changes within a stretch,
-/// and is checked before it counts.
+/// A count hangs on the place and the period, which are known last of all, so that each transition would wait for the
+/// one before. A guess hangs on two times alone. It is nearly always right, since the period hardly changes within a
+/// stretch, and is checked before it counts.
 #[derive(Clone, Copy, Debug, PartialEq, Eq)]
 pub struct Guess {
     /// How much of a cell a tick is, where a whole one is `WHOLE`.

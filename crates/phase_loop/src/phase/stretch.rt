@@ -1,12 +1,14 @@
 //! The loop's hot path: stretches of transitions that lie close to one another.
-ghost use Rattle.std.specs.Prelude.{◌≡◌, ℕ, ◌+◌, ◌-◌, ◌*◌, ◌/◌, ◌^◌, ◌<◌, ◌≤◌, max, length, take, drop, slice_index, All, IfOk, IfSome, IsOk, OnErr, IsTrue, ◌↔◌};
+ghost use Rattle.std.specs.Prelude.{◌≡◌, ℕ, ◌+◌, ◌-◌, ◌*◌, ◌/◌, ◌^◌, ◌<◌, ◌≤◌, max, length, take, drop, slice_index};
+ghost use Rattle.std.specs.Prelude.{All, IfOk, IfSome, IsOk, OnErr, IsTrue, ◌↔◌};
 ghost use Rattle.std.specs.List.Sorted.{IsNonDecreasing};
 ghost use Rattle.cell_bits.specs.State.{room};
 ghost use Rattle.cell_bits.specs.Run.{IsShortRun};
 ghost use Rattle.circular_buffer.specs.Buffer.{buffer};
 ghost use Rattle.phase_loop.specs.Window.{IsShort, IsWindow, fine_total};
 ghost use Rattle.phase_loop.specs.Certain.{AreTicks};
-ghost use Rattle.phase_loop.specs.Stretch.{intervals_with, counts_of, stand_next, AreBetween, AreGuessed, Carries, IsStretch, TakesRuns};
+ghost use Rattle.phase_loop.specs.Stretch.{intervals_with, counts_of, stand_next, AreBetween, AreGuessed, Carries};
+ghost use Rattle.phase_loop.specs.Stretch.{IsStretch, TakesRuns};
 
 use super::certain::put_ticks;
 use super::guess::Guess;
@@ -70,8 +72,8 @@ impl Loop {
         self.follow_stretch(times, last, cells)
     }
 
-    /// What `follow` does where it tries a stretch. A call, so that a transition with no stretch does not wait for the row of
-    /// counts.
+    /// What `follow` does where it tries a stretch. A call, so that a transition with no stretch does
+    /// not wait for the row of counts.
     #[inline(never)]
     fn follow_stretch(
         &mut self,
@@ -112,8 +114,8 @@ impl Loop {
         Ok(next)
     }
 
-    /// The stretch of `follow_stretch`, and whether it was certain. The first of `counts` are those of the window, and the
-    /// stretch puts its own after them.
+    /// The stretch of `follow_stretch`, and whether it was certain. The first of `counts` are those of the window, and
+    /// the stretch puts its own after them.
     fn stretch(
         &self,
         times: &[u64],
@@ -130,7 +132,10 @@ impl Loop {
         requires counts { take 64 counts.old ≡ counts_of self.now.recent }
         requires short { length cells.old.cells ≤ 32 * last + 1 }
         ensures most { IfOk result (λ r. r.1 ≤ last + 2048) }
-        ensures stretch { IfOk result (λ r. IsStretch times.now last r.1 self.now r.0 (drop (r.1 - last) (take (64 + (r.1 - last)) counts.new)) cells.old cells.new) }
+        ensures stretch { IfOk result
+            (λ r.
+            IsStretch times.now last r.1 self.now r.0 (drop (r.1 - last) (take (64 + (r.1 - last)) counts.new))
+            cells.old cells.new) }
         ensures room { room cells.old ≤ room cells.new }
         ensures succeeds { 32 * length times.now ≤ room cells.old → IsOk result }
     {
@@ -146,8 +151,9 @@ impl Loop {
         Ok((stand, last + taken, certain))
     }
 
-    /// Takes the transitions of a stretch, whose counts are guessed: all of them where they are certain, and else one after
-    /// another. The answer is the stand at the last that it takes, how many they are, and whether they were certain.
+    /// Takes the transitions of a stretch, whose counts are guessed: all of them where they are certain,
+    /// and else one after another. The answer is the stand at the last that it takes, how many they are,
+    /// and whether they were certain.
     fn take_counts(
         &self,
         times: &[u64],
@@ -231,8 +237,8 @@ impl Loop {
         }
     }
 
-    /// How far a time may lie from where a count of cells puts it, so that no other count is as near: half a period, where
-    /// that is the shortest one that a stretch can have.
+    /// How far a time may lie from where a count of cells puts it, so that no other count is as near: half a period,
+    /// where that is the shortest one that a stretch can have.
     fn slack(&self) -> u64
         ensures first { 2 * result ≤ self.now.period }
         ensures later { 2 * result ≤ self.now.band.lowest }
@@ -241,8 +247,8 @@ impl Loop {
     }
 }
 
-/// From which transition on a stretch is tried again, where the last one took so many and ended at this one. A short one
-/// is a sign of noise.
+/// From which transition on a stretch is tried again, where the last one took so many and ended at this one. A
+/// short one is a sign of noise.
 fn next_stretch_behind(last: usize, taken: usize) -> usize {
     let pause = match taken {
         0..NO_STRETCH => LONG_PAUSE,
@@ -276,8 +282,9 @@ fn intervals_to(times: &[u64], last: usize, counts: &[u8]) -> [Interval; INTERVA
 }
 
 impl Stand {
-    /// The count of cells to a time that is not before the place and has no more than four, and their length: the guess,
-    /// where it puts the time nearly right. A guess further off than the slack may be right as well, and is counted anew.
+    /// The count of cells to a time that is not before the place and has no more than four, and their
+    /// length: the guess, where it puts the time nearly right. A guess further off than the slack may be
+    /// right as well, and is counted anew.
     fn near(self, fine: u64, guess: u8, slack: u64) -> Option<(u64, u64)>
         requires fine { fine ≤ 2 ^ 49 }
         requires place { self.place ≤ 2 ^ 50 }
@@ -302,8 +309,8 @@ impl Stand {
         Some((count, count * self.period))
     }
 
-    /// The stand at the next transition, where the cells to it have this length, and the window gets this total of cells
-    /// and this mean.
+    /// The stand at the next transition, where the cells to it have this length, and the window gets this
+    /// total of cells and this mean.
     pub(super) fn after(self, band: Band, fine: u64, length: u64, total: u64, mean: u64) -> Stand
         requires fine { fine ≤ 2 ^ 49 }
         requires place { self.place ≤ 2 ^ 50 }
@@ -318,8 +325,8 @@ impl Stand {
     }
 }
 
-/// How many periods lie in a way, where they are few. A call, so that a transition whose guess is right does not wait for
-/// the comparisons.
+/// How many periods lie in a way, where they are few. A call, so that a transition whose guess is right does
+/// not wait for the comparisons.
 #[cold]
 #[inline(never)]
 fn count_of_few(way: u64, period: u64) -> Option<u64>

@@ -1,5 +1,7 @@
--- The gap after a header: words that stand nowhere in it, which computation shows whatever comes after it, and what stands first.
-use Rattle.std.specs.Prelude.{◌≡◌, ℕ, zero, suc, ◌+◌, ◌-◌, ◌<◌, ◌≤◌, Bool, true, false, not, ◌&&◌, List, [], ◌∷◌, ◌++◌, length, take, drop, refl}
+-- The gap after a header: words that stand nowhere in it, which computation shows whatever comes
+-- after it, and what stands first.
+use Rattle.std.specs.Prelude.{◌≡◌, ℕ, zero, suc, ◌+◌, ◌-◌, ◌<◌, ◌≤◌, Bool, true, false, not, ◌&&◌}
+use Rattle.std.specs.Prelude.{List, [], ◌∷◌, ◌++◌, length, take, drop, refl}
 use Rattle.std.proofs.Common.{ap, sym, ◌∙◌, arith, inl, inr}
 use Rattle.cell_bits.specs.Word.{Stands, word_cells}
 use Rattle.cell_bits.specs.lemmas.WordLaws.{length-word_cells}
@@ -19,7 +21,8 @@ begins (false ∷ word) (false ∷ cells) = begins word cells
 unfoldable pub free_of : List Bool → ℕ → List Bool → Bool
 free_of word zero cells = true
 free_of word (suc count) [] = true
-free_of word (suc count) (cell ∷ cells) = not (begins word (cell ∷ cells)) && free_of word count cells
+free_of word (suc count) (cell ∷ cells) =
+    not (begins word (cell ∷ cells)) && free_of word count cells
 
 begins-same : (word cells : List Bool) → take (length word) cells ≡ word → begins word cells ≡ true
 unfolding begins
@@ -38,7 +41,8 @@ second_true : (a b : Bool) → (a && b) ≡ true → b ≡ true
 second_true true b holds = holds
 second_true false b holds = absurd (cc)
 
-free-nowhere : (word : List Bool) (count : ℕ) (cells : List Bool) (place : ℕ) → 0 < length word → free_of word count cells ≡ true → place < count
+free-nowhere : (word : List Bool) (count : ℕ) (cells : List Bool) (place : ℕ) → 0 < length word
+    → free_of word count cells ≡ true → place < count
     → ¬ (take (length word) (drop place cells) ≡ word)
 unfolding free_of
 free-nowhere word zero cells place some free within same = absurd (omega arith)
@@ -46,13 +50,18 @@ free-nowhere [] (suc count) cells place some free within same = absurd (omega ar
 free-nowhere (first ∷ word) (suc count) [] zero some free within same = cc
 free-nowhere (first ∷ word) (suc count) [] (suc place) some free within same = cc
 free-nowhere word (suc count) (cell ∷ cells) zero some free within same =
-    not_true (begins word (cell ∷ cells)) (free_of word count cells) free (begins-same word (cell ∷ cells) same)
+    not_true (begins word (cell ∷ cells)) (free_of word count cells) free
+    (begins-same word (cell ∷ cells) same)
 free-nowhere word (suc count) (cell ∷ cells) (suc place) some free within same =
-    free-nowhere word count cells place some (second_true (not (begins word (cell ∷ cells))) (free_of word count cells) free) (omega arith) same
+    free-nowhere word count cells place some
+    (second_true (not (begins word (cell ∷ cells))) (free_of word count cells) free)
+    (omega arith) same
 
 -- so the word stands nowhere there, also where the gap begins after other cells
-pub gap-free : (value size count : ℕ) (front gap : List Bool) (begin place : ℕ) → 1 ≤ size → free_of (word_cells size value) count gap ≡ true
-    → length front ≡ begin → begin ≤ place → place < begin + count → ¬ Stands (front ++ gap) value size place
+pub gap-free : (value size count : ℕ) (front gap : List Bool) (begin place : ℕ) → 1 ≤ size
+    → free_of (word_cells size value) count gap ≡ true
+    → length front ≡ begin → begin ≤ place → place < begin + count
+    → ¬ Stands (front ++ gap) value size place
 gap-free value size count front gap begin place some free is above below stands =
     let word = word_cells size value in
     let long : length word ≡ size = length-word_cells size value in
@@ -63,7 +72,8 @@ gap-free value size count front gap begin place some free is above below stands 
     (ap (λ (n : ℕ). take n (drop (place - begin) gap)) long ∙ ap (take size) (sym there) ∙ stands)
 
 -- what stands first stands at one place
-pub one-first : (Here : ℕ → Type 0) (from p q : ℕ) → from ≤ p → Here p → ((place : ℕ) → from ≤ place → place < p → ¬ Here place)
+pub one-first : (Here : ℕ → Type 0) (from p q : ℕ) → from ≤ p → Here p
+    → ((place : ℕ) → from ≤ place → place < p → ¬ Here place)
     → from ≤ q → Here q → ((place : ℕ) → from ≤ place → place < q → ¬ Here place) → p ≡ q
 one-first Here from p q behind first none_before other_behind other none_before_other =
     elim (cases_lt p q) [
