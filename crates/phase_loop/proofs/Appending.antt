@@ -8,7 +8,7 @@ use Rattle.cell_bits.specs.State.{CellsState, room}
 use Rattle.cell_bits.specs.Run.{run_cells}
 use Rattle.phase_loop.specs.Rows.{recovered, counts, rows_to}
 use Rattle.phase_loop.specs.State.{LoopState, Holds}
-use Rattle.phase_loop.specs.Appended.{IsAppended}
+use Rattle.phase_loop.specs.inside.Appended.{IsAppended}
 use Rattle.phase_loop.specs.declared.start.LoopStart.{LoopStart}
 use Rattle.phase_loop.proofs.Times.{holds_fine}
 

@@ -6,8 +6,8 @@ use Rattle.std.proofs.lemmas.List.{drop-drop, drop_more, get_or-drop, get_or-tak
 use Rattle.cell_bits.specs.State.{CellsState}
 use Rattle.phase_loop.specs.Rows.{Row, no_row, row_at, last_row, next_row, rows_to, rows_of}
 use Rattle.phase_loop.specs.State.{LoopState, interval_between, intervals, state_behind, Holds}
-use Rattle.phase_loop.specs.Appended.{IsAppended}
-use Rattle.phase_loop.specs.Stretch.{interval_at, intervals_with, counts_of, AreBetween}
+use Rattle.phase_loop.specs.inside.Appended.{IsAppended}
+use Rattle.phase_loop.specs.inside.Stretch.{interval_at, intervals_with, counts_of, AreBetween}
 use Rattle.phase_loop.specs.declared.start.LoopStart.{LoopStart}
 use Rattle.phase_loop.specs.declared.window.Interval.{Interval}
 use Rattle.phase_loop.proofs.Intervals.{length-intervals, drop-intervals}

@@ -13,9 +13,9 @@ use Rattle.cell_bits.specs.Run.{run_cells, IsShortRun}
 use Rattle.phase_loop.specs.Start.{IsStart, LONGEST_PERIOD, SHORTEST_PERIOD, in_band}
 use Rattle.phase_loop.specs.Window.{WIDEST, IsShort, IsWindow, fine_total, count_total}
 use Rattle.phase_loop.specs.State.{LoopState}
-use Rattle.phase_loop.specs.Step.{periods_to, joined, period_from, state_after, count_after}
-use Rattle.phase_loop.specs.Stretch.{interval_at, intervals_with, counts_of, stand_next, standing, with_runs, AreBetween, AreGuessed, IsStretch}
-use Rattle.phase_loop.specs.Appended.{IsAppended}
+use Rattle.phase_loop.specs.inside.Step.{periods_to, joined, period_from, state_after, count_after}
+use Rattle.phase_loop.specs.inside.Stretch.{interval_at, intervals_with, counts_of, stand_next, standing, with_runs, AreBetween, AreGuessed, IsStretch}
+use Rattle.phase_loop.specs.inside.Appended.{IsAppended}
 use Rattle.phase_loop.specs.declared.start.Band.{Band}
 use Rattle.phase_loop.specs.declared.start.LoopStart.{LoopStart}
 use Rattle.phase_loop.specs.declared.window.Interval.{Interval}

@@ -5,7 +5,7 @@ use Rattle.std.proofs.lemmas.List.{length_push, get_or_push, get_or_append_left,
 use Rattle.std.proofs.lemmas.List.Sorted.{IsNonDecreasingBy-push, IsNonDecreasingBy-short}
 use Rattle.phase_loop.specs.Rows.{Row, last_row, row_of_start, next_row, with_next_row, rows_to, rows_of, counts}
 use Rattle.phase_loop.specs.State.{LoopState, intervals, state_behind, Holds}
-use Rattle.phase_loop.specs.Step.{state_after, count_after}
+use Rattle.phase_loop.specs.inside.Step.{state_after, count_after}
 use Rattle.phase_loop.specs.declared.start.LoopStart.{LoopStart}
 use Rattle.phase_loop.specs.declared.window.Interval.{Interval}
 use Rattle.phase_loop.proofs.Intervals.{last_row-push}

@@ -2,12 +2,9 @@ pub mod Start
 pub mod Window
 pub mod Rows
 pub mod State
-pub mod Step
 pub mod Loop
 pub mod Reciprocals
-pub mod Appended
-pub mod Stretch
-pub mod Certain
 pub mod Carried
 pub mod Pieces
 pub mod Sizes
+pub mod inside

@@ -50,7 +50,7 @@ impl Loop {
     ghost use Rattle.phase_loop.specs.Start.{INTERVALS, IsStart, band_of};
     ghost use Rattle.phase_loop.specs.Rows.{counts};
     ghost use Rattle.phase_loop.specs.State.{Holds};
-    ghost use Rattle.phase_loop.specs.Step.{state_after, count_after, restarted};
+    ghost use Rattle.phase_loop.specs.inside.Step.{state_after, count_after, restarted};
 
     /// A loop with room for its 64 intervals. It stands as one that was started at time 0 with a nominal cell
     /// and a period of 16 ticks.

@@ -6,9 +6,10 @@ ghost use Rattle.cell_bits.specs.State.{room};
 ghost use Rattle.cell_bits.specs.Run.{IsShortRun};
 ghost use Rattle.circular_buffer.specs.Buffer.{buffer};
 ghost use Rattle.phase_loop.specs.Window.{IsShort, IsWindow, fine_total};
-ghost use Rattle.phase_loop.specs.Certain.{AreTicks};
-ghost use Rattle.phase_loop.specs.Stretch.{intervals_with, counts_of, stand_next, AreBetween, AreGuessed, Carries};
-ghost use Rattle.phase_loop.specs.Stretch.{IsStretch, TakesRuns};
+ghost use Rattle.phase_loop.specs.inside.Certain.{AreTicks};
+ghost use Rattle.phase_loop.specs.inside.Stretch.{intervals_with, counts_of, stand_next, AreBetween, AreGuessed};
+ghost use Rattle.phase_loop.specs.inside.Stretch.{Carries};
+ghost use Rattle.phase_loop.specs.inside.Stretch.{IsStretch, TakesRuns};
 
 use super::certain::put_ticks;
 use super::guess::Guess;

@@ -1,5 +1,5 @@
 use Rattle.std.proofs.Common.{◌-◌, ◌<◌, length}
-use Rattle.phase_loop.specs.Appended.{IsAppended}
+use Rattle.phase_loop.specs.inside.Appended.{IsAppended}
 use Rattle.phase_loop.proofs.recovery.append_cells.Given as goal
 
 abbrev pub invariant-loop-last : goal.invariant-loop-last

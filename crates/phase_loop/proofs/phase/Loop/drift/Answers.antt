@@ -1,5 +1,5 @@
 use Rattle.std.proofs.Common.{ℕ, ◌+◌, ◌*◌, ◌≤◌, ◌<◌, slice_index, arith}
-use Rattle.phase_loop.specs.Certain.{IsAbout}
+use Rattle.phase_loop.specs.inside.Certain.{IsAbout}
 use Rattle.phase_loop.proofs.Certain.{row_about}
 use Rattle.phase_loop.proofs.phase.Loop.drift.Goals as goal
 

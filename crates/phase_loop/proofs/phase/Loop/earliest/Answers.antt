@@ -1,7 +1,7 @@
 use Rattle.std.proofs.Common.{◌≡◌, ℕ, ◌+◌, ◌-◌, ◌*◌, ◌/◌, ◌≤◌, List, slice_index, arith, sym, ap, ◌∙◌}
 use Rattle.phase_loop.specs.Start.{in_band}
 use Rattle.phase_loop.specs.State.{LoopState}
-use Rattle.phase_loop.specs.Certain.{fine_at, stand_at}
+use Rattle.phase_loop.specs.inside.Certain.{fine_at, stand_at}
 use Rattle.phase_loop.specs.declared.start.Band.{Band}
 use Rattle.phase_loop.proofs.Certain.{bounded_at, cells_at, period_at}
 use Rattle.phase_loop.proofs.phase.Loop.earliest.Goals as goal

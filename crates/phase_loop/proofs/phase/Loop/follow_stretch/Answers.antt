@@ -1,7 +1,7 @@
 use Rattle.std.proofs.Common.{arith, subst, sym, ◌+◌, ◌-◌, ◌*◌, slice_index, drop, take}
-use Rattle.phase_loop.specs.Appended.{IsAppended}
+use Rattle.phase_loop.specs.inside.Appended.{IsAppended}
 use Rattle.phase_loop.specs.State.{LoopState}
-use Rattle.phase_loop.specs.Stretch.{intervals_with}
+use Rattle.phase_loop.specs.inside.Stretch.{intervals_with}
 use Rattle.phase_loop.proofs.Stretches.{window_counts}
 use Rattle.phase_loop.proofs.phase.Loop.follow_stretch.Goals as goal
 

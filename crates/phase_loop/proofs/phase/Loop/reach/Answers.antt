@@ -4,7 +4,7 @@ use Rattle.std.proofs.lemmas.List.{get_or-take}
 use Rattle.std.proofs.lemmas.Option.{IfSome_then}
 use Rattle.cell_bits.specs.Run.{IsShortRun}
 use Rattle.phase_loop.specs.State.{LoopState}
-use Rattle.phase_loop.specs.Certain.{IsReach, fine_at}
+use Rattle.phase_loop.specs.inside.Certain.{IsReach, fine_at}
 use Rattle.phase_loop.proofs.Stretches.{IsBand, guess_short}
 use Rattle.phase_loop.proofs.Certain.{Evidence, begins, certain, counts_few, evidence_of, few_ticks, remainders_of}
 use Rattle.phase_loop.proofs.phase.Loop.reach.Goals as goal

@@ -2,8 +2,8 @@ use Rattle.std.proofs.Common.{◌≡◌, ℕ, ◌+◌, ◌-◌, ◌*◌, ◌/◌
 use Rattle.std.proofs.Math.Nat.{mul-le-mul_right}
 use Rattle.cell_bits.specs.Run.{IsShortRun}
 use Rattle.phase_loop.specs.State.{LoopState}
-use Rattle.phase_loop.specs.Stretch.{stand_next, TakesRuns}
-use Rattle.phase_loop.specs.Certain.{fine_at, stand_at, AreEnds}
+use Rattle.phase_loop.specs.inside.Stretch.{stand_next, TakesRuns}
+use Rattle.phase_loop.specs.inside.Certain.{fine_at, stand_at, AreEnds}
 use Rattle.phase_loop.specs.declared.start.Band.{Band}
 use Rattle.phase_loop.specs.declared.phase.stretch.Stand.{Stand}
 use Rattle.phase_loop.proofs.Stretches.{guess_short}

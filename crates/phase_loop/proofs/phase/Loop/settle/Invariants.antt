@@ -1,5 +1,5 @@
 use Rattle.std.proofs.Common.{◌≤◌, ◌+◌, ◌*◌}
-use Rattle.phase_loop.specs.Certain.{AreEnds, stand_at}
+use Rattle.phase_loop.specs.inside.Certain.{AreEnds, stand_at}
 use Rattle.phase_loop.proofs.phase.Loop.settle.Given as goal
 
 abbrev pub invariant-loop-taken : goal.invariant-loop-taken

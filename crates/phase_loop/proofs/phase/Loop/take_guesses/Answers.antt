@@ -4,7 +4,7 @@ use Rattle.std.proofs.Math.Nat.{mul-le-mul_right}
 use Rattle.cell_bits.specs.State.{CellsState}
 use Rattle.cell_bits.specs.Run.{run_cells}
 use Rattle.phase_loop.specs.State.{LoopState}
-use Rattle.phase_loop.specs.Stretch.{IsStretch, with_runs}
+use Rattle.phase_loop.specs.inside.Stretch.{IsStretch, with_runs}
 use Rattle.phase_loop.specs.declared.window.Totals.{Totals}
 use Rattle.phase_loop.proofs.Stretches.{IsBand, no_cells, guess_right, guess_short, runs_more, start_band, stretch_begins, stretch_next, stretch_more, stretch_with}
 use Rattle.phase_loop.proofs.phase.Loop.take_guesses.Goals as goal

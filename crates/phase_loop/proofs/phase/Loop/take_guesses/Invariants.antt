@@ -1,5 +1,5 @@
 use Rattle.std.proofs.Common.{◌≡◌, ◌≤◌, ◌*◌, length}
-use Rattle.phase_loop.specs.Stretch.{AreGuessed, TakesRuns}
+use Rattle.phase_loop.specs.inside.Stretch.{AreGuessed, TakesRuns}
 use Rattle.phase_loop.proofs.phase.Loop.take_guesses.Given as goal
 
 abbrev pub invariant-loop-taken : goal.invariant-loop-taken

@@ -1,5 +1,5 @@
 use Rattle.std.proofs.Common.{◌≡◌, ◌≤◌, ◌*◌, take}
-use Rattle.phase_loop.specs.Certain.{cells_in}
+use Rattle.phase_loop.specs.inside.Certain.{cells_in}
 use Rattle.phase_loop.proofs.phase.certain.cells_of.Given as goal
 
 abbrev pub invariant-loop-place : goal.invariant-loop-place

@@ -1,5 +1,5 @@
 use Rattle.std.proofs.Common.{◌≡◌, ℕ, ◌+◌, ◌*◌, ◌≤◌, ◌<◌, List, slice_index, arith, subst}
-use Rattle.phase_loop.specs.Certain.{IsIn, row_sum}
+use Rattle.phase_loop.specs.inside.Certain.{IsIn, row_sum}
 use Rattle.phase_loop.proofs.Certain.{difference_is, row_most}
 use Rattle.phase_loop.proofs.phase.certain.drift_by_sums.Goals as goal
 

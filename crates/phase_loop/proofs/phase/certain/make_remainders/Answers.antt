@@ -1,7 +1,7 @@
 use Rattle.std.proofs.Common.{◌≡◌, ℕ, ◌+◌, ◌-◌, ◌*◌, ◌<◌, ◌≤◌, List, length, set, slice_index, arith, subst, sym, ap, ◌∙◌, inl, inr}
 use Rattle.std.proofs.lemmas.Bool.{cases_lt}
 use Rattle.std.proofs.lemmas.List.{length-set, get_or-set_same, get_or-set_other}
-use Rattle.phase_loop.specs.Certain.{IsIn, IsRemainder}
+use Rattle.phase_loop.specs.inside.Certain.{IsIn, IsRemainder}
 use Rattle.phase_loop.proofs.phase.certain.make_remainders.Goals as goal
 
 pub loop-place-preserved : goal.loop-place-preserved

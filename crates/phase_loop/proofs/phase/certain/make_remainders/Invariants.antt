@@ -1,5 +1,5 @@
 use Rattle.std.proofs.Common.{◌≡◌, ◌<◌, ◌≤◌, ℕ, length, slice_index}
-use Rattle.phase_loop.specs.Certain.{IsIn, IsRemainder}
+use Rattle.phase_loop.specs.inside.Certain.{IsIn, IsRemainder}
 use Rattle.phase_loop.proofs.phase.certain.make_remainders.Given as goal
 
 abbrev pub invariant-loop-place : goal.invariant-loop-place

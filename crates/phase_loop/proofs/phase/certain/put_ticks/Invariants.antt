@@ -1,5 +1,5 @@
 use Rattle.std.proofs.Common.{◌≡◌, length}
-use Rattle.phase_loop.specs.Certain.{AreTicks}
+use Rattle.phase_loop.specs.inside.Certain.{AreTicks}
 use Rattle.phase_loop.proofs.phase.certain.put_ticks.Given as goal
 
 abbrev pub invariant-loop-place : goal.invariant-loop-place

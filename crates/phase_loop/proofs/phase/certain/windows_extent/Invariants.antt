@@ -1,5 +1,5 @@
 use Rattle.std.proofs.Common.{◌<◌, ◌+◌, ◌-◌, ℕ, slice_index}
-use Rattle.phase_loop.specs.Certain.{IsIn, low_difference}
+use Rattle.phase_loop.specs.inside.Certain.{IsIn, low_difference}
 use Rattle.phase_loop.proofs.phase.certain.windows_extent.Given as goal
 
 abbrev pub invariant-loop-place : goal.invariant-loop-place

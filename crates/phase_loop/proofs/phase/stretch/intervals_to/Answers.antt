@@ -1,6 +1,6 @@
 use Rattle.std.proofs.Common.{arith, ◌≡◌, ◌∙◌, ap, sym, ℕ, ◌+◌, ◌-◌, List, [], ◌∷◌, ◌++◌, ◌<◌, length, slice_index, take}
 use Rattle.std.proofs.lemmas.List.{length-set, length-take-le, take_more, take_more_set}
-use Rattle.phase_loop.specs.Stretch.{interval_at, intervals_with}
+use Rattle.phase_loop.specs.inside.Stretch.{interval_at, intervals_with}
 use Rattle.phase_loop.specs.declared.window.Interval.{Interval}
 use Rattle.phase_loop.proofs.Stretches.{length-intervals_with, intervals_with-push, get_or-intervals_with}
 use Rattle.phase_loop.proofs.phase.stretch.intervals_to.Goals as goal

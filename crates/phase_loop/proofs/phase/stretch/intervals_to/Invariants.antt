@@ -1,5 +1,5 @@
 use Rattle.std.proofs.Common.{◌≡◌, take, length}
-use Rattle.phase_loop.specs.Stretch.{intervals_with}
+use Rattle.phase_loop.specs.inside.Stretch.{intervals_with}
 use Rattle.phase_loop.proofs.phase.stretch.intervals_to.Given as goal
 
 abbrev pub invariant-loop-place : goal.invariant-loop-place

@@ -9,7 +9,7 @@ use Rattle.phase_loop.specs.Start.{FINE_PER_TICK, INTERVALS, LONGEST, SHORTEST_P
 use Rattle.phase_loop.specs.Start.{LONGEST_PERIOD, in_band}
 use Rattle.phase_loop.specs.Window.{IsWindow}
 use Rattle.phase_loop.specs.State.{LoopState}
-use Rattle.phase_loop.specs.Appended.{IsAppended}
+use Rattle.phase_loop.specs.inside.Appended.{IsAppended}
 use Rattle.phase_loop.specs.declared.start.Band.{Band}
 use Rattle.phase_loop.specs.declared.start.LoopStart.{LoopStart}
 use Rattle.phase_loop.specs.declared.window.Interval.{Interval}

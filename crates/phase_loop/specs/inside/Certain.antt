@@ -6,7 +6,7 @@ use Rattle.phase_loop.specs.Start.{FINE_PER_TICK, INTERVALS, LONGEST, SHORTEST_P
 use Rattle.phase_loop.specs.Start.{LONGEST_PERIOD}
 use Rattle.phase_loop.specs.Window.{count_total}
 use Rattle.phase_loop.specs.State.{LoopState}
-use Rattle.phase_loop.specs.Stretch.{stand_next, TakesRuns}
+use Rattle.phase_loop.specs.inside.Stretch.{stand_next, TakesRuns}
 use Rattle.phase_loop.specs.declared.start.Band.{Band}
 use Rattle.phase_loop.specs.declared.phase.stretch.Stand.{Stand}
 use Rattle.phase_loop.specs.declared.phase.certain.Extent.{Extent}

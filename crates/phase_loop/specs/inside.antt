@@ -1,0 +1,5 @@
+-- What the crate's own functions say to one another: no public contract cites it.
+pub mod Appended
+pub mod Certain
+pub mod Step
+pub mod Stretch
