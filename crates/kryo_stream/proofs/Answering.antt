@@ -16,13 +16,16 @@ use Rattle.kryo_stream.specs.declared.fault.StreamFault.{StreamFault}
 use Rattle.kryo_stream.specs.declared.fault.StreamFault.TheVariants.{Truncated}
 use Rattle.kryo_stream.specs.declared.fault.TrackFault.{TrackFault}
 use Rattle.kryo_stream.specs.declared.fault.TrackFault.TheVariants.{ReadFault, Memory, Refused}
-use Rattle.kryo_stream.specs.Bench.{BenchState, IsNoted, IsComplete, TurnCause, HasFullBench, KeepsBenchRoom, IsSized}
+use Rattle.kryo_stream.specs.Bench.{BenchState, IsNoted, HasFullBench, KeepsBenchRoom, IsSized}
+use Rattle.kryo_stream.specs.inside.Bench.{IsComplete, TurnCause}
 use Rattle.kryo_stream.specs.Pieces.{BlockOrFault, piece_at}
 use Rattle.kryo_stream.specs.Stream.{total_bytes, ticks, marks, index_time, block_of_byte, is_in_stream, in_stream_bytes, block_ticks, pieces, is_end, turn_fault, indexes_of}
 use Rattle.kryo_stream.specs.Outcome.{Answer, Says, IsTruncated, IsCut, IsRead, IsReadOfInput, DoNotTell, input_of, HasFullRoom, IsSmall, IsNotMemory, is_read_fault}
-use Rattle.kryo_stream.specs.Tally.{at_start, behind, new_times, IsWithin, MayFollow, IsTally}
-use Rattle.kryo_stream.specs.Reads.{SourceMoment, Takes}
-use Rattle.kryo_stream.specs.Progress.{TakesOpenly, IsReading, ReadsOn, Progress, IsBlockOpen, TakesBlock}
+use Rattle.kryo_stream.specs.Tally.{new_times}
+use Rattle.kryo_stream.specs.inside.Tally.{at_start, behind, IsWithin, MayFollow, IsTally}
+use Rattle.kryo_stream.specs.Reads.{SourceMoment}
+use Rattle.kryo_stream.specs.inside.Reads.{Takes}
+use Rattle.kryo_stream.specs.inside.Progress.{TakesOpenly, IsReading, ReadsOn, Progress, IsBlockOpen, TakesBlock}
 use Rattle.kryo_stream.proofs.BenchLemmas.{marks-length, marks-samples}
 use Rattle.kryo_stream.proofs.Pieces.{piece_at-follows}
 use Rattle.kryo_stream.proofs.Progressing.{IsReading-start, IsReading-more, IsReading-push, first_fault-here, first_fault-later, IsEnding, end-later}

@@ -8,9 +8,10 @@ use Rattle.kryo_stream.specs.declared.block.Mark.{Mark}
 use Rattle.kryo_stream.specs.declared.block.SpelledBlock.{SpelledBlock}
 use Rattle.kryo_stream.specs.Bench.{BenchState, IsNoted, IsSized, end_of, overflow_of, stream_step}
 use Rattle.kryo_stream.specs.Pieces.{piece_at}
-use Rattle.kryo_stream.specs.Progress.{IsReading, ReadsOn}
+use Rattle.kryo_stream.specs.inside.Progress.{IsReading, ReadsOn}
 use Rattle.kryo_stream.specs.Stream.{is_in_stream, is_end, mark_of, in_stream_bytes, pieces}
-use Rattle.kryo_stream.specs.Tally.{behind, new_times, IsWithin}
+use Rattle.kryo_stream.specs.Tally.{new_times}
+use Rattle.kryo_stream.specs.inside.Tally.{behind, IsWithin}
 use Rattle.kryo_stream.proofs.BenchLemmas.{IsNoted-step}
 use Rattle.kryo_stream.proofs.Progressing.{IsReading-push}
 use Rattle.kryo_stream.proofs.Runs.{same_reading}

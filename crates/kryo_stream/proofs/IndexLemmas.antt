@@ -11,7 +11,8 @@ use Rattle.kryo_stream.specs.declared.block.Block.TheVariants.{Flux, Overflow, N
 use Rattle.kryo_stream.specs.declared.block.SpelledBlock.{SpelledBlock}
 use Rattle.std.specs.List.Sorted.{IsNonDecreasing}
 use Rattle.kryo_stream.specs.Stream.{in_stream_bytes, total_bytes, ticks, block_ticks, times_of, time_at, flux_time, block_of_byte, holds_byte}
-use Rattle.kryo_stream.specs.Bench.{BenchState, IsComplete, IsSearchable, IsSized, IsSizedBlock, stream_step, flux_ends, end_of, overflow_begins, overflow_of, base_time}
+use Rattle.kryo_stream.specs.Bench.{BenchState, IsSized, IsSizedBlock, stream_step, flux_ends, end_of, overflow_begins, overflow_of}
+use Rattle.kryo_stream.specs.inside.Bench.{IsComplete, IsSearchable, base_time}
 use Rattle.kryo_stream.specs.Sequence.{IsHeld}
 use Rattle.kryo_stream.proofs.BenchLemmas.{step_of, in_stream_bytes-cons, in_stream_bytes-append, flux_ends-append, overflow_begins-append, overflow_begins-length, slice_get-seam}
 use Rattle.kryo_stream.proofs.FindLemmas.{find-range, FindsFirst, count_by-append, count_by-all, count_by-none, count_by-same, count_by-between}

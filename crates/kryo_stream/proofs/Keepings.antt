@@ -9,12 +9,12 @@ use Rattle.kryo_stream.specs.declared.block.Block.TheVariants.{Flux}
 use Rattle.kryo_stream.specs.declared.block.SpelledBlock.{SpelledBlock}
 use Rattle.kryo_stream.specs.declared.front.LongFlux.{LongFlux}
 use Rattle.kryo_stream.specs.Bench.{BenchState, KeepsNotes}
-use Rattle.kryo_stream.specs.Blocks.{IsShortFlux}
-use Rattle.kryo_stream.specs.Keeping.{AddsTimes, AddsEnds, IsLongFlux, KeepsFlux, past}
+use Rattle.kryo_stream.specs.inside.Blocks.{IsShortFlux}
+use Rattle.kryo_stream.specs.inside.Keeping.{AddsTimes, AddsEnds, IsLongFlux, KeepsFlux, past}
 use Rattle.kryo_stream.specs.Pieces.{piece, piece_at, piece_from, unless_fault, ticks_at}
-use Rattle.kryo_stream.specs.Progress.{IsReading, ReadsOn}
+use Rattle.kryo_stream.specs.inside.Progress.{IsReading, ReadsOn}
 use Rattle.kryo_stream.specs.Protocol.{LIMIT}
-use Rattle.kryo_stream.specs.Tally.{behind, IsWithin}
+use Rattle.kryo_stream.specs.inside.Tally.{behind, IsWithin}
 use Rattle.kryo_stream.proofs.BlockReadings.{reads_block}
 use Rattle.kryo_stream.proofs.Pieces.{piece_at-grows}
 use Rattle.kryo_stream.proofs.Progressing.{ok_not}

@@ -8,7 +8,7 @@ use Rattle.std.proofs.lemmas.Simd.{length-chunk, leading_from_mask_l, trailing_m
 use Rattle.std.specs.List.{prefix_len}
 use lib.Count.{count_trailing_zeros}
 use lib.Lanes.{chunk, mask_l}
-use Rattle.kryo_stream.specs.Blocks.{IsShortFlux}
+use Rattle.kryo_stream.specs.inside.Blocks.{IsShortFlux}
 
 is_above : (n m : ℕ) → nat_le n m ≡ false → m < n
 is_above n m test = grind (arith, nat_tests)

@@ -8,8 +8,9 @@ use Rattle.kryo_stream.specs.declared.block.Block.TheVariants.{Flux, Overflow, N
 use Rattle.kryo_stream.specs.declared.fault.StreamFault.TheVariants.{Truncated, UnknownType, BadSize, WrongPosition, DeviceFault, DataAfterEnd}
 use Rattle.kryo_stream.specs.declared.block.SpelledBlock.{SpelledBlock}
 use Rattle.kryo_stream.specs.declared.before.Before.{Before}
-use Rattle.kryo_stream.specs.Tally.{MayFollow}
-use Rattle.kryo_stream.specs.Pieces.{BlockOrFault, piece, unless_fault, of_size, at_position, without_failure, number_at, ticks_at, in_stream_piece, stream_info_piece, index_piece, stream_end_piece, info_piece, out_of_band_piece, piece_from, piece_at, IsText}
+use Rattle.kryo_stream.specs.inside.Tally.{MayFollow}
+use Rattle.kryo_stream.specs.Pieces.{BlockOrFault, piece, unless_fault, of_size, at_position, without_failure, number_at, ticks_at, in_stream_piece, stream_info_piece, index_piece, stream_end_piece, info_piece, out_of_band_piece, piece_from, piece_at}
+use Rattle.kryo_stream.specs.inside.Pieces.{IsText}
 use Rattle.kryo_stream.proofs.Readings.{has-short, has-enough, Grows, grows_same, grows_not, grows_if, grows_needs, Lies, lies_if, lies_needs, lies_text}
 
 little_number-append : (y z : List ℕ) → 4 ≤ length y → little_number 4 (y ++ z) ≡ little_number 4 y

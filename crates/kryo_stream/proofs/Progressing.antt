@@ -9,8 +9,9 @@ use Rattle.kryo_stream.specs.declared.fault.StreamFault.TheVariants.{Truncated, 
 use Rattle.kryo_stream.specs.Bench.{BenchState, IsNoted}
 use Rattle.kryo_stream.specs.Pieces.{BlockOrFault, piece_at}
 use Rattle.kryo_stream.specs.Stream.{total_bytes, times_of, piece_behind, pieces, with_piece, is_end, is_last, stops_at, last_block, fault_at, first_fault, turn_fault, stream, stream_length, indexes_of, times, indexes}
-use Rattle.kryo_stream.specs.Tally.{at_start, behind, new_times, IsWithin, IsTally}
-use Rattle.kryo_stream.specs.Progress.{IsReading}
+use Rattle.kryo_stream.specs.Tally.{new_times}
+use Rattle.kryo_stream.specs.inside.Tally.{at_start, behind, IsWithin, IsTally}
+use Rattle.kryo_stream.specs.inside.Progress.{IsReading}
 use Rattle.kryo_stream.proofs.Pieces.{piece_at-grows, piece_at-follows}
 use Rattle.kryo_stream.proofs.Streams.{pieces-grow, goes_on-grow, last_block-is}
 use Rattle.kryo_stream.proofs.Tallies.{IsTally-start, IsTally-push}

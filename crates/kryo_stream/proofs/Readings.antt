@@ -4,7 +4,8 @@ use Rattle.std.proofs.lemmas.Bool.{cases_lt}
 use Rattle.std.proofs.lemmas.Bool.Decides.{nat_tests}
 use Rattle.kryo_stream.specs.declared.fault.StreamFault.TheVariants.{Truncated, TooLong}
 use Rattle.kryo_stream.specs.Protocol.{LIMIT}
-use Rattle.kryo_stream.specs.Pieces.{BlockOrFault, has, needs, IsText}
+use Rattle.kryo_stream.specs.Pieces.{BlockOrFault, has, needs}
+use Rattle.kryo_stream.specs.inside.Pieces.{IsText}
 
 pub has-long : (offset count : ℕ) (y : List ℕ) → LIMIT < offset + count → has offset count y ≡ Err TooLong
 has-long offset count y long = grind (arith, nat_tests)

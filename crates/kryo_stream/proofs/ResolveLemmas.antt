@@ -14,7 +14,8 @@ use Rattle.kryo_stream.specs.declared.fault.StreamFault.TheVariants.{IndexPositi
 use Rattle.kryo_stream.specs.declared.fault.TrackFault.{TrackFault}
 use Rattle.kryo_stream.specs.declared.fault.TrackFault.TheVariants.{ReadFault, Memory, Refused}
 use Rattle.kryo_stream.specs.Stream.{in_stream_bytes, marks, index_time, indexes_of, mark_fault, mark_fault_at, mark_faults, turn_fault}
-use Rattle.kryo_stream.specs.Bench.{flux_ends, overflow_begins, BenchState, IsComplete, TurnCause, PlaceCause, mark_time, base_time}
+use Rattle.kryo_stream.specs.Bench.{flux_ends, overflow_begins, BenchState}
+use Rattle.kryo_stream.specs.inside.Bench.{IsComplete, TurnCause, PlaceCause, mark_time, base_time}
 use Rattle.kryo_stream.proofs.IndexLemmas.{base_time-is}
 
 -- the first k Index blocks have index times, without a fault

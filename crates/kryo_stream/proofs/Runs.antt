@@ -10,13 +10,13 @@ use Rattle.kryo_stream.specs.declared.before.Before.{Before}
 use Rattle.kryo_stream.specs.declared.block.Block.TheVariants.{Flux}
 use Rattle.kryo_stream.specs.declared.block.SpelledBlock.{SpelledBlock}
 use Rattle.kryo_stream.specs.Bench.{BenchState, HasFullBench, IsNoted, KeepsBenchRoom}
-use Rattle.kryo_stream.specs.Blocks.{IsShortFlux}
+use Rattle.kryo_stream.specs.inside.Blocks.{IsShortFlux}
 use Rattle.kryo_stream.specs.Outcome.{HasFullRoom}
 use Rattle.kryo_stream.specs.Pieces.{piece, piece_at, piece_from, unless_fault}
-use Rattle.kryo_stream.specs.Progress.{IsReading, ReadsOn}
+use Rattle.kryo_stream.specs.inside.Progress.{IsReading, ReadsOn}
 use Rattle.kryo_stream.specs.Protocol.{LIMIT}
 use Rattle.kryo_stream.specs.Stream.{pieces}
-use Rattle.kryo_stream.specs.Tally.{behind, IsWithin}
+use Rattle.kryo_stream.specs.inside.Tally.{behind, IsWithin}
 use Rattle.kryo_stream.proofs.BenchLemmas.{flux_ends-length, overflow_begins-length, noted_flux}
 use Rattle.kryo_stream.proofs.Progressing.{IsReading-push}
 use Rattle.kryo_stream.proofs.Readings.{has-enough}

@@ -8,11 +8,13 @@ use Rattle.kryo_stream.specs.declared.block.Block.TheVariants.{Info}
 use Rattle.kryo_stream.specs.declared.block.SpelledBlock.{SpelledBlock}
 use Rattle.kryo_stream.specs.declared.fault.StreamFault.TheVariants.{Truncated}
 use Rattle.kryo_stream.specs.declared.intake.More.TheVariants.{Taken, End}
-use Rattle.kryo_stream.specs.Held.{Took}
-use Rattle.kryo_stream.specs.Pieces.{BlockOrFault, piece, piece_at, IsText}
-use Rattle.kryo_stream.specs.Progress.{BlockSays, IsBlockOpen, TakesBlock, AreFew, IsPassing, IsSkipped}
-use Rattle.kryo_stream.specs.Reads.{SourceMoment, Takes, IsNothing}
-use Rattle.kryo_stream.specs.Tally.{IsWithin}
+use Rattle.kryo_stream.specs.inside.Held.{Took}
+use Rattle.kryo_stream.specs.Pieces.{BlockOrFault, piece, piece_at}
+use Rattle.kryo_stream.specs.inside.Pieces.{IsText}
+use Rattle.kryo_stream.specs.inside.Progress.{BlockSays, IsBlockOpen, TakesBlock, AreFew, IsPassing, IsSkipped}
+use Rattle.kryo_stream.specs.Reads.{SourceMoment}
+use Rattle.kryo_stream.specs.inside.Reads.{Takes, IsNothing}
+use Rattle.kryo_stream.specs.inside.Tally.{IsWithin}
 use Rattle.kryo_stream.proofs.Pieces.{piece_at-text_whole, piece_at-text_cut}
 use Rattle.kryo_stream.proofs.Taking.{Takes-nothing, Takes-trans, Takes-other}
 

@@ -6,9 +6,10 @@ use Rattle.std.specs.List.{concat}
 use Rattle.std.specs.Io.KnownBytes.{Keeps, Consumes}
 use Rattle.flux_base.specs.Outside.{Gives}
 use Rattle.flux_base.specs.lemmas.Giving.{Gives-nil, Gives-trans}
-use Rattle.kryo_stream.specs.Held.{Took}
+use Rattle.kryo_stream.specs.inside.Held.{Took}
 use Rattle.kryo_stream.specs.Outcome.{DoNotTell, IsReadWhereNeeded}
-use Rattle.kryo_stream.specs.Reads.{SourceMoment, AreNeeded, Takes, IsNothing}
+use Rattle.kryo_stream.specs.Reads.{SourceMoment}
+use Rattle.kryo_stream.specs.inside.Reads.{AreNeeded, Takes, IsNothing}
 
 AreNeeded-append : (IsOpen : List ℕ → Type 0) (taken : List ℕ) (ps qs : List (List ℕ)) → AreNeeded IsOpen taken ps
     → AreNeeded IsOpen (taken ++ concat ps) qs → AreNeeded IsOpen taken (ps ++ qs)

@@ -11,7 +11,8 @@ use Rattle.kryo_stream.specs.declared.block.Block.TheVariants.{Flux, Overflow, N
 use Rattle.kryo_stream.specs.declared.block.SpelledBlock.{SpelledBlock}
 use Rattle.kryo_stream.specs.declared.before.Before.{Before}
 use Rattle.kryo_stream.specs.Stream.{is_in_stream, is_stream_end, has_ended, block_ticks, ticks, times_of, time_at, flux_time}
-use Rattle.kryo_stream.specs.Tally.{at_start, behind, new_times, IsWithin, MayFollow, IsTally}
+use Rattle.kryo_stream.specs.Tally.{new_times}
+use Rattle.kryo_stream.specs.inside.Tally.{at_start, behind, IsWithin, MayFollow, IsTally}
 use Rattle.kryo_stream.proofs.Lists.{sum_by-push, gathered, slice_get-front, slice_get-last, take-front}
 
 flux_time-new : (up_to : List SpelledBlock) (time : ℕ) (b : Block) → ticks up_to ≡ time + block_ticks b

@@ -11,10 +11,10 @@ use Rattle.index_turns.specs.Track.{TrackState}
 use Rattle.kryo_stream.specs.declared.fault.StreamFault.TheVariants.{Truncated}
 use Rattle.kryo_stream.specs.declared.fault.TrackFault.TheVariants.{ReadFault, Refused}
 use Rattle.kryo_stream.specs.declared.intake.More.TheVariants.{Taken, End}
-use Rattle.kryo_stream.specs.Held.{Took}
+use Rattle.kryo_stream.specs.inside.Held.{Took}
 use Rattle.kryo_stream.specs.Outcome.{Answer, Says, IsCut, IsRead, DoNotTell, IsReadWhereNeeded, input_of}
 use Rattle.kryo_stream.specs.Padding.{padding_of, unpadded, is_padding}
-use Rattle.kryo_stream.specs.Progress.{TakesOpenly, IsUnpadded}
+use Rattle.kryo_stream.specs.inside.Progress.{TakesOpenly, IsUnpadded}
 use Rattle.kryo_stream.specs.Reads.{SourceMoment}
 use Rattle.kryo_stream.specs.Stream.{first_fault}
 use Rattle.kryo_stream.proofs.Taking.{Takes-nothing, Takes-trans, reads_needed}

@@ -8,10 +8,6 @@ use Rattle.kryo_stream.specs.declared.block.Block.{Block}
 use Rattle.kryo_stream.specs.declared.block.Block.TheVariants.{Flux, Overflow, Nop, StreamInfo}
 use Rattle.kryo_stream.specs.declared.block.Block.TheVariants.{Index, StreamEnd, Info, End}
 
--- a byte from 0E to FF, which is a transition by itself
-abbrev pub IsShortFlux : ℕ → Type 0
-IsShortFlux byte = (14 ≤ byte) × (byte < 256)
-
 -- one byte from 0E to FF is its own number of ticks
 abbrev pub SpellsOneByte : List ℕ → ℕ → Type 0
 SpellsOneByte bytes ticks = (14 ≤ ticks) × (ticks < 256) × (bytes ≡ ticks ∷ [])

@@ -3,12 +3,11 @@ pub mod Blocks
 pub mod Growth
 pub mod Held
 pub mod Joined
-pub mod Keeping
+pub mod inside
 pub mod lemmas
 pub mod Outcome
 pub mod Padding
 pub mod Pieces
-pub mod Progress
 pub mod Protocol
 pub mod Reads
 pub mod Room

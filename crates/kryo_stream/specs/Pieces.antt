@@ -1,6 +1,6 @@
 -- The block that stands at one place of a stream, or its fault (KryoFlux stream protocol; which
 -- fault comes first, and that a stream ends at 4194304 bytes, are our own choice).
-use Rattle.std.specs.Prelude.{◌≡◌, ◌≤◌, ℕ, ◌+◌, ◌-◌, ◌*◌, ◌==◌, Bool, List, length, drop}
+use Rattle.std.specs.Prelude.{ℕ, ◌+◌, ◌-◌, ◌*◌, ◌==◌, Bool, List, length, drop}
 use Rattle.std.specs.Prelude.{slice_index, nat_lt, nat_le, if◌then◌else◌, Result, Ok, Err}
 use Rattle.byteorder.specs.Endian.{little_number}
 use Rattle.kryo_stream.specs.Protocol.{OUT_OF_BAND, STREAM_INFO_TYPE, INDEX_TYPE, STREAM_END_TYPE}
@@ -118,11 +118,3 @@ piece_from offset counted ended first bytes =
 abbrev pub piece_at : ℕ → ℕ → Bool → List ℕ → BlockOrFault
 piece_at offset counted ended bytes =
     needs offset 1 bytes (piece_from offset counted ended (slice_index bytes 0) bytes)
-
--- the header of an Info block of this size is at the front, and its end is within the limit
-pub record IsText (offset : ℕ) (bytes : List ℕ) (size : ℕ) : Type 0 where
-  pub header : 4 ≤ length bytes
-  pub first : slice_index bytes 0 ≡ OUT_OF_BAND
-  pub kind : slice_index bytes 1 ≡ INFO_TYPE
-  pub size_is : little_number 2 (drop 2 bytes) ≡ size
-  pub room : offset + (4 + size) ≤ LIMIT

@@ -1,8 +1,5 @@
 -- When a source is read: where what was taken before leaves a question open.
-use Rattle.std.specs.Prelude.{◌≡◌, ◌++◌, ℕ, List, [], ◌∷◌, Option}
-use Rattle.std.specs.List.{concat}
-use Rattle.std.specs.Io.KnownBytes.{Consumes}
-use Rattle.flux_base.specs.Outside.{Gives}
+use Rattle.std.specs.Prelude.{ℕ, List, Option}
 use Rattle.flux_base.specs.declared.outside.Source.{Ghosts}
 
 -- what contracts see of a source at one moment: the bytes still to come and what each read so far
@@ -19,22 +16,3 @@ reads_at members source =
       given = members.given source;
       faults = members.faults source;
     }
-
--- reads gave these pieces one after the other, each where all that was taken
--- before it left the question open
-abbrev pub AreNeeded : (List ℕ → Type 0) → List ℕ → List (List ℕ) → Type 0
-AreNeeded IsOpen taken [] = Unit {0}
-AreNeeded IsOpen taken (piece ∷ pieces) = IsOpen taken × AreNeeded IsOpen (taken ++ piece) pieces
-
--- these bytes were taken in pieces, one for each read, and without a read the count of faults stays
-pub record Takes (IsOpen : List ℕ → Type 0) (old new : SourceMoment) (taken : List ℕ) : Type 0 where
-  pub consumed : Consumes old.left new.left taken
-  pub pieces : List (List ℕ)
-  pub gave : Gives old.given new.given pieces
-  pub whole : concat pieces ≡ taken
-  pub needed : AreNeeded IsOpen [] pieces
-  pub still : pieces ≡ [] → new.faults ≡ old.faults
-
--- the question of one read: whether anything was taken
-abbrev pub IsNothing : List ℕ → Type 0
-IsNothing taken = taken ≡ []

@@ -16,7 +16,7 @@ pub struct Before {
 }
 
 impl Before {
-    ghost use Rattle.kryo_stream.specs.Tally.{at_start, behind, IsWithin, MayFollow};
+    ghost use Rattle.kryo_stream.specs.inside.Tally.{at_start, behind, IsWithin, MayFollow};
 
     /// What stands before the first block: nothing.
     pub fn start() -> Before

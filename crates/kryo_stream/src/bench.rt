@@ -6,9 +6,11 @@ ghost use Rattle.std.specs.Vec.{vec_capacity};
 ghost use Rattle.kryo_stream.specs.Protocol.{LIMIT};
 ghost use Rattle.kryo_stream.specs.Stream.{in_stream_bytes, total_bytes, turn_fault, indexes_of};
 ghost use Rattle.index_turns.specs.Track.{KeepsRoom};
-ghost use Rattle.kryo_stream.specs.Keeping.{AddsEnds};
-ghost use Rattle.kryo_stream.specs.Bench.{HasFullBench, KeepsBenchRoom, KeepsNotes, IsNoted, IsSized, IsComplete};
-ghost use Rattle.kryo_stream.specs.Bench.{IsSearchable, TurnCause, PlaceCause, base_time, mark_time, end_of};
+ghost use Rattle.kryo_stream.specs.inside.Keeping.{AddsEnds};
+ghost use Rattle.kryo_stream.specs.Bench.{HasFullBench, KeepsBenchRoom, KeepsNotes, IsNoted, IsSized};
+ghost use Rattle.kryo_stream.specs.inside.Bench.{IsComplete};
+ghost use Rattle.kryo_stream.specs.Bench.{end_of};
+ghost use Rattle.kryo_stream.specs.inside.Bench.{IsSearchable, TurnCause, PlaceCause, base_time, mark_time};
 ghost use Rattle.kryo_stream.specs.Bench.{overflow_of};
 
 use crate::block::{Block, Mark, SpelledBlock};

@@ -2,12 +2,13 @@ ghost use Rattle.std.specs.Prelude.{◌≡◌, ◌≤◌, ◌<◌, ◌+◌, ◌^
 ghost use Rattle.std.specs.Prelude.{IfOk, IfSome, IfNone, Some, Ok, true};
 ghost use Rattle.byteorder.specs.Endian.{little_number};
 ghost use Rattle.kryo_stream.specs.Bench.{IsSized};
-ghost use Rattle.kryo_stream.specs.Blocks.{IsShortFlux};
-ghost use Rattle.kryo_stream.specs.Keeping.{IsLongFlux};
+ghost use Rattle.kryo_stream.specs.inside.Blocks.{IsShortFlux};
+ghost use Rattle.kryo_stream.specs.inside.Keeping.{IsLongFlux};
 ghost use Rattle.kryo_stream.specs.Pieces.{has, in_stream_piece, info_piece, stream_info_piece, index_piece};
-ghost use Rattle.kryo_stream.specs.Pieces.{stream_end_piece, out_of_band_piece, piece_at, IsText};
+ghost use Rattle.kryo_stream.specs.Pieces.{stream_end_piece, out_of_band_piece, piece_at};
+ghost use Rattle.kryo_stream.specs.inside.Pieces.{IsText};
 ghost use Rattle.kryo_stream.specs.Stream.{is_in_stream};
-ghost use Rattle.kryo_stream.specs.Tally.{MayFollow};
+ghost use Rattle.kryo_stream.specs.inside.Tally.{MayFollow};
 
 use crate::before::Before;
 use crate::block::{Block, SpelledBlock};

@@ -45,8 +45,9 @@ impl Model for Intake {
 }
 
 impl Intake {
-    ghost use Rattle.kryo_stream.specs.Held.{Took, IsMore};
-    ghost use Rattle.kryo_stream.specs.Reads.{IsNothing, reads_at};
+    ghost use Rattle.kryo_stream.specs.inside.Held.{Took, IsMore};
+    ghost use Rattle.kryo_stream.specs.Reads.{reads_at};
+    ghost use Rattle.kryo_stream.specs.inside.Reads.{IsNothing};
 
     /// An intake that holds nothing and was not used.
     pub fn new(alloc: Global) -> Result<Intake, Memory>

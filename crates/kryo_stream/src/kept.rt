@@ -1,8 +1,8 @@
 ghost use Rattle.std.specs.Prelude.{◌≡◌, ◌≤◌, ◌<◌, ◌+◌, ◌*◌, ◌^◌, ◌++◌, ◌∷◌, [], ℕ, List, All, length, false};
 ghost use Rattle.std.specs.List.{range_with_len, sum};
 ghost use Rattle.index_turns.specs.Track.{times_after};
-ghost use Rattle.kryo_stream.specs.Keeping.{AddsTimes, AddsEnds, KeepsFlux};
-ghost use Rattle.kryo_stream.specs.Progress.{IsReading};
+ghost use Rattle.kryo_stream.specs.inside.Keeping.{AddsTimes, AddsEnds, KeepsFlux};
+ghost use Rattle.kryo_stream.specs.inside.Progress.{IsReading};
 
 use crate::before::Before;
 use crate::bench::StreamBench;

@@ -1,5 +1,5 @@
 use Rattle.std.proofs.Common.{◌-◌, length}
-use Rattle.kryo_stream.specs.Keeping.{KeepsFlux}
+use Rattle.kryo_stream.specs.inside.Keeping.{KeepsFlux}
 use Rattle.kryo_stream.proofs.kept.keep_flux.Given as goal
 
 abbrev pub invariant-loop-kept : goal.invariant-loop-kept

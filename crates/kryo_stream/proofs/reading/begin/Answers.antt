@@ -1,6 +1,6 @@
 use Rattle.std.proofs.Common.{◌∙◌, ap, sym, subst, false, Ok}
 use Rattle.kryo_stream.specs.declared.intake.More.TheVariants.{Taken}
-use Rattle.kryo_stream.specs.Progress.{IsUnpadded}
+use Rattle.kryo_stream.specs.inside.Progress.{IsUnpadded}
 use Rattle.kryo_stream.specs.Reads.{reads_at}
 use Rattle.kryo_stream.proofs.Unpadding.{no_padding}
 use Rattle.kryo_stream.proofs.reading.begin.Goals as goal

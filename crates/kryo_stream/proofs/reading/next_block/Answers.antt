@@ -1,8 +1,9 @@
 use Rattle.std.proofs.Common.{◌≡◌, ◌<◌, ◌∙◌, ap, sym, subst, arith, length, List, ℕ, Err}
 use Rattle.flux_base.specs.lemmas.Counting.{Counts-then}
 use Rattle.kryo_stream.specs.declared.fault.StreamFault.TheVariants.{Truncated}
-use Rattle.kryo_stream.specs.Pieces.{IsText, piece_at}
-use Rattle.kryo_stream.specs.Progress.{IsBlockOpen}
+use Rattle.kryo_stream.specs.Pieces.{piece_at}
+use Rattle.kryo_stream.specs.inside.Pieces.{IsText}
+use Rattle.kryo_stream.specs.inside.Progress.{IsBlockOpen}
 use Rattle.kryo_stream.proofs.Pieces.{piece_at-short}
 use Rattle.kryo_stream.proofs.Taking.{Took-more}
 use Rattle.kryo_stream.proofs.reading.next_block.Goals as goal

@@ -1,6 +1,6 @@
 use Rattle.std.proofs.Common.{false, ◌≡◌, ◌≤◌, ◌-◌, length}
-use Rattle.kryo_stream.specs.Held.{Took}
-use Rattle.kryo_stream.specs.Progress.{IsBlockOpen}
+use Rattle.kryo_stream.specs.inside.Held.{Took}
+use Rattle.kryo_stream.specs.inside.Progress.{IsBlockOpen}
 use Rattle.flux_base.specs.Counts.{Counts}
 use Rattle.flux_base.specs.World.{source_counts}
 use Rattle.kryo_stream.specs.Reads.{reads_at}

@@ -1,7 +1,7 @@
 use Rattle.std.proofs.Common.{◌≡◌, length}
 use Rattle.index_turns.specs.Track.{KeepsRoom}
 use Rattle.kryo_stream.specs.Bench.{KeepsBenchRoom}
-use Rattle.kryo_stream.specs.Progress.{ReadsOn}
+use Rattle.kryo_stream.specs.inside.Progress.{ReadsOn}
 use Rattle.kryo_stream.proofs.reading.pass_in_stream.Given as goal
 
 abbrev pub decreases-loop-count : goal.decreases-loop-count

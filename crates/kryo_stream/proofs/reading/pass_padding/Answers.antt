@@ -2,7 +2,7 @@ use Rattle.std.proofs.Common.{◌≡◌, ◌≤◌, ◌++◌, true, ◌∙◌, a
 use Rattle.flux_base.specs.lemmas.Counting.{Counts-then}
 use Rattle.kryo_stream.specs.declared.intake.More.TheVariants.{Taken}
 use Rattle.kryo_stream.specs.Padding.{padding_of}
-use Rattle.kryo_stream.specs.Progress.{IsUnpadded}
+use Rattle.kryo_stream.specs.inside.Progress.{IsUnpadded}
 use Rattle.kryo_stream.specs.Reads.{reads_at}
 use Rattle.kryo_stream.proofs.Taking.{Took-more}
 use Rattle.kryo_stream.proofs.Unpadding.{padding_open, padding_passed, padding_to_end, padding_to_failure}

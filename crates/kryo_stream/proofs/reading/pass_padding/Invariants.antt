@@ -1,5 +1,5 @@
 use Rattle.std.proofs.Common.{false, ◌≡◌, ◌≤◌, ◌-◌, ◌++◌, true, length}
-use Rattle.kryo_stream.specs.Held.{Took}
+use Rattle.kryo_stream.specs.inside.Held.{Took}
 use Rattle.kryo_stream.specs.Outcome.{DoNotTell}
 use Rattle.flux_base.specs.Counts.{Counts}
 use Rattle.flux_base.specs.World.{source_counts}

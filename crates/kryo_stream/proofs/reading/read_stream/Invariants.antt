@@ -1,7 +1,7 @@
 use Rattle.std.proofs.Common.{false, ◌≡◌, ◌≤◌, [], length}
 use Rattle.index_turns.specs.Track.{KeepsRoom}
 use Rattle.kryo_stream.specs.Bench.{KeepsBenchRoom}
-use Rattle.kryo_stream.specs.Progress.{Progress}
+use Rattle.kryo_stream.specs.inside.Progress.{Progress}
 use Rattle.flux_base.specs.Counts.{Counts}
 use Rattle.flux_base.specs.World.{source_counts}
 use Rattle.kryo_stream.specs.Reads.{reads_at}

@@ -1,5 +1,5 @@
 use Rattle.std.proofs.Common.{false, ◌≡◌, ◌≤◌, ◌+◌, ◌*◌, ◌-◌, length}
-use Rattle.kryo_stream.specs.Progress.{IsPassing}
+use Rattle.kryo_stream.specs.inside.Progress.{IsPassing}
 use Rattle.flux_base.specs.Counts.{Counts}
 use Rattle.flux_base.specs.World.{source_counts}
 use Rattle.kryo_stream.specs.Reads.{reads_at}

@@ -1,6 +1,6 @@
 use Rattle.std.proofs.Common.{subst, sym, Ok, Err}
 use Rattle.kryo_stream.specs.declared.fault.StreamFault.TheVariants.{Truncated}
-use Rattle.kryo_stream.specs.Pieces.{IsText}
+use Rattle.kryo_stream.specs.inside.Pieces.{IsText}
 use Rattle.kryo_stream.proofs.Skipping.{at_hand, text_taken, text_cut, text_failed}
 use Rattle.kryo_stream.proofs.Taking.{Took-nothing}
 use Rattle.kryo_stream.proofs.reading.take_text.Goals as goal

@@ -1,5 +1,5 @@
 use Rattle.std.proofs.Common.{arith, ◌≤◌, ◌≡◌, ◌+◌, ◌*◌, ◌-◌}
-use Rattle.kryo_stream.specs.Bench.{base_time}
+use Rattle.kryo_stream.specs.inside.Bench.{base_time}
 use Rattle.kryo_stream.proofs.IndexLemmas.{base_time-from_counts}
 use Rattle.kryo_stream.proofs.bench.StreamBench.begin_time.Goals as goal
 

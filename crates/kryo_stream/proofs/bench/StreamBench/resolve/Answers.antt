@@ -1,6 +1,6 @@
 use Rattle.std.proofs.Common.{arith, sym, subst, ◌≡◌, ◌<◌, ◌∙◌, length, ap, get_or, List}
 use Rattle.kryo_stream.specs.declared.block.Mark.{Mark}
-use Rattle.kryo_stream.specs.Bench.{IsSearchable, PlaceCause, mark_time}
+use Rattle.kryo_stream.specs.inside.Bench.{IsSearchable, PlaceCause, mark_time}
 use Rattle.kryo_stream.proofs.IndexLemmas.{IsSearchable-from_complete}
 use Rattle.kryo_stream.proofs.ResolveLemmas.{Placing-step, TurnCause-placing, turn_fault-none, turn_fault-few, indexes_of-placed, mark-read, blank}
 use Rattle.kryo_stream.proofs.bench.StreamBench.resolve.Goals as goal

@@ -11,9 +11,10 @@ use Rattle.kryo_stream.specs.Bench.{BenchState, IsNoted}
 use Rattle.kryo_stream.specs.Outcome.{input_of, most_padding, DoNotTell}
 use Rattle.kryo_stream.specs.Protocol.{LIMIT, MOST_HELD}
 use Rattle.kryo_stream.specs.Pieces.{BlockOrFault, piece_at}
-use Rattle.kryo_stream.specs.Reads.{SourceMoment, Takes}
+use Rattle.kryo_stream.specs.Reads.{SourceMoment}
+use Rattle.kryo_stream.specs.inside.Reads.{Takes}
 use Rattle.kryo_stream.specs.Stream.{pieces, stops_at}
-use Rattle.kryo_stream.specs.Tally.{IsTally}
+use Rattle.kryo_stream.specs.inside.Tally.{IsTally}
 
 -- these bytes were taken from the source, each piece of them where the bytes
 -- at hand did not tell the answer

@@ -6,7 +6,7 @@ use Rattle.kryo_stream.specs.declared.block.Block.TheVariants.{Flux}
 use Rattle.kryo_stream.specs.declared.front.LongFlux.{LongFlux}
 use Rattle.kryo_stream.specs.Bench.{BenchState, KeepsBenchRoom}
 use Rattle.kryo_stream.specs.Pieces.{piece, piece_at}
-use Rattle.kryo_stream.specs.Progress.{ReadsOn}
+use Rattle.kryo_stream.specs.inside.Progress.{ReadsOn}
 use Rattle.kryo_stream.specs.Protocol.{LIMIT}
 
 -- the block at the front of the bytes is this transition, wherever it stands within the limit
