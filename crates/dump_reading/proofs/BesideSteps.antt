@@ -32,7 +32,7 @@ use Rattle.flux_engine.specs.lemmas.Pieces.{range-more}
 use Rattle.dump_reading.specs.Beside.{LinesOf, beside_at, beside_to, beside_tracks, captures_at, lines_at, lines_to, is_track, looks_beside, most_cylinders, near_track, of_beside, told_beside}
 use Rattle.dump_reading.specs.DumpStreams.{DumpTracks, GaveOf, HaveComeOf}
 use Rattle.dump_reading.specs.Files.{ShelfNow}
-use Rattle.dump_reading.specs.Looks.{CountsMore, HasLooked, HasTakenTo, LooksAsAsked, LooksAtOne, LooksInto}
+use Rattle.dump_reading.specs.inside.Looks.{CountsMore, HasLooked, HasTakenTo, LooksAsAsked, LooksAtOne, LooksInto}
 use Rattle.dump_reading.specs.Outcomes.{DumpDisk, LookedBeside, lines_of, plan_of}
 use Rattle.dump_reading.specs.lemmas.Coming.{came-gave, flat-same, none_came}
 use Rattle.dump_reading.proofs.TrackNumbers.{beside-all, beside_before}

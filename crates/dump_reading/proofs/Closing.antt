@@ -3,7 +3,7 @@ use Rattle.std.proofs.Common.{◌≡◌, ◌≤◌, ℕ, Bool, true, false, Opti
 use Rattle.flux_base.specs.Counts.{Counts, FaultCounts}
 use Rattle.flux_base.specs.Outside.{Rose, one_more}
 use Rattle.track_shelf.specs.Files.{none_yet, taken_over}
-use Rattle.dump_reading.specs.Files.{IsFresh}
+use Rattle.dump_reading.specs.inside.Files.{IsFresh}
 
 -- a file of which no call failed
 taken-none : (shelf : Option ℕ) → taken_over (none_yet shelf) shelf ≡ shelf

@@ -25,7 +25,7 @@ use Rattle.turn_merge.specs.Others.{NotedOther, has_untold, others_over}
 use Rattle.dump_reading.specs.Beside.{AreBeside, LinesOf, beside_lines, lines_at, lines_to, looks_beside, of_beside, told_beside}
 use Rattle.dump_reading.specs.DumpStreams.{HaveComeOf, failed_paths, of_disk}
 use Rattle.dump_reading.specs.Files.{CountsMany, ShelfNow}
-use Rattle.dump_reading.specs.Looks.{LooksAsAsked, LooksInto}
+use Rattle.dump_reading.specs.inside.Looks.{LooksAsAsked, LooksInto}
 use Rattle.dump_reading.specs.Outcomes.{AreAllBy, DumpDisk, FilesFailed, HasTracksBy, LookedAsAsked, LookedBeside, SaysOfDumps, StopsBy, WroteDumps, WroteIntoBesideBy, WroteIntoEnd, WroteIntoImageBy, WroteIntoLinesBy, lines_of, numbers_of, plan_of}
 use Rattle.dump_reading.specs.Reports.{end_text, read_part}
 use Rattle.dump_reading.specs.declared.fault.DumpsFault.{DumpsFault}

@@ -22,8 +22,10 @@ use Rattle.flux_engine.specs.Plans.{Seen, is_failed}
 use Rattle.flux_engine.specs.Recordings.{track_at}
 use Rattle.flux_engine.specs.declared.track_streams.NextStream.{NextStream}
 use Rattle.flux_engine.specs.declared.track_streams.NextStream.TheVariants.{PassedOver, Read}
-use Rattle.dump_reading.specs.DumpStreams.{GaveOf, IsOrFailed, is_lost, lost_path, passed_over, path_in, seen_file, seen_of}
-use Rattle.dump_reading.specs.Files.{IsFresh, ShelfNow}
+use Rattle.dump_reading.specs.DumpStreams.{GaveOf, IsOrFailed, passed_over, path_in, seen_file, seen_of}
+use Rattle.dump_reading.specs.inside.DumpStreams.{is_lost, lost_path}
+use Rattle.dump_reading.specs.Files.{ShelfNow}
+use Rattle.dump_reading.specs.inside.Files.{IsFresh}
 use Rattle.dump_reading.specs.lemmas.Coming.{none-failed}
 
 -- what an open file says

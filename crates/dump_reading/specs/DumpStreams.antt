@@ -1,5 +1,5 @@
 -- What came of the files of dumps: what each of them says, or that it failed.
-use Rattle.std.specs.Prelude.{◌≡◌, ◌<◌, ◌⊎◌, ℕ, ◌+◌, ◌*◌, ◌/◌, ◌%◌, Bool, false, cond, flat_map}
+use Rattle.std.specs.Prelude.{◌≡◌, ◌<◌, ◌⊎◌, ℕ, ◌+◌, ◌*◌, ◌/◌, ◌%◌, cond, flat_map}
 use Rattle.std.specs.Prelude.{get_or, List, [], ◌∷◌, length, Option, Some, None}
 use Rattle.std.specs.List.{range_with_len}
 use Rattle.flux_base.specs.Counts.{Counts}
@@ -17,8 +17,6 @@ use Rattle.track_shelf.specs.declared.stepping.Stepping.{Stepping}
 use Rattle.flux_engine.specs.LoopProgress.{lost_count, seen_at}
 use Rattle.flux_engine.specs.Plans.{Seen, is_failed}
 use Rattle.flux_engine.specs.Recordings.{track_at}
-use Rattle.flux_engine.specs.declared.track_streams.NextStream.{NextStream}
-use Rattle.flux_engine.specs.declared.track_streams.NextStream.TheVariants.{PassedOver, Read}
 use Rattle.dump_reading.specs.Files.{CountsMany, ShelfNow}
 
 -- a stream that is passed over
@@ -91,15 +89,6 @@ pub record HaveComeOf (of : DumpTracks) (start now : ShelfNow) (came : List Seen
   pub told : now.told ≡ with_failed (failed_paths of came) start.told
   pub counts : CountsMany (lost_count came) start.counts now.counts
   pub are : AreOfDumps of start.told.files came
-
--- a stream is passed over since its file failed
-abbrev pub is_lost : NextStream → Bool
-is_lost Read = false
-is_lost (PassedOver why) = is_failed (Some why)
-
--- the path of the file of such a stream
-abbrev pub lost_path : (path : List ℕ) → NextStream → List (List ℕ)
-lost_path path next = cond (is_lost next) (path ∷ []) []
 
 -- One file of a track was read between two moments of the shelf.
 pub record GaveOf (stepping : Stepping) (dumps : List (List ℕ)) (track : TrackId) (dump : ℕ)

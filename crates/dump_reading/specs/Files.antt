@@ -3,17 +3,12 @@
 use Rattle.std.specs.Prelude.{◌≡◌, ◌≤◌, ◌<◌, ℕ, Option, Some, None}
 use Rattle.flux_base.specs.Counts.{FaultCounts}
 use Rattle.flux_base.specs.Outside.{Rose}
-use Rattle.track_shelf.specs.Files.{none_yet, risen_by}
+use Rattle.track_shelf.specs.Files.{risen_by}
 use Rattle.flux_base.specs.World.{source_counts}
 use Rattle.flux_base.specs.declared.outside.Source.{Ghosts as SourceGhosts}
 use Rattle.track_shelf.specs.Told.{ShelfTold}
 use Rattle.track_shelf.specs.World.{told_at}
 use Rattle.track_shelf.specs.declared.shelf.Shelf.{Ghosts}
-
--- a file of a shelf was not called yet
-pub record IsFresh (file shelf : FaultCounts) : Type 0 where
-  pub sound : file.faults ≡ 0
-  pub none_failed : file.failed ≡ none_yet shelf.failed
 
 -- a shelf at a moment: what it tells of itself, and what it has counted
 pub record ShelfNow : Type 0 where

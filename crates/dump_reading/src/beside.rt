@@ -16,7 +16,7 @@ ghost use Rattle.dump_reading.specs.Beside.{LinesOf, beside_lines, is_track, mos
 ghost use Rattle.dump_reading.specs.Beside.{of_tracks};
 ghost use Rattle.dump_reading.specs.DumpStreams.{HaveComeOf};
 ghost use Rattle.dump_reading.specs.Files.{ShelfNow, shelf_at};
-ghost use Rattle.dump_reading.specs.Looks.{HasTakenTo, LooksAsAsked, LooksAtOne, LooksInto};
+ghost use Rattle.dump_reading.specs.inside.Looks.{HasTakenTo, LooksAsAsked, LooksAtOne, LooksInto};
 ghost use Rattle.dump_reading.specs.Outcomes.{disk_by};
 ghost use Rattle.dump_reading.specs.Reports.{plan_by};
 

@@ -4,7 +4,7 @@ use Rattle.flux_base.specs.World.{sink_counts}
 use Rattle.flux_engine.specs.Counts.{AreCountsBelow}
 use Rattle.sector_images.specs.Places.{tracks}
 use Rattle.dump_reading.specs.Files.{shelf_at}
-use Rattle.dump_reading.specs.Looks.{HasLooked}
+use Rattle.dump_reading.specs.inside.Looks.{HasLooked}
 use Rattle.dump_reading.specs.Outcomes.{disk_by}
 use Rattle.dump_reading.proofs.TrackNumbers.{beside_before}
 use Rattle.dump_reading.proofs.beside.read_beside.Given as goal

@@ -6,7 +6,7 @@ use Rattle.flux_engine.specs.Recordings.{track_at}
 use Rattle.dump_reading.specs.Beside.{of_tracks}
 use Rattle.dump_reading.specs.DumpStreams.{HaveComeOf}
 use Rattle.dump_reading.specs.Files.{ShelfNow, shelf_at}
-use Rattle.dump_reading.specs.Looks.{HasTakenTo}
+use Rattle.dump_reading.specs.inside.Looks.{HasTakenTo}
 use Rattle.dump_reading.specs.Reports.{plan_by}
 use Rattle.dump_reading.proofs.beside.take_all.Given as goal
 
