@@ -23,7 +23,8 @@ use Rattle.flux_engine.specs.Rules.{AreReadByControllers}
 use Rattle.flux_engine.specs.Tracks.{Found, readings_in}
 use Rattle.flux_engine.specs.declared.plan.Clocks.TheVariants.{Both}
 use Rattle.flux_engine.specs.declared.plan.Rule.TheVariants.{Controller}
-use Rattle.sector_copies.specs.Notes.{AppendsNotes, NotesOf, SectorKnown, of_sector}
+use Rattle.sector_copies.specs.Notes.{SectorKnown, of_sector}
+use Rattle.sector_copies.specs.inside.Notes.{AppendsNotes, NotesOf}
 use Rattle.sector_copies.proofs.Searches.{appends_none, appends_on}
 
 known_too : (format : Format) (track : TrackId) → IsTrack format track → IsTrack (as_controllers_read format) track

@@ -7,7 +7,8 @@ use Rattle.std.proofs.lemmas.List.Elements.{All-from_recursion, filter-append, r
 use Rattle.std.proofs.lemmas.List.Folds.{list_any-append}
 use Rattle.std.proofs.lemmas.Map.Views.{any-filter_same}
 use Rattle.std.proofs.lemmas.Slice.Eq.{bytes_eq-Decides}
-use Rattle.sector_copies.specs.Copies.{AreFewer, Copy, MOST_COPIES, copies_over, copy_of, first_holders, holds, is_kept, with_reading}
+use Rattle.sector_copies.specs.Copies.{Copy, MOST_COPIES, copies_over, copy_of, first_holders, holds}
+use Rattle.sector_copies.specs.inside.Copies.{AreFewer, is_kept, with_reading}
 use Rattle.turn_merge.specs.Readings.{NotedReading, bytes_of}
 use Rattle.turn_merge.specs.declared.verdict.Place.{Place}
 use Rattle.flux_base.specs.lemmas.Items.{any_next, read_next, same_bool, set_next}

@@ -6,7 +6,7 @@ use Rattle.turn_merge.specs.Book.{AppendsReading, Knowledge}
 use Rattle.turn_merge.specs.Readings.{NotedReading, bad_reading, good_ones, good_reading}
 use Rattle.turn_merge.specs.declared.verdict.Place.{Place}
 use Rattle.sector_copies.specs.Copies.{Copy, copies_over}
-use Rattle.sector_copies.specs.Notes.{AppendsNotes}
+use Rattle.sector_copies.specs.inside.Notes.{AppendsNotes}
 
 -- no reading has a content
 pub no_copies : copies_over [] ≡ []

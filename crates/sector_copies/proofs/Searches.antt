@@ -5,7 +5,8 @@ use Rattle.std.proofs.lemmas.Bool.{cases_lt}
 use Rattle.std.proofs.lemmas.List.Concat.{flat_map-append}
 use Rattle.frame_law.specs.Controller.{AreFound}
 use Rattle.turn_merge.specs.Readings.{NotedReading}
-use Rattle.sector_copies.specs.Notes.{AppendsNotes, SectorKnown, SectorStandsFor}
+use Rattle.sector_copies.specs.Notes.{SectorKnown, SectorStandsFor}
+use Rattle.sector_copies.specs.inside.Notes.{AppendsNotes}
 
 pub appends_none : (known : SectorKnown) → AppendsNotes known known []
 appends_none known readings stands = subst (SectorStandsFor known) (sym (append-nil readings)) stands

@@ -23,7 +23,8 @@ use Rattle.dump_reading.specs.Outcomes.{DumpDisk}
 use Rattle.dump_reading.specs.Reports.{dump_plan}
 use Rattle.dump_reading.specs.lemmas.Coming.{came-next, none_came}
 use Rattle.sector_copies.specs.Notes.{SectorKnown, SectorStandsFor, of_sector}
-use Rattle.sector_copies.specs.TrackReadings.{HasReadNext, HasReadTo, IsSameRoom, SectorRoomState, of_track, streams_of}
+use Rattle.sector_copies.specs.TrackReadings.{HasReadTo, IsSameRoom, SectorRoomState, of_track, streams_of}
+use Rattle.sector_copies.specs.inside.TrackReadings.{HasReadNext}
 
 abbrev none_seen : Seen
 none_seen = record { fault = None; passed = None; times = []; indexes = [] }

@@ -15,7 +15,8 @@ use Rattle.flux_engine.specs.Gathering.{header_readings}
 use Rattle.flux_engine.specs.Room.{MOST_CELLS}
 use Rattle.flux_engine.specs.Rules.{AreReadByControllers}
 use Rattle.flux_engine.specs.Tracks.{Found, place_in, readings_at, readings_in}
-use Rattle.sector_copies.specs.Notes.{AppendsNotes, IsSameSector, SectorKnown, data_readings, of_sector}
+use Rattle.sector_copies.specs.Notes.{SectorKnown, of_sector}
+use Rattle.sector_copies.specs.inside.Notes.{AppendsNotes, IsSameSector, data_readings}
 use Rattle.sector_copies.proofs.Searches.{HasCome, appends_none, appends_on, come_end, come_on, come_start}
 
 pub same_sector : (known : SectorKnown) → IsSameSector known known

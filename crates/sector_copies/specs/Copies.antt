@@ -1,7 +1,6 @@
 -- The distinct contents of a sector's good readings: what is told of each.
-use Rattle.std.specs.Prelude.{ℕ, ◌+◌, ◌<◌, Bool, not, cond, List, [], ◌∷◌, length, take, map}
-use Rattle.std.specs.Prelude.{filter, All}
-use Rattle.std.specs.List.{list_any}
+use Rattle.std.specs.Prelude.{ℕ, Bool, not, List, [], ◌∷◌, length, take, map}
+use Rattle.std.specs.Prelude.{filter}
 use Rattle.std.specs.Str.{bytes_eq}
 use Rattle.turn_merge.specs.Readings.{NotedReading, bytes_of}
 use Rattle.turn_merge.specs.declared.verdict.Place.{Place}
@@ -39,17 +38,3 @@ MOST_COPIES = 16
 -- order in which they were first met
 unfoldable pub copies_over : List NotedReading → List Copy
 copies_over readings = map (copy_of readings) (take MOST_COPIES (first_holders readings))
-
--- what is told of a content with one more reading, where that holds it
-abbrev pub with_reading : List ℕ → Copy → Copy
-with_reading bytes copy =
-    cond (bytes_eq copy.bytes bytes)
-    (record { bytes = copy.bytes; readings = copy.readings + 1; first = copy.first }) copy
-
--- a content is among those that are kept
-abbrev pub is_kept : List ℕ → List Copy → Bool
-is_kept bytes copies = list_any (λ c. bytes_eq c.bytes bytes) copies
-
--- all numbers are below this one
-abbrev pub AreFewer : ℕ → List Copy → Type 0
-AreFewer bound copies = All (λ c. c.readings < bound) copies

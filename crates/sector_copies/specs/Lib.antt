@@ -4,3 +4,4 @@ pub mod TrackReadings
 pub mod Texts
 pub mod Shown
 pub mod Laws
+pub mod inside

@@ -1,26 +1,23 @@
 -- What the dumps of a disk say of one sector.
-use Rattle.std.specs.Prelude.{◌≡◌, ◌≤◌, ◌<◌, ℕ, List, [], ◌++◌, length}
+use Rattle.std.specs.Prelude.{◌≡◌, ◌≤◌, ◌<◌, ℕ, List, [], length}
 use Rattle.cell_bits.specs.State.{CellsState, room}
 use Rattle.sector_images.specs.Formats.{row}
 use Rattle.sector_images.specs.Places.{IsSector, tracks}
 use Rattle.sector_images.specs.declared.format.Format.{Format}
 use Rattle.turn_merge.specs.Readings.{NotedReading, good_ones, verdict}
 use Rattle.turn_merge.specs.declared.verdict.Verdict.{Verdict}
-use Rattle.flux_engine.specs.Captured.{AreReadingsOf}
 use Rattle.flux_engine.specs.Counts.{lost_in}
 use Rattle.flux_engine.specs.LoopProgress.{lost_count, seen_at}
-use Rattle.flux_engine.specs.Plans.{AreCaptures, Seen, Streams, joined, passed_one, passed_to}
+use Rattle.flux_engine.specs.Plans.{AreCaptures, Seen, Streams, joined, passed_to}
 use Rattle.flux_engine.specs.Recordings.{track_at}
 use Rattle.flux_engine.specs.Room.{MOST_CELLS}
 use Rattle.flux_engine.specs.declared.gathered_track.PassedStream.{PassedStream}
-use Rattle.flux_engine.specs.declared.plan.Clocks.TheVariants.{Both}
-use Rattle.flux_engine.specs.declared.plan.Rule.TheVariants.{Controller}
-use Rattle.dump_reading.specs.DumpStreams.{DumpTracks, GaveOf, HaveComeOf}
+use Rattle.dump_reading.specs.DumpStreams.{DumpTracks, HaveComeOf}
 use Rattle.dump_reading.specs.Files.{ShelfNow}
 use Rattle.dump_reading.specs.Outcomes.{DumpDisk}
 use Rattle.dump_reading.specs.Reports.{dump_plan}
 use Rattle.sector_copies.specs.Copies.{Copy, copies_over}
-use Rattle.sector_copies.specs.Notes.{NotesOf, SectorKnown, SectorStandsFor, of_sector}
+use Rattle.sector_copies.specs.Notes.{SectorKnown, SectorStandsFor, of_sector}
 
 -- the format, the track's number, what is known of the sector, and which of the
 -- track's streams were passed over
@@ -66,17 +63,6 @@ of_track disk n =
 -- what came of its files, dump by dump, as streams of a disk
 abbrev pub streams_of : List Seen → Streams
 streams_of came n q = seen_at came q
-
--- The file of the track in the next dump was read or passed over: of whatever list has all readings
--- of it, those of the sector were noted.
-pub record HasReadNext (disk : DumpDisk) (n q : ℕ) (start now : ShelfNow)
-    (old new : SectorRoomState) : Type 0 where
-  pub here : Seen
-  pub gave : GaveOf disk.stepping disk.dumps (track_at disk.format n) q start now here
-  pub noted : NotesOf
-      (AreReadingsOf Controller Both disk.format (track_at disk.format n) here.times here.indexes q)
-      old.known new.known
-  pub passed_are : new.passed ≡ old.passed ++ passed_one q here.passed
 
 -- The files of the track in the first q dumps came: what is known stands for all readings of the
 -- sector in them, whatever lists have all readings of each, and these were passed over.

@@ -3,7 +3,8 @@
 ghost use Rattle.std.specs.Prelude.{◌≡◌, ◌+◌, ◌<◌, ◌≤◌, List, ℕ, [], ◌∷◌, ◌++◌, map, length, IfOk};
 ghost use Rattle.std.specs.Str.{bytes_eq};
 ghost use Rattle.flux_base.specs.Bounds.{MOST_SECTOR_BYTES};
-ghost use Rattle.sector_copies.specs.Copies.{AreFewer, copies_over, is_kept, with_reading};
+ghost use Rattle.sector_copies.specs.Copies.{copies_over};
+ghost use Rattle.sector_copies.specs.inside.Copies.{AreFewer, is_kept, with_reading};
 ghost use Rattle.turn_merge.specs.Book.{MOST_NOTES};
 ghost use Rattle.turn_merge.specs.Readings.{NotedReading, good_reading};
 

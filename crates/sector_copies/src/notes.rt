@@ -2,7 +2,8 @@
 
 ghost use Rattle.std.specs.Prelude.{◌≡◌, ◌+◌, ◌<◌, ◌≤◌, List, [], ◌∷◌, length, IfOk};
 ghost use Rattle.flux_base.specs.Bounds.{MOST_SECTOR_BYTES};
-ghost use Rattle.sector_copies.specs.Notes.{AppendsNotes, IsSameSector, SectorStandsFor};
+ghost use Rattle.sector_copies.specs.Notes.{SectorStandsFor};
+ghost use Rattle.sector_copies.specs.inside.Notes.{AppendsNotes, IsSameSector};
 ghost use Rattle.turn_merge.specs.Book.{MOST_NOTES};
 ghost use Rattle.turn_merge.specs.Readings.{NotedReading, bad_reading, good_reading, verdict as verdict_over};
 
@@ -21,7 +22,8 @@ pub(crate) struct SectorNotes {
 }
 
 impl Model for SectorNotes {
-    ghost use Rattle.sector_copies.specs.Notes.{AreOfSector, SectorKnown};
+    ghost use Rattle.sector_copies.specs.Notes.{SectorKnown};
+    ghost use Rattle.sector_copies.specs.inside.Notes.{AreOfSector};
 
     ghost Value = { SectorKnown };
 

@@ -9,7 +9,7 @@ ghost use Rattle.flux_engine.specs.Reading.{IsBounded};
 ghost use Rattle.flux_engine.specs.Room.{MOST_CELLS, MOST_READINGS};
 ghost use Rattle.flux_engine.specs.declared.plan.Clocks.TheVariants.{Both};
 ghost use Rattle.flux_engine.specs.declared.plan.Rule.TheVariants.{Controller};
-ghost use Rattle.sector_copies.specs.Notes.{IsSameSector, NotesOf};
+ghost use Rattle.sector_copies.specs.inside.Notes.{IsSameSector, NotesOf};
 ghost use Rattle.sector_images.specs.Formats.{row};
 ghost use Rattle.sector_images.specs.Places.{IsTrack};
 ghost use Rattle.turn_merge.specs.Book.{MOST_NOTES};

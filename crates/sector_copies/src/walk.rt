@@ -6,7 +6,8 @@ ghost use Rattle.flux_engine.specs.Room.{MOST_CELLS, MOST_READINGS};
 ghost use Rattle.flux_engine.specs.Rules.{AreReadByControllers};
 ghost use Rattle.flux_engine.specs.Tracks.{Found, readings_in};
 ghost use Rattle.frame_law.specs.Controller.{AreFound};
-ghost use Rattle.sector_copies.specs.Notes.{AppendsNotes, IsSameSector, data_readings, of_sector};
+ghost use Rattle.sector_copies.specs.Notes.{of_sector};
+ghost use Rattle.sector_copies.specs.inside.Notes.{AppendsNotes, IsSameSector, data_readings};
 ghost use Rattle.turn_merge.specs.Book.{MOST_NOTES};
 
 use crate::notes::SectorNotes;

@@ -1,5 +1,5 @@
 use Rattle.std.proofs.Common.{◌≡◌, ◌++◌, map, take, drop}
-use Rattle.sector_copies.specs.Copies.{is_kept, with_reading}
+use Rattle.sector_copies.specs.inside.Copies.{is_kept, with_reading}
 use Rattle.sector_copies.proofs.copies.count_reading.Given as goal
 
 abbrev pub invariant-loop-copy : goal.invariant-loop-copy

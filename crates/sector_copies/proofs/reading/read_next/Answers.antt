@@ -12,8 +12,9 @@ use Rattle.flux_engine.specs.lemmas.TrackAt.{track_is}
 use Rattle.dump_reading.specs.DumpStreams.{GaveOf}
 use Rattle.dump_reading.specs.Files.{ShelfNow, shelf_at}
 use Rattle.dump_reading.specs.Outcomes.{disk_of}
-use Rattle.sector_copies.specs.Notes.{NotesOf}
-use Rattle.sector_copies.specs.TrackReadings.{HasReadNext, SectorRoomState}
+use Rattle.sector_copies.specs.inside.Notes.{NotesOf}
+use Rattle.sector_copies.specs.TrackReadings.{SectorRoomState}
+use Rattle.sector_copies.specs.inside.TrackReadings.{HasReadNext}
 use Rattle.sector_copies.proofs.reading.read_next.Goals as goal
 
 pub returns-clause-read : goal.returns-clause-read

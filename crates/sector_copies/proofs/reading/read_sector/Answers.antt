@@ -2,7 +2,7 @@ use Rattle.std.proofs.Common.{ap, arith, length, refl, subst}
 use Rattle.sector_images.specs.declared.format.Format.{Format}
 use Rattle.dump_reading.specs.Files.{shelf_at}
 use Rattle.dump_reading.specs.Outcomes.{disk_of}
-use Rattle.sector_copies.specs.TrackReadings.{HasReadNext}
+use Rattle.sector_copies.specs.inside.TrackReadings.{HasReadNext}
 use Rattle.sector_copies.proofs.Streams.{read_none, reads_on, same_room_on}
 use Rattle.sector_copies.proofs.reading.read_sector.Goals as goal
 

@@ -1,6 +1,7 @@
 use Rattle.std.proofs.Common.{◌+◌, ◌++◌, ◌∷◌, [], List, length, map, ap, arith, sym, subst, ◌∙◌}
 use Rattle.std.proofs.lemmas.List.{with_items_is}
-use Rattle.sector_copies.specs.Copies.{AreFewer, Copy, copies_over, is_kept, with_reading}
+use Rattle.sector_copies.specs.Copies.{Copy, copies_over}
+use Rattle.sector_copies.specs.inside.Copies.{AreFewer, is_kept, with_reading}
 use Rattle.turn_merge.specs.Readings.{good_reading}
 use Rattle.sector_copies.proofs.Contents.{copies_again, copies_full, copies_new, fewer_more, fewer_push}
 use Rattle.sector_copies.proofs.copies.Copies.note.Goals as goal

@@ -1,7 +1,8 @@
 use Rattle.std.specs.Prelude.{◌+◌, [], ◌∷◌}
 use Rattle.std.proofs.Common.{arith, subst, ◌∙◌}
 use Rattle.turn_merge.specs.Readings.{bad_reading}
-use Rattle.sector_copies.specs.Notes.{AppendsNotes, SectorKnown}
+use Rattle.sector_copies.specs.Notes.{SectorKnown}
+use Rattle.sector_copies.specs.inside.Notes.{AppendsNotes}
 use Rattle.sector_copies.proofs.Contents.{fewer_below}
 use Rattle.sector_copies.proofs.Noting.{bad_stands}
 use Rattle.sector_copies.proofs.notes.SectorNotes.note_bad.Goals as goal

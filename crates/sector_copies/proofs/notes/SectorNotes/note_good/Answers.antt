@@ -2,8 +2,9 @@ use Rattle.std.specs.Prelude.{◌+◌, [], ◌∷◌}
 use Rattle.std.proofs.Common.{ap, arith, subst, sym, ◌∙◌}
 use Rattle.turn_merge.specs.Book.{MOST_NOTES}
 use Rattle.turn_merge.specs.Readings.{good_reading}
-use Rattle.sector_copies.specs.Copies.{AreFewer}
-use Rattle.sector_copies.specs.Notes.{AppendsNotes, SectorKnown}
+use Rattle.sector_copies.specs.inside.Copies.{AreFewer}
+use Rattle.sector_copies.specs.Notes.{SectorKnown}
+use Rattle.sector_copies.specs.inside.Notes.{AppendsNotes}
 use Rattle.sector_copies.proofs.Contents.{fewer_below}
 use Rattle.sector_copies.proofs.Noting.{good_stands}
 use Rattle.sector_copies.proofs.notes.SectorNotes.note_good.Goals as goal

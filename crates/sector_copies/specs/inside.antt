@@ -1,0 +1,4 @@
+-- What the crate's own functions say to one another: no public contract cites it.
+pub mod Copies
+pub mod Notes
+pub mod TrackReadings
