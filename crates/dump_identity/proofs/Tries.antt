@@ -12,9 +12,11 @@ use Rattle.flux_base.specs.Outside.{AppendsPart}
 use Rattle.dump_reading.specs.Files.{ShelfNow}
 use Rattle.dump_reading.specs.declared.totals.DumpTotals.{DumpTotals}
 use Rattle.dump_identity.specs.Candidates.{candidates}
-use Rattle.dump_identity.specs.Findings.{AreFindings, best_of, has_files, identity_of, tried_of}
+use Rattle.dump_identity.specs.Findings.{AreFindings, best_of, has_files, identity_of}
+use Rattle.dump_identity.specs.inside.Findings.{tried_of}
 use Rattle.dump_identity.specs.Lines.{best_text, line_of, lines_of}
-use Rattle.dump_identity.specs.Outcomes.{CutLine, FoundOne, HasNoFiles, HasTried, WroteIdentity, WroteIntoBest, WroteIntoLine, candidates_in}
+use Rattle.dump_identity.specs.Outcomes.{HasNoFiles, WroteIdentity, WroteIntoBest, WroteIntoLine, candidates_in}
+use Rattle.dump_identity.specs.inside.Outcomes.{CutLine, FoundOne, HasTried}
 use Rattle.dump_identity.specs.Trials.{trial_of}
 use Rattle.dump_identity.specs.declared.candidate.Candidate.{Candidate}
 use Rattle.dump_identity.specs.declared.finding.Finding.{Finding}

@@ -12,7 +12,6 @@ use Rattle.dump_reading.specs.declared.totals.DumpTotals.{DumpTotals}
 use Rattle.dump_identity.specs.declared.candidate.Candidate.{Candidate}
 use Rattle.dump_identity.specs.declared.finding.Finding.{Finding}
 use Rattle.dump_identity.specs.declared.identity.Identity.{Identity}
-use Rattle.dump_identity.specs.declared.tried.Tried.{Tried}
 
 -- A dump as a candidate's disk, read by the clock that follows the drive alone. The files
 -- beside those of its tracks are looked at where a sector is good: only such a candidate
@@ -112,12 +111,3 @@ is_complete f = complete_in f.totals
 -- what is known of the dump by some candidates: the best of them, and whether a file failed
 abbrev pub identity_of : List Finding → Identity
 identity_of findings = record { best = best_of findings; failed = list_any has_failed findings }
-
--- the same, and whether the dump has a file of a track of one of them
-abbrev pub tried_of : List Finding → Tried
-tried_of findings =
-    record {
-      best = best_of findings;
-      has_files = list_any has_files findings;
-      failed = list_any has_failed findings;
-    }

@@ -4,3 +4,4 @@ pub mod Findings
 pub mod Lines
 pub mod Outcomes
 pub mod Laws
+pub mod inside

@@ -4,20 +4,17 @@ use Rattle.std.specs.Prelude.{◌≡◌, ◌⊎◌, ℕ, true, false, List, [], 
 use Rattle.std.specs.Prelude.{Ok, Err}
 use Rattle.std.specs.Io.KnownBytes.{Appends, Keeps}
 use Rattle.std.specs.List.{list_any}
-use Rattle.flux_base.specs.Outside.{AppendsPart}
 use Rattle.flux_engine.specs.Answers.{AppendsAndPart}
 use Rattle.dump_reading.specs.Files.{ShelfNow}
 use Rattle.dump_reading.specs.declared.fault.DumpsFault.{DumpsFault}
 use Rattle.dump_reading.specs.declared.fault.DumpsFault.TheVariants.{NoFiles, ImageFault}
 use Rattle.dump_reading.specs.declared.fault.DumpsFault.TheVariants.{NotesFault}
 use Rattle.dump_identity.specs.Candidates.{candidates}
-use Rattle.dump_identity.specs.Findings.{AreFindings, ComesTo, best_of, has_files, identity_of}
-use Rattle.dump_identity.specs.Findings.{tried_of}
+use Rattle.dump_identity.specs.Findings.{AreFindings, best_of, has_files, identity_of}
 use Rattle.dump_identity.specs.Lines.{best_text, line_of, lines_of}
 use Rattle.dump_identity.specs.declared.candidate.Candidate.{Candidate}
 use Rattle.dump_identity.specs.declared.finding.Finding.{Finding}
 use Rattle.dump_identity.specs.declared.identity.Identity.{Identity}
-use Rattle.dump_identity.specs.declared.tried.Tried.{Tried}
 
 abbrev pub candidates_in : List Finding → List Candidate
 candidates_in findings = map (λ f. f.candidate) findings
@@ -93,26 +90,3 @@ SaysOfIdentity dump start now lines lines' (Err (NoFiles number)) =
 SaysOfIdentity dump start now lines lines' (Err ImageFault) =
     WroteIntoLine dump start now lines lines' ⊎ WroteIntoBest dump start now lines lines'
 SaysOfIdentity dump start now lines lines' (Err NotesFault) = ⊥
-
--- all candidates were tried, and the lines of those that have a good sector were written
-pub record HasTried (dump : List ℕ) (start now : ShelfNow) (lines lines' : Option (List ℕ))
-    (tried : Tried) : Type 0 where
-  pub findings : List Finding
-  pub all : AreAllFindings dump start now findings
-  pub grew : Appends lines lines' (lines_of findings)
-  pub tried_is : tried ≡ tried_of findings
-
--- one was
-pub record FoundOne (dump : List ℕ) (start now : ShelfNow) (lines lines' : Option (List ℕ))
-    (candidate : Candidate) (f : Finding) : Type 0 where
-  pub of : f.candidate ≡ candidate
-  pub comes : ComesTo dump start now f.candidate f.totals
-  pub grew : Appends lines lines' (line_of f)
-
--- its line was cut
-pub record CutLine (dump : List ℕ) (start now : ShelfNow) (lines lines' : Option (List ℕ))
-    (candidate : Candidate) : Type 0 where
-  pub finding : Finding
-  pub of : finding.candidate ≡ candidate
-  pub comes : ComesTo dump start now finding.candidate finding.totals
-  pub grew : AppendsPart lines lines' (line_of finding)

@@ -10,7 +10,8 @@ ghost use Rattle.dump_reading.specs.Blamed.{dumps_blame};
 ghost use Rattle.dump_reading.specs.Files.{shelf_at};
 ghost use Rattle.dump_identity.specs.Findings.{ComesTo};
 ghost use Rattle.dump_identity.specs.Lines.{line_of};
-ghost use Rattle.dump_identity.specs.Outcomes.{CutLine, FoundOne, HasTried, SaysOfIdentity, WroteIntoLine};
+ghost use Rattle.dump_identity.specs.Outcomes.{SaysOfIdentity, WroteIntoLine};
+ghost use Rattle.dump_identity.specs.inside.Outcomes.{CutLine, FoundOne, HasTried};
 
 use crate::candidate::Candidate;
 use crate::finding::Finding;

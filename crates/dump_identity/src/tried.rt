@@ -1,7 +1,8 @@
 //! What came of the disks that were tried so far.
 
 ghost use Rattle.std.specs.Prelude.{◌≡◌, List, [], ◌∷◌, ◌++◌};
-ghost use Rattle.dump_identity.specs.Findings.{best_of, tried_of};
+ghost use Rattle.dump_identity.specs.Findings.{best_of};
+ghost use Rattle.dump_identity.specs.inside.Findings.{tried_of};
 ghost use Rattle.dump_identity.specs.declared.finding.Finding.{Finding};
 
 use crate::finding::Finding;
