@@ -3,7 +3,7 @@ pub mod Frames
 pub mod Laws
 pub mod Others
 pub mod Readings
-pub mod RowWriting
 pub mod WordRows
 pub mod Writing
+pub mod inside
 pub mod lemmas

@@ -2,7 +2,7 @@
 
 ghost use Rattle.std.specs.Prelude.{◌≡◌, ◌*◌, ◌⊎◌, ◌&&◌, [], length};
 ghost use Rattle.std.specs.List.{flat_map, range_with_len};
-ghost use Rattle.frame_law.specs.RowWriting.{AppendsParts};
+ghost use Rattle.frame_law.specs.inside.RowWriting.{AppendsParts};
 ghost use Rattle.track_rings.specs.Rings.{IsSectorNumber};
 ghost use Rattle.track_rings.specs.Rows.{parts_of, sector_parts, track_parts};
 

@@ -17,7 +17,7 @@ use Rattle.track_rings.specs.lemmas.SectorParts.{sectors-parts}
 use Rattle.frame_law.specs.Writing.{AppendsCells}
 use Rattle.frame_law.specs.lemmas.WritingLaws.{AppendsCells-more, AppendsCells-none}
 use Rattle.frame_law.specs.lemmas.WritingLaws.{AppendsCells-stop}
-use Rattle.frame_law.specs.RowWriting.{AppendsParts}
+use Rattle.frame_law.specs.inside.RowWriting.{AppendsParts}
 
 last_cell-is : (cells : List Bool) → last_cell cells ≡ last_of false cells
 unfolding last_cell last_of

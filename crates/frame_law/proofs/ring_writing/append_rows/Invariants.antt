@@ -1,5 +1,5 @@
 use Rattle.std.proofs.Common.{take, Ok}
-use Rattle.frame_law.specs.RowWriting.{AppendsParts}
+use Rattle.frame_law.specs.inside.RowWriting.{AppendsParts}
 use Rattle.track_rings.specs.Rows.{parts_of}
 use Rattle.frame_law.proofs.ring_writing.append_rows.Given as goal
 

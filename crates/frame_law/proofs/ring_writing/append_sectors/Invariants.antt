@@ -1,6 +1,6 @@
 use Rattle.std.proofs.Common.{Ok}
 use Rattle.std.specs.List.{flat_map, range_with_len}
-use Rattle.frame_law.specs.RowWriting.{AppendsParts}
+use Rattle.frame_law.specs.inside.RowWriting.{AppendsParts}
 use Rattle.track_rings.specs.Rows.{sector_parts}
 use Rattle.frame_law.proofs.ring_writing.append_sectors.Given as goal
 
