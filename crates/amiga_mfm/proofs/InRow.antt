@@ -1,10 +1,10 @@
 -- Longs and halves in a row, one more at a time, and their exclusive or.
-use Rattle.std.proofs.Common.{◌≡◌, ℕ, zero, suc, ◌+◌, ◌*◌, ◌/◌, ◌<◌, ◌≤◌, Bool, List, [], ◌∷◌, ◌++◌, length, take, drop, map, fold, get_or, bit_xor, refl, sym, ap, ◌∙◌, arith, length-drop, get_or-drop}
+use Rattle.std.proofs.Common.{◌≡◌, ℕ, zero, suc, ◌+◌, ◌*◌, ◌/◌, ◌<◌, ◌≤◌, Bool, List, [], ◌∷◌, ◌++◌, length, drop, map, fold, get_or, bit_xor, refl, sym, ap, ◌∙◌, arith, length-drop, get_or-drop}
 use Rattle.std.specs.List.{flat_map}
 use Rattle.std.specs.Simd.Lanes.{zip2}
 use Rattle.std.specs.Int.{from_be_bytes, to_be_bytes, w32}
 use Rattle.std.specs.Int.Bits.{xor_assoc, xor_zero_l, xor_zero_r}
-use Rattle.std.proofs.lemmas.List.{drop-drop, map-append, take_more}
+use Rattle.std.proofs.lemmas.List.{drop-drop, map-append}
 use Rattle.std.proofs.lemmas.List.Concat.{flat_map-append}
 use Rattle.std.proofs.lemmas.List.Sums.{fold-append}
 use Rattle.check_values.specs.Sums.{data_xor, xor}
@@ -18,13 +18,6 @@ use Rattle.amiga_mfm.specs.lemmas.Masks.{check-masked, without_clocks-twice}
 -- the exclusive or of one more
 pub xor-more : (xs : List ℕ) (x : ℕ) → xor (xs ++ x ∷ []) ≡ bit_xor (xor xs) x
 xor-more xs x = fold-append bit_xor 0 xs (x ∷ [])
-
-pub xor-next : (half : Half) (longs : List ℕ) (index d : ℕ) → index < length longs
-    → xor (map (half_of half) (take (index + 1) longs)) ≡ bit_xor (xor (map (half_of half) (take index longs))) (half_of half (get_or longs index d))
-xor-next half longs index d within =
-    ap (λ (some : List ℕ). xor (map (half_of half) some)) (take_more longs index d within)
-    ∙ ap xor (map-append (half_of half) (take index longs) (get_or longs index d ∷ []))
-    ∙ xor-more (map (half_of half) (take index longs)) (half_of half (get_or longs index d))
 
 xor-start : (xs : List ℕ) (start : ℕ) → fold bit_xor start xs ≡ bit_xor start (xor xs)
 xor-start [] start = sym (xor_zero_r start)

@@ -26,9 +26,6 @@ SECTOR_LONGS = 128
 abbrev pub SYNC : ℕ
 SYNC = SYNC_MARK * 2 ^ 16 + SYNC_MARK
 
-abbrev pub SYNC_CELLS : ℕ
-SYNC_CELLS = 32
-
 -- the first byte of the info long
 abbrev pub FORMAT_BYTE : ℕ
 FORMAT_BYTE = 0xFF
@@ -50,9 +47,6 @@ DATA_CHECK = 416
 -- the cells of a header, and those of the data, which follow it
 abbrev pub HEADER_CELLS : ℕ
 HEADER_CELLS = 480
-
-abbrev pub DATA_CELLS : ℕ
-DATA_CELLS = 8192
 
 -- A header names the numbers of a track and a sector: the bytes of the info are FF, these two,
 -- and the number of sectors to the gap, which is not looked at; and the check value is that of

@@ -1,5 +1,5 @@
 -- Bytes that are taken from values, one after another.
-use Rattle.std.proofs.Common.{◌≡◌, ℕ, ◌+◌, ◌-◌, ◌*◌, ◌/◌, ◌%◌, ◌<◌, List, [], ◌∷◌, ◌++◌, length, get_or, ap, sym, subst, ◌∙◌, arith, inl, inr, refl, length-append}
+use Rattle.std.proofs.Common.{◌≡◌, ℕ, ◌+◌, ◌-◌, ◌*◌, ◌/◌, ◌%◌, ◌<◌, List, [], ◌∷◌, ◌++◌, length, get_or, ap, sym, subst, ◌∙◌, arith, inl, inr, length-append}
 use Rattle.std.proofs.lemmas.Bool.{cases_lt}
 use Rattle.std.proofs.lemmas.Bool.Decides.{nat_tests}
 use Rattle.std.proofs.Math.ListN.{get_or-append}
@@ -14,9 +14,6 @@ IsTaken values k byte = (byte / 4 ≡ get_or values (86 + k) 0) × (swapped byte
 pub record AreTaken (values bytes : List ℕ) (count : ℕ) : Type 0 where
   pub size : length bytes ≡ count
   pub each : (k : ℕ) → k < count → IsTaken values k (get_or bytes k 0)
-
-pub none-taken : (values : List ℕ) → AreTaken values [] 0
-none-taken values = record { size = refl; each = λ k within. absurd (omega arith) }
 
 pub more-taken : (values bytes : List ℕ) (count high low byte : ℕ) → AreTaken values bytes count → high ≡ get_or values (86 + count) 0
     → low % 4 ≡ low_pair values count → byte ≡ 4 * high + swapped low → AreTaken values (bytes ++ byte ∷ []) (count + 1)

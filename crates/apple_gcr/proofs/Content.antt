@@ -1,5 +1,5 @@
 -- The nibbles of a sector's bytes, written one after another.
-use Rattle.std.proofs.Common.{◌≡◌, ℕ, ◌+◌, ◌<◌, Bool, List, [], ◌∷◌, ◌++◌, length, take, get_or, ap, sym, subst, ◌∙◌, arith, lit<, refl, add-one, append-nil, Ok, Err, IsErr}
+use Rattle.std.proofs.Common.{◌≡◌, ℕ, ◌+◌, ◌<◌, Bool, List, [], ◌∷◌, ◌++◌, length, take, get_or, ap, sym, subst, ◌∙◌, arith, lit<, add-one, append-nil, Ok, Err, IsErr}
 use Rattle.std.specs.declared.result.Result.{Result}
 use Rattle.std.specs.List.{flat_map}
 use Rattle.std.proofs.lemmas.List.{get_or_past, take_all, take_more}
@@ -9,7 +9,7 @@ use Rattle.flux_base.specs.declared.outside.Memory.{Memory}
 use Rattle.cell_bits.specs.State.{CellsState}
 use Rattle.cell_bits.specs.Word.{word_cells}
 use Rattle.frame_law.specs.Writing.{AppendsCells}
-use Rattle.frame_law.specs.lemmas.WritingLaws.{AppendsCells-more, AppendsCells-next, AppendsCells-none, AppendsCells-short}
+use Rattle.frame_law.specs.lemmas.WritingLaws.{AppendsCells-more, AppendsCells-next, AppendsCells-short}
 use Rattle.apple_nibbles.specs.Nibbles.{bytes_cells, nibble}
 use Rattle.apple_gcr.specs.SixAndTwo.{data_nibbles, value_at, values_of}
 use Rattle.apple_gcr.specs.lemmas.ValueLaws.{get_or-data_nibbles, get_or-values_of, length-data_nibbles, length-values_of}
@@ -19,9 +19,6 @@ pub record IsWritten (old new : CellsState) (bytes : List ℕ) (count last : ℕ
   pub written : AppendsCells old new (flat_map (word_cells 8) (take count (data_nibbles bytes))) (Ok tt)
   pub is_last : last ≡ get_or (0 ∷ values_of bytes) count 0
   pub fits : last < 64
-
-pub none-written : (state : CellsState) (bytes : List ℕ) → IsWritten state state bytes 0 0
-none-written state bytes = record { written = AppendsCells-none state; is_last = refl; fits = lit< tt }
 
 -- the nibble of the value at an index
 pub next-nibble : (bytes : List ℕ) (count last value : ℕ) → count < 342 → last ≡ get_or (0 ∷ values_of bytes) count 0

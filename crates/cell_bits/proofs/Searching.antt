@@ -115,9 +115,6 @@ eight-zeros : word_cells 8 0 ≡ replicate 8 false
 unfolding word_cells
 eight-zeros = refl
 
-pub unbroken-short : (cells : List Bool) (from to : ℕ) → to - from < 8 → Unbroken cells from to
-unbroken-short cells from to short place after before zeros = omega arith
-
 pub unbroken-sought : (cells : List Bool) (from to : ℕ) → 8 ≤ to - from → (found : Option ℕ) → IsFirstWord cells 0 8 from (to - 7) found
     → (answer : Bool) → is_some found ≡ not answer → IsTrue answer ↔ Unbroken cells from to
 unbroken-sought cells from to long None none true told =

@@ -1,7 +1,6 @@
 -- Which dumps have files, one after another.
-use Rattle.std.proofs.Common.{◌≡◌, ◌<◌, ◌≤◌, ◌+◌, ◌||◌, ◌⊎◌, inl, inr, ℕ, true, false, List, length, take, get_or, Some, arith, sym, ap, ◌∙◌}
+use Rattle.std.proofs.Common.{◌≡◌, ◌≤◌, ◌+◌, ◌||◌, ℕ, true, false, List, length, take, get_or, Some, sym, ap, ◌∙◌}
 use Rattle.std.specs.List.{list_any, slice_get}
-use Rattle.std.proofs.lemmas.Bool.{cases_lt}
 use Rattle.std.proofs.lemmas.List.{take_all}
 use Rattle.std.proofs.lemmas.List.Folds.{list_any_at, list_any_more}
 use Rattle.std.proofs.lemmas.Option.{get_or_from_slice_get, slice_get_within}
@@ -10,7 +9,7 @@ use Rattle.sector_images.specs.Places.{tracks}
 use Rattle.sector_images.specs.declared.format.Format.{Format}
 use Rattle.track_shelf.specs.Files.{File}
 use Rattle.track_shelf.specs.declared.stepping.Stepping.{Stepping}
-use Rattle.dump_reading.specs.Outcomes.{DumpDisk, has_any, has_file, has_files}
+use Rattle.dump_reading.specs.Outcomes.{has_any, has_file}
 
 module _ (stepping : Stepping) (files : List File) (format : Format) (dump : List ℕ) (number : ℕ) where
   module _ (track : TrackId) (at : slice_get (tracks format) number ≡ Some track) where
@@ -33,14 +32,3 @@ module _ (stepping : Stepping) (files : List File) (format : Format) (dump : Lis
   pub none-found : length (tracks format) ≤ number → list_any (has_file stepping files dump) (take number (tracks format)) ≡ false → false ≡ has_any stepping files format dump
   unfolding has_any
   none-found all before = sym (sym (ap (list_any (has_file stepping files dump)) (take_all number (tracks format) all)) ∙ before)
-
--- one dump more has files
-pub some-more : (disk : DumpDisk) (files : List File) (number : ℕ) → has_files disk files number ≡ true → ((k : ℕ) → k < number → has_files disk files k ≡ true)
-    → (k : ℕ) → k < number + 1 → has_files disk files k ≡ true
-some-more disk files number here before k below = by (cases_lt k number)
-  where
-    by : (k < number) ⊎ (number ≤ k) → has_files disk files k ≡ true
-    by (inl less) = before k less
-    by (inr more) =
-        let same : k ≡ number = omega (arith, below, more) in
-        ap (has_files disk files) same ∙ here

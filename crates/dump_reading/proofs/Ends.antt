@@ -1,5 +1,5 @@
 -- What reading of dumps came to, by how the loop over a disk's tracks ended.
-use Rattle.std.proofs.Common.{◌≡◌, ◌+◌, ◌-◌, ◌*◌, true, inl, inr, ℕ, Bool, List, [], ◌∷◌, ◌++◌, append-nil, append_assoc, length, length-append, take, Option, Err, arith, refl, sym, ap, subst, ◌∙◌}
+use Rattle.std.proofs.Common.{◌≡◌, ◌+◌, ◌-◌, ◌*◌, true, inl, inr, ℕ, Bool, List, [], ◌∷◌, ◌++◌, append-nil, append_assoc, length, length-append, take, Option, arith, refl, sym, ap, subst, ◌∙◌}
 use Rattle.std.specs.Io.KnownBytes.{Appends}
 use Rattle.std.proofs.KnownBytes.{Appends-trans}
 use Rattle.std.proofs.lemmas.List.Sums.{sum_by-append}
@@ -26,10 +26,8 @@ use Rattle.dump_reading.specs.Beside.{AreBeside, LinesOf, beside_lines, lines_at
 use Rattle.dump_reading.specs.DumpStreams.{HaveComeOf, failed_paths, of_disk}
 use Rattle.dump_reading.specs.Files.{CountsMany, ShelfNow}
 use Rattle.dump_reading.specs.inside.Looks.{LooksAsAsked, LooksInto}
-use Rattle.dump_reading.specs.Outcomes.{AreAllBy, DumpDisk, FilesFailed, HasTracksBy, LookedAsAsked, LookedBeside, SaysOfDumps, StopsBy, WroteDumps, WroteIntoBesideBy, WroteIntoEnd, WroteIntoImageBy, WroteIntoLinesBy, lines_of, numbers_of, plan_of}
+use Rattle.dump_reading.specs.Outcomes.{AreAllBy, DumpDisk, FilesFailed, HasTracksBy, LookedAsAsked, LookedBeside, WroteDumps, WroteIntoBesideBy, WroteIntoEnd, WroteIntoImageBy, WroteIntoLinesBy, lines_of, numbers_of, plan_of}
 use Rattle.dump_reading.specs.Reports.{end_text, read_part}
-use Rattle.dump_reading.specs.declared.fault.DumpsFault.{DumpsFault}
-use Rattle.dump_reading.specs.declared.fault.DumpsFault.TheVariants.{NoFiles, ImageFault as DumpsImageFault, NotesFault as DumpsNotesFault}
 use Rattle.dump_reading.specs.declared.totals.DumpTotals.{DumpTotals}
 use Rattle.dump_reading.specs.lemmas.Coming.{counts-both, failed-both}
 
@@ -256,10 +254,3 @@ module _ (disk : DumpDisk) (start now : ShelfNow) (image image' notes mid notes'
         image_grew = r.image_grew;
         notes_grew = (p.0, p.1, Appends-trans notes mid notes' before (take p.0 (end_text numbers)) r.notes_grew p.2);
       }
-
--- reading the tracks stopped
-pub says-stopped : (disk : DumpDisk) (start now : ShelfNow) (image image' notes notes' : Option (List ℕ)) (fault : DumpsFault)
-    → StopsBy read_part beside_lines disk start now image image' notes notes' fault → SaysOfDumps disk start now image image' notes notes' (Err fault)
-says-stopped disk start now image image' notes notes' (NoFiles dump) stops = absurd stops
-says-stopped disk start now image image' notes notes' DumpsImageFault stops = stops
-says-stopped disk start now image image' notes notes' DumpsNotesFault stops = inl stops

@@ -3,6 +3,5 @@ pub mod Lists
 pub mod Ends
 pub mod DumpFiles
 pub mod FileStreams
-pub mod Closing
 pub mod TrackNumbers
 pub mod BesideSteps

@@ -1,19 +1,17 @@
 -- What the file of a dump says of its track's stream, and what the shelf then tells.
-use Rattle.std.proofs.Common.{◌≡◌, ◌<◌, ◌≤◌, ℕ, zero, suc, Bool, true, false, cond, List, [], ◌∷◌, length, get_or, arith, Option, Some, None, Ok, option_map, refl, sym, ap, subst, ◌∙◌}
+use Rattle.std.proofs.Common.{◌≡◌, ◌<◌, ◌≤◌, ℕ, zero, suc, false, cond, List, [], ◌∷◌, length, get_or, arith, Option, Some, None, refl, sym, ap, subst, ◌∙◌}
 use Rattle.std.specs.List.{slice_get}
 use Rattle.std.specs.Prelude.{unwrap_or}
 use Rattle.std.proofs.lemmas.Option.{get_or_from_slice_get, slice_get-get_or}
-use Rattle.flux_base.specs.Counts.{Counts, FaultCounts}
+use Rattle.flux_base.specs.Counts.{Counts}
 use Rattle.flux_base.specs.lemmas.Counting.{Counts-none}
 use Rattle.flux_base.specs.declared.track.TrackId.{TrackId}
-use Rattle.flux_base.specs.Outside.{one_more}
 use Rattle.index_turns.specs.Track.{TrackState}
-use Rattle.track_shelf.specs.Files.{File, Opens, file_at, none_yet}
+use Rattle.track_shelf.specs.Files.{File, file_at}
 use Rattle.track_shelf.specs.Names.{path_text}
 use Rattle.track_shelf.specs.Stepping.{file_track}
 use Rattle.track_shelf.specs.Told.{with_failed}
 use Rattle.track_shelf.specs.declared.stepping.Stepping.{Stepping}
-use Rattle.track_shelf.specs.Handled.{CountsToo, Handled, handled_close, has_failed}
 use Rattle.sector_images.specs.Places.{tracks}
 use Rattle.sector_images.specs.declared.format.Format.{Format}
 use Rattle.sector_report.specs.declared.dump_lines.Passed.TheVariants.{Absent}
@@ -22,58 +20,10 @@ use Rattle.flux_engine.specs.Plans.{Seen, is_failed}
 use Rattle.flux_engine.specs.Recordings.{track_at}
 use Rattle.flux_engine.specs.declared.track_streams.NextStream.{NextStream}
 use Rattle.flux_engine.specs.declared.track_streams.NextStream.TheVariants.{PassedOver, Read}
-use Rattle.dump_reading.specs.DumpStreams.{GaveOf, IsOrFailed, passed_over, path_in, seen_file, seen_of}
+use Rattle.dump_reading.specs.DumpStreams.{GaveOf, IsOrFailed, passed_over, path_in, seen_of}
 use Rattle.dump_reading.specs.inside.DumpStreams.{is_lost, lost_path}
 use Rattle.dump_reading.specs.Files.{ShelfNow}
-use Rattle.dump_reading.specs.inside.Files.{IsFresh}
 use Rattle.dump_reading.specs.lemmas.Coming.{none-failed}
-
--- what an open file says
-pub opened-seen : {F : Type 0} (left : F → Option (List ℕ)) (told : Option (List File)) (path : List ℕ) (opened : F) → Opens left told path (Ok (Some opened))
-    → (here : Seen) → ((bytes : List ℕ) → left opened ≡ Some bytes → IsOrFailed here (seen_file bytes))
-    → (files : List File) → told ≡ Some files → IsOrFailed here (seen_of (file_at files path))
-opened-seen left None path opened opens here seen files is = absurd (none-some files is)
-  where
-    none-some : (fs : List File) → None ≡ Some fs → ⊥
-    none-some fs same = cc
-opened-seen left (Some files') path opened opens here seen files is =
-    let same : files' ≡ files = some-same files' files is in
-    let at : file_at files path ≡ Some opens.0 = ap (λ (fs : List File). file_at fs path) (sym same) ∙ opens.1 in
-    subst (λ (o : Option File). IsOrFailed here (seen_of o)) (sym at) (seen opens.0.bytes opens.2)
-  where
-    some-same : (a b : List File) → Some a ≡ Some b → a ≡ b
-    some-same a b same = cc
-
--- there is no such file
-pub absent-seen : {F : Type 0} (left : F → Option (List ℕ)) (told : Option (List File)) (path : List ℕ) → Opens left told path (Ok None)
-    → (files : List File) → told ≡ Some files → file_at files path ≡ None
-absent-seen left None path opens files is = absurd (none-some files is)
-  where
-    none-some : (fs : List File) → None ≡ Some fs → ⊥
-    none-some fs same = cc
-absent-seen left (Some files') path opens files is = ap (λ (fs : List File). file_at fs path) (sym (some-same files' files is)) ∙ opens
-  where
-    some-same : (a b : List File) → Some a ≡ Some b → a ≡ b
-    some-same a b same = cc
-
--- of a file that was read, by its own count, a call failed or none
-failed-one : (count : ℕ) → has_failed (one_more (Some 0)) ≡ true
-failed-one count = refl
-
-closed-by : (fails : Bool) (file' : Option ℕ) (handled : Option Handled) (shelf : Option ℕ) → CountsToo handled shelf → file' ≡ cond fails (one_more (none_yet shelf)) (none_yet shelf)
-    → option_map (handled_close (has_failed file')) handled ≡ option_map (handled_close fails) handled
-closed-by fails file' None shelf counts is = refl
-closed-by fails file' (Some handled) None counts is = absurd counts
-closed-by true file' (Some handled) (Some count) counts is = ap (λ (f : Option ℕ). option_map (handled_close (has_failed f)) (Some handled)) is
-closed-by false file' (Some handled) (Some count) counts is = ap (λ (f : Option ℕ). option_map (handled_close (has_failed f)) (Some handled)) is
-
--- the file was fresh, and what it counted is what it failed
-pub closed-told : (fails : Bool) (handled : Option Handled) {file file' shelf : FaultCounts} → CountsToo handled shelf.failed → IsFresh file shelf → Counts fails file file'
-    → option_map (handled_close (has_failed file'.failed)) handled ≡ option_map (handled_close fails) handled
-closed-told true handled {file} {file'} {shelf} counts fresh read =
-    closed-by true file'.failed handled shelf.failed counts (read.counted ∙ ap one_more fresh.none_failed)
-closed-told false handled {file} {file'} {shelf} counts fresh read =
-    closed-by false file'.failed handled shelf.failed counts (read.counted ∙ fresh.none_failed)
 
 -- One file of a dump was read, or there is no such dump.
 module _ (stepping : Stepping) (dumps : List (List ℕ)) (track : TrackId) (dump : ℕ) (start now : ShelfNow) where

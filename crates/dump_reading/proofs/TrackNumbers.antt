@@ -2,8 +2,8 @@
 use Rattle.std.specs.Prelude.{◌≡◌, ℕ, zero, suc, ◌+◌, ◌-◌, ◌*◌, ◌/◌, ◌%◌, ◌<◌, ◌≤◌, ◌⊎◌, Bool, true, false, ◌&&◌, nat_eq, nat_lt, not, cond, min, List, [], ◌∷◌, ◌++◌, length, map, take, filter, get_or, slice_get, Some, refl}
 use Rattle.std.specs.List.{flat_map, range_with_len}
 use Rattle.std.proofs.Common.{ap, sym, subst, ◌∙◌, arith, inl, inr, length-append}
-use Rattle.std.proofs.Math.Nat.{min-le_right, mul-le-mul, mul-le-mul_right, suc-mul, mul_comm}
-use Rattle.std.proofs.lemmas.Bool.{cases_lt, eq-eqb, le-ltb, lt-ltb}
+use Rattle.std.proofs.Math.Nat.{mul-le-mul, mul-le-mul_right, suc-mul, mul_comm}
+use Rattle.std.proofs.lemmas.Bool.{cases_lt, eq-eqb, le-ltb}
 use Rattle.std.proofs.lemmas.List.{get_or_append_left, get_or-append-add, take_all}
 use Rattle.std.proofs.lemmas.List.FromFn.{get_or-map-range_with_len, length-map-range_with_len}
 use Rattle.std.proofs.lemmas.Option.{get_or_from_slice_get}
@@ -164,10 +164,6 @@ last-track format last at is = by (in-order format)
         ∙ ap (λ (xs : List TrackId). get_or xs ((heads - 1) * cylinders + (cylinders - 1)) no_track) same
         ∙ get-line by_head cylinders heads (heads - 1) (cylinders - 1) no_track (omega (arith, some_heads)) (omega (arith, some_cylinders))
 
--- whether a track is one of the format's, as a fact and as it is computed
-pub is-track : (format : Format) (track : TrackId) → IsTrack format track → is_track format track ≡ true
-is-track format track is = rw (lt-ltb track.cylinder (row format).cylinders is.0, lt-ltb track.head (row format).heads is.1) refl
-
 pub track-is-one : (format : Format) (track : TrackId) → is_track format track ≡ true → IsTrack format track
 track-is-one format track is = by (cases_lt track.cylinder (row format).cylinders) (cases_lt track.head (row format).heads)
   where
@@ -214,13 +210,6 @@ none-is format track n all none = by (is_track format track) refl
     by : (b : Bool) → is_track format track ≡ b → false ≡ b
     by false same = refl
     by true same = (let at = number-of format track (track-is-one format track same) in absurd (none at.0 (omega (arith, at.1, all)) at.2))
-
--- the track that is nearest is one of the format's
-pub near-is-one : (format : Format) (track last : TrackId) → IsTrack format last
-    → is_track format (record { cylinder = min track.cylinder last.cylinder; head = min track.head last.head }) ≡ true
-near-is-one format track last is =
-    is-track format (record { cylinder = min track.cylinder last.cylinder; head = min track.head last.head })
-    (omega (arith, is.0, min-le_right track.cylinder last.cylinder), omega (arith, is.1, min-le_right track.head last.head))
 
 pub near-is : (format : Format) (track last near : TrackId) (n : ℕ) → slice_get (tracks format) (length (tracks format) - 1) ≡ Some last → IsTrack format last
     → near ≡ record { cylinder = min track.cylinder last.cylinder; head = min track.head last.head } → slice_get (tracks format) n ≡ Some near

@@ -1,7 +1,7 @@
 -- The times of the transitions of cells, as they are found one by one.
 use Rattle.std.proofs.Common.{◌≡◌, ◌≤◌, ◌<◌, ◌+◌, ◌-◌, ◌*◌, ◌++◌, ℕ, Bool, true, false, List, [], ◌∷◌, length, map, take, drop, get_or, ap, ◌∙◌, arith}
 use Rattle.std.proofs.lemmas.List.{map-append}
-use Rattle.std.proofs.Math.Nat.{mul-le-mul, mul-le-mul_right}
+use Rattle.std.proofs.Math.Nat.{mul-le-mul_right}
 use Rattle.cell_bits.specs.Search.{HasNoOne}
 use Rattle.flux_writer.specs.Written.{cell_time}
 use Rattle.flux_writer.specs.inside.Writing.{times_between}
@@ -20,13 +20,6 @@ cell_time-lt nominal j k long order =
   where
     add_mul : (a n : ℕ) → (a + 1) * n ≡ a * n + n
     add_mul a n = grind arith
-
--- the numbers are small enough to be counted
-pub product-small : (nominal number : ℕ) → nominal ≤ 131072 → number < 2097152 → (number + 1) * nominal ≤ 274877906944
-product-small nominal number short few =
-    let few_cells : number + 1 ≤ 2097152 = omega (arith, few) in
-    let product : (number + 1) * nominal ≤ 2097152 * 131072 = mul-le-mul few_cells short in
-    omega (arith, product)
 
 -- cells up to a place, and those after it
 pub times_between-split : (cells : List Bool) (from place to number nominal : ℕ) → from ≤ place → place ≤ to → to ≤ length cells

@@ -13,10 +13,6 @@ use Rattle.flux_writer.specs.inside.Gathering.{Gathers, Holds}
 pub Gathers-nothing : (a : Option (List ℕ)) (held : List ℕ) → Gathers a a held held []
 Gathers-nothing a held = record { taken = []; appended = Appends-nil a; whole = append-nil held }
 
--- bytes that are held, with no call of the sink
-pub Gathers-held : (a : Option (List ℕ)) (held held' more : List ℕ) → held' ≡ held ++ more → Gathers a a held held' more
-Gathers-held a held held' more is = record { taken = []; appended = Appends-nil a; whole = sym is }
-
 module _ (a b c : Option (List ℕ)) (held held' first then : List ℕ) (g : Gathers a b held held' first) where
   -- all bytes, as what was taken, what is held, and what comes then
   split : held ++ (first ++ then) ≡ g.taken ++ (held' ++ then)

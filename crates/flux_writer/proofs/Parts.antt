@@ -1,13 +1,13 @@
 -- A part of a list of cells, as it is written.
-use Rattle.std.proofs.Common.{◌≡◌, ◌≤◌, ◌<◌, ◌+◌, ◌-◌, ◌/◌, ◌++◌, ℕ, Bool, true, false, List, [], ◌∷◌, length, map, take, drop, get_or, Option, sym, subst, arith}
+use Rattle.std.proofs.Common.{◌≡◌, ◌≤◌, ◌<◌, ◌+◌, ◌-◌, ◌++◌, ℕ, Bool, true, false, List, [], ◌∷◌, length, map, take, drop, get_or, Option, sym, subst, arith}
 use Rattle.cell_bits.specs.Search.{HasNoOne}
 use Rattle.flux_base.specs.Outside.{AppendsPart}
 use Rattle.flux_writer.specs.inside.Gathering.{Gathers}
 use Rattle.kryo_stream.specs.Sequence.{spellings}
 use Rattle.flux_writer.specs.Written.{cell_time}
 use Rattle.flux_writer.specs.inside.Writing.{indexes_from, next_blocks, many_blocks, next_position, times_between, IsReadyAt, IsWritten}
-use Rattle.flux_writer.proofs.CellTimes.{cell_time-le, product-small, times_between-split, times_between-one}
-use Rattle.flux_writer.proofs.Progress.{IsReady-next, IsReady-fits, IsWritten-more, IsWritten-one, IsWritten-part, part_of_one, part_of_more}
+use Rattle.flux_writer.proofs.CellTimes.{cell_time-le, times_between-split, times_between-one}
+use Rattle.flux_writer.proofs.Progress.{IsReady-next, IsWritten-more, IsWritten-one, IsWritten-part, part_of_one, part_of_more}
 use Rattle.flux_writer.specs.lemmas.FoundOnes.{ones_from}
 
 -- the next cell that is a one
@@ -22,25 +22,10 @@ IsReadyAt-next nominal position time number K indexes r order =
       reached = cell_time-le nominal K (K + 1) (omega arith);
     }
 
--- cells that are no ones
-pub IsReadyAt-later : (nominal position time number K : ℕ) (indexes : List ℕ) → IsReadyAt nominal position time number indexes → number ≤ K
-    → IsReadyAt nominal position time K indexes
-IsReadyAt-later nominal position time number K indexes r order = record {
-  ready = record { room = omega (arith, r.ready.room, order); begun = r.ready.begun; rising = r.ready.rising };
-  reached = omega (arith, r.reached, cell_time-le nominal number K order);
-}
-
 -- what the next transition requires
 pub in_time : (nominal position time number K : ℕ) (indexes : List ℕ) → IsReadyAt nominal position time number indexes → number ≤ K
     → time ≤ cell_time nominal K
 in_time nominal position time number K indexes r order = omega (arith, r.reached, cell_time-le nominal number K order)
-
-pub fits : (nominal position time number K : ℕ) (indexes : List ℕ) → IsReadyAt nominal position time number indexes → number ≤ K
-    → nominal ≤ 131072 → K < 2097152 → position + (cell_time nominal K - time) / 65536 + 3 < 4294967296
-fits nominal position time number K indexes r order short few =
-    let product = product-small nominal K short few in
-    IsReady-fits position time number (cell_time nominal K) indexes r.ready (in_time nominal position time number K indexes r order)
-    (omega (arith, product)) (omega (arith, order, few))
 
 -- one more one of the part
 module _ (cells : List Bool) (from number nominal place one to : ℕ) (start : from ≤ place) (order : place ≤ one)

@@ -27,16 +27,6 @@ pub IsReady-fits : (position begin count time : ℕ) (indexes : List ℕ) → Is
     → time ≤ 549755813888 → count ≤ 16777216 → position + (time - begin) / 65536 + 3 < 4294967296
 IsReady-fits position begin count time indexes ready order early few = omega (arith, ready.room, order, early, few)
 
--- nothing was written yet
-pub IsWritten-none : (old : Option (List ℕ)) (held : List ℕ) (position time : ℕ) (indexes : List ℕ)
-    → IsWritten old old held position time indexes held position time indexes []
-IsWritten-none old held position time indexes = record {
-  bytes = Gathers-nothing old held;
-  position_is = refl;
-  time_is = refl;
-  indexes_are = refl;
-}
-
 -- some transitions, and then more
 module _ (old mid new : Option (List ℕ)) (held : List ℕ) (position time : ℕ) (indexes held' : List ℕ) (position' time' : ℕ)
     (indexes' times : List ℕ) (w : IsWritten old mid held position time indexes held' position' time' indexes' times) (more : List ℕ) where

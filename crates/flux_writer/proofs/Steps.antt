@@ -11,7 +11,7 @@ use Rattle.kryo_stream.specs.Sequence.{spellings}
 use Rattle.flux_writer.specs.Written.{interval_blocks, index_block}
 use Rattle.flux_writer.specs.inside.Writing.{next_position, count_before, indexes_before, indexes_from, next_blocks, many_blocks, position_after, time_after, indexes_after}
 use Rattle.flux_base.specs.Outside.{AppendsPart}
-use Rattle.flux_writer.proofs.Gathered.{Gathers-nothing, Gathers-more, Gathers-part, AppendsPart-longer}
+use Rattle.flux_writer.proofs.Gathered.{Gathers-more, Gathers-part, AppendsPart-longer}
 
 pub spellings-append : (bs cs : List Block) → spellings (bs ++ cs) ≡ spellings bs ++ spellings cs
 spellings-append bs cs = flat_map-append spelling bs cs
@@ -140,15 +140,6 @@ pub record IndexesWritten (old new : Option (List ℕ)) (held held' : List ℕ) 
   pub before : done ++ indexes_before end left ≡ indexes_before end indexes
   pub behind : indexes_from end left ≡ indexes_from end indexes
 
-pub IndexesWritten-none : (old : Option (List ℕ)) (held : List ℕ) (position begin end : ℕ) (indexes : List ℕ)
-    → IndexesWritten old old held held position begin end indexes indexes
-IndexesWritten-none old held position begin end indexes = record {
-  done = [];
-  bytes = Gathers-nothing old held;
-  before = refl;
-  behind = refl;
-}
-
 spellings-snoc : (position begin : ℕ) (done : List ℕ) (index : ℕ)
     → spellings (map (index_block position begin) done) ++ spelling (index_block position begin index)
     ≡ spellings (map (index_block position begin) (done ++ index ∷ []))
@@ -192,17 +183,6 @@ module _ (old mid new : Option (List ℕ)) (held held' : List ℕ) (position beg
       (Gathers-part old mid new held held' (spellings (map (index_block position begin) w.done)) _ w.bytes
       (AppendsPart-longer mid new held' (spelling (index_block position begin index)) (spellings (map (index_block position begin) (indexes_before end left)))
       (subst (λ bs. AppendsPart mid new (held' ++ bs)) spelled part)))
-
--- all of them are written
-pub IndexesWritten-all : (old new : Option (List ℕ)) (held held' : List ℕ) (position begin end : ℕ) (indexes left : List ℕ)
-    → IndexesWritten old new held held' position begin end indexes left → count_before end left ≡ 0
-    → Gathers old new held held' (spellings (map (index_block position begin) (indexes_before end indexes)))
-    × (left ≡ indexes_from end indexes)
-IndexesWritten-all old new held held' position begin end indexes left w none = (
-  subst (λ xs. Gathers old new held held' (spellings (map (index_block position begin) xs)))
-      (sym (append-nil w.done) ∙ ap (λ n. w.done ++ take n left) (sym none) ∙ w.before) w.bytes,
-  ap (λ n. drop n left) (sym none) ∙ w.behind,
-)
 
 -- a list with a first element
 pub first_of : (xs : List ℕ) (x : ℕ) → slice_get xs 0 ≡ Some x → xs ≡ x ∷ drop 1 xs

@@ -10,14 +10,6 @@ use Rattle.frame_law.specs.declared.reading.Reading.TheVariants.{Nothing, Bad, G
 use Rattle.frame_law.specs.Laws.{Found, places, HasHeader, AreAllFrom, ReadingsAreOne}
 use Rattle.frame_law.specs.Readings.{Reads, AreReadings, FirstReading}
 
-contains_place : (f : Found) (found : List Found) → Contains found f → Contains (places found) f.0
-contains_place f [] has = absurd (omega (arith, has.1))
-contains_place f (g ∷ gs) has =
-    elim (contains_cases g f gs has) [
-      | inl same ↦ subst (λ (p : ℕ). Contains (g.0 ∷ places gs) p) (ap (λ (h : Found). h.0) same) (contains_first g.0 (places gs))
-      | inr later ↦ contains_later g.0 f.0 (places gs) (contains_place f gs later)
-    ]
-
 found_at : (place : ℕ) (found : List Found) → Contains (places found) place → (reading : Reading) × (bytes : List ℕ) × Contains found (place, reading, bytes)
 found_at place [] has = absurd (omega (arith, has.1))
 found_at place (g ∷ gs) has =

@@ -1,13 +1,9 @@
 -- The sector that a header names, and headers of any name.
-use Rattle.std.proofs.Common.{◌≡◌, ℕ, ◌<◌, ◌≤◌, Bool, List, Option, Some, None, IfSome, IfNone, ap, drop, length, arith, inl, inr, subst, sym}
-use Rattle.std.proofs.lemmas.Bool.{cases_lt}
-use Rattle.cell_bits.specs.Search.{StandsNowhere}
-use Rattle.cell_bits.specs.Word.{Stands}
+use Rattle.std.proofs.Common.{◌≡◌, ℕ, ◌<◌, ◌≤◌, Bool, List, Option, Some, None, IfSome, IfNone, ap, drop, arith, subst, sym}
 use Rattle.flux_base.specs.declared.header_name.HeaderName.{HeaderName}
 use Rattle.frame_law.specs.declared.reading.FoundHeader.{FoundHeader}
 use Rattle.frame_law.specs.declared.reading.FoundHeader.TheVariants.{Sector, Other}
 use Rattle.frame_law.specs.Others.{IsFoundHeader, NamesSectors}
-use Rattle.frame_law.proofs.Skips.{stands_within}
 
 module _ (names : List Bool → HeaderName → Type 0) (is_name_of : HeaderName → ℕ → Type 0) (names_sector : List Bool → ℕ → Type 0)
     (is : NamesSectors names is_name_of names_sector) (Known : ℕ → Type 0) (cells : List Bool) (name : HeaderName) where
@@ -22,12 +18,6 @@ module _ (names : List Bool → HeaderName → Type 0) (is_name_of : HeaderName 
   no_sector one named None none = λ s known sector.
       let has = is.has_name cells s sector in
       none s (subst (λ (n : HeaderName). is_name_of n s) (one has.0 name has.1 named) has.2, known)
-
--- what is known of a sector that has the name is known of each
-pub of_each : (is_name_of : HeaderName → ℕ → Type 0) (Known : ℕ → Type 0) (name : HeaderName)
-    → ((s t : ℕ) → is_name_of name s → is_name_of name t → s ≡ t) → (sector : ℕ) → is_name_of name sector → ¬ Known sector
-    → (s : ℕ) → ¬ (is_name_of name s × Known s)
-of_each is_name_of Known name one sector of_sector unknown s has = unknown (subst Known (one s sector has.0 of_sector) has.1)
 
 -- no header of any name stands at a place from `from` to below `to`
 abbrev pub NoNames : (List Bool → HeaderName → Type 0) → List Bool → ℕ → ℕ → Type 0
@@ -64,15 +54,3 @@ module _ (named : List Bool → HeaderName → Type 0) (is_name_of : HeaderName 
         let has = is.has_name cells s own in
         none s (subst (λ (n : HeaderName). is_name_of n s) (one cells has.0 name has.1 here) has.2),
   )
-
--- no header stands where the sync stands nowhere in the rest of the list
-pub no_names-none : (named : List Bool → HeaderName → Type 0) (cells : List Bool) (value count from start : ℕ)
-    → ((rest : List Bool) (name : HeaderName) → named rest name → Stands rest value count 0)
-    → 1 ≤ count → NoNames named cells from start → StandsNowhere cells value count start (length cells)
-    → (place : ℕ) (name : HeaderName) → from ≤ place → ¬ named (drop place cells) name
-no_names-none named cells value count from start leads some before behind place name above here =
-    let stands : Stands cells value count place = leads (drop place cells) name here in
-    elim (cases_lt place start) [
-      | inl early ↦ before place name above early here
-      | inr late ↦ behind place late (stands_within cells value count place stands some) stands
-    ]

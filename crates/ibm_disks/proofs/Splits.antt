@@ -14,12 +14,6 @@ no-more stop [] i within other before = absurd (omega (arith, within))
 no-more stop (byte ∷ bytes) zero within other before = (other, tt)
 no-more stop (byte ∷ bytes) (suc i) within other before = (before.0, no-more stop bytes i (omega (arith, within)) other before.1)
 
--- a text that has a stop somewhere
-pub split-here : (stop : ℕ) (text : List ℕ) (i : ℕ) → i < length text → get_or text i 0 ≡ stop → text ≡ take i text ++ stop ∷ drop (suc i) text
-split-here stop [] i within at = absurd (omega (arith, within))
-split-here stop (byte ∷ bytes) zero within at = ap (λ (b : ℕ). b ∷ bytes) at
-split-here stop (byte ∷ bytes) (suc i) within at = ap (λ (rest : List ℕ). byte ∷ rest) (split-here stop bytes i (omega (arith, within)) at)
-
 -- one that has none
 pub no-split : (stop : ℕ) (text front rest : List ℕ) → HasNo stop text → text ≢ front ++ stop ∷ rest
 no-split stop text front rest without same = no_stop front (subst (HasNo stop) same without)

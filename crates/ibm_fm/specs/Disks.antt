@@ -13,6 +13,3 @@ pub record IsFmTrack (recording : IbmFm) (track : TrackId) : Type 0 where
 
 abbrev pub ibm_3740 : IbmFm
 ibm_3740 = record { numbers = numbers.ibm_3740 }
-
-abbrev pub acorn : IbmFm
-acorn = record { numbers = numbers.acorn }

@@ -34,10 +34,6 @@ check_of mark bytes = crc CHECK_START (mark ∷ bytes)
 abbrev pub address_of : ℕ → TrackId → ℕ → List ℕ
 address_of size_code track sector = address track sector size_code
 
--- the cells of a header: mark, address, check value
-abbrev pub HEADER_CELLS : ℕ
-HEADER_CELLS = 112
-
 -- where the address and its check value begin, in cells from the header's begin
 abbrev pub ADDRESS_PLACE : ℕ
 ADDRESS_PLACE = 16

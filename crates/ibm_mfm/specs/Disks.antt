@@ -11,23 +11,8 @@ pub record IsMfmTrack (recording : IbmMfm) (track : TrackId) : Type 0 where
   pub cylinder : track.cylinder < 100
   pub head : track.head < 2
 
-abbrev pub pc_8 : IbmMfm
-pc_8 = record { numbers = numbers.pc_8 }
-
 abbrev pub pc_9 : IbmMfm
 pc_9 = record { numbers = numbers.pc_9 }
 
-abbrev pub pc_15 : IbmMfm
-pc_15 = record { numbers = numbers.pc_15 }
-
 abbrev pub pc_18 : IbmMfm
 pc_18 = record { numbers = numbers.pc_18 }
-
-abbrev pub atari_10 : IbmMfm
-atari_10 = record { numbers = numbers.atari_10 }
-
-abbrev pub cpc_data : IbmMfm
-cpc_data = record { numbers = numbers.cpc_data }
-
-abbrev pub cpc_system : IbmMfm
-cpc_system = record { numbers = numbers.cpc_system }

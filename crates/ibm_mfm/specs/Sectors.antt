@@ -19,10 +19,6 @@ check_of first bytes = crc CHECK_START (0xA1 ∷ 0xA1 ∷ 0xA1 ∷ first ∷ byt
 abbrev pub address_of : ℕ → TrackId → ℕ → List ℕ
 address_of size_code track sector = address track sector size_code
 
--- the cells of a header: three marks, its first byte, address, check value
-abbrev pub HEADER_CELLS : ℕ
-HEADER_CELLS = 160
-
 -- where the third mark and the first byte after the marks stand, in cells from their begin
 abbrev pub THIRD_MARK_PLACE : ℕ
 THIRD_MARK_PLACE = 32

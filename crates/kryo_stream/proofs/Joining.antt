@@ -1,6 +1,6 @@
 -- A stream with other bytes after it, and with padding before it.
-use Rattle.std.proofs.Common.{◌≡◌, ◌≢◌, ◌≤◌, ◌<◌, ◌+◌, ◌++◌, ◌==◌, ℕ, zero, suc, Bool, true, false, List, [], ◌∷◌, length, drop, find, get_or, unwrap_or, refl, ap, sym, ◌∙◌, arith, Option, Some, None, Ok, Err, if◌then◌else◌, inl, inr}
-use Rattle.std.specs.List.{cons_option, range_with_len}
+use Rattle.std.proofs.Common.{◌≡◌, ◌≢◌, ◌≤◌, ◌<◌, ◌+◌, ◌++◌, ◌==◌, ℕ, Bool, true, false, List, [], ◌∷◌, length, drop, get_or, refl, ap, sym, ◌∙◌, arith, Option, Some, None, Ok, Err, if◌then◌else◌, inl, inr}
+use Rattle.std.specs.List.{cons_option}
 use Rattle.std.specs.Prelude.{Result, slice_index}
 use Rattle.std.proofs.lemmas.Bool.{cases_eq, cases_lt, eqb-true, eq-eqb}
 use Rattle.std.proofs.lemmas.List.{get_or_append_left, get_or-append-add}
@@ -11,48 +11,16 @@ use Rattle.kryo_stream.specs.declared.block.Block.TheVariants.{End}
 use Rattle.kryo_stream.specs.declared.block.Mark.{Mark}
 use Rattle.kryo_stream.specs.declared.block.SpelledBlock.{SpelledBlock}
 use Rattle.kryo_stream.specs.declared.fault.StreamFault.{StreamFault}
-use Rattle.kryo_stream.specs.declared.fault.StreamFault.TheVariants.{BadSize, Truncated}
+use Rattle.kryo_stream.specs.declared.fault.StreamFault.TheVariants.{BadSize}
 use Rattle.kryo_stream.specs.Joined.{MayStandBefore, PaddingIsPassed}
 use Rattle.kryo_stream.specs.Padding.{is_padding, padding_of, unpadded}
 use Rattle.kryo_stream.specs.Pieces.{BlockOrFault, has, needs, of_size, out_of_band_piece, piece_at, unless_fault}
 use Rattle.kryo_stream.specs.Protocol.{END_SIZE, LIMIT, OUT_OF_BAND}
-use Rattle.kryo_stream.specs.Stream.{total_bytes, is_end, is_last, marks, mark_at, turn_fault, piece_behind, with_piece, pieces, stops_at, last_block, fault_at, first_fault}
-use Rattle.kryo_stream.proofs.FindLemmas.{find-range, FindsFirst, IsFirst}
-use Rattle.kryo_stream.proofs.Lists.{sum_by-push}
+use Rattle.kryo_stream.specs.Stream.{is_end, is_last, marks, mark_at, turn_fault, piece_behind, with_piece, pieces, stops_at, last_block, fault_at, first_fault}
 use Rattle.kryo_stream.proofs.PaddingLemmas.{is_padding-behind, is_padding-here, is_padding-true, padding_of-is}
-use Rattle.kryo_stream.proofs.Readings.{Lies, has-long, has-short}
+use Rattle.kryo_stream.proofs.Readings.{has-long, has-short}
 use Rattle.kryo_stream.proofs.StreamLaws.{Turns-from_fault}
-use Rattle.kryo_stream.proofs.Streams.{last_block-is, piece_behind-lies, pieces-inside}
-
--- each block that does not stop the reading has a byte
-with_piece-more : (x : List ℕ) (ps : List SpelledBlock) (n : ℕ) (r : BlockOrFault) → Lies (total_bytes ps) (drop (total_bytes ps) x) r → is_last r ≡ false
-    → n ≤ total_bytes ps → suc n ≤ total_bytes (with_piece ps r)
-with_piece-more x ps n (Ok p) lies goes_on many = omega (arith, lies.0, many, sum_by-push (λ q. q.bytes) ps p)
-with_piece-more x ps n (Err fault) lies goes_on many = absurd (cc)
-
-pieces-many : (x : List ℕ) (n : ℕ) → ((k : ℕ) → k < n → stops_at x k ≡ false) → n ≤ total_bytes (pieces x n)
-pieces-many x zero going = omega arith
-pieces-many x (suc n) going =
-    with_piece-more x (pieces x n) n (piece_behind x (pieces x n)) (piece_behind-lies x (pieces x n)) (going n (omega arith))
-    (pieces-many x n (λ k low. going k (omega (arith, low))))
-
--- so the reading of any bytes stops
-last_found : (x : List ℕ) (found : Option ℕ) → FindsFirst (stops_at x) 0 (0 + (length x + 1)) found
-    → IsFirst (stops_at x) 0 (0 + (length x + 1)) (unwrap_or found (length x))
-last_found x (Some n) first = first
-last_found x None none =
-    let many = pieces-many x (length x + 1) (λ k below. none k (omega arith) (omega arith)) in
-    absurd (omega (arith, many, pieces-inside x (length x + 1)))
-
-last-first : (x : List ℕ) → IsFirst (stops_at x) 0 (0 + (length x + 1)) (last_block x)
-last-first x = last_found x (find (stops_at x) (range_with_len 0 (length x + 1))) (find-range (stops_at x) 0 (length x + 1))
-
-read_end : (x : List ℕ) (n : ℕ) (r : BlockOrFault) → fault_at x n r ≡ None → (p : SpelledBlock) × (r ≡ Ok p)
-read_end x n (Ok p) none = (p, refl)
-read_end x n (Err fault) none = absurd (cc)
-
-ok_not_truncated : (r : BlockOrFault) (p : SpelledBlock) → r ≡ Ok p → r ≢ Err Truncated
-ok_not_truncated r p is same = cc
+use Rattle.kryo_stream.proofs.Streams.{last_block-is}
 
 -- An End or a fault: a stream that begins with it has a fault.
 abbrev EndsAtOnce : BlockOrFault → Type 0

@@ -1,7 +1,6 @@
 -- What is kept of the transitions that some bytes begin with, as one row or one transition more comes.
-use Rattle.std.proofs.Common.{◌≡◌, ℕ, zero, suc, ◌+◌, ◌-◌, ◌==◌, ◌<◌, ◌≤◌, ◌++◌, false, true, List, [], ◌∷◌, All, length, take, drop, nat_le, slice_index, refl, sym, ap, ◌∙◌, arith, length-append, length-drop, length-take, append-nil, subst, Ok}
+use Rattle.std.proofs.Common.{◌≡◌, ℕ, zero, suc, ◌+◌, ◌-◌, ◌<◌, ◌≤◌, ◌++◌, false, List, [], ◌∷◌, All, length, take, drop, refl, sym, ap, ◌∙◌, arith, length-append, length-drop, length-take, append-nil, subst, Ok}
 use Rattle.std.specs.List.{range_with_len, sum}
-use Rattle.std.proofs.lemmas.Bool.Decides.{nat_tests}
 use Rattle.std.proofs.lemmas.List.{take-append-le, drop-append-le, drop-drop, take_rest, take-append-drop}
 use Rattle.index_turns.specs.Track.{TrackState, times_after}
 use Rattle.kryo_stream.specs.declared.before.Before.{Before}
@@ -11,31 +10,14 @@ use Rattle.kryo_stream.specs.declared.front.LongFlux.{LongFlux}
 use Rattle.kryo_stream.specs.Bench.{BenchState, KeepsNotes}
 use Rattle.kryo_stream.specs.inside.Blocks.{IsShortFlux}
 use Rattle.kryo_stream.specs.inside.Keeping.{AddsTimes, AddsEnds, IsLongFlux, KeepsFlux, past}
-use Rattle.kryo_stream.specs.Pieces.{piece, piece_at, piece_from, unless_fault, ticks_at}
+use Rattle.kryo_stream.specs.Pieces.{piece_at}
 use Rattle.kryo_stream.specs.inside.Progress.{IsReading, ReadsOn}
 use Rattle.kryo_stream.specs.Protocol.{LIMIT}
 use Rattle.kryo_stream.specs.inside.Tally.{behind, IsWithin}
 use Rattle.kryo_stream.proofs.BlockReadings.{reads_block}
 use Rattle.kryo_stream.proofs.Pieces.{piece_at-grows}
 use Rattle.kryo_stream.proofs.Progressing.{ok_not}
-use Rattle.kryo_stream.proofs.Readings.{has-enough}
 use Rattle.kryo_stream.proofs.Runs.{IsReading-bench, before_same, or_false, same_reading, reads_on_both, run_of_front, is_roomy, IsRoomy, keeps_room_both, keeps_bench_both}
-
--- a transition of two bytes
-pub piece_at-two : (offset counted : ℕ) (bytes : List ℕ) → 2 ≤ length bytes → slice_index bytes 0 ≤ 7 → offset + 2 ≤ LIMIT
-    → piece_at offset counted false bytes ≡ piece (Flux (ticks_at 0 bytes)) 2
-piece_at-two offset counted bytes enough low room =
-    let not_band : (slice_index bytes 0 == 13) ≡ false = grind (arith, nat_tests) in
-    let two : nat_le (slice_index bytes 0) 7 ≡ true = grind (arith, nat_tests) in
-    ap (λ h. unless_fault h (piece_from offset counted false (slice_index bytes 0) bytes)) (has-enough offset 1 bytes (omega (arith, room)) (omega (arith, enough)))
-    ∙ rw (not_band, two, has-enough offset 2 bytes room enough) refl
-
--- a transition of three bytes
-pub piece_at-three : (offset counted : ℕ) (bytes : List ℕ) → 3 ≤ length bytes → slice_index bytes 0 ≡ 12 → offset + 3 ≤ LIMIT
-    → piece_at offset counted false bytes ≡ piece (Flux (ticks_at 1 bytes)) 3
-piece_at-three offset counted bytes enough is room =
-    ap (λ h. unless_fault h (piece_from offset counted false (slice_index bytes 0) bytes)) (has-enough offset 1 bytes (omega (arith, room)) (omega (arith, enough)))
-    ∙ rw (is, has-enough offset 3 bytes room enough) refl
 
 length-times_after : (start : ℕ) (intervals : List ℕ) → length (times_after start intervals) ≡ length intervals
 length-times_after start [] = refl

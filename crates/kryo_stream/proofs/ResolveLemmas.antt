@@ -194,16 +194,6 @@ Placing-step b transitions total k before spare spare' time placed placed' m p i
       room = omega (arith, p.room, room);
     }
 
-pub Placing-start : (b : BenchState) (transitions : List ℕ) (total spare : ℕ) (placed : List ℕ) → placed ≡ []
-    → Placing b transitions total 0 spare spare placed
-Placing-start b transitions total spare placed empty = record {
-  count = omega arith;
-  placed_are = empty;
-  within = λ i d below. absurd (omega arith);
-  rising = λ i some below. absurd (omega arith);
-  room = omega arith;
-}
-
 -- the Index block after those placed is at fault
 pub TurnCause-placing : (ps : List SpelledBlock) (b : BenchState) (transitions : List ℕ) (total end k before spare : ℕ)
     (placed : List ℕ) (m : Mark) (fault : TrackFault) → IsComplete ps b transitions total end

@@ -1,11 +1,10 @@
 -- Bytes that are passed over: a text that is longer than an intake, and padding.
-use Rattle.std.proofs.Common.{◌≡◌, ℕ, ◌+◌, ◌-◌, ◌<◌, ◌≤◌, ◌++◌, List, [], length, drop, sym, ap, ◌∙◌, arith, length-append, length-drop, append_assoc, append-nil, Result, Ok, Err, subst}
+use Rattle.std.proofs.Common.{◌≡◌, ℕ, ◌+◌, ◌-◌, ◌<◌, ◌≤◌, ◌++◌, List, length, drop, sym, ap, ◌∙◌, arith, length-append, length-drop, append_assoc, append-nil, Result, Ok, Err, subst}
 use Rattle.std.proofs.lemmas.List.{drop-append-le, drop-drop}
 use Rattle.std.specs.Io.KnownBytes.{IsAtEnd}
 use Rattle.flux_base.specs.declared.outside.Failed.{Failed}
 use Rattle.kryo_stream.specs.declared.before.Before.{Before}
 use Rattle.kryo_stream.specs.declared.block.Block.TheVariants.{Info}
-use Rattle.kryo_stream.specs.declared.block.SpelledBlock.{SpelledBlock}
 use Rattle.kryo_stream.specs.declared.fault.StreamFault.TheVariants.{Truncated}
 use Rattle.kryo_stream.specs.declared.intake.More.TheVariants.{Taken, End}
 use Rattle.kryo_stream.specs.inside.Held.{Took}
@@ -16,15 +15,7 @@ use Rattle.kryo_stream.specs.Reads.{SourceMoment}
 use Rattle.kryo_stream.specs.inside.Reads.{Takes, IsNothing}
 use Rattle.kryo_stream.specs.inside.Tally.{IsWithin}
 use Rattle.kryo_stream.proofs.Pieces.{piece_at-text_whole, piece_at-text_cut}
-use Rattle.kryo_stream.proofs.Taking.{Takes-nothing, Takes-trans, Takes-other}
-
-pub IsPassing-start : (m : SourceMoment) (held : List ℕ) (count : ℕ) → IsPassing m m held held count 0
-IsPassing-start m held count = record {
-  taken = [];
-  takes = Takes-nothing (AreFew count held) m;
-  inside = omega arith;
-  place = sym (append-nil held);
-}
+use Rattle.kryo_stream.proofs.Taking.{Takes-trans, Takes-other}
 
 -- some of the held bytes are passed over
 pub IsPassing-pass : {old new : SourceMoment} {held held' : List ℕ} {count gone : ℕ} (here next : ℕ) → IsPassing old new held held' count gone
@@ -69,14 +60,6 @@ pub IsPassing-rest : {old mid new : SourceMoment} {held now between next : List 
     → IsPassing old mid held now count (count - rest) → here ≡ length now → here < rest → between ≡ drop here now → Took IsNothing mid new between next
     → IsPassing old new held next count (count - (rest - here))
 IsPassing-rest {count = count} {here = here} rest within p all less = IsPassing-on here (count - (rest - here)) p all (omega (arith, within, less)) (omega (arith, within, less))
-
-pub skipped_all : {old new : SourceMoment} {held held' : List ℕ} {count gone : ℕ} → IsPassing old new held held' count gone
-    → gone ≡ count → IsSkipped old new held held' count (Ok Taken)
-skipped_all {held = held} p is = record {
-  taken = p.taken;
-  takes = p.takes;
-  says = (omega (arith, p.inside, is), p.place ∙ ap (λ n. drop n (held ++ p.taken)) is);
-}
 
 pub skipped_to_end : {old new : SourceMoment} {held held' : List ℕ} {count gone : ℕ} → IsPassing old new held held' count gone
     → length held' ≡ 0 → gone < count → IsAtEnd new.left → IsSkipped old new held held' count (Ok End)
@@ -150,13 +133,3 @@ took_before {new = new} {held = held} {now = now} {next = next} b answer t k =
       few = omega (arith, k.few, ap length (joined k.taken));
       says = subst (λ xs. BlockSays b answer xs next new.left) (joined k.taken) k.says;
     }
-
--- a block that is held whole needs no byte more
-pub takes_held : (m : SourceMoment) (held held' : List ℕ) (b : Before) (p : SpelledBlock) → b.offset ≤ 4194304 → length held ≤ 4096
-    → piece_at b.offset b.counted b.ended held ≡ Ok p → held' ≡ drop p.bytes held → TakesBlock m m held held' b (Ok (Ok p))
-takes_held m held held' b p within bound reads place = record {
-  taken = [];
-  takes = Takes-nothing (IsBlockOpen b held) m;
-  few = omega (arith, within, bound, length-append held []);
-  says = subst (λ xs. BlockSays b (Ok (Ok p)) xs held' m.left) (sym (append-nil held)) (reads, place);
-}

@@ -331,16 +331,6 @@ goes_on x ps b j below =
     stops_is x ps b j it.0 it.1
     ∙ not_true (is_end it.0.block) (λ e. absurd (let at = (b.last j it.0 it.1).0 e in omega (arith, at, below)))
 
-stand_of : (x : List ℕ) (ps : List SpelledBlock) → All IsByte x → BeginsWith x ps → (n : ℕ) → n ≤ length ps → Stand x (take n ps)
-stand_of x ps all b zero bound = Stand-nil x
-stand_of x ps all b (suc n) bound =
-    let below : n < length ps = omega arith in
-    let it = piece_of ps n below in
-    let next : n + 1 ≡ suc n = omega arith in
-    let more : take (suc n) ps ≡ take n ps ++ it.0 ∷ [] = ap (λ k. take k ps) (sym next) ∙ take_more ps n it.0 below
-    ∙ ap (λ q. take n ps ++ q ∷ []) (get_or_from_slice_get ps n it.0 it.0 it.1) in
-    subst (Stand x) (sym more) (Stand-snoc x (take n ps) it.0 all (stand_of x ps all b n (omega arith)) (read_at x ps b n it.0 it.1))
-
 last_block-is : (x : List ℕ) (ps : List SpelledBlock) → All IsByte x → BeginsWith x ps → last_block x ≡ length ps - 1
 last_block-is x ps all b =
     let first = last_block-first x all in

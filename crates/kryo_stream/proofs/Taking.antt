@@ -1,9 +1,9 @@
 -- Bytes that are taken one part after the other, and when they are asked for.
-use Rattle.std.proofs.Common.{◌≡◌, ◌<◌, ◌++◌, ℕ, zero, suc, Bool, List, [], ◌∷◌, length, take, refl, sym, ap, subst, ◌∙◌, arith, append_assoc, append-nil, Option, Some, None}
+use Rattle.std.proofs.Common.{◌≡◌, ◌<◌, ◌++◌, ℕ, zero, suc, Bool, List, [], ◌∷◌, length, take, refl, sym, ap, subst, ◌∙◌, arith, append_assoc, append-nil}
 use Rattle.std.proofs.lemmas.List.Folds.{concat-append}
 use Rattle.std.proofs.KnownBytes.{Consumes-trans, Consumes-nil}
 use Rattle.std.specs.List.{concat}
-use Rattle.std.specs.Io.KnownBytes.{Keeps, Consumes}
+use Rattle.std.specs.Io.KnownBytes.{Consumes}
 use Rattle.flux_base.specs.Outside.{Gives}
 use Rattle.flux_base.specs.lemmas.Giving.{Gives-nil, Gives-trans}
 use Rattle.kryo_stream.specs.inside.Held.{Took}
@@ -89,15 +89,6 @@ Takes-read bytes consumed gave = record {
   needed = (refl, tt);
   still = λ none. absurd (one_some bytes none);
 }
-
-keeps-nothing : (old new : Option (List ℕ)) → Keeps old new → Consumes old new []
-keeps-nothing None new keeps = tt
-keeps-nothing (Some xs) None keeps = absurd keeps
-keeps-nothing (Some xs) (Some ys) keeps = sym keeps
-
--- one read that failed
-pub Takes-failed : {old new : SourceMoment} → Keeps old.left new.left → Gives old.given new.given ([] ∷ []) → Takes IsNothing old new []
-Takes-failed {old} {new} keeps gave = Takes-read [] (keeps-nothing old.left new.left keeps) gave
 
 pub Took-nothing : {IsOpen : List ℕ → Type 0} (m : SourceMoment) (held : List ℕ) → Took IsOpen m m held held
 Took-nothing {IsOpen} m held = record { taken = []; takes = Takes-nothing IsOpen m; grown = sym (append-nil held) }

@@ -1,5 +1,5 @@
 -- Cells of pieces, taken apart at their erased stretches.
-use Rattle.std.specs.Prelude.{◌≡◌, ℕ, zero, suc, ◌+◌, ◌<◌, ◌≤◌, Bool, false, List, [], ◌∷◌, ◌++◌, length, take, drop, flat_map, replicate, slice_get, Some, refl}
+use Rattle.std.specs.Prelude.{◌≡◌, ℕ, zero, suc, ◌+◌, ◌<◌, ◌≤◌, Bool, false, List, [], ◌∷◌, ◌++◌, length, take, drop, flat_map, replicate, slice_get, Some}
 use Rattle.std.proofs.Common.{ap, ◌∙◌, arith, append_assoc}
 use Rattle.std.proofs.lemmas.List.Sums.{sum_by-cons}
 use Rattle.std.proofs.Math.Seq.{drop-append-add}
@@ -14,10 +14,6 @@ behind_first ring first next more =
     ap (λ (cells : List Bool). piece_cells ring first ++ cells)
     (append_assoc (replicate ERASED_ZEROS false) (piece_cells ring next)
     (flat_map (λ (piece : RingPiece). replicate ERASED_ZEROS false ++ piece_cells ring piece) more))
-
--- where the pieces begin
-pub begin-zero : (pieces : List RingPiece) → begin_of_piece pieces 0 ≡ 0
-begin-zero pieces = refl
 
 pub begin-suc : (first : RingPiece) (later : List RingPiece) (index : ℕ)
     → begin_of_piece (first ∷ later) (suc index) ≡ first.count + ERASED_ZEROS + begin_of_piece later index

@@ -32,9 +32,6 @@ pub record AreValues (bytes values : List ℕ) (sums : Sums) (groups : ℕ) : Ty
   pub size : length values ≡ 4 * groups
   pub so_far : data_values 0 NO_SUMS (with_tags bytes) ≡ values ++ data_values 0 sums (drop (3 * groups) (with_tags bytes))
 
-pub no-values : (bytes : List ℕ) → AreValues bytes [] NO_SUMS 0
-no-values bytes = record { size = refl; so_far = refl }
-
 module _ (bytes values : List ℕ) (sums : Sums) (groups : ℕ) (before : AreValues bytes values sums groups) where
   -- one more group
   pub more-values : (first second third : ℕ) (more : List ℕ) → groups < 174 → first ≡ get_or (with_tags bytes) (3 * groups) 0

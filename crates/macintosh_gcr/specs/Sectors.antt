@@ -5,11 +5,10 @@ use Rattle.flux_base.specs.declared.track.TrackId.{TrackId}
 use Rattle.check_values.specs.Sums.{xor}
 use Rattle.disk_zones.specs.Zones.{macintosh_zone}
 use Rattle.disk_zones.specs.declared.zones.Zone.{Zone}
-use Rattle.frame_law.specs.Frames.{DataStand, HeaderStands as Header, SectorStands as Sector}
 use Rattle.flux_base.specs.declared.header_name.HeaderName.{HeaderName}
 use Rattle.flux_base.specs.declared.header_name.HeaderName.TheVariants.{Address, TrackSector}
 use Rattle.flux_base.specs.declared.header_name.HeaderName.TheVariants.{TrackSectorSide}
-use Rattle.apple_nibbles.specs.Marks.{ADDRESS_MARK, DATA_BYTE, IsSync, MARK_CELLS}
+use Rattle.apple_nibbles.specs.Marks.{DATA_BYTE, MARK_CELLS}
 use Rattle.apple_nibbles.specs.Nibbles.{disk_byte, nibble}
 use Rattle.macintosh_gcr.specs.Coding.{IsCoded, TAGS}
 use Rattle.macintosh_gcr.specs.declared.recording.MacintoshGcr.{MacintoshGcr}
@@ -92,10 +91,6 @@ abbrev pub NamesSector : TrackId → List Bool → ℕ → Type 0
 NamesSector track cells sector =
     (format : ℕ) × NamesValues (low_value track) (side_value track) format cells sector
 
--- the cells of a header: its mark and five nibbles
-abbrev pub HEADER_CELLS : ℕ
-HEADER_CELLS = 64
-
 -- the place of the nibble that has the sector's number
 abbrev pub SECTOR_PLACE : ℕ
 SECTOR_PLACE = 32
@@ -112,18 +107,3 @@ pub record Hold (cells : List Bool) (sync : ℕ) (bytes : List ℕ) : Type 0 whe
   pub size : length bytes ≡ SECTOR_SIZE
   pub coded : IsCoded coded_values (tags ++ bytes)
   pub stand : NibblesAt cells (sync + 32) coded_values
-
--- the cells of data: their mark, the sector's nibble, 699 of bytes and four of check values
-abbrev pub DATA_CELLS : ℕ
-DATA_CELLS = 5656
-
--- a header and a sector stand, as on any track
-abbrev pub HeaderStands : TrackId → List Bool → ℕ → Type 0
-HeaderStands track cells sector =
-    Header ADDRESS_MARK MARK_CELLS (λ some. HEADER_CELLS) 0 (sectors_of track) (NamesSector track)
-    cells sector
-
-abbrev pub SectorStands : TrackId → List Bool → ℕ → List ℕ → Type 0
-SectorStands track cells sector bytes =
-    Sector (HeaderStands track cells sector)
-    (DataStand (λ some. HEADER_CELLS) (λ some sync. sync + DATA_CELLS) IsSync Hold cells bytes)

@@ -4,7 +4,7 @@ use Rattle.std.proofs.lemmas.Bool.{cases_lt, lt-leb, le-leb}
 use Rattle.std.proofs.lemmas.List.{get_or_default}
 use Rattle.phase_loop.specs.Reciprocals.{AreReciprocals}
 use Rattle.phase_loop.specs.Window.{WIDEST}
-use Rattle.std.proofs.Math.Nat.{div-eq_of_lt-le, lt-div-mul-add, div-mul-le_self, mul-le-mul_left, div-le_of_le-mul, div-lt_iff_lt-mul}
+use Rattle.std.proofs.Math.Nat.{div-eq_of_lt-le, lt-div-mul-add, div-mul-le_self, mul-le-mul_left, div-lt_iff_lt-mul}
 
 -- a total times the reciprocal of a count, over 2^40, is the quotient
 pub quotient_by_reciprocal : (total count : ℕ) → total ≤ 64 * WIDEST → 64 ≤ count → count ≤ 2048
@@ -38,13 +38,6 @@ ticks_by_reciprocal ticks count small least largest =
     let same : 1024 * ticks * (1099511627776 / count + 1) ≡ 1024 * product = omega arith in
     let shorter : product / 1073741824 ≡ 1024 * product / 1099511627776 = omega arith in
     shorter ∙ ap (λ (n : ℕ). n / 1099511627776) (sym same) ∙ whole
-
--- the reciprocal of a count of 64 or more is small
-pub reciprocal_small : (count : ℕ) → 64 ≤ count → 2 ^ 40 / count + 1 ≤ 2 ^ 34 + 1
-reciprocal_small count least =
-    let enough : 17179869184 * 64 ≤ 17179869184 * count = mul-le-mul_left 17179869184 least in
-    let quotient : 1099511627776 / count ≤ 17179869184 = div-le_of_le-mul count (omega (arith, enough)) in
-    omega (arith, quotient)
 
 -- what stands in the table for a count
 pub reciprocal_at : (table : List ℕ) (other count : ℕ) {read : ℕ} → AreReciprocals table → 64 ≤ count → count ≤ 2048

@@ -12,10 +12,6 @@ use Rattle.sector_report.specs.declared.dump_lines.Passed.{Passed}
 use Rattle.sector_report.specs.declared.dump_lines.Passed.TheVariants.{Absent, Failed, Refused}
 use Rattle.sector_report.proofs.LineWords.{IsWord, next, two-same, word-codes, word-decimal, word-two, word_at, words}
 
--- a number that is read back
-number_at : List (List ℕ) → ℕ → ℕ
-number_at ws n = digits_value 10 (word_at ws n)
-
 number-is : (n : ℕ) → n < 2 ^ 64 → digits_value 10 (decimal n) ≡ n
 number-is n fits = (decimal_is_IsNumeral n fits).1
 

@@ -1,13 +1,11 @@
 -- What is still to come of the files that are read.
-use Rattle.std.proofs.Common.{◌≡◌, ◌<◌, ◌≤◌, ◌+◌, ℕ, List, [], ◌∷◌, ◌++◌, length, take, drop, map, get_or, arith, refl, sym, ◌∙◌, ap, append_assoc, append-nil, length-drop, length-take, min, ◌==◌, Bool, true, false, Option, None, Some, if◌then◌else◌}
+use Rattle.std.proofs.Common.{◌≡◌, ◌<◌, ◌≤◌, ◌+◌, ℕ, List, [], ◌∷◌, ◌++◌, length, take, drop, map, get_or, arith, refl, sym, ◌∙◌, ap, append_assoc, append-nil, length-drop, length-take, min, ◌==◌, Bool, true, false, Option, None, Some}
 use Rattle.std.proofs.lemmas.List.{drop_all, drop_more, drop-drop, length-map, take-append-drop, take-take}
 use Rattle.std.specs.List.{concat, flat_map}
-use Rattle.flux_base.specs.Memory.{is_failing}
-use Rattle.flux_base.specs.Outside.{risen}
 use Rattle.sector_images.specs.Places.{tracks}
 use Rattle.sector_images.specs.declared.format.Format.{Format}
-use Rattle.track_shelf.specs.Files.{File, bytes_in, first_missing, joined, track_bytes}
-use Rattle.track_shelf.specs.Memory.{ShelfState, after_begin, after_fault, ahead_by, ahead_from, bytes_at, cut_first, first_piece, pieces_of, with_bytes}
+use Rattle.track_shelf.specs.Files.{File, bytes_in, joined, track_bytes}
+use Rattle.track_shelf.specs.Memory.{ahead_from, bytes_at, cut_first, first_piece, pieces_of, with_bytes}
 
 -- pieces without those that are empty have the same bytes
 pub concat-with_bytes : (pieces : List (List ℕ)) → concat (with_bytes pieces) ≡ concat pieces
@@ -149,16 +147,6 @@ next-at files places number start below within =
     let size = length-drop start (bytes_at files (get_or places number 0)) in
     let h = at-hand (bytes_at files) places number 0 below start (omega (arith, within, size)) in
     record { rest = h.rest; is = h.is; after = h.after }
-
--- the shelf after a `begin` that found all wanted files
-pub begun : (s : ShelfState) (folder : List ℕ) (format : Format) (ahead : List (List ℕ)) → is_failing s.failing s.calls ≡ false
-    → first_missing s.files folder format ≡ None → ahead ≡ with_bytes (map (track_bytes s.files folder) (tracks format))
-    → record s { ahead = ahead; calls = risen s.calls } ≡ after_begin s folder format
-begun s folder format ahead works none is =
-    let wanted = with_bytes (map (track_bytes s.files folder) (tracks format)) in
-    ap (λ (a : List (List ℕ)). record s { ahead = a; calls = risen s.calls }) is
-    ∙ ap (λ (m : Option ℕ). record s { ahead = ahead_by m s.ahead wanted; calls = risen s.calls }) (sym none)
-    ∙ ap (λ (b : Bool). if b then after_fault s else record s { ahead = ahead_by (first_missing s.files folder format) s.ahead wanted; calls = risen s.calls }) (sym works)
 
 -- where a file has a place, its bytes are ahead
 pub opened-file : (files : List File) (places : List ℕ) (file : Option File) → map (bytes_at files) places ≡ pieces_of file

@@ -11,11 +11,6 @@ pub record ShelfTold : Type 0 where
   pub given : Option (List (List ℕ))
   pub handled : Option Handled
 
-abbrev pub told_by : {H : Type 0} → (H → Option (List File)) → (H → Option (List ℕ))
-    → (H → Option (List (List ℕ))) → (H → Option Handled) → H → ShelfTold
-told_by files left given handled shelf =
-    record { files = files shelf; left = left shelf; given = given shelf; handled = handled shelf }
-
 -- The same, where these files failed: none is open that was not, and nothing else changed.
 abbrev pub with_failed : (paths : List (List ℕ)) → ShelfTold → ShelfTold
 with_failed paths told = record told { handled = option_map (more_blamed paths) told.handled }

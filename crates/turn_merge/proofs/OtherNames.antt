@@ -74,12 +74,6 @@ met others o = list_any (λ (x : NotedOther). same_name x.name o.name) others
 abbrev pub fresh : Bool → NotedOther → List NotedOther
 fresh was o = cond was [] (o ∷ [])
 
-kept_fresh : (o : NotedOther) (b m : Bool) → filter (λ (q : NotedOther). not b) (fresh m o) ≡ fresh (b || m) o
-kept_fresh o true true = refl
-kept_fresh o true false = refl
-kept_fresh o false true = refl
-kept_fresh o false false = refl
-
 filter_fresh : (p : NotedOther → Bool) (o : NotedOther) (b m : Bool) → p o ≡ not b → filter p (fresh m o) ≡ fresh (b || m) o
 filter_fresh p o true true is = refl
 filter_fresh p o true false is = ap (λ (c : Bool). cond c (o ∷ []) []) is

@@ -1,6 +1,6 @@
 -- Coded bytes and marks: how many cells they have, and how they are joined.
 use Rattle.std.specs.Prelude.{◌≡◌, ℕ, zero, suc, ◌*◌, ◌≤◌, Bool, List, [], ◌∷◌, ◌++◌, length, refl}
-use Rattle.std.specs.Prelude.{replicate, false}
+use Rattle.std.specs.Prelude.{replicate}
 use Rattle.std.proofs.Common.{ap, sym, ◌∙◌, arith, append_assoc, append-nil, length-append}
 use Rattle.cell_bits.specs.Bytes.{data_cells, last_cell, mfm, mfm_cells}
 use Rattle.cell_bits.specs.Word.{word_cells}
@@ -24,14 +24,6 @@ pub length-mfm : (before : Bool) (byte : ℕ) → length (mfm before byte) ≡ 1
 unfolding mfm
 length-mfm before byte =
     length-mfm_cells before (word_cells 8 byte) ∙ ap (λ n. 2 * n) (length-word_cells 8 byte)
-
--- the data cells are the data bits
-pub data_cells-mfm : (before : Bool) (bits : List Bool) (more : List Bool)
-    → data_cells (mfm_cells before bits ++ more) ≡ bits ++ data_cells more
-unfolding data_cells mfm_cells
-data_cells-mfm before [] more = refl
-data_cells-mfm before (bit ∷ bits) more =
-    ap (λ (rest : List Bool). bit ∷ rest) (data_cells-mfm bit bits more)
 
 pub data_cells-byte : (before : Bool) (byte : ℕ) → data_cells (mfm before byte) ≡ word_cells 8 byte
 unfolding mfm mfm_cells word_cells data_cells
@@ -62,17 +54,6 @@ coded-append before (symbol ∷ xs) ys =
     ∙ sym
     (append_assoc (symbol_cells before symbol) (coded (low_bit symbol) xs)
     (coded (last_bit (low_bit symbol) xs) ys))
-
--- a part, what is before it, and what is after it
-pub coded-parts : (before part behind : List Symbol)
-    → coded false (before ++ (part ++ behind))
-    ≡ coded false before
-    ++ (coded (last_bit false before) part
-    ++ coded (last_bit (last_bit false before) part) behind)
-coded-parts before part behind =
-    coded-append false before (part ++ behind)
-    ∙ ap (λ (cells : List Bool). coded false before ++ cells)
-    (coded-append (last_bit false before) part behind)
 
 pub last_bit-append : (before : Bool) (xs ys : List Symbol)
     → last_bit before (xs ++ ys) ≡ last_bit (last_bit before xs) ys
