@@ -4,12 +4,11 @@ use Rattle.std.specs.Prelude.{◌≡◌, ℕ, ◌+◌, Bool, List, [], ◌∷◌
 use Rattle.flux_base.specs.declared.track.TrackId.{TrackId}
 use Rattle.cell_bits.specs.Word.{Stands}
 use Rattle.check_values.specs.Sums.{xor}
-use Rattle.frame_law.specs.Frames.{DataStand, HeaderStands as Header, SectorStands as Sector}
 use Rattle.flux_base.specs.declared.header_name.HeaderName.{HeaderName}
 use Rattle.flux_base.specs.declared.header_name.HeaderName.TheVariants.{Address, TrackSector}
 use Rattle.flux_base.specs.declared.header_name.HeaderName.TheVariants.{TrackSectorSide}
 use Rattle.commodore_gcr.specs.Coding.{ByteAt, BytesAt}
-use Rattle.commodore_gcr.specs.Zones.{sectors_of, track_number}
+use Rattle.commodore_gcr.specs.Zones.{track_number}
 
 -- the bytes of a sector
 abbrev pub SECTOR_SIZE : ℕ
@@ -61,10 +60,6 @@ SYNC_CELLS = 11
 abbrev pub SYNC_ONES : ℕ
 SYNC_ONES = 10
 
--- the cells of a header: the sync's ones and six bytes
-abbrev pub HEADER_CELLS : ℕ
-HEADER_CELLS = 70
-
 -- a header names the numbers of a track and a sector: the header's bytes of
 -- these stand in it, for some id
 pub record NamesNumbers (number : ℕ) (cells : List Bool) (sector : ℕ) : Type 0 where
@@ -86,10 +81,6 @@ NamesSector track cells sector = NamesNumbers (track_number track) cells sector
 abbrev pub IsSync : List Bool → ℕ → Type 0
 IsSync cells place = Stands cells SYNC SYNC_CELLS place
 
--- the cells of the data: the sync's ones, a first byte, a sector's bytes and their check value
-abbrev pub DATA_CELLS : ℕ
-DATA_CELLS = 2590
-
 -- where the bytes and their check value begin, in cells from the data's sync
 abbrev pub CONTENT_PLACE : ℕ
 CONTENT_PLACE = 20
@@ -103,13 +94,3 @@ pub record Hold (cells : List Bool) (sync : ℕ) (bytes : List ℕ) : Type 0 whe
   pub size : length bytes ≡ SECTOR_SIZE
   pub content : BytesAt cells (sync + CONTENT_PLACE) bytes
   pub check : ByteAt cells (sync + CONTENT_CHECK_PLACE) (xor bytes)
-
--- a header and a sector stand, as on any track
-abbrev pub HeaderStands : TrackId → List Bool → ℕ → Type 0
-HeaderStands track cells sector = Header SYNC SYNC_CELLS (λ some. HEADER_CELLS) 0 (sectors_of track)
-    (NamesSector track) cells sector
-
-abbrev pub SectorStands : TrackId → List Bool → ℕ → List ℕ → Type 0
-SectorStands track cells sector bytes =
-    Sector (HeaderStands track cells sector)
-    (DataStand (λ some. HEADER_CELLS) (λ some sync. sync + DATA_CELLS) IsSync Hold cells bytes)
